@@ -1,0 +1,5 @@
+pub mod Name
+pub mod Order
+pub mod Tree
+pub mod Resolve
+pub mod Show

@@ -1,0 +1,18 @@
+//! The words that everything speaks in: bytes, texts, paths of files, and lists of these.
+//!
+//! Contracts see `Bytes` and `Text` as lists of bytes, a `Path` as the list of its names, `Paths` as a
+//! list of paths and `Files` as a list of pairs of a path and a content. `Path::resolve` and
+//! `Path::show` are exact: they give what `specs/Resolve.antt` and `specs/Show.antt` say.
+#![tactic(auto)]
+
+mod bytes;
+mod fault;
+mod items;
+mod path;
+mod text;
+
+pub use bytes::Bytes;
+pub use fault::PathFault;
+pub use items::{Files, Items, Paths};
+pub use path::{MAX_DEPTH, Path};
+pub use text::Text;
