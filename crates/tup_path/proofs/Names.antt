@@ -31,8 +31,13 @@ visible_name (b ∷ bs) text short e =
 pub path_push : (path : Names) (name : List ℕ) → IsPath path → IsVisibleName name → length path < 32 → IsPath (path ++ name ∷ [])
 path_push path name is visible room = record { names = All-push IsVisibleName path name is.names visible; depth = grind (arith, common_steps) }
 
-pub path_take : (n : ℕ) (path : Names) → IsPath path → IsPath (take n path)
-path_take n path is = record { names = All-take IsVisibleName n path is.names; depth = grind (arith, common_steps) }
+pub path_front : (path : Names) (name : List ℕ) → IsPath (path ++ name ∷ []) → IsPath path
+path_front path name is =
+    let front : take (length path) (path ++ name ∷ []) ≡ path = grind (arith, common_steps) in
+    record {
+      names = rw (← front) (All-take IsVisibleName (length path) (path ++ name ∷ []) is.names);
+      depth = let deep : length (path ++ name ∷ []) ≤ 32 = is.depth in grind (arith, common_steps);
+    }
 
 pub above_last : (path : Names) (name : List ℕ) → above (path ++ name ∷ []) ≡ Ok path
 above_last [] name = refl

@@ -19,3 +19,6 @@ pub use fault::PathFault;
 pub use items::{Files, Items, Paths};
 pub use path::{MAX_DEPTH, MAX_NAME, Path};
 pub use text::Text;
+
+#[cfg(test)]
+mod tests;

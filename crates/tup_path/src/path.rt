@@ -1,5 +1,6 @@
 //! A path: visible names from the top directory down.
 ghost use Rattle.std.specs.Prelude.{◌≡◌, ◌<◌, ◌⊎◌, ◌↔◌, [], ◌∷◌, ◌++◌, nat_eq, refl, length, slice_get, Some, Ok, Err, IfOk, IsTrue, IfErr, OnOk, OnErr, MatchOption, MatchResult};
+ghost use Rattle.std.specs.Result.{result_ok};
 ghost use Rattle.std.specs.Cmp.Rules.{comparing};
 ghost use Rattle.std.specs.Ordering.{as_partial_cmp};
 ghost use Rattle.std.proofs.Common.{rules};
@@ -85,6 +86,18 @@ impl Path {
         ensures path { IsPath self.now }
     {
         &self.names
+    }
+
+    /// The folder that the path lies in: all names but the last. `None` for the top directory.
+    pub fn parent(&self, alloc: Global) -> Result<Option<Path>, PathFault>
+        ensures { (result ≡ Err PathFault.Memory) ⊎ (result ≡ Ok (result_ok (above self.now))) }
+    {
+        match self.names.split_last() {
+            Some((_, folder)) => Ok(Some(Path {
+                names: Vec::from_clones(alloc, folder)?,
+            })),
+            None => Ok(None),
+        }
     }
 
     /// Goes down to a name. After a refusal the path is as it was.

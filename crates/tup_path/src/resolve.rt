@@ -1,7 +1,6 @@
 //! What a text names, read from a folder.
 ghost use Rattle.std.specs.Prelude.{◌≡◌, ◌⊎◌, ◌==◌, Ok, Err, MatchResult, OnErr};
 ghost use Rattle.std.specs.List.{slice_split};
-ghost use Rattle.std.specs.Result.{result_ok};
 ghost use Rattle.tup_path.specs.Resolve as specs;
 
 use crate::fault::PathFault;
@@ -35,17 +34,6 @@ impl Path {
         let mut path = self.copy()?;
         path.push(alloc, name.as_str())?;
         Ok(path)
-    }
-
-    /// The folder that the path lies in: all names but the last. `None` for the top directory.
-    pub fn parent(&self) -> Result<Option<Path>, PathFault>
-        ensures { (result ≡ Err PathFault.Memory) ⊎ (result ≡ Ok (result_ok (specs.above self.now))) }
-    {
-        let mut path = self.copy()?;
-        match path.pop() {
-            Ok(()) => Ok(Some(path)),
-            Err(_) => Ok(None),
-        }
     }
 
     /// Goes where the parts of a text lead, one after another.
