@@ -1,6 +1,7 @@
 //! How a path is written.
 ghost use Rattle.std.specs.Prelude.{◌≡◌, ◌⊎◌, ◌≤◌, ◌++◌, ◌∷◌, [], Ok, Err, List, ℕ, All, length, drop, replicate, string_bytes, IfOk, OnOk};
 ghost use Rattle.std.specs.List.{join_with_byte};
+ghost use Rattle.tup_path.specs.Resolve.{resolve};
 ghost use Rattle.tup_path.specs.Show as specs;
 
 use crate::fault::PathFault;
@@ -25,6 +26,15 @@ impl Path {
         let up = dir.depth() - shared;
         Ok(written(alloc, up, &self.names()[shared..])?)
     }
+}
+
+/// A law: what `show_from` writes, `resolve` reads back from the same folder, and what `show`
+/// writes, from the top directory.
+pub fn shown_reads_back(dir: &Path, path: &Path)
+    ensures from { resolve dir.now (specs.show_from dir.now path.now) ≡ Ok path.now }
+    ensures top { resolve [] (specs.show path.now) ≡ Ok path.now }
+{
+    let _names = (dir.depth(), path.depth());
 }
 
 /// How many names two paths share at their front.
