@@ -1,5 +1,5 @@
 //! A content as a value: a list of bytes.
-ghost use Rattle.std.specs.Prelude.{◌≡◌, nat_eq, refl};
+ghost use Rattle.std.specs.Prelude.{◌≡◌, ◌++◌, nat_eq, refl, OnOk, OnErr};
 ghost use Rattle.std.specs.Cmp.{partial_order_from_own_ties};
 ghost use Rattle.std.specs.Cmp.Rules.{comparing};
 ghost use Rattle.std.specs.Ordering.{as_partial_cmp};
@@ -37,6 +37,14 @@ impl Bytes {
         ensures { result.now ≡ self.now }
     {
         &self.bytes
+    }
+
+    /// Adds bytes at the end.
+    pub fn extend_from_slice(&mut self, more: &[u8]) -> Result<(), AllocError>
+        ensures ok { OnOk result (self.new ≡ self.old ++ more.now) }
+        ensures err { OnErr result (self.new ≡ self.old) }
+    {
+        self.bytes.extend_from_slice(more)
     }
 
     /// Gives the bytes back; nothing is copied.

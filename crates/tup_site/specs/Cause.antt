@@ -1,14 +1,11 @@
 -- Why a call of a site is refused. The outside's own failures are counted, so that nobody else can claim one.
-use Rattle.std.specs.Prelude.{◌≡◌, ◌≢◌, ◌⊎◌, ℕ, ◌<◌, ◌≤◌, ◌^◌, ◌-◌, [], length, Some, IsSome, Result, Err}
+use Rattle.std.specs.Prelude.{◌≡◌, ◌≢◌, ℕ, ◌≤◌, [], length, Some, IsSome, Result, Err}
 use Rattle.std.specs.FinMap as finite
+use Rattle.tup_path.specs.Count.{Rose}
 use Rattle.tup_path.specs.Name.{Names, Content}
 use Rattle.tup_path.specs.Tree.{Tree, IsBelow}
 use Rattle.tup_site.specs.declared.fault.SiteFailed.{SiteFailed}
 use Rattle.tup_site.specs.declared.fault.SiteFailed.TheVariants.{Fault, TooLarge}
-
--- a count rose, or stands still at the last value of its type
-abbrev pub Rose : ℕ → ℕ → Type 0
-Rose before now = (before < now) ⊎ (now ≡ 2 ^ 64 - 1)
 
 -- the count doesn't fall, and a fault comes only where it rose
 pub record CountsFaults {T : Type 0} (before now : ℕ) (result : Result T SiteFailed) : Type 0 where

@@ -1,0 +1,6 @@
+//! What passes between a command and the files: what it asks for, what it is answered, how it ends.
+#![tactic(auto)]
+
+mod step;
+
+pub use step::{Answer, Asked, Ended, Step, Writes};
