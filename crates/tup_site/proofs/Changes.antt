@@ -5,17 +5,18 @@ use Rattle.std.specs.BTreeMap.{BTreeMap, Updates, UpdatesBy, get}
 use Rattle.std.specs.FinMap as finite
 use Rattle.tup_path.specs.Name.{Names, Content, IsPath}
 use Rattle.tup_path.specs.Order.{by_names, by_names-total, by_names-antisymmetric}
+use Rattle.tup_path.specs.Same.{get_inserted_elsewhere, get_removed_elsewhere}
 use Rattle.tup_path.specs.Tree.{Tree, IsTree}
 use Rattle.tup_site.specs.Cause.{IsPlace, SameBut}
 use Rattle.tup_site.specs.Edit.{tree_of, MayAdd}
-use Rattle.tup_site.specs.Memory.{mem_calls, mem_fails, one_more, fails_next}
-use Rattle.tup_site.specs.Trees.{get-of_entries, from_entries-set, from_entries-unset, put_tree, removed_tree, inserted_elsewhere, removed_elsewhere}
+use Rattle.tup_site.specs.Memory.{calls_of, fails_of, one_more, fails_next}
+use Rattle.tup_site.specs.Trees.{get-of_entries, from_entries-set, from_entries-unset, put_tree, removed_tree}
 use Rattle.tup_site.specs.declared.memory.MemSite.{MemSite}
 
 -- a call passes whose number isn't listed
-pub passes : (site : MemSite) (n : ℕ) (listed : List ℕ) (found : Bool) → n ≡ one_more (mem_calls site) → listed ≡ mem_fails site → found ≡ list_any (λ y. nat_eq y n) listed → found ≡ false → fails_next site ≡ false
+pub passes : (site : MemSite) (n : ℕ) (listed : List ℕ) (found : Bool) → n ≡ one_more (calls_of site) → listed ≡ fails_of site → found ≡ list_any (λ y. nat_eq y n) listed → found ≡ false → fails_next site ≡ false
 passes site n listed found number list is none =
-    sym (ap (λ k. list_any (λ y. nat_eq y k) (mem_fails site)) number) ∙ sym (ap (list_any (λ y. nat_eq y n)) list) ∙ sym is ∙ none
+    sym (ap (λ k. list_any (λ y. nat_eq y k) (fails_of site)) number) ∙ sym (ap (list_any (λ y. nat_eq y n)) list) ∙ sym is ∙ none
 
 -- what is found is what the tree has
 pub found_in_tree : (m : BTreeMap Names Content) (path : Names) (found : Option Content) → found ≡ get by_names m path → found ≡ finite.get (tree_of m.entries) path
@@ -35,10 +36,10 @@ pub stays_without : (m n : BTreeMap Names Content) (path : Names) → IsTree (tr
 stays_without m n path is updates = subst IsTree (sym (unset_in_tree m n path updates)) (removed_tree _ path is)
 
 pub put_elsewhere : (old new : Tree) (path : Names) (content : Content) → new ≡ finite.insert old path content → SameBut path old new
-put_elsewhere old new path content e other apart = ap (λ t. finite.get t other) e ∙ inserted_elsewhere old path content other apart
+put_elsewhere old new path content e other apart = ap (λ t. finite.get t other) e ∙ get_inserted_elsewhere old path other content apart
 
 pub gone_elsewhere : (old new : Tree) (path : Names) → new ≡ finite.remove old path → SameBut path old new
-gone_elsewhere old new path e other apart = ap (λ t. finite.get t other) e ∙ removed_elsewhere old path other apart
+gone_elsewhere old new path e other apart = ap (λ t. finite.get t other) e ∙ get_removed_elsewhere old path other apart
 
 -- where a file is, none may be added
 pub taken : (m : BTreeMap Names Content) (path : Names) → is_some (get by_names m path) ≡ true → MayAdd (tree_of m.entries) path → ⊥

@@ -11,9 +11,10 @@ use Rattle.std.proofs.lemmas.List.Folds.{Any-from_list_any, list_any_at, list_an
 use Rattle.std.proofs.lemmas.List.Quantifiers.{all_pairs_push}
 use Rattle.tup_path.specs.Name.{Names, Content, IsPath}
 use Rattle.tup_path.specs.Order.{by_names, by_names-total, by_names-antisymmetric}
+use Rattle.tup_path.specs.Same.{by_names-decides}
 use Rattle.tup_path.specs.Tree.{IsTree}
 use Rattle.tup_site.specs.Edit.{tree_of, MayAdd, AreATree}
-use Rattle.tup_site.specs.Trees.{all_keys-from_some, place_from_tree, same_from_tie, tie_of_same, keys-of_sorted}
+use Rattle.tup_site.specs.Trees.{all_keys-from_some, place_from_tree, keys-of_sorted}
 
 no_some : {X : Type 0} (found : Option X) → found ≡ None → IsSome found → ⊥
 no_some found e s = let no : false ≡ true = sym (ap is_some e) ∙ s in cc
@@ -48,12 +49,12 @@ keeps ys zs q s =
 has_it : (ys zs : List (Names × Content)) (path : Names) (content : Content) → IsSome (finite.get (tree_of (ys ++ (path, content) ∷ zs)) path)
 has_it ys zs path content =
     known (ys ++ (path, content) ∷ zs) path ∙ ap (list_any (eq_by_cmp by_names path)) (map-append (λ (e : Names × Content). e.0) ys ((path, content) ∷ zs))
-    ∙ list_any-append (eq_by_cmp by_names path) (keys_of ys) (path ∷ keys_of zs) ∙ or_kept _ _ (either_kept _ _ (tie_of_same path path refl))
+    ∙ list_any-append (eq_by_cmp by_names path) (keys_of ys) (path ∷ keys_of zs) ∙ or_kept _ _ (either_kept _ _ ((by_names-decides path path).1 refl))
 
 -- the paths so far differ from one that the tree hasn't
 apart : (ys : List (Names × Content)) (path : Names) → finite.get (tree_of ys) path ≡ None → (k : ℕ) (d : Names) → k < length (keys_of ys) → slice_index_or (keys_of ys) k d ≢ path
 apart ys path none k d l e =
-    no_some _ none (known ys path ∙ list_any_at (eq_by_cmp by_names path) (keys_of ys) k d l (tie_of_same path _ (sym e)))
+    no_some _ none (known ys path ∙ list_any_at (eq_by_cmp by_names path) (keys_of ys) k d l ((by_names-decides path (slice_index_or (keys_of ys) k d)).1 (sym e)))
 
 -- one more file
 pub once_more : (ys : List (Names × Content)) (path : Names) (content : Content) → AllPairs (λ a b. a ≢ b) (keys_of ys) → MayAdd (tree_of ys) path → AllPairs (λ a b. a ≢ b) (keys_of (ys ++ (path, content) ∷ []))
@@ -72,7 +73,7 @@ new_path ys zs path content once = nothing _ (λ s.
     let all = map-append (λ (e : Names × Content). e.0) ys ((path, content) ∷ zs) in
     let once' = subst (AllPairs (λ a b. a ≢ b)) all once in
     once' any.0 (length (keys_of ys)) any.1 any.2 (omega (arith, length-append (keys_of ys) (path ∷ keys_of zs)))
-    (get_or_append_left (keys_of ys) (path ∷ keys_of zs) any.1 any.0 any.2 ∙ any.3 ∙ sym (same_from_tie path any.1 any.4)
+    (get_or_append_left (keys_of ys) (path ∷ keys_of zs) any.1 any.0 any.2 ∙ any.3 ∙ sym ((by_names-decides path any.1).0 any.4)
     ∙ sym (get_or_at (keys_of ys) path (keys_of zs) any.1 (length (keys_of ys)) refl)))
 
 -- files of which the next can't be added are no tree

@@ -1,20 +1,18 @@
 -- Files above and below a path stand next to it in the order of paths.
-use Rattle.std.proofs.Common.{◌≡◌, ◌≢◌, ℕ, ◌<◌, ◌⊎◌, Bool, true, false, not, nat_eq, List, [], ◌∷◌, ◌++◌, length, take, drop, refl, sym, ap, subst, ◌∙◌, inl, inr, arith, length-drop, IsSome, is_some, Some, None, IsTrue, ◌↔◌}
+use Rattle.std.proofs.Common.{◌≡◌, ◌≢◌, ◌⊎◌, Bool, true, false, not, List, [], ◌∷◌, ◌++◌, refl, sym, ap, subst, ◌∙◌, inl, inr, IsSome, is_some, Some, None, IsTrue, ◌↔◌}
 use Rattle.std.specs.declared.cmp.Ordering.{Ordering}
 use Rattle.std.specs.declared.cmp.Ordering.TheVariants.{Less, Equal, Greater}
 use Rattle.std.specs.declared.ops.Bound.TheVariants.{Excluded, Unbounded}
-use Rattle.std.specs.Bool.{Decides}
 use Rattle.std.specs.Option.{IfSome}
 use Rattle.std.specs.List.{slice_get}
 use Rattle.std.specs.Ordering.{is_gt, is_lt, ordering_then, ordering_reverse}
 use Rattle.std.specs.Cmp.{IsTotalOrder, tied_itself}
-use Rattle.std.specs.Cmp.Lexicographic.{slice_cmp, pointwise, nat_list_cmp_total}
+use Rattle.std.specs.Cmp.Lexicographic.{slice_cmp, nat_list_cmp_total}
 use Rattle.std.specs.FinMap as finite
 use Rattle.std.specs.FinMap.{IsAntisymmetric, slice_cmp-IsAntisymmetric, nat_cmp-IsAntisymmetric}
 use Rattle.std.specs.BTreeMap.{BTreeMap, get}
 use Rattle.std.specs.BTreeMap.Range.{IsRangeOf, IsEntryInRange, IsLeBy}
-use Rattle.std.proofs.lemmas.List.{take_at, append-nil, take-append-drop}
-use Rattle.std.proofs.lemmas.Slice.Eq.{slice_eq-Decides, bytes_eq-Decides}
+use Rattle.std.proofs.lemmas.List.{append-nil}
 use Rattle.tup_path.specs.Name.{Names, Content}
 use Rattle.tup_path.specs.Tree.{IsTree, IsBelow}
 use Rattle.tup_path.specs.Order.{by_bytes, by_names, by_names-total}
@@ -44,21 +42,9 @@ module _ {K : Type 0} {R : K → K → Ordering} (o : IsTotalOrder R) where
   comes_before [] (y ∷ r) more = refl
   comes_before (x ∷ a) r more = ap (λ v. ordering_then v (slice_cmp R a (a ++ r))) (tied_itself o x) ∙ comes_before a r more
 
-as_fact : (r : Bool) (P : Type 0) → Decides r P → IsTrue r ↔ P
-as_fact r P d = (d.0, d.1)
-
 as_no_fact : (r : Bool) (P Q : Type 0) → IsTrue r ↔ P → (P → Q → ⊥) → ((P → ⊥) → Q) → IsTrue (not r) ↔ Q
 as_no_fact true P Q d apart or = (λ (no : false ≡ true). cc, λ q. absurd (apart (d.0 refl) q))
 as_no_fact false P Q d apart or = (λ _. or (λ p. let no : false ≡ true = d.1 p in cc), λ _. refl)
-
--- a path lies below a folder just where it is longer and begins with it
-pub begins_with : (folder path : Names) (n : ℕ) (r : Bool) → n ≡ length folder → n < length path → r ≡ pointwise (pointwise nat_eq) (take n path) folder → IsTrue r ↔ IsBelow folder path
-begins_with folder path n r len longer e =
-    let d = slice_eq-Decides {A = List ℕ} bytes_eq-Decides (take n path) folder r e in
-    as_fact r (IsBelow folder path) (
-      λ t. (drop n path, (λ none. absurd (omega (arith, length-drop n path, ap length none))), sym (take-append-drop n path) ∙ ap (λ (f : Names). f ++ drop n path) (d.0 t)),
-      λ below. d.1 (ap (take n) below.2 ∙ take_at folder below.0 n (sym len)),
-    )
 
 paths_total : IsTotalOrder by_bytes
 paths_total = nat_list_cmp_total

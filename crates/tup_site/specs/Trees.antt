@@ -4,10 +4,9 @@ use Rattle.std.specs.Prelude.{◌≡◌, ◌≢◌, ◌⊎◌, Bool, true, false
 use Rattle.std.proofs.Common.{refl, sym, ap, subst, ◌∙◌, inl, inr, arith, length-append}
 use Rattle.std.proofs.Props.{props}
 use Rattle.std.specs.declared.cmp.Ordering.{Ordering}
-use Rattle.std.specs.declared.cmp.Ordering.TheVariants.{Less, Equal, Greater}
 use Rattle.std.specs.Coded.{Coded-set, coded_ℕ, coded_list, coded_option}
-use Rattle.std.specs.Ordering.{eq_by_cmp, is_eq}
-use Rattle.std.specs.Cmp.{IsTotalOrder, eq_by_cmp_equiv, tied_itself}
+use Rattle.std.specs.Ordering.{eq_by_cmp}
+use Rattle.std.specs.Cmp.{IsTotalOrder, eq_by_cmp_equiv}
 use Rattle.std.specs.List.Sorted.{IsStrictlySortedBy}
 use Rattle.std.specs.Map.{lookup, keys_of}
 use Rattle.std.specs.BTreeMap.{is_at}
@@ -15,7 +14,8 @@ use Rattle.std.specs.FinMap as finite
 use Rattle.std.specs.FinMap.{IsAntisymmetric, get, insert, remove, from_entries, entries, keys, put, find}
 use Rattle.std.proofs.lemmas.List.Folds.{Any-from_list_any, list_any_at}
 use Rattle.tup_path.specs.Name.{Names, Content, IsPath}
-use Rattle.tup_path.specs.Order.{by_names, by_names-total, by_names-antisymmetric}
+use Rattle.tup_path.specs.Order.{by_names, by_names-total}
+use Rattle.tup_path.specs.Same.{by_names-decides, get_inserted, get_inserted_elsewhere}
 use Rattle.tup_path.specs.Tree.{Tree, IsTree, IsBelow}
 use Rattle.tup_site.specs.Cause.{IsPlace}
 
@@ -64,18 +64,6 @@ module _ {K X : Type 0} {R : K → K → Ordering} (o : IsTotalOrder R) where
 
 -- ---- what is in a tree
 
-equal : (r : Ordering) → is_eq r ≡ true → r ≡ Equal
-equal Less e = cc
-equal Equal e = refl
-equal Greater e = cc
-
--- paths that tie are the same
-pub same_from_tie : (q path : Names) → eq_by_cmp by_names q path ≡ true → q ≡ path
-same_from_tie q path e = by_names-antisymmetric q path (equal (by_names q path) e)
-
-pub tie_of_same : (q path : Names) → q ≡ path → eq_by_cmp by_names q path ≡ true
-tie_of_same q path e = subst (λ (p : Names). is_eq (by_names q p) ≡ true) e (ap is_eq (tied_itself by_names-total q))
-
 some_either : {X : Type 0} (b : Bool) (x : X) (other : Option X) → IsSome (cond b (Some x) other) → (b ≡ true) ⊎ IsSome other
 some_either true x other s = inl refl
 some_either false x other s = inr s
@@ -92,7 +80,7 @@ some_left false other s = s
 pub some_inserted : (tree : Tree) (path : Names) (content : Content) (q : Names) → IsSome (get (insert tree path content) q) → (q ≡ path) ⊎ IsSome (get tree q)
 some_inserted tree path content q s =
     elim (some_either (eq_by_cmp by_names q path) content (get tree q) (subst IsSome (finite.get-insert by_names-total tree path content q) s)) [
-      | inl e ↦ inl (same_from_tie q path e)
+      | inl e ↦ inl ((by_names-decides q path).0 e)
       | inr s ↦ inr s
     ]
 
@@ -100,41 +88,21 @@ pub inserted_keeps : (tree : Tree) (path : Names) (content : Content) (q : Names
 inserted_keeps tree path content q s =
     subst IsSome (sym (finite.get-insert by_names-total tree path content q)) (some_kept (eq_by_cmp by_names q path) content (get tree q) s)
 
-pub inserted_has : (tree : Tree) (path : Names) (content : Content) → get (insert tree path content) path ≡ Some content
-inserted_has tree path content =
-    finite.get-insert by_names-total tree path content path ∙ ap (λ b. cond b (Some content) (get tree path)) (tie_of_same path path refl)
-
 -- what is there after a file was taken away
 pub some_removed : (tree : Tree) (path q : Names) → IsSome (get (remove tree path) q) → IsSome (get tree q)
 some_removed tree path q s = some_left (eq_by_cmp by_names q path) (get tree q) (subst IsSome (finite.get-remove by_names-total tree path q) s)
-
-pub inserted_elsewhere : (tree : Tree) (path : Names) (content : Content) (q : Names) → q ≢ path → get (insert tree path content) q ≡ get tree q
-inserted_elsewhere tree path content q apart =
-    finite.get-insert by_names-total tree path content q
-    ∙ elim (eq_by_cmp by_names q path) as (λ b. eq_by_cmp by_names q path ≡ b → cond b (Some content) (get tree q) ≡ get tree q) [
-      | true ↦ λ e. absurd (apart (same_from_tie q path e))
-      | false ↦ λ e. refl
-    ] refl
-
-pub removed_elsewhere : (tree : Tree) (path q : Names) → q ≢ path → get (remove tree path) q ≡ get tree q
-removed_elsewhere tree path q apart =
-    finite.get-remove by_names-total tree path q
-    ∙ elim (eq_by_cmp by_names q path) as (λ b. eq_by_cmp by_names q path ≡ b → cond b None (get tree q) ≡ get tree q) [
-      | true ↦ λ e. absurd (apart (same_from_tie q path e))
-      | false ↦ λ e. refl
-    ] refl
 
 -- ---- a fact of every path of a tree, listed or looked up
 
 pub all_keys-from_some : (P : Names → Type 0) (tree : Tree) → ((q : Names) → IsSome (get tree q) → P q) → All P (keys tree)
 all_keys-from_some P tree each k d l =
     let q = slice_index_or (keys tree) k d in
-    each q (finite.contains_key-keys tree q ∙ list_any_at (eq_by_cmp by_names q) (keys tree) k d l (tie_of_same q q refl))
+    each q (finite.contains_key-keys tree q ∙ list_any_at (eq_by_cmp by_names q) (keys tree) k d l ((by_names-decides q q).1 refl))
 
 pub some-from_all_keys : (P : Names → Type 0) (tree : Tree) → All P (keys tree) → (q : Names) → IsSome (get tree q) → P q
 some-from_all_keys P tree all q s =
     let any = Any-from_list_any (eq_by_cmp by_names q) (keys tree) (sym (finite.contains_key-keys tree q) ∙ s) in
-    subst P (any.3 ∙ sym (same_from_tie q any.1 any.4)) (all any.0 any.1 any.2)
+    subst P (any.3 ∙ sym ((by_names-decides q any.1).0 any.4)) (all any.0 any.1 any.2)
 
 -- ---- trees
 
@@ -157,7 +125,7 @@ pub not_below_itself : (path : Names) → IsBelow path path → ⊥
 not_below_itself path below = below.1 (nothing_more path below.0 below.2)
 
 none_at_top : (tree : Tree) (path : Names) (content : Content) → path ≢ [] → get tree [] ≡ None → get (insert tree path content) [] ≡ None
-none_at_top tree path content not_top none = inserted_elsewhere tree path content [] (λ e. not_top (sym e)) ∙ none
+none_at_top tree path content not_top none = get_inserted_elsewhere tree path [] content (λ e. not_top (sym e)) ∙ none
 
 -- a tree is one still with a file where a file may be
 pub put_tree : (tree : Tree) (path : Names) (content : Content) → IsTree tree → IsPath path → IsPlace tree path → IsTree (insert tree path content)
@@ -198,4 +166,4 @@ place_from_tree tree other path is has there = record {
 -- where the tree is one still with a file, the file may be there
 pub place_from_put : (tree : Tree) (path : Names) (content : Content) → IsTree (insert tree path content) → IsPlace tree path
 place_from_put tree path content is =
-    place_from_tree tree (insert tree path content) path is (inserted_keeps tree path content) (ap is_some (inserted_has tree path content))
+    place_from_tree tree (insert tree path content) path is (inserted_keeps tree path content) (ap is_some (get_inserted tree path content))

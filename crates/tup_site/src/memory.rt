@@ -31,7 +31,7 @@ pub struct MemSite {
 }
 
 impl MemSite {
-    ghost use Rattle.tup_site.specs.Memory.{mem_tree, mem_store, mem_calls, mem_faults, mem_fails, fails_next, IsCounted, IsSame, IsSameBeside, IsSameBesideStore};
+    ghost use Rattle.tup_site.specs.Memory.{tree_in, store_in, calls_of, faults_of, fails_of, fails_next, IsCounted, IsSame, IsSameBeside, IsSameBesideStore};
 
     /// A site with these files and an empty store. The calls with these numbers will fail.
     pub fn new(
@@ -39,12 +39,12 @@ impl MemSite {
         files: Vec<(Path, Bytes)>,
         fails: Vec<u64>,
     ) -> Result<MemSite, MemRefused>
-        ensures files { IfOk result (λ site. mem_tree site ≡ tree_of files.items) }
+        ensures files { IfOk result (λ site. tree_in site ≡ tree_of files.items) }
         ensures are_a_tree { OnOk result (AreATree files.items) }
-        ensures store { IfOk result (λ site. mem_store site ≡ []) }
-        ensures calls { IfOk result (λ site. mem_calls site ≡ 0) }
-        ensures faults { IfOk result (λ site. mem_faults site ≡ 0) }
-        ensures fails { IfOk result (λ site. mem_fails site ≡ fails.items) }
+        ensures store { IfOk result (λ site. store_in site ≡ []) }
+        ensures calls { IfOk result (λ site. calls_of site ≡ 0) }
+        ensures faults { IfOk result (λ site. faults_of site ≡ 0) }
+        ensures fails { IfOk result (λ site. fails_of site ≡ fails.items) }
         ensures not_a_tree { result ≡ Err NotATree → ¬ AreATree files.items }
     {
         let mut site = MemSite {
@@ -62,10 +62,10 @@ impl MemSite {
 
     // Adds a file at a path where none is.
     fn add(&mut self, path: Path, content: Bytes) -> Result<(), MemRefused>
-        ensures added { OnOk result (mem_tree self.new ≡ finite.insert (mem_tree self.old) path content) }
-        ensures may { OnOk result (MayAdd (mem_tree self.old) path) }
+        ensures added { OnOk result (tree_in self.new ≡ finite.insert (tree_in self.old) path content) }
+        ensures may { OnOk result (MayAdd (tree_in self.old) path) }
         ensures beside { IsSameBeside self.old self.new }
-        ensures not_a_tree { result ≡ Err NotATree → ¬ MayAdd (mem_tree self.old) path }
+        ensures not_a_tree { result ≡ Err NotATree → ¬ MayAdd (tree_in self.old) path }
     {
         if self.files.contains_key(&path) {
             return Err(MemRefused::NotATree);
@@ -75,11 +75,11 @@ impl MemSite {
 
     // Sets a file where one may be.
     fn set(&mut self, path: Path, content: Bytes) -> Result<(), MemRefused>
-        ensures set { OnOk result (mem_tree self.new ≡ finite.insert (mem_tree self.old) path content) }
-        ensures may { OnOk result (IsPlace (mem_tree self.old) path) }
-        ensures unchanged { OnErr result (mem_tree self.new ≡ mem_tree self.old) }
+        ensures set { OnOk result (tree_in self.new ≡ finite.insert (tree_in self.old) path content) }
+        ensures may { OnOk result (IsPlace (tree_in self.old) path) }
+        ensures unchanged { OnErr result (tree_in self.new ≡ tree_in self.old) }
         ensures beside { IsSameBeside self.old self.new }
-        ensures not_a_tree { result ≡ Err NotATree → ¬ IsPlace (mem_tree self.old) path }
+        ensures not_a_tree { result ≡ Err NotATree → ¬ IsPlace (tree_in self.old) path }
     {
         if !is_place(&self.files, &path) {
             return Err(MemRefused::NotATree);
@@ -88,9 +88,9 @@ impl MemSite {
     }
 
     fn insert(&mut self, path: Path, content: Bytes) -> Result<(), AllocFailed<(Path, Bytes)>>
-        requires { IsPlace (mem_tree self.old) path }
-        ensures inserted { OnOk result (mem_tree self.new ≡ finite.insert (mem_tree self.old) path content) }
-        ensures unchanged { OnErr result (mem_tree self.new ≡ mem_tree self.old) }
+        requires { IsPlace (tree_in self.old) path }
+        ensures inserted { OnOk result (tree_in self.new ≡ finite.insert (tree_in self.old) path content) }
+        ensures unchanged { OnErr result (tree_in self.new ≡ tree_in self.old) }
         ensures beside { IsSameBeside self.old self.new }
     {
         prove!(path.depth() <= MAX_DEPTH);
@@ -99,7 +99,7 @@ impl MemSite {
     }
 
     fn erase(&mut self, path: &Path)
-        ensures erased { mem_tree self.new ≡ finite.remove (mem_tree self.old) path.now }
+        ensures erased { tree_in self.new ≡ finite.remove (tree_in self.old) path.now }
         ensures beside { IsSameBeside self.old self.new }
     {
         self.files.remove(path);
@@ -113,11 +113,11 @@ impl MemSite {
         path: Path,
         content: Option<Bytes>,
     ) -> Result<(), MemRefused>
-        ensures edited { OnOk result (mem_tree self.new ≡ edited (mem_tree self.old) path content) }
-        ensures tree { OnOk result (IsTree (edited (mem_tree self.old) path content)) }
-        ensures unchanged { OnErr result (mem_tree self.new ≡ mem_tree self.old) }
+        ensures edited { OnOk result (tree_in self.new ≡ edited (tree_in self.old) path content) }
+        ensures tree { OnOk result (IsTree (edited (tree_in self.old) path content)) }
+        ensures unchanged { OnErr result (tree_in self.new ≡ tree_in self.old) }
         ensures beside { IsSameBeside self.old self.new }
-        ensures not_a_tree { result ≡ Err NotATree → ¬ IsTree (edited (mem_tree self.old) path content) }
+        ensures not_a_tree { result ≡ Err NotATree → ¬ IsTree (edited (tree_in self.old) path content) }
     {
         match content {
             Some(content) => self.set(path, content),
@@ -130,21 +130,21 @@ impl MemSite {
 
     /// The content of a file, or `None` where no file is.
     pub fn file(&self, path: &Path) -> Option<&Bytes>
-        ensures { option_copied result ≡ finite.get (mem_tree self.now) path.now }
+        ensures { option_copied result ≡ finite.get (tree_in self.now) path.now }
     {
         self.files.get(path)
     }
 
     /// The bytes of the store.
     pub fn store(&self) -> &[u8]
-        ensures { result.now ≡ mem_store self.now }
+        ensures { result.now ≡ store_in self.now }
     {
         &self.store
     }
 
     /// How many calls of `Site`, but for `faults`, were made; it stands still at the last `u64`.
     pub fn calls(&self) -> u64
-        ensures { result ≡ mem_calls self.now }
+        ensures { result ≡ calls_of self.now }
     {
         self.calls
     }
@@ -165,9 +165,9 @@ impl MemSite {
 
     // Writes bytes into the store from a place on, and past its end.
     fn overwrite(&mut self, at: usize, bytes: &[u8]) -> Result<(), SiteFailed>
-        requires { at ≤ length (mem_store self.old) }
-        ensures written { OnOk result (Holds (mem_store self.old) at bytes.now (mem_store self.new)) }
-        ensures unchanged { OnErr result (mem_store self.new ≡ mem_store self.old) }
+        requires { at ≤ length (store_in self.old) }
+        ensures written { OnOk result (Holds (store_in self.old) at bytes.now (store_in self.new)) }
+        ensures unchanged { OnErr result (store_in self.new ≡ store_in self.old) }
         ensures beside { IsSameBesideStore self.old self.new }
         ensures memory { OnErr result (result ≡ Err Memory) }
     {
@@ -179,20 +179,20 @@ impl MemSite {
 }
 
 impl Site for MemSite {
-    ghost use Rattle.tup_site.specs.Memory.{mem_tree, mem_store, mem_faults, IsCounted, IsSame};
+    ghost use Rattle.tup_site.specs.Memory.{tree_in, store_in, faults_of, IsCounted, IsSame};
 
     ghost tells = { true };
 
-    ghost tree = { mem_tree };
+    ghost tree = { tree_in };
 
-    ghost store = { mem_store };
+    ghost store = { store_in };
 
-    ghost faults = { mem_faults };
+    ghost faults = { faults_of };
 
     ghost is_tree = { λ site _. site.is_tree };
 
     fn list(&mut self, alloc: Global) -> Result<Paths, SiteFailed>
-        ensures paths { IfOk result (λ paths. paths ≡ finite.keys (mem_tree self.old)) }
+        ensures paths { IfOk result (λ paths. paths ≡ finite.keys (tree_in self.old)) }
         ensures same { IsSame self.old self.new }
         ensures counted { IsCounted self.old self.new result }
         ensures never_too_large { NeverTooLarge result }
@@ -206,10 +206,10 @@ impl Site for MemSite {
     }
 
     fn get(&mut self, _alloc: Global, path: &Path) -> Result<Option<Bytes>, SiteFailed>
-        ensures content { IfOk result (λ content. content ≡ finite.get (mem_tree self.old) path.now) }
+        ensures content { IfOk result (λ content. content ≡ finite.get (tree_in self.old) path.now) }
         ensures small { IfOk result (λ content. (bytes : List ℕ) → content ≡ Some bytes → length bytes ≤ MAX_FILE_BYTES) }
         ensures too_large { (n : ℕ) → result ≡ Err (TooLarge n) → MAX_FILE_BYTES < n }
-        ensures length { (n : ℕ) → result ≡ Err (TooLarge n) → IsTooLarge (mem_tree self.old) path.now n }
+        ensures length { (n : ℕ) → result ≡ Err (TooLarge n) → IsTooLarge (tree_in self.old) path.now n }
         ensures same { IsSame self.old self.new }
         ensures counted { IsCounted self.old self.new result }
     {
@@ -225,11 +225,11 @@ impl Site for MemSite {
     }
 
     fn put(&mut self, _alloc: Global, path: &Path, content: &Bytes) -> Result<(), SiteFailed>
-        requires { IsPlace (mem_tree self.old) path.now }
-        ensures put { OnOk result (mem_tree self.new ≡ finite.insert (mem_tree self.old) path.now content.now) }
-        ensures unchanged { OnErr result (mem_tree self.new ≡ mem_tree self.old) }
-        ensures others { SameBut path.now (mem_tree self.old) (mem_tree self.new) }
-        ensures store { mem_store self.new ≡ mem_store self.old }
+        requires { IsPlace (tree_in self.old) path.now }
+        ensures put { OnOk result (tree_in self.new ≡ finite.insert (tree_in self.old) path.now content.now) }
+        ensures unchanged { OnErr result (tree_in self.new ≡ tree_in self.old) }
+        ensures others { SameBut path.now (tree_in self.old) (tree_in self.new) }
+        ensures store { store_in self.new ≡ store_in self.old }
         ensures counted { IsCounted self.old self.new result }
         ensures never_too_large { NeverTooLarge result }
     {
@@ -238,10 +238,10 @@ impl Site for MemSite {
     }
 
     fn remove(&mut self, _alloc: Global, path: &Path) -> Result<(), SiteFailed>
-        ensures removed { OnOk result (mem_tree self.new ≡ finite.remove (mem_tree self.old) path.now) }
-        ensures unchanged { OnErr result (mem_tree self.new ≡ mem_tree self.old) }
-        ensures others { SameBut path.now (mem_tree self.old) (mem_tree self.new) }
-        ensures store { mem_store self.new ≡ mem_store self.old }
+        ensures removed { OnOk result (tree_in self.new ≡ finite.remove (tree_in self.old) path.now) }
+        ensures unchanged { OnErr result (tree_in self.new ≡ tree_in self.old) }
+        ensures others { SameBut path.now (tree_in self.old) (tree_in self.new) }
+        ensures store { store_in self.new ≡ store_in self.old }
         ensures counted { IsCounted self.old self.new result }
         ensures never_too_large { NeverTooLarge result }
     {
@@ -259,7 +259,7 @@ impl Site for MemSite {
     }
 
     fn db_len(&mut self, _alloc: Global) -> Result<u64, SiteFailed>
-        ensures bytes { IfOk result (λ len. len ≡ length (mem_store self.old)) }
+        ensures bytes { IfOk result (λ len. len ≡ length (store_in self.old)) }
         ensures same { IsSame self.old self.new }
         ensures counted { IsCounted self.old self.new result }
         ensures never_too_large { NeverTooLarge result }
@@ -269,8 +269,8 @@ impl Site for MemSite {
     }
 
     fn db_read(&mut self, _alloc: Global, at: u64, into: &mut [u8]) -> Result<(), SiteFailed>
-        requires { at + length into.old ≤ length (mem_store self.old) }
-        ensures bytes { OnOk result (into.new ≡ take (length into.old) (drop at (mem_store self.old))) }
+        requires { at + length into.old ≤ length (store_in self.old) }
+        ensures bytes { OnOk result (into.new ≡ take (length into.old) (drop at (store_in self.old))) }
         ensures same { IsSame self.old self.new }
         ensures counted { IsCounted self.old self.new result }
         ensures never_too_large { NeverTooLarge result }
@@ -282,10 +282,10 @@ impl Site for MemSite {
     }
 
     fn db_write(&mut self, _alloc: Global, at: u64, bytes: &[u8]) -> Result<(), SiteFailed>
-        requires { at ≤ length (mem_store self.old) }
-        ensures written { OnOk result (Holds (mem_store self.old) at bytes.now (mem_store self.new)) }
-        ensures unchanged { OnErr result (mem_store self.new ≡ mem_store self.old) }
-        ensures tree { mem_tree self.new ≡ mem_tree self.old }
+        requires { at ≤ length (store_in self.old) }
+        ensures written { OnOk result (Holds (store_in self.old) at bytes.now (store_in self.new)) }
+        ensures unchanged { OnErr result (store_in self.new ≡ store_in self.old) }
+        ensures tree { tree_in self.new ≡ tree_in self.old }
         ensures counted { IsCounted self.old self.new result }
         ensures never_too_large { NeverTooLarge result }
     {
@@ -302,10 +302,10 @@ impl Site for MemSite {
     }
 
     fn db_cut(&mut self, _alloc: Global, len: u64) -> Result<(), SiteFailed>
-        requires { len ≤ length (mem_store self.old) }
-        ensures cut { OnOk result (mem_store self.new ≡ take len (mem_store self.old)) }
-        ensures unchanged { OnErr result (mem_store self.new ≡ mem_store self.old) }
-        ensures tree { mem_tree self.new ≡ mem_tree self.old }
+        requires { len ≤ length (store_in self.old) }
+        ensures cut { OnOk result (store_in self.new ≡ take len (store_in self.old)) }
+        ensures unchanged { OnErr result (store_in self.new ≡ store_in self.old) }
+        ensures tree { tree_in self.new ≡ tree_in self.old }
         ensures counted { IsCounted self.old self.new result }
         ensures never_too_large { NeverTooLarge result }
     {
@@ -315,8 +315,11 @@ impl Site for MemSite {
     }
 
     fn faults(&self) -> u64
-        ensures { result ≡ mem_faults self.now }
+        ensures { result ≡ faults_of self.now }
     {
         self.faults
     }
 }
+
+#[cfg(test)]
+mod tests;

@@ -1,6 +1,6 @@
 //! Where a file may be put.
 ghost use Rattle.std.specs.Prelude.{IsTrue, ◌↔◌};
-ghost use Rattle.tup_path.specs.Tree.{IsTree, IsBelow};
+ghost use Rattle.tup_path.specs.Tree.{IsTree};
 ghost use Rattle.tup_site.specs.Cause.{IsPlace};
 ghost use Rattle.tup_site.specs.Edit.{tree_of, NoneAbove, NoneBelow};
 
@@ -25,7 +25,7 @@ fn is_none_above(files: &BTreeMap<Path, Bytes>, path: &Path) -> bool
         .range((Bound::Unbounded, Bound::Excluded(path)))
         .next_back()
     {
-        Some((file, _)) => !is_below(file, path),
+        Some((file, _)) => !path.is_below(file),
         None => true,
     }
 }
@@ -38,13 +38,7 @@ fn is_none_below(files: &BTreeMap<Path, Bytes>, path: &Path) -> bool
         .range((Bound::Excluded(path), Bound::Unbounded))
         .next()
     {
-        Some((file, _)) => !is_below(path, file),
+        Some((file, _)) => !file.is_below(path),
         None => true,
     }
-}
-
-fn is_below(folder: &Path, path: &Path) -> bool
-    ensures { IsTrue result ↔ IsBelow folder.now path.now }
-{
-    folder.depth() < path.depth() && &path.names()[..folder.depth()] == folder.names()
 }
