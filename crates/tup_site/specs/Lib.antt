@@ -1,2 +1,5 @@
 pub mod Store
 pub mod Cause
+pub mod Edit
+pub mod Memory
+pub mod Trees

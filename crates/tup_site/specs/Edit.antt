@@ -1,0 +1,35 @@
+-- Files given as a list, the place of a file among them, and one file set or taken away. Own.
+use Rattle.std.specs.Prelude.{◌≡◌, ◌≢◌, List, Option, None, Some, IsSome}
+use Rattle.std.specs.FinMap as finite
+use Rattle.std.specs.List.{AllPairs}
+use Rattle.std.specs.Map.{keys_of}
+use Rattle.tup_path.specs.Name.{Names, Content}
+use Rattle.tup_path.specs.Tree.{Tree, IsTree, IsBelow}
+use Rattle.tup_site.specs.Cause.{IsPlace}
+
+-- the map that these files make
+abbrev pub tree_of : List (Names × Content) → Tree
+tree_of files = finite.from_entries files
+
+-- these files make a tree: no path stands twice, and each is where a file may be
+pub record AreATree (files : List (Names × Content)) : Type 0 where
+  pub once : AllPairs (λ a b. a ≢ b) (keys_of files)
+  pub tree : IsTree (tree_of files)
+
+-- no file stands where a folder above the path has to be
+abbrev pub NoneAbove : Tree → Names → Type 0
+NoneAbove tree path = (file : Names) → IsSome (finite.get tree file) → IsBelow file path → ⊥
+
+-- the path isn't a folder: no file is below it
+abbrev pub NoneBelow : Tree → Names → Type 0
+NoneBelow tree path = (file : Names) → IsSome (finite.get tree file) → IsBelow path file → ⊥
+
+-- a file may be added: none is at the path, and one may be
+pub record MayAdd (tree : Tree) (path : Names) : Type 0 where
+  pub none : finite.get tree path ≡ None
+  pub place : IsPlace tree path
+
+-- the tree with a file set, or taken away
+abbrev pub edited : Tree → Names → Option Content → Tree
+edited tree path None = finite.remove tree path
+edited tree path (Some content) = finite.insert tree path content
