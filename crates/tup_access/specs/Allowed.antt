@@ -1,27 +1,15 @@
 -- What an answer of access tells: an ask that may be made, and a refusal that is never Good.
-use Rattle.std.specs.Prelude.{◌≡◌, ◌≢◌, ℕ, zero, suc, ◌<◌, ◌≤◌, ◌-◌, ◌==◌, Bool, true, false, not, nat_le, if◌then◌else◌, List, [], ◌∷◌, ◌++◌, length, map, unwrap_or, Option, None, Some, Result, Ok, Err}
-use Rattle.std.specs.FinMap as finite
-use Rattle.std.proofs.Common.{refl, sym, ap, ◌∙◌, subst, length-append, arith}
-use Rattle.std.proofs.lemmas.Bool.{leb-false, cases_Bool}
+use Rattle.std.specs.Prelude.{◌≡◌, ◌≢◌, ℕ, ◌<◌, ◌-◌, Bool, true, false, nat_le, if◌then◌else◌, List, Result, Ok, Err}
+use Rattle.std.proofs.Common.{refl, sym, ap, ◌∙◌}
+use Rattle.std.proofs.lemmas.Bool.{leb-false}
 use Rattle.tup_path.specs.declared.fault.PathFault.{PathFault}
-use Rattle.tup_path.specs.Name.{Names, Content}
-use Rattle.tup_path.specs.Tree.{Tree}
+use Rattle.tup_path.specs.Name.{Names}
 use Rattle.tup_path.specs.Resolve.{resolve}
 use Rattle.tup_rule.specs.declared.rule.Rule.{Rule}
-use Rattle.tup_rule.specs.Rule.{writes}
-use Rattle.tup_runner.specs.Next.{Next, Asked}
-use Rattle.tup_runner.specs.declared.step.Answer.{Answer}
-use Rattle.tup_runner.specs.declared.step.Answer.TheVariants.{Content as Contents, Absent}
-use Rattle.tup_runner.specs.declared.step.Ended.{Ended}
-use Rattle.tup_runner.specs.declared.step.Step.{Step}
-use Rattle.tup_runner.specs.declared.step.Step.TheVariants.{Ask, End}
 use Rattle.tup_access.specs.declared.verdict.Verdict.{Verdict}
-use Rattle.tup_access.specs.declared.verdict.Verdict.TheVariants.{Good, Failed, IllegalRead, IllegalWrite, Unwritten, TooManyReads}
-use Rattle.tup_access.specs.declared.verdict.Access.{Access}
+use Rattle.tup_access.specs.declared.verdict.Verdict.TheVariants.{Good, IllegalRead, TooManyReads}
 use Rattle.tup_access.specs.declared.verdict.Access.TheVariants.{Yes, No}
 use Rattle.tup_access.specs.Access.{may_read, access}
-use Rattle.tup_access.specs.Judge.{Judged, bad, judge, foreign_write, unwritten, last_written, files_of}
-use Rattle.tup_access.specs.Verdict.{answer, follow, verdict}
 
 -- an ask that may be: not one too many, and its text names a path that may be read
 pub record IsAllowed (rules : List Rule) (rule : Rule) (before : ℕ) (text : List ℕ) (path : Names) : Type 0 where

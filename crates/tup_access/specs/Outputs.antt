@@ -1,25 +1,19 @@
 -- What a judged command leaves: all outputs of its rule in their order where it is Good, and else nothing.
-use Rattle.std.specs.Prelude.{◌≡◌, ◌≢◌, ℕ, zero, suc, ◌<◌, ◌≤◌, ◌-◌, ◌==◌, Bool, true, false, not, nat_le, if◌then◌else◌, List, [], ◌∷◌, ◌++◌, length, map, unwrap_or, Option, None, Some, Result, Ok, Err}
-use Rattle.std.specs.FinMap as finite
-use Rattle.std.proofs.Common.{refl, sym, ap, ◌∙◌, subst, length-append, arith}
-use Rattle.std.proofs.lemmas.Bool.{leb-false, cases_Bool}
-use Rattle.tup_path.specs.declared.fault.PathFault.{PathFault}
+use Rattle.std.specs.Prelude.{◌≡◌, ◌≢◌, ℕ, zero, suc, ◌-◌, ◌==◌, Bool, true, false, not, if◌then◌else◌, List, [], ◌∷◌, ◌++◌, length, map, unwrap_or, Option, None, Some}
+use Rattle.std.proofs.Common.{refl, sym, ap, subst}
 use Rattle.tup_path.specs.Name.{Names, Content}
 use Rattle.tup_path.specs.Tree.{Tree}
-use Rattle.tup_path.specs.Resolve.{resolve}
 use Rattle.tup_rule.specs.declared.rule.Rule.{Rule}
 use Rattle.tup_rule.specs.Rule.{writes}
 use Rattle.tup_runner.specs.Next.{Next, Asked}
-use Rattle.tup_runner.specs.declared.step.Answer.{Answer}
-use Rattle.tup_runner.specs.declared.step.Answer.TheVariants.{Content as Contents, Absent}
 use Rattle.tup_runner.specs.declared.step.Ended.{Ended}
 use Rattle.tup_runner.specs.declared.step.Step.{Step}
 use Rattle.tup_runner.specs.declared.step.Step.TheVariants.{Ask, End}
 use Rattle.tup_access.specs.declared.verdict.Verdict.{Verdict}
-use Rattle.tup_access.specs.declared.verdict.Verdict.TheVariants.{Good, Failed, IllegalRead, IllegalWrite, Unwritten, TooManyReads}
+use Rattle.tup_access.specs.declared.verdict.Verdict.TheVariants.{Good, Failed, IllegalWrite, Unwritten, TooManyReads}
 use Rattle.tup_access.specs.declared.verdict.Access.{Access}
 use Rattle.tup_access.specs.declared.verdict.Access.TheVariants.{Yes, No}
-use Rattle.tup_access.specs.Access.{may_read, access}
+use Rattle.tup_access.specs.Access.{access}
 use Rattle.tup_access.specs.Judge.{Judged, bad, judge, foreign_write, unwritten, last_written, files_of}
 use Rattle.tup_access.specs.Verdict.{answer, follow, verdict}
 use Rattle.tup_access.specs.Allowed.{access-No}
