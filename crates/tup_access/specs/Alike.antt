@@ -1,5 +1,5 @@
 -- A verdict depends on a tree only where its rule may read, its own outputs aside.
-use Rattle.std.specs.Prelude.{◌≡◌, ℕ, zero, suc, ◌-◌, Bool, true, false, if◌then◌else◌, List, [], ◌∷◌, ◌++◌, length, None, Some}
+use Rattle.std.specs.Prelude.{◌≡◌, ℕ, zero, suc, Bool, true, false, if◌then◌else◌, List, [], ◌∷◌, ◌++◌, length, None, Some}
 use Rattle.std.specs.FinMap as finite
 use Rattle.std.proofs.Common.{refl, sym, ap, ◌∙◌}
 use Rattle.tup_path.specs.Name.{Names}

@@ -1,10 +1,9 @@
 -- What a judged command leaves: all outputs of its rule in their order where it is Good, and else nothing.
-use Rattle.std.specs.Prelude.{◌≡◌, ◌≢◌, ℕ, zero, suc, ◌-◌, ◌==◌, Bool, true, false, not, if◌then◌else◌, List, [], ◌∷◌, ◌++◌, length, map, unwrap_or, Option, None, Some}
+use Rattle.std.specs.Prelude.{◌≡◌, ◌≢◌, ℕ, zero, suc, ◌==◌, Bool, true, false, not, if◌then◌else◌, List, [], ◌∷◌, ◌++◌, length, map, unwrap_or, Option, None, Some}
 use Rattle.std.proofs.Common.{refl, sym, ap, subst}
 use Rattle.tup_path.specs.Name.{Names, Content}
 use Rattle.tup_path.specs.Tree.{Tree}
 use Rattle.tup_rule.specs.declared.rule.Rule.{Rule}
-use Rattle.tup_rule.specs.Rule.{writes}
 use Rattle.tup_runner.specs.Next.{Next, Asked}
 use Rattle.tup_runner.specs.declared.step.Ended.{Ended}
 use Rattle.tup_runner.specs.declared.step.Step.{Step}

@@ -1,9 +1,7 @@
 //! What the end of a command is worth.
-ghost use Rattle.std.specs.Prelude.{◌≡◌, ◌⊎◌, ◌++◌, [], ◌∷◌, List, Ok, Err, None, Some, true, false, length, IfOk, MatchResult};
-ghost use Rattle.std.specs.Option.{option_copied, option_map};
-ghost use Rattle.std.specs.List.{AllZip, find};
+ghost use Rattle.std.specs.Prelude.{◌≡◌, ◌⊎◌, Ok, None, Some, true, false, length, IfOk, MatchResult};
+ghost use Rattle.std.specs.Option.{option_copied};
 ghost use Rattle.tup_path.specs.Resolve.{resolve};
-ghost use Rattle.tup_rule.specs.Rule.{writes};
 ghost use Rattle.tup_access.specs.Judge as specs;
 ghost use Rattle.tup_access.specs.Written.{last_at, AreNamed};
 ghost use Rattle.tup_access.specs.Refusal.{Refuses, RefusesWrite, RefusesOutput};
