@@ -1,9 +1,9 @@
 -- A list has one spelling: what is spelled reads back, and what reads is the spelling of its paths.
-use Rattle.std.proofs.Common.{◌≡◌, ◌≢◌, ◌&&◌, ℕ, suc, ◌+◌, ◌-◌, ◌<◌, ◌≤◌, Bool, true, false, eqb, List, [], ◌∷◌, ◌++◌, length, slice_get, Option, Some, None, All, Result, Ok, Err, bytes_eq, refl, ap, sym, subst, ◌∙◌, if◌then◌else◌, append_assoc, append-nil, arith}
-use Rattle.std.proofs.lemmas.List.Elements.{All-nil, All-cons, All-head, All-tail, All-weaker, All-append, All-push, All-contains, Contains-append_right}
+use Rattle.std.proofs.Common.{◌≡◌, ◌≢◌, ℕ, suc, ◌-◌, Bool, true, false, eqb, List, [], ◌∷◌, ◌++◌, length, slice_get, Option, Some, None, All, Result, Ok, Err, bytes_eq, refl, ap, sym, subst, ◌∙◌, if◌then◌else◌, append_assoc, append-nil, arith}
+use Rattle.std.proofs.lemmas.List.Elements.{All-nil, All-cons, All-head, All-tail, All-push, All-contains, Contains-append_right}
 use Rattle.std.proofs.lemmas.List.Splits.{slice_split_at, length-slice_split, join_with_byte-slice_split}
 use Rattle.std.proofs.lemmas.Slice.Eq.{bytes_eq-Decides}
-use Rattle.std.specs.List.{slice_split, join_with_byte, Contains}
+use Rattle.std.specs.List.{slice_split, join_with_byte}
 use Rattle.std.specs.Ordering.{is_lt}
 use Rattle.std.specs.declared.cmp.Ordering.{Ordering}
 use Rattle.std.specs.declared.cmp.Ordering.TheVariants.{Less, Equal, Greater}
@@ -13,7 +13,7 @@ use Rattle.tup_path.specs.Show.{show}
 use Rattle.tup_owned.specs.Ascending.{IsAscending}
 use Rattle.tup_owned.specs.Members.{Before, first_member}
 use Rattle.tup_owned.specs.Owned.{IsOwned, spelling, line_path, comes_after, next_path, reads_on, owned_of}
-use Rattle.tup_owned.specs.Lines.{line_path_shows, line_path-show, HasNoFeed, show_no_feed}
+use Rattle.tup_owned.specs.Lines.{line_path_shows, line_path-show, show_no_feed}
 
 -- the parts of bytes between line feeds
 abbrev pub lines : List ℕ → List (List ℕ)

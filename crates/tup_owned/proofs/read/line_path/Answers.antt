@@ -1,4 +1,4 @@
-use Rattle.std.proofs.Common.{◌≡◌, ◌≢◌, ◌<◌, inl, inr, length, refl, sym, ◌∙◌, rules, arith}
+use Rattle.std.proofs.Common.{◌<◌, inl, inr, length, refl, sym, ◌∙◌, rules, arith}
 use Rattle.tup_owned.proofs.Answered.{no_text, no_path, other_path, this_path, shown_is, apart, alike}
 use Rattle.tup_owned.proofs.read.line_path.Goals as goal
 use Rattle.tup_owned.proofs.read.line_path.Goals.{then-depth-eq0-via-then-depth-eq0, then-depth-eq0-via-else-depth-eq0+then-ne}
