@@ -1,5 +1,5 @@
 //! How a path is written.
-ghost use Rattle.std.specs.Prelude.{◌≡◌, ◌⊎◌, ◌≤◌, ◌++◌, ◌∷◌, [], Ok, Err, List, ℕ, All, length, drop, replicate, string_bytes, IfOk, OnOk};
+ghost use Rattle.std.specs.Prelude.{◌≡◌, ◌⊎◌, ◌≤◌, ◌++◌, ◌∷◌, [], Ok, Err, Some, List, ℕ, All, length, drop, replicate, string_bytes, IfOk, OnOk};
 ghost use Rattle.std.specs.List.{join_with_byte};
 ghost use Rattle.tup_path.specs.Resolve.{resolve};
 ghost use Rattle.tup_path.specs.Show as specs;
@@ -8,6 +8,7 @@ use crate::fault::PathFault;
 use crate::path::Path;
 use crate::text::Text;
 use std::alloc::{AllocError, Global};
+use std::fmt;
 
 impl Path {
     /// The names with a slash between them, and `.` for the top directory.
@@ -25,6 +26,21 @@ impl Path {
         let shared = shared(dir.names(), self.names());
         let up = dir.depth() - shared;
         Ok(written(alloc, up, &self.names()[shared..])?)
+    }
+}
+
+impl fmt::Display for Path {
+    ghost output = { λ path. Some (specs.show path) };
+
+    fn fmt<W: fmt::Write>(&self, f: &mut fmt::Formatter<W>) -> fmt::Result {
+        let Some((first, rest)) = self.names().split_first() else {
+            return f.write_str(".");
+        };
+        f.write_str(first.as_str())?;
+        for name in rest {
+            write!(f, "/{name}")?;
+        }
+        Ok(())
     }
 }
 
