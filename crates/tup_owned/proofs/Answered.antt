@@ -1,5 +1,5 @@
 -- What the calls on one line, and on all lines, answer.
-use Rattle.std.proofs.Common.{◌≡◌, ◌≢◌, ℕ, ◌+◌, ◌-◌, ◌<◌, true, false, not, List, [], ◌∷◌, ◌++◌, length, take, drop, Option, Some, None, Result, Ok, Err, ◌⊎◌, inl, inr, IsUtf8, MatchResult, bytes_eq, position, eqb, refl, ap, sym, subst, ◌∙◌, append_assoc, length-append, length-drop, arith}
+use Rattle.std.proofs.Common.{◌≡◌, ◌≢◌, ℕ, ◌+◌, ◌-◌, ◌<◌, true, false, not, List, [], ◌∷◌, ◌++◌, length, take, drop, Option, Some, None, Result, Ok, Err, ◌⊎◌, inl, inr, IsUtf8, bytes_eq, position, eqb, refl, ap, sym, subst, ◌∙◌, append_assoc, length-append, length-drop, arith}
 use Rattle.std.proofs.lemmas.List.{nil_from_length, take_all}
 use Rattle.std.proofs.lemmas.Slice.Eq.{bytes_eq-Decides}
 use Rattle.tup_path.specs.Name.{Names, IsPath}
@@ -90,26 +90,26 @@ reads_to_next bytes paths seen rest end found path grown r same e told is push s
 abbrev broken : ℕ → Result (List Names) OwnedFault
 broken offset = Err (Damaged offset)
 
-abbrev pub IsDamaged : List ℕ → List Names → List ℕ → Type 0
-IsDamaged bytes paths rest = MatchResult (owned_of bytes) (λ found. broken (length bytes - length rest) ≡ Ok found) (λ offset. broken (length bytes - length rest) ≡ broken offset)
+abbrev pub IsDamaged : List ℕ → List ℕ → Type 0
+IsDamaged bytes rest = (offset : ℕ) → broken (length bytes - length rest) ≡ broken offset → owned_of bytes ≡ Err offset
 
-damaged : (bytes : List ℕ) (paths : List Names) (rest : List ℕ) → IsReadTo bytes paths rest → reads_on paths (lines rest) ≡ Err (length (spelling paths)) → IsDamaged bytes paths rest
-damaged bytes paths rest so_far stops =
+damaged : (bytes : List ℕ) (paths : List Names) (rest : List ℕ) → IsReadTo bytes paths rest → reads_on paths (lines rest) ≡ Err (length (spelling paths)) → IsDamaged bytes rest
+damaged bytes paths rest so_far stops offset named =
     let whole : length bytes ≡ length (spelling paths) + length rest = ap length so_far.0 ∙ length-append (spelling paths) rest in
-    let offset : length bytes - length rest ≡ length (spelling paths) = omega arith in
-    subst (λ r. MatchResult r (λ found. broken (length bytes - length rest) ≡ Ok found) (λ n. broken (length bytes - length rest) ≡ broken n))
-    (sym (so_far.1 ∙ stops)) (ap broken offset)
+    let there : length bytes - length rest ≡ offset = cc in
+    let same : length (spelling paths) ≡ offset = omega arith in
+    so_far.1 ∙ stops ∙ ap (λ n. Err n) same
 
 stays_open : (paths : List Names) (rest : List ℕ) → 0 < length rest → reads_on paths (rest ∷ []) ≡ Err (length (spelling paths))
 stays_open paths [] some = absurd (omega arith)
 stays_open paths (b ∷ bs) some = refl
 
-pub no_end : (bytes : List ℕ) (paths : List Names) (rest : List ℕ) → IsReadTo bytes paths rest → position (λ b. eqb b 10) rest ≡ None → 0 < length rest → IsDamaged bytes paths rest
+pub no_end : (bytes : List ℕ) (paths : List Names) (rest : List ℕ) → IsReadTo bytes paths rest → position (λ b. eqb b 10) rest ≡ None → 0 < length rest → IsDamaged bytes rest
 no_end bytes paths rest so_far none some = damaged bytes paths rest so_far (ap (reads_on paths) (last_line rest none) ∙ stays_open paths rest some)
 
 pub no_next : (bytes : List ℕ) (paths seen : List Names) (rest : List ℕ) (end : ℕ) (found : Option Names) (r : Result (Option Names) OwnedFault)
     → seen ≡ paths → r ≡ Ok found → (r ≡ Err Memory) ⊎ (r ≡ Ok (next_path seen (take end rest))) → found ≡ None
-    → IsReadTo bytes paths rest → position (λ b. eqb b 10) rest ≡ Some end → IsDamaged bytes paths rest
+    → IsReadTo bytes paths rest → position (λ b. eqb b 10) rest ≡ Some end → IsDamaged bytes rest
 no_next bytes paths seen rest end found r same e told is so_far line =
     let none : next_path paths (take end rest) ≡ None = subst (λ s. next_path s (take end rest) ≡ None) same (next_is seen (take end rest) found r e told ∙ is) in
     let cut = first_line rest end line in

@@ -1,5 +1,5 @@
 //! How a list of owned paths is read.
-ghost use Rattle.std.specs.Prelude.{◌≡◌, ◌==◌, ◌⊎◌, Err, Ok, MatchResult, position};
+ghost use Rattle.std.specs.Prelude.{◌≡◌, ◌==◌, ◌⊎◌, ℕ, Err, Ok, IfOk, position};
 ghost use Rattle.tup_owned.specs.Owned.{line_path as path_of_line, next_path as path_after, owned_of};
 
 use crate::fault::OwnedFault;
@@ -10,7 +10,8 @@ use tup_path::{Bytes, Items, Path, PathFault, Paths, Text};
 /// feed at its end, isn't UTF-8, isn't a path below the top directory as it is shown, or doesn't come after
 /// the line before.
 pub fn read_owned(alloc: Global, bytes: &[u8]) -> Result<Paths, OwnedFault>
-    ensures { (result ≡ Err OwnedFault.Memory) ⊎ MatchResult (owned_of bytes.now) (λ paths. result ≡ Ok paths) (λ offset. result ≡ Err (OwnedFault.Damaged offset)) }
+    ensures owned { IfOk result (λ paths. owned_of bytes.now ≡ Ok paths) }
+    ensures damaged { (offset : ℕ) → result ≡ Err (OwnedFault.Damaged offset) → owned_of bytes.now ≡ Err offset }
 {
     let mut paths = Items::new(alloc);
     let mut rest = bytes;
