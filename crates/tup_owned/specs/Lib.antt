@@ -1,0 +1,5 @@
+pub mod Ascending
+pub mod Members
+pub mod Owned
+pub mod Lines
+pub mod Spelled
