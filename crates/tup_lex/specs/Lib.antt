@@ -1,1 +1,3 @@
 pub mod ParseKind
+pub mod Blank
+pub mod Line
