@@ -1,1 +1,3 @@
 pub mod Trims
+pub mod Joins
+pub mod Coverage

@@ -1,3 +1,4 @@
 pub mod ParseKind
 pub mod Blank
 pub mod Line
+pub mod Covers

@@ -1,6 +1,7 @@
 //! The lines of a Tupfile.
 ghost use Rattle.std.specs.Prelude.{◌≡◌, ◌⊎◌, ◌≤◌, ◌<◌, ◌+◌, ◌++◌, length, count_by, min, OnOk, IfErr, ◌==◌};
-ghost use Rattle.std.specs.Str.{IsUtf8};
+ghost use Rattle.std.specs.Str.Lines.{lines as cut_lines};
+ghost use Rattle.tup_lex.specs.Covers.{Covers};
 ghost use Rattle.tup_lex.specs.Line.{line, line_number, says_something, told, said, joined_lines, lines};
 ghost use Rattle.tup_lex.specs.declared.fault.LexFault.TheVariants.{Memory, LineTooLong};
 
@@ -29,7 +30,8 @@ pub type Lines = Items<Line>;
 /// A file that isn't UTF-8 is refused at the line of its first wrong byte, and else one with a joined
 /// line of more than 65,535 bytes at the first line of the first such.
 pub fn lines(alloc: Global, file: &Bytes) -> Result<Lines, LexFault>
-    ensures { (result ≡ Err Memory) ⊎ (result ≡ lines file.now) }
+    ensures lines { (result ≡ Err Memory) ⊎ (result ≡ lines file.now) }
+    ensures covered { Covers 0 (joined_lines file.now) (cut_lines file.now) }
 {
     let bytes = file.as_slice();
     match str::from_utf8(bytes) {
@@ -52,22 +54,22 @@ fn said_lines(alloc: Global, text: &str) -> Result<Lines, LexFault>
     ensures { (result ≡ Err Memory) ⊎ (result ≡ said (joined_lines text.now)) }
 {
     let mut kept = Lines::new(alloc);
-    let mut open = String::new(alloc);
+    let mut begun = String::new(alloc);
     let mut first = 1u32;
     let mut number = 1u32;
     for line in text.lines() {
         number = number.saturating_add(1);
         match line.strip_suffix('\\') {
-            Some(front) => open.push_str(front)?,
+            Some(front) => begun.push_str(front)?,
             None => {
-                open.push_str(line)?;
-                keep(alloc, &mut kept, first, open.as_str())?;
-                open.clear();
+                begun.push_str(line)?;
+                keep(alloc, &mut kept, first, begun.as_str())?;
+                begun.clear();
                 first = number;
             }
         }
     }
-    keep(alloc, &mut kept, first, open.as_str())?;
+    keep(alloc, &mut kept, first, begun.as_str())?;
     Ok(kept)
 }
 
