@@ -1,3 +1,5 @@
 pub mod Trims
 pub mod Joins
 pub mod Coverage
+pub mod Cuts
+pub mod Names

@@ -2,3 +2,5 @@ pub mod ParseKind
 pub mod Blank
 pub mod Line
 pub mod Covers
+pub mod Word
+pub mod Parts

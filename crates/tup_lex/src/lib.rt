@@ -5,7 +5,12 @@ mod blank;
 mod fault;
 mod kind;
 mod line;
+mod parts;
+mod span;
+mod word;
 
 pub use fault::LexFault;
 pub use kind::ParseKind;
 pub use line::{Line, Lines, MAX_LINE, lines};
+pub use parts::Parts;
+pub use span::{Span, Spans};
