@@ -1,5 +1,5 @@
 -- trimming by the places of the first and the last byte that isn't blank
-use Rattle.std.proofs.Common.{◌≡◌, ℕ, ◌+◌, ◌-◌, ◌<◌, ◌≤◌, Bool, true, false, not, List, [], ◌∷◌, length, take, drop, get_or, refl, sym, ap, ⊎_elim, ◌⊎◌, ◌∙◌, arith, length-drop}
+use Rattle.std.proofs.Common.{◌≡◌, ℕ, ◌+◌, ◌-◌, ◌<◌, ◌≤◌, Bool, true, false, not, List, [], ◌∷◌, length, take, drop, get_or, refl, sym, ap, ⊎_elim, ◌⊎◌, ◌∙◌, arith, length-drop, length-take}
 use Rattle.std.specs.List.{prefix_len, suffix_len}
 use Rattle.std.proofs.lemmas.List.{get_or-drop}
 use Rattle.std.proofs.lemmas.List.Sums.{prefix_len_is, suffix_len_is}
@@ -9,11 +9,7 @@ use Rattle.std.specs.Str.{IsUtf8, IsCharBoundary}
 use Rattle.bstr.specs.Bytes.{is_in, not_in}
 use Rattle.bstr.specs.Find.{NoneBefore, NoneAfter, Nowhere, Passes}
 use Rattle.std.proofs.lemmas.Bool.Decides.{nat_tests}
-use Rattle.tup_lex.specs.Blank.{is_blank, trim}
-
--- every byte from a up to b is blank
-abbrev pub BlankFrom : List ℕ → ℕ → ℕ → Type 0
-BlankFrom text a b = (k : ℕ) → a ≤ k → k < b → is_blank (get_or text k 0) ≡ true
+use Rattle.tup_lex.specs.Blank.{is_blank, trim, BlankFrom, Ends}
 
 pub trim_is : (text : List ℕ) (a b : ℕ) → a ≤ b → b ≤ length text → BlankFrom text 0 a → (a < length text → is_blank (get_or text a 0) ≡ false) → BlankFrom text b (length text) → (a < b → is_blank (get_or text (b - 1) 0) ≡ false) → trim text ≡ take (b - a) (drop a text)
 trim_is text a b ab bl before first behind last =
@@ -45,16 +41,7 @@ false_from_not : (b : Bool) → not b ≡ true → b ≡ false
 false_from_not true h = cc
 false_from_not false _ = refl
 
--- what the two searches find: the first and the last byte that isn't blank
-pub record Ends (text : List ℕ) (first last : ℕ) : Type 0 where
-  pub ordered : first ≤ last
-  pub within : last < length text
-  pub before : BlankFrom text 0 first
-  pub first_kept : is_blank (get_or text first 0) ≡ false
-  pub last_kept : is_blank (get_or text last 0) ≡ false
-  pub behind : BlankFrom text (last + 1) (length text)
-
-blank_from_nowhere : (text : List ℕ) (a b : ℕ) → Nowhere (IsKept text) a b → BlankFrom text a b
+pub blank_from_nowhere : (text : List ℕ) (a b : ℕ) → Nowhere (IsKept text) a b → BlankFrom text a b
 blank_from_nowhere text a b h k low high = true_from_not _ (λ e. h k low high (not_in-blank (get_or text k 0) ∙ e))
 
 kept : (text : List ℕ) (k : ℕ) → IsKept text k → is_blank (get_or text k 0) ≡ false
@@ -76,11 +63,20 @@ trim-between text first last e =
     trim_is text first (last + 1) (omega arith) (omega arith) e.before (λ _. e.first_kept) e.behind (λ _. rw back e.last_kept)
 
 -- where nothing is found, nothing is left
-pub trim_none : (text : List ℕ) → Nowhere (IsKept text) 0 (length text) → trim text ≡ []
+pub trim_none : (text : List ℕ) → BlankFrom text 0 (length text) → trim text ≡ []
 trim_none text h =
     let n = length text in
     let none : n - n ≡ 0 = omega arith in
-    trim_is text n n (omega arith) (omega arith) (blank_from_nowhere text 0 n h) (λ l. absurd (omega arith)) (λ k low high. absurd (omega arith)) (λ l. absurd (omega arith)) ∙ rw none refl
+    trim_is text n n (omega arith) (omega arith) h (λ l. absurd (omega arith)) (λ k low high. absurd (omega arith)) (λ l. absurd (omega arith)) ∙ rw none refl
+
+pub prefix_len-none : (text : List ℕ) → BlankFrom text 0 (length text) → prefix_len is_blank text ≡ length text
+prefix_len-none text h = prefix_len_is is_blank text (length text) 0 (omega arith) (λ k high. h k (omega arith) high) (λ l. absurd (omega arith))
+
+pub prefix_len-ends : (text : List ℕ) (first last : ℕ) → Ends text first last → prefix_len is_blank text ≡ first
+prefix_len-ends text first last e = prefix_len_is is_blank text first 0 (omega arith) (λ k high. e.before k (omega arith) high) (λ _. e.first_kept)
+
+pub length-trim : (text : List ℕ) (first last : ℕ) → Ends text first last → length (trim text) ≡ last + 1 - first
+length-trim text first last e = ap length (trim-between text first last e) ∙ omega (arith, length-take (last + 1 - first) (drop first text), length-drop first text)
 
 small : (byte : ℕ) → is_blank byte ≡ true → byte < 128
 small byte h = grind (arith, nat_tests)

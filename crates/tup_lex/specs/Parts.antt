@@ -1,9 +1,9 @@
 -- The parts of a rule line, from the manual; what is refused is own.
-use Rattle.std.specs.Prelude.{ℕ, ◌+◌, ◌-◌, nat_lt, Bool, true, false, not, ◌&&◌, ◌||◌, if◌then◌else◌, List, [], ◌∷◌, length, take, drop, map, count_by, codes, Option, Some, None, option_map, Result, Ok, Err}
+use Rattle.std.specs.Prelude.{ℕ, ◌+◌, ◌-◌, nat_lt, Bool, true, false, not, ◌&&◌, if◌then◌else◌, List, [], ◌∷◌, length, take, drop, map, count_by, codes, Option, Some, None, option_map, Result, Ok, Err}
 use Rattle.std.specs.List.{list_all, list_any, find, prefix_len, position_or_len, before_first, after_first}
 use Rattle.bstr.specs.Find.{matches}
 use Rattle.tup_lex.specs.Blank.{is_blank, trim}
-use Rattle.tup_lex.specs.Word.{Word, span, span_of, words, is_bar, is_foreach, is_bin, is_group, is_sound}
+use Rattle.tup_lex.specs.Word.{Word, span, span_of, words, is_bar, is_foreach, is_bin, is_group, is_gift, is_sound, inner_span}
 use Rattle.tup_lex.specs.declared.fault.LexFault.{LexFault}
 use Rattle.tup_lex.specs.declared.fault.LexFault.TheVariants.{NoArrow, BadBrace}
 use Rattle.tup_lex.specs.declared.parts.Parts.{Parts}
@@ -31,10 +31,6 @@ says_foreach (first ∷ _) = is_foreach first
 abbrev pub inputs_of : List Word → List Word
 inputs_of all = if says_foreach all then drop 1 all else all
 
--- a bin or a group, to which the outputs are given
-abbrev pub is_gift : Word → Bool
-is_gift word = is_bin word || is_group word
-
 -- the words of the outputs part before the first bin or group, and the others
 abbrev pub made_of : List Word → List Word
 made_of all = before_first is_gift all
@@ -49,18 +45,16 @@ inputs_stand foreach all =
     not (list_any is_bar (after_first is_bar all)) &&
     not (foreach && list_any is_group (before_first is_bar all))
 
--- whether the words of the outputs part may: one bar at most, and at the end one bin and one group at most
+-- whether words are bins and groups alone, one of each at most
+abbrev pub may_be_given : List Word → Bool
+may_be_given gifts = list_all is_gift gifts && nat_lt (count_by is_group gifts) 2 && nat_lt (count_by is_bin gifts) 2
+
+-- whether the words of the outputs part may: one bar at most, and at the end what they are given to
 abbrev pub outputs_stand : List Word → Bool
 outputs_stand all =
     list_all is_sound all &&
     not (list_any is_bar (after_first is_bar (made_of all))) &&
-    list_all is_gift (gifts_of all) &&
-    nat_lt (count_by is_group (gifts_of all)) 2 &&
-    nat_lt (count_by is_bin (gifts_of all)) 2
-
--- the name between the braces of a bin
-abbrev pub inner_span : Word → Span
-inner_span word = span (word.0 + 1) (word.0 + length word.1 - 1)
+    may_be_given (gifts_of all)
 
 -- the parts that the words of a rule's two ends and the place of its command make
 abbrev pub assembled : List Word → Span → List Word → Parts

@@ -55,6 +55,14 @@ is_bin word = is_enclosed 123 125 word.1
 abbrev pub is_group : Word → Bool
 is_group word = is_enclosed 60 62 (last_name word.1)
 
+-- a bin or a group, to which the outputs of a rule are given
+abbrev pub is_gift : Word → Bool
+is_gift word = is_bin word || is_group word
+
+-- where the name between the braces of a bin stands
+abbrev pub inner_span : Word → Span
+inner_span word = span (word.0 + 1) (word.0 + length word.1 - 1)
+
 -- whether a word may stand in a rule: it doesn't begin like a caret part, and what begins like a bin or a group is one
 abbrev pub is_sound : Word → Bool
 is_sound word =

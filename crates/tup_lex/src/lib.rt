@@ -6,11 +6,12 @@ mod fault;
 mod kind;
 mod line;
 mod parts;
+mod sides;
 mod span;
 mod word;
 
 pub use fault::LexFault;
 pub use kind::ParseKind;
 pub use line::{Line, Lines, MAX_LINE, lines};
-pub use parts::Parts;
+pub use parts::{Parts, rule_parts};
 pub use span::{Span, Spans};

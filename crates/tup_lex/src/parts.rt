@@ -1,5 +1,18 @@
 //! The parts of a rule line.
+ghost use Rattle.std.specs.Prelude.{◌≡◌, ◌⊎◌, ◌+◌, ◌<◌, ◌≤◌, ◌^◌, length, IfSome};
+ghost use Rattle.tup_lex.specs.Parts.{arrows, trimmed_span, parts_of, rule_parts};
+ghost use Rattle.tup_lex.specs.declared.fault.LexFault.TheVariants.{Memory};
+
+use crate::blank::ends;
+use crate::fault::LexFault;
+use crate::sides::{
+    around_bar, before_gifts, bin_of, group_of, inputs_stand, outputs_stand, says_foreach, spans,
+};
 use crate::span::{Span, Spans};
+use crate::word::{Word, words};
+use bstr::ByteSlice;
+use std::alloc::Global;
+use tup_path::Text;
 
 /// Where the parts of a rule stand in its text.
 #[derive(Debug, Drop)]
@@ -20,4 +33,80 @@ pub struct Parts {
     pub group: Option<Span>,
     /// The name of the bin to which they are given, without its braces.
     pub bin: Option<Span>,
+}
+
+/// Cuts a rule behind its colon into its parts.
+///
+/// A text without exactly two arrows is refused as `NoArrow`, and else one with a word that can't
+/// stand where it does as `BadBrace`.
+pub fn rule_parts(alloc: Global, text: &Text) -> Result<Parts, LexFault>
+    requires { length text.now < 2 ^ 32 }
+    ensures { (result ≡ Err Memory) ⊎ (result ≡ rule_parts text.now) }
+{
+    let bytes = text.bytes().as_slice();
+    let Some((first, second)) = arrows(bytes) else {
+        return Err(LexFault::NoArrow);
+    };
+    let left = words(alloc, 0, &bytes[..first])?;
+    let command = trimmed_span(first + 2, &bytes[first + 2..second]);
+    let right = words(alloc, second + 2, &bytes[second + 2..])?;
+    parts_of(alloc, &left, command, &right)
+}
+
+// The places of the two arrows of a rule.
+fn arrows(text: &[u8]) -> Option<(usize, usize)>
+    ensures value { result ≡ arrows text.now }
+    ensures within { IfSome result (λ places. (places.0 + 2 ≤ places.1) × (places.1 + 2 ≤ length text.now)) }
+{
+    let mut found = text.find_iter(b"|>");
+    let first = found.next()?;
+    let second = found.next()?;
+    match found.next() {
+        Some(_) => None,
+        None => Some((first, second)),
+    }
+}
+
+// A part of a text that begins at a place, without the blanks at its ends.
+fn trimmed_span(at: usize, part: &[u8]) -> Span
+    requires { at + length part.now < 2 ^ 32 }
+    ensures { result ≡ trimmed_span at part.now }
+{
+    let (from, to) = match ends(part) {
+        Some((first, last)) => (first, last + 1),
+        None => (part.len(), part.len()),
+    };
+    Span {
+        from: (at + from) as u32,
+        to: (at + to) as u32,
+    }
+}
+
+// The parts that the words of a rule's two ends and the place of its command make.
+fn parts_of(
+    alloc: Global,
+    left: &[Word],
+    command: Span,
+    right: &[Word],
+) -> Result<Parts, LexFault>
+    ensures { (result ≡ Err Memory) ⊎ (result ≡ parts_of left.now command right.now) }
+{
+    let foreach = says_foreach(left);
+    let inputs = if foreach { &left[1..] } else { left };
+    if !inputs_stand(foreach, inputs) || !outputs_stand(right) {
+        return Err(LexFault::BadBrace);
+    }
+    let (inputs, order) = around_bar(inputs);
+    let (made, gifts) = before_gifts(right);
+    let (outputs, extra) = around_bar(made);
+    Ok(Parts {
+        foreach,
+        inputs: spans(alloc, inputs)?,
+        order: spans(alloc, order)?,
+        command,
+        outputs: spans(alloc, outputs)?,
+        extra: spans(alloc, extra)?,
+        group: group_of(gifts),
+        bin: bin_of(gifts),
+    })
 }

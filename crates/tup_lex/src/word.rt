@@ -1,17 +1,17 @@
 //! The words of a rule, and what each looks like.
 ghost use Rattle.std.specs.Prelude.{◌≡◌, ℕ, ◌+◌, ◌<◌, ◌^◌, ◌++◌, [], ◌∷◌, length, OnOk, IfOk, IfErr};
 ghost use Rattle.std.specs.List.{filter};
-ghost use Rattle.tup_lex.specs.Blank.{is_blank};
-ghost use Rattle.tup_lex.specs.Word.{span_of, is_some_word, words, begins_with, is_enclosed, last_name, is_bar, is_foreach, is_bin, is_group, is_sound};
+ghost use Rattle.tup_lex.specs.Word.{span_of, is_some_word, words, begins_with, is_enclosed, last_name, is_bar, is_foreach, is_bin, is_group, is_gift, is_sound, inner_span};
 ghost use Rattle.tup_lex.specs.declared.fault.LexFault.TheVariants.{Memory};
 
+use crate::blank::is_blank;
 use crate::fault::LexFault;
 use crate::span::Span;
 use bstr::ByteSlice;
 use std::alloc::Global;
 use std::marker::Model;
 
-// A word with the place in the text where it begins. Contracts see the place and the bytes.
+// A word with the place in the text where it begins. It isn't empty. Contracts see the place and the bytes.
 #[derive(Drop)]
 pub(crate) struct Word<'a> {
     from: u32,
@@ -25,7 +25,7 @@ impl<'a> Model for Word<'a> {
 
     ghost view = { λ w. (w.from, w.text.now) };
 
-    ghost invariant = { λ w. w.from + length w.text.now < 2 ^ 32 };
+    ghost invariant = { λ w. (w.from + length w.text.now < 2 ^ 32) × (0 < length w.text.now) };
 }
 
 impl<'a> Word<'a> {
@@ -35,6 +35,16 @@ impl<'a> Word<'a> {
         Span {
             from: self.from,
             to: self.from + self.text.len() as u32,
+        }
+    }
+
+    // Where the name of a bin stands.
+    pub(crate) fn inner_span(&self) -> Span
+        ensures { result ≡ inner_span self.now }
+    {
+        Span {
+            from: self.from + 1,
+            to: self.from + self.text.len() as u32 - 1,
         }
     }
 
@@ -60,6 +70,13 @@ impl<'a> Word<'a> {
         ensures { result ≡ is_group self.now }
     {
         is_enclosed(b'<', b'>', last_name(self.text))
+    }
+
+    // Whether it is a bin or a group, to which outputs are given.
+    pub(crate) fn is_gift(&self) -> bool
+        ensures { result ≡ is_gift self.now }
+    {
+        self.is_bin() || self.is_group()
     }
 
     // Whether the word may stand in a rule.
@@ -94,12 +111,6 @@ fn last_name(text: &[u8]) -> &[u8]
         Some(slash) => &text[slash + 1..],
         None => text,
     }
-}
-
-fn is_blank(byte: u8) -> bool
-    ensures { result ≡ is_blank byte }
-{
-    byte == b' ' || byte == b'\t'
 }
 
 // The words of a part of a text that begins at this place of it.
