@@ -56,12 +56,12 @@ outputs_stand all =
     not (list_any is_bar (after_first is_bar (made_of all))) &&
     may_be_given (gifts_of all)
 
--- the parts that the words of a rule's two ends and the place of its command make
-abbrev pub assembled : List Word → Span → List Word → Parts
-assembled left command right =
-    let inputs = inputs_of left in let made = made_of right in let gifts = gifts_of right in
+-- the parts that a rule has by its words that may stand, the place of its command, and a `foreach`
+abbrev pub assembled : Bool → List Word → Span → List Word → Parts
+assembled foreach inputs command right =
+    let made = made_of right in let gifts = gifts_of right in
     record {
-      foreach = says_foreach left;
+      foreach = foreach;
       inputs = map span_of (before_first is_bar inputs);
       order = map span_of (after_first is_bar inputs);
       command = command;
@@ -71,9 +71,11 @@ assembled left command right =
       bin = option_map inner_span (find is_bin gifts)
     }
 
+-- the parts that the words of a rule's two sides and the place of its command make, if all may stand where they do
 abbrev pub parts_of : List Word → Span → List Word → Result Parts LexFault
 parts_of left command right =
-    if inputs_stand (says_foreach left) (inputs_of left) && outputs_stand right then Ok (assembled left command right) else Err BadBrace
+    let foreach = says_foreach left in let inputs = inputs_of left in
+    if inputs_stand foreach inputs && outputs_stand right then Ok (assembled foreach inputs command right) else Err BadBrace
 
 -- the parts of a rule behind its colon
 abbrev pub rule_parts : List ℕ → Result Parts LexFault

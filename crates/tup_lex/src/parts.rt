@@ -1,12 +1,12 @@
 //! The parts of a rule line.
 ghost use Rattle.std.specs.Prelude.{◌≡◌, ◌⊎◌, ◌+◌, ◌<◌, ◌≤◌, ◌^◌, length, IfSome};
-ghost use Rattle.tup_lex.specs.Parts.{arrows, trimmed_span, parts_of, rule_parts};
+ghost use Rattle.tup_lex.specs.Parts.{arrows, trimmed_span, assembled, parts_of, rule_parts};
 ghost use Rattle.tup_lex.specs.declared.fault.LexFault.TheVariants.{Memory};
 
 use crate::blank::ends;
 use crate::fault::LexFault;
 use crate::sides::{
-    around_bar, before_gifts, bin_of, group_of, inputs_stand, outputs_stand, says_foreach, spans,
+    around_bar, before_gifts, bin_of, group_of, inputs_of, inputs_stand, outputs_stand, says_foreach, spans,
 };
 use crate::span::{Span, Spans};
 use crate::word::{Word, words};
@@ -92,10 +92,22 @@ fn parts_of(
     ensures { (result ≡ Err Memory) ⊎ (result ≡ parts_of left.now command right.now) }
 {
     let foreach = says_foreach(left);
-    let inputs = if foreach { &left[1..] } else { left };
+    let inputs = inputs_of(left);
     if !inputs_stand(foreach, inputs) || !outputs_stand(right) {
         return Err(LexFault::BadBrace);
     }
+    assembled(alloc, foreach, inputs, command, right)
+}
+
+fn assembled(
+    alloc: Global,
+    foreach: bool,
+    inputs: &[Word],
+    command: Span,
+    right: &[Word],
+) -> Result<Parts, LexFault>
+    ensures { (result ≡ Err Memory) ⊎ (result ≡ Ok (assembled foreach inputs.now command right.now)) }
+{
     let (inputs, order) = around_bar(inputs);
     let (made, gifts) = before_gifts(right);
     let (outputs, extra) = around_bar(made);

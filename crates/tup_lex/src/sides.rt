@@ -2,7 +2,7 @@
 ghost use Rattle.std.specs.Prelude.{◌≡◌, ◌<◌, length, map, Some, count_by, option_map, IfOk, IfErr, IfSome};
 ghost use Rattle.std.specs.List.{before_first, after_first, find, position, list_all, list_any};
 ghost use Rattle.tup_lex.specs.Word.{span_of, inner_span, is_bar, is_bin, is_group, is_gift, is_sound};
-ghost use Rattle.tup_lex.specs.Parts.{says_foreach, made_of, gifts_of, inputs_stand, outputs_stand, may_be_given};
+ghost use Rattle.tup_lex.specs.Parts.{says_foreach, inputs_of, made_of, gifts_of, inputs_stand, outputs_stand, may_be_given};
 ghost use Rattle.tup_lex.specs.declared.fault.LexFault.TheVariants.{Memory};
 
 use crate::fault::LexFault;
@@ -16,6 +16,17 @@ pub(crate) fn says_foreach(words: &[Word]) -> bool
     match words {
         [] => false,
         [first, ..] => first.is_foreach(),
+    }
+}
+
+// The words of the inputs part behind a `foreach`.
+pub(crate) fn inputs_of<'w, 'a>(words: &'w [Word<'a>]) -> &'w [Word<'a>]
+    ensures { result.now ≡ inputs_of words.now }
+{
+    if says_foreach(words) {
+        &words[1..]
+    } else {
+        words
     }
 }
 
