@@ -23,8 +23,8 @@ all_from part start end order within none =
     let rest = drop start part in
     let len : length (take (end - start) rest) ≡ end - start = omega (arith, length-take (end - start) rest, length-drop start part) in
     All-from_get_or (λ b. is_blank b ≡ false) (take (end - start) rest) 0 (λ i h.
-      let low : i < end - start = omega arith in
-      rw (get_or-take (end - start) rest i 0 low, get_or-drop start part i 0) (none (start + i) (omega arith) (omega arith)))
+    let low : i < end - start = omega arith in
+    rw (get_or-take (end - start) rest i 0 low, get_or-drop start part i 0) (none (start + i) (omega arith) (omega arith)))
 
 -- what is left at a place is what stands before a later one, the byte there, and the rest
 cut : (part : List ℕ) (start end : ℕ) → start ≤ end → end < length part → drop start part ≡ take (end - start) (drop start part) ++ get_or part end 0 ∷ drop (end + 1) part
@@ -32,7 +32,7 @@ cut part start end order within =
     let sum : start + (end - start) ≡ end = omega arith in
     let next : suc end ≡ end + 1 = omega arith in
     let there : drop (end - start) (drop start part) ≡ get_or part end 0 ∷ drop (end + 1) part =
-      drop-drop (end - start) start part ∙ ap (λ n. drop n part) sum ∙ drop-cons part end 0 within ∙ ap (λ n. get_or part end 0 ∷ drop n part) next in
+    drop-drop (end - start) start part ∙ ap (λ n. drop n part) sum ∙ drop-cons part end 0 within ∙ ap (λ n. get_or part end 0 ∷ drop n part) next in
     sym (take-append-drop (end - start) (drop start part)) ∙ ap (λ t. take (end - start) (drop start part) ++ t) there
 
 -- a blank ends the word that began at a place
@@ -55,9 +55,9 @@ words-end at part start order none =
 
 pub more-NoBlank : (part : List ℕ) (start end : ℕ) → NoBlank part start end → is_blank (get_or part end 0) ≡ false → NoBlank part start (end + 1)
 more-NoBlank part start end none here k low high = ⊎_elim
-  (λ (h : k < end). none k low h)
-  (λ (h : end ≤ k). let same : k ≡ end = omega arith in rw same here)
-  (cases_lt k end)
+    (λ (h : k < end). none k low h)
+    (λ (h : end ≤ k). let same : k ≡ end = omega arith in rw same here)
+    (cases_lt k end)
 
 pub none-NoBlank : (part : List ℕ) (n : ℕ) → NoBlank part n n
 none-NoBlank part n k low high = absurd (omega arith)
@@ -69,10 +69,11 @@ So at part all start end = (start ≤ end) × (words at part ≡ all ++ words (a
 pub so-blank : (at : ℕ) (part : List ℕ) (all new : List Word) (start end : ℕ) → So at part all start end → end < length part → is_blank (get_or part end 0) ≡ true → new ≡ all ++ filter is_some_word ((at + start, take (end - start) (drop start part)) ∷ []) → So at part new (end + 1) (end + 1)
 so-blank at part all new start end so within h is_new =
     let one = filter is_some_word ((at + start, take (end - start) (drop start part)) ∷ []) in
-    let rest = words (at + (end + 1)) (drop (end + 1) part) in
-    (omega arith,
+    let rest = words (at + (end + 1)) (drop (end + 1) part) in (
+      omega arith,
       so.1 ∙ ap (λ t. all ++ t) (words-step at part start end so.0 within so.2 h) ∙ sym (append_assoc all one rest) ∙ ap (λ t. t ++ rest) (sym is_new),
-      none-NoBlank part (end + 1))
+      none-NoBlank part (end + 1),
+    )
 
 pub so-other : (at : ℕ) (part : List ℕ) (all : List Word) (start end : ℕ) → So at part all start end → is_blank (get_or part end 0) ≡ false → So at part all start (end + 1)
 so-other at part all start end so h = (omega arith, so.1, more-NoBlank part start end so.2 h)

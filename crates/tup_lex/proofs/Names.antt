@@ -20,7 +20,7 @@ last_name-after text slash h =
     let there : eqb (get_or text slash 0) 47 ≡ true = h.1 in
     let at_slash : not (eqb (get_or text (slash + 1 - 1) 0) 47) ≡ false = let back : slash + 1 - 1 ≡ slash = omega arith in rw (back, there) refl in
     let s : suffix_len (λ b. not (eqb b 47)) text ≡ length text - (slash + 1) =
-      suffix_len_is (λ b. not (eqb b 47)) text (slash + 1) 0 (omega arith) (λ k low high. not_slash text k (h.0.after k low high)) (λ _. at_slash) in
+    suffix_len_is (λ b. not (eqb b 47)) text (slash + 1) 0 (omega arith) (λ k low high. not_slash text k (h.0.after k low high)) (λ _. at_slash) in
     let back : length text - (length text - (slash + 1)) ≡ slash + 1 = omega arith in
     let len : length (drop (slash + 1) text) ≡ length text - (slash + 1) = length-drop (slash + 1) text in
     take_all (length text - (slash + 1)) (drop (slash + 1) text) (omega arith) ∙ rw (s, back) refl

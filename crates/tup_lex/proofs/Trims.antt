@@ -18,9 +18,9 @@ trim_is text a b ab bl before first behind last =
     let p : prefix_len is_blank text ≡ a = prefix_len_is is_blank text a 0 (omega arith) (λ k h. before k (omega arith) h) first in
     let len : length rest ≡ n - a = length-drop a text in
     let s : suffix_len is_blank rest ≡ length rest - (b - a) =
-      suffix_len_is is_blank rest (b - a) 0 (omega arith)
-        (λ k low high. rw get_or-drop (behind (a + k) (omega arith) (omega arith)))
-        (λ h. rw get_or-drop (let e : a + (b - a - 1) ≡ b - 1 = omega arith in rw e (last (omega arith)))) in
+    suffix_len_is is_blank rest (b - a) 0 (omega arith)
+    (λ k low high. rw get_or-drop (behind (a + k) (omega arith) (omega arith)))
+    (λ h. rw get_or-drop (let e : a + (b - a - 1) ≡ b - 1 = omega arith in rw e (last (omega arith)))) in
     let back : length rest - (length rest - (b - a)) ≡ b - a = omega arith in
     rw p (rw s (rw back refl))
 
@@ -54,7 +54,7 @@ Ends-from_searches text first last f l = record {
   before = blank_from_nowhere text 0 first f.0.before;
   first_kept = kept text first f.1;
   last_kept = kept text last l.1;
-  behind = blank_from_nowhere text (last + 1) (length text) l.0.after
+  behind = blank_from_nowhere text (last + 1) (length text) l.0.after;
 }
 
 pub trim-between : (text : List ℕ) (first last : ℕ) → Ends text first last → trim text ≡ take (last + 1 - first) (drop first text)
@@ -89,6 +89,6 @@ start-IsCharBoundary text first last utf8 e h =
 
 pub end-IsCharBoundary : (text : List ℕ) (first last : ℕ) → Ends text first last → IsCharBoundary text (last + 1)
 end-IsCharBoundary text first last e = ⊎_elim
-  (λ (h : last + 1 < length text). IsCharBoundary-before_ascii text (last + 1) h (small _ (e.behind (last + 1) (omega arith) h)))
-  (λ h. let all : last + 1 ≡ length text = omega arith in rw all (IsCharBoundary-end text))
-  (cases_lt (last + 1) (length text))
+    (λ (h : last + 1 < length text). IsCharBoundary-before_ascii text (last + 1) h (small _ (e.behind (last + 1) (omega arith) h)))
+    (λ h. let all : last + 1 ≡ length text = omega arith in rw all (IsCharBoundary-end text))
+    (cases_lt (last + 1) (length text))

@@ -68,7 +68,7 @@ assembled foreach inputs command right =
       outputs = map span_of (before_first is_bar made);
       extra = map span_of (after_first is_bar made);
       group = option_map span_of (find is_group gifts);
-      bin = option_map inner_span (find is_bin gifts)
+      bin = option_map inner_span (find is_bin gifts);
     }
 
 -- the parts that the words of a rule's two sides and the place of its command make, if all may stand where they do
@@ -80,9 +80,9 @@ parts_of left command right =
 -- the parts of a rule behind its colon
 abbrev pub rule_parts : List ℕ → Result Parts LexFault
 rule_parts text = elim (arrows text) [
-    Some (first, second) ↦ parts_of
+  | Some (first, second) ↦ parts_of
       (words 0 (take first text))
       (trimmed_span (first + 2) (take (second - (first + 2)) (drop (first + 2) text)))
       (words (second + 2) (drop (second + 2) text))
   | None ↦ Err NoArrow
-  ]
+]

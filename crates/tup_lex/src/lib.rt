@@ -15,3 +15,6 @@ pub use kind::ParseKind;
 pub use line::{Line, Lines, MAX_LINE, lines};
 pub use parts::{Parts, rule_parts};
 pub use span::{Span, Spans};
+
+#[cfg(test)]
+mod tests;

@@ -6,7 +6,8 @@ ghost use Rattle.tup_lex.specs.declared.fault.LexFault.TheVariants.{Memory};
 use crate::blank::ends;
 use crate::fault::LexFault;
 use crate::sides::{
-    around_bar, before_gifts, bin_of, group_of, inputs_of, inputs_stand, outputs_stand, says_foreach, spans,
+    around_bar, before_gifts, bin_of, group_of, inputs_of, inputs_stand, outputs_stand,
+    says_foreach, spans,
 };
 use crate::span::{Span, Spans};
 use crate::word::{Word, words};
@@ -83,12 +84,7 @@ fn trimmed_span(at: usize, part: &[u8]) -> Span
 }
 
 // The parts that the words of a rule's two ends and the place of its command make.
-fn parts_of(
-    alloc: Global,
-    left: &[Word],
-    command: Span,
-    right: &[Word],
-) -> Result<Parts, LexFault>
+fn parts_of(alloc: Global, left: &[Word], command: Span, right: &[Word]) -> Result<Parts, LexFault>
     ensures { (result ≡ Err Memory) ⊎ (result ≡ parts_of left.now command right.now) }
 {
     let foreach = says_foreach(left);

@@ -114,11 +114,7 @@ fn last_name(text: &[u8]) -> &[u8]
 }
 
 // The words of a part of a text that begins at this place of it.
-pub(crate) fn words<'a>(
-    alloc: Global,
-    at: usize,
-    part: &'a [u8],
-) -> Result<Vec<Word<'a>>, LexFault>
+pub(crate) fn words<'a>(alloc: Global, at: usize, part: &'a [u8]) -> Result<Vec<Word<'a>>, LexFault>
     requires { at + length part.now < 2 ^ 32 }
     ensures ok { IfOk result (λ all. all.items ≡ words at part.now) }
     ensures err { IfErr result (λ fault. fault ≡ Memory) }

@@ -24,7 +24,7 @@ returns-in-Ok c =
     let same = ap (λ t. said (joined_lines t)) (c.in-Ok.ensures.cases.0 ∙ file) ∙ sym (lines-utf8 _ utf8) in
     record {
       lines = ⊎_elim inl (λ e. inr (e ∙ same)) c.said_lines.ensures;
-      covered = joined-Covers 0 (cut_lines c.args.file.now)
+      covered = joined-Covers 0 (cut_lines c.args.file.now);
     }
 
 pub returns-in-Err : goal.returns-in-Err
@@ -35,5 +35,5 @@ returns-in-Err c =
     let number : c.last_line.result ≡ wrong_line c.args.file.now = rw (place, file) at c.last_line.ensures in
     record {
       lines = inr (ap (λ l. Err (NotUtf8 l)) number ∙ sym (lines-wrong _ wrong));
-      covered = joined-Covers 0 (cut_lines c.args.file.now)
+      covered = joined-Covers 0 (cut_lines c.args.file.now);
     }

@@ -18,9 +18,10 @@ loop-line-preserved-in-Continue-1 c =
     let all = cut_lines c.args.text.now in
     let t : (length c.loop-line.yielded < length all) × (c.in-Some.line.now ≡ get_or all (length c.loop-line.yielded) c.in-Some.line.now) = YieldsList-turn (YieldsList-from_lines c.args.text.now cc) c.loop-line.yielded _ c.loop-line.yielded_by _ _ c.in-Some.line c.in-Some.is c.next.ensures.steps in
     let n = length_push c.loop-line.yielded c.in-Some.line in
-    let cut : c.in-Some.line.now ≡ c.in-Some-strip_suffix.front.now ++ 92 ∷ [] = rw c.in-Some-strip_suffix.is at (strip_suffix_char 92 c.in-Some.line.now c.strip_suffix.result c.strip_suffix.ensures.cases (omega arith)) in
-    (c.saturating_add-number.ensures ∙ next_number _ _ c.loop-line.invariant.0 ∙ ap line_number (sym n),
-      So-same all (so-goes_on all _ _ _ _ _ t.0 t.1 c.loop-line.invariant.1 _ _ cut c.in_ok-push_str-in-Some-strip_suffix.ensures.bytes) refl refl refl n)
+    let cut : c.in-Some.line.now ≡ c.in-Some-strip_suffix.front.now ++ 92 ∷ [] = rw c.in-Some-strip_suffix.is at (strip_suffix_char 92 c.in-Some.line.now c.strip_suffix.result c.strip_suffix.ensures.cases (omega arith)) in (
+      c.saturating_add-number.ensures ∙ next_number _ _ c.loop-line.invariant.0 ∙ ap line_number (sym n),
+      So-same all (so-goes_on all _ _ _ _ _ t.0 t.1 c.loop-line.invariant.1 _ _ cut c.in_ok-push_str-in-Some-strip_suffix.ensures.bytes) refl refl refl n,
+    )
 
 pub returns-in_err-keep-in-None-strip_suffix : goal.returns-in_err-keep-in-None-strip_suffix
 returns-in_err-keep-in-None-strip_suffix c =
@@ -30,9 +31,9 @@ returns-in_err-keep-in-None-strip_suffix c =
     let new = c.as_str.ensures.value ∙ c.in_ok-push_str-in-None-strip_suffix.ensures.bytes in
     let p = err_from_is_err_and c.from_residual-in_err-keep-in-None-strip_suffix.result c.from_residual-in_err-keep-in-None-strip_suffix.ensures.1 in
     ⊎_elim
-      (λ memory. inl (p.1 ∙ ap Err (p.2 ∙ memory)))
-      (λ long. inr (p.1 ∙ ap Err (p.2 ∙ long.0) ∙ sym (so-long all _ _ _ _ _ t.0 t.1 c.loop-line.invariant.1 _ stays new long.1)))
-      c.in_err-keep-in-None-strip_suffix.ensures.refused
+    (λ memory. inl (p.1 ∙ ap Err (p.2 ∙ memory)))
+    (λ long. inr (p.1 ∙ ap Err (p.2 ∙ long.0) ∙ sym (so-long all _ _ _ _ _ t.0 t.1 c.loop-line.invariant.1 _ stays new long.1)))
+    c.in_err-keep-in-None-strip_suffix.ensures.refused
 
 pub loop-line-preserved : goal.loop-line-preserved
 loop-line-preserved c =
@@ -41,9 +42,10 @@ loop-line-preserved c =
     let n = length_push c.loop-line.yielded c.in-Some.line in
     let stays : goes_on c.in-Some.line.now ≡ false = not_goes_on _ (rw c.in-None-strip_suffix.is at (strip_suffix_char 92 c.in-Some.line.now c.strip_suffix.result c.strip_suffix.ensures.cases (omega arith))) in
     let new = c.as_str.ensures.value ∙ c.in_ok-push_str-in-None-strip_suffix.ensures.bytes in
-    let number = c.saturating_add-number.ensures ∙ next_number _ _ c.loop-line.invariant.0 in
-    (number ∙ ap line_number (sym n),
-      So-same all (so-fits all _ _ _ _ _ t.0 t.1 c.loop-line.invariant.1 _ stays new c.in_ok-keep-in-None-strip_suffix.ensures.fits) c.in_ok-keep-in-None-strip_suffix.ensures.kept number c.clear.ensures.bytes n)
+    let number = c.saturating_add-number.ensures ∙ next_number _ _ c.loop-line.invariant.0 in (
+      number ∙ ap line_number (sym n),
+      So-same all (so-fits all _ _ _ _ _ t.0 t.1 c.loop-line.invariant.1 _ stays new c.in_ok-keep-in-None-strip_suffix.ensures.fits) c.in_ok-keep-in-None-strip_suffix.ensures.kept number c.clear.ensures.bytes n,
+    )
 
 pub returns : goal.returns
 returns c =

@@ -25,6 +25,6 @@ span-none at part h =
 
 pub returns : goal.returns
 returns c = elim c.match-ends.branch [
-    in-Some w ↦ rw w.from-is (span-ends _ _ _ _ w.in-Some.ensures)
+  | in-Some w ↦ rw w.from-is (span-ends _ _ _ _ w.in-Some.ensures)
   | in-None w ↦ rw w.from-is (span-none _ _ w.in-None.ensures)
-  ]
+]
