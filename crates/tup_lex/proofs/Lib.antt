@@ -3,3 +3,4 @@ pub mod Joins
 pub mod Coverage
 pub mod Cuts
 pub mod Names
+pub mod Lies

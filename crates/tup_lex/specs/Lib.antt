@@ -4,3 +4,4 @@ pub mod Line
 pub mod Covers
 pub mod Word
 pub mod Parts
+pub mod Spans

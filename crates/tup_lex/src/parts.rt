@@ -1,6 +1,7 @@
 //! The parts of a rule line.
-ghost use Rattle.std.specs.Prelude.{◌≡◌, ◌⊎◌, ◌+◌, ◌<◌, ◌≤◌, ◌^◌, length, IfSome};
+ghost use Rattle.std.specs.Prelude.{◌≡◌, ◌⊎◌, ◌+◌, ◌<◌, ◌≤◌, ◌^◌, length, IfOk, IfSome};
 ghost use Rattle.tup_lex.specs.Parts.{arrows, trimmed_span, assembled, parts_of, rule_parts};
+ghost use Rattle.tup_lex.specs.Spans.{LieIn};
 ghost use Rattle.tup_lex.specs.declared.fault.LexFault.TheVariants.{Memory};
 
 use crate::blank::ends;
@@ -42,15 +43,22 @@ pub struct Parts {
 /// stand where it does as `BadBrace`.
 pub fn rule_parts(alloc: Global, text: &Text) -> Result<Parts, LexFault>
     requires { length text.now < 2 ^ 32 }
+    ensures parts { (result ≡ Err Memory) ⊎ (result ≡ rule_parts text.now) }
+    ensures lie { IfOk result (LieIn (length text.now)) }
+{
+    parts_in(alloc, text.bytes().as_slice())
+}
+
+fn parts_in(alloc: Global, text: &[u8]) -> Result<Parts, LexFault>
+    requires { length text.now < 2 ^ 32 }
     ensures { (result ≡ Err Memory) ⊎ (result ≡ rule_parts text.now) }
 {
-    let bytes = text.bytes().as_slice();
-    let Some((first, second)) = arrows(bytes) else {
+    let Some((first, second)) = arrows(text) else {
         return Err(LexFault::NoArrow);
     };
-    let left = words(alloc, 0, &bytes[..first])?;
-    let command = trimmed_span(first + 2, &bytes[first + 2..second]);
-    let right = words(alloc, second + 2, &bytes[second + 2..])?;
+    let left = words(alloc, 0, &text[..first])?;
+    let command = trimmed_span(first + 2, &text[first + 2..second]);
+    let right = words(alloc, second + 2, &text[second + 2..])?;
     parts_of(alloc, &left, command, &right)
 }
 
