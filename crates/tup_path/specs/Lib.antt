@@ -3,3 +3,4 @@ pub mod Order
 pub mod Tree
 pub mod Resolve
 pub mod Show
+pub mod Same
