@@ -1,8 +1,12 @@
 //! A rule of a Tupfile, ready to be run.
+ghost use Rattle.std.specs.Prelude.{◌≡◌, ◌↔◌, IsTrue, IfOk};
+ghost use Rattle.tup_rule.specs.Rule.{among};
+
+use crate::fault::RuleFault;
 use tup_path::{Items, Path, Paths, Text};
 
 /// One command with its folder, the files that it may read and those that it makes.
-#[derive(Clone, Debug, Drop)]
+#[derive(Clone, Debug, Drop, PartialEq, Eq)]
 pub struct Rule {
     /// The folder in which the command runs.
     pub dir: Path,
@@ -21,7 +25,7 @@ pub struct Rule {
 }
 
 /// What a rule is called by.
-#[derive(Clone, Debug, Drop)]
+#[derive(Clone, Debug, Drop, PartialEq, Eq)]
 pub struct RuleName {
     /// The folder in which the command runs.
     pub dir: Path,
@@ -31,3 +35,52 @@ pub struct RuleName {
 
 /// Rules, in the order of their folders and of their lines.
 pub type Rules = Items<Rule>;
+
+impl Rule {
+    ghost use Rattle.tup_rule.specs.Rule.{declares, writes, name_of, label_of};
+
+    /// Whether two rules are the same in every field. It takes no memory.
+    pub fn same(&self, other: &Rule) -> bool
+        ensures { IsTrue result ↔ (self.now ≡ other.now) }
+    {
+        self == other
+    }
+
+    /// Whether a path is an input or an order-only input of the rule. It takes no memory.
+    pub fn declares(&self, path: &Path) -> bool
+        ensures { result ≡ declares self.now path.now }
+    {
+        has(&self.inputs, path) || has(&self.order, path)
+    }
+
+    /// Whether a path is an output of the rule. It takes no memory.
+    pub fn writes(&self, path: &Path) -> bool
+        ensures { result ≡ writes self.now path.now }
+    {
+        has(&self.outputs, path)
+    }
+
+    /// The rule's folder and its command, copied.
+    pub fn name(&self) -> Result<RuleName, RuleFault>
+        ensures { IfOk result (λ name. name ≡ name_of self.now) }
+    {
+        Ok(RuleName {
+            dir: self.dir.clone()?,
+            text: self.text.clone()?,
+        })
+    }
+
+    /// What is printed for the rule, copied: its display text, or its command where there is none.
+    pub fn label(&self) -> Result<Text, RuleFault>
+        ensures { IfOk result (λ label. label ≡ label_of self.now) }
+    {
+        let label = self.display.as_ref().unwrap_or(&self.text);
+        Ok(label.clone()?)
+    }
+}
+
+fn has(paths: &Paths, path: &Path) -> bool
+    ensures { result ≡ among path.now paths.now }
+{
+    paths.as_slice().iter().any(|one| path == one)
+}
