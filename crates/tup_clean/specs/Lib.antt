@@ -6,3 +6,4 @@ pub mod VerdictLaws
 pub mod FilesPut
 pub mod InOrderLaws
 pub mod CleanLaws
+pub mod Ready
