@@ -1,6 +1,8 @@
 //! The clean build: what a project's files are, with no history.
 #![tactic(auto)]
 
+mod tree;
+
 use tup_access::Verdict;
 use tup_path::{Files, Items};
 
