@@ -1,3 +1,7 @@
 pub mod Access
 pub mod Judge
 pub mod Verdict
+pub mod Laws
+pub mod Generated
+pub mod Written
+pub mod Refusal

@@ -1,0 +1,56 @@
+//! What a command may ask for.
+ghost use Rattle.std.specs.Prelude.{◌≡◌, ◌⊎◌, List, Ok, Err, IfOk};
+ghost use Rattle.std.specs.Result.{result_ok};
+ghost use Rattle.tup_path.specs.Resolve.{resolve};
+ghost use Rattle.tup_rule.specs.declared.rule.Rule.{Rule as RuleValue};
+ghost use Rattle.tup_access.specs.Access as specs;
+ghost use Rattle.tup_access.specs.Generated.{IsGenerated};
+
+use crate::fault::AccessFault;
+use crate::verdict::{Access, Verdict};
+use std::alloc::{AllocError, Global};
+use std::collections::BTreeSet;
+use tup_path::{Path, PathFault, Text};
+use tup_rule::Rule;
+
+/// The ask at which a command is stopped: it may ask once less.
+pub const MAX_ASKS: u32 = 4096;
+
+/// Whether a command may ask for a text, after so many asks. `generated` has the outputs of all rules.
+///
+/// The 4,096th ask is `TooManyReads`. Any other is `IllegalRead` where the text names no path, or a
+/// generated file that the rule neither declares nor writes.
+pub fn allowed(
+    alloc: Global,
+    rule: &Rule,
+    generated: &BTreeSet<Path>,
+    text: &Text,
+    asked_before: u32,
+) -> Result<Access, AccessFault>
+    ensures { (rules : List RuleValue) → IsGenerated rules generated.now → (result ≡ Err AccessFault.Memory) ⊎ (result ≡ Ok (specs.access rules rule.now asked_before text.now)) }
+{
+    if asked_before >= MAX_ASKS - 1 {
+        return Ok(Access::No(Verdict::TooManyReads));
+    }
+    match resolved(alloc, rule, text)? {
+        Some(path) if may_read(rule, generated, &path) => Ok(Access::Yes(path)),
+        _ => Ok(Access::No(Verdict::IllegalRead(text.clone()?))),
+    }
+}
+
+fn may_read(rule: &Rule, generated: &BTreeSet<Path>, path: &Path) -> bool
+    ensures { (rules : List RuleValue) → IsGenerated rules generated.now → result ≡ specs.may_read rules rule.now path.now }
+{
+    !generated.contains(path) || rule.declares(path) || rule.writes(path)
+}
+
+/// The path that a text names from a rule's folder, or `None` where it names none.
+pub(crate) fn resolved(alloc: Global, rule: &Rule, text: &Text) -> Result<Option<Path>, AllocError>
+    ensures { IfOk result (λ path. path ≡ result_ok (resolve rule.now.dir text.now)) }
+{
+    match Path::resolve(alloc, &rule.dir, text) {
+        Ok(path) => Ok(Some(path)),
+        Err(PathFault::Memory) => Err(AllocError),
+        Err(_) => Ok(None),
+    }
+}
