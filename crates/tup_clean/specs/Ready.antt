@@ -4,6 +4,7 @@ use Rattle.std.specs.Prelude.{◌≡◌, ℕ, zero, suc, ◌<◌, Bool, true, fa
 use Rattle.std.specs.List.{list_all, zip, prefix_len}
 use Rattle.std.proofs.Common.{refl, sym, ap, ◌∙◌, subst, inl, inr, not, arith, cond}
 use Rattle.std.proofs.lemmas.Bool.{cases_Bool, false≢true, true≢false, and_from, and_parts, and_left, and_right, cases_eq}
+use Rattle.std.proofs.lemmas.List.Folds.{list_all-append}
 use Rattle.std.proofs.lemmas.Option.{same_Some, none-some, slice_get_within}
 use Rattle.tup_path.specs.Name.{Names}
 use Rattle.tup_rule.specs.declared.rule.Rule.{Rule}
@@ -13,10 +14,16 @@ use Rattle.tup_clean.specs.Clean.{is_good, good_at, producers_good, first_ready}
 use Rattle.tup_clean.specs.Places.{set_here, set_apart, position_found, zip_first, zip_second}
 use Rattle.tup_clean.specs.Among.{all_among}
 
+-- whether a path has a Good maker, or none
+abbrev pub is_made : List Rule → List (Option Verdict) → Names → Bool
+is_made rules verdicts path = elim (maker path rules) [ None ↦ true | Some at ↦ good_at verdicts at ]
+
+abbrev pub all_made : List Rule → List (Option Verdict) → List Names → Bool
+all_made rules verdicts paths = list_all (is_made rules verdicts) paths
+
 -- whether the makers of the paths that a rule declares are Good
 abbrev pub makers_good : List Rule → List (Option Verdict) → Rule → Bool
-makers_good rules verdicts rule =
-    list_all (λ path. elim (maker path rules) [ None ↦ true | Some at ↦ good_at verdicts at ]) (rule.inputs ++ rule.order)
+makers_good rules verdicts rule = all_made rules verdicts rule.inputs && all_made rules verdicts rule.order
 
 -- the first rule without a verdict whose makers are Good
 abbrev pub next_ready : List Rule → List (Option Verdict) → Option ℕ
@@ -68,7 +75,9 @@ one_path rules verdicts grown steps (Some at) =
     ]
 
 one_step : (rules : List Rule) (verdicts : List (Option Verdict)) → IsGrown rules verdicts → (steps : ℕ) (rule : Rule) → producers_good (suc steps) rules verdicts rule ≡ makers_good rules verdicts rule
-one_step rules verdicts grown steps rule = same_all _ _ (λ path. one_path rules verdicts grown steps (maker path rules)) (rule.inputs ++ rule.order)
+one_step rules verdicts grown steps rule =
+    same_all _ _ (λ path. one_path rules verdicts grown steps (maker path rules)) (rule.inputs ++ rule.order)
+    ∙ list_all-append (is_made rules verdicts) rule.inputs rule.order
 
 next_grown : (rules : List Rule) (verdicts : List (Option Verdict)) → IsGrown rules verdicts → (rule : Rule) → makers_good rules verdicts rule ≡ true → (steps : ℕ) → producers_good steps rules verdicts rule ≡ true
 next_grown rules verdicts grown rule makers zero = refl

@@ -1,7 +1,15 @@
 //! The clean build: what a project's files are, with no history.
 #![tactic(auto)]
 
+mod build;
+mod fault;
+mod generated;
+mod ready;
+mod running;
 mod tree;
+
+pub use build::clean_build;
+pub use fault::CleanFault;
 
 use tup_access::Verdict;
 use tup_path::{Files, Items};
