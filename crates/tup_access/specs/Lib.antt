@@ -1,7 +1,10 @@
 pub mod Access
 pub mod Judge
 pub mod Verdict
-pub mod Laws
 pub mod Generated
+pub mod Allowed
+pub mod Steps
+pub mod Alike
+pub mod Outputs
 pub mod Written
 pub mod Refusal

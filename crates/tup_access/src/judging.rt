@@ -1,9 +1,7 @@
 //! What the end of a command is worth.
-ghost use Rattle.std.specs.Prelude.{◌≡◌, ◌⊎◌, ◌++◌, [], ◌∷◌, List, Ok, Err, None, Some, true, false, length, IfOk, MatchResult};
-ghost use Rattle.std.specs.Option.{option_copied, option_map};
-ghost use Rattle.std.specs.List.{AllZip, find};
+ghost use Rattle.std.specs.Prelude.{◌≡◌, ◌⊎◌, Ok, None, Some, true, false, length, IfOk, MatchResult};
+ghost use Rattle.std.specs.Option.{option_copied};
 ghost use Rattle.tup_path.specs.Resolve.{resolve};
-ghost use Rattle.tup_rule.specs.Rule.{writes};
 ghost use Rattle.tup_access.specs.Judge as specs;
 ghost use Rattle.tup_access.specs.Written.{last_at, AreNamed};
 ghost use Rattle.tup_access.specs.Refusal.{Refuses, RefusesWrite, RefusesOutput};
@@ -66,7 +64,12 @@ fn named_output(alloc: Global, rule: &Rule, text: &Text) -> Result<Path, Refusal
 }
 
 /// Each output with the content that was written to it last. `paths` are what the writes name.
-fn output_files(alloc: Global, rule: &Rule, paths: &[Path], writes: &[(Text, Bytes)]) -> Result<Files, Refusal>
+fn output_files(
+    alloc: Global,
+    rule: &Rule,
+    paths: &[Path],
+    writes: &[(Text, Bytes)],
+) -> Result<Files, Refusal>
     requires { AreNamed rule.now writes.now paths.now }
     ensures { MatchResult result (λ files. (specs.unwritten rule.now writes.now ≡ None) × (files ≡ specs.files_of rule.now writes.now)) (λ refusal. RefusesOutput refusal (specs.unwritten rule.now writes.now)) }
 {
@@ -78,7 +81,11 @@ fn output_files(alloc: Global, rule: &Rule, paths: &[Path], writes: &[(Text, Byt
 }
 
 /// An output with the content that was written to it last.
-fn output_file(output: &Path, paths: &[Path], writes: &[(Text, Bytes)]) -> Result<(Path, Bytes), Refusal>
+fn output_file(
+    output: &Path,
+    paths: &[Path],
+    writes: &[(Text, Bytes)],
+) -> Result<(Path, Bytes), Refusal>
     requires { length paths.now ≡ length writes.now }
     ensures { MatchResult result (λ file. (file.0 ≡ output.now) × (last_at output.now paths.now writes.now ≡ Some file.1)) (λ refusal. (refusal ≡ Refusal.Memory) ⊎ ((last_at output.now paths.now writes.now ≡ None) × (refusal ≡ Refusal.Bad (Verdict.Unwritten output.now)))) }
 {

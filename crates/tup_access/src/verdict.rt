@@ -2,7 +2,7 @@
 use tup_path::{Path, Text};
 
 /// What a command that ended is worth.
-#[derive(Clone, Debug, Drop)]
+#[derive(Clone, Debug, Drop, PartialEq, Eq)]
 pub enum Verdict {
     /// It wrote its outputs, and nothing else.
     Good,
@@ -19,7 +19,7 @@ pub enum Verdict {
 }
 
 /// Whether a command may ask for a text.
-#[derive(Clone, Debug, Drop)]
+#[derive(Clone, Debug, Drop, PartialEq, Eq)]
 pub enum Access {
     /// It may, and the text names this path.
     Yes(Path),

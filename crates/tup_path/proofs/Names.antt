@@ -1,5 +1,5 @@
 -- Names and paths: what `is_visible` tells, and paths that gain or lose their last name.
-use Rattle.std.proofs.Common.{◌≡◌, ◌≢◌, ◌&&◌, ℕ, ◌≤◌, ◌<◌, Bool, true, false, not, eqb, List, [], ◌∷◌, ◌++◌, length, take, get_or, IsUtf8, Ok, refl, ap, sym, arith}
+use Rattle.std.proofs.Common.{◌≡◌, ◌≢◌, ◌&&◌, ℕ, ◌≤◌, ◌<◌, Bool, true, false, not, eqb, List, [], ◌∷◌, ◌++◌, length, take, get_or, IsUtf8, refl, ap, sym, arith}
 use Rattle.std.proofs.lemmas.Grind.{common_steps}
 use Rattle.std.proofs.lemmas.Bool.{ne_eqb}
 use Rattle.std.proofs.lemmas.Bool.Decides.{nat_tests}
@@ -7,7 +7,7 @@ use Rattle.std.proofs.lemmas.List.Elements.{All-push, All-take}
 use Rattle.std.proofs.lemmas.List.Sums.{AllPass-from_list_all}
 use Rattle.std.specs.List.{list_all}
 use Rattle.tup_path.specs.Name.{Names, IsNameByte, IsVisibleName, IsPath}
-use Rattle.tup_path.specs.Resolve.{is_name_byte, is_visible, above}
+use Rattle.tup_path.specs.Resolve.{is_name_byte, is_visible}
 
 and_true : (a b : Bool) → (a && b) ≡ true → (a ≡ true) × (b ≡ true)
 and_true true b e = (refl, e)
@@ -38,11 +38,6 @@ path_front path name is =
       names = rw (← front) (All-take IsVisibleName (length path) (path ++ name ∷ []) is.names);
       depth = let deep : length (path ++ name ∷ []) ≤ 32 = is.depth in grind (arith, common_steps);
     }
-
-pub above_last : (path : Names) (name : List ℕ) → above (path ++ name ∷ []) ≡ Ok path
-above_last [] name = refl
-above_last (first ∷ []) name = refl
-above_last (first ∷ next ∷ path) name = rw (above_last (next ∷ path) name)
 
 pub visible_bytes : (name : List ℕ) → 1 ≤ length name → get_or name 0 0 ≢ 46 → list_all is_name_byte name ≡ is_visible name
 visible_bytes [] some first = absurd (omega arith)

@@ -1,6 +1,7 @@
 -- Names joined one after another, and what two paths share.
-use Rattle.std.proofs.Common.{suc, ◌<◌, ◌+◌, true, false, get_or, drop, drop-cons, length-drop, add-one, bytes_eq, ◌≡◌, ℕ, ◌≤◌, List, [], ◌∷◌, ◌++◌, length, refl, ap, sym, ◌∙◌, arith, append_assoc, All, inl, inr, Result, Ok, Err, OnOk, is_ok, if◌then◌else◌, ◌⊎◌, length-append}
-use Rattle.std.proofs.lemmas.List.{nil_from_length}
+use Rattle.std.proofs.Common.{take, length-take, suc, ◌<◌, ◌+◌, true, false, get_or, drop, drop-cons, length-drop, add-one, bytes_eq, ◌≡◌, ℕ, ◌≤◌, List, [], ◌∷◌, ◌++◌, length, refl, ap, sym, ◌∙◌, arith, append_assoc, All, inl, inr, Result, Ok, Err, OnOk, is_ok, if◌then◌else◌, ◌⊎◌, length-append}
+use Rattle.std.proofs.lemmas.Grind.{common_steps}
+use Rattle.std.proofs.lemmas.List.{nil_from_length, take_more}
 use Rattle.std.proofs.lemmas.List.Elements.{All-head, All-weaker}
 use Rattle.std.specs.List.{join_with_byte}
 use Rattle.tup_path.specs.Name.{Names, IsVisibleName, IsPath}
@@ -62,3 +63,18 @@ shared_head left right n l r e = rw (drop-cons left n [], drop-cons right n [], 
 
 pub shared_other : (left right : Names) (n : ℕ) → n < length left → n < length right → bytes_eq (get_or left n []) (get_or right n []) ≡ false → specs.shared (drop n left) (drop n right) ≡ 0
 shared_other left right n l r e = rw (drop-cons left n [], drop-cons right n [], e)
+
+show_join : (names : Names) → 1 ≤ length names → show names ≡ join_with_byte 47 names
+show_join [] some = absurd (omega arith)
+show_join (name ∷ names) some = refl
+
+-- the text so far of a loop over all names but the first
+pub show_more : (path : Names) (i : ℕ) (name : List ℕ) → i < length (drop 1 path) → name ≡ get_or (drop 1 path) i name → show (take (i + 1) path) ++ 47 ∷ name ≡ show (take (i + 1 + 1) path)
+show_more path i name inside is =
+    let room : i + 1 < length path = omega (arith, length-drop 1 path) in
+    let here : get_or path (i + 1) name ≡ name = grind (arith, common_steps) in
+    let front = take (i + 1) path in
+    let some : 1 ≤ length front = omega (arith, length-take (i + 1) path) in
+    let grown : take (i + 1 + 1) path ≡ front ++ name ∷ [] = take_more path (i + 1) name room ∙ ap (λ n. front ++ n ∷ []) here in
+    ap (λ t. t ++ 47 ∷ name) (show_join front some) ∙ sym (join_more front name some)
+    ∙ sym (show_join (front ++ name ∷ []) (omega (arith, length-append front (name ∷ [])))) ∙ ap show (sym grown)

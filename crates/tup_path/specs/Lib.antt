@@ -4,3 +4,5 @@ pub mod Tree
 pub mod Resolve
 pub mod Show
 pub mod Same
+pub mod Walks
+pub mod Written

@@ -1,14 +1,14 @@
 -- What tests and look-ups tell of equality: paths and trees are equal just where they can't be told apart.
-use Rattle.std.specs.Prelude.{◌≡◌, ◌≢◌, Bool, true, false, Some, None, Option, cond, Decides, List, ℕ, bytes_eq, refl}
+use Rattle.std.specs.Prelude.{◌≡◌, ◌≢◌, Bool, true, false, Some, None, cond, Decides, List, ℕ, bytes_eq, refl}
 use Rattle.std.specs.Ordering.{eq_by_cmp}
 use Rattle.std.specs.FinMap as finite
-use Rattle.std.proofs.Common.{ap, sym, subst, ◌∙◌}
+use Rattle.std.proofs.Common.{ap, subst, ◌∙◌}
 use Rattle.std.proofs.lemmas.Slice.Eq.{slice_eq-Decides, bytes_eq-Decides}
 use Rattle.tup_path.specs.Name.{Names, Content}
 use Rattle.tup_path.specs.Order.{by_names, same_path, same_path-by_names, by_names-total, by_names-antisymmetric}
 use Rattle.tup_path.specs.Tree.{Tree}
 
-differs : {P : Type 0} (b : Bool) → Decides b P → ¬ P → b ≡ false
+pub differs : {P : Type 0} (b : Bool) → Decides b P → ¬ P → b ≡ false
 differs true tells apart = absurd (apart (tells.0 refl))
 differs false tells apart = refl
 

@@ -18,6 +18,7 @@ pub use bytes::Bytes;
 pub use fault::PathFault;
 pub use items::{Files, Items, Paths};
 pub use path::{MAX_DEPTH, MAX_NAME, Path};
+pub use show::shown_reads_back;
 pub use text::Text;
 
 #[cfg(test)]

@@ -1,12 +1,14 @@
 //! How a path is written.
-ghost use Rattle.std.specs.Prelude.{◌≡◌, ◌⊎◌, ◌≤◌, ◌++◌, ◌∷◌, [], Ok, Err, List, ℕ, All, length, drop, replicate, string_bytes, IfOk, OnOk};
+ghost use Rattle.std.specs.Prelude.{◌≡◌, ◌⊎◌, ◌≤◌, ◌++◌, ◌∷◌, [], Ok, Err, Some, List, ℕ, All, length, drop, replicate, string_bytes, IfOk, OnOk};
 ghost use Rattle.std.specs.List.{join_with_byte};
+ghost use Rattle.tup_path.specs.Resolve.{resolve};
 ghost use Rattle.tup_path.specs.Show as specs;
 
 use crate::fault::PathFault;
 use crate::path::Path;
 use crate::text::Text;
 use std::alloc::{AllocError, Global};
+use std::fmt;
 
 impl Path {
     /// The names with a slash between them, and `.` for the top directory.
@@ -25,6 +27,30 @@ impl Path {
         let up = dir.depth() - shared;
         Ok(written(alloc, up, &self.names()[shared..])?)
     }
+}
+
+impl fmt::Display for Path {
+    ghost output = { λ path. Some (specs.show path) };
+
+    fn fmt<W: fmt::Write>(&self, f: &mut fmt::Formatter<W>) -> fmt::Result {
+        let Some((first, rest)) = self.names().split_first() else {
+            return f.write_str(".");
+        };
+        f.write_str(first.as_str())?;
+        for name in rest {
+            write!(f, "/{name}")?;
+        }
+        Ok(())
+    }
+}
+
+/// A law: what `show_from` writes, `resolve` reads back from the same folder, and what `show`
+/// writes, from the top directory.
+pub fn shown_reads_back(dir: &Path, path: &Path)
+    ensures from { resolve dir.now (specs.show_from dir.now path.now) ≡ Ok path.now }
+    ensures top { resolve [] (specs.show path.now) ≡ Ok path.now }
+{
+    let _names = (dir.depth(), path.depth());
 }
 
 /// How many names two paths share at their front.

@@ -135,7 +135,7 @@ fn folders_are_above(rt: HostRuntime) -> Result<(), Fail> {
 }
 
 #[test]
-fn paths_are_ordered_by_names(rt: HostRuntime) -> Result<(), Fail> {
+fn paths_are_values_in_order(rt: HostRuntime) -> Result<(), Fail> {
     let alloc = rt.alloc();
     for (first, then) in [
         (".", "a"),
@@ -151,7 +151,9 @@ fn paths_are_ordered_by_names(rt: HostRuntime) -> Result<(), Fail> {
     }
     let deep = path(alloc, "a/b")?;
     assert_eq!(rt; deep.copy()?, deep);
+    assert_eq!(rt; format!(in alloc; "<{deep}>")?.as_str(), "<a/b>");
     assert_eq!(rt; deep.depth(), 2);
+    assert_eq!(rt; deep.name(1).as_str(), "b");
     Ok(())
 }
 

@@ -2,7 +2,6 @@
 use Rattle.std.specs.Prelude.{◌≡◌, ℕ, suc, ◌+◌, ◌<◌, ◌||◌, ◌⊎◌, Bool, true, false, cond, not, nat_lt, List, [], ◌∷◌, length, Option, Some, None, is_some, position, slice_get, slice_index_or, Contains}
 use Rattle.std.specs.Bool.{Decides}
 use Rattle.std.specs.List.{list_any, position_or_len}
-use Rattle.std.specs.Cmp.Lexicographic.{pointwise_decides, bytes_decides}
 use Rattle.std.proofs.Common.{refl, sym, ◌∙◌, subst, get_or, arith}
 use Rattle.std.proofs.lemmas.Bool.{false≢true, false_from_ne_true}
 use Rattle.std.proofs.lemmas.Bool.Decides.{Decides-or, nat_tests}
@@ -11,11 +10,9 @@ use Rattle.std.proofs.lemmas.List.Quantifiers.{position-Some}
 use Rattle.std.proofs.lemmas.Option.{get_or_from_slice_get, slice_get_within, slice_get-get_or}
 use Rattle.tup_path.specs.Name.{Names}
 use Rattle.tup_path.specs.Order.{same_path}
+use Rattle.tup_path.specs.Same.{same_path-decides}
 use Rattle.tup_rule.specs.declared.rule.Rule.{Rule}
 use Rattle.tup_rule.specs.Rule.{among, declares, writes, maker, is_generated}
-
-same_path-decides : (x y : Names) → Decides (same_path x y) (x ≡ y)
-same_path-decides = pointwise_decides bytes_decides
 
 -- a path is among others where the list contains it
 pub among-decides : (path : Names) (paths : List Names) → Decides (among path paths) (Contains paths path)

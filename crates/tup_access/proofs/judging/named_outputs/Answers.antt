@@ -1,4 +1,4 @@
-use Rattle.std.proofs.Common.{◌≡◌, not, ℕ, List, ap, arith}
+use Rattle.std.proofs.Common.{not, ℕ, List, ap}
 use Rattle.std.proofs.lemmas.Result.{err_from_is_err_and}
 use Rattle.tup_path.specs.Name.{Content}
 use Rattle.tup_access.specs.Judge.{names_output}

@@ -1,8 +1,7 @@
-use Rattle.std.proofs.Common.{sym, ap, ◌∙◌}
+use Rattle.std.proofs.Common.{sym, ap, ◌∙◌, List, ◌++◌, ◌∷◌, []}
 use Rattle.std.proofs.lemmas.Result.{err_from_is_err_and}
 use Rattle.std.proofs.lemmas.Slice.Zip.{AllZip-long}
 use Rattle.tup_path.specs.Name.{Names, Content}
-use Rattle.std.proofs.Common.{List, ◌++◌, ◌∷◌, []}
 use Rattle.tup_access.specs.Written.{last_at}
 use Rattle.tup_access.proofs.Writes.{last_at-last_written, output_refused, output_there, files_more}
 use Rattle.tup_access.proofs.judging.output_files.Goals as goal

@@ -1,4 +1,4 @@
-use Rattle.std.proofs.Common.{◌≡◌, take, None, map, [], List, ℕ}
+use Rattle.std.proofs.Common.{◌≡◌, take, None, map, []}
 use Rattle.std.specs.List.{find}
 use Rattle.std.specs.Option.{is_none, unwrap_or}
 use Rattle.tup_path.specs.Name.{Names}

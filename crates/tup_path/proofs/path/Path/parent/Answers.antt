@@ -1,7 +1,8 @@
-use Rattle.std.proofs.Common.{◌≡◌, ◌++◌, ◌∷◌, [], Ok, Some, inr, ap, sym, ◌∙◌, rules, arith}
+use Rattle.std.proofs.Common.{◌≡◌, ◌++◌, ◌∷◌, [], Ok, Some, inr, ap, sym, ◌∙◌}
 use Rattle.std.specs.Result.{result_ok}
 use Rattle.tup_path.specs.Resolve.{above}
-use Rattle.tup_path.proofs.Names.{path_front, above_last}
+use Rattle.tup_path.specs.Walks.{above_last}
+use Rattle.tup_path.proofs.Names.{path_front}
 use Rattle.tup_path.proofs.path.Path.parent.Goals as goal
 
 pub invariant_of-result : goal.invariant_of-result
