@@ -1,4 +1,4 @@
-use Rattle.std.proofs.Common.{rules, arith, ◌∙◌, ◌≤◌, length, get_or}
+use Rattle.std.proofs.Common.{rules, ◌∙◌}
 use Rattle.tup_mini.proofs.Reading.{status_parsed}
 use Rattle.tup_mini.proofs.words.status.Goals as goal
 

@@ -1,4 +1,4 @@
-use Rattle.std.proofs.Common.{◌≡◌, rules, lit<, ap, ◌∙◌, filter}
+use Rattle.std.proofs.Common.{lit<, ap, ◌∙◌, filter}
 use Rattle.std.proofs.lemmas.Iterator.Consumers.{YieldsList-at, YieldsList-end}
 use Rattle.std.proofs.lemmas.Iterator.Splits.{YieldsList-from_str_split}
 use Rattle.tup_mini.specs.Words.{is_word}
