@@ -1,5 +1,5 @@
 -- A build that takes the next rule step by step comes to what it is defined to be.
-use Rattle.std.proofs.Common.{◌≡◌, ℕ, zero, suc, ◌+◌, ◌-◌, ◌<◌, ◌≤◌, Bool, true, List, length, Option, None, Some, refl, sym, ap, ◌∙◌, arith, set}
+use Rattle.std.proofs.Common.{◌≡◌, ℕ, zero, suc, ◌+◌, ◌-◌, ◌<◌, ◌≤◌, Bool, true, List, length, Option, None, Some, refl, sym, ap, ◌∙◌, arith, replicate}
 use Rattle.std.specs.List.{slice_get, slice_set}
 use Rattle.tup_path.specs.Name.{Names, Content}
 use Rattle.tup_path.specs.Tree.{Tree}
@@ -9,8 +9,8 @@ use Rattle.tup_access.specs.declared.verdict.Verdict.{Verdict}
 use Rattle.tup_access.specs.Judge.{Judged}
 use Rattle.tup_access.specs.Verdict.{verdict}
 use Rattle.tup_mini.specs.Mini.{mini_next}
-use Rattle.tup_clean.specs.Clean.{Build, good_at, first_ready, given, with_files, builds_on}
-use Rattle.tup_clean.specs.Ready.{is_made, next_ready, IsGrown, next_ready-first_ready, grown_more}
+use Rattle.tup_clean.specs.Clean.{Build, good_at, first_ready, given, with_files, builds_on, start, clean}
+use Rattle.tup_clean.specs.Ready.{is_made, next_ready, IsGrown, next_ready-first_ready, grown_start, grown_more}
 
 -- ---- what a maker tells
 
@@ -70,3 +70,15 @@ pub under_way_end : (rules : List Rule) (begun now : Build) (count : ℕ) → Is
 under_way_end rules begun now count way all =
     let none_left : length rules - count ≡ 0 = omega arith in
     sym (way.goes_on ∙ ap (λ steps. builds_on steps mini_next rules now) none_left)
+
+-- ---- from the start
+
+pub grown_from_none : (rules : List Rule) (n : ℕ) (verdicts : List (Option Verdict)) → verdicts ≡ replicate n None → IsGrown rules verdicts
+grown_from_none rules n verdicts none = rw none (grown_start rules n)
+
+pub built_clean : (rules : List Rule) (sources : Tree) (begun now : Build) → begun.tree ≡ sources → begun.verdicts ≡ replicate (length rules) None →
+    now ≡ builds_on (length rules) mini_next rules begun → now ≡ clean mini_next rules sources
+unfolding clean
+built_clean rules sources begun now tree verdicts is =
+    let same : begun ≡ start rules sources = λ i. record { tree = tree i; verdicts = verdicts i } in
+    is ∙ ap (builds_on (length rules) mini_next rules) same

@@ -12,7 +12,8 @@ use Rattle.tup_access.specs.declared.verdict.Access.TheVariants.{Yes, No}
 use Rattle.tup_access.specs.Access.{access}
 use Rattle.tup_access.specs.Judge.{Judged, bad, judge}
 use Rattle.tup_access.specs.Verdict.{answer, verdict}
-use Rattle.tup_access.specs.Laws.{verdict_after, verdict_after-none, verdict_after-End, verdict_after-No, verdict_after-Yes, access-Yes}
+use Rattle.tup_access.specs.Allowed.{access-Yes}
+use Rattle.tup_access.specs.Steps.{verdict_after, verdict_after-none, verdict_after-End, verdict_after-No, verdict_after-Yes}
 use Rattle.tup_mini.specs.declared.command.Command.{Command}
 use Rattle.tup_mini.specs.Command.{command_of}
 use Rattle.tup_mini.specs.Mini.{mini_next, command_next}

@@ -8,6 +8,8 @@ use Rattle.std.specs.Ordering.{eq_by_cmp}
 use Rattle.tup_path.specs.Name.{Names}
 use Rattle.tup_path.specs.Order.{same_path, same_path-by_names, by_names-total, by_names-antisymmetric}
 use Rattle.tup_rule.specs.declared.rule.Rule.{Rule}
+use Rattle.tup_path.specs.Same.{same_path-decides}
+use Rattle.tup_rule.specs.Laws.{among-decides, is_generated-at, IsMaker, maker-Some}
 use Rattle.tup_rule.specs.Rule.{among, writes, maker, is_generated}
 use Rattle.tup_clean.specs.InOrder.{IsOutputAt}
 use Rattle.tup_clean.specs.Places.{position_found, position_any}
@@ -15,27 +17,19 @@ use Rattle.std.specs.declared.cmp.Ordering.{Ordering}
 use Rattle.std.specs.declared.cmp.Ordering.TheVariants.{Less, Equal, Greater}
 use Rattle.std.proofs.lemmas.Cmp.{tied_itself}
 
-is_eq_Equal : (o : Ordering) → Rattle.std.specs.Ordering.is_eq o ≡ true → o ≡ Equal
-is_eq_Equal Less e = absurd (false≢true e)
-is_eq_Equal Equal e = refl
-is_eq_Equal Greater e = absurd (false≢true e)
-
 pub same_path-itself : (path : Names) → same_path path path ≡ true
-same_path-itself path = rw (same_path-by_names, tied_itself by_names-total path)
+same_path-itself path = (same_path-decides path path).1 refl
 
 pub same_path-equal : (x y : Names) → same_path x y ≡ true → x ≡ y
-same_path-equal x y same = by_names-antisymmetric x y (is_eq_Equal _ (sym (same_path-by_names x y) ∙ same))
+same_path-equal x y = (same_path-decides x y).0
 
 -- ---- one of some paths
 
 pub among-Contains : (path : Names) (paths : List Names) → Contains paths path → among path paths ≡ true
-among-Contains path paths found = list_any_at (same_path path) paths found.0 path found.1 (rw found.2 (same_path-itself path))
+among-Contains path paths = (among-decides path paths).1
 
 pub Contains-among : (path : Names) (paths : List Names) → among path paths ≡ true → Contains paths path
-Contains-among path paths found =
-    let any = Any-from_list_any (same_path path) paths found in
-    let same = same_path-equal path any.1 any.4 in
-    (any.0, any.2, subst (λ (x : Names). slice_index_or paths any.0 x ≡ x) (sym same) any.3)
+Contains-among path paths = (among-decides path paths).0
 
 -- what holds of each of the paths
 pub all_among : (test : Names → Bool) (paths : List Names) → ((path : Names) → among path paths ≡ true → test path ≡ true) → list_all test paths ≡ true
@@ -53,15 +47,12 @@ pub writes-IsOutputAt : (rules : List Rule) (at : ℕ) (path : Names) (output : 
 writes-IsOutputAt rules at path output = among-Contains path output.0.outputs output.2
 
 pub is_generated-IsOutputAt : (rules : List Rule) (at : ℕ) (path : Names) → IsOutputAt rules at path → is_generated rules path ≡ true
-is_generated-IsOutputAt rules at path output =
-    let within = slice_get_within rules at output.0 output.1 in
-    list_any_at (λ rule. writes rule path) rules at output.0 (omega arith)
-    (rw (get_or_from_slice_get rules at output.0 output.0 output.1) (writes-IsOutputAt rules at path output))
+is_generated-IsOutputAt rules at path output = is_generated-at rules path at output.0 output.1 (writes-IsOutputAt rules at path output)
 
 pub maker-IsOutputAt : (rules : List Rule) (at : ℕ) (path : Names) → maker path rules ≡ Some at → IsOutputAt rules at path
 maker-IsOutputAt rules at path made =
-    let found = position_found (λ rule. writes rule path) rules at made in
-    IsOutputAt-writes rules at found.0 path found.1 found.2
+    let found = maker-Some rules path at made in
+    IsOutputAt-writes rules at found.rule path found.here found.writes_it
 
 -- a path that some rule makes has a maker
 pub is_generated-maker : (rules : List Rule) (path : Names) → is_generated rules path ≡ true → (at : ℕ) × (maker path rules ≡ Some at)

@@ -12,12 +12,13 @@ use Rattle.tup_rule.specs.Rule.{writes, declares}
 use Rattle.tup_runner.specs.Next.{Next}
 use Rattle.tup_access.specs.declared.verdict.Verdict.TheVariants.{Good}
 use Rattle.tup_access.specs.Access.{may_read}
+use Rattle.tup_access.specs.Alike.{verdict-alike}
 use Rattle.tup_access.specs.Verdict.{verdict}
 use Rattle.tup_clean.specs.Clean.{Build, given, with_files}
 use Rattle.tup_clean.specs.InOrder.{IsBuildable, IsOutputAt, run_in_order, judged_at, AllGoodBefore, IsSettledBefore, AgreesBefore, IsGoodInOrder}
 use Rattle.tup_clean.specs.Places.{some_place, front_here, front_past, front_more}
 use Rattle.tup_clean.specs.Among.{is_generated-IsOutputAt, writes-IsOutputAt, among-Contains, IsOutputAt-writes, is_generated-maker, maker-IsOutputAt}
-use Rattle.tup_clean.specs.VerdictLaws.{cases_Good, verdict-agree, verdict-leaves}
+use Rattle.tup_clean.specs.VerdictLaws.{cases_Good, LeavesContents, verdict-leaves}
 use Rattle.tup_clean.specs.FilesPut.{get-with_files, find-each_with}
 
 -- ---- one rule
@@ -192,8 +193,8 @@ settled sources rules buildable count rule path here may foreign at above output
 pub verdict_over : (count : ℕ) (next : Next) (rules : List Rule) (sources tree : Tree) (rule : Rule) → IsBuildable sources rules → slice_get rules count ≡ Some rule →
     AgreesBefore count next rules sources tree → verdict next rules rule tree ≡ judged_at next rules sources count rule
 verdict_over count next rules sources tree rule buildable here agrees =
-    verdict-agree next rules rule tree (run_in_order count next rules sources).tree
-    (λ path may foreign. agrees path (settled sources rules buildable count rule path here may foreign))
+    verdict-alike next rules rule tree (run_in_order count next rules sources).tree
+    (record { alike = λ path may foreign. agrees path (settled sources rules buildable count rule path here may foreign) })
 
 -- ---- a tree beside the build: how it goes on agreeing
 
