@@ -19,6 +19,6 @@ pub added : (paths : List Names) (i : ℕ) (item copy path : Names) (first befor
     before ≡ (first || among path (take i paths)) → after ≡ cond (eq_by_cmp by_names copy path) true before → after ≡ (first || among path (take (i + 1) paths))
 added paths i item copy path first before after within is copied was now =
     let here : eq_by_cmp by_names copy path ≡ same_path path (get_or paths i item) =
-          (eq_by_cmp_equiv by_names-total).symm copy path ∙ ap (eq_by_cmp by_names path) (copied ∙ is) ∙ sym (same_path-by_names path (get_or paths i item)) in
+    (eq_by_cmp_equiv by_names-total).symm copy path ∙ ap (eq_by_cmp by_names path) (copied ∙ is) ∙ sym (same_path-by_names path (get_or paths i item)) in
     now ∙ (λ k. cond (here k) true (was k)) ∙ one_more first (among path (take i paths)) (same_path path (get_or paths i item))
-        ∙ ap (λ more. first || more) (sym (list_any_more (same_path path) paths i item within))
+    ∙ ap (λ more. first || more) (sym (list_any_more (same_path path) paths i item within))

@@ -46,7 +46,7 @@ insert_entry-put : (path : Names) (content : Content) (es : List (Names × Conte
 insert_entry-put path content [] = refl
 insert_entry-put path content (e ∷ es) =
     elim (by_names path e.0) as (λ o. match_ordering o ((path, content) ∷ e ∷ es) ((e.0, content) ∷ es) (e ∷ insert_entry by_names es path content)
-        ≡ by_order o ((path, content) ∷ e ∷ es) ((e.0, content) ∷ es) (e ∷ finite.put by_names path content es)) [
+    ≡ by_order o ((path, content) ∷ e ∷ es) ((e.0, content) ∷ es) (e ∷ finite.put by_names path content es)) [
       | Less ↦ refl
       | Equal ↦ refl
       | Greater ↦ ap (λ more. e ∷ more) (insert_entry-put path content es)
@@ -60,10 +60,10 @@ pub from_sorted-insert_entry : (path : Names) (content : Content) (es : List (Na
 from_sorted-insert_entry path content es sorted =
     let more = IsSorted-insert_entry path content es sorted in
     finite.same_entries_map _ _
-        (finite.entries-from_sorted by_names _ (passes _ more)
-            ∙ insert_entry-put path content es
-            ∙ ap (finite.put by_names path content) (sym (finite.entries-from_sorted by_names es (passes _ sorted)))
-            ∙ sym (finite.entries-insert by_names-total (finite.from_sorted {R = by_names} es) path content))
+    (finite.entries-from_sorted by_names _ (passes _ more)
+    ∙ insert_entry-put path content es
+    ∙ ap (finite.put by_names path content) (sym (finite.entries-from_sorted by_names es (passes _ sorted)))
+    ∙ sym (finite.entries-insert by_names-total (finite.from_sorted {R = by_names} es) path content))
 
 pub from_sorted-nil : (es : List (Names × Content)) → es ≡ [] → finite.from_sorted {R = by_names} es ≡ finite.empty
 from_sorted-nil es none =
@@ -93,8 +93,8 @@ in_order [] front tree sorted is = is ∙ sym (append-nil front)
 in_order (file ∷ files) front tree sorted is =
     let moved : (front ++ file ∷ []) ++ files ≡ front ++ file ∷ files = append_assoc front (file ∷ []) files in
     in_order files (front ++ file ∷ []) (finite.insert tree file.0 file.1) (rw moved sorted)
-        (finite.entries-insert by_names-total tree file.0 file.1 ∙ ap (finite.put by_names file.0 file.1) is ∙ put-last file.0 file.1 front files sorted)
-        ∙ moved
+    (finite.entries-insert by_names-total tree file.0 file.1 ∙ ap (finite.put by_names file.0 file.1) is ∙ put-last file.0 file.1 front files sorted)
+    ∙ moved
 
 pub with_files-sorted : (files : List (Names × Content)) → finite.is_sorted by_names files ≡ true → with_files finite.empty files ≡ finite.from_sorted files
 with_files-sorted files sorted =

@@ -113,10 +113,10 @@ more_path rules one other steps more deeper None good = refl
 more_path rules one other steps more deeper (Some at) good =
     let parts = and_parts (good_at one at) _ good in
     and_from _ _ (more at parts.0)
-        (elim (slice_get rules at) as (λ o. elim o as (λ _. Bool) [ Some producer ↦ producers_good steps rules one producer | None ↦ true ] ≡ true → elim o as (λ _. Bool) [ Some producer ↦ producers_good steps rules other producer | None ↦ true ] ≡ true) [
-          | Some producer ↦ deeper producer
-          | None ↦ λ _. refl
-        ] parts.1)
+    (elim (slice_get rules at) as (λ o. elim o as (λ _. Bool) [ Some producer ↦ producers_good steps rules one producer | None ↦ true ] ≡ true → elim o as (λ _. Bool) [ Some producer ↦ producers_good steps rules other producer | None ↦ true ] ≡ true) [
+      | Some producer ↦ deeper producer
+      | None ↦ λ _. refl
+    ] parts.1)
 
 -- with more Good rules the producers of a rule stay Good
 more_good : (rules : List Rule) (one other : List (Option Verdict)) → ((at : ℕ) → good_at one at ≡ true → good_at other at ≡ true) →

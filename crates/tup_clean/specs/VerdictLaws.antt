@@ -39,9 +39,11 @@ judge-leaves rule ended = by_status (ended.status == 0)
     by_unwritten : (o : Option Names) → LeavesContents rule (elim o [ Some path ↦ bad (Unwritten path) | None ↦ record { verdict = Good; files = files_of rule ended.writes } ])
     by_unwritten (Some path) = bad-leaves rule (Unwritten path) (λ e. cc e)
     by_unwritten None = record { good = λ _. (λ path. unwrap_or (last_written rule path ended.writes) [], refl); other = λ not_good. absurd (not_good refl) }
+
     by_foreign : (o : Option (List ℕ × Content)) → LeavesContents rule (elim o [ Some w ↦ bad (IllegalWrite w.0) | None ↦ elim (unwritten rule ended.writes) [ Some path ↦ bad (Unwritten path) | None ↦ record { verdict = Good; files = files_of rule ended.writes } ] ])
     by_foreign (Some w) = bad-leaves rule (IllegalWrite w.0) (λ e. cc e)
     by_foreign None = by_unwritten (unwritten rule ended.writes)
+
     by_status : (b : Bool) → LeavesContents rule (cond (not b) (bad (Failed ended.status)) (elim (foreign_write rule ended.writes) [ Some w ↦ bad (IllegalWrite w.0) | None ↦ elim (unwritten rule ended.writes) [ Some path ↦ bad (Unwritten path) | None ↦ record { verdict = Good; files = files_of rule ended.writes } ] ]))
     by_status true = by_foreign (foreign_write rule ended.writes)
     by_status false = bad-leaves rule (Failed ended.status) (λ e. cc e)

@@ -13,16 +13,15 @@ pub(crate) fn next_ready(rules: &[Rule], verdicts: &[Option<Verdict>]) -> Option
     ensures first { result ≡ specs.next_ready rules.now verdicts.now }
     ensures within { IfSome result (λ at. (at < length rules.now) × (at < length verdicts.now)) }
 {
-    rules
-        .iter()
-        .zip(verdicts)
-        .position(|(rule, verdict)| verdict.is_none() && makers_good(rules, verdicts, rule))
+    rules.iter().zip(verdicts).position(|(rule, verdict)| verdict.is_none()
+        && makers_good(rules, verdicts, rule))
 }
 
 fn makers_good(rules: &[Rule], verdicts: &[Option<Verdict>], rule: &Rule) -> bool
     ensures { result ≡ specs.makers_good rules.now verdicts.now rule.now }
 {
-    all_made(rules, verdicts, rule.inputs.as_slice()) && all_made(rules, verdicts, rule.order.as_slice())
+    all_made(rules, verdicts, rule.inputs.as_slice())
+        && all_made(rules, verdicts, rule.order.as_slice())
 }
 
 /// Whether each path that a rule makes is made by a Good one.
