@@ -1,7 +1,7 @@
 -- A build that takes the next rule step by step comes to what it is defined to be.
-use Rattle.std.proofs.Common.{◌≡◌, ℕ, zero, suc, ◌+◌, ◌-◌, ◌<◌, ◌≤◌, Bool, true, List, length, Option, None, Some, refl, sym, ap, ◌∙◌, arith, replicate}
+use Rattle.std.proofs.Common.{◌≡◌, ℕ, suc, ◌+◌, ◌-◌, ◌<◌, ◌≤◌, Bool, true, List, length, Option, None, Some, refl, sym, ap, ◌∙◌, arith, replicate}
 use Rattle.std.specs.List.{slice_get, slice_set}
-use Rattle.tup_path.specs.Name.{Names, Content}
+use Rattle.tup_path.specs.Name.{Names}
 use Rattle.tup_path.specs.Tree.{Tree}
 use Rattle.tup_rule.specs.declared.rule.Rule.{Rule}
 use Rattle.tup_rule.specs.Rule.{maker}

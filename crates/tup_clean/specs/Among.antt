@@ -1,21 +1,15 @@
 -- What it is for a path to be one of some paths, and to be made by a rule.
-use Rattle.std.proofs.Common.{◌≡◌, ℕ, Bool, true, List, [], ◌∷◌, Some, refl, sym, ◌∙◌, subst, arith}
-use Rattle.std.proofs.lemmas.Bool.{and_from, or_left, or_right, false≢true}
-use Rattle.std.proofs.lemmas.Option.{slice_get_within, get_or_from_slice_get}
-use Rattle.std.proofs.lemmas.List.Folds.{list_any_at, Any-from_list_any}
-use Rattle.std.specs.List.{slice_get, slice_index_or, list_all, list_any, position_or_len, Contains}
-use Rattle.std.specs.Ordering.{eq_by_cmp}
+use Rattle.std.proofs.Common.{◌≡◌, ℕ, Bool, true, List, [], ◌∷◌, Some, refl}
+use Rattle.std.proofs.lemmas.Bool.{and_from, or_left, or_right}
+use Rattle.std.specs.List.{slice_get, list_all, position_or_len, Contains}
 use Rattle.tup_path.specs.Name.{Names}
-use Rattle.tup_path.specs.Order.{same_path, same_path-by_names, by_names-total, by_names-antisymmetric}
+use Rattle.tup_path.specs.Order.{same_path}
 use Rattle.tup_rule.specs.declared.rule.Rule.{Rule}
 use Rattle.tup_path.specs.Same.{same_path-decides}
-use Rattle.tup_rule.specs.Laws.{among-decides, is_generated-at, IsMaker, maker-Some}
+use Rattle.tup_rule.specs.Laws.{among-decides, is_generated-at, maker-Some}
 use Rattle.tup_rule.specs.Rule.{among, writes, maker, is_generated}
 use Rattle.tup_clean.specs.InOrder.{IsOutputAt}
-use Rattle.tup_clean.specs.Places.{position_found, position_any}
-use Rattle.std.specs.declared.cmp.Ordering.{Ordering}
-use Rattle.std.specs.declared.cmp.Ordering.TheVariants.{Less, Equal, Greater}
-use Rattle.std.proofs.lemmas.Cmp.{tied_itself}
+use Rattle.tup_clean.specs.Places.{position_any}
 
 pub same_path-itself : (path : Names) → same_path path path ≡ true
 same_path-itself path = (same_path-decides path path).1 refl

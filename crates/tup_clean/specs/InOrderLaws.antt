@@ -18,7 +18,7 @@ use Rattle.tup_clean.specs.Clean.{Build, given, with_files}
 use Rattle.tup_clean.specs.InOrder.{IsBuildable, IsOutputAt, run_in_order, judged_at, AllGoodBefore, IsSettledBefore, AgreesBefore, IsGoodInOrder}
 use Rattle.tup_clean.specs.Places.{some_place, front_here, front_past, front_more}
 use Rattle.tup_clean.specs.Among.{is_generated-IsOutputAt, writes-IsOutputAt, among-Contains, IsOutputAt-writes, is_generated-maker, maker-IsOutputAt}
-use Rattle.tup_clean.specs.VerdictLaws.{cases_Good, LeavesContents, verdict-leaves}
+use Rattle.tup_clean.specs.VerdictLaws.{cases_Good, verdict-leaves}
 use Rattle.tup_clean.specs.FilesPut.{get-with_files, find-each_with}
 
 -- ---- one rule

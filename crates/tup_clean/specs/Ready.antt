@@ -1,18 +1,17 @@
 -- Which rule comes next, told by its declared inputs alone. In a build under way the declared producers of a
 -- Good rule are all Good, so it's enough to look one step back.
-use Rattle.std.specs.Prelude.{◌≡◌, ℕ, zero, suc, ◌<◌, Bool, true, false, ◌&&◌, List, [], ◌∷◌, ◌++◌, length, Option, None, Some, position, is_none, slice_get, slice_set, replicate, nat_lt, ◌+◌}
+use Rattle.std.specs.Prelude.{◌≡◌, ℕ, zero, suc, Bool, true, false, ◌&&◌, List, [], ◌∷◌, ◌++◌, length, Option, None, Some, position, is_none, slice_get, slice_set, replicate, nat_lt, ◌+◌}
 use Rattle.std.specs.List.{list_all, zip, prefix_len}
-use Rattle.std.proofs.Common.{refl, sym, ap, ◌∙◌, subst, inl, inr, not, arith, cond}
-use Rattle.std.proofs.lemmas.Bool.{cases_Bool, false≢true, true≢false, and_from, and_parts, and_left, and_right, cases_eq}
+use Rattle.std.proofs.Common.{refl, sym, ap, ◌∙◌, subst, inl, inr, not, cond}
+use Rattle.std.proofs.lemmas.Bool.{cases_Bool, false≢true, true≢false, and_from, and_parts, and_left, cases_eq}
 use Rattle.std.proofs.lemmas.List.Folds.{list_all-append}
-use Rattle.std.proofs.lemmas.Option.{same_Some, none-some, slice_get_within}
+use Rattle.std.proofs.lemmas.Option.{same_Some}
 use Rattle.tup_path.specs.Name.{Names}
 use Rattle.tup_rule.specs.declared.rule.Rule.{Rule}
-use Rattle.tup_rule.specs.Rule.{maker, among}
+use Rattle.tup_rule.specs.Rule.{maker}
 use Rattle.tup_access.specs.declared.verdict.Verdict.{Verdict}
-use Rattle.tup_clean.specs.Clean.{is_good, good_at, producers_good, first_ready}
-use Rattle.tup_clean.specs.Places.{set_here, set_apart, position_found, zip_first, zip_second}
-use Rattle.tup_clean.specs.Among.{all_among}
+use Rattle.tup_clean.specs.Clean.{good_at, producers_good, first_ready}
+use Rattle.tup_clean.specs.Places.{set_apart, position_found, zip_first, zip_second}
 
 -- whether a path has a Good maker, or none
 abbrev pub is_made : List Rule → List (Option Verdict) → Names → Bool

@@ -1,12 +1,11 @@
 -- Which files a verdict leaves: those of a Good one are a content for each output, and others leave nothing.
-use Rattle.std.proofs.Common.{◌≡◌, ◌≢◌, ◌⊎◌, ◌==◌, zero, suc, ℕ, Bool, true, false, not, cond, List, [], map, length, Option, None, Some, refl, sym, subst, inl, inr}
+use Rattle.std.proofs.Common.{◌≡◌, ◌≢◌, ◌⊎◌, ◌==◌, zero, suc, ℕ, Bool, true, false, not, cond, List, [], map, length, Option, None, Some, refl, inl, inr}
 use Rattle.std.specs.Option.{unwrap_or}
 use Rattle.tup_path.specs.Name.{Names, Content}
 use Rattle.tup_path.specs.Tree.{Tree}
 use Rattle.tup_rule.specs.declared.rule.Rule.{Rule}
 use Rattle.tup_runner.specs.Next.{Next, Asked}
 use Rattle.tup_runner.specs.declared.step.Ended.{Ended}
-use Rattle.tup_runner.specs.declared.step.Step.{Step}
 use Rattle.tup_runner.specs.declared.step.Step.TheVariants.{Ask, End}
 use Rattle.tup_access.specs.declared.verdict.Verdict.{Verdict}
 use Rattle.tup_access.specs.declared.verdict.Verdict.TheVariants.{Good, Failed, IllegalRead, IllegalWrite, Unwritten, TooManyReads}

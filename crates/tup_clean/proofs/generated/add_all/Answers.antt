@@ -1,5 +1,3 @@
-use Rattle.std.specs.BTreeSet.{contains}
-use Rattle.tup_path.specs.Order.{by_names}
 use Rattle.tup_clean.proofs.Outputs.{added}
 use Rattle.tup_clean.proofs.generated.add_all.Goals as goal
 

@@ -1,4 +1,4 @@
-use Rattle.std.proofs.Common.{◌≡◌, ◌∙◌, ap, sym, arith, ◌∷◌, [], ◌++◌}
+use Rattle.std.proofs.Common.{◌∙◌, ap, sym, arith, ◌∷◌, [], ◌++◌}
 use Rattle.tup_mini.specs.Mini.{command_next}
 use Rattle.tup_clean.proofs.Following.{given, followed_start, followed_more, followed_end, followed_no}
 use Rattle.tup_clean.proofs.running.run.Goals as goal

@@ -1,4 +1,4 @@
-use Rattle.std.proofs.Common.{◌≡◌, ◌∙◌, ap}
+use Rattle.std.proofs.Common.{◌∙◌, ap}
 use Rattle.tup_clean.specs.Clean.{with_files}
 use Rattle.tup_clean.proofs.Sorted.{copies, with_files-sorted}
 use Rattle.tup_clean.proofs.tree.FileTree.new.Goals as goal
