@@ -1,6 +1,22 @@
 //! The clean build: what a project's files are, with no history.
+//!
+//! `clean_build` gives just the build that `specs/Clean.antt` defines, for every list of rules, and is refused
+//! for want of memory alone. It is plain and slow, and knows nothing of graphs, flags, stamps or threads.
+//! `specs/CleanLaws.antt` and `specs/InOrderLaws.antt` say what the build is where the rules can be run in
+//! their order, and which trees a rule could as well be run in.
 #![tactic(auto)]
 
+mod build;
+mod fault;
+mod generated;
+mod ready;
+mod running;
+#[cfg(test)]
+mod tests;
+mod tree;
+
+pub use build::clean_build;
+pub use fault::CleanFault;
 use tup_access::Verdict;
 use tup_path::{Files, Items};
 

@@ -1,0 +1,4 @@
+pub mod Sorted
+pub mod Following
+pub mod Building
+pub mod Outputs

@@ -1,0 +1,68 @@
+//! The clean build of some sources.
+ghost use Rattle.std.specs.Prelude.{◌≡◌, None, IsTrue, IfOk, OnOk, length, replicate};
+ghost use Rattle.std.specs.FinMap as finite;
+ghost use Rattle.tup_path.specs.Order.{by_names};
+ghost use Rattle.tup_mini.specs.Mini.{mini_next};
+ghost use Rattle.tup_clean.specs.Clean.{builds_on, clean};
+ghost use Rattle.tup_clean.specs.Ready.{IsGrown};
+
+use crate::Cleaned;
+use crate::fault::CleanFault;
+use crate::generated::generated;
+use crate::ready::next_ready;
+use crate::running::run;
+use crate::tree::FileTree;
+use std::alloc::{AllocError, Global};
+use tup_access::Verdict;
+use tup_path::{Files, Items};
+use tup_rule::Rule;
+
+/// The clean build of some sources, which stand in the order of their paths: what the commands of the
+/// rules leave where they are run with no history, each as soon as all its declared producers are Good.
+///
+/// `Memory` leaves nothing.
+pub fn clean_build(alloc: Global, rules: &[Rule], sources: &Files) -> Result<Cleaned, CleanFault>
+    requires { IsTrue (finite.is_sorted by_names sources.now) }
+    ensures tree { IfOk result (λ cleaned. cleaned.tree ≡ finite.entries (clean mini_next rules.now (finite.from_sorted sources.now)).tree) }
+    ensures verdicts { IfOk result (λ cleaned. cleaned.verdicts ≡ (clean mini_next rules.now (finite.from_sorted sources.now)).verdicts) }
+{
+    let mut tree = FileTree::new(alloc, sources)?;
+    let mut verdicts = no_verdicts(alloc, rules.len())?;
+    build_on(alloc, rules, &mut tree, &mut verdicts)?;
+    Ok(Cleaned {
+        tree: tree.into_files(alloc)?,
+        verdicts: Items::from_vec(verdicts),
+    })
+}
+
+fn no_verdicts(alloc: Global, count: usize) -> Result<Vec<Option<Verdict>>, AllocError>
+    ensures { IfOk result (λ verdicts. verdicts.items ≡ replicate count None) }
+{
+    let mut verdicts = Vec::new(alloc);
+    for _ in 0..count {
+        verdicts.push(None)?;
+    }
+    Ok(verdicts)
+}
+
+/// Takes the next rule, again and again, until none is ready.
+fn build_on(
+    alloc: Global,
+    rules: &[Rule],
+    tree: &mut FileTree,
+    verdicts: &mut [Option<Verdict>],
+) -> Result<(), CleanFault>
+    requires { IsGrown rules.now verdicts.old }
+    ensures { OnOk result (record { tree = tree.new; verdicts = verdicts.new } ≡ builds_on (length rules.now) mini_next rules.now (record { tree = tree.old; verdicts = verdicts.old })) }
+{
+    let generated = generated(alloc, rules)?;
+    for _ in 0..rules.len() {
+        let Some(at) = next_ready(rules, verdicts) else {
+            return Ok(());
+        };
+        let (verdict, files) = run(alloc, rules, &generated, &rules[at], tree)?;
+        tree.put_all(files)?;
+        verdicts[at] = Some(verdict);
+    }
+    Ok(())
+}

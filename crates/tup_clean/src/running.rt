@@ -1,0 +1,54 @@
+//! The run of one command over the files of a build.
+ghost use Rattle.std.specs.Prelude.{◌≡◌, IfOk, Ok, Err};
+ghost use Rattle.tup_rule.specs.declared.rule.Rule.{Rule as RuleValue};
+ghost use Rattle.tup_access.specs.Generated.{IsGenerated};
+ghost use Rattle.tup_access.specs.Verdict as specs;
+ghost use Rattle.tup_mini.specs.Mini.{mini_next};
+
+use crate::fault::CleanFault;
+use crate::tree::FileTree;
+use std::alloc::{AllocError, Global};
+use std::collections::BTreeSet;
+use tup_access::{Access, MAX_ASKS, Verdict, allowed, judge};
+use tup_mini::Command;
+use tup_path::{Files, Items, Path};
+use tup_rule::Rule;
+use tup_runner::{Answer, Asked, Step};
+
+/// The verdict on a rule over some files, and the files that its command leaves.
+pub(crate) fn run(
+    alloc: Global,
+    rules: &[Rule],
+    generated: &BTreeSet<Path>,
+    rule: &Rule,
+    tree: &FileTree,
+) -> Result<(Verdict, Files), CleanFault>
+    requires { IsGenerated rules.now generated.now }
+    ensures { IfOk result (λ ran. record { verdict = ran.0; files = ran.1 } ≡ specs.verdict mini_next rules.now rule.now tree.now) }
+{
+    let command = Command::read(alloc, &rule.text)?;
+    let mut asked: Asked = Items::new(alloc);
+    for before in 0..MAX_ASKS {
+        match command.next(alloc, asked.as_slice())? {
+            Step::End(ended) => return Ok(judge(alloc, rule, &ended)?),
+            Step::Ask(text) => match allowed(alloc, rule, generated, &text, before)? {
+                Access::Yes(path) => asked.push((text, answer(rule, tree, &path)?))?,
+                Access::No(verdict) => return Ok((verdict, Items::new(alloc))),
+            },
+        }
+    }
+    Ok((Verdict::TooManyReads, Items::new(alloc)))
+}
+
+/// What a command is told of a path: what stands there, but nothing of its own outputs.
+fn answer(rule: &Rule, tree: &FileTree, path: &Path) -> Result<Answer, AllocError>
+    ensures { IfOk result (λ told. told ≡ specs.answer rule.now tree.now path.now) }
+{
+    if rule.writes(path) {
+        return Ok(Answer::Absent);
+    }
+    match tree.get(path) {
+        Some(content) => Ok(Answer::Content(content.clone()?)),
+        None => Ok(Answer::Absent),
+    }
+}
