@@ -1,0 +1,5 @@
+pub mod Blanks
+pub mod Word
+pub mod RuleLine
+pub mod Standing
+pub mod Reading

@@ -1,0 +1,71 @@
+-- The one kind of rule line that is read (own): `: INPUTS |> COMMAND |> OUTPUT`, where the command is
+-- `cp A B`, `cat A.. > B` or `fail N`, each A being one of the inputs and B the output.
+use Rattle.std.specs.Prelude.{ℕ, Bool, true, false, not, ◌&&◌, ◌==◌, if◌then◌else◌, List, [], ◌∷◌, Option, None, Some, codes, bytes_eq}
+use Rattle.std.specs.Char.{is_ascii}
+use Rattle.std.specs.List.{list_all}
+use Rattle.tup_mini.specs.Words.{words}
+use Rattle.tup_mini.specs.Command.{command_of}
+use Rattle.tup_mini.specs.declared.command.Command.{Command}
+use Rattle.tup_mini.specs.declared.command.Command.TheVariants.{Copy, Join, Stop}
+use Rattle.tup_parse.specs.Blanks.{trim, Parts, parts_of}
+use Rattle.tup_parse.specs.Word.{is_file_word, is_reserved, has_word, is_status}
+
+-- a rule as its line has it
+pub record Written : Type 0 where
+  pub inputs : List (List ℕ)
+  pub command : List ℕ
+  pub output : List ℕ
+
+-- the words of a part that has file words alone
+abbrev pub file_words : List ℕ → Option (List (List ℕ))
+file_words part = if list_all is_file_word (words part) then Some (words part) else None
+
+-- the single word of a part, where it may be an output
+abbrev pub output_of : List ℕ → Option (List ℕ)
+output_of part = single (words part)
+  where
+    single : List (List ℕ) → Option (List ℕ)
+    single (word ∷ []) = if is_file_word word && not (is_reserved word) then Some word else None
+    single words = None
+
+-- whether words are `fail N`
+abbrev pub is_fail : List (List ℕ) → Bool
+is_fail (name ∷ status ∷ []) = bytes_eq name (codes "fail") && is_status status
+is_fail words = false
+
+-- whether a command reads inputs of its rule alone, and writes its output
+abbrev pub keeps_to : List (List ℕ) → List ℕ → Command → List (List ℕ) → Bool
+keeps_to inputs output (Copy from to) words = has_word inputs from && bytes_eq to output
+keeps_to inputs output (Join from to) words = list_all (has_word inputs) from && bytes_eq to output
+keeps_to inputs output (Stop status) words = is_fail words
+
+-- the text of a command of one of the three forms, without the blanks at its ends
+abbrev pub command_text : List (List ℕ) → List ℕ → List ℕ → Option (List ℕ)
+command_text inputs output part =
+    let text = trim part in
+    if list_all is_ascii text && keeps_to inputs output (command_of text) (words text) then Some text else None
+
+-- the rule of three parts
+abbrev pub written_in : Parts → Option Written
+written_in parts =
+    elim (file_words parts.inputs) [
+      | None ↦ None
+      | Some inputs ↦ elim (output_of parts.output) [
+        | None ↦ None
+        | Some output ↦ elim (command_text inputs output parts.command) [
+          | None ↦ None
+          | Some command ↦ Some (record { inputs = inputs; command = command; output = output })
+        ]
+      ]
+    ]
+
+-- the rule of a trimmed line: a colon, and three parts with arrows between them
+abbrev pub written_rule : List ℕ → Option Written
+written_rule [] = None
+written_rule (b ∷ rest) =
+    if b == 58 then elim (parts_of rest) [ Some parts ↦ written_in parts | None ↦ None ] else None
+
+-- whether a trimmed line is empty or a comment
+abbrev pub is_skipped : List ℕ → Bool
+is_skipped [] = true
+is_skipped (b ∷ bs) = b == 35
