@@ -8,11 +8,17 @@
 mod bytes;
 mod fault;
 mod items;
+mod name;
 mod path;
+mod resolve;
+mod show;
 mod text;
 
 pub use bytes::Bytes;
 pub use fault::PathFault;
 pub use items::{Files, Items, Paths};
-pub use path::{MAX_DEPTH, Path};
+pub use path::{MAX_DEPTH, MAX_NAME, Path};
 pub use text::Text;
+
+#[cfg(test)]
+mod tests;

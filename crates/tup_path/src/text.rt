@@ -1,5 +1,5 @@
 //! A text: bytes that are UTF-8.
-ghost use Rattle.std.specs.Prelude.{◌≡◌, nat_eq, refl, IsUtf8, MatchOption, IfOk};
+ghost use Rattle.std.specs.Prelude.{◌≡◌, nat_eq, refl, IsUtf8, MatchOption, IfOk, string_bytes, Some};
 ghost use Rattle.std.specs.Cmp.{partial_order_from_own_ties};
 ghost use Rattle.std.specs.Cmp.Rules.{comparing};
 ghost use Rattle.std.specs.Ordering.{as_partial_cmp};
@@ -11,7 +11,7 @@ use crate::bytes::Bytes;
 use std::alloc::{AllocError, Global};
 use std::cmp::Ordering;
 use std::marker::Model;
-use std::str;
+use std::{fmt, str};
 
 /// A list of bytes that is UTF-8. Contracts see the bytes.
 #[derive(Debug, Drop)]
@@ -37,6 +37,15 @@ impl Text {
         match str::from_utf8(bytes.as_slice()) {
             Ok(_) => Some(Text { bytes }),
             Err(_) => None,
+        }
+    }
+
+    /// Takes the text over; nothing is copied.
+    pub fn from_string(text: String) -> Text
+        ensures { result ≡ string_bytes text }
+    {
+        Text {
+            bytes: Bytes::new(text.into_bytes()),
         }
     }
 
@@ -78,6 +87,14 @@ impl Clone for Text {
         Ok(Text {
             bytes: self.bytes.clone()?,
         })
+    }
+}
+
+impl fmt::Display for Text {
+    ghost output = { λ text. Some text };
+
+    fn fmt<W: fmt::Write>(&self, f: &mut fmt::Formatter<W>) -> fmt::Result {
+        f.write_str(self.as_str())
     }
 }
 
