@@ -1,5 +1,6 @@
 pub mod Blanks
 pub mod Word
+pub mod Known
 pub mod RuleLine
 pub mod Standing
 pub mod Reading

@@ -19,11 +19,6 @@ use Rattle.tup_parse.specs.Word.{has_word}
 use Rattle.tup_parse.specs.RuleLine.{Written, written_rule, is_skipped}
 use Rattle.tup_parse.specs.Standing.{standing}
 
--- paths joined to others, each kept at its first place
-abbrev pub joined : List Names → List Names → List Names
-joined paths [] = paths
-joined paths (path ∷ more) = if among path paths then joined paths more else joined (paths ++ path ∷ []) more
-
 -- the rule that a line has written, in the top directory
 abbrev pub rule_of : Written → Rule
 rule_of written =
@@ -32,7 +27,7 @@ rule_of written =
       text = written.command;
       display = None;
       compare = false;
-      inputs = joined [] (map (λ word. word ∷ []) written.inputs);
+      inputs = map (λ word. word ∷ []) written.inputs;
       order = [];
       outputs = (written.output ∷ []) ∷ []
     }
@@ -77,15 +72,20 @@ fault_at dir file line kind = Fault (record { dir = dir; file = file; line = lin
 abbrev pub top_tupfile : Names
 top_tupfile = codes "Tupfile" ∷ []
 
--- the rules behind others that lines have, each at its line; the lines are counted, and the first fault stands
+-- the rules behind a line, unless it has a fault
+abbrev pub with_line : List Names → ℕ → List Placed → List ℕ → Result (List Placed) ReadEnd
+with_line sources line placed text =
+    elim (line_rule sources (rules_in placed) text) [
+      | Err kind ↦ Err (fault_at [] top_tupfile line kind)
+      | Ok None ↦ Ok placed
+      | Ok (Some rule) ↦ Ok (placed ++ record { line = line; rule = rule } ∷ [])
+    ]
+
+-- the rules behind lines that are counted from a number on; the first fault stands
 abbrev pub read_lines : List Names → ℕ → List Placed → List (List ℕ) → Result (List Placed) ReadEnd
 read_lines sources line placed [] = Ok placed
 read_lines sources line placed (text ∷ more) =
-    elim (line_rule sources (rules_in placed) text) [
-      | Err kind ↦ Err (fault_at [] top_tupfile line kind)
-      | Ok None ↦ read_lines sources (suc line) placed more
-      | Ok (Some rule) ↦ read_lines sources (suc line) (placed ++ record { line = line; rule = rule } ∷ []) more
-    ]
+    elim (with_line sources line placed text) [ Ok next ↦ read_lines sources (suc line) next more | Err end ↦ Err end ]
 
 -- the lines of a file: each ends at a line feed, and what stands behind the last one is a line too
 abbrev pub lines_of : Option Content → List (List ℕ)

@@ -1,24 +1,19 @@
 -- The one kind of rule line that is read (own): `: INPUTS |> COMMAND |> OUTPUT`, where the command is
 -- `cp A B`, `cat A.. > B` or `fail N`, each A being one of the inputs and B the output.
-use Rattle.std.specs.Prelude.{ℕ, Bool, true, false, not, ◌&&◌, ◌==◌, if◌then◌else◌, List, [], ◌∷◌, Option, None, Some, codes, bytes_eq}
+use Rattle.std.specs.Prelude.{◌≡◌, ℕ, Bool, true, false, not, ◌&&◌, ◌==◌, if◌then◌else◌, List, [], ◌∷◌, Option, None, Some, codes, bytes_eq}
 use Rattle.std.specs.Char.{is_ascii}
 use Rattle.std.specs.List.{list_all}
 use Rattle.tup_mini.specs.Words.{words}
 use Rattle.tup_mini.specs.Command.{command_of}
 use Rattle.tup_mini.specs.declared.command.Command.{Command}
 use Rattle.tup_mini.specs.declared.command.Command.TheVariants.{Copy, Join, Stop}
+use Rattle.tup_parse.specs.declared.rule_line.Written.{Written}
 use Rattle.tup_parse.specs.Blanks.{trim, Parts, parts_of}
-use Rattle.tup_parse.specs.Word.{is_file_word, is_reserved, has_word, is_status}
+use Rattle.tup_parse.specs.Word.{is_file_word, is_reserved, has_word, joined, is_status}
 
--- a rule as its line has it
-pub record Written : Type 0 where
-  pub inputs : List (List ℕ)
-  pub command : List ℕ
-  pub output : List ℕ
-
--- the words of a part that has file words alone
+-- the words of a part that has file words alone, each once
 abbrev pub file_words : List ℕ → Option (List (List ℕ))
-file_words part = if list_all is_file_word (words part) then Some (words part) else None
+file_words part = if list_all is_file_word (words part) then Some (joined [] (words part)) else None
 
 -- the single word of a part, where it may be an output
 abbrev pub output_of : List ℕ → Option (List ℕ)
@@ -69,3 +64,8 @@ written_rule (b ∷ rest) =
 abbrev pub is_skipped : List ℕ → Bool
 is_skipped [] = true
 is_skipped (b ∷ bs) = b == 35
+
+-- the inputs and the output of a rule are names of files
+pub record HasFileWords (written : Written) : Type 0 where
+  pub inputs : list_all is_file_word written.inputs ≡ true
+  pub output : is_file_word written.output ≡ true

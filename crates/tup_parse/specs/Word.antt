@@ -1,5 +1,5 @@
 -- The words that a rule may have (own): names of files of the top directory, in letters that need no quoting.
-use Rattle.std.specs.Prelude.{ℕ, Bool, false, not, ◌&&◌, ◌||◌, ◌==◌, nat_le, nat_lt, List, [], ◌∷◌, length, codes, bytes_eq}
+use Rattle.std.specs.Prelude.{ℕ, Bool, false, not, ◌&&◌, ◌||◌, ◌==◌, nat_le, nat_lt, if◌then◌else◌, List, [], ◌∷◌, ◌++◌, length, codes, bytes_eq}
 use Rattle.std.specs.List.{list_all, list_any}
 use Rattle.tup_mini.specs.Command.{is_digit, decimal_value}
 
@@ -21,6 +21,11 @@ is_reserved word = bytes_eq word (codes "Tupfile") || bytes_eq word (codes "Tupr
 -- whether a word is one of these
 abbrev pub has_word : List (List ℕ) → List ℕ → Bool
 has_word words word = list_any (bytes_eq word) words
+
+-- words joined to others, each kept at its first place
+abbrev pub joined : List (List ℕ) → List (List ℕ) → List (List ℕ)
+joined words [] = words
+joined words (word ∷ more) = if has_word words word then joined words more else joined (words ++ word ∷ []) more
 
 -- a status as `fail` takes it: 1 to 255 in decimal without a leading zero
 abbrev pub is_status : List ℕ → Bool

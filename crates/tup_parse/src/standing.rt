@@ -1,4 +1,11 @@
 //! What stands at the names of the top directory.
+ghost use Rattle.std.specs.Prelude.{◌++◌, [], ◌∷◌, List, IfOk, OnOk};
+ghost use Rattle.tup_path.specs.Name.{Names};
+ghost use Rattle.tup_parse.specs.Standing.{Stands};
+
+use std::alloc::{AllocError, Global};
+use std::collections::BTreeMap;
+use tup_path::{Path, Paths, Text};
 
 /// What stands at a path when a rule is read.
 #[derive(Clone, Copy, Debug, PartialEq, Eq)]
@@ -9,4 +16,32 @@ pub(crate) enum Standing {
     Source,
     /// A folder with sources below it.
     Folder,
+}
+
+/// What stands at each name of the top directory before the first rule is read.
+pub(crate) fn standings(alloc: Global, sources: &Paths) -> Result<BTreeMap<Text, Standing>, AllocError>
+    ensures { IfOk result (λ names. Stands names sources.now []) }
+{
+    let mut names = BTreeMap::new(alloc);
+    for path in sources.as_slice() {
+        add_source(&mut names, path)?;
+    }
+    Ok(names)
+}
+
+fn add_source(names: &mut BTreeMap<Text, Standing>, path: &Path) -> Result<(), AllocError>
+    ensures { OnOk result ((sources : List Names) → Stands names.old sources [] → Stands names.new (sources ++ path.now ∷ []) []) }
+{
+    match path.names() {
+        [] => {}
+        [name] => {
+            names.insert(name.clone()?, Standing::Source)?;
+        }
+        [name, ..] => {
+            if !names.contains_key(name) {
+                names.insert(name.clone()?, Standing::Folder)?;
+            }
+        }
+    }
+    Ok(())
 }

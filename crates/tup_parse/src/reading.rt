@@ -1,0 +1,211 @@
+//! The rules of a project, read from its sources.
+ghost use Rattle.std.specs.Prelude.{◌≡◌, ◌⊎◌, ◌^◌, ◌<◌, ◌==◌, List, [], ◌∷◌, length, Err, IfOk, IfSome, IsTrue, MatchResult, codes, option_map};
+ghost use Rattle.std.specs.List.{slice_split};
+ghost use Rattle.tup_path.specs.Name.{Names};
+ghost use Rattle.tup_path.specs.Order.{same_path};
+ghost use Rattle.tup_rule.specs.declared.rule.Rule.{Rule as RuleValue};
+ghost use Rattle.tup_parse.specs.Word.{is_file_word};
+ghost use Rattle.tup_parse.specs.RuleLine.{HasFileWords};
+ghost use Rattle.tup_parse.specs.Standing.{Stands};
+ghost use Rattle.tup_parse.specs.Reading as specs;
+
+use crate::blanks::{first_line, trim};
+use crate::fault::{ParseFault, ReadEnd};
+use crate::placed::Placed;
+use crate::rule_line::{Written, written_rule};
+use crate::standing::{Standing, standings};
+use std::alloc::{AllocError, Global};
+use std::collections::{BTreeMap, BTreeSet};
+use tup_lex::ParseKind;
+use tup_path::{Bytes, Items, Path, PathFault, Paths, Text};
+use tup_rule::{Rule, Rules};
+
+/// The rules of a project, given the paths of its sources and the content of the top's Tupfile.
+pub fn read_rules(alloc: Global, sources: &Paths, tupfile: Option<&Bytes>) -> Result<Rules, ReadEnd>
+    requires { IfSome tupfile (λ content. length content.now < 2 ^ 32) }
+    ensures { (result ≡ Err ReadEnd.Memory) ⊎ (result ≡ specs.rules_of sources.now (option_map (λ content. content.now) tupfile.entry)) }
+{
+    if sources.as_slice().iter().any(is_config) {
+        return Err(fault(alloc, "tup.config", 1, ParseKind::UnknownLine)?);
+    }
+    let content: &[u8] = match tupfile {
+        Some(bytes) => bytes.as_slice(),
+        None => &[],
+    };
+    let placed = read_lines(alloc, sources, content)?;
+    rules_behind(alloc, sources, placed)
+}
+
+fn is_config(path: &Path) -> bool
+    ensures { result ≡ same_path (codes "tup.config" ∷ []) path.now }
+{
+    match path.names() {
+        [name] => name.as_str() == "tup.config",
+        _ => false,
+    }
+}
+
+/// Whether a path is a Tupfile below the top directory.
+fn is_lower_tupfile(path: &Path) -> bool
+    ensures { result ≡ specs.is_lower_tupfile path.now }
+{
+    match path.names() {
+        [_, .., name] => name.as_str() == "Tupfile",
+        _ => false,
+    }
+}
+
+fn rules_behind(alloc: Global, sources: &Paths, placed: Vec<Placed>) -> Result<Rules, ReadEnd>
+    ensures { (result ≡ Err ReadEnd.Memory) ⊎ (result ≡ specs.rules_behind sources.now placed.items) }
+{
+    if let Some(file) = sources.as_slice().iter().find(|path| is_lower_tupfile(path)) {
+        return Err(lower_fault(alloc, file)?);
+    }
+    if let Some(line) = repeated(alloc, &placed)? {
+        return Err(fault(alloc, "Tupfile", line, ParseKind::DuplicateCommand)?);
+    }
+    Ok(rules_in(alloc, placed)?)
+}
+
+/// The line of the first rule with a command that an earlier one has.
+fn repeated(alloc: Global, placed: &[Placed]) -> Result<Option<u32>, AllocError>
+    ensures { IfOk result (λ line. line ≡ specs.repeated_at [] placed.now) }
+{
+    let mut texts = BTreeSet::new(alloc);
+    for Placed { line, rule } in placed {
+        if !texts.insert(rule.text.clone()?)? {
+            return Ok(Some(*line));
+        }
+    }
+    Ok(None)
+}
+
+fn rules_in(alloc: Global, placed: Vec<Placed>) -> Result<Rules, AllocError>
+    ensures { IfOk result (λ rules. rules ≡ specs.rules_in placed.items) }
+{
+    let mut rules = Items::new(alloc);
+    for Placed { rule, .. } in placed {
+        rules.push(rule)?;
+    }
+    Ok(rules)
+}
+
+/// The rules of a Tupfile's lines, each at its line, or the first fault.
+fn read_lines(alloc: Global, sources: &Paths, content: &[u8]) -> Result<Vec<Placed>, ReadEnd>
+    requires { length content.now < 2 ^ 32 }
+    ensures { let read = specs.read_lines sources.now 1 [] (slice_split (λ b. b == 10) content.now) in MatchResult result (λ placed. read ≡ Ok placed.items) (λ end. (end ≡ ReadEnd.Memory) ⊎ (read ≡ Err end)) }
+{
+    let mut names = standings(alloc, sources)?;
+    let mut placed = Vec::new(alloc);
+    let mut rest = content;
+    let mut line = 0;
+    while !rest.is_empty() {
+        let (text, more) = first_line(rest);
+        line += 1;
+        read_line(alloc, &mut names, &mut placed, line, text)?;
+        rest = more;
+    }
+    Ok(placed)
+}
+
+/// Reads one line, and adds its rule if it has one.
+fn read_line(alloc: Global, names: &mut BTreeMap<Text, Standing>, placed: &mut Vec<Placed>, line: u32, text: &[u8]) -> Result<(), ReadEnd>
+    ensures { (sources : List Names) → Stands names.old sources (specs.rules_in placed.old.items) → let read = specs.with_line sources line placed.old.items text.now in MatchResult result (λ _. (read ≡ Ok placed.new.items) × Stands names.new sources (specs.rules_in placed.new.items)) (λ end. (end ≡ ReadEnd.Memory) ⊎ (read ≡ Err end)) }
+{
+    let text = trim(text);
+    if matches!(text, [] | [b'#', ..]) {
+        return Ok(());
+    }
+    let Some(written) = written_rule(alloc, text)? else {
+        return Err(fault(alloc, "Tupfile", line, ParseKind::UnknownLine)?);
+    };
+    if let Some(kind) = rule_fault(names, &written) {
+        return Err(fault(alloc, "Tupfile", line, kind)?);
+    }
+    names.insert(written.output.clone()?, Standing::Output)?;
+    let rule = rule_of(alloc, written)?;
+    placed.push(Placed { line, rule })?;
+    Ok(())
+}
+
+/// What is wrong with a rule: first its inputs, then its output.
+fn rule_fault(names: &BTreeMap<Text, Standing>, written: &Written) -> Option<ParseKind>
+    ensures { (sources : List Names) (rules : List RuleValue) → Stands names.now sources rules → result ≡ specs.rule_fault sources rules written.now }
+{
+    if !written.inputs.as_slice().iter().all(|name| matches!(names.get(name), Some(Standing::Output | Standing::Source))) {
+        return Some(ParseKind::MissingInput);
+    }
+    match names.get(&written.output)? {
+        Standing::Output => Some(ParseKind::DuplicateOutput),
+        Standing::Source => Some(ParseKind::OutputIsSource),
+        Standing::Folder => Some(ParseKind::OutputIsDir),
+    }
+}
+
+/// The rule that a line has written, in the top directory.
+fn rule_of(alloc: Global, written: Written) -> Result<Rule, AllocError>
+    requires { HasFileWords written }
+    ensures { IfOk result (λ rule. rule ≡ specs.rule_of written) }
+{
+    let Written { inputs, command, output } = written;
+    let mut paths = Items::new(alloc);
+    for name in inputs.as_slice() {
+        paths.push(top_file(alloc, name)?)?;
+    }
+    let mut outputs = Items::new(alloc);
+    outputs.push(top_file(alloc, &output)?)?;
+    Ok(Rule {
+        dir: Path::top(alloc),
+        text: command,
+        display: None,
+        compare: false,
+        inputs: paths,
+        order: Items::new(alloc),
+        outputs,
+    })
+}
+
+/// The path of a file of the top directory.
+fn top_file(alloc: Global, name: &Text) -> Result<Path, AllocError>
+    requires { IsTrue (is_file_word name.now) }
+    ensures { IfOk result (λ path. path ≡ name.now ∷ []) }
+{
+    match Path::top(alloc).join(alloc, name) {
+        Ok(path) => Ok(path),
+        Err(PathFault::Memory) => Err(AllocError),
+        Err(_) => unreachable!(),
+    }
+}
+
+/// A fault in a file of the top directory.
+fn fault(alloc: Global, name: &str, line: u32, kind: ParseKind) -> Result<ReadEnd, AllocError>
+    requires { IsTrue (is_file_word name.now) }
+    ensures { IfOk result (λ end. end ≡ specs.fault_at [] (name.now ∷ []) line kind) }
+{
+    Ok(ReadEnd::Fault(ParseFault {
+        dir: Path::top(alloc),
+        file: top_file(alloc, &Text::from_str(alloc, name)?)?,
+        line,
+        kind,
+    }))
+}
+
+/// The fault of a Tupfile below the top directory, which isn't read yet.
+fn lower_fault(alloc: Global, file: &Path) -> Result<ReadEnd, AllocError>
+    ensures { IfOk result (λ end. end ≡ specs.fault_at (specs.folder_of file.now) file.now 1 ParseKind.UnknownLine) }
+{
+    let dir = match file.parent(alloc) {
+        Ok(Some(dir)) => dir,
+        Ok(None) => Path::top(alloc),
+        Err(_) => return Err(AllocError),
+    };
+    Ok(ReadEnd::Fault(ParseFault {
+        dir,
+        file: file.clone()?,
+        line: 1,
+        kind: ParseKind::UnknownLine,
+    }))
+}
+
+#[cfg(test)]
+mod tests;

@@ -1,0 +1,125 @@
+//! A rule line, taken apart.
+ghost use Rattle.std.specs.Prelude.{◌≡◌, ◌⊎◌, None, Some, Ok, Err, IfOk, IfSome, MatchOption, [], IsTrue};
+ghost use Rattle.tup_parse.specs.RuleLine as specs;
+ghost use Rattle.tup_mini.specs.Command.{command_of};
+ghost use Rattle.tup_mini.specs.Words.{words as words_of};
+
+use crate::blanks::{Parts, rule_parts, trim};
+use crate::distinct::Distinct;
+use crate::fault::ReadEnd;
+use crate::word::{file_word, is_reserved, is_status, words};
+use std::alloc::{AllocError, Global};
+use tup_mini::Command;
+use tup_path::{Bytes, Text};
+
+/// A rule as its line has it.
+#[derive(Drop)]
+pub(crate) struct Written {
+    pub(crate) inputs: Distinct,
+    pub(crate) command: Text,
+    pub(crate) output: Text,
+}
+
+/// The rule of a trimmed line, or `None` where the line is of no kind that is read.
+pub(crate) fn written_rule(alloc: Global, line: &[u8]) -> Result<Option<Written>, ReadEnd>
+    ensures value { (result ≡ Err ReadEnd.Memory) ⊎ (result ≡ Ok (specs.written_rule line.now)) }
+    ensures files { IfOk result (λ found. IfSome found specs.HasFileWords) }
+{
+    match line {
+        [b':', rest @ ..] => match rule_parts(rest) {
+            Some(parts) => written_in(alloc, parts),
+            None => Ok(None),
+        },
+        _ => Ok(None),
+    }
+}
+
+fn written_in(alloc: Global, parts: Parts<'_>) -> Result<Option<Written>, ReadEnd>
+    ensures value { (result ≡ Err ReadEnd.Memory) ⊎ (result ≡ Ok (specs.written_in (record { inputs = parts.entry.inputs.now; command = parts.entry.command.now; output = parts.entry.output.now }))) }
+    ensures files { IfOk result (λ found. IfSome found specs.HasFileWords) }
+{
+    let Some(inputs) = file_words(alloc, parts.inputs)? else {
+        return Ok(None);
+    };
+    let Some(output) = output(alloc, parts.output)? else {
+        return Ok(None);
+    };
+    let Some(command) = command_text(alloc, &inputs, &output, parts.command)? else {
+        return Ok(None);
+    };
+    Ok(Some(Written {
+        inputs,
+        command,
+        output,
+    }))
+}
+
+/// The words of a part, each once, or `None` where one of them is no name of a file.
+fn file_words(alloc: Global, part: &[u8]) -> Result<Option<Distinct>, AllocError>
+    ensures { IfOk result (λ found. found ≡ specs.file_words part.now) }
+{
+    let mut found = Distinct::new(alloc);
+    for word in words(alloc, part)?.into_vec() {
+        match file_word(word) {
+            Some(name) => found.add(name)?,
+            None => return Ok(None),
+        }
+    }
+    Ok(Some(found))
+}
+
+/// The single word of a part, or `None` where it may be no output.
+fn output(alloc: Global, part: &[u8]) -> Result<Option<Text>, AllocError>
+    ensures { IfOk result (λ found. found ≡ specs.output_of part.now) }
+{
+    let mut words = words(alloc, part)?.into_vec();
+    match (words.pop(), words.is_empty()) {
+        (Some(word), true) => Ok(file_word(word).filter(|name| !is_reserved(name))),
+        _ => Ok(None),
+    }
+}
+
+/// The text of a command that keeps to the files of its rule, or `None`.
+fn command_text(alloc: Global, inputs: &Distinct, output: &Text, part: &[u8]) -> Result<Option<Text>, ReadEnd>
+    ensures { (result ≡ Err ReadEnd.Memory) ⊎ (result ≡ Ok (specs.command_text inputs.now output.now part.now)) }
+{
+    let bytes = trim(part);
+    if !bytes.iter().all(u8::is_ascii) {
+        return Ok(None);
+    }
+    let Some(text) = Text::new(Bytes::new(Vec::from_slice(alloc, bytes)?)) else {
+        return Ok(None);
+    };
+    let kept = match read_command(alloc, &text) {
+        Ok(command) => keeps_to(alloc, inputs, output, &command, bytes)?,
+        Err(_) => return Err(ReadEnd::Memory),
+    };
+    Ok(if kept { Some(text) } else { None })
+}
+
+/// Whether a command reads inputs of its rule alone and writes its output, or is `fail N`.
+fn keeps_to(alloc: Global, inputs: &Distinct, output: &Text, command: &Command, text: &[u8]) -> Result<bool, AllocError>
+    ensures { IfOk result (λ kept. kept ≡ specs.keeps_to inputs.now output.now command.now (words_of text.now)) }
+{
+    match command {
+        Command::Copy { from, to } => Ok(inputs.has(from) && to == output),
+        Command::Join { from, to } => Ok(from.as_slice().iter().all(|name| inputs.has(name)) && to == output),
+        Command::Stop(_) => is_fail(alloc, text),
+    }
+}
+
+/// Whether a text is `fail N`.
+fn is_fail(alloc: Global, text: &[u8]) -> Result<bool, AllocError>
+    ensures { IfOk result (λ fails. fails ≡ specs.is_fail (words_of text.now)) }
+{
+    match words(alloc, text)?.as_slice() {
+        [name, status] => Ok(name.as_slice() == b"fail".as_slice() && is_status(status.as_slice())),
+        _ => Ok(false),
+    }
+}
+
+fn read_command(_alloc: Global, text: &Text) -> Result<Command, ReadEnd>
+    ensures { (result ≡ Err ReadEnd.Memory) ⊎ (result ≡ Ok (command_of text.now)) }
+{
+    Err(ReadEnd::Memory)
+}
