@@ -34,7 +34,7 @@ decimal_value front (d ∷ digits) = decimal_value (front * 10 + (d - 48)) digit
 abbrev pub status_of : List ℕ → ℕ
 status_of [] = 2
 status_of (d ∷ digits) =
-    if list_all is_digit (d ∷ digits) && nat_lt 48 d && nat_lt (length digits) 3 && nat_lt (decimal_value 0 (d ∷ digits)) 256
+    if list_all is_digit (d ∷ digits) && nat_lt 48 d && nat_lt (decimal_value 0 (d ∷ digits)) 256
     then decimal_value 0 (d ∷ digits)
     else 2
 

@@ -1,3 +1,5 @@
 pub mod Words
 pub mod Command
+pub mod Inputs
 pub mod Mini
+pub mod Laws
