@@ -1,5 +1,5 @@
 -- How a line is cut (own): blanks are spaces alone, and an arrow is `|>`.
-use Rattle.std.specs.Prelude.{ℕ, ◌==◌, ◌&&◌, if◌then◌else◌, List, [], ◌∷◌, Option, None, Some, option_map, reverse}
+use Rattle.std.specs.Prelude.{ℕ, ◌==◌, if◌then◌else◌, List, [], ◌∷◌, take, drop, Option, None, Some, option_map, reverse, codes, bytes_eq}
 
 -- a text from its first byte that is no blank
 abbrev pub without_front : List ℕ → List ℕ
@@ -13,10 +13,9 @@ trim text = reverse (without_front (reverse (without_front text)))
 -- what stands before the first arrow, and what behind it
 abbrev pub at_arrow : List ℕ → Option (List ℕ × List ℕ)
 at_arrow [] = None
-at_arrow (b ∷ []) = None
-at_arrow (b ∷ c ∷ rest) =
-    if (b == 124) && (c == 62) then Some ([], rest)
-    else option_map (λ (p : List ℕ × List ℕ). (b ∷ p.0, p.1)) (at_arrow (c ∷ rest))
+at_arrow (b ∷ rest) =
+    if bytes_eq (take 2 (b ∷ rest)) (codes "|>") then Some ([], drop 2 (b ∷ rest))
+    else option_map (λ (p : List ℕ × List ℕ). (b ∷ p.0, p.1)) (at_arrow rest)
 
 -- the parts of a text that has exactly two arrows
 pub record Parts : Type 0 where

@@ -16,7 +16,8 @@ use Rattle.tup_parse.specs.declared.standing.Standing.{Standing}
 use Rattle.tup_parse.specs.declared.standing.Standing.TheVariants.{Output, Source, Folder}
 use Rattle.tup_parse.specs.Blanks.{trim}
 use Rattle.tup_parse.specs.Word.{has_word}
-use Rattle.tup_parse.specs.RuleLine.{Written, written_rule, is_skipped}
+use Rattle.tup_parse.specs.declared.rule_line.Written.{Written}
+use Rattle.tup_parse.specs.RuleLine.{written_rule, is_skipped}
 use Rattle.tup_parse.specs.Standing.{standing}
 
 -- the rule that a line has written, in the top directory
@@ -45,20 +46,18 @@ output_fault (Some Source) = Some OutputIsSource
 output_fault (Some Folder) = Some OutputIsDir
 output_fault None = None
 
--- what is wrong with a rule behind others: first its inputs, then its output
-abbrev pub rule_fault : List Names → List Rule → Written → Option ParseKind
-rule_fault sources rules written =
-    if list_all (λ word. is_file (standing sources rules (word ∷ []))) written.inputs
-    then output_fault (standing sources rules (written.output ∷ []))
-    else Some MissingInput
+-- what is wrong with a rule, given what stands at each name: first its inputs, then its output
+abbrev pub rule_fault : (List ℕ → Option Standing) → Written → Option ParseKind
+rule_fault at written =
+    if list_all (λ word. is_file (at word)) written.inputs then output_fault (at written.output) else Some MissingInput
 
--- the rule of a line behind others; an empty line and a comment have none
-abbrev pub line_rule : List Names → List Rule → List ℕ → Result (Option Rule) ParseKind
-line_rule sources rules line =
+-- the rule that a line has, given what stands at each name; an empty line and a comment have none
+abbrev pub line_written : (List ℕ → Option Standing) → List ℕ → Result (Option Written) ParseKind
+line_written at line =
     if is_skipped (trim line) then Ok None
     else elim (written_rule (trim line)) [
       | None ↦ Err UnknownLine
-      | Some written ↦ elim (rule_fault sources rules written) [ Some kind ↦ Err kind | None ↦ Ok (Some (rule_of written)) ]
+      | Some written ↦ elim (rule_fault at written) [ Some kind ↦ Err kind | None ↦ Ok (Some written) ]
     ]
 
 abbrev pub rules_in : List Placed → List Rule
@@ -72,14 +71,16 @@ fault_at dir file line kind = Fault (record { dir = dir; file = file; line = lin
 abbrev pub top_tupfile : Names
 top_tupfile = codes "Tupfile" ∷ []
 
--- the rules behind a line, unless it has a fault
+-- the rules behind a line, given what the line has
+abbrev pub behind_line : ℕ → List Placed → Result (Option Written) ParseKind → Result (List Placed) ReadEnd
+behind_line line placed (Ok None) = Ok placed
+behind_line line placed (Ok (Some written)) = Ok (placed ++ record { line = line; rule = rule_of written } ∷ [])
+behind_line line placed (Err kind) = Err (fault_at [] top_tupfile line kind)
+
+-- the same, given the sources and the line itself
 abbrev pub with_line : List Names → ℕ → List Placed → List ℕ → Result (List Placed) ReadEnd
 with_line sources line placed text =
-    elim (line_rule sources (rules_in placed) text) [
-      | Err kind ↦ Err (fault_at [] top_tupfile line kind)
-      | Ok None ↦ Ok placed
-      | Ok (Some rule) ↦ Ok (placed ++ record { line = line; rule = rule } ∷ [])
-    ]
+    behind_line line placed (line_written (λ word. standing sources (rules_in placed) (word ∷ [])) text)
 
 -- the rules behind lines that are counted from a number on; the first fault stands
 abbrev pub read_lines : List Names → ℕ → List Placed → List (List ℕ) → Result (List Placed) ReadEnd

@@ -1,6 +1,6 @@
 -- The one kind of rule line that is read (own): `: INPUTS |> COMMAND |> OUTPUT`, where the command is
 -- `cp A B`, `cat A.. > B` or `fail N`, each A being one of the inputs and B the output.
-use Rattle.std.specs.Prelude.{◌≡◌, ℕ, Bool, true, false, not, ◌&&◌, ◌==◌, if◌then◌else◌, List, [], ◌∷◌, Option, None, Some, codes, bytes_eq}
+use Rattle.std.specs.Prelude.{◌≡◌, ℕ, Bool, true, not, ◌&&◌, ◌||◌, ◌==◌, if◌then◌else◌, List, [], length, drop, slice_index, slice_index_or, Option, None, Some, codes, bytes_eq}
 use Rattle.std.specs.Char.{is_ascii}
 use Rattle.std.specs.List.{list_all}
 use Rattle.tup_mini.specs.Words.{words}
@@ -15,18 +15,18 @@ use Rattle.tup_parse.specs.Word.{is_file_word, is_reserved, has_word, joined, is
 abbrev pub file_words : List ℕ → Option (List (List ℕ))
 file_words part = if list_all is_file_word (words part) then Some (joined [] (words part)) else None
 
+-- a word, where it may be an output
+abbrev pub output_word : List ℕ → Option (List ℕ)
+output_word word = if is_file_word word && not (is_reserved word) then Some word else None
+
 -- the single word of a part, where it may be an output
 abbrev pub output_of : List ℕ → Option (List ℕ)
-output_of part = single (words part)
-  where
-    single : List (List ℕ) → Option (List ℕ)
-    single (word ∷ []) = if is_file_word word && not (is_reserved word) then Some word else None
-    single words = None
+output_of part = if length (words part) == 1 then output_word (slice_index_or (words part) 0 []) else None
 
 -- whether words are `fail N`
 abbrev pub is_fail : List (List ℕ) → Bool
-is_fail (name ∷ status ∷ []) = bytes_eq name (codes "fail") && is_status status
-is_fail words = false
+is_fail words =
+    length words == 2 && bytes_eq (slice_index_or words 0 []) (codes "fail") && is_status (slice_index_or words 1 [])
 
 -- whether a command reads inputs of its rule alone, and writes its output
 abbrev pub keeps_to : List (List ℕ) → List ℕ → Command → List (List ℕ) → Bool
@@ -56,14 +56,12 @@ written_in parts =
 
 -- the rule of a trimmed line: a colon, and three parts with arrows between them
 abbrev pub written_rule : List ℕ → Option Written
-written_rule [] = None
-written_rule (b ∷ rest) =
-    if b == 58 then elim (parts_of rest) [ Some parts ↦ written_in parts | None ↦ None ] else None
+written_rule line =
+    if slice_index line 0 == 58 then elim (parts_of (drop 1 line)) [ Some parts ↦ written_in parts | None ↦ None ] else None
 
 -- whether a trimmed line is empty or a comment
 abbrev pub is_skipped : List ℕ → Bool
-is_skipped [] = true
-is_skipped (b ∷ bs) = b == 35
+is_skipped line = length line == 0 || slice_index line 0 == 35
 
 -- the inputs and the output of a rule are names of files
 pub record HasFileWords (written : Written) : Type 0 where

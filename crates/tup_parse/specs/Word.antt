@@ -1,5 +1,5 @@
 -- The words that a rule may have (own): names of files of the top directory, in letters that need no quoting.
-use Rattle.std.specs.Prelude.{ℕ, Bool, false, not, ◌&&◌, ◌||◌, ◌==◌, nat_le, nat_lt, if◌then◌else◌, List, [], ◌∷◌, ◌++◌, length, codes, bytes_eq}
+use Rattle.std.specs.Prelude.{ℕ, Bool, false, not, ◌&&◌, ◌||◌, ◌==◌, nat_le, nat_lt, if◌then◌else◌, List, [], ◌∷◌, ◌++◌, length, slice_index, codes, bytes_eq}
 use Rattle.std.specs.List.{list_all, list_any}
 use Rattle.tup_mini.specs.Command.{is_digit, decimal_value}
 
@@ -10,9 +10,9 @@ is_word_byte b =
 
 -- a word of 1 to 255 bytes that doesn't begin with a dot and isn't `foreach`
 abbrev pub is_file_word : List ℕ → Bool
-is_file_word [] = false
-is_file_word (b ∷ bs) =
-    list_all is_word_byte (b ∷ bs) && not (b == 46) && nat_lt (length bs) 255 && not (bytes_eq (b ∷ bs) (codes "foreach"))
+is_file_word word =
+    nat_le 1 (length word) && nat_le (length word) 255 && not (slice_index word 0 == 46)
+    && list_all is_word_byte word && not (bytes_eq word (codes "foreach"))
 
 -- the files that say what to build are never built
 abbrev pub is_reserved : List ℕ → Bool

@@ -44,19 +44,21 @@ pub(crate) fn first_line(text: &[u8]) -> (&[u8], &[u8])
         ⊎ ((slice_split (λ b. b == 10) text.now ≡ result.0.now ∷ []) × (result.1.now ≡ [])) }
     ensures shorter { 0 < length text.now → length result.1.now < length text.now }
 {
-    match text.iter().position(|byte| *byte == b'\n') {
-        Some(at) => (&text[..at], &text[at + 1..]),
-        None => (text, &[]),
+    for at in 0..text.len() {
+        if text[at] == b'\n' {
+            return (&text[..at], &text[at + 1..]);
+        }
     }
+    (text, &[])
 }
 
 /// What stands before the first arrow, and what behind it.
 fn at_arrow(text: &[u8]) -> Option<(&[u8], &[u8])>
     ensures { option_map (λ p. (p.0.now, p.1.now)) result ≡ specs.at_arrow text.now }
 {
-    for at in 1..text.len() {
-        if text[at - 1] == b'|' && text[at] == b'>' {
-            return Some((&text[..at - 1], &text[at + 1..]));
+    for at in 0..text.len() {
+        if let Some(rest) = text[at..].strip_prefix(b"|>") {
+            return Some((&text[..at], rest));
         }
     }
     None

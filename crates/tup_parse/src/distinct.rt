@@ -1,5 +1,5 @@
 //! Words without repetition.
-ghost use Rattle.std.specs.Prelude.{◌≡◌, ◌++◌, [], ◌∷◌, if◌then◌else◌, OnOk};
+ghost use Rattle.std.specs.Prelude.{◌≡◌, ◌++◌, [], ◌∷◌, if◌then◌else◌, IfOk};
 ghost use Rattle.tup_parse.specs.Word.{has_word};
 
 use std::alloc::{AllocError, Global};
@@ -35,14 +35,19 @@ impl Distinct {
         }
     }
 
-    /// Adds a word at the end, unless it is there.
-    pub(crate) fn add(&mut self, word: Text) -> Result<(), AllocError>
-        ensures { OnOk result (self.new ≡ (if has_word self.old word then self.old else self.old ++ word ∷ [])) }
+    /// The words with one more at the end, unless it is there.
+    pub(crate) fn with(self, word: Text) -> Result<Distinct, AllocError>
+        ensures { IfOk result (λ words. words ≡ (if has_word self word then self else self ++ word ∷ [])) }
     {
-        if self.known.insert(word.clone()?)? {
-            self.words.push(word)?;
+        let Distinct {
+            mut words,
+            mut known,
+        } = self;
+        if !known.insert(word.clone()?)? {
+            return Ok(Distinct { words, known });
         }
-        Ok(())
+        words.push(word)?;
+        Ok(Distinct { words, known })
     }
 
     pub(crate) fn has(&self, word: &Text) -> bool

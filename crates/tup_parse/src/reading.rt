@@ -1,9 +1,9 @@
 //! The rules of a project, read from its sources.
-ghost use Rattle.std.specs.Prelude.{◌≡◌, ◌⊎◌, ◌^◌, ◌<◌, ◌==◌, List, [], ◌∷◌, length, Err, IfOk, IfSome, IsTrue, MatchResult, codes, option_map};
-ghost use Rattle.std.specs.List.{slice_split};
-ghost use Rattle.tup_path.specs.Name.{Names};
-ghost use Rattle.tup_path.specs.Order.{same_path};
-ghost use Rattle.tup_rule.specs.declared.rule.Rule.{Rule as RuleValue};
+ghost use Rattle.std.specs.Prelude.{◌≡◌, ◌⊎◌, ◌^◌, ◌<◌, ◌==◌, ◌++◌, List, [], ◌∷◌, length, Some, Ok, Err, IfOk, OnOk, IfSome, IsTrue, MatchResult, codes, option_map, map as map_list};
+ghost use Rattle.std.specs.List.{list_all, slice_split};
+ghost use Rattle.std.specs.BTreeMap as map;
+ghost use Rattle.tup_path.specs.Name as name;
+ghost use Rattle.tup_path.specs.Order.{by_bytes, same_path};
 ghost use Rattle.tup_parse.specs.Word.{is_file_word};
 ghost use Rattle.tup_parse.specs.RuleLine.{HasFileWords};
 ghost use Rattle.tup_parse.specs.Standing.{Stands};
@@ -13,9 +13,9 @@ use crate::blanks::{first_line, trim};
 use crate::fault::{ParseFault, ReadEnd};
 use crate::placed::Placed;
 use crate::rule_line::{Written, written_rule};
-use crate::standing::{Standing, standings};
+use crate::standing::{Names, Standing, standings};
 use std::alloc::{AllocError, Global};
-use std::collections::{BTreeMap, BTreeSet};
+use std::collections::BTreeSet;
 use tup_lex::ParseKind;
 use tup_path::{Bytes, Items, Path, PathFault, Paths, Text};
 use tup_rule::{Rule, Rules};
@@ -83,11 +83,7 @@ fn repeated(alloc: Global, placed: &[Placed]) -> Result<Option<u32>, AllocError>
 fn rules_in(alloc: Global, placed: Vec<Placed>) -> Result<Rules, AllocError>
     ensures { IfOk result (λ rules. rules ≡ specs.rules_in placed.items) }
 {
-    let mut rules = Items::new(alloc);
-    for Placed { rule, .. } in placed {
-        rules.push(rule)?;
-    }
-    Ok(rules)
+    Ok(Items::from_vec(placed.into_iter().map(|p| p.rule).collect(alloc)?))
 }
 
 /// The rules of a Tupfile's lines, each at its line, or the first fault.
@@ -109,19 +105,40 @@ fn read_lines(alloc: Global, sources: &Paths, content: &[u8]) -> Result<Vec<Plac
 }
 
 /// Reads one line, and adds its rule if it has one.
-fn read_line(alloc: Global, names: &mut BTreeMap<Text, Standing>, placed: &mut Vec<Placed>, line: u32, text: &[u8]) -> Result<(), ReadEnd>
-    ensures { (sources : List Names) → Stands names.old sources (specs.rules_in placed.old.items) → let read = specs.with_line sources line placed.old.items text.now in MatchResult result (λ _. (read ≡ Ok placed.new.items) × Stands names.new sources (specs.rules_in placed.new.items)) (λ end. (end ≡ ReadEnd.Memory) ⊎ (read ≡ Err end)) }
+fn read_line(alloc: Global, names: &mut Names, placed: &mut Vec<Placed>, line: u32, text: &[u8]) -> Result<(), ReadEnd>
+    ensures { (sources : List name.Names) → Stands names.old sources (specs.rules_in placed.old.items) → let read = specs.with_line sources line placed.old.items text.now in MatchResult result (λ _. (read ≡ Ok placed.new.items) × Stands names.new sources (specs.rules_in placed.new.items)) (λ end. (end ≡ ReadEnd.Memory) ⊎ (read ≡ Err end)) }
+{
+    match line_written(alloc, names, text)? {
+        Ok(Some(written)) => Ok(add_rule(alloc, names, placed, line, written)?),
+        Ok(None) => Ok(()),
+        Err(kind) => Err(fault(alloc, "Tupfile", line, kind)?),
+    }
+}
+
+/// The rule that a line has, or what is wrong with the line; an empty line and a comment have none.
+fn line_written(alloc: Global, names: &Names, text: &[u8]) -> Result<Result<Option<Written>, ParseKind>, ReadEnd>
+    ensures value { (result ≡ Err ReadEnd.Memory) ⊎ (result ≡ Ok (specs.line_written (map.get by_bytes names.now) text.now)) }
+    ensures files { IfOk result (λ read. IfOk read (λ found. IfSome found HasFileWords)) }
 {
     let text = trim(text);
-    if matches!(text, [] | [b'#', ..]) {
-        return Ok(());
+    if text.is_empty() || text[0] == b'#' {
+        return Ok(Ok(None));
     }
     let Some(written) = written_rule(alloc, text)? else {
-        return Err(fault(alloc, "Tupfile", line, ParseKind::UnknownLine)?);
+        return Ok(Err(ParseKind::UnknownLine));
     };
-    if let Some(kind) = rule_fault(names, &written) {
-        return Err(fault(alloc, "Tupfile", line, kind)?);
+    match rule_fault(names, &written) {
+        Some(kind) => Ok(Err(kind)),
+        None => Ok(Ok(Some(written))),
     }
+}
+
+/// Adds a rule at its line; from now on its output stands where it is.
+fn add_rule(alloc: Global, names: &mut Names, placed: &mut Vec<Placed>, line: u32, written: Written) -> Result<(), AllocError>
+    requires { HasFileWords written }
+    ensures added { OnOk result (placed.new.items ≡ placed.old.items ++ record { line = line; rule = specs.rule_of written } ∷ []) }
+    ensures names { OnOk result (map.Updates by_bytes names.old names.new written.output (Some Standing.Output)) }
+{
     names.insert(written.output.clone()?, Standing::Output)?;
     let rule = rule_of(alloc, written)?;
     placed.push(Placed { line, rule })?;
@@ -129,16 +146,33 @@ fn read_line(alloc: Global, names: &mut BTreeMap<Text, Standing>, placed: &mut V
 }
 
 /// What is wrong with a rule: first its inputs, then its output.
-fn rule_fault(names: &BTreeMap<Text, Standing>, written: &Written) -> Option<ParseKind>
-    ensures { (sources : List Names) (rules : List RuleValue) → Stands names.now sources rules → result ≡ specs.rule_fault sources rules written.now }
+fn rule_fault(names: &Names, written: &Written) -> Option<ParseKind>
+    ensures { result ≡ specs.rule_fault (map.get by_bytes names.now) written.now }
 {
-    if !written.inputs.as_slice().iter().all(|name| matches!(names.get(name), Some(Standing::Output | Standing::Source))) {
+    if !are_files(names, written.inputs.as_slice()) {
         return Some(ParseKind::MissingInput);
     }
-    match names.get(&written.output)? {
-        Standing::Output => Some(ParseKind::DuplicateOutput),
-        Standing::Source => Some(ParseKind::OutputIsSource),
-        Standing::Folder => Some(ParseKind::OutputIsDir),
+    match names.get(&written.output) {
+        Some(Standing::Output) => Some(ParseKind::DuplicateOutput),
+        Some(Standing::Source) => Some(ParseKind::OutputIsSource),
+        Some(Standing::Folder) => Some(ParseKind::OutputIsDir),
+        None => None,
+    }
+}
+
+fn are_files(names: &Names, inputs: &[Text]) -> bool
+    ensures { result ≡ list_all (λ word. specs.is_file (map.get by_bytes names.now word)) inputs.now }
+{
+    inputs.iter().all(|name| is_file(names, name))
+}
+
+/// Whether a rule may read the file of a name: a source, or the output of a rule before it.
+fn is_file(names: &Names, name: &Text) -> bool
+    ensures { result ≡ specs.is_file (map.get by_bytes names.now name.now) }
+{
+    match names.get(name) {
+        Some(Standing::Output | Standing::Source) => true,
+        _ => false,
     }
 }
 
@@ -148,10 +182,6 @@ fn rule_of(alloc: Global, written: Written) -> Result<Rule, AllocError>
     ensures { IfOk result (λ rule. rule ≡ specs.rule_of written) }
 {
     let Written { inputs, command, output } = written;
-    let mut paths = Items::new(alloc);
-    for name in inputs.as_slice() {
-        paths.push(top_file(alloc, name)?)?;
-    }
     let mut outputs = Items::new(alloc);
     outputs.push(top_file(alloc, &output)?)?;
     Ok(Rule {
@@ -159,10 +189,22 @@ fn rule_of(alloc: Global, written: Written) -> Result<Rule, AllocError>
         text: command,
         display: None,
         compare: false,
-        inputs: paths,
+        inputs: top_files(alloc, inputs.as_slice())?,
         order: Items::new(alloc),
         outputs,
     })
+}
+
+/// The paths of files of the top directory.
+fn top_files(alloc: Global, names: &[Text]) -> Result<Paths, AllocError>
+    requires { IsTrue (list_all is_file_word names.now) }
+    ensures { IfOk result (λ paths. paths ≡ map_list (λ name. name ∷ []) names.now) }
+{
+    let mut paths = Items::new(alloc);
+    for name in names {
+        paths.push(top_file(alloc, name)?)?;
+    }
+    Ok(paths)
 }
 
 /// The path of a file of the top directory.
@@ -173,7 +215,7 @@ fn top_file(alloc: Global, name: &Text) -> Result<Path, AllocError>
     match Path::top(alloc).join(alloc, name) {
         Ok(path) => Ok(path),
         Err(PathFault::Memory) => Err(AllocError),
-        Err(_) => unreachable!(),
+        Err(PathFault::Empty | PathFault::Outside | PathFault::Hidden | PathFault::TooLong) => unreachable!(),
     }
 }
 

@@ -1,7 +1,6 @@
 //! A rule line, taken apart.
 ghost use Rattle.std.specs.Prelude.{◌≡◌, ◌⊎◌, None, Some, Ok, Err, IfOk, IfSome, MatchOption, [], IsTrue};
 ghost use Rattle.tup_parse.specs.RuleLine as specs;
-ghost use Rattle.tup_mini.specs.Command.{command_of};
 ghost use Rattle.tup_mini.specs.Words.{words as words_of};
 
 use crate::blanks::{Parts, rule_parts, trim};
@@ -61,7 +60,7 @@ fn file_words(alloc: Global, part: &[u8]) -> Result<Option<Distinct>, AllocError
     let mut found = Distinct::new(alloc);
     for word in words(alloc, part)?.into_vec() {
         match file_word(word) {
-            Some(name) => found.add(name)?,
+            Some(name) => found = found.with(name)?,
             None => return Ok(None),
         }
     }
@@ -72,10 +71,19 @@ fn file_words(alloc: Global, part: &[u8]) -> Result<Option<Distinct>, AllocError
 fn output(alloc: Global, part: &[u8]) -> Result<Option<Text>, AllocError>
     ensures { IfOk result (λ found. found ≡ specs.output_of part.now) }
 {
-    let mut words = words(alloc, part)?.into_vec();
-    match (words.pop(), words.is_empty()) {
-        (Some(word), true) => Ok(file_word(word).filter(|name| !is_reserved(name))),
+    match words(alloc, part)?.as_slice() {
+        [word] => Ok(output_word(word.clone()?)),
         _ => Ok(None),
+    }
+}
+
+/// A word as an output, or `None` where it may be none.
+fn output_word(word: Bytes) -> Option<Text>
+    ensures { result ≡ specs.output_word word }
+{
+    match file_word(word) {
+        Some(name) if !is_reserved(&name) => Some(name),
+        _ => None,
     }
 }
 
@@ -90,7 +98,7 @@ fn command_text(alloc: Global, inputs: &Distinct, output: &Text, part: &[u8]) ->
     let Some(text) = Text::new(Bytes::new(Vec::from_slice(alloc, bytes)?)) else {
         return Ok(None);
     };
-    let kept = match read_command(alloc, &text) {
+    let kept = match Command::read(alloc, &text) {
         Ok(command) => keeps_to(alloc, inputs, output, &command, bytes)?,
         Err(_) => return Err(ReadEnd::Memory),
     };
@@ -116,10 +124,4 @@ fn is_fail(alloc: Global, text: &[u8]) -> Result<bool, AllocError>
         [name, status] => Ok(name.as_slice() == b"fail".as_slice() && is_status(status.as_slice())),
         _ => Ok(false),
     }
-}
-
-fn read_command(_alloc: Global, text: &Text) -> Result<Command, ReadEnd>
-    ensures { (result ≡ Err ReadEnd.Memory) ⊎ (result ≡ Ok (command_of text.now)) }
-{
-    Err(ReadEnd::Memory)
 }

@@ -1,6 +1,6 @@
 //! What stands at the names of the top directory.
 ghost use Rattle.std.specs.Prelude.{◌++◌, [], ◌∷◌, List, IfOk, OnOk};
-ghost use Rattle.tup_path.specs.Name.{Names};
+ghost use Rattle.tup_path.specs.Name as name;
 ghost use Rattle.tup_parse.specs.Standing.{Stands};
 
 use std::alloc::{AllocError, Global};
@@ -18,8 +18,11 @@ pub(crate) enum Standing {
     Folder,
 }
 
+/// What stands at the names of the top directory.
+pub(crate) type Names = BTreeMap<Text, Standing>;
+
 /// What stands at each name of the top directory before the first rule is read.
-pub(crate) fn standings(alloc: Global, sources: &Paths) -> Result<BTreeMap<Text, Standing>, AllocError>
+pub(crate) fn standings(alloc: Global, sources: &Paths) -> Result<Names, AllocError>
     ensures { IfOk result (λ names. Stands names sources.now []) }
 {
     let mut names = BTreeMap::new(alloc);
@@ -29,8 +32,8 @@ pub(crate) fn standings(alloc: Global, sources: &Paths) -> Result<BTreeMap<Text,
     Ok(names)
 }
 
-fn add_source(names: &mut BTreeMap<Text, Standing>, path: &Path) -> Result<(), AllocError>
-    ensures { OnOk result ((sources : List Names) → Stands names.old sources [] → Stands names.new (sources ++ path.now ∷ []) []) }
+fn add_source(names: &mut Names, path: &Path) -> Result<(), AllocError>
+    ensures { OnOk result ((sources : List name.Names) → Stands names.old sources [] → Stands names.new (sources ++ path.now ∷ []) []) }
 {
     match path.names() {
         [] => {}

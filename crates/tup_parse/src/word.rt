@@ -1,5 +1,6 @@
 //! The words of a rule line.
 ghost use Rattle.std.specs.Prelude.{◌≡◌, ◌==◌, ◌&&◌, not, if◌then◌else◌, None, Some, Ok, Err, IfOk};
+ghost use Rattle.std.specs.List.{list_all};
 ghost use Rattle.tup_mini.specs.Words.{words as words_of};
 ghost use Rattle.tup_parse.specs.Word as specs;
 
@@ -34,10 +35,13 @@ pub(crate) fn file_word(word: Bytes) -> Option<Text>
 fn is_file_word(word: &[u8]) -> bool
     ensures { result ≡ specs.is_file_word word.now }
 {
-    match word {
-        [] | [b'.', ..] | b"foreach" => false,
-        _ => word.len() <= 255 && word.iter().all(|byte| is_word_byte(*byte)),
-    }
+    !word.is_empty() && word.len() <= 255 && word[0] != b'.' && has_word_bytes(word) && word != b"foreach".as_slice()
+}
+
+fn has_word_bytes(word: &[u8]) -> bool
+    ensures { result ≡ list_all specs.is_word_byte word.now }
+{
+    word.iter().all(|byte| is_word_byte(*byte))
 }
 
 fn is_word_byte(byte: u8) -> bool

@@ -1,0 +1,6 @@
+pub mod Cuts
+pub mod Lines
+pub mod Repeats
+pub mod Sets
+pub mod Stand
+pub mod Words
