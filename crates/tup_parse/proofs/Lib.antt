@@ -1,3 +1,4 @@
+pub mod Buildable
 pub mod Cuts
 pub mod Lines
 pub mod Repeats

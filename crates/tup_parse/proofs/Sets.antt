@@ -1,8 +1,9 @@
 -- Sets of words, one more word at a time.
-use Rattle.std.proofs.Common.{◌≡◌, ℕ, Bool, true, false, cond, ◌||◌, eqb, List, [], ◌∷◌, ◌++◌, length, take, drop, get_or, map, refl, ap, sym, ◌∙◌, subst, arith, rules}
+use Rattle.std.proofs.Common.{◌≡◌, ℕ, Bool, true, false, cond, not, ◌||◌, eqb, List, [], ◌∷◌, ◌++◌, length, take, drop, get_or, map, refl, ap, sym, ◌∙◌, subst, arith, rules}
 use Rattle.std.specs.BTreeSet as set
 use Rattle.std.specs.BTreeSet.{BTreeSet}
 use Rattle.std.specs.Str.{bytes_eq}
+use Rattle.std.proofs.lemmas.Bool.{not-true}
 use Rattle.std.proofs.lemmas.Slice.Eq.{bytes_eq-Decides}
 use Rattle.std.proofs.lemmas.List.Folds.{list_any-append}
 use Rattle.std.proofs.lemmas.Map.Text.{is_eq-slice_cmp}
@@ -44,3 +45,15 @@ knows_push old new words word knows updates = λ q.
     ∙ ap (λ b. cond b true (set.contains by_bytes old q)) (is_eq-slice_cmp word q)
     ∙ ap (λ b. cond (bytes_eq word q) true b) (knows q)
     ∙ sym (has_word-push words word q)
+
+-- the same, where the key is a copy of the word, and the longer list has a name
+pub knows_pushed : (old new : BTreeSet (List ℕ)) (words more : List (List ℕ)) (word key : List ℕ)
+    → Knows old words → set.Updates by_bytes old new key true → key ≡ word → more ≡ words ++ word ∷ [] → Knows new more
+knows_pushed old new words more word key knows updates e pushed =
+    subst (Knows new) (sym (pushed ∙ ap (λ w. words ++ w ∷ []) (sym e))) (knows_push old new words key knows updates)
+
+-- a word that a set took in wasn't among its words
+pub not_known : (known : BTreeSet (List ℕ)) (words : List (List ℕ)) (word key : List ℕ) (added : Bool)
+    → Knows known words → added ≡ not (set.contains by_bytes known key) → added ≡ true → key ≡ word → has_word words word ≡ false
+not_known known words word key added knows is taken e =
+    ap (has_word words) (sym e) ∙ sym (knows key) ∙ not-true (set.contains by_bytes known key) (sym is ∙ taken)

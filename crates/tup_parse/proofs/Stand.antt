@@ -1,5 +1,5 @@
 -- What stands at the names of the top, with one more source or one more rule.
-use Rattle.std.proofs.Common.{◌≡◌, ℕ, suc, ◌≤◌, ◌<◌, Bool, true, false, cond, ◌||◌, ◌&&◌, List, [], ◌∷◌, ◌++◌, length, get_or, Option, Some, None, refl, ap, sym, ◌∙◌, if◌then◌else◌, arith, rules}
+use Rattle.std.proofs.Common.{◌≡◌, ℕ, suc, ◌≤◌, ◌<◌, Bool, true, false, cond, ◌||◌, ◌&&◌, List, [], ◌∷◌, ◌++◌, length, get_or, Option, Some, None, refl, ap, sym, ◌∙◌, subst, if◌then◌else◌, arith, rules}
 use Rattle.std.specs.Option.{is_some}
 use Rattle.std.specs.BTreeMap as map
 use Rattle.std.specs.BTreeMap.{BTreeMap}
@@ -88,11 +88,11 @@ stands_source old new sources (x ∷ []) name stands l e updates = λ q.
     ∙ ap (λ n. standing (sources ++ (n ∷ []) ∷ []) [] (q ∷ [])) e
 
 at_same : (b : Bool) (s : Standing) (o : Option Standing) → (b ≡ true → o ≡ None) → cond b (Some s) o ≡ cond (cond b (is_some o) true) o (Some s)
-at_same true s o none = rw none refl refl
+at_same true s o none = rw (none refl) refl
 at_same false s o none = refl
 
 kept_by : (b : Bool) (s o : Option Standing) → (b ≡ true → is_some o ≡ true) → cond (cond b (is_some o) true) o s ≡ o
-kept_by true s o some = rw some refl refl
+kept_by true s o some = rw (some refl) refl
 kept_by false s o some = refl
 
 pub stands_folder : (old new : BTreeMap (List ℕ) Standing) (sources : List Names) (path : Names) (name : List ℕ)
@@ -139,3 +139,10 @@ stands_output old new sources rules rule name stands e updates = λ q.
     changed old new name Output updates q
     ∙ ap (λ o. cond (bytes_eq q name) (Some Output) o) (stands q)
     ∙ sym (with_output sources rules rule name q e)
+
+-- a name that was read from a path, and a copy of it
+pub name_read : (path names : Names) (name copy : List ℕ) → names ≡ path → name ≡ get_or names 0 name → copy ≡ name → copy ≡ get_or path 0 copy
+name_read path names name copy p r e = cc
+
+pub not_there : (names : BTreeMap (List ℕ) Standing) (name copy : List ℕ) → copy ≡ name → is_some (map.get by_bytes names name) ≡ false → is_some (map.get by_bytes names copy) ≡ false
+not_there names name copy e h = subst (λ (n : List ℕ). is_some (map.get by_bytes names n) ≡ false) (sym e) h

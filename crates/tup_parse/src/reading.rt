@@ -2,8 +2,11 @@
 ghost use Rattle.std.specs.Prelude.{◌≡◌, ◌⊎◌, ◌^◌, ◌<◌, ◌==◌, ◌++◌, List, [], ◌∷◌, length, Some, Ok, Err, IfOk, OnOk, IfSome, IsTrue, MatchResult, codes, option_map, map as map_list};
 ghost use Rattle.std.specs.List.{list_all, slice_split};
 ghost use Rattle.std.specs.BTreeMap as map;
+ghost use Rattle.std.specs.FinMap as finite;
 ghost use Rattle.tup_path.specs.Name as name;
+ghost use Rattle.tup_path.specs.Tree.{Tree, IsTree};
 ghost use Rattle.tup_path.specs.Order.{by_bytes, same_path};
+ghost use Rattle.tup_clean.specs.InOrder.{IsBuildable};
 ghost use Rattle.tup_parse.specs.Word.{is_file_word};
 ghost use Rattle.tup_parse.specs.RuleLine.{HasFileWords};
 ghost use Rattle.tup_parse.specs.Standing.{Stands};
@@ -20,8 +23,20 @@ use tup_lex::ParseKind;
 use tup_path::{Bytes, Items, Path, PathFault, Paths, Text};
 use tup_rule::{Rule, Rules};
 
-/// The rules of a project, given the paths of its sources and the content of the top's Tupfile.
+/// The rules of a project, given the paths of its sources and the content of the top's Tupfile if it is among
+/// them. They stand in the order of their lines, and each can be run after those before it.
+///
+/// `Fault` names the first fault in this order: a tup.config, a line of the Tupfile from top to bottom, a
+/// Tupfile below the top, and a command that two rules have.
 pub fn read_rules(alloc: Global, sources: &Paths, tupfile: Option<&Bytes>) -> Result<Rules, ReadEnd>
+    requires { IfSome tupfile (λ content. length content.now < 2 ^ 32) }
+    ensures read { (result ≡ Err ReadEnd.Memory) ⊎ (result ≡ specs.rules_of sources.now (option_map (λ content. content.now) tupfile.entry)) }
+    ensures buildable { IfOk result (λ rules. (tree : Tree) → finite.keys tree ≡ sources.now → IsTree tree → IsBuildable tree rules) }
+{
+    read_project(alloc, sources, tupfile)
+}
+
+fn read_project(alloc: Global, sources: &Paths, tupfile: Option<&Bytes>) -> Result<Rules, ReadEnd>
     requires { IfSome tupfile (λ content. length content.now < 2 ^ 32) }
     ensures { (result ≡ Err ReadEnd.Memory) ⊎ (result ≡ specs.rules_of sources.now (option_map (λ content. content.now) tupfile.entry)) }
 {
@@ -214,8 +229,17 @@ fn top_file(alloc: Global, name: &Text) -> Result<Path, AllocError>
 {
     match Path::top(alloc).join(alloc, name) {
         Ok(path) => Ok(path),
-        Err(PathFault::Memory) => Err(AllocError),
-        Err(PathFault::Empty | PathFault::Outside | PathFault::Hidden | PathFault::TooLong) => unreachable!(),
+        Err(fault) => Err(want_of_memory(fault)),
+    }
+}
+
+/// The one reason for which a path that is known to be one isn't made.
+fn want_of_memory(fault: PathFault) -> AllocError
+    requires { fault ≡ PathFault.Memory }
+{
+    match fault {
+        PathFault::Memory => AllocError,
+        _ => unreachable!(),
     }
 }
 
@@ -239,7 +263,7 @@ fn lower_fault(alloc: Global, file: &Path) -> Result<ReadEnd, AllocError>
     let dir = match file.parent(alloc) {
         Ok(Some(dir)) => dir,
         Ok(None) => Path::top(alloc),
-        Err(_) => return Err(AllocError),
+        Err(fault) => return Err(want_of_memory(fault)),
     };
     Ok(ReadEnd::Fault(ParseFault {
         dir,

@@ -1,5 +1,8 @@
 //! A rule line, taken apart.
-ghost use Rattle.std.specs.Prelude.{◌≡◌, ◌⊎◌, None, Some, Ok, Err, IfOk, IfSome, MatchOption, [], IsTrue};
+ghost use Rattle.std.specs.Prelude.{◌≡◌, ◌⊎◌, None, Some, Ok, Err, IfOk, IfSome, MatchOption, if◌then◌else◌};
+ghost use Rattle.std.specs.Char.{is_ascii};
+ghost use Rattle.std.specs.List.{list_all};
+ghost use Rattle.tup_parse.specs.Word.{has_word};
 ghost use Rattle.tup_parse.specs.RuleLine as specs;
 ghost use Rattle.tup_mini.specs.Words.{words as words_of};
 
@@ -58,8 +61,8 @@ fn file_words(alloc: Global, part: &[u8]) -> Result<Option<Distinct>, AllocError
     ensures { IfOk result (λ found. found ≡ specs.file_words part.now) }
 {
     let mut found = Distinct::new(alloc);
-    for word in words(alloc, part)?.into_vec() {
-        match file_word(word) {
+    for word in words(alloc, part)?.as_slice() {
+        match file_word(word.clone()?) {
             Some(name) => found = found.with(name)?,
             None => return Ok(None),
         }
@@ -91,18 +94,34 @@ fn output_word(word: Bytes) -> Option<Text>
 fn command_text(alloc: Global, inputs: &Distinct, output: &Text, part: &[u8]) -> Result<Option<Text>, ReadEnd>
     ensures { (result ≡ Err ReadEnd.Memory) ⊎ (result ≡ Ok (specs.command_text inputs.now output.now part.now)) }
 {
-    let bytes = trim(part);
-    if !bytes.iter().all(u8::is_ascii) {
-        return Ok(None);
-    }
-    let Some(text) = Text::new(Bytes::new(Vec::from_slice(alloc, bytes)?)) else {
+    let Some(text) = ascii_text(alloc, trim(part))? else {
         return Ok(None);
     };
-    let kept = match Command::read(alloc, &text) {
-        Ok(command) => keeps_to(alloc, inputs, output, &command, bytes)?,
+    let command = match Command::read(alloc, &text) {
+        Ok(command) => command,
         Err(_) => return Err(ReadEnd::Memory),
     };
-    Ok(if kept { Some(text) } else { None })
+    if keeps_to(alloc, inputs, output, &command, text.bytes().as_slice())? {
+        Ok(Some(text))
+    } else {
+        Ok(None)
+    }
+}
+
+/// A copy of ASCII bytes as a text, or `None` where one of them isn't ASCII.
+fn ascii_text(alloc: Global, bytes: &[u8]) -> Result<Option<Text>, AllocError>
+    ensures { IfOk result (λ text. text ≡ (if list_all is_ascii bytes.now then Some bytes.now else None)) }
+{
+    if !all_ascii(bytes) {
+        return Ok(None);
+    }
+    Ok(Text::new(Bytes::new(Vec::from_slice(alloc, bytes)?)))
+}
+
+fn all_ascii(bytes: &[u8]) -> bool
+    ensures { result ≡ list_all is_ascii bytes.now }
+{
+    bytes.iter().all(|byte| byte.is_ascii())
 }
 
 /// Whether a command reads inputs of its rule alone and writes its output, or is `fail N`.
@@ -111,9 +130,15 @@ fn keeps_to(alloc: Global, inputs: &Distinct, output: &Text, command: &Command, 
 {
     match command {
         Command::Copy { from, to } => Ok(inputs.has(from) && to == output),
-        Command::Join { from, to } => Ok(from.as_slice().iter().all(|name| inputs.has(name)) && to == output),
+        Command::Join { from, to } => Ok(has_all(inputs, from.as_slice()) && to == output),
         Command::Stop(_) => is_fail(alloc, text),
     }
+}
+
+fn has_all(inputs: &Distinct, names: &[Text]) -> bool
+    ensures { result ≡ list_all (has_word inputs.now) names.now }
+{
+    names.iter().all(|name| inputs.has(name))
 }
 
 /// Whether a text is `fail N`.
