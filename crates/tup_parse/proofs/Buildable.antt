@@ -26,10 +26,11 @@ use Rattle.tup_parse.specs.declared.standing.Standing.{Standing}
 use Rattle.tup_parse.specs.declared.standing.Standing.TheVariants.{Output, Source, Folder}
 use Rattle.tup_parse.specs.Word.{is_word_byte, is_file_word}
 use Rattle.tup_parse.specs.Blanks.{trim}
-use Rattle.tup_parse.specs.RuleLine.{written_rule, is_skipped, HasFileWords}
+use Rattle.tup_parse.specs.RuleLine.{written_rule, is_skipped, IsProper}
+use Rattle.tup_parse.specs.Plain.{IsPlain, ArePlain}
 use Rattle.tup_parse.specs.Standing.{is_below, standing}
 use Rattle.tup_parse.specs.Reading.{rule_of, is_file, output_fault, rule_fault, line_written, rules_in, fault_at, top_tupfile, behind_line, with_line, read_lines, lines_of, repeated_at, is_lower_tupfile, folder_of, rules_behind, rules_of}
-use Rattle.tup_parse.proofs.Words.{IsFileWord, file_word_facts, file_word_utf8, written_rule-files}
+use Rattle.tup_parse.proofs.Words.{IsFileWord, file_word_facts, file_word_utf8, written_rule-IsProper}
 
 -- a rule that was read behind others
 pub record IsReadBehind (sources : List Names) (before : List Rule) (rule : Rule) : Type 0 where
@@ -38,6 +39,7 @@ pub record IsReadBehind (sources : List Names) (before : List Rule) (rule : Rule
   pub word : is_file_word name ≡ true
   pub free : standing sources before (name ∷ []) ≡ None
   pub there : (path : Names) → declares rule path ≡ true → is_file (standing sources before path) ≡ true
+  pub plain : IsPlain rule
 
 -- each rule was read behind those before it
 pub record AreRead (sources : List Names) (rules : List Rule) : Type 0 where
@@ -127,12 +129,23 @@ rule_read sources rules line written e =
     let at : List ℕ → Option Standing = λ word. standing sources rules (word ∷ []) in
     let passed = line_passed at line written e in
     let clear = no_fault (list_all (λ word. is_file (at word)) written.inputs) (at written.output) passed.1 in
+    let proper = written_rule-IsProper (trim line) written passed.0 in
     record {
       name = written.output;
       outputs = refl;
-      word = (written_rule-files (trim line) written passed.0).output;
+      word = proper.output;
       free = clear.1;
-      there = λ path d. inputs_there (λ p. is_file (standing sources rules p)) written.inputs path clear.0 (declared_inputs written path d)
+      there = λ path d. inputs_there (λ p. is_file (standing sources rules p)) written.inputs path clear.0 (declared_inputs written path d);
+      plain = record {
+        dir = refl;
+        order = refl;
+        inputs = written.inputs;
+        output = written.output;
+        word = proper.output;
+        declared = refl;
+        written = refl;
+        command = proper.command
+      }
     }
 
 line_read : (sources : List Names) (line : ℕ) (placed next : List Placed) (r : Result (Option Written) ParseKind)
@@ -407,6 +420,19 @@ read-IsBuildable sources tupfile rules e tree keys good =
         let x : k.name ∷ [] ≡ [] = sym k.is ∙ top at path file a below in cc;
       in_order = λ at other rule path there d m. made_later sources rules are at other rule path there d m
     }
+
+pub read-ArePlain : (sources : List Names) (tupfile : Option Content) (rules : List Rule) → rules_of sources tupfile ≡ Ok rules → ArePlain rules
+read-ArePlain sources tupfile rules e =
+    let are = rules_read sources tupfile rules e in
+    record { each = λ at rule there. (are.each at rule there).plain }
+
+pub answer-ArePlain : (sources : List Names) (tupfile : Option Content) (r : Result (List Rule) ReadEnd) → (r ≡ Err Memory) ⊎ (r ≡ rules_of sources tupfile) → IfOk r ArePlain
+answer-ArePlain sources tupfile (Err end) h = tt
+answer-ArePlain sources tupfile (Ok rules) h =
+    elim h [
+      | inl memory ↦ cc
+      | inr value ↦ read-ArePlain sources tupfile rules (sym value)
+    ]
 
 -- the same of an answer, which may also be that there was no memory
 pub answer-IsBuildable : (sources : List Names) (tupfile : Option Content) (r : Result (List Rule) ReadEnd) → (r ≡ Err Memory) ⊎ (r ≡ rules_of sources tupfile)

@@ -15,10 +15,13 @@ use Rattle.tup_path.specs.declared.fault.PathFault.{PathFault}
 use Rattle.tup_path.specs.declared.fault.PathFault.TheVariants.{Memory}
 use Rattle.tup_path.specs.Resolve.{is_name_byte, is_visible, below}
 use Rattle.tup_mini.specs.Words.{words}
+use Rattle.tup_mini.specs.Command.{command_of}
+use Rattle.tup_parse.specs.declared.fault.ReadEnd.{ReadEnd}
+use Rattle.tup_parse.specs.declared.fault.ReadEnd.TheVariants.{Memory as NoMemory}
 use Rattle.tup_parse.specs.declared.rule_line.Written.{Written}
 use Rattle.tup_parse.specs.Word.{is_word_byte, is_file_word, is_reserved, has_word, joined}
-use Rattle.tup_parse.specs.Blanks.{Parts, parts_of}
-use Rattle.tup_parse.specs.RuleLine.{file_words, output_word, output_of, command_text, written_in, written_rule, HasFileWords}
+use Rattle.tup_parse.specs.Blanks.{trim, Parts, parts_of}
+use Rattle.tup_parse.specs.RuleLine.{file_words, output_word, output_of, keeps_to, command_text, written_in, written_rule, IsProper}
 
 byte_ascii : (b : ℕ) → is_word_byte b ≡ true → b < 128
 byte_ascii b e = grind (arith, nat_tests)
@@ -145,31 +148,37 @@ with_command inputs output c =
 abbrev with_output : List (List ℕ) → List ℕ → Option (List ℕ) → Option Written
 with_output inputs part o = elim o [ None ↦ None | Some output ↦ with_command inputs output (command_text inputs output part) ]
 
-command_files : (inputs : List (List ℕ)) (output : List ℕ) (c : Option (List ℕ)) (written : Written) → list_all is_file_word inputs ≡ true → is_file_word output ≡ true
-    → with_command inputs output c ≡ Some written → HasFileWords written
-command_files inputs output None written f g e = cc
-command_files inputs output (Some command) written f g e =
+command_keeps : (inputs : List (List ℕ)) (output part command : List ℕ) → command_text inputs output part ≡ Some command → keeps_to inputs output (command_of command) (words command) ≡ true
+command_keeps inputs output part command e =
+    let text = trim part in
+    let p = from_if (list_all is_ascii text && keeps_to inputs output (command_of text) (words text)) text command e in
+    subst (λ (t : List ℕ). keeps_to inputs output (command_of t) (words t) ≡ true) p.1 (and_parts (list_all is_ascii text) (keeps_to inputs output (command_of text) (words text)) p.0).1
+
+command_files : (inputs : List (List ℕ)) (output part : List ℕ) (c : Option (List ℕ)) (written : Written) → list_all is_file_word inputs ≡ true → is_file_word output ≡ true
+    → command_text inputs output part ≡ c → with_command inputs output c ≡ Some written → IsProper written
+command_files inputs output part None written f g h e = cc
+command_files inputs output part (Some command) written f g h e =
     let whole : Written = record { inputs = inputs; command = command; output = output } in
     let same : whole ≡ written = cc in
-    subst HasFileWords same (record { inputs = f; output = g })
+    subst IsProper same (record { inputs = f; output = g; command = command_keeps inputs output part command h })
 
 output_files : (inputs : List (List ℕ)) (part : List ℕ) (op : List ℕ) (o : Option (List ℕ)) (written : Written) → list_all is_file_word inputs ≡ true → output_of op ≡ o
-    → with_output inputs part o ≡ Some written → HasFileWords written
+    → with_output inputs part o ≡ Some written → IsProper written
 output_files inputs part op None written f h e = cc
-output_files inputs part op (Some output) written f h e = command_files inputs output (command_text inputs output part) written f (output_of-is op output h).0 e
+output_files inputs part op (Some output) written f h e = command_files inputs output part (command_text inputs output part) written f (output_of-is op output h).0 refl e
 
 parts_files : (parts : Parts) (i : Option (List (List ℕ))) (written : Written) → file_words parts.inputs ≡ i
-    → (elim i as (λ _. Option Written) [ None ↦ None | Some inputs ↦ with_output inputs parts.command (output_of parts.output) ]) ≡ Some written → HasFileWords written
+    → (elim i as (λ _. Option Written) [ None ↦ None | Some inputs ↦ with_output inputs parts.command (output_of parts.output) ]) ≡ Some written → IsProper written
 parts_files parts None written h e = cc
 parts_files parts (Some inputs) written h e =
     output_files inputs parts.command parts.output (output_of parts.output) written (file_words-are parts.inputs inputs h) refl e
 
-rest_files : (o : Option Parts) (written : Written) → (elim o as (λ _. Option Written) [ Some parts ↦ written_in parts | None ↦ None ]) ≡ Some written → HasFileWords written
+rest_files : (o : Option Parts) (written : Written) → (elim o as (λ _. Option Written) [ Some parts ↦ written_in parts | None ↦ None ]) ≡ Some written → IsProper written
 rest_files None written e = cc
 rest_files (Some parts) written e = parts_files parts (file_words parts.inputs) written refl e
 
-pub written_rule-files : (line : List ℕ) (written : Written) → written_rule line ≡ Some written → HasFileWords written
-written_rule-files line written e =
+pub written_rule-IsProper : (line : List ℕ) (written : Written) → written_rule line ≡ Some written → IsProper written
+written_rule-IsProper line written e =
     rest_files (parts_of (drop 1 line)) written (from_first (eqb (get_or line 0 0) 58) (elim (parts_of (drop 1 line)) [ Some parts ↦ written_in parts | None ↦ None ]) written e).1
 
 joined-step : (kept more : List (List ℕ)) (word : List ℕ) → joined kept (word ∷ more) ≡ joined (if has_word kept word then kept else kept ++ word ∷ []) more
@@ -215,3 +224,11 @@ words_bad items at word copy part r is l read same test none =
     let here : is_file_word (get_or items at word) ≡ false = subst (λ (w : List ℕ). is_file_word w ≡ false) (same ∙ read) bad in
     let all : list_all is_file_word (words part) ≡ false = subst (λ (xs : List (List ℕ)). list_all is_file_word xs ≡ false) is (list_all_at is_file_word items at word l here) in
     sym (cond-false (list_all is_file_word (words part)) (Some (joined [] (words part))) None all)
+
+-- the same of what the code answers
+pub proper_from : (line : List ℕ) (r : Result (Option Written) ReadEnd) (written : Written) → (r ≡ Err NoMemory) ⊎ (r ≡ Ok (written_rule line)) → r ≡ Ok (Some written) → IsProper written
+proper_from line r written h e =
+    elim h [
+      | inl memory ↦ cc
+      | inr value ↦ let same : written_rule line ≡ Some written = cc in written_rule-IsProper line written same
+    ]

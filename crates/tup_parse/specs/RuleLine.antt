@@ -63,7 +63,8 @@ written_rule line =
 abbrev pub is_skipped : List ℕ → Bool
 is_skipped line = length line == 0 || slice_index line 0 == 35
 
--- the inputs and the output of a rule are names of files
-pub record HasFileWords (written : Written) : Type 0 where
+-- what a rule line gives: names of files, and a command that keeps to them
+pub record IsProper (written : Written) : Type 0 where
   pub inputs : list_all is_file_word written.inputs ≡ true
   pub output : is_file_word written.output ≡ true
+  pub command : keeps_to written.inputs written.output (command_of written.command) (words written.command) ≡ true

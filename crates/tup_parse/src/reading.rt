@@ -8,7 +8,8 @@ ghost use Rattle.tup_path.specs.Tree.{Tree, IsTree};
 ghost use Rattle.tup_path.specs.Order.{by_bytes, same_path};
 ghost use Rattle.tup_clean.specs.InOrder.{IsBuildable};
 ghost use Rattle.tup_parse.specs.Word.{is_file_word};
-ghost use Rattle.tup_parse.specs.RuleLine.{HasFileWords};
+ghost use Rattle.tup_parse.specs.RuleLine.{IsProper};
+ghost use Rattle.tup_parse.specs.Plain.{ArePlain};
 ghost use Rattle.tup_parse.specs.Standing.{Stands};
 ghost use Rattle.tup_parse.specs.Reading as specs;
 
@@ -31,6 +32,7 @@ use tup_rule::{Rule, Rules};
 pub fn read_rules(alloc: Global, sources: &Paths, tupfile: Option<&Bytes>) -> Result<Rules, ReadEnd>
     requires { IfSome tupfile (λ content. length content.now < 2 ^ 32) }
     ensures read { (result ≡ Err ReadEnd.Memory) ⊎ (result ≡ specs.rules_of sources.now (option_map (λ content. content.now) tupfile.entry)) }
+    ensures plain { IfOk result ArePlain }
     ensures buildable { IfOk result (λ rules. (tree : Tree) → finite.keys tree ≡ sources.now → IsTree tree → IsBuildable tree rules) }
 {
     read_project(alloc, sources, tupfile)
@@ -133,7 +135,7 @@ fn read_line(alloc: Global, names: &mut Names, placed: &mut Vec<Placed>, line: u
 /// The rule that a line has, or what is wrong with the line; an empty line and a comment have none.
 fn line_written(alloc: Global, names: &Names, text: &[u8]) -> Result<Result<Option<Written>, ParseKind>, ReadEnd>
     ensures value { (result ≡ Err ReadEnd.Memory) ⊎ (result ≡ Ok (specs.line_written (map.get by_bytes names.now) text.now)) }
-    ensures files { IfOk result (λ read. IfOk read (λ found. IfSome found HasFileWords)) }
+    ensures proper { IfOk result (λ read. IfOk read (λ found. IfSome found IsProper)) }
 {
     let text = trim(text);
     if text.is_empty() || text[0] == b'#' {
@@ -150,7 +152,7 @@ fn line_written(alloc: Global, names: &Names, text: &[u8]) -> Result<Result<Opti
 
 /// Adds a rule at its line; from now on its output stands where it is.
 fn add_rule(alloc: Global, names: &mut Names, placed: &mut Vec<Placed>, line: u32, written: Written) -> Result<(), AllocError>
-    requires { HasFileWords written }
+    requires { IsProper written }
     ensures added { OnOk result (placed.new.items ≡ placed.old.items ++ record { line = line; rule = specs.rule_of written } ∷ []) }
     ensures names { OnOk result (map.Updates by_bytes names.old names.new written.output (Some Standing.Output)) }
 {
@@ -193,7 +195,7 @@ fn is_file(names: &Names, name: &Text) -> bool
 
 /// The rule that a line has written, in the top directory.
 fn rule_of(alloc: Global, written: Written) -> Result<Rule, AllocError>
-    requires { HasFileWords written }
+    requires { IsProper written }
     ensures { IfOk result (λ rule. rule ≡ specs.rule_of written) }
 {
     let Written { inputs, command, output } = written;

@@ -1,5 +1,5 @@
 //! A rule line, taken apart.
-ghost use Rattle.std.specs.Prelude.{◌≡◌, ◌⊎◌, None, Some, Ok, Err, IfOk, IfSome, MatchOption, if◌then◌else◌};
+ghost use Rattle.std.specs.Prelude.{◌≡◌, ◌⊎◌, None, Some, Ok, Err, IfOk, MatchOption, if◌then◌else◌};
 ghost use Rattle.std.specs.Char.{is_ascii};
 ghost use Rattle.std.specs.List.{list_all};
 ghost use Rattle.tup_parse.specs.Word.{has_word};
@@ -24,8 +24,7 @@ pub(crate) struct Written {
 
 /// The rule of a trimmed line, or `None` where the line is of no kind that is read.
 pub(crate) fn written_rule(alloc: Global, line: &[u8]) -> Result<Option<Written>, ReadEnd>
-    ensures value { (result ≡ Err ReadEnd.Memory) ⊎ (result ≡ Ok (specs.written_rule line.now)) }
-    ensures files { IfOk result (λ found. IfSome found specs.HasFileWords) }
+    ensures { (result ≡ Err ReadEnd.Memory) ⊎ (result ≡ Ok (specs.written_rule line.now)) }
 {
     match line {
         [b':', rest @ ..] => match rule_parts(rest) {
@@ -37,8 +36,7 @@ pub(crate) fn written_rule(alloc: Global, line: &[u8]) -> Result<Option<Written>
 }
 
 fn written_in(alloc: Global, parts: Parts<'_>) -> Result<Option<Written>, ReadEnd>
-    ensures value { (result ≡ Err ReadEnd.Memory) ⊎ (result ≡ Ok (specs.written_in (record { inputs = parts.entry.inputs.now; command = parts.entry.command.now; output = parts.entry.output.now }))) }
-    ensures files { IfOk result (λ found. IfSome found specs.HasFileWords) }
+    ensures { (result ≡ Err ReadEnd.Memory) ⊎ (result ≡ Ok (specs.written_in (record { inputs = parts.entry.inputs.now; command = parts.entry.command.now; output = parts.entry.output.now }))) }
 {
     let Some(inputs) = file_words(alloc, parts.inputs)? else {
         return Ok(None);
