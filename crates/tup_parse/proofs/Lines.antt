@@ -9,6 +9,7 @@ use Rattle.tup_path.specs.Order.{by_bytes}
 use Rattle.tup_lex.specs.declared.kind.ParseKind.{ParseKind}
 use Rattle.tup_rule.specs.declared.rule.Rule.{Rule}
 use Rattle.tup_parse.specs.declared.fault.ReadEnd.{ReadEnd}
+use Rattle.tup_parse.specs.declared.fault.ReadEnd.TheVariants.{Memory}
 use Rattle.tup_parse.specs.declared.placed.Placed.{Placed}
 use Rattle.tup_parse.specs.declared.rule_line.Written.{Written}
 use Rattle.tup_parse.specs.declared.standing.Standing.{Standing}
@@ -79,3 +80,34 @@ read_fault sources line placed rest text more end first e =
 pub read_end : (sources : List Names) (line : ℕ) (placed : List Placed) (rest : List ℕ) → length rest ≡ 0 → read_lines sources line placed (slice_split (λ b. eqb b 10) rest) ≡ Ok placed
 read_end sources line placed [] e = refl
 read_end sources line placed (b ∷ bs) e = absurd (omega arith)
+
+-- what a line has, from the answer of the code
+pub line_value : (names : BTreeMap (List ℕ) Standing) (text : List ℕ) (r : Result (Result (Option Written) ParseKind) ReadEnd) (v : Result (Option Written) ParseKind)
+    → (r ≡ Err Memory) ⊎ (r ≡ Ok (line_written (tree.get by_bytes names) text)) → r ≡ Ok v → line_written (tree.get by_bytes names) text ≡ v
+line_value names text r v h e =
+    elim h [
+      | inl memory ↦ cc
+      | inr value ↦ cc
+    ]
+
+next_line : (line : ℕ) → line + 1 ≡ suc line
+next_line line = omega arith
+
+pub lines_on : (sources : List Names) (line : ℕ) (placed next : List Placed) (rest text more content : List ℕ)
+    → (slice_split (λ b. eqb b 10) rest ≡ text ∷ slice_split (λ b. eqb b 10) more) ⊎ ((slice_split (λ b. eqb b 10) rest ≡ text ∷ []) × (more ≡ []))
+    → with_line sources (line + 1) placed text ≡ Ok next
+    → read_lines sources (suc line) placed (slice_split (λ b. eqb b 10) rest) ≡ read_lines sources 1 [] (slice_split (λ b. eqb b 10) content)
+    → read_lines sources (suc (line + 1)) next (slice_split (λ b. eqb b 10) more) ≡ read_lines sources 1 [] (slice_split (λ b. eqb b 10) content)
+lines_on sources line placed next rest text more content first e all =
+    read_on sources (line + 1) placed next rest text more first e ∙ ap (λ n. read_lines sources n placed (cut rest)) (next_line line) ∙ all
+
+pub lines_fault : (sources : List Names) (line : ℕ) (placed : List Placed) (rest text more content : List ℕ) (end : ReadEnd)
+    → (slice_split (λ b. eqb b 10) rest ≡ text ∷ slice_split (λ b. eqb b 10) more) ⊎ ((slice_split (λ b. eqb b 10) rest ≡ text ∷ []) × (more ≡ []))
+    → (end ≡ Memory) ⊎ (with_line sources (line + 1) placed text ≡ Err end)
+    → read_lines sources (suc line) placed (slice_split (λ b. eqb b 10) rest) ≡ read_lines sources 1 [] (slice_split (λ b. eqb b 10) content)
+    → (end ≡ Memory) ⊎ (read_lines sources 1 [] (slice_split (λ b. eqb b 10) content) ≡ Err end)
+lines_fault sources line placed rest text more content end first fault all =
+    elim fault [
+      | inl memory ↦ inl memory
+      | inr e ↦ inr (sym all ∙ sym (ap (λ n. read_lines sources n placed (cut rest)) (next_line line)) ∙ read_fault sources (line + 1) placed rest text more end first e)
+    ]
