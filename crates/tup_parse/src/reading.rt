@@ -1,11 +1,12 @@
 //! The rules of a project, read from its sources.
-ghost use Rattle.std.specs.Prelude.{◌≡◌, ◌⊎◌, ◌^◌, ◌<◌, ◌==◌, ◌++◌, List, [], ◌∷◌, length, Some, Ok, Err, IfOk, OnOk, IfSome, IsTrue, MatchResult, codes, option_map, map as map_list};
+ghost use Rattle.std.specs.Prelude.{◌≡◌, ◌⊎◌, ◌^◌, ◌<◌, ◌==◌, ◌++◌, List, [], ◌∷◌, length, find, Some, Ok, Err, IfOk, OnOk, IfSome, IsTrue, MatchResult, codes, option_map, map as map_list};
 ghost use Rattle.std.specs.List.{list_all, slice_split};
 ghost use Rattle.std.specs.BTreeMap as map;
 ghost use Rattle.std.specs.FinMap as finite;
 ghost use Rattle.tup_path.specs.Name as name;
 ghost use Rattle.tup_path.specs.Tree.{Tree, IsTree};
 ghost use Rattle.tup_path.specs.Order.{by_bytes, same_path};
+ghost use Rattle.tup_rule.specs.Rule.{among};
 ghost use Rattle.tup_clean.specs.InOrder.{IsBuildable};
 ghost use Rattle.tup_parse.specs.Word.{is_file_word};
 ghost use Rattle.tup_parse.specs.RuleLine.{IsProper};
@@ -42,15 +43,17 @@ fn read_project(alloc: Global, sources: &Paths, tupfile: Option<&Bytes>) -> Resu
     requires { IfSome tupfile (λ content. length content.now < 2 ^ 32) }
     ensures { (result ≡ Err ReadEnd.Memory) ⊎ (result ≡ specs.rules_of sources.now (option_map (λ content. content.now) tupfile.entry)) }
 {
-    if sources.as_slice().iter().any(is_config) {
+    if has_config(sources) {
         return Err(fault(alloc, "tup.config", 1, ParseKind::UnknownLine)?);
     }
-    let content: &[u8] = match tupfile {
-        Some(bytes) => bytes.as_slice(),
-        None => &[],
-    };
-    let placed = read_lines(alloc, sources, content)?;
+    let placed = read_tupfile(alloc, sources, tupfile)?;
     rules_behind(alloc, sources, placed)
+}
+
+fn has_config(sources: &Paths) -> bool
+    ensures { result ≡ among (codes "tup.config" ∷ []) sources.now }
+{
+    sources.as_slice().iter().any(|path| is_config(path))
 }
 
 fn is_config(path: &Path) -> bool
@@ -72,10 +75,17 @@ fn is_lower_tupfile(path: &Path) -> bool
     }
 }
 
+/// The first Tupfile below the top directory.
+fn lower_tupfile(sources: &Paths) -> Option<&Path>
+    ensures { option_map (λ file. file.now) result ≡ find specs.is_lower_tupfile sources.now }
+{
+    sources.as_slice().iter().find(|path| is_lower_tupfile(path))
+}
+
 fn rules_behind(alloc: Global, sources: &Paths, placed: Vec<Placed>) -> Result<Rules, ReadEnd>
     ensures { (result ≡ Err ReadEnd.Memory) ⊎ (result ≡ specs.rules_behind sources.now placed.items) }
 {
-    if let Some(file) = sources.as_slice().iter().find(|path| is_lower_tupfile(path)) {
+    if let Some(file) = lower_tupfile(sources) {
         return Err(lower_fault(alloc, file)?);
     }
     if let Some(line) = repeated(alloc, &placed)? {
@@ -103,7 +113,18 @@ fn rules_in(alloc: Global, placed: Vec<Placed>) -> Result<Rules, AllocError>
     Ok(Items::from_vec(placed.into_iter().map(|p| p.rule).collect(alloc)?))
 }
 
-/// The rules of a Tupfile's lines, each at its line, or the first fault.
+/// The rules of the top's Tupfile, each at its line, or the first fault.
+fn read_tupfile(alloc: Global, sources: &Paths, tupfile: Option<&Bytes>) -> Result<Vec<Placed>, ReadEnd>
+    requires { IfSome tupfile (λ content. length content.now < 2 ^ 32) }
+    ensures { let read = specs.read_lines sources.now 1 [] (specs.lines_of (option_map (λ content. content.now) tupfile.entry)) in MatchResult result (λ placed. read ≡ Ok placed.items) (λ end. (end ≡ ReadEnd.Memory) ⊎ (read ≡ Err end)) }
+{
+    match tupfile {
+        Some(content) => read_lines(alloc, sources, content.as_slice()),
+        None => Ok(Vec::new(alloc)),
+    }
+}
+
+/// The rules of lines, each at its line, or the first fault.
 fn read_lines(alloc: Global, sources: &Paths, content: &[u8]) -> Result<Vec<Placed>, ReadEnd>
     requires { length content.now < 2 ^ 32 }
     ensures { let read = specs.read_lines sources.now 1 [] (slice_split (λ b. b == 10) content.now) in MatchResult result (λ placed. read ≡ Ok placed.items) (λ end. (end ≡ ReadEnd.Memory) ⊎ (read ≡ Err end)) }
