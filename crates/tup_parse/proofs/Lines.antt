@@ -50,13 +50,16 @@ abbrev cut : List ℕ → List (List ℕ)
 cut text = slice_split (λ b. eqb b 10) text
 
 
+abbrev going_on : List Names → ℕ → List (List ℕ) → Result (List Placed) ReadEnd → Result (List Placed) ReadEnd
+going_on sources line lines r = elim r [ Ok next ↦ read_lines sources (suc line) next lines | Err end ↦ Err end ]
+
 step_ok : (sources : List Names) (line : ℕ) (placed next : List Placed) (text : List ℕ) (lines : List (List ℕ)) → with_line sources line placed text ≡ Ok next
     → read_lines sources line placed (text ∷ lines) ≡ read_lines sources (suc line) next lines
-step_ok sources line placed next text lines e = rw e refl
+step_ok sources line placed next text lines e = ap (going_on sources line lines) e
 
 step_err : (sources : List Names) (line : ℕ) (placed : List Placed) (text : List ℕ) (lines : List (List ℕ)) (end : ReadEnd) → with_line sources line placed text ≡ Err end
     → read_lines sources line placed (text ∷ lines) ≡ Err end
-step_err sources line placed text lines end e = rw e refl
+step_err sources line placed text lines end e = ap (going_on sources line lines) e
 
 pub read_on : (sources : List Names) (line : ℕ) (placed next : List Placed) (rest text more : List ℕ)
     → (slice_split (λ b. eqb b 10) rest ≡ text ∷ slice_split (λ b. eqb b 10) more) ⊎ ((slice_split (λ b. eqb b 10) rest ≡ text ∷ []) × (more ≡ []))
