@@ -40,12 +40,16 @@ unless-is : (sources : List Names) (tupfile : Option Content) → rules_of sourc
 unfolding rules_of
 unless-is sources tupfile = refl
 
+-- an answer that is the definition's, or that there was no memory
+abbrev pub IsAnswer : List Names → Option Content → Result (List Rule) ReadEnd → Type 0
+IsAnswer sources tupfile r = (r ≡ Err Memory) ⊎ (r ≡ rules_of sources tupfile)
+
 pub project_config : (sources : List Names) (tupfile : Option Content) (config : Bool) (end : ReadEnd) → config ≡ among (codes "tup.config" ∷ []) sources → config ≡ true
     → end ≡ fault_at [] (codes "tup.config" ∷ []) 1 UnknownLine → Err end ≡ rules_of sources tupfile
 project_config sources tupfile config end e there is = ap Err is ∙ sym (unless-is sources tupfile ∙ ap (unless sources tupfile) (sym e ∙ there))
 
 pub project_fault : (sources : List Names) (tupfile : Option Content) (config : Bool) (end : ReadEnd) → config ≡ among (codes "tup.config" ∷ []) sources → config ≡ false
-    → (end ≡ Memory) ⊎ (read_lines sources 1 [] (lines_of tupfile) ≡ Err end) → (Err {T = List Rule} end ≡ Err Memory) ⊎ (Err end ≡ rules_of sources tupfile)
+    → (end ≡ Memory) ⊎ (read_lines sources 1 [] (lines_of tupfile) ≡ Err end) → IsAnswer sources tupfile (Err end)
 project_fault sources tupfile config end e no_config h =
     elim h [
       | inl memory ↦ inl (ap Err memory)
