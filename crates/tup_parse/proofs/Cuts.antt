@@ -1,9 +1,9 @@
 -- Trims and cuts, one step at a time.
-use Rattle.std.proofs.Common.{◌≡◌, ℕ, suc, zero, ◌+◌, ◌-◌, ◌<◌, ◌≤◌, ◌⊎◌, Bool, true, false, cond, eqb, List, [], ◌∷◌, ◌++◌, length, take, drop, get_or, reverse, Option, Some, None, option_map, refl, ap, sym, ◌∙◌, subst, inl, inr, codes, arith, rules}
+use Rattle.std.proofs.Common.{◌≡◌, ℕ, ◌+◌, ◌-◌, ◌<◌, ◌≤◌, Bool, true, false, eqb, List, [], ◌∷◌, ◌++◌, length, take, drop, get_or, reverse, Option, Some, None, option_map, refl, ap, sym, ◌∙◌, subst, codes, arith}
 use Rattle.std.specs.List.{slice_split, All}
 use Rattle.std.proofs.lemmas.List.Elements.{All-push}
 use Rattle.std.proofs.lemmas.List.Splits.{slice_split_at, slice_split_none}
-use Rattle.std.proofs.lemmas.List.{take-append-drop, take_rest, append_assoc, reverse-append, reverse-reverse, drop_more, take_more, get_or-reverse, length-reverse, take_all}
+use Rattle.std.proofs.lemmas.List.{take-append-drop, take_rest, append_assoc, reverse-append, drop_more, take_more, take_all}
 use Rattle.std.specs.Str.{bytes_eq}
 use Rattle.tup_parse.specs.Blanks.{without_front, at_arrow}
 

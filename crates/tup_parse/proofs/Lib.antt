@@ -1,3 +1,4 @@
+pub mod Behind
 pub mod Buildable
 pub mod Cuts
 pub mod Lines

@@ -1,5 +1,5 @@
 -- Lines one after another: what the rules are behind each, and what stands then.
-use Rattle.std.proofs.Common.{◌≡◌, ℕ, suc, zero, ◌+◌, ◌≤◌, ◌<◌, ◌⊎◌, inl, inr, Bool, true, false, cond, eqb, List, [], ◌∷◌, ◌++◌, length, take, drop, get_or, map, Option, Some, None, Result, Ok, Err, MatchResult, refl, ap, sym, ◌∙◌, subst, codes, arith, rules}
+use Rattle.std.proofs.Common.{◌≡◌, ℕ, suc, ◌+◌, ◌⊎◌, inl, inr, eqb, List, [], ◌∷◌, ◌++◌, length, Option, Some, None, Result, Ok, Err, refl, ap, sym, ◌∙◌, subst, codes, arith, rules}
 use Rattle.std.specs.BTreeMap as tree
 use Rattle.std.specs.BTreeMap.{BTreeMap}
 use Rattle.std.specs.List.{slice_split}
@@ -15,7 +15,7 @@ use Rattle.tup_parse.specs.declared.rule_line.Written.{Written}
 use Rattle.tup_parse.specs.declared.standing.Standing.{Standing}
 use Rattle.tup_parse.specs.declared.standing.Standing.TheVariants.{Output}
 use Rattle.tup_parse.specs.Standing.{standing, Stands}
-use Rattle.tup_parse.specs.Reading.{rule_of, line_written, rules_in, fault_at, top_tupfile, behind_line, with_line, read_lines}
+use Rattle.tup_parse.specs.Reading.{rule_of, line_written, rules_in, fault_at, behind_line, with_line, read_lines}
 use Rattle.tup_parse.proofs.Stand.{stands_output}
 
 same_at : (names : BTreeMap (List ℕ) Standing) (sources : List Names) (rules : List Rule) → Stands names sources rules → (λ (word : List ℕ). standing sources rules (word ∷ [])) ≡ tree.get by_bytes names
@@ -32,9 +32,10 @@ pub line_some : (old new : BTreeMap (List ℕ) Standing) (sources : List Names) 
     → (with_line sources line placed text ≡ Ok more) × Stands new sources (rules_in more)
 line_some old new sources line placed more text written stands e pushed updates =
     let added : Placed = record { line = line; rule = rule_of written } in
-    let pushed_rules : rules_in more ≡ rules_in placed ++ rule_of written ∷ [] = ap rules_in pushed ∙ map_push (λ (p : Placed). p.rule) placed added in
-    (with_line-is old sources line placed text (Ok (Some written)) stands e ∙ ap Ok (sym pushed),
-    subst (Stands new sources) (sym pushed_rules) (stands_output old new sources (rules_in placed) (rule_of written) written.output stands refl updates))
+    let pushed_rules : rules_in more ≡ rules_in placed ++ rule_of written ∷ [] = ap rules_in pushed ∙ map_push (λ (p : Placed). p.rule) placed added in (
+      with_line-is old sources line placed text (Ok (Some written)) stands e ∙ ap Ok (sym pushed),
+      subst (Stands new sources) (sym pushed_rules) (stands_output old new sources (rules_in placed) (rule_of written) written.output stands refl updates),
+    )
 
 pub line_none : (names : BTreeMap (List ℕ) Standing) (sources : List Names) (line : ℕ) (placed : List Placed) (text : List ℕ)
     → Stands names sources (rules_in placed) → line_written (tree.get by_bytes names) text ≡ Ok None
@@ -48,7 +49,6 @@ line_fault names sources line placed text kind end stands e is = with_line-is na
 
 abbrev cut : List ℕ → List (List ℕ)
 cut text = slice_split (λ b. eqb b 10) text
-
 
 abbrev going_on : List Names → ℕ → List (List ℕ) → Result (List Placed) ReadEnd → Result (List Placed) ReadEnd
 going_on sources line lines r = elim r [ Ok next ↦ read_lines sources (suc line) next lines | Err end ↦ Err end ]

@@ -1,5 +1,5 @@
 -- The rules of a project, as the code comes to them.
-use Rattle.std.proofs.Common.{◌≡◌, ◌⊎◌, inl, inr, ℕ, Bool, true, false, List, [], ◌∷◌, Option, Some, None, Result, Ok, Err, MatchResult, refl, ap, sym, ◌∙◌, if◌then◌else◌, codes, rules}
+use Rattle.std.proofs.Common.{◌≡◌, ◌⊎◌, inl, inr, ℕ, Bool, true, false, List, [], ◌∷◌, Option, Some, None, Result, Ok, Err, refl, ap, sym, ◌∙◌, if◌then◌else◌, codes, rules}
 use Rattle.std.specs.List.{find}
 use Rattle.tup_path.specs.Name.{Names, Content}
 use Rattle.tup_lex.specs.declared.kind.ParseKind.TheVariants.{UnknownLine, DuplicateCommand}

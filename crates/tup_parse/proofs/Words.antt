@@ -1,5 +1,5 @@
 -- Words that name files: they are ASCII, and each is a path of one name.
-use Rattle.std.proofs.Common.{◌≡◌, ◌⊎◌, inl, inr, ℕ, suc, zero, ◌+◌, ◌-◌, ◌<◌, ◌≤◌, Bool, true, false, cond, not, ◌&&◌, eqb, ltb, leb, List, [], ◌∷◌, ◌++◌, length, take, drop, get_or, Option, Some, None, Result, Ok, Err, MatchOption, refl, ap, sym, ◌∙◌, subst, if◌then◌else◌, arith, rules}
+use Rattle.std.proofs.Common.{◌≡◌, ◌⊎◌, inl, inr, ℕ, suc, zero, ◌+◌, ◌<◌, ◌≤◌, Bool, true, false, cond, not, ◌&&◌, eqb, ltb, leb, List, [], ◌∷◌, ◌++◌, length, take, drop, get_or, Option, Some, None, Result, Ok, Err, MatchOption, refl, ap, sym, ◌∙◌, subst, if◌then◌else◌, arith}
 use Rattle.std.specs.List.{list_all, All}
 use Rattle.std.specs.Str.{IsUtf8}
 use Rattle.std.proofs.lemmas.Bool.{and_parts, and_from, cond-true, cond-false}
@@ -104,8 +104,8 @@ only_memory name top r fault e t h f =
     elim h [
       | inl memory ↦ cc
       | inr value ↦
-        let there : below top name ≡ Ok (name ∷ []) = rw t (below_word name e) in
-        cc
+          let there : below top name ≡ Ok (name ∷ []) = rw t (below_word name e) in
+          cc
     ]
 
 from_if : {X : Type 0} (b : Bool) (x y : X) → (if b then Some x else None) ≡ Some y → (b ≡ true) × (x ≡ y)
@@ -204,9 +204,10 @@ words_step items kept next at word copy name r l read same test some is files re
     let good : is_file_word word ≡ true = subst (λ (w : List ℕ). is_file_word w ≡ true) same p.0 in
     let front : take (at + 1) items ≡ take at items ++ word ∷ [] = take_more items at word l ∙ ap (λ w. take at items ++ w ∷ []) (sym read) in
     let back : drop at items ≡ word ∷ drop (at + 1) items = drop_more items at word l ∙ ap (λ w. w ∷ drop (at + 1) items) (sym read) in
-    let next_is : next ≡ (if has_word kept word then kept else kept ++ word ∷ []) = is ∙ ap (λ w. if has_word kept w then kept else kept ++ w ∷ []) named in
-    (ap (list_all is_file_word) front ∙ list_all-append is_file_word (take at items) (word ∷ []) ∙ and_from (list_all is_file_word (take at items)) (is_file_word word && true) files (and_from (is_file_word word) true good refl),
-    ap (λ k. joined k (drop (at + 1) items)) next_is ∙ sym (joined-step kept (drop (at + 1) items) word) ∙ ap (joined kept) (sym back) ∙ rest)
+    let next_is : next ≡ (if has_word kept word then kept else kept ++ word ∷ []) = is ∙ ap (λ w. if has_word kept w then kept else kept ++ w ∷ []) named in (
+      ap (list_all is_file_word) front ∙ list_all-append is_file_word (take at items) (word ∷ []) ∙ and_from (list_all is_file_word (take at items)) (is_file_word word && true) files (and_from (is_file_word word) true good refl),
+      ap (λ k. joined k (drop (at + 1) items)) next_is ∙ sym (joined-step kept (drop (at + 1) items) word) ∙ ap (joined kept) (sym back) ∙ rest,
+    )
 
 -- after the last word
 pub words_end : (items kept : List (List ℕ)) (at : ℕ) (part : List ℕ) → items ≡ words part → length items ≤ at

@@ -1,6 +1,6 @@
 -- The rules of the sources: the one Tupfile read from top to bottom, and the first fault. The kinds of fault and
 -- the files are the manual's, the order of faults is own. A Tupfile below the top and a tup.config aren't read yet.
-use Rattle.std.specs.Prelude.{ℕ, suc, Bool, true, false, not, ◌&&◌, ◌-◌, ◌==◌, nat_lt, if◌then◌else◌, List, [], ◌∷◌, ◌++◌, length, Option, None, Some, Result, Ok, Err, map, find, slice_get, unwrap_or, codes, bytes_eq}
+use Rattle.std.specs.Prelude.{ℕ, suc, Bool, true, false, ◌&&◌, ◌-◌, ◌==◌, nat_lt, if◌then◌else◌, List, [], ◌∷◌, ◌++◌, length, Option, None, Some, Result, Ok, Err, map, find, slice_get, unwrap_or, codes, bytes_eq}
 use Rattle.std.specs.Result.{result_ok}
 use Rattle.std.specs.List.{list_all, slice_split}
 use Rattle.tup_path.specs.Name.{Names, Content}
@@ -30,7 +30,7 @@ rule_of written =
       compare = false;
       inputs = map (λ word. word ∷ []) written.inputs;
       order = [];
-      outputs = (written.output ∷ []) ∷ []
+      outputs = (written.output ∷ []) ∷ [];
     }
 
 -- whether a rule may read a path: a source, or an output of a rule before it

@@ -79,7 +79,10 @@ fn is_lower_tupfile(path: &Path) -> bool
 fn lower_tupfile(sources: &Paths) -> Option<&Path>
     ensures { option_map (λ file. file.now) result ≡ find specs.is_lower_tupfile sources.now }
 {
-    sources.as_slice().iter().find(|path| is_lower_tupfile(path))
+    sources
+        .as_slice()
+        .iter()
+        .find(|path| is_lower_tupfile(path))
 }
 
 fn rules_behind(alloc: Global, sources: &Paths, placed: Vec<Placed>) -> Result<Rules, ReadEnd>
@@ -114,7 +117,11 @@ fn rules_in(alloc: Global, placed: Vec<Placed>) -> Result<Rules, AllocError>
 }
 
 /// The rules of the top's Tupfile, each at its line, or the first fault.
-fn read_tupfile(alloc: Global, sources: &Paths, tupfile: Option<&Bytes>) -> Result<Vec<Placed>, ReadEnd>
+fn read_tupfile(
+    alloc: Global,
+    sources: &Paths,
+    tupfile: Option<&Bytes>,
+) -> Result<Vec<Placed>, ReadEnd>
     requires { IfSome tupfile (λ content. length content.now < 2 ^ 32) }
     ensures { let read = specs.read_lines sources.now 1 [] (specs.lines_of (option_map (λ content. content.now) tupfile.entry)) in MatchResult result (λ placed. read ≡ Ok placed.items) (λ end. (end ≡ ReadEnd.Memory) ⊎ (read ≡ Err end)) }
 {
@@ -143,7 +150,13 @@ fn read_lines(alloc: Global, sources: &Paths, content: &[u8]) -> Result<Vec<Plac
 }
 
 /// Reads one line, and adds its rule if it has one.
-fn read_line(alloc: Global, names: &mut Names, placed: &mut Vec<Placed>, line: u32, text: &[u8]) -> Result<(), ReadEnd>
+fn read_line(
+    alloc: Global,
+    names: &mut Names,
+    placed: &mut Vec<Placed>,
+    line: u32,
+    text: &[u8],
+) -> Result<(), ReadEnd>
     ensures { (sources : List name.Names) → Stands names.old sources (specs.rules_in placed.old.items) → let read = specs.with_line sources line placed.old.items text.now in MatchResult result (λ _. (read ≡ Ok placed.new.items) × Stands names.new sources (specs.rules_in placed.new.items)) (λ end. (end ≡ ReadEnd.Memory) ⊎ (read ≡ Err end)) }
 {
     match line_written(alloc, names, text)? {
@@ -154,7 +167,11 @@ fn read_line(alloc: Global, names: &mut Names, placed: &mut Vec<Placed>, line: u
 }
 
 /// The rule that a line has, or what is wrong with the line; an empty line and a comment have none.
-fn line_written(alloc: Global, names: &Names, text: &[u8]) -> Result<Result<Option<Written>, ParseKind>, ReadEnd>
+fn line_written(
+    alloc: Global,
+    names: &Names,
+    text: &[u8],
+) -> Result<Result<Option<Written>, ParseKind>, ReadEnd>
     ensures value { (result ≡ Err ReadEnd.Memory) ⊎ (result ≡ Ok (specs.line_written (map.get by_bytes names.now) text.now)) }
     ensures proper { IfOk result (λ read. IfOk read (λ found. IfSome found IsProper)) }
 {
@@ -172,7 +189,13 @@ fn line_written(alloc: Global, names: &Names, text: &[u8]) -> Result<Result<Opti
 }
 
 /// Adds a rule at its line; from now on its output stands where it is.
-fn add_rule(alloc: Global, names: &mut Names, placed: &mut Vec<Placed>, line: u32, written: Written) -> Result<(), AllocError>
+fn add_rule(
+    alloc: Global,
+    names: &mut Names,
+    placed: &mut Vec<Placed>,
+    line: u32,
+    written: Written,
+) -> Result<(), AllocError>
     requires { IsProper written }
     ensures added { OnOk result (placed.new.items ≡ placed.old.items ++ record { line = line; rule = specs.rule_of written } ∷ []) }
     ensures names { OnOk result (map.Updates by_bytes names.old names.new written.output (Some Standing.Output)) }
@@ -219,7 +242,11 @@ fn rule_of(alloc: Global, written: Written) -> Result<Rule, AllocError>
     requires { IsProper written }
     ensures { IfOk result (λ rule. rule ≡ specs.rule_of written) }
 {
-    let Written { inputs, command, output } = written;
+    let Written {
+        inputs,
+        command,
+        output,
+    } = written;
     let mut outputs = Items::new(alloc);
     outputs.push(top_file(alloc, &output)?)?;
     Ok(Rule {

@@ -89,7 +89,12 @@ fn output_word(word: Bytes) -> Option<Text>
 }
 
 /// The text of a command that keeps to the files of its rule, or `None`.
-fn command_text(alloc: Global, inputs: &Distinct, output: &Text, part: &[u8]) -> Result<Option<Text>, ReadEnd>
+fn command_text(
+    alloc: Global,
+    inputs: &Distinct,
+    output: &Text,
+    part: &[u8],
+) -> Result<Option<Text>, ReadEnd>
     ensures { (result ≡ Err ReadEnd.Memory) ⊎ (result ≡ Ok (specs.command_text inputs.now output.now part.now)) }
 {
     let Some(text) = ascii_text(alloc, trim(part))? else {
@@ -123,7 +128,13 @@ fn all_ascii(bytes: &[u8]) -> bool
 }
 
 /// Whether a command reads inputs of its rule alone and writes its output, or is `fail N`.
-fn keeps_to(alloc: Global, inputs: &Distinct, output: &Text, command: &Command, text: &[u8]) -> Result<bool, AllocError>
+fn keeps_to(
+    alloc: Global,
+    inputs: &Distinct,
+    output: &Text,
+    command: &Command,
+    text: &[u8],
+) -> Result<bool, AllocError>
     ensures { IfOk result (λ kept. kept ≡ specs.keeps_to inputs.now output.now command.now (words_of text.now)) }
 {
     match command {

@@ -35,7 +35,11 @@ pub(crate) fn file_word(word: Bytes) -> Option<Text>
 fn is_file_word(word: &[u8]) -> bool
     ensures { result ≡ specs.is_file_word word.now }
 {
-    !word.is_empty() && word.len() <= 255 && word[0] != b'.' && has_word_bytes(word) && word != b"foreach".as_slice()
+    !word.is_empty()
+        && word.len() <= 255
+        && word[0] != b'.'
+        && has_word_bytes(word)
+        && word != b"foreach".as_slice()
 }
 
 fn has_word_bytes(word: &[u8]) -> bool
@@ -64,7 +68,9 @@ pub(crate) fn is_status(word: &[u8]) -> bool
     match word {
         [b'1'..=b'9'] => true,
         [b'1'..=b'9', d] => d.is_ascii_digit(),
-        [h @ b'1'..=b'9', t, d] => t.is_ascii_digit() && d.is_ascii_digit() && [*h, *t, *d] <= *b"255",
+        [h @ b'1'..=b'9', t, d] => t.is_ascii_digit()
+            && d.is_ascii_digit()
+            && [*h, *t, *d] <= *b"255",
         _ => false,
     }
 }

@@ -26,7 +26,13 @@ fn shown(alloc: Global, read: Result<Rules, ReadEnd>) -> Result<String, Fail> {
         Err(ReadEnd::Memory) => Ok(String::from_str(alloc, "no memory")?),
         Err(ReadEnd::Fault(fault)) => {
             let (dir, file) = (fault.dir.show(alloc)?, fault.file.show(alloc)?);
-            Ok(format!(in alloc; "{} {}:{} {}", dir.as_str(), file.as_str(), fault.line, fault.kind)?)
+            Ok(format!(in alloc;
+                "{} {}:{} {}",
+                dir.as_str(),
+                file.as_str(),
+                fault.line,
+                fault.kind
+            )?)
         }
     }
 }
@@ -56,13 +62,25 @@ fn rules(rt: HostRuntime) -> Result<(), Fail> {
         (b": a |> cp a b |> b\n", "cp a b < a > b;"),
         (b":a|>cp a b|>b", "cp a b < a > b;"),
         (b"  :  a  |>  cp  a   b  |>  b  ", "cp  a   b < a > b;"),
-        (b": a b-1.c a |> cat a b-1.c a > x |> x", "cat a b-1.c a > x < a b-1.c > x;"),
+        (
+            b": a b-1.c a |> cat a b-1.c a > x |> x",
+            "cat a b-1.c a > x < a b-1.c > x;",
+        ),
         (b": |> cat > x |> x", "cat > x < > x;"),
         (b": a |> fail 255 |> x", "fail 255 < a > x;"),
         (b": |> fail 1 |> x", "fail 1 < > x;"),
-        (b": a |> cp a b |> b\n\n: b |> cp b c |> c\n", "cp a b < a > b;cp b c < b > c;"),
-        (b": Tupfile |> cp Tupfile copy |> copy", "cp Tupfile copy < Tupfile > copy;"),
-        (b": a |> cp a for-each |> for-each", "cp a for-each < a > for-each;"),
+        (
+            b": a |> cp a b |> b\n\n: b |> cp b c |> c\n",
+            "cp a b < a > b;cp b c < b > c;",
+        ),
+        (
+            b": Tupfile |> cp Tupfile copy |> copy",
+            "cp Tupfile copy < Tupfile > copy;",
+        ),
+        (
+            b": a |> cp a for-each |> for-each",
+            "cp a for-each < a > for-each;",
+        ),
         (b": a |> cp a _.-9Z |> _.-9Z", "cp a _.-9Z < a > _.-9Z;"),
         (b": a |> cp a - |> -", "cp a - < a > -;"),
     ];
@@ -120,19 +138,40 @@ fn unknown_lines(rt: HostRuntime) -> Result<(), Fail> {
 fn faults(rt: HostRuntime) -> Result<(), Fail> {
     let alloc = rt.alloc();
     let table: [(&[u8], &str); 15] = [
-        (b"# one\n\n  \n: a |> cp a b |> b c", ". Tupfile:4 unknown line"),
+        (
+            b"# one\n\n  \n: a |> cp a b |> b c",
+            ". Tupfile:4 unknown line",
+        ),
         (b": no |> cp no b |> b", ". Tupfile:1 missing input"),
         (b": d |> cp d b |> b", ". Tupfile:1 missing input"),
         (b": no a |> cp a a |> a", ". Tupfile:1 missing input"),
-        (b": b |> cp b c |> c\n: a |> cp a b |> b", ". Tupfile:1 missing input"),
+        (
+            b": b |> cp b c |> c\n: a |> cp a b |> b",
+            ". Tupfile:1 missing input",
+        ),
         (b": b |> cp b b |> b", ". Tupfile:1 missing input"),
-        (b": a |> cp a b |> b\n#\n: |> cat > b |> b", ". Tupfile:3 output named twice"),
+        (
+            b": a |> cp a b |> b\n#\n: |> cat > b |> b",
+            ". Tupfile:3 output named twice",
+        ),
         (b": a |> cp a a |> a", ". Tupfile:1 output is a source file"),
         (b": a |> cp a d |> d", ". Tupfile:1 output is a directory"),
-        (b": a |> fail 3 |> b\n: a |> fail 3 |> c\n: |> fail 3 |> d1", ". Tupfile:2 command given twice"),
-        (b": a |> fail 3 |> b\n: |> fail 4 |> c\n: a |> fail 4 |> e\n: |> fail 3 |> f", ". Tupfile:3 command given twice"),
-        (b": a |> fail 3 |> b\n: a |> fail 3 |> c\nx", ". Tupfile:3 unknown line"),
-        (b": a |> fail  3 |> b\n: a |> fail 3 |> c", "fail  3 < a > b;fail 3 < a > c;"),
+        (
+            b": a |> fail 3 |> b\n: a |> fail 3 |> c\n: |> fail 3 |> d1",
+            ". Tupfile:2 command given twice",
+        ),
+        (
+            b": a |> fail 3 |> b\n: |> fail 4 |> c\n: a |> fail 4 |> e\n: |> fail 3 |> f",
+            ". Tupfile:3 command given twice",
+        ),
+        (
+            b": a |> fail 3 |> b\n: a |> fail 3 |> c\nx",
+            ". Tupfile:3 unknown line",
+        ),
+        (
+            b": a |> fail  3 |> b\n: a |> fail 3 |> c",
+            "fail  3 < a > b;fail 3 < a > c;",
+        ),
         (b"x\n: no |> cp no b |> b", ". Tupfile:1 unknown line"),
         (b": a |> fail x |> a", ". Tupfile:1 unknown line"),
     ];
@@ -149,17 +188,36 @@ fn other_files(rt: HostRuntime) -> Result<(), Fail> {
     let twice = Bytes::new(Vec::from_slice(alloc, b": |> fail 1 |> x\n: |> fail 1 |> y")?);
     let none = Bytes::new(Vec::new(alloc));
     let table: [(&[&str], &Bytes, &str); 6] = [
-        (&["Tupfile", "tup.config"], &unknown, ". tup.config:1 unknown line"),
-        (&["Tupfile", "a/Tupfile"], &unknown, ". Tupfile:1 unknown line"),
-        (&["Tupfile", "a/b/Tupfile", "a/c", "b/Tupfile"], &twice, "a/b a/b/Tupfile:1 unknown line"),
+        (
+            &["Tupfile", "tup.config"],
+            &unknown,
+            ". tup.config:1 unknown line",
+        ),
+        (
+            &["Tupfile", "a/Tupfile"],
+            &unknown,
+            ". Tupfile:1 unknown line",
+        ),
+        (
+            &["Tupfile", "a/b/Tupfile", "a/c", "b/Tupfile"],
+            &twice,
+            "a/b a/b/Tupfile:1 unknown line",
+        ),
         (&["Tupfile", "Tupfile.d/x", "a/tup.config"], &none, ""),
         (&["a/Tupfile/x", "b/Tuprules.tup"], &none, ""),
-        (&["Tupfile", "b/Tupfile"], &none, "b b/Tupfile:1 unknown line"),
+        (
+            &["Tupfile", "b/Tupfile"],
+            &none,
+            "b b/Tupfile:1 unknown line",
+        ),
     ];
     for (sources, tupfile, want) in table {
         let read = read_rules(alloc, &paths(alloc, sources)?, Some(tupfile));
         assert_eq!(rt; shown(alloc, read)?.as_str(), want);
     }
-    assert_eq!(rt; shown(alloc, read_rules(alloc, &paths(alloc, &["a"])?, None))?.as_str(), "");
+    assert_eq!(rt;
+        shown(alloc, read_rules(alloc, &paths(alloc, &["a"])?, None))?.as_str(),
+        ""
+    );
     Ok(())
 }

@@ -1,4 +1,4 @@
-use Rattle.std.proofs.Common.{rules, ◌∙◌, ◌≡◌, false, take, drop, codes}
+use Rattle.std.proofs.Common.{◌∙◌, ◌≡◌, false, take, drop, codes}
 use Rattle.std.proofs.lemmas.List.{take_rest}
 use Rattle.std.specs.Str.{bytes_eq}
 use Rattle.tup_parse.proofs.Cuts.{at_arrow-step}

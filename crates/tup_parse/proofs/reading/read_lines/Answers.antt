@@ -19,6 +19,6 @@ loop-rest-preserved c =
     record {
       names = done.1;
       read = lines_on c.args.sources.now c.loop-rest.line c.loop-rest.placed.items c.read_line.new.placed.items c.loop-rest.rest.now c.first_line.result.0.now
-      c.first_line.result.1.now c.args.content.now c.first_line.ensures.split done.0 c.loop-rest.invariant.read;
-      count = omega arith
+          c.first_line.result.1.now c.args.content.now c.first_line.ensures.split done.0 c.loop-rest.invariant.read;
+      count = omega arith;
     }

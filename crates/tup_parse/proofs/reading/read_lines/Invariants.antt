@@ -8,7 +8,7 @@ abbrev pub invariant-loop-rest : goal.invariant-loop-rest
 invariant-loop-rest l = record {
   names : Stands l.names l.sources (specs.rules_in l.placed.items);
   read : specs.read_lines l.sources (suc l.line) l.placed.items (slice_split (λ b. b == 10) l.rest) ≡ specs.read_lines l.sources 1 [] (slice_split (λ b. b == 10) l.content);
-  count : l.line + length l.rest ≤ length l.content
+  count : l.line + length l.rest ≤ length l.content;
 }
 
 abbrev pub decreases-loop-rest : goal.decreases-loop-rest

@@ -9,7 +9,7 @@ returns-then-has_config c =
 
 pub returns-in_err-placed : goal.returns-in_err-placed
 returns-in_err-placed c =
-    let p = err_from_is_err_and c.from_residual.result c.from_residual.ensures.1 in
+    let p = err_from_is_err_and c.from_residual-in_err-placed.result c.from_residual-in_err-placed.ensures.1 in
     rw (p.1, p.2) (project_fault c.args.sources.now _ c.has_config.result c.in_err-placed.field-0.0 c.has_config.ensures c.if-has_config.false c.in_err-placed.ensures)
 
 pub returns : goal.returns

@@ -14,6 +14,6 @@ loop-line-preserved c =
     c.loop-line.invariant.known inserted.added (search (rules, tests)) copy in
     record {
       known = knows_pushed c.loop-line.texts c.insert.new.self (texts_of (take at placed)) _ p.rule.text c.in_ok-clone.field-0
-      c.loop-line.invariant.known inserted.updates copy (texts_more placed at p c.loop-line-test.true c.loop-line-item.is);
-      rest = repeated_on placed at p c.loop-line-test.true c.loop-line-item.is new ∙ c.loop-line.invariant.rest
+          c.loop-line.invariant.known inserted.updates copy (texts_more placed at p c.loop-line-test.true c.loop-line-item.is);
+      rest = repeated_on placed at p c.loop-line-test.true c.loop-line-item.is new ∙ c.loop-line.invariant.rest;
     }

@@ -7,5 +7,5 @@ use Rattle.tup_parse.proofs.reading.repeated.Given as goal
 abbrev pub invariant-loop-line : goal.invariant-loop-line
 invariant-loop-line l = record {
   known : Knows l.texts (texts_of (take l.line-index l.placed));
-  rest : repeated_at (texts_of (take l.line-index l.placed)) (drop l.line-index l.placed) ≡ repeated_at [] l.placed
+  rest : repeated_at (texts_of (take l.line-index l.placed)) (drop l.line-index l.placed) ≡ repeated_at [] l.placed;
 }
