@@ -1,0 +1,48 @@
+//! Why a project isn't read.
+use std::alloc::{AllocError, AllocFailed};
+use tup_lex::ParseKind;
+use tup_path::Path;
+
+/// Why a reading ends without rules.
+#[derive(Clone, Debug, Drop)]
+pub enum ReadEnd {
+    /// A file has a fault; the first one is named.
+    Fault(ParseFault),
+    /// There was no memory; nothing is known of the project.
+    Memory,
+}
+
+/// A fault in a file that says what to build.
+#[derive(Clone, Debug, Drop)]
+pub struct ParseFault {
+    /// The folder for which the file was read.
+    pub dir: Path,
+    /// The file.
+    pub file: Path,
+    /// The line, counted from 1.
+    pub line: u32,
+    /// What is wrong there.
+    pub kind: ParseKind,
+}
+
+impl From<AllocError> for ReadEnd {
+    ghost use Rattle.std.specs.Prelude.{◌≡◌};
+    ghost use Rattle.tup_parse.specs.declared.fault.ReadEnd.TheVariants.{Memory};
+
+    ghost from_gives = { λ _ end. end ≡ Memory };
+
+    fn from(_: AllocError) -> ReadEnd {
+        ReadEnd::Memory
+    }
+}
+
+impl<T: Drop> From<AllocFailed<T>> for ReadEnd {
+    ghost use Rattle.std.specs.Prelude.{◌≡◌};
+    ghost use Rattle.tup_parse.specs.declared.fault.ReadEnd.TheVariants.{Memory};
+
+    ghost from_gives = { λ _ end. end ≡ Memory };
+
+    fn from(_: AllocFailed<T>) -> ReadEnd {
+        ReadEnd::Memory
+    }
+}
