@@ -1,7 +1,6 @@
 //! The words of the Tupfile language: lines, the parts of a rule, and what a fault is called.
 #![tactic(auto)]
 
-<<<<<<< HEAD
 mod blank;
 mod fault;
 mod kind;
@@ -19,8 +18,3 @@ pub use span::{Span, Spans};
 
 #[cfg(test)]
 mod tests;
-=======
-mod kind;
-
-pub use kind::ParseKind;
->>>>>>> 03902bbb5286855261a8755f8aaedc347d968899
