@@ -46,11 +46,21 @@ fn push_paths(alloc: Global, text: &mut String, mark: &str, paths: &Paths) -> Re
     Ok(())
 }
 
+/// The reading of a Tupfile of fewer than 1,000 bytes beside these sources.
+fn read_beside(alloc: Global, sources: &[&str], tupfile: &[u8]) -> Result<String, Fail> {
+    if tupfile.len() >= 1000 {
+        return Ok(String::from_str(alloc, "too long")?);
+    }
+    let tupfile = Bytes::new(Vec::from_slice(alloc, tupfile)?);
+    shown(
+        alloc,
+        read_rules(alloc, &paths(alloc, sources)?, Some(&tupfile)),
+    )
+}
+
 /// The reading of one Tupfile beside the sources `a`, `b-1.c`, `d/e` and itself.
 fn read(alloc: Global, tupfile: &[u8]) -> Result<String, Fail> {
-    let sources = paths(alloc, &["Tupfile", "a", "b-1.c", "d/e"])?;
-    let tupfile = Bytes::new(Vec::from_slice(alloc, tupfile)?);
-    shown(alloc, read_rules(alloc, &sources, Some(&tupfile)))
+    read_beside(alloc, &["Tupfile", "a", "b-1.c", "d/e"], tupfile)
 }
 
 #[test]
@@ -184,40 +194,27 @@ fn faults(rt: HostRuntime) -> Result<(), Fail> {
 #[test]
 fn other_files(rt: HostRuntime) -> Result<(), Fail> {
     let alloc = rt.alloc();
-    let unknown = Bytes::new(Vec::from_slice(alloc, b"x")?);
-    let twice = Bytes::new(Vec::from_slice(alloc, b": |> fail 1 |> x\n: |> fail 1 |> y")?);
-    let none = Bytes::new(Vec::new(alloc));
-    let table: [(&[&str], &Bytes, &str); 6] = [
+    let twice: &[u8] = b": |> fail 1 |> x\n: |> fail 1 |> y";
+    let table: [(&[&str], &[u8], &str); 6] = [
         (
             &["Tupfile", "tup.config"],
-            &unknown,
+            b"x",
             ". tup.config:1 unknown line",
         ),
-        (
-            &["Tupfile", "a/Tupfile"],
-            &unknown,
-            ". Tupfile:1 unknown line",
-        ),
+        (&["Tupfile", "a/Tupfile"], b"x", ". Tupfile:1 unknown line"),
         (
             &["Tupfile", "a/b/Tupfile", "a/c", "b/Tupfile"],
-            &twice,
+            twice,
             "a/b a/b/Tupfile:1 unknown line",
         ),
-        (&["Tupfile", "Tupfile.d/x", "a/tup.config"], &none, ""),
-        (&["a/Tupfile/x", "b/Tuprules.tup"], &none, ""),
-        (
-            &["Tupfile", "b/Tupfile"],
-            &none,
-            "b b/Tupfile:1 unknown line",
-        ),
+        (&["Tupfile", "Tupfile.d/x", "a/tup.config"], b"", ""),
+        (&["a/Tupfile/x", "b/Tuprules.tup"], b"", ""),
+        (&["Tupfile", "b/Tupfile"], b"", "b b/Tupfile:1 unknown line"),
     ];
     for (sources, tupfile, want) in table {
-        let read = read_rules(alloc, &paths(alloc, sources)?, Some(tupfile));
-        assert_eq!(rt; shown(alloc, read)?.as_str(), want);
+        assert_eq!(rt; read_beside(alloc, sources, tupfile)?.as_str(), want);
     }
-    assert_eq!(rt;
-        shown(alloc, read_rules(alloc, &paths(alloc, &["a"])?, None))?.as_str(),
-        ""
-    );
+    let none = read_rules(alloc, &paths(alloc, &["a"])?, None);
+    assert_eq!(rt; shown(alloc, none)?.as_str(), "");
     Ok(())
 }
