@@ -115,13 +115,10 @@ fn a_good_command_leaves_its_outputs(rt: HostRuntime) -> Result<(), Fail> {
     let (verdict, files) = judge(alloc, &compile(alloc)?, &ended(alloc, 0, &writes)?)?;
     assert_eq!(rt; verdict, Verdict::Good);
     assert_eq!(rt; files.len(), 2);
-    for (file, (want, content)) in files
-        .as_slice()
-        .iter()
-        .zip([("src/a.o", b"2"), ("src/a.d", b"3")])
-    {
-        assert_eq!(rt; file.0.show(alloc)?.as_str(), want);
-        assert_eq!(rt; file.1.as_slice(), content.as_slice(), "{want}");
+    let mut found = files.as_slice().iter();
+    for (name, content) in [("src/a.o", "2"), ("src/a.d", "3")] {
+        let bytes = Bytes::new(Vec::from_slice(alloc, content.as_bytes())?);
+        assert!(rt; found.next() == Some(&(path(alloc, name)?, bytes)), "{name}");
     }
     Ok(())
 }
