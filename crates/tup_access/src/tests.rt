@@ -118,7 +118,10 @@ fn a_good_command_leaves_its_outputs(rt: HostRuntime) -> Result<(), Fail> {
     let mut found = files.as_slice().iter();
     for (name, content) in [("src/a.o", "2"), ("src/a.d", "3")] {
         let bytes = Bytes::new(Vec::from_slice(alloc, content.as_bytes())?);
-        assert!(rt; found.next() == Some(&(path(alloc, name)?, bytes)), "{name}");
+        assert!(rt;
+            found.next() == Some(&(path(alloc, name)?, bytes)),
+            "{name}"
+        );
     }
     Ok(())
 }
