@@ -1,0 +1,5 @@
+pub mod Order
+pub mod Status
+pub mod Lines
+pub mod Promise
+pub mod Printed

@@ -1,0 +1,66 @@
+-- What is printed of an update (the wording is own): a line for each thing done, and a last one for how it ended.
+use Rattle.std.specs.Prelude.{ℕ, if◌then◌else◌, List, [], ◌∷◌, ◌++◌, Some, codes, decimal}
+use Rattle.std.specs.List.{flat_map, zip}
+use Rattle.tup_path.specs.Name.{Names}
+use Rattle.tup_path.specs.Show.{show}
+use Rattle.tup_rule.specs.declared.rule.Rule.{Rule}
+use Rattle.tup_rule.specs.declared.rule.RuleName.{RuleName}
+use Rattle.tup_rule.specs.Rule.{label_of}
+use Rattle.tup_access.specs.declared.verdict.Verdict.{Verdict}
+use Rattle.tup_lex.specs.ParseKind.{kind_text}
+use Rattle.tup_clean.specs.Clean.{is_good}
+use Rattle.tup_parse.specs.declared.fault.ParseFault.{ParseFault}
+use Rattle.tup_update.specs.declared.log.Log.{Log}
+use Rattle.tup_top.specs.declared.status.Status.{Status}
+use Rattle.tup_top.specs.declared.status.Status.TheVariants.{Done, Command, IllegalRead, IllegalWrite, Unwritten, TooManyReads, Usage, BadStore, Parse, SiteFault, SinkFault, Limit, Memory}
+use Rattle.tup_top.specs.declared.status.What.{What}
+use Rattle.tup_top.specs.declared.status.What.TheVariants.{FileSize}
+
+abbrev pub read_line : Names → List ℕ
+read_line dir = codes "read " ++ (show dir ++ 10 ∷ [])
+
+abbrev pub removed_line : Names → List ℕ
+removed_line path = codes "remove " ++ (show path ++ 10 ∷ [])
+
+-- what became of a rule, `DIR: LABEL` behind it
+abbrev pub verdict_line : Rule × Verdict → List ℕ
+verdict_line p =
+    (if is_good (Some p.1) then codes "run " else codes "bad ") ++ (show p.0.dir ++ (codes ": " ++ (label_of p.0 ++ 10 ∷ [])))
+
+abbrev pub what_text : What → List ℕ
+what_text FileSize = codes "FileSize"
+
+-- a fault of the command of a rule: `DIR: COMMAND`, and what it did
+abbrev pub rule_fault : RuleName → List ℕ → List ℕ
+rule_fault rule did = codes "fault: " ++ (show rule.dir ++ (codes ": " ++ (rule.text ++ did)))
+
+-- `FILE:LINE: TEXT, read for DIR`
+abbrev pub parse_fault : ParseFault → List ℕ
+parse_fault fault =
+    codes "fault: " ++ (show fault.file ++ (codes ":" ++ (decimal fault.line ++ (codes ": " ++ (kind_text fault.kind ++ (codes ", read for " ++ show fault.dir))))))
+
+-- how an order ended
+abbrev pub status_text : Status → List ℕ
+status_text (Done read ran removed) =
+    codes "done: " ++ (decimal read ++ (codes " read, " ++ (decimal ran ++ (codes " run, " ++ (decimal removed ++ codes " removed")))))
+status_text (Command rule status) = rule_fault rule (codes ": status " ++ decimal status)
+status_text (IllegalRead rule text) = rule_fault rule (codes ": reads " ++ text)
+status_text (IllegalWrite rule text) = rule_fault rule (codes ": writes " ++ text)
+status_text (Unwritten rule path) = rule_fault rule (codes ": doesn't write " ++ show path)
+status_text (TooManyReads rule) = rule_fault rule (codes ": reads too often")
+status_text (Usage place) = codes "fault: usage, word " ++ decimal place
+status_text (BadStore offset) = codes "fault: the store is damaged at byte " ++ decimal offset
+status_text (Parse fault) = parse_fault fault
+status_text SiteFault = codes "fault: the file tree or the store failed"
+status_text SinkFault = codes "fault: the output failed"
+status_text (Limit what number) = codes "fault: limit " ++ (what_text what ++ (codes ", " ++ decimal number))
+status_text Memory = codes "fault: no memory"
+
+-- the last line
+abbrev pub last_line : Status → List ℕ
+last_line status = status_text status ++ 10 ∷ []
+
+-- all lines of an update with these rules and this log
+abbrev pub lines : List Rule → Log → Status → List ℕ
+lines rules log status =
+    flat_map read_line log.read ++ (flat_map removed_line log.removed ++ (flat_map verdict_line (zip rules log.verdicts) ++ last_line status))

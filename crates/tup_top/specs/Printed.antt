@@ -1,0 +1,58 @@
+-- What is printed of one call: the lines of an update, or the line of a refusal; a front of them where the sink failed.
+use Rattle.std.specs.Prelude.{◌≡◌, ◌≢◌, ◌⊎◌, ⊤, ℕ, List, [], ◌∷◌, ◌++◌, Option, Ok, Err, codes}
+use Rattle.tup_path.specs.Count.{Rose}
+use Rattle.tup_path.specs.Name.{Names, Content}
+use Rattle.tup_site.specs.Edit.{tree_of}
+use Rattle.tup_rule.specs.declared.rule.Rule.{Rule}
+use Rattle.tup_tell.specs.Sink.{GrownByPart}
+use Rattle.tup_update.specs.World.{World}
+use Rattle.tup_update.specs.Whole.{LogFits, RulesFit}
+use Rattle.tup_update.specs.declared.log.Log.{Log}
+use Rattle.tup_update.specs.declared.stop.Stop.{Stop}
+use Rattle.tup_top.specs.Lines.{lines, last_line}
+use Rattle.tup_top.specs.Promise.{Asked}
+use Rattle.tup_top.specs.Status.{status_of}
+use Rattle.tup_top.specs.declared.order.Order.TheVariants.{Upd, Demo}
+use Rattle.tup_top.specs.declared.status.Status.{Status}
+use Rattle.tup_top.specs.declared.status.Status.TheVariants.{Done, Usage, SinkFault, Memory}
+
+abbrev pub IsDone : Status → Type 0
+IsDone (Done read ran removed) = ⊤
+IsDone other = ⊥
+
+-- what is answered in the end, where this status was to be printed: itself, want of memory, or in the place of a Done
+-- that the sink failed, by its own count
+abbrev pub Ends : ℕ → ℕ → Status → Status → Type 0
+Ends before now status answer = (answer ≡ status) ⊎ (answer ≡ Memory) ⊎ ((answer ≡ SinkFault) × IsDone status × Rose before now)
+
+-- the sink has grown by this text, or by a front of it where there was no memory or the sink's count rose
+pub record Prints (text : List ℕ) (before now : ℕ) (old new : List ℕ) (answer : Status) : Type 0 where
+  pub part : GrownByPart text old new
+  pub all : answer ≢ Memory → ¬ Rose before now → new ≡ old ++ text
+
+-- what an update of this world told of itself
+pub record Told (old : World) : Type 0 where
+  pub rules : List Rule
+  pub log : Log
+  pub stopped : Option Stop
+  pub are_its_rules : RulesFit old rules stopped
+  pub is_its_log : LogFits old log stopped
+
+-- the lines of an update of this world
+pub record PrintsUpdate (world : World) (before now : ℕ) (old new : List ℕ) (answer : Status) : Type 0 where
+  pub told : Told world
+  pub ends : Ends before now (status_of told.log told.stopped) answer
+  pub prints : Prints (lines told.rules told.log (status_of told.log told.stopped)) before now old new answer
+
+-- the small project that is shown
+abbrev pub demo_files : List (Names × Content)
+demo_files = (codes "Tupfile" ∷ [], codes ": a |> cp a b |> b" ++ 10 ∷ []) ∷ (codes "a" ∷ [], codes "hi" ++ 10 ∷ []) ∷ []
+
+abbrev pub demo_world : World
+demo_world = record { tree = tree_of demo_files; store = [] }
+
+-- the lines of what was asked for: of the update, of the demo's update, or the line of the refusal
+abbrev pub Printed : Asked → World → ℕ → ℕ → List ℕ → List ℕ → Status → Type 0
+Printed (Ok Upd) world before now old new answer = PrintsUpdate world before now old new answer
+Printed (Ok Demo) world before now old new answer = PrintsUpdate demo_world before now old new answer
+Printed (Err fault) world before now old new answer = Prints (last_line (Usage fault.place)) before now old new answer

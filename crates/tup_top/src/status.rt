@@ -1,0 +1,179 @@
+//! How an order ended.
+ghost use Rattle.std.specs.Prelude.{◌≡◌, Some};
+ghost use Rattle.tup_top.specs.Lines.{status_text, what_text};
+ghost use Rattle.tup_top.specs.Status as specs;
+
+use std::fmt;
+use tup_access::Verdict;
+use tup_parse::ParseFault;
+use tup_path::{Path, Text};
+use tup_rule::RuleName;
+use tup_update::{Log, Stop};
+
+/// What has a limit.
+#[derive(Clone, Copy, Debug, PartialEq, Eq)]
+pub enum What {
+    /// The bytes of one file.
+    FileSize,
+}
+
+/// How an order ended.
+#[derive(Debug, Drop)]
+pub enum Status {
+    /// The order was carried out: so many folders read, commands run and files removed.
+    Done { read: u32, ran: u32, removed: u32 },
+    /// The command of this rule ended with this status.
+    Command { rule: RuleName, status: u8 },
+    /// The command of this rule asked for a file that it may not read.
+    IllegalRead { rule: RuleName, text: Text },
+    /// The command of this rule wrote a file that its rule doesn't name.
+    IllegalWrite { rule: RuleName, text: Text },
+    /// The command of this rule didn't write this output.
+    Unwritten { rule: RuleName, path: Path },
+    /// The command of this rule asked too often.
+    TooManyReads { rule: RuleName },
+    /// The word at this place, counted from 1, can't stand there. Nothing was done.
+    Usage { place: u32 },
+    /// The store doesn't read from this byte on. Nothing was done.
+    BadStore { offset: u64 },
+    /// The sources ask for no rules, for this fault. Nothing was done.
+    Parse { fault: ParseFault },
+    /// The file tree or the store failed.
+    SiteFault,
+    /// The order was carried out, and its lines couldn't be written.
+    SinkFault,
+    /// So many of these would be too many.
+    Limit { what: What, number: u64 },
+    /// There was no memory.
+    Memory,
+}
+
+impl Status {
+    /// The exit number of the program.
+    pub fn exit(&self) -> u8
+        ensures { result ≡ specs.exit_of self.now }
+    {
+        match self {
+            Status::Done { .. } => 0,
+            Status::Command { .. }
+            | Status::IllegalRead { .. }
+            | Status::IllegalWrite { .. }
+            | Status::Unwritten { .. }
+            | Status::TooManyReads { .. } => 1,
+            Status::Usage { .. } => 2,
+            Status::BadStore { .. } => 4,
+            Status::Parse { .. } => 5,
+            Status::SiteFault => 7,
+            Status::SinkFault => 9,
+            Status::Limit { .. } => 11,
+            Status::Memory => 12,
+        }
+    }
+}
+
+/// The status of an update that did what its log says and stopped so, or came to its end.
+pub(crate) fn status_of(log: &Log, stopped: Option<Stop>) -> Status
+    ensures { result ≡ specs.status_of log.now stopped }
+{
+    match stopped {
+        None => Status::Done {
+            read: told(log.read.len()),
+            ran: told(log.verdicts.len()),
+            removed: told(log.removed.len()),
+        },
+        Some(Stop::BadStore(offset)) => Status::BadStore { offset },
+        Some(Stop::Parse(fault)) => Status::Parse { fault },
+        Some(Stop::Bad(rule, verdict)) => status_of_bad(rule, verdict),
+        Some(Stop::Site) => Status::SiteFault,
+        Some(Stop::TooLarge(number)) => Status::Limit {
+            what: What::FileSize,
+            number,
+        },
+        Some(Stop::Memory) => Status::Memory,
+    }
+}
+
+// An update stops at no Good verdict.
+fn status_of_bad(rule: RuleName, verdict: Verdict) -> Status
+    ensures { result ≡ specs.status_of_bad rule verdict }
+{
+    match verdict {
+        Verdict::Good => Status::Memory,
+        Verdict::Failed(status) => Status::Command { rule, status },
+        Verdict::IllegalRead(text) => Status::IllegalRead { rule, text },
+        Verdict::IllegalWrite(text) => Status::IllegalWrite { rule, text },
+        Verdict::Unwritten(path) => Status::Unwritten { rule, path },
+        Verdict::TooManyReads => Status::TooManyReads { rule },
+    }
+}
+
+// A count as it is told; one that is too large for a number of 32 bits is told as the last of these.
+fn told(count: usize) -> u32
+    ensures { result ≡ specs.told count }
+{
+    count.min(u32::MAX as usize) as u32
+}
+
+impl fmt::Display for What {
+    ghost output = { λ what. Some (what_text what) };
+
+    fn fmt<W: fmt::Write>(&self, f: &mut fmt::Formatter<W>) -> fmt::Result {
+        f.write_str(match self {
+            What::FileSize => "FileSize",
+        })
+    }
+}
+
+impl fmt::Display for Status {
+    ghost output = { λ status. Some (status_text status) };
+
+    fn fmt<W: fmt::Write>(&self, f: &mut fmt::Formatter<W>) -> fmt::Result {
+        match self {
+            Status::Done { read, ran, removed } => write!(
+                f,
+                "done: {read} read, {ran} run, {removed} removed"
+            ),
+            Status::Command { rule, status } => write!(
+                f,
+                "fault: {}: {}: status {status}",
+                rule.dir, rule.text
+            ),
+            Status::IllegalRead { rule, text } => write!(
+                f,
+                "fault: {}: {}: reads {text}",
+                rule.dir, rule.text
+            ),
+            Status::IllegalWrite { rule, text } => write!(
+                f,
+                "fault: {}: {}: writes {text}",
+                rule.dir, rule.text
+            ),
+            Status::Unwritten { rule, path } => write!(
+                f,
+                "fault: {}: {}: doesn't write {path}",
+                rule.dir, rule.text
+            ),
+            Status::TooManyReads { rule } => write!(
+                f,
+                "fault: {}: {}: reads too often",
+                rule.dir, rule.text
+            ),
+            Status::Usage { place } => write!(f, "fault: usage, word {place}"),
+            Status::BadStore { offset } => write!(
+                f,
+                "fault: the store is damaged at byte {offset}"
+            ),
+            Status::Parse { fault } => {
+                write!(
+                    f,
+                    "fault: {}:{}: {}, read for {}",
+                    fault.file, fault.line, fault.kind, fault.dir
+                )
+            }
+            Status::SiteFault => f.write_str("fault: the file tree or the store failed"),
+            Status::SinkFault => f.write_str("fault: the output failed"),
+            Status::Limit { what, number } => write!(f, "fault: limit {what}, {number}"),
+            Status::Memory => f.write_str("fault: no memory"),
+        }
+    }
+}

@@ -1,0 +1,9 @@
+pub mod Fronts
+pub mod Trees
+pub mod Stops
+pub mod Asking
+pub mod Beside
+pub mod Running
+pub mod Reading
+pub mod Preparing
+pub mod Ending
