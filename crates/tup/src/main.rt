@@ -10,6 +10,7 @@ mod words;
 use output::Output;
 use std::alloc::Global;
 use std::io;
+use std::process::ExitCode;
 use tup_fs::FsSite;
 use tup_top::{Status, Word, tup};
 use words::words;
@@ -28,15 +29,12 @@ Exit numbers: 0 done, 1 a command's fault, 2 usage, 4 damaged store, 5 fault in 
 
 const VERSION: &str = "tup 0.1\n";
 
-fn main(rt: HostRuntime) -> Result<(), u8> {
+fn main(rt: HostRuntime) -> ExitCode {
     let status = match words(&rt, rt.alloc()) {
         Ok(words) => answer(rt, rt.alloc(), &words),
         Err(status) => told(&rt, status),
     };
-    match status {
-        0 => Ok(()),
-        status => Err(status),
-    }
+    ExitCode::from(status)
 }
 
 /// Answers the words, and gives the exit number.
