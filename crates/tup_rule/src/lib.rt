@@ -1,13 +1,18 @@
 //! Rules: one command each, with the files that it reads and makes.
 //!
 //! What a rule declares and writes is exact, and takes no memory. Its name and its label are exact
-//! copies, which are refused for want of memory alone.
+//! copies, which are refused for want of memory alone. A `Reading` is what the reading of a Tupfile
+//! leaves: drafts of rules, and what it asked about the project with what it was told.
 #![tactic(auto)]
 
+mod draft;
 mod fault;
+mod question;
 mod rule;
 
+pub use draft::{Draft, Drafts, GroupRef, GroupRefs, Piece, Pieces};
 pub use fault::RuleFault;
+pub use question::{Asked, Kind, Names, Noted, Question, Reading, Told};
 pub use rule::{Rule, RuleName, Rules};
 
 #[cfg(test)]

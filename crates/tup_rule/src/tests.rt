@@ -1,8 +1,9 @@
 //! Answers worked out by hand.
-use crate::Rule;
+use crate::{Draft, GroupRef, Kind, Noted, Piece, Question, Reading, Rule, Told};
 use std::alloc::Global;
 use std::test::Fail;
-use tup_path::{Items, Path, PathFault, Paths, Text};
+use tup_path::{Bytes, Items, Path, PathFault, Paths, Text};
+use tup_stamp::{Stamp, stamp_of};
 
 fn path(alloc: Global, text: &str) -> Result<Path, PathFault> {
     Path::resolve(alloc, &Path::top(alloc), &Text::from_str(alloc, text)?)
@@ -70,5 +71,59 @@ fn rules_are_the_same(rt: HostRuntime) -> Result<(), Fail> {
     assert!(rt; rule.same(&other));
     other.compare = true;
     assert!(rt; !rule.same(&other));
+    Ok(())
+}
+
+/// The rule that joins what the group `objs` has, and shows itself as that group.
+fn join_all(alloc: Global) -> Result<Draft, PathFault> {
+    let mut pieces = Items::new(alloc);
+    pieces.push(Piece::Text(Text::from_str(alloc, "cat ")?))?;
+    pieces.push(Piece::Group(0))?;
+    let mut groups = Items::new(alloc);
+    groups.push(GroupRef {
+        dir: path(alloc, "lib")?,
+        name: Text::from_str(alloc, "objs")?,
+    })?;
+    Ok(Draft {
+        file: path(alloc, "Tupfile")?,
+        line: 7,
+        display: Some(pieces.clone()?),
+        pieces,
+        compare: true,
+        inputs: paths(alloc, &["a"])?,
+        order: paths(alloc, &["b"])?,
+        outputs: paths(alloc, &["c"])?,
+        groups,
+        gives: None,
+    })
+}
+
+#[test]
+fn readings_are_copied(rt: HostRuntime) -> Result<(), Fail> {
+    let alloc = rt.alloc();
+    let mut drafts = Items::new(alloc);
+    drafts.push(join_all(alloc)?)?;
+    let mut asked = Items::new(alloc);
+    asked.push((Question::Kind(path(alloc, "a")?), Noted::Kind(Kind::File)))?;
+    let reading = Reading { drafts, asked };
+    let mut copy = reading.clone()?;
+    assert!(rt; copy == reading);
+    copy.asked = Items::new(alloc);
+    assert!(rt; copy != reading);
+    Ok(())
+}
+
+#[test]
+fn answers_are_kept(rt: HostRuntime) -> Result<(), Fail> {
+    let alloc = rt.alloc();
+    let value = Text::from_str(alloc, "fast")?;
+    let content = Bytes::new(Vec::from_slice(alloc, b"abc")?);
+    let stamp: Stamp = stamp_of(b"abc");
+    let told = Told::Content(Some(content));
+    assert!(rt; told.clone()?.noted() == Noted::Content(Some(stamp)));
+    assert!(rt; Told::Content(None).noted() == Noted::Content(None));
+    let noted = Told::Config(Some(value.clone()?)).noted();
+    assert!(rt; noted == Noted::Config(Some(value)));
+    assert!(rt; Told::Kind(Kind::Dir).noted() == Noted::Kind(Kind::Dir));
     Ok(())
 }
