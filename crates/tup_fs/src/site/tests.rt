@@ -1,6 +1,7 @@
 //! Each call against a real folder, which every test makes and takes away again.
 use super::*;
 use std::os::unix::fs::symlink;
+use std::process::Command;
 use std::test::Fail;
 use std::{env, fs, process};
 use tup_path::{PathFault, Text};
@@ -87,6 +88,56 @@ fn visible_files_are_listed(rt: HostRuntime) -> Result<(), Fail> {
     let mut site = FsSite::new(rt, alloc, folder.as_str())?;
     assert_eq!(rt; listed(alloc, &mut site)?.as_str(), "a/x a-/x b/y é ");
     fs::remove_dir_all(&rt, folder)?;
+    Ok(())
+}
+
+// What std can't make in a folder: whether the shell made it.
+fn shell(rt: HostRuntime, folder: &String, script: &str) -> io::Result<bool> {
+    let script = format!(in rt.alloc(); "cd '{folder}' && {script}")?;
+    let status = Command::new(rt.alloc(), "sh")?
+        .arg("-c")?
+        .arg(script.as_str())?
+        .status(&rt)?;
+    Ok(status.success())
+}
+
+#[test]
+fn special_files_are_passed_over(rt: HostRuntime) -> Result<(), Fail> {
+    let alloc = rt.alloc();
+    let folder = new_folder(rt, "special")?;
+    write(rt, &folder, "ok", "")?;
+    assert!(rt; shell(rt, &folder, "mkfifo pipe")?);
+    assert!(rt;
+        shell(
+            rt,
+            &folder,
+            "touch \"$(printf 'n\\377')\" \"$(printf 'tab\\t')\""
+        )?
+    );
+    let mut site = FsSite::new(rt, alloc, folder.as_str())?;
+    let pipe = path(alloc, "pipe")?;
+    assert_eq!(rt; listed(alloc, &mut site)?.as_str(), "ok ");
+    assert_eq!(rt; site.get(alloc, &pipe)?, None);
+    assert_eq!(rt; site.faults(), 0);
+    let put = site.put(alloc, &pipe, &bytes(alloc, "x")?);
+    assert_eq!(rt; put, Err(SiteFailed::Fault));
+    assert_eq!(rt; site.remove(alloc, &pipe), Err(SiteFailed::Fault));
+    assert_eq!(rt; site.faults(), 2);
+    assert_eq!(rt; is_there(rt, &folder, "pipe")?, true);
+    fs::remove_dir_all(&rt, folder)?;
+    Ok(())
+}
+
+// Nobody may make a file there, and the superuser neither.
+#[test]
+fn folders_that_refuse_files_are_faults(rt: HostRuntime) -> Result<(), Fail> {
+    let alloc = rt.alloc();
+    let mut site = FsSite::new(rt, alloc, "/proc")?;
+    let put = site.put(alloc, &path(alloc, "tup")?, &bytes(alloc, "x")?);
+    assert_eq!(rt; put, Err(SiteFailed::Fault));
+    assert_eq!(rt; site.db_write(alloc, 0, b"x"), Err(SiteFailed::Fault));
+    assert_eq!(rt; site.faults(), 2);
+    assert_eq!(rt; site.db_len(alloc), Ok(0));
     Ok(())
 }
 
