@@ -20,8 +20,8 @@ pub(crate) fn ends(bytes: &[u8]) -> Option<(usize, usize)>
     Some((first, last))
 }
 
-// A text without the spaces and tabs at both of its ends.
-pub(crate) fn trimmed(text: &str) -> &str
+/// A text without the spaces and tabs at both of its ends.
+pub fn trimmed(text: &str) -> &str
     ensures { result.now ≡ trim text.now }
 {
     match ends(text.as_bytes()) {

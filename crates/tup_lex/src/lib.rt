@@ -10,9 +10,10 @@ mod sides;
 mod span;
 mod word;
 
+pub use blank::trimmed;
 pub use fault::LexFault;
 pub use kind::ParseKind;
-pub use line::{Line, Lines, MAX_LINE, lines};
+pub use line::{Line, Lines, MAX_LINE, last_line, lines, says_something};
 pub use parts::{Parts, rule_parts};
 pub use span::{Span, Spans};
 

@@ -42,8 +42,9 @@ pub fn lines(alloc: Global, file: &Bytes) -> Result<Lines, LexFault>
     }
 }
 
-// The number of the line in which these bytes end.
-fn last_line(bytes: &[u8]) -> u32
+/// The number of the line in which these bytes end, counted from 1. The last number of a `u32`
+/// stands for all above it.
+pub fn last_line(bytes: &[u8]) -> u32
     ensures { result ≡ line_number (count_by (λ byte. byte == 10) bytes.now) }
 {
     let ends = bytes.iter().filter(|byte| **byte == b'\n').count();
@@ -91,7 +92,8 @@ fn keep(alloc: Global, kept: &mut Lines, number: u32, joined: &str) -> Result<()
     Ok(())
 }
 
-fn says_something(text: &str) -> bool
+/// Whether a trimmed text says something: it isn't empty, and no comment.
+pub fn says_something(text: &str) -> bool
     ensures { result ≡ says_something text.now }
 {
     match text.as_bytes() {
