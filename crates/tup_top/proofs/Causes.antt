@@ -1,14 +1,14 @@
 -- How an order ends whose update stopped so: what follows for its status from what follows for the stop.
-use Rattle.std.proofs.Common.{◌≡◌, inl, inr, ℕ, List, [], Option, None, Some, IfSome, IfNone, refl, sym, ap, subst, ◌∙◌, append-nil}
+use Rattle.std.proofs.Common.{◌≡◌, ◌⊎◌, inl, inr, ℕ, List, [], Option, None, Some, IfSome, IfNone, refl, sym, ap, subst, ◌∙◌, append-nil}
 use Rattle.tup_access.specs.declared.verdict.Verdict.TheVariants.{Good, Failed, IllegalRead as ReadsIllegally, IllegalWrite as WritesIllegally, Unwritten as LeavesUnwritten, TooManyReads as ReadsTooOften}
 use Rattle.tup_update.specs.World.{World}
 use Rattle.tup_update.specs.Whole.{LogFits, whole_log}
-use Rattle.tup_update.specs.Outcome.{HasCause as StopHasCause, HasCountedCause as StopHasCountedCause}
+use Rattle.tup_update.specs.Outcome.{ExactlyTheFiles as AreExactlyTheFiles, IsListed, HasCause as StopHasCause, HasCountedCause as StopHasCountedCause, NothingForgotten as StopForgetsNothing, Refuses as StopRefuses, claimed}
 use Rattle.tup_update.specs.declared.log.Log.{Log}
 use Rattle.tup_update.specs.declared.stop.Stop.{Stop}
 use Rattle.tup_update.specs.declared.stop.Stop.TheVariants.{BadStore as StoreDamaged, Parse as ParseFailed, Bad, Site, TooLarge, Memory as OutOfMemory}
 use Rattle.tup_top.specs.Lines.{lines}
-use Rattle.tup_top.specs.Promise.{IsCarriedOut, UpdateHasCause, Counts, HasCountedCause, HasDemoCause}
+use Rattle.tup_top.specs.Promise.{IsCarriedOut, Refuses, UpdateForgetsNothing, UpdateHasCause, Counts, HasCountedCause, HasDemoCause}
 use Rattle.tup_top.specs.Printed.{IsDone, Ends, Prints, Told, PrintsUpdate}
 use Rattle.tup_top.specs.Status.{status_of}
 use Rattle.tup_top.specs.declared.status.What.TheVariants.{FileSize}
@@ -92,6 +92,81 @@ pub update_counted_cause : (before now : Counts) (log : Log) (stopped : Option S
 update_counted_cause before now log stopped answer (inl e) cause = subst (HasCountedCause before now) (sym e) (counted_cause_of_stop before now log stopped cause)
 update_counted_cause before now log stopped answer (inr (inl e)) cause = subst (HasCountedCause before now) (sym e) tt
 update_counted_cause before now log stopped answer (inr (inr (e, done, rose))) cause = subst (HasCountedCause before now) (sym e) rose
+
+-- what a stop leaves, the status leaves that tells of it
+forgets_nothing_of_stop : (old new : World) (log : Log) (stopped : Option Stop) → StopForgetsNothing old new stopped → UpdateForgetsNothing old new (status_of log stopped)
+forgets_nothing_of_stop old new log None left = left
+forgets_nothing_of_stop old new log (Some (StoreDamaged offset)) left = left
+forgets_nothing_of_stop old new log (Some (ParseFailed fault)) left = left
+forgets_nothing_of_stop old new log (Some (Bad rule Good)) left = inl left
+forgets_nothing_of_stop old new log (Some (Bad rule (Failed status))) left = left
+forgets_nothing_of_stop old new log (Some (Bad rule (ReadsIllegally text))) left = left
+forgets_nothing_of_stop old new log (Some (Bad rule (WritesIllegally text))) left = left
+forgets_nothing_of_stop old new log (Some (Bad rule (LeavesUnwritten path))) left = left
+forgets_nothing_of_stop old new log (Some (Bad rule ReadsTooOften)) left = left
+forgets_nothing_of_stop old new log (Some Site) left = left
+forgets_nothing_of_stop old new log (Some (TooLarge number)) left = left
+forgets_nothing_of_stop old new log (Some OutOfMemory) left = left
+
+same_or_listed : (old new : World) → (new ≡ old) ⊎ IsListed (claimed old) old new → UpdateForgetsNothing old new Memory
+same_or_listed old new (inl same) = inr (inl (ap (λ (w : World). w.tree) same))
+same_or_listed old new (inr known) = inl known
+
+-- also where there was no memory for its lines
+pub untold_forgets_nothing : (old new : World) (stopped : Option Stop) → StopForgetsNothing old new stopped → IfNone stopped (AreExactlyTheFiles old new) → UpdateForgetsNothing old new Memory
+untold_forgets_nothing old new None left files = inr (inr (record { clean = files.clean; files = files.files }))
+untold_forgets_nothing old new (Some (StoreDamaged offset)) left files = same_or_listed old new (inl left)
+untold_forgets_nothing old new (Some (ParseFailed fault)) left files = same_or_listed old new (inl left)
+untold_forgets_nothing old new (Some (Bad rule verdict)) left files = inl left
+untold_forgets_nothing old new (Some Site) left files = left
+untold_forgets_nothing old new (Some (TooLarge number)) left files = same_or_listed old new left
+untold_forgets_nothing old new (Some OutOfMemory) left files = left
+
+done_forgets_nothing : (old new : World) (log : Log) (stopped : Option Stop) → IsDone (status_of log stopped) → StopForgetsNothing old new stopped → UpdateForgetsNothing old new SinkFault
+done_forgets_nothing old new log None done left = left
+done_forgets_nothing old new log (Some stop) done left = absurd (not_carried_out log stop (done_is_carried_out (status_of log (Some stop)) done))
+
+pub update_forgets_nothing : (old new : World) (before now : ℕ) (log : Log) (stopped : Option Stop) (answer : Status) → Ends before now (status_of log stopped) answer →
+    StopForgetsNothing old new stopped → IfNone stopped (AreExactlyTheFiles old new) → UpdateForgetsNothing old new answer
+update_forgets_nothing old new before now log stopped answer (inl e) left files = subst (UpdateForgetsNothing old new) (sym e) (forgets_nothing_of_stop old new log stopped left)
+update_forgets_nothing old new before now log stopped answer (inr (inl e)) left files = subst (UpdateForgetsNothing old new) (sym e) (untold_forgets_nothing old new stopped left files)
+update_forgets_nothing old new before now log stopped answer (inr (inr (e, done, rose))) left files = subst (UpdateForgetsNothing old new) (sym e) (done_forgets_nothing old new log stopped done left)
+
+-- what a stop refuses, its status refuses
+refuses_of_stop : (old new : World) (log : Log) (stopped : Option Stop) → StopRefuses old new stopped → Refuses old new (status_of log stopped)
+refuses_of_stop old new log None refused = tt
+refuses_of_stop old new log (Some (StoreDamaged offset)) refused = refused
+refuses_of_stop old new log (Some (ParseFailed fault)) refused = refused
+refuses_of_stop old new log (Some (Bad rule Good)) refused = tt
+refuses_of_stop old new log (Some (Bad rule (Failed status))) refused = tt
+refuses_of_stop old new log (Some (Bad rule (ReadsIllegally text))) refused = tt
+refuses_of_stop old new log (Some (Bad rule (WritesIllegally text))) refused = tt
+refuses_of_stop old new log (Some (Bad rule (LeavesUnwritten path))) refused = tt
+refuses_of_stop old new log (Some (Bad rule ReadsTooOften)) refused = tt
+refuses_of_stop old new log (Some Site) refused = tt
+refuses_of_stop old new log (Some (TooLarge number)) refused = tt
+refuses_of_stop old new log (Some OutOfMemory) refused = tt
+
+pub update_refuses : (old new : World) (before now : ℕ) (log : Log) (stopped : Option Stop) (answer : Status) → Ends before now (status_of log stopped) answer → StopRefuses old new stopped → Refuses old new answer
+update_refuses old new before now log stopped answer (inl e) refused = subst (Refuses old new) (sym e) (refuses_of_stop old new log stopped refused)
+update_refuses old new before now log stopped answer (inr (inl e)) refused = subst (Refuses old new) (sym e) tt
+update_refuses old new before now log stopped answer (inr (inr (e, done, rose))) refused = subst (Refuses old new) (sym e) tt
+
+-- where nothing was done nothing was changed
+pub unchanged_refuses : (w : World) (status : Status) → Refuses w w status
+unchanged_refuses w (Done read ran removed) = tt
+unchanged_refuses w (Command rule status) = tt
+unchanged_refuses w (IllegalRead rule text) = tt
+unchanged_refuses w (IllegalWrite rule text) = tt
+unchanged_refuses w (Unwritten rule path) = tt
+unchanged_refuses w (TooManyReads rule) = tt
+unchanged_refuses w (Usage place) = refl
+unchanged_refuses w (BadStore offset) = refl
+unchanged_refuses w (Parse fault) = refl
+unchanged_refuses w SiteFault = tt
+unchanged_refuses w SinkFault = tt
+unchanged_refuses w (Limit what number) = tt
+unchanged_refuses w Memory = tt
 
 -- nothing was printed, for want of memory
 pub prints_nothing : (text : List ℕ) (before now : ℕ) (held : List ℕ) → Prints text before now held held Memory

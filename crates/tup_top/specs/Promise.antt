@@ -1,6 +1,6 @@
 -- What the program promises of one call, each promise a word: of the site before and after it, of what the words ask
 -- for, and of the status that it answers.
-use Rattle.std.specs.Prelude.{◌≡◌, ◌≢◌, ◌<◌, ◌≤◌, ⊤, ℕ, ◌-◌, ◌^◌, List, length, None, Some, IsTrue, Result, Ok, Err}
+use Rattle.std.specs.Prelude.{◌≡◌, ◌≢◌, ◌⊎◌, ◌<◌, ◌≤◌, ⊤, ℕ, ◌-◌, ◌^◌, List, length, None, Some, IsTrue, Result, Ok, Err}
 use Rattle.std.specs.FinMap as finite
 use Rattle.tup_path.specs.Count.{Rose}
 use Rattle.tup_path.specs.Name.{Names, Content}
@@ -8,11 +8,12 @@ use Rattle.tup_site.specs.declared.fault.TheConstants.{MAX_FILE_BYTES}
 use Rattle.tup_access.specs.declared.verdict.Verdict.TheVariants.{Failed, IllegalRead as ReadsIllegally, IllegalWrite as WritesIllegally, Unwritten as LeavesUnwritten, TooManyReads as ReadsTooOften}
 use Rattle.tup_clean.specs.Clean.{succeeds}
 use Rattle.tup_parse.specs.declared.fault.ReadEnd.TheVariants.{Fault}
+use Rattle.tup_owned.specs.Ascending.{ascending}
 use Rattle.tup_owned.specs.Owned.{owned_of}
-use Rattle.tup_update.specs.World.{World, rules_read, rules, build}
+use Rattle.tup_update.specs.World.{World, rules_read, rules, build, outputs}
 use Rattle.tup_update.specs.Whole.{whole_log}
-use Rattle.tup_update.specs.Outcome.{ExactlyTheFiles as AreExactlyTheFiles, IsBadRule}
-use Rattle.tup_update.specs.Parts.{HasFileOf}
+use Rattle.tup_update.specs.Outcome.{ExactlyTheFiles as AreExactlyTheFiles, IsBadRule, IsListed, claimed}
+use Rattle.tup_update.specs.Parts.{HasFileOf, IsBuilt}
 use Rattle.tup_top.specs.Status.{status_of}
 use Rattle.tup_top.specs.declared.order.Order.{Order}
 use Rattle.tup_top.specs.declared.order.Order.TheVariants.{Upd, Demo}
@@ -38,6 +39,34 @@ ExactlyTheFiles asked old new status = asked ≡ Ok Upd → IsCarriedOut status 
 -- only an update changes anything
 abbrev pub NothingDone : Asked → World → World → Type 0
 NothingDone asked old new = asked ≢ Ok Upd → new ≡ old
+
+-- nothing was changed where a word, the store or the sources were refused
+abbrev pub Refuses : World → World → Status → Type 0
+Refuses old new (Usage place) = new ≡ old
+Refuses old new (BadStore offset) = new ≡ old
+Refuses old new (Parse fault) = new ≡ old
+Refuses old new other = ⊤
+
+-- nothing is forgotten, however an update ends: what wasn't a source before is owned by the next update too. Only a
+-- writing of the store that failed half way may leave a store that lists anything; then no file was touched yet, or
+-- all were made.
+abbrev pub UpdateForgetsNothing : World → World → Status → Type 0
+UpdateForgetsNothing old new (Done read ran removed) = IsListed (ascending (outputs (rules old))) old new
+UpdateForgetsNothing old new SinkFault = IsListed (ascending (outputs (rules old))) old new
+UpdateForgetsNothing old new (Command rule status) = IsListed (claimed old) old new
+UpdateForgetsNothing old new (IllegalRead rule text) = IsListed (claimed old) old new
+UpdateForgetsNothing old new (IllegalWrite rule text) = IsListed (claimed old) old new
+UpdateForgetsNothing old new (Unwritten rule path) = IsListed (claimed old) old new
+UpdateForgetsNothing old new (TooManyReads rule) = IsListed (claimed old) old new
+UpdateForgetsNothing old new (Limit what number) = (new ≡ old) ⊎ IsListed (claimed old) old new
+UpdateForgetsNothing old new SiteFault = IsListed (claimed old) old new ⊎ (new.tree ≡ old.tree) ⊎ IsBuilt (build old) new.tree
+UpdateForgetsNothing old new Memory = IsListed (claimed old) old new ⊎ (new.tree ≡ old.tree) ⊎ IsBuilt (build old) new.tree
+UpdateForgetsNothing old new (Usage place) = new ≡ old
+UpdateForgetsNothing old new (BadStore offset) = new ≡ old
+UpdateForgetsNothing old new (Parse fault) = new ≡ old
+
+abbrev pub NothingForgotten : Asked → World → World → Status → Type 0
+NothingForgotten asked old new status = asked ≡ Ok Upd → UpdateForgetsNothing old new status
 
 -- why an update ends so, where the site tells; what it counts when it is done is what it had to do
 abbrev pub UpdateHasCause : World → World → Status → Type 0

@@ -4,7 +4,7 @@ ghost use Rattle.tup_update.specs.World.{world};
 ghost use Rattle.tup_update.specs.Outcome.{SourcesStay};
 ghost use Rattle.tup_top.specs.Order.{order};
 ghost use Rattle.tup_top.specs.Printed.{Printed};
-ghost use Rattle.tup_top.specs.Promise.{ExactlyTheFiles, NothingDone, HasCause, HasPlainCause, Succeeds, counts};
+ghost use Rattle.tup_top.specs.Promise.{ExactlyTheFiles, NothingDone, NothingForgotten, Refuses, HasCause, HasPlainCause, Succeeds, counts};
 
 use crate::demo::demo;
 use crate::order::{Order, Word, order_of};
@@ -29,6 +29,8 @@ pub struct Ran<S> {
 pub fn tup<S: Site, K: Sink>(alloc: Global, words: &[Word], site: S, out: &mut K) -> Ran<S>
     ensures exactly_the_files { IsTrue S.tells → ExactlyTheFiles (order words.now) (world S.tree S.store site) (world S.tree S.store result.site) result.status }
     ensures sources_stay { IsTrue S.tells → SourcesStay (world S.tree S.store site) (world S.tree S.store result.site) }
+    ensures nothing_forgotten { IsTrue S.tells → NothingForgotten (order words.now) (world S.tree S.store site) (world S.tree S.store result.site) result.status }
+    ensures refused { IsTrue S.tells → Refuses (world S.tree S.store site) (world S.tree S.store result.site) result.status }
     ensures nothing_done { IsTrue S.tells → NothingDone (order words.now) (world S.tree S.store site) (world S.tree S.store result.site) }
     ensures cause { IsTrue S.tells → HasCause (order words.now) (world S.tree S.store site) (world S.tree S.store result.site) result.status }
     ensures plain_cause { HasPlainCause (order words.now) (counts S.faults K.faults site out.old) (counts S.faults K.faults result.site out.new) result.status }

@@ -17,3 +17,6 @@ mod update;
 pub use call::{Ran, tup};
 pub use order::{Order, OrderFault, Word, order_of};
 pub use status::{Status, What};
+
+#[cfg(test)]
+mod tests;

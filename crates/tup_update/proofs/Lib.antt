@@ -7,3 +7,4 @@ pub mod Running
 pub mod Reading
 pub mod Preparing
 pub mod Ending
+pub mod Known

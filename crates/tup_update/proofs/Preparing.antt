@@ -1,13 +1,13 @@
 -- A tree from which the files of vanished rules were taken: its sources are the same, and the rules can be run over it.
-use Rattle.std.proofs.lemmas.List.Elements.{All-weaker, All-contains_itself}
-use Rattle.std.proofs.Common.{◌≡◌, ◌≢◌, [], Ok, Contains, Bool, true, false, cond, if◌then◌else◌, not, ◌&&◌, List, Option, None, IsSome, is_some, refl, sym, ◌∙◌, ap, subst}
+use Rattle.std.proofs.lemmas.List.Elements.{All-weaker, All-contains, All-contains_itself, Contains-append_cases}
+use Rattle.std.proofs.Common.{◌≡◌, ◌≢◌, inl, inr, ℕ, [], ◌++◌, Ok, Contains, Bool, true, false, cond, if◌then◌else◌, not, ◌&&◌, List, Option, None, IsSome, is_some, refl, sym, ◌∙◌, ap, subst}
 use Rattle.std.specs.FinMap as finite
 use Rattle.std.proofs.lemmas.Bool.{false≢true}
 use Rattle.tup_path.specs.Name.{Names, Content, IsPath}
 use Rattle.tup_owned.specs.Owned.{owned_of, spelling}
 use Rattle.tup_owned.specs.Ascending.{ascending}
 use Rattle.tup_owned.specs.Members.{ascending-IsAscending, ascending_has_only}
-use Rattle.tup_owned.specs.Spelled.{reads_back}
+use Rattle.tup_owned.specs.Spelled.{reads_back, spelled}
 use Rattle.tup_clean.specs.Among.{among-Contains}
 use Rattle.tup_update.proofs.Running.{made_at}
 use Rattle.tup_path.specs.Tree.{Tree}
@@ -22,17 +22,17 @@ use Rattle.tup_update.proofs.Fronts.{among_filter, among_outputs}
 use Rattle.tup_update.proofs.Beside.{get_beside}
 use Rattle.tup_update.proofs.Reading.{among_their_keys}
 
-gone_is : (owned files : List Names) (rules : List Rule) (path : Names) → among path (gone owned files rules) ≡ ((among path owned && among path files) && not (is_generated rules path))
+gone_is : (owned files : List Names) (rules : List Rule) (path : Names) → among path (gone owned files rules) ≡ (among path owned && (among path files && not (is_generated rules path)))
 gone_is owned files rules path =
-    among_filter (λ p. not (among p (outputs rules))) _ path
-    ∙ (λ i. among_filter (λ p. among p files) owned path i && not (among_outputs rules path i))
+    among_filter (λ p. among p files && not (among p (outputs rules))) owned path
+    ∙ (λ i. among path owned && (among path files && not (among_outputs rules path i)))
 
 and_false : (a b : Bool) → a ≡ false → (a && b) ≡ false
 and_false a b e = ap (λ (x : Bool). x && b) e
 
 -- only owned paths vanish
 pub kept_beside : (owned files : List Names) (rules : List Rule) (path : Names) → among path owned ≡ false → among path (gone owned files rules) ≡ false
-kept_beside owned files rules path e = gone_is owned files rules path ∙ and_false _ _ (and_false _ _ e)
+kept_beside owned files rules path e = gone_is owned files rules path ∙ and_false _ _ e
 
 -- so the sources are the same
 pub same_sources : (owned files : List Names) (rules : List Rule) (old new : Tree) → SameBeside (gone owned files rules) old new → files_beside owned new ≡ files_beside owned old
@@ -57,25 +57,40 @@ runnable owned files rules old new keys buildable cleared same = record {
     by path mine there true made found f = made
     by path mine there false unmade true f =
         let listed : among path files ≡ true = ap (among path) keys ∙ among_their_keys old path ∙ f in
-        absurd (lost path (gone_is owned files rules path ∙ (λ i. (mine i && listed i) && not (unmade i))) there)
+        absurd (lost path (gone_is owned files rules path ∙ (λ i. mine i && (listed i && not (unmade i)))) there)
     by path mine there false unmade false f =
         let listed : among path files ≡ false = ap (among path) keys ∙ among_their_keys old path ∙ f in
-        let stays : among path (gone owned files rules) ≡ false = gone_is owned files rules path ∙ (λ i. (mine i && listed i) && not (unmade i)) in
+        let stays : among path (gone owned files rules) ≡ false = gone_is owned files rules path ∙ (λ i. mine i && (listed i && not (unmade i))) in
         absurd (false≢true (sym f ∙ ap (λ (o : Option Content). is_some o) (sym (same path stays)) ∙ there))
 
 -- what changes beside the vanished files and then beside the outputs, changes owned files and outputs alone
 pub changes : (owned files : List Names) (rules : List Rule) (old between new : Tree) → SameBeside (gone owned files rules) old between → SameBesideOutputs rules between new → Changes owned rules old new
 changes owned files rules old between new first second path unowned unmade = second path unmade ∙ first path (kept_beside owned files rules path unowned)
 
--- what is listed in the end reads back
-pub listed_reads : (sources : Tree) (rules : List Rule) → IsBuildable sources rules → owned_of (spelling (ascending (outputs rules))) ≡ Ok (ascending (outputs rules))
-listed_reads sources rules buildable = reads_back (ascending (outputs rules)) (record {
-  each = All-weaker (Contains (ascending (outputs rules))) IsPath (λ path has. (proper path has).0) (ascending (outputs rules)) (All-contains_itself (ascending (outputs rules)));
-  files = All-weaker (Contains (ascending (outputs rules))) (λ path. path ≢ []) (λ path has. (proper path has).1) (ascending (outputs rules)) (All-contains_itself (ascending (outputs rules)));
-  up = ascending-IsAscending (outputs rules);
+-- paths below the top read back, each once and in order
+pub paths_read : (paths : List Names) → ((path : Names) → Contains paths path → IsPath path × (path ≢ [])) → owned_of (spelling (ascending paths)) ≡ Ok (ascending paths)
+paths_read paths proper = reads_back (ascending paths) (record {
+  each = All-weaker (Contains (ascending paths)) IsPath (λ path has. (proper path (ascending_has_only paths path has)).0) (ascending paths) (All-contains_itself (ascending paths));
+  files = All-weaker (Contains (ascending paths)) (λ path. path ≢ []) (λ path has. (proper path (ascending_has_only paths path has)).1) (ascending paths) (All-contains_itself (ascending paths));
+  up = ascending-IsAscending paths;
 })
-  where
-    proper : (path : Names) → Contains (ascending (outputs rules)) path → IsPath path × (path ≢ [])
-    proper path has =
-        let output = made_at rules path (sym (among_outputs rules path) ∙ among-Contains path (outputs rules) (ascending_has_only (outputs rules) path has)) in
-        buildable.paths output.0 path output.1
+
+-- as outputs are
+pub output_is_proper : (sources : Tree) (rules : List Rule) (path : Names) → IsBuildable sources rules → Contains (outputs rules) path → IsPath path × (path ≢ [])
+output_is_proper sources rules path buildable has =
+    let output = made_at rules path (sym (among_outputs rules path) ∙ among-Contains path (outputs rules) has) in
+    buildable.paths output.0 path output.1
+
+-- so what is listed in the end reads back
+pub listed_reads : (sources : Tree) (rules : List Rule) → IsBuildable sources rules → owned_of (spelling (ascending (outputs rules))) ≡ Ok (ascending (outputs rules))
+listed_reads sources rules buildable = paths_read (outputs rules) (λ path has. output_is_proper sources rules path buildable has)
+
+-- and what is claimed before
+pub claimed_reads : (store : List ℕ) (owned : List Names) (sources : Tree) (rules : List Rule) → owned_of store ≡ Ok owned → IsBuildable sources rules →
+    owned_of (spelling (ascending (owned ++ outputs rules))) ≡ Ok (ascending (owned ++ outputs rules))
+claimed_reads store owned sources rules owns buildable =
+    let mine = (spelled store owned owns).1 in
+    paths_read (owned ++ outputs rules) (λ path has. elim (Contains-append_cases owned (outputs rules) path has) [
+      | inl here ↦ (All-contains IsPath owned path mine.each here, All-contains (λ p. p ≢ []) owned path mine.files here)
+      | inr there ↦ output_is_proper sources rules path buildable there
+    ])

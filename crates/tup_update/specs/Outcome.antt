@@ -1,5 +1,5 @@
 -- What an update promises, each promise a word: the site before, the site after, and what the update says of itself.
-use Rattle.std.specs.Prelude.{◌≡◌, ◌<◌, ⊤, ℕ, false, Option, Some, IsSome, IsTrue, Ok, Err}
+use Rattle.std.specs.Prelude.{◌≡◌, ◌⊎◌, ◌++◌, ◌<◌, ⊤, ℕ, false, List, Option, None, Some, IsSome, IsTrue, Ok, Err}
 use Rattle.std.specs.FinMap as finite
 use Rattle.tup_path.specs.Count.{Rose}
 use Rattle.tup_path.specs.Name.{Names}
@@ -12,8 +12,8 @@ use Rattle.tup_owned.specs.Ascending.{ascending}
 use Rattle.tup_owned.specs.Owned.{owned_of}
 use Rattle.tup_update.specs.declared.stop.Stop.{Stop}
 use Rattle.tup_update.specs.declared.stop.Stop.TheVariants.{BadStore, Parse, Bad, Site, TooLarge, Memory}
-use Rattle.tup_update.specs.Parts.{HasFileOf, IsFirstBad}
-use Rattle.tup_update.specs.World.{World, sources, rules_read, rules, build, outputs}
+use Rattle.tup_update.specs.Parts.{HasFileOf, IsBuilt, IsFirstBad}
+use Rattle.tup_update.specs.World.{World, owned, sources, rules_read, rules, build, outputs}
 
 -- the files are those of the clean build, which succeeds, and the store lists just the outputs
 pub record ExactlyTheFiles (old new : World) : Type 0 where
@@ -52,3 +52,25 @@ abbrev pub Refuses : World → World → Option Stop → Type 0
 Refuses old new (Some (BadStore offset)) = new ≡ old
 Refuses old new (Some (Parse fault)) = new ≡ old
 Refuses old new other = ⊤
+
+-- what the store lists while files are made: what it listed before, and what the rules make
+abbrev pub claimed : World → List Names
+claimed w = ascending (owned w ++ outputs (rules w))
+
+-- the store lists these paths, and beside them the tree has the sources of before: so every other file is listed still,
+-- and no source is
+pub record IsListed (paths : List Names) (old new : World) : Type 0 where
+  pub listed : owned_of new.store ≡ Ok paths
+  pub same : sources new ≡ sources old
+
+-- nothing is forgotten, wherever an update stops: what wasn't a source before is owned by the next update too. Only a
+-- writing of the store that failed half way may leave a store that lists anything; then no file was touched yet, or
+-- all were made.
+abbrev pub NothingForgotten : World → World → Option Stop → Type 0
+NothingForgotten old new None = IsListed (ascending (outputs (rules old))) old new
+NothingForgotten old new (Some (Bad name verdict)) = IsListed (claimed old) old new
+NothingForgotten old new (Some (TooLarge n)) = (new ≡ old) ⊎ IsListed (claimed old) old new
+NothingForgotten old new (Some Site) = IsListed (claimed old) old new ⊎ (new.tree ≡ old.tree) ⊎ IsBuilt (build old) new.tree
+NothingForgotten old new (Some Memory) = IsListed (claimed old) old new ⊎ (new.tree ≡ old.tree) ⊎ IsBuilt (build old) new.tree
+NothingForgotten old new (Some (BadStore offset)) = new ≡ old
+NothingForgotten old new (Some (Parse fault)) = new ≡ old

@@ -11,7 +11,7 @@ use Rattle.tup_access.specs.declared.verdict.Verdict.{Verdict}
 use Rattle.tup_access.specs.Judge.{Judged}
 use Rattle.tup_access.specs.declared.verdict.Verdict.TheVariants.{Good}
 use Rattle.tup_mini.specs.Mini.{mini_next}
-use Rattle.tup_clean.specs.Clean.{Build, clean, is_good, good_at, with_files}
+use Rattle.tup_clean.specs.Clean.{Build, clean, is_good, good_at, succeeds, with_files}
 use Rattle.tup_clean.specs.InOrder.{IsBuildable}
 use Rattle.tup_update.specs.World.{files_beside}
 use Rattle.tup_update.specs.declared.stop.Stop.{Stop}
@@ -64,6 +64,11 @@ pub record IsRunnable (owned : List Names) (rules : List Rule) (tree : Tree) : T
 -- the clean build of the files of a tree that aren't owned
 abbrev pub build_beside : List Names → List Rule → Tree → Build
 build_beside owned rules tree = clean mini_next rules (files_beside owned tree)
+
+-- the files are those of a build that succeeds
+pub record IsBuilt (build : Build) (tree : Tree) : Type 0 where
+  pub clean : IsTrue (succeeds build)
+  pub files : tree ≡ build.tree
 
 -- a Good command has left its files
 pub record Leaves (judged : Judged) (old new : Tree) : Type 0 where

@@ -1,5 +1,5 @@
 //! The making of a project's files.
-ghost use Rattle.std.specs.Prelude.{◌≡◌, ◌++◌, ℕ, IsTrue, IfErr, OnOk, Ok, Err};
+ghost use Rattle.std.specs.Prelude.{◌≡◌, ◌⊎◌, ◌++◌, ℕ, IsTrue, IfErr, OnOk, OnErr, Ok, Err};
 ghost use Rattle.std.specs.FinMap as finite;
 ghost use Rattle.tup_rule.specs.declared.rule.RuleName.{RuleName};
 ghost use Rattle.tup_access.specs.declared.verdict.Verdict.{Verdict as VerdictValue};
@@ -8,11 +8,11 @@ ghost use Rattle.tup_clean.specs.Clean.{succeeds};
 ghost use Rattle.tup_clean.specs.InOrder.{IsBuildable};
 ghost use Rattle.tup_owned.specs.Owned.{owned_of, spelling};
 ghost use Rattle.tup_owned.specs.Ascending.{ascending};
-ghost use Rattle.tup_update.specs.World.{files_beside, outputs};
+ghost use Rattle.tup_update.specs.World.{files_beside, outputs, world};
 ghost use Rattle.tup_update.specs.Log.{up_to_first_bad, IsGrownByFront};
 ghost use Rattle.tup_update.specs.Outside.{HasOutsideCause};
 ghost use Rattle.tup_update.specs.Parts.{HasFileOf, IsOutside, IsPlainStop, IsRunStop, IsFirstBad, IsCleared, SameBeside, build_beside};
-ghost use Rattle.tup_update.specs.Building.{gone, Changes};
+ghost use Rattle.tup_update.specs.Building.{gone, Changes, IsLeft};
 ghost use Rattle.tup_update.specs.declared.stop.Stop.TheVariants.{Bad, TooLarge};
 
 use crate::clear::clear;
@@ -43,6 +43,8 @@ impl Project {
         ensures files { IsTrue S.tells → OnOk result (S.tree site.new ≡ (build_beside self.now.owned self.now.rules (S.tree site.old)).tree) }
         ensures succeeds { IsTrue S.tells → OnOk result (IsTrue (succeeds (build_beside self.now.owned self.now.rules (S.tree site.old)))) }
         ensures listed { IsTrue S.tells → OnOk result (owned_of (S.store site.new) ≡ Ok plan.now.listed) }
+        ensures left { IsTrue S.tells → IfErr result (IsLeft plan.now.claimed (build_beside self.now.owned self.now.rules (S.tree site.old))
+            (world S.tree S.store site.old) (world S.tree S.store site.new)) }
         ensures first_bad { IsTrue S.tells → (name : RuleName) (verdict : VerdictValue) → result ≡ Err (Bad name verdict)
             → IsFirstBad self.now.rules (build_beside self.now.owned self.now.rules (S.tree site.old)) name verdict }
         ensures changes { IsTrue S.tells → Changes self.now.owned self.now.rules (S.tree site.old) (S.tree site.new) }
@@ -77,6 +79,8 @@ fn prepare<S: Site>(
 ) -> Result<(), Stop>
     ensures cleared { IsTrue S.tells → OnOk result (IsCleared plan.now.vanished (S.tree site.old) (S.tree site.new)) }
     ensures others { IsTrue S.tells → SameBeside plan.now.vanished (S.tree site.old) (S.tree site.new) }
+    ensures claimed { IsTrue S.tells → OnOk result (S.store site.new ≡ spelling plan.now.claimed) }
+    ensures unclaimed { IsTrue S.tells → OnErr result ((S.store site.new ≡ spelling plan.now.claimed) ⊎ (S.tree site.new ≡ S.tree site.old)) }
     ensures removed { OnOk result (removed.new ≡ removed.old ++ plan.now.vanished) }
     ensures part { IsGrownByFront removed.old removed.new plan.now.vanished }
     ensures kinds { IfErr result IsPlainStop }

@@ -36,20 +36,6 @@ pub(crate) fn without(alloc: Global, paths: &[Path], others: &[Path]) -> Result<
     Ok(rest)
 }
 
-/// The paths that are among others too, in their order.
-pub(crate) fn within(alloc: Global, paths: &[Path], others: &[Path]) -> Result<Paths, AllocError>
-    ensures { IfOk result (λ both. both ≡ filter (λ path. among path others.now) paths.now) }
-{
-    let known = path_set(alloc, others)?;
-    let mut both = Paths::new(alloc);
-    for path in paths {
-        if known.contains(path) {
-            both.push(path.clone()?)?;
-        }
-    }
-    Ok(both)
-}
-
 /// All outputs of some rules, in the order of the rules.
 pub(crate) fn outputs_of(alloc: Global, rules: &[Rule]) -> Result<Paths, AllocError>
     ensures { IfOk result (λ paths. paths ≡ outputs rules.now) }

@@ -3,7 +3,7 @@ ghost use Rattle.std.specs.Prelude.{◌≡◌, ◌≤◌, [], IsTrue, IfSome, If
 ghost use Rattle.tup_update.specs.World.{world};
 ghost use Rattle.tup_update.specs.Log.{IsEmptyLog};
 ghost use Rattle.tup_update.specs.Whole.{LogFits, RulesFit};
-ghost use Rattle.tup_update.specs.Outcome.{ExactlyTheFiles, SourcesStay, Refuses, HasCause, HasCountedCause};
+ghost use Rattle.tup_update.specs.Outcome.{ExactlyTheFiles, SourcesStay, NothingForgotten, Refuses, HasCause, HasCountedCause};
 
 use crate::log::Log;
 use crate::plan::Plan;
@@ -27,6 +27,7 @@ pub struct Update {
 pub fn update_site<S: Site>(alloc: Global, site: &mut S) -> Update
     ensures exactly_the_files { IsTrue S.tells → IfNone result.stopped (ExactlyTheFiles (world S.tree S.store site.old) (world S.tree S.store site.new)) }
     ensures sources_stay { IsTrue S.tells → SourcesStay (world S.tree S.store site.old) (world S.tree S.store site.new) }
+    ensures nothing_forgotten { IsTrue S.tells → NothingForgotten (world S.tree S.store site.old) (world S.tree S.store site.new) result.stopped }
     ensures refused { IsTrue S.tells → Refuses (world S.tree S.store site.old) (world S.tree S.store site.new) result.stopped }
     ensures cause { IsTrue S.tells → IfSome result.stopped (HasCause (world S.tree S.store site.old) (world S.tree S.store site.new)) }
     ensures counted_cause { IfSome result.stopped (HasCountedCause (S.faults site.old) (S.faults site.new)) }
@@ -37,7 +38,7 @@ pub fn update_site<S: Site>(alloc: Global, site: &mut S) -> Update
     match Project::read(alloc, site) {
         Err(stop) => stopped(alloc, stop),
         Ok(project) => match Plan::of(alloc, &project) {
-            Err(_) => stopped(alloc, Stop::Memory),
+            Err(stop) => stopped(alloc, stop),
             Ok(plan) => {
                 let mut log = Log::new(alloc);
                 let stopped = project.build(alloc, site, &plan, &mut log).err();

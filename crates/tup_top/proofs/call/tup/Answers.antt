@@ -1,5 +1,6 @@
 use Rattle.tup_update.specs.World.{world}
 use Rattle.tup_top.specs.Promise.{counts}
+use Rattle.tup_top.proofs.Causes.{unchanged_refuses}
 use Rattle.tup_top.proofs.Success.{succeeds_so, sources_stay_so}
 use Rattle.tup_top.proofs.call.tup.Goals as goal
 
@@ -17,3 +18,9 @@ returns-in-Ok-Demo-clause-sources_stay g c = λ _. sources_stay_so (world g.S.Si
 -- src/call.rt:29:1
 pub returns-in-Err-clause-sources_stay : goal.returns-in-Err-clause-sources_stay
 returns-in-Err-clause-sources_stay g c = λ _. sources_stay_so (world g.S.Site.tree g.S.Site.store c.args.site)
+
+pub returns-in-Ok-Demo-clause-refused : goal.returns-in-Ok-Demo-clause-refused
+returns-in-Ok-Demo-clause-refused g c = λ _. unchanged_refuses (world g.S.Site.tree g.S.Site.store c.args.site) _
+
+pub returns-in-Err-clause-refused : goal.returns-in-Err-clause-refused
+returns-in-Err-clause-refused g c = λ _. unchanged_refuses (world g.S.Site.tree g.S.Site.store c.args.site) _

@@ -1,17 +1,22 @@
-use Rattle.std.proofs.Common.{◌≡◌, ◌++◌, List, refl, sym, ◌∙◌, ap, subst}
+use Rattle.std.proofs.Common.{◌≡◌, ◌++◌, List, Some, Ok, refl, sym, ◌∙◌, ap, subst}
+use Rattle.std.specs.Result.{result_err}
 use Rattle.std.specs.FinMap as finite
 use Rattle.tup_path.specs.Name.{Names}
 use Rattle.tup_path.specs.Tree.{Tree}
 use Rattle.tup_update.specs.declared.log.Log.{Log}
 use Rattle.tup_update.specs.declared.stop.Stop.TheVariants.{Memory}
-use Rattle.tup_update.specs.World.{world, owned, build}
+use Rattle.tup_update.specs.declared.stop.Stop.{Stop}
+use Rattle.tup_clean.specs.InOrder.{IsBuildable}
+use Rattle.tup_owned.specs.Owned.{owned_of}
+use Rattle.tup_update.specs.World.{World, world, owned, build, files_beside, rules_beside}
 use Rattle.tup_update.specs.Log.{IsFront, up_to_first_bad}
 use Rattle.tup_update.specs.Parts.{build_beside}
-use Rattle.tup_update.specs.Outcome.{Refuses}
+use Rattle.tup_update.specs.Outcome.{NothingForgotten, Refuses}
 use Rattle.tup_update.specs.Whole.{LogFits, RulesFit, vanished}
 use Rattle.tup_update.proofs.Beside.{left_is}
 use Rattle.tup_update.proofs.Stops.{weaker_ok, weaker_err}
 use Rattle.tup_update.proofs.Ending.{sources_are_kept, nothing_logged, all_logged, no_rules, all_rules, refuses, runs, vanished_is, read_is, verdicts_are, grown_from_nothing}
+use Rattle.tup_update.proofs.Known.{unchanged, after_making}
 use Rattle.tup_update.proofs.update.update_site.Goals as goal
 
 pub returns-in-Err-clause-sources_stay : goal.returns-in-Err-clause-sources_stay
@@ -32,7 +37,7 @@ returns-in-Err-of-clause-sources_stay g c = λ tells path there.
 pub returns-in-Err-of-clause-logged : goal.returns-in-Err-of-clause-logged
 returns-in-Err-of-clause-logged g c = λ tells.
     nothing_logged (world g.S.Site.tree g.S.Site.store c.args.site.now) c.stopped-in-Err-of.result.log Memory c.stopped-in-Err-of.result.stopped
-    c.stopped-in-Err-of.ensures.log tt c.stopped-in-Err-of.ensures.stopped
+    c.stopped-in-Err-of.ensures.log tt (c.stopped-in-Err-of.ensures.stopped ∙ ap (λ (s : Stop). Some s) c.in-Err-of.ensures.memory)
 
 pub returns-in-Ok-of-clause-sources_stay : goal.returns-in-Ok-of-clause-sources_stay
 returns-in-Ok-of-clause-sources_stay g c = λ tells path there.
@@ -76,7 +81,7 @@ returns-in-Err-clause-rules g c = λ tells.
 pub returns-in-Err-of-clause-rules : goal.returns-in-Err-of-clause-rules
 returns-in-Err-of-clause-rules g c = λ tells.
     no_rules (world g.S.Site.tree g.S.Site.store c.args.site.now) c.stopped-in-Err-of.result.rules Memory c.stopped-in-Err-of.result.stopped
-    c.stopped-in-Err-of.ensures.rules tt c.stopped-in-Err-of.ensures.stopped
+    c.stopped-in-Err-of.ensures.rules tt (c.stopped-in-Err-of.ensures.stopped ∙ ap (λ (s : Stop). Some s) c.in-Err-of.ensures.memory)
 
 pub returns-in-Ok-of-clause-rules : goal.returns-in-Ok-of-clause-rules
 returns-in-Ok-of-clause-rules g c = λ tells.
@@ -101,3 +106,32 @@ returns-in-Ok-of-clause-refused g c = λ tells.
     let old = world g.S.Site.tree g.S.Site.store c.args.site.now in
     let new = world g.S.Site.tree g.S.Site.store c.build.new.site in
     subst (Refuses old new) (sym c.err-stopped.ensures.value) (runs old new c.build.result c.build.ensures.kinds)
+
+pub returns-in-Err-clause-nothing_forgotten : goal.returns-in-Err-clause-nothing_forgotten
+returns-in-Err-clause-nothing_forgotten g c = λ tells.
+    let same : world g.S.Site.tree g.S.Site.store c.read.new.site ≡ world g.S.Site.tree g.S.Site.store c.args.site.now =
+    λ i. record { tree = c.read.ensures.tree tells i; store = c.read.ensures.store tells i } in
+    unchanged _ _ c.in-Err.stop c.stopped.result.stopped same c.in-Err.ensures.kinds c.stopped.ensures.stopped
+
+pub returns-in-Err-of-clause-nothing_forgotten : goal.returns-in-Err-of-clause-nothing_forgotten
+returns-in-Err-of-clause-nothing_forgotten g c = λ tells.
+    let same : world g.S.Site.tree g.S.Site.store c.read.new.site ≡ world g.S.Site.tree g.S.Site.store c.args.site.now =
+    λ i. record { tree = c.read.ensures.tree tells i; store = c.read.ensures.store tells i } in
+    unchanged _ _ Memory c.stopped-in-Err-of.result.stopped same tt (c.stopped-in-Err-of.ensures.stopped ∙ ap (λ (s : Stop). Some s) c.in-Err-of.ensures.memory)
+
+pub returns-in-Ok-of-clause-nothing_forgotten : goal.returns-in-Ok-of-clause-nothing_forgotten
+returns-in-Ok-of-clause-nothing_forgotten g c = λ tells.
+    let old = world g.S.Site.tree g.S.Site.store c.args.site.now in
+    let begun = world g.S.Site.tree g.S.Site.store c.read.new.site in
+    let new = world g.S.Site.tree g.S.Site.store c.build.new.site in
+    let project = c.in-Ok.project in
+    let same : begun ≡ old = λ i. record { tree = c.read.ensures.tree tells i; store = c.read.ensures.store tells i } in
+    subst (NothingForgotten old new) (sym c.err-stopped.ensures.value)
+    (subst (λ (w : World). NothingForgotten w new (result_err c.build.result)) same
+    (after_making begun new project.owned c.in-Ok-of.plan.claimed project.rules c.build.result
+    (ap owned_of (c.read.ensures.store tells) ∙ c.in-Ok.ensures.owned tells)
+    (ap (rules_beside project.owned) (c.read.ensures.tree tells) ∙ c.in-Ok.ensures.rules tells)
+    (subst (λ (t : Tree). IsBuildable (files_beside project.owned t) project.rules) (sym (c.read.ensures.tree tells)) (c.in-Ok.ensures.buildable tells))
+    (c.build.ensures.changes tells) c.in-Ok-of.ensures.claimed (c.build.ensures.files tells) (c.build.ensures.succeeds tells)
+    (weaker_ok c.build.result _ _ (λ reads. reads ∙ ap (λ (l : List Names). Ok l) c.in-Ok-of.ensures.listed) (c.build.ensures.listed tells))
+    c.build.ensures.kinds (c.build.ensures.left tells)))

@@ -1,4 +1,4 @@
-use Rattle.std.proofs.Common.{◌≡◌, ◌++◌, [], Ok, List, IsTrue, refl, sym, ◌∙◌, ap, subst}
+use Rattle.std.proofs.Common.{◌≡◌, inl, inr, ◌++◌, [], Ok, List, IsTrue, refl, sym, ◌∙◌, ap, subst}
 use Rattle.std.specs.FinMap as finite
 use Rattle.std.proofs.lemmas.List.{append-nil}
 use Rattle.tup_path.specs.Name.{Names}
@@ -10,8 +10,8 @@ use Rattle.tup_owned.specs.Owned.{owned_of, spelling}
 use Rattle.tup_update.specs.World.{files_beside}
 use Rattle.tup_update.specs.Log.{up_to_first_bad, IsGrownByFront}
 use Rattle.tup_update.specs.declared.stop.Stop.TheVariants.{Bad}
-use Rattle.tup_update.specs.Parts.{IsFirstBad, SameBeside, IsCleared, build_beside}
-use Rattle.tup_update.proofs.Stops.{handed_on, err_if, on_ok, if_err, weaker_ok}
+use Rattle.tup_update.specs.Parts.{IsBuilt, IsFirstBad, SameBeside, IsCleared, build_beside}
+use Rattle.tup_update.proofs.Stops.{handed_on, err_if, on_ok, if_err, weaker_ok, weaker_err}
 use Rattle.tup_update.proofs.Preparing.{same_sources, runnable, changes, listed_reads}
 use Rattle.tup_update.proofs.project.Project.build.Goals as goal
 
@@ -123,3 +123,26 @@ returns-clause-ran_part g c = λ tells.
     let build : build_beside project.owned project.rules between ≡ build_beside project.owned project.rules old = ap (clean mini_next project.rules) (same_sources project.owned project.files project.rules old between same) in
     let none : List Verdict = [] in
     if_err c.finish.result _ (λ stop outside. (_, (none, append-nil _), c.in_ok-run.ensures.noted tells ∙ ap (λ (b : Build). c.args.log.now.verdicts ++ up_to_first_bad b.verdicts) build))
+
+pub returns-in_err-prepare-clause-left : goal.returns-in_err-prepare-clause-left
+returns-in_err-prepare-clause-left g c = λ tells.
+    err_if c.from_residual.result c.in_err-prepare.field-0.0 _ c.from_residual.ensures.1
+    (elim (c.in_err-prepare.ensures.unclaimed tells) [ inl stored ↦ inl stored | inr same ↦ inr (c.in_err-prepare.ensures.kinds, inl same) ])
+
+pub returns-in_err-run-clause-left : goal.returns-in_err-run-clause-left
+returns-in_err-run-clause-left g c = λ tells.
+    err_if c.from_residual-in_err-run.result c.in_err-run.field-0.0 _ c.from_residual-in_err-run.ensures.1
+    (inl (c.run.ensures.store tells ∙ c.in_ok-prepare.ensures.claimed tells))
+
+pub returns-clause-left : goal.returns-clause-left
+returns-clause-left g c = λ tells.
+    let project = c.args.self.now in
+    let old = g.S.Site.tree c.args.site.now in
+    let between = g.S.Site.tree c.prepare.new.site in
+    let same = subst (λ (l : List Names). SameBeside l old between) c.requires.vanished (c.prepare.ensures.others tells) in
+    let build : build_beside project.owned project.rules between ≡ build_beside project.owned project.rules old = ap (clean mini_next project.rules) (same_sources project.owned project.files project.rules old between same) in
+    let built : IsBuilt (build_beside project.owned project.rules between) (g.S.Site.tree c.finish.new.site) = record {
+      clean = c.in_ok-run.ensures.succeeds tells;
+      files = c.finish.ensures.tree tells ∙ c.in_ok-run.ensures.files tells;
+    } in
+    weaker_err c.finish.result _ _ (λ stop plain. inr (plain, inr (subst (λ (b : Build). IsBuilt b (g.S.Site.tree c.finish.new.site)) build built))) c.finish.ensures.kinds
