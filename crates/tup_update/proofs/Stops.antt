@@ -22,10 +22,6 @@ pub handed_on : {A B : Type 0} (called : Result A Stop) (result : Result B Stop)
 handed_on called (Ok value) stop other was is e = absurd is
 handed_on called (Err given) stop other was is e = let same : given ≡ other = cc in was ∙ ap Err (sym is ∙ same)
 
--- what a call's stop never is
-pub never : {A : Type 0} (P : Stop → Type 0) (result : Result A Stop) (stop : Stop) → IfErr result P → result ≡ Err stop → P stop
-never {A} P result stop kinds e = subst (λ (r : Result A Stop). IfErr r P) e kinds
-
 -- a fact of the stop that was handed on
 pub err_if : {A : Type 0} (result : Result A Stop) (stop : Stop) (P : Stop → Type 0) → IsErrAnd result (λ e. e ≡ stop) → P stop → IfErr result P
 err_if (Ok value) stop P is p = absurd is
@@ -39,12 +35,3 @@ on_ok (Err e) P p = tt
 pub if_err : {A : Type 0} (result : Result A Stop) (P : Stop → Type 0) → ((stop : Stop) → P stop) → IfErr result P
 if_err (Ok value) P p = tt
 if_err (Err stop) P p = p stop
-
--- a weaker fact where a call ended well
-pub weaker_ok : {A E : Type 0} (result : Result A E) (P Q : Type 0) → (P → Q) → OnOk result P → OnOk result Q
-weaker_ok (Ok value) P Q f p = f p
-weaker_ok (Err e) P Q f p = tt
-
-pub weaker_err : {A : Type 0} (result : Result A Stop) (P Q : Stop → Type 0) → ((stop : Stop) → P stop → Q stop) → IfErr result P → IfErr result Q
-weaker_err (Ok value) P Q f p = tt
-weaker_err (Err stop) P Q f p = f stop p

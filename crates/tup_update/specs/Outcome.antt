@@ -57,8 +57,8 @@ Refuses old new other = ⊤
 abbrev pub claimed : World → List Names
 claimed w = ascending (owned w ++ outputs (rules w))
 
--- the store lists these paths, and beside them the tree has the sources of before: so every other file is listed still,
--- and no source is
+-- the store lists these paths, and beside them the tree has the sources of before: every other file is listed, no source
+-- is, and the next update asks for the same rules
 pub record IsListed (paths : List Names) (old new : World) : Type 0 where
   pub listed : owned_of new.store ≡ Ok paths
   pub same : sources new ≡ sources old

@@ -1,3 +1,4 @@
+use Rattle.std.proofs.lemmas.Result.{on_ok_weaker, IfErr-weaker}
 use Rattle.std.proofs.Common.{◌≡◌, ◌++◌, List, Some, Ok, refl, sym, ◌∙◌, ap, subst}
 use Rattle.std.specs.Result.{result_err}
 use Rattle.std.specs.FinMap as finite
@@ -14,7 +15,6 @@ use Rattle.tup_update.specs.Parts.{build_beside}
 use Rattle.tup_update.specs.Outcome.{NothingForgotten, Refuses}
 use Rattle.tup_update.specs.Whole.{LogFits, RulesFit, vanished}
 use Rattle.tup_update.proofs.Beside.{left_is}
-use Rattle.tup_update.proofs.Stops.{weaker_ok, weaker_err}
 use Rattle.tup_update.proofs.Ending.{sources_are_kept, nothing_logged, all_logged, no_rules, all_rules, refuses, runs, vanished_is, read_is, verdicts_are, grown_from_nothing}
 use Rattle.tup_update.proofs.Known.{unchanged, after_making}
 use Rattle.tup_update.proofs.update.update_site.Goals as goal
@@ -64,12 +64,12 @@ returns-in-Ok-of-clause-logged g c = λ tells.
     ∙ verdicts_are w project.owned project.rules owns asks in
     subst (LogFits w log) (sym c.err-stopped.ensures.value)
     (all_logged w log result (read_is w project.owned project.read owns (c.in-Ok.ensures.read tells))
-    (weaker_ok result _ _ (λ e. e ∙ removed) c.build.ensures.removed)
+    (on_ok_weaker result (λ e. e ∙ removed) c.build.ensures.removed)
     (λ name verdict bad. c.build.ensures.removed_bad name verdict bad ∙ removed)
     (subst (IsFront log.removed) gone_is (grown_from_nothing c.new-log.result.removed log.removed c.in-Ok-of.plan.vanished c.new-log.ensures.1 c.build.ensures.removed_part))
-    (weaker_ok result _ _ (λ e. e ∙ ran) (c.build.ensures.ran tells))
+    (on_ok_weaker result (λ e. e ∙ ran) (c.build.ensures.ran tells))
     (λ name verdict bad. c.build.ensures.ran_bad tells name verdict bad ∙ ran)
-    (weaker_err result _ _ (λ stop grown outside. subst (IsFront log.verdicts) ((λ i. up_to_first_bad (build_beside project.owned project.rules (c.read.ensures.tree tells i)).verdicts) ∙ verdicts_are w project.owned project.rules owns asks)
+    (IfErr-weaker result _ _ (λ stop grown outside. subst (IsFront log.verdicts) ((λ i. up_to_first_bad (build_beside project.owned project.rules (c.read.ensures.tree tells i)).verdicts) ∙ verdicts_are w project.owned project.rules owns asks)
     (grown_from_nothing c.new-log.result.verdicts log.verdicts _ c.new-log.ensures.2 (grown outside))) (c.build.ensures.ran_part tells))
     c.build.ensures.kinds)
 
@@ -133,5 +133,5 @@ returns-in-Ok-of-clause-nothing_forgotten g c = λ tells.
     (ap (rules_beside project.owned) (c.read.ensures.tree tells) ∙ c.in-Ok.ensures.rules tells)
     (subst (λ (t : Tree). IsBuildable (files_beside project.owned t) project.rules) (sym (c.read.ensures.tree tells)) (c.in-Ok.ensures.buildable tells))
     (c.build.ensures.changes tells) c.in-Ok-of.ensures.claimed (c.build.ensures.files tells) (c.build.ensures.succeeds tells)
-    (weaker_ok c.build.result _ _ (λ reads. reads ∙ ap (λ (l : List Names). Ok l) c.in-Ok-of.ensures.listed) (c.build.ensures.listed tells))
+    (on_ok_weaker c.build.result (λ reads. reads ∙ ap (λ (l : List Names). Ok l) c.in-Ok-of.ensures.listed) (c.build.ensures.listed tells))
     c.build.ensures.kinds (c.build.ensures.left tells)))

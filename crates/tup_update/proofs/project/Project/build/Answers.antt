@@ -1,3 +1,4 @@
+use Rattle.std.proofs.lemmas.Result.{on_ok_weaker, IfErr-weaker}
 use Rattle.std.proofs.Common.{◌≡◌, inl, inr, ◌++◌, [], Ok, List, IsTrue, refl, sym, ◌∙◌, ap, subst}
 use Rattle.std.specs.FinMap as finite
 use Rattle.std.proofs.lemmas.List.{append-nil}
@@ -11,7 +12,7 @@ use Rattle.tup_update.specs.World.{files_beside}
 use Rattle.tup_update.specs.Log.{up_to_first_bad, IsGrownByFront}
 use Rattle.tup_update.specs.declared.stop.Stop.TheVariants.{Bad}
 use Rattle.tup_update.specs.Parts.{IsBuilt, IsFirstBad, SameBeside, IsCleared, build_beside}
-use Rattle.tup_update.proofs.Stops.{handed_on, err_if, on_ok, if_err, weaker_ok, weaker_err}
+use Rattle.tup_update.proofs.Stops.{handed_on, err_if, on_ok, if_err}
 use Rattle.tup_update.proofs.Preparing.{same_sources, runnable, changes, listed_reads}
 use Rattle.tup_update.proofs.project.Project.build.Goals as goal
 
@@ -92,7 +93,7 @@ pub returns-clause-listed : goal.returns-clause-listed
 returns-clause-listed g c = λ tells.
     let project = c.args.self.now in
     let back = listed_reads (files_beside project.owned (g.S.Site.tree c.args.site.now)) project.rules (c.requires.buildable tells) in
-    weaker_ok c.finish.result _ _
+    on_ok_weaker c.finish.result
     (λ stored. ap owned_of (stored ∙ ap spelling (c.as_slice.ensures ∙ c.requires.listed)) ∙ back ∙ ap (λ (l : List Names). Ok l) (sym c.requires.listed))
     (c.finish.ensures.listed tells)
 
@@ -145,4 +146,4 @@ returns-clause-left g c = λ tells.
       clean = c.in_ok-run.ensures.succeeds tells;
       files = c.finish.ensures.tree tells ∙ c.in_ok-run.ensures.files tells;
     } in
-    weaker_err c.finish.result _ _ (λ stop plain. inr (plain, inr (subst (λ (b : Build). IsBuilt b (g.S.Site.tree c.finish.new.site)) build built))) c.finish.ensures.kinds
+    IfErr-weaker c.finish.result _ _ (λ stop plain. inr (plain, inr (subst (λ (b : Build). IsBuilt b (g.S.Site.tree c.finish.new.site)) build built))) c.finish.ensures.kinds

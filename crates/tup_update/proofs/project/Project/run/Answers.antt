@@ -1,3 +1,4 @@
+use Rattle.std.proofs.lemmas.Result.{IfErr-at_err}
 use Rattle.std.proofs.Common.{◌≡◌, ℕ, suc, ◌+◌, ◌++◌, List, length, replicate, refl, sym, ◌∙◌, ap, subst, arith}
 use Rattle.std.proofs.lemmas.List.{append-nil}
 use Rattle.tup_rule.specs.declared.rule.Rule.{Rule}
@@ -9,7 +10,7 @@ use Rattle.tup_clean.specs.CleanLaws.{clean_tree_of_good, clean_succeeds}
 use Rattle.tup_update.specs.World.{files_beside}
 use Rattle.tup_update.specs.declared.stop.Stop.TheVariants.{Bad}
 use Rattle.tup_update.specs.Parts.{IsRunStop}
-use Rattle.tup_update.proofs.Stops.{handed_on, never, err_if}
+use Rattle.tup_update.proofs.Stops.{handed_on, err_if}
 use Rattle.tup_update.proofs.Running.{CarriesOn, rule_here, room_for, agrees_at_first, beside_all, carried_on, replicate_more, noted_more, first_bad, noted_to_bad, noted_front, noted_all}
 use Rattle.tup_update.proofs.project.Project.run.Goals as goal
 
@@ -37,7 +38,7 @@ returns-in_err-run_rule-clause-first_bad g c = λ tells name verdict e.
     first_bad c.loop-rule.rule-index c.args.self.now.owned c.args.self.now.rules (g.S.Site.tree c.args.site.now) _ c.rule-item.result name verdict (c.requires.runnable tells)
     (rule_here c.args.self.now.rules _ c.loop-rule.rule-index c.rule-item.result c.as_slice-rule-items.ensures c.loop-rule-test.true c.rule-item.is)
     (c.loop-rule.invariant.carries tells) (c.run_rule.ensures.bad tells name verdict is) (c.run_rule.ensures.named name verdict is)
-    (never IsRunStop c.run_rule.result (Bad name verdict) c.run_rule.ensures.kinds is)
+    (IfErr-at_err IsRunStop is c.run_rule.ensures.kinds)
 
 pub returns-in_err-run_rule-clause-noted_bad : goal.returns-in_err-run_rule-clause-noted_bad
 returns-in_err-run_rule-clause-noted_bad g c = λ tells name verdict e.
@@ -47,7 +48,7 @@ returns-in_err-run_rule-clause-noted_bad g c = λ tells name verdict e.
     (sym (noted_to_bad c.loop-rule.rule-index c.args.self.now.owned c.args.self.now.rules (g.S.Site.tree c.args.site.now) _ c.rule-item.result name verdict (c.requires.runnable tells)
     (rule_here c.args.self.now.rules _ c.loop-rule.rule-index c.rule-item.result c.as_slice-rule-items.ensures c.loop-rule-test.true c.rule-item.is)
     (c.loop-rule.invariant.carries tells) (c.run_rule.ensures.bad tells name verdict is)
-    (never IsRunStop c.run_rule.result (Bad name verdict) c.run_rule.ensures.kinds is)))
+    (IfErr-at_err IsRunStop is c.run_rule.ensures.kinds)))
 
 pub returns-in_err-run_rule-clause-part : goal.returns-in_err-run_rule-clause-part
 returns-in_err-run_rule-clause-part g c = λ tells.
