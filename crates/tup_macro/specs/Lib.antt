@@ -1,0 +1,2 @@
+pub mod Macros
+pub mod Gifts

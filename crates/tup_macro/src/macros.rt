@@ -1,0 +1,74 @@
+//! Macros by their names.
+ghost use Rattle.std.specs.Prelude.{◌≡◌, ◌⊎◌, ◌↔◌, ◌++◌, ◌∷◌, [], List, ℕ, Ok, Err, Some, None, IsSome, OnOk, IfErr, MatchResult, bytes_eq, if◌then◌else◌};
+ghost use Rattle.tup_macro.specs.Macros.{macro_of};
+
+use crate::entries::value_of;
+use crate::fault::MacroFault;
+use std::alloc::Global;
+use std::marker::Model;
+use tup_path::{Items, Text};
+
+/// A list of texts.
+pub type Texts = Items<Text>;
+
+/// What a macro line says behind its name.
+#[derive(Debug, Drop, PartialEq, Eq)]
+pub struct Macro {
+    /// The words of its order-only inputs, in order.
+    pub order: Texts,
+    /// The command.
+    pub command: Text,
+    /// The words of its outputs, in order.
+    pub outputs: Texts,
+    /// The words of its extra outputs, in order.
+    pub extra: Texts,
+}
+
+/// Macros by their names, in the order of their definitions. Contracts see the list of names with
+/// their macros.
+#[derive(Drop)]
+pub struct Macros {
+    macros: Vec<(Text, Macro)>,
+}
+
+impl Model for Macros {
+    ghost use Rattle.std.specs.Prelude.{List, ℕ};
+    ghost use Rattle.tup_macro.specs.declared.macros.Macro.{Macro};
+
+    ghost Value = { List (List ℕ × Macro) };
+
+    ghost view = { λ table. table.macros.items };
+}
+
+impl Macros {
+    /// The table without a macro; it takes no memory.
+    pub fn new(alloc: Global) -> Result<Macros, MacroFault>
+        ensures { result ≡ Ok [] }
+    {
+        Ok(Macros {
+            macros: Vec::new(alloc),
+        })
+    }
+
+    /// Defines a macro. `DefinedTwice` comes just where the name has one. After a refusal the table
+    /// is as it was.
+    pub fn define(&mut self, name: &Text, body: Macro) -> Result<(), MacroFault>
+        ensures defined { OnOk result (self.new ≡ self.old ++ (name.now, body) ∷ []) }
+        ensures found { OnOk result ((other : List ℕ) → macro_of self.new other ≡ (if bytes_eq name.now other then Some body else macro_of self.old other)) }
+        ensures twice { (result ≡ Err MacroFault.DefinedTwice) ↔ IsSome (macro_of self.old name.now) }
+        ensures refused { IfErr result (λ fault. ((fault ≡ MacroFault.DefinedTwice) ⊎ (fault ≡ MacroFault.Memory)) × (self.new ≡ self.old)) }
+    {
+        if value_of(&self.macros, name).is_some() {
+            return Err(MacroFault::DefinedTwice);
+        }
+        self.macros.push((name.clone()?, body))?;
+        Ok(())
+    }
+
+    /// The macro of a name. `NoSuchMacro` comes just where it has none, and nothing else is refused.
+    pub fn get(&self, name: &Text) -> Result<&Macro, MacroFault>
+        ensures { MatchResult result (λ body. macro_of self.now name.now ≡ Some body.now) (λ fault. (fault ≡ MacroFault.NoSuchMacro) × (macro_of self.now name.now ≡ None)) }
+    {
+        value_of(&self.macros, name).ok_or(MacroFault::NoSuchMacro)
+    }
+}
