@@ -1,13 +1,11 @@
 -- What is found after a path was given to a key, and gifts that are kept as sets.
-use Rattle.std.proofs.Common.{◌≡◌, ℕ, ◌||◌, ◌&&◌, Bool, true, false, cond, List, [], ◌∷◌, map, get_or, set, position, option_map, Option, Some, None, Result, Ok, Err, MatchResult, OnOk, is_some, unwrap_or, refl, sym, ap, subst, ◌∙◌}
+use Rattle.std.proofs.Common.{◌≡◌, ℕ, ◌||◌, ◌&&◌, Bool, true, false, cond, List, [], ◌∷◌, map, get_or, set, position, option_map, Option, Some, None, Result, Ok, Err, OnOk, is_some, unwrap_or, refl, sym, ap, subst, ◌∙◌}
 use Rattle.std.specs.BTreeSet.{BTreeSet, insert_key}
 use Rattle.std.specs.Cmp.{IsEquivalence, on_equiv}
 use Rattle.std.specs.HashMap.Eq.{lookup_congr}
-use Rattle.std.specs.List.{list_any}
 use Rattle.std.specs.Map.{lookup, set_value}
 use Rattle.std.specs.Option.{option_map_or}
 use Rattle.std.specs.Ordering.{match_ordering}
-use Rattle.std.specs.declared.cmp.Ordering.{Ordering}
 use Rattle.std.specs.declared.cmp.Ordering.TheVariants.{Less, Equal, Greater}
 use Rattle.std.proofs.lemmas.Cmp.{and_equiv, lists_equiv, nat_list_eq_equiv}
 use Rattle.std.proofs.lemmas.Map.{lookup-set_value}
@@ -17,8 +15,8 @@ use Rattle.tup_path.specs.Name.{Names}
 use Rattle.tup_path.specs.Order.{by_names, same_path, by_names-antisymmetric}
 use Rattle.tup_rule.specs.Rule.{among}
 use Rattle.tup_rule.specs.declared.draft.GroupRef.{GroupRef}
-use Rattle.tup_macro.specs.Gifts.{GiftsTo, same_group, members_of, was_given, with_gift, IsOneMore}
-use Rattle.tup_macro.proofs.Lookups.{lookup-no_place, lookup-place, set-place, map-set_value, lookup-last}
+use Rattle.tup_macro.specs.Gifts.{GiftsTo, same_group, members_of, with_gift, IsOneMore}
+use Rattle.tup_macro.proofs.Lookups.{lookup-place, set-place, map-set_value, lookup-last}
 
 -- being the same group is an equivalence
 pub same_group-equiv : IsEquivalence same_group
@@ -75,9 +73,9 @@ module _ {K : Type 0} {eq : K → K → Bool} (laws : IsEquivalence eq) where
   }
 
   -- the same of a call that gives
-  pub one_more-given : {X E : Type 0} (r : Result X E) (Q : E → Type 0) (before now : GiftsTo K) (key : K) (path : Names) → MatchResult r (λ _. now ≡ with_gift eq before key path) Q → OnOk r (IsOneMore eq before now key path)
-  one_more-given (Ok _) Q before now key path given = subst (λ (gifts : GiftsTo K). IsOneMore eq before gifts key path) (sym given) (one_more before key path)
-  one_more-given (Err _) Q before now key path given = tt
+  pub one_more-given : {X E : Type 0} (r : Result X E) (before now : GiftsTo K) (key : K) (path : Names) → OnOk r (now ≡ with_gift eq before key path) → OnOk r (IsOneMore eq before now key path)
+  one_more-given (Ok _) before now key path given = subst (λ (gifts : GiftsTo K). IsOneMore eq before gifts key path) (sym given) (one_more before key path)
+  one_more-given (Err _) before now key path given = tt
 
 -- ---- gifts kept as sets
 abbrev pub seen : {K : Type 0} → List (K × BTreeSet Names) → GiftsTo K

@@ -1,6 +1,6 @@
 -- Paths that were given to bins and groups. From the manual: rules give their outputs to a bin or a group, others take its members.
 -- Own: members stand in the order of paths, each once.
-use Rattle.std.specs.Prelude.{◌≡◌, ◌++◌, ◌∷◌, [], ◌&&◌, ◌||◌, ℕ, Bool, false, List, Option, is_some, bytes_eq}
+use Rattle.std.specs.Prelude.{◌≡◌, ◌++◌, ◌∷◌, [], ◌&&◌, ◌||◌, Bool, false, List, Option, is_some, bytes_eq}
 use Rattle.std.specs.BTreeSet.{insert_key}
 use Rattle.std.specs.Map.{lookup, set_value}
 use Rattle.std.specs.Option.{option_map_or}

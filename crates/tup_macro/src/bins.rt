@@ -1,5 +1,5 @@
 //! Bins of paths by their names.
-ghost use Rattle.std.specs.Prelude.{◌≡◌, ◌⊎◌, [], Ok, Some, None, IsSome, Err, IfOk, IfErr, OnOk, MatchResult, ◌↔◌, bytes_eq};
+ghost use Rattle.std.specs.Prelude.{◌≡◌, ◌⊎◌, [], Ok, Some, None, Err, IfOk, IfErr, OnOk, ◌↔◌, bytes_eq};
 ghost use Rattle.std.specs.List.Sorted.{IsStrictlySortedBy};
 ghost use Rattle.tup_path.specs.Order.{by_names};
 ghost use Rattle.tup_macro.specs.Gifts.{members_of, with_gift, IsOneMore};
@@ -37,8 +37,9 @@ impl Bins {
 
     /// Gives a path to a bin, which holds it once. After a refusal the table is as it was.
     pub fn add(&mut self, name: &Text, path: &Path) -> Result<(), MacroFault>
-        ensures given { MatchResult result (λ _. self.new ≡ with_gift bytes_eq self.old name.now path.now) (λ fault. (fault ≡ MacroFault.Memory) × (self.new ≡ self.old)) }
+        ensures given { OnOk result (self.new ≡ with_gift bytes_eq self.old name.now path.now) }
         ensures one_more { OnOk result (IsOneMore bytes_eq self.old self.new name.now path.now) }
+        ensures refused { IfErr result (λ fault. (fault ≡ MacroFault.Memory) × (self.new ≡ self.old)) }
     {
         self.gifts.add(name.clone()?, path.clone()?)
     }

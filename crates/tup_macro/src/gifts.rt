@@ -1,5 +1,5 @@
 //! Paths that were given to keys.
-ghost use Rattle.std.specs.Prelude.{◌≡◌, ◌++◌, ◌∷◌, [], None, IsSome, IfOk, IfSome, MatchResult};
+ghost use Rattle.std.specs.Prelude.{◌≡◌, ◌++◌, ◌∷◌, [], IsSome, IfOk, IfErr, IfSome, OnOk};
 ghost use Rattle.std.specs.List.Sorted.{IsStrictlySortedBy};
 ghost use Rattle.tup_path.specs.Order.{by_names};
 ghost use Rattle.tup_macro.specs.Gifts.{members_of, with_gift};
@@ -43,7 +43,8 @@ impl<K: PartialEq> Gifts<K> {
     pub(crate) fn add(&mut self, key: K, path: Path) -> Result<(), MacroFault>
     where
         K: Drop,
-        ensures { MatchResult result (λ _. self.new ≡ with_gift K.eq self.old key path) (λ fault. (fault ≡ MacroFault.Memory) × (self.new ≡ self.old)) }
+        ensures given { OnOk result (self.new ≡ with_gift K.eq self.old key path) }
+        ensures refused { IfErr result (λ fault. (fault ≡ MacroFault.Memory) × (self.new ≡ self.old)) }
     {
         let Some(at) = place_of(&self.given, &key) else {
             return self.begin(key, path);
@@ -57,17 +58,19 @@ impl<K: PartialEq> Gifts<K> {
     fn begin(&mut self, key: K, path: Path) -> Result<(), MacroFault>
     where
         K: Drop,
-        ensures { MatchResult result (λ _. self.new ≡ self.old ++ (key, path ∷ []) ∷ []) (λ fault. (fault ≡ MacroFault.Memory) × (self.new ≡ self.old)) }
+        ensures given { OnOk result (self.new ≡ self.old ++ (key, path ∷ []) ∷ []) }
+        ensures refused { IfErr result (λ fault. (fault ≡ MacroFault.Memory) × (self.new ≡ self.old)) }
     {
-        let mut members = BTreeSet::new(*self.given.allocator());
-        members.insert(path)?;
-        self.given.push((key, members))?;
+        let mut first = BTreeSet::new(*self.given.allocator());
+        first.insert(path)?;
+        self.given.push((key, first))?;
         Ok(())
     }
 
     /// The paths given to a key, or `None` where there is none.
     pub(crate) fn members(&self, alloc: Global, key: &K) -> Result<Option<Paths>, MacroFault>
-        ensures members { MatchResult result (λ found. found ≡ members_of K.eq self.now key.now) (λ fault. (fault ≡ MacroFault.Memory) × IsSome (members_of K.eq self.now key.now)) }
+        ensures members { IfOk result (λ found. found ≡ members_of K.eq self.now key.now) }
+        ensures refused { IfErr result (λ fault. (fault ≡ MacroFault.Memory) × IsSome (members_of K.eq self.now key.now)) }
         ensures ordered { IfOk result (λ found. IfSome found (λ paths. IsStrictlySortedBy by_names paths)) }
     {
         match value_of(&self.given, key) {

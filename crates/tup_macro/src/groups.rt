@@ -1,5 +1,5 @@
 //! Groups of paths by their folders and names.
-ghost use Rattle.std.specs.Prelude.{◌≡◌, [], Ok, IsSome, IfOk, IfSome, OnOk, MatchResult};
+ghost use Rattle.std.specs.Prelude.{◌≡◌, [], Ok, IsSome, IfOk, IfSome, IfErr, OnOk};
 ghost use Rattle.std.specs.List.Sorted.{IsStrictlySortedBy};
 ghost use Rattle.tup_path.specs.Order.{by_names};
 ghost use Rattle.tup_macro.specs.Gifts.{members_of, same_group, with_gift, IsOneMore};
@@ -38,16 +38,18 @@ impl Groups {
 
     /// Gives a path to a group, which holds it once. After a refusal the table is as it was.
     pub fn add(&mut self, group: &GroupRef, path: &Path) -> Result<(), MacroFault>
-        ensures given { MatchResult result (λ _. self.new ≡ with_gift same_group self.old group.now path.now) (λ fault. (fault ≡ MacroFault.Memory) × (self.new ≡ self.old)) }
+        ensures given { OnOk result (self.new ≡ with_gift same_group self.old group.now path.now) }
         ensures one_more { OnOk result (IsOneMore same_group self.old self.new group.now path.now) }
+        ensures refused { IfErr result (λ fault. (fault ≡ MacroFault.Memory) × (self.new ≡ self.old)) }
     {
         self.gifts.add(group.clone()?, path.clone()?)
     }
 
     /// The paths of a group in their order, or `None` just where nothing was given to it.
     pub fn members(&self, alloc: Global, group: &GroupRef) -> Result<Option<Paths>, MacroFault>
-        ensures members { MatchResult result (λ found. found ≡ members_of same_group self.now group.now) (λ fault. (fault ≡ MacroFault.Memory) × IsSome (members_of same_group self.now group.now)) }
+        ensures members { IfOk result (λ found. found ≡ members_of same_group self.now group.now) }
         ensures ordered { IfOk result (λ found. IfSome found (λ paths. IsStrictlySortedBy by_names paths)) }
+        ensures refused { IfErr result (λ fault. (fault ≡ MacroFault.Memory) × IsSome (members_of same_group self.now group.now)) }
     {
         self.gifts.members(alloc, group)
     }

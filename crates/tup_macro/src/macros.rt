@@ -1,5 +1,5 @@
 //! Macros by their names.
-ghost use Rattle.std.specs.Prelude.{◌≡◌, ◌⊎◌, ◌↔◌, ◌++◌, ◌∷◌, [], List, ℕ, Ok, Err, Some, None, IsSome, OnOk, IfErr, MatchResult, bytes_eq, if◌then◌else◌};
+ghost use Rattle.std.specs.Prelude.{◌≡◌, ◌⊎◌, ◌↔◌, ◌++◌, ◌∷◌, [], List, ℕ, Ok, Err, Some, None, IsSome, IfOk, IfErr, OnOk, bytes_eq, if◌then◌else◌};
 ghost use Rattle.tup_macro.specs.Macros.{macro_of};
 
 use crate::entries::value_of;
@@ -67,7 +67,8 @@ impl Macros {
 
     /// The macro of a name. `NoSuchMacro` comes just where it has none, and nothing else is refused.
     pub fn get(&self, name: &Text) -> Result<&Macro, MacroFault>
-        ensures { MatchResult result (λ body. macro_of self.now name.now ≡ Some body.now) (λ fault. (fault ≡ MacroFault.NoSuchMacro) × (macro_of self.now name.now ≡ None)) }
+        ensures found { IfOk result (λ body. macro_of self.now name.now ≡ Some body.now) }
+        ensures refused { IfErr result (λ fault. (fault ≡ MacroFault.NoSuchMacro) × (macro_of self.now name.now ≡ None)) }
     {
         value_of(&self.macros, name).ok_or(MacroFault::NoSuchMacro)
     }

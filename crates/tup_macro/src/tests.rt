@@ -44,7 +44,10 @@ fn shown(alloc: Global, paths: &Paths) -> Result<String, Fail> {
 fn macros_are_found(rt: HostRuntime) -> Result<(), Fail> {
     let alloc = rt.alloc();
     let mut macros = Macros::new(alloc)?;
-    macros.define(&Text::from_str(alloc, "cc")?, body(alloc, "a.h", "cc -c %f")?)?;
+    macros.define(
+        &Text::from_str(alloc, "cc")?,
+        body(alloc, "a.h", "cc -c %f")?,
+    )?;
     macros.define(&Text::from_str(alloc, "ld")?, body(alloc, "", "ld %f")?)?;
     for (name, order, command) in [("cc", "a.h", "cc -c %f"), ("ld", "", "ld %f")] {
         let found = macros.get(&Text::from_str(alloc, name)?)?;
@@ -165,7 +168,11 @@ fn groups_gather_paths(rt: HostRuntime) -> Result<(), Fail> {
         ("src", "objs", "none"),
         (".", "obj", "none"),
     ] {
-        assert_eq!(rt; gathered(alloc, &groups, dir, name)?.as_str(), want, "{dir} {name}");
+        assert_eq!(rt;
+            gathered(alloc, &groups, dir, name)?.as_str(),
+            want,
+            "{dir} {name}"
+        );
     }
     Ok(())
 }

@@ -7,4 +7,4 @@ pub returns-clause-given : goal.returns-clause-given
 returns-clause-given c = search rules
 
 pub returns-clause-one_more : goal.returns-clause-one_more
-returns-clause-one_more c = one_more-given nat_list_eq_equiv _ _ _ _ _ _ (returns-clause-given c)
+returns-clause-one_more c = one_more-given nat_list_eq_equiv _ _ _ _ _ (returns-clause-given c)

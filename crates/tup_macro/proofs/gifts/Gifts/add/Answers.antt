@@ -13,13 +13,13 @@ returns-in_default g c =
     let absent : members_of eq c.args.self.now c.args.key ≡ None = members-seen eq c.args.key kept c.args.self.now None c.self.view_is (sym (lookup-no_place (eq c.args.key) kept none)) in
     rw absent c.begin.ensures
 
-pub returns-in_err-insert : goal.returns-in_err-insert
-returns-in_err-insert g c =
+pub returns-in_err-insert-clause-refused : goal.returns-in_err-insert-clause-refused
+returns-in_err-insert-clause-refused g c =
     let memory : c.from_residual.result ≡ Err Memory = search rules in
     rw memory (refl, seen-kept g.K.PartialEq.eq c.args.key c.self.inside.given.items c.in-Some.at c.index_mut.result.now c.insert.new.self c.index_mut.ensures.value c.in_err-insert.ensures.err ∙ c.self.view_is)
 
-pub returns : goal.returns
-returns g c =
+pub returns-clause-given : goal.returns-clause-given
+returns-clause-given g c =
     let place = sym (rw c.deref.ensures.value at c.place_of.ensures) ∙ c.in-Some.is in
     seen-given g.K.PartialEq.eq c.args.key c.self.inside.given.items c.in-Some.at c.index_mut.result.now c.insert.new.self c.args.path place c.index_mut.ensures.value c.in_ok-insert.ensures.keys
     ∙ ap (λ gifts. with_gift g.K.PartialEq.eq gifts c.args.key c.args.path) c.self.view_is
