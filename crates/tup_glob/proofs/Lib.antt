@@ -1,0 +1,5 @@
+pub mod Greedy
+pub mod Texts
+pub mod Cuts
+pub mod Reading
+pub mod Spelled

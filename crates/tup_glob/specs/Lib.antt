@@ -1,0 +1,7 @@
+pub mod Piece
+pub mod Read
+pub mod Match
+pub mod Fit
+pub mod Part
+pub mod Cut
+pub mod Spelling

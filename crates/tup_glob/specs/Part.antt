@@ -1,0 +1,27 @@
+-- The part of a name that the first operator of a glob takes; of a run the shortest that lets the rest match (own).
+use Rattle.std.specs.Prelude.{ℕ, ◌-◌, if◌then◌else◌, List, [], ◌∷◌, length, drop, Option, Some, None}
+use Rattle.std.specs.Option.{option_map}
+use Rattle.std.specs.Str.{chars, encode_utf8_all}
+use Rattle.tup_lex.specs.declared.span.Span.{Span}
+use Rattle.tup_lex.specs.Word.{span}
+use Rattle.tup_glob.specs.declared.piece.Piece.{Piece}
+use Rattle.tup_glob.specs.declared.piece.Piece.TheVariants.{Char, Run}
+use Rattle.tup_glob.specs.Match.{first_rest, matches}
+
+-- what stands from the first operator's part on, and what stands behind that part, in a name that the pieces match
+abbrev pub part_of : List Piece → List ℕ → Option (List ℕ × List ℕ)
+part_of [] name = None
+part_of (Char _ ∷ more) name = part_of more (drop 1 name)
+part_of (Run ∷ more) name = option_map (λ rest. (name, rest)) (first_rest (matches more) name)
+part_of (_ ∷ _) name = Some (name, drop 1 name)
+
+-- the place in a text of so many bytes at which the last of its characters begin
+abbrev pub place : ℕ → List ℕ → ℕ
+place bytes rest = bytes - length (encode_utf8_all rest)
+
+-- where that part stands in the bytes of a name
+abbrev pub matched_part : List Piece → List ℕ → Option Span
+matched_part pieces name =
+    if matches pieces (chars name)
+    then option_map (λ part. span (place (length name) part.0) (place (length name) part.1)) (part_of pieces (chars name))
+    else None
