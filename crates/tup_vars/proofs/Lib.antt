@@ -1,0 +1,6 @@
+pub mod Openings
+pub mod Tables
+pub mod Settings
+pub mod Joined
+pub mod Laws
+pub mod ConfigLines

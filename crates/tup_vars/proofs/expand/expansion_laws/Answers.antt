@@ -1,0 +1,14 @@
+use Rattle.tup_vars.proofs.Laws.{each-pieces, spelled-pieces, expansion-plain, expansion-joins}
+use Rattle.tup_vars.proofs.expand.expansion_laws.Goals as goal
+
+pub returns-clause-each : goal.returns-clause-each
+returns-clause-each c = each-pieces
+
+pub returns-clause-whole : goal.returns-clause-whole
+returns-clause-whole c = spelled-pieces
+
+pub returns-clause-plain : goal.returns-clause-plain
+returns-clause-plain c = expansion-plain
+
+pub returns-clause-joins : goal.returns-clause-joins
+returns-clause-joins c = expansion-joins

@@ -1,0 +1,74 @@
+-- What a text stands for, from the manual: each name is replaced once, from left to right. What is refused is own.
+use Rattle.std.specs.Prelude.{◌≡◌, ◌⊎◌, ℕ, ◌+◌, ◌≤◌, nat_lt, Bool, true, false, not, ◌&&◌, if◌then◌else◌, List, [], ◌∷◌, ◌++◌, length, Option, unwrap_or, Result, Ok, Err}
+use Rattle.std.specs.List.{list_all}
+use Rattle.tup_vars.specs.Name.{is_name, is_cwd, is_free}
+use Rattle.tup_vars.specs.Table.{Entries}
+use Rattle.tup_vars.specs.Vars.{value_of}
+use Rattle.tup_vars.specs.Pieces.{Piece, Plain, Variable, Setting, Open, pieces, is_mark, begins_with, ends_in_mark}
+use Rattle.tup_vars.specs.declared.fault.VarFault.{VarFault}
+use Rattle.tup_vars.specs.declared.fault.VarFault.TheVariants.{Unclosed, BadName, TooLong, Stopped, Memory}
+use Rattle.tup_vars.specs.declared.vars.TheConstants.{MAX_TEXT}
+
+-- what names stand for: the variables, the text of `TUP_CWD`, and what a lookup answers to each name
+pub record Scope : Type 0 where
+  pub variables : Entries
+  pub cwd : List ℕ
+  pub answers : List ℕ → Option (List ℕ)
+
+abbrev pub scope : Entries → List ℕ → (List ℕ → Option (List ℕ)) → Scope
+scope variables cwd answers = record { variables = variables; cwd = cwd; answers = answers }
+
+-- what a variable stands for; an unset one is empty
+abbrev pub variable : Entries → List ℕ → List ℕ → Result (List ℕ) VarFault
+variable variables cwd name = if is_cwd name then Ok cwd else if is_free name then Ok (value_of variables name) else Err BadName
+
+-- what a setting is; any name may be asked, and an unset one is empty
+abbrev pub setting : (List ℕ → Option (List ℕ)) → List ℕ → Result (List ℕ) VarFault
+setting answers name = if is_name name then Ok (unwrap_or (answers name) []) else Err BadName
+
+-- what a piece stands for
+abbrev pub value : Scope → Piece → Result (List ℕ) VarFault
+value scope (Plain bytes) = Ok bytes
+value scope (Variable name) = variable scope.variables scope.cwd name
+value scope (Setting name) = setting scope.answers name
+value scope (Open _) = Err Unclosed
+
+-- a text with more behind it, if it isn't too long then
+abbrev pub grown : List ℕ → List ℕ → Result (List ℕ) VarFault
+grown text more = if nat_lt MAX_TEXT (length text + length more) then Err TooLong else Ok (text ++ more)
+
+-- a text with what a piece stands for behind it
+abbrev pub with_piece : Scope → List ℕ → Piece → Result (List ℕ) VarFault
+with_piece scope text piece = elim (value scope piece) [ Ok more ↦ grown text more | Err fault ↦ Err fault ]
+
+-- a text with what pieces stand for behind it; the first piece that is refused stands
+abbrev pub with_pieces : Scope → List ℕ → List Piece → Result (List ℕ) VarFault
+with_pieces scope text [] = Ok text
+with_pieces scope text (piece ∷ more) = elim (with_piece scope text piece) [ Ok longer ↦ with_pieces scope longer more | Err fault ↦ Err fault ]
+
+-- what a text is expanded to
+abbrev pub expansion : Scope → List ℕ → Result (List ℕ) VarFault
+expansion scope text = with_pieces scope [] (pieces text)
+
+-- whether a call ended because its lookup had stopped
+abbrev pub is_stop : {T : Type 0} → Result T VarFault → Bool
+is_stop (Ok _) = false
+is_stop (Err Stopped) = true
+is_stop (Err _) = false
+
+-- a call ended without an answer: there was no memory, or its lookup had stopped
+abbrev pub HasNoAnswer : {T : Type 0} → Result T VarFault → Type 0
+HasNoAnswer result = (result ≡ Err Memory) ⊎ (result ≡ Err Stopped)
+
+-- a text without marks
+abbrev pub is_plain : List ℕ → Bool
+is_plain text = list_all (λ byte. not (is_mark byte)) text
+
+-- no mark at the end of a text has its bracket at the front of the next one
+abbrev pub are_apart : List ℕ → List ℕ → Bool
+are_apart front back = not (ends_in_mark front && begins_with 40 back)
+
+-- two texts stand for so much together as each for itself
+abbrev pub Joins : Scope → List ℕ → List ℕ → Type 0
+Joins names front back = (first second : List ℕ) → expansion names front ≡ Ok first → expansion names back ≡ Ok second →
+    length first + length second ≤ MAX_TEXT → expansion names (front ++ back) ≡ Ok (first ++ second)

@@ -1,0 +1,97 @@
+//! The variables of a Tupfile.
+ghost use Rattle.std.specs.Prelude.{◌≡◌, ◌⊎◌, [], ℕ, List, Some, Ok, Err, OnOk, OnErr, IfOk, IfErr, if◌then◌else◌, bytes_eq, string_bytes, unwrap_or};
+ghost use Rattle.std.specs.Option.{option_copied};
+ghost use Rattle.tup_vars.specs.Table.{look};
+ghost use Rattle.tup_vars.specs.Vars.{appending, appended, set_to};
+ghost use Rattle.tup_vars.specs.declared.fault.VarFault.TheVariants.{Memory};
+
+use crate::fault::VarFault;
+use crate::name::is_free;
+use crate::table::Table;
+use std::alloc::Global;
+use std::marker::Model;
+use tup_path::Text;
+
+/// How many bytes the value of a variable, or an expanded text, may have.
+pub const MAX_TEXT: usize = 1_048_576;
+
+/// Variables and their values, in the order in which they were set first.
+#[derive(Drop)]
+pub struct Vars {
+    pub(crate) table: Table,
+}
+
+impl Model for Vars {
+    ghost use Rattle.tup_vars.specs.Table.{Entries};
+
+    ghost Value = { Entries };
+
+    ghost view = { λ v. v.table };
+}
+
+impl Vars {
+    /// No variables.
+    pub fn new(alloc: Global) -> Result<Vars, VarFault>
+        ensures { (result ≡ Err Memory) ⊎ (result ≡ Ok []) }
+    {
+        Ok(Vars {
+            table: Table::new(alloc),
+        })
+    }
+
+    /// Sets a variable, whether it was set or not. `BadName` comes where the name isn't one, begins
+    /// with `CONFIG_` or is `TUP_CWD`.
+    pub fn set(&mut self, alloc: Global, name: &Text, value: Text) -> Result<(), VarFault>
+        ensures set { OnOk result (set_to self.old name.now value ≡ Ok self.new) }
+        ensures reads { OnOk result ((other : List ℕ) → look self.new other ≡ (if bytes_eq other name.now then Some value else look self.old other)) }
+        ensures refused { IfErr result (λ fault. (fault ≡ Memory) ⊎ (set_to self.old name.now value ≡ Err fault)) }
+        ensures unchanged { OnErr result (self.new ≡ self.old) }
+    {
+        let name = name.as_str();
+        if !is_free(name) {
+            return Err(VarFault::BadName);
+        }
+        self.table.put(alloc, name, value)?;
+        Ok(())
+    }
+
+    /// Puts a text behind the value of a variable, with a space between, or without it where the
+    /// variable is unset or empty. `BadName` comes as in `set`, and then `TooLong` where the value
+    /// would have more than 1,048,576 bytes.
+    pub fn append(&mut self, alloc: Global, name: &Text, value: &Text) -> Result<(), VarFault>
+        ensures appended { OnOk result (appending self.old name.now value.now ≡ Ok self.new) }
+        ensures refused { IfErr result (λ fault. (fault ≡ Memory) ⊎ (appending self.old name.now value.now ≡ Err fault)) }
+        ensures unchanged { OnErr result (self.new ≡ self.old) }
+    {
+        let name = name.as_str();
+        if !is_free(name) {
+            return Err(VarFault::BadName);
+        }
+        let joined = appended(alloc, or_empty(self.table.get(name)), value.as_str())?;
+        if joined.len() > MAX_TEXT {
+            return Err(VarFault::TooLong);
+        }
+        self.table.put(alloc, name, Text::from_string(joined))?;
+        Ok(())
+    }
+}
+
+/// The text, if there is one.
+pub(crate) fn or_empty(text: Option<&Text>) -> &str
+    ensures { result.now ≡ unwrap_or (option_copied text.entry) [] }
+{
+    text.map_or("", |text| text.as_str())
+}
+
+// A value with more behind it.
+fn appended(alloc: Global, value: &str, more: &str) -> Result<String, VarFault>
+    ensures ok { IfOk result (λ joined. string_bytes joined ≡ appended value.now more.now) }
+    ensures err { IfErr result (λ fault. fault ≡ Memory) }
+{
+    let mut joined = String::from_str(alloc, value)?;
+    if !value.is_empty() {
+        joined.push_str(" ")?;
+    }
+    joined.push_str(more)?;
+    Ok(joined)
+}
