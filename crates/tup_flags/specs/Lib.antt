@@ -1,0 +1,6 @@
+pub mod Part
+pub mod Shown
+pub mod Flag
+pub mod Pieces
+pub mod Expansion
+pub mod Laws

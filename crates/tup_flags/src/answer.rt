@@ -1,0 +1,105 @@
+//! The pieces of an expanded text as they come.
+ghost use Rattle.std.specs.Prelude.{◌≡◌, ◌⊎◌, ◌<◌, ◌+◌, ◌++◌, [], ◌∷◌, length, string_bytes, List, Result, Ok, Err, OnOk, IfErr, IfOk};
+ghost use Rattle.tup_flags.specs.Pieces.{onto, onward};
+ghost use Rattle.tup_rule.specs.declared.draft.Piece.{Piece};
+ghost use Rattle.tup_flags.specs.declared.fault.FlagFault.{FlagFault};
+ghost use Rattle.tup_flags.specs.declared.fault.FlagFault.TheVariants.{Memory, TooLong};
+
+use crate::fault::FlagFault;
+use std::alloc::Global;
+use std::mem;
+use tup_path::Text;
+use tup_rule::{Piece, Pieces};
+
+/// How many bytes the texts of an expanded text may have together.
+pub const MAX_EXPANDED: usize = 1_048_576;
+
+/// Pieces, the text that goes on behind them, and how many bytes there is room for behind that.
+#[derive(Drop)]
+pub(crate) struct Answer {
+    pieces: Pieces,
+    text: String,
+    room: usize,
+}
+
+impl Answer {
+    pub(crate) fn new(alloc: Global) -> Answer
+        ensures pieces { result.pieces ≡ [] }
+        ensures text { string_bytes result.text ≡ [] }
+        ensures room { result.room ≡ MAX_EXPANDED }
+    {
+        Answer {
+            pieces: Pieces::new(alloc),
+            text: String::new(alloc),
+            room: MAX_EXPANDED,
+        }
+    }
+
+    /// Goes on with a piece.
+    pub(crate) fn add(&mut self, alloc: Global, piece: Piece) -> Result<(), FlagFault>
+        ensures ok { OnOk result ((values : List (Result Piece FlagFault))
+            → onward self.old.pieces (string_bytes self.old.text) self.old.room (Ok piece ∷ values)
+            ≡ onward self.new.pieces (string_bytes self.new.text) self.new.room values) }
+        ensures err { IfErr result (λ fault. (fault ≡ Memory) ⊎ ((values : List (Result Piece FlagFault))
+            → onward self.old.pieces (string_bytes self.old.text) self.old.room (Ok piece ∷ values)
+            ≡ Err fault)) }
+    {
+        match piece {
+            Piece::Text(text) => self.add_text(text.as_str()),
+            Piece::Group(place) => self.add_group(alloc, place),
+        }
+    }
+
+    /// Goes on with a text.
+    pub(crate) fn add_text(&mut self, text: &str) -> Result<(), FlagFault>
+        ensures pieces { OnOk result (self.new.pieces ≡ self.old.pieces) }
+        ensures text { OnOk result (string_bytes self.new.text ≡ string_bytes self.old.text ++ text.now) }
+        ensures room { OnOk result (self.new.room + length text.now ≡ self.old.room) }
+        ensures refused { IfErr result (λ fault. (fault ≡ Memory)
+            ⊎ ((fault ≡ TooLong) × (self.old.room < length text.now))) }
+    {
+        if text.len() > self.room {
+            return Err(FlagFault::TooLong);
+        }
+        self.text.push_str(text)?;
+        self.room -= text.len();
+        Ok(())
+    }
+
+    /// Goes on with a group.
+    fn add_group(&mut self, alloc: Global, place: u32) -> Result<(), FlagFault>
+        ensures pieces { OnOk result (self.new.pieces
+            ≡ self.old.pieces ++ onto (string_bytes self.old.text) (Piece.Group place ∷ [])) }
+        ensures text { OnOk result (string_bytes self.new.text ≡ []) }
+        ensures room { OnOk result (self.new.room ≡ self.old.room) }
+        ensures refused { IfErr result (λ fault. fault ≡ Memory) }
+    {
+        self.close(alloc)?;
+        self.pieces.push(Piece::Group(place))?;
+        Ok(())
+    }
+
+    /// Nothing comes behind.
+    pub(crate) fn finish(mut self, alloc: Global) -> Result<Pieces, FlagFault>
+        ensures pieces { IfOk result (λ pieces. pieces ≡ self.pieces ++ onto (string_bytes self.text) []) }
+        ensures refused { IfErr result (λ fault. fault ≡ Memory) }
+    {
+        self.close(alloc)?;
+        Ok(self.pieces)
+    }
+
+    /// Makes a piece of the text, if there is one.
+    fn close(&mut self, alloc: Global) -> Result<(), FlagFault>
+        ensures pieces { OnOk result (self.new.pieces
+            ≡ self.old.pieces ++ onto (string_bytes self.old.text) []) }
+        ensures text { OnOk result (string_bytes self.new.text ≡ []) }
+        ensures room { OnOk result (self.new.room ≡ self.old.room) }
+        ensures refused { IfErr result (λ fault. fault ≡ Memory) }
+    {
+        if !self.text.is_empty() {
+            let text = mem::replace(&mut self.text, String::new(alloc));
+            self.pieces.push(Piece::Text(Text::from_string(text)))?;
+        }
+        Ok(())
+    }
+}
