@@ -1,0 +1,78 @@
+//! Questions with what was told, as fields. What was told has the kind of its question.
+ghost use Rattle.std.specs.Prelude.{◌≡◌, ◌⊎◌, ◌++◌, Ok, Err, MatchResult};
+ghost use Rattle.tup_field.specs.Rules.{NotedFits, noted_spelling, noted_at};
+
+use crate::fault::RecordFault;
+use crate::field::Field;
+use crate::reader::Reader;
+use std::alloc::Global;
+use tup_path::{Bytes, Text};
+use tup_rule::{Kind, Names, Noted, Question};
+use tup_stamp::Stamp;
+
+impl Field for (Question, Noted) {
+    ghost use Rattle.tup_field.specs.Rules.{asked};
+    ghost use Rattle.tup_field.specs.RulesLaws.{asked-exact};
+
+    ghost format = { asked };
+
+    ghost exact = { asked-exact };
+
+    fn write(&self, bytes: &mut Bytes) -> Result<(), RecordFault> {
+        self.0.write(bytes)?;
+        write_told(&self.0, &self.1, bytes)
+    }
+
+    fn read(alloc: Global, reader: &mut Reader<'_>) -> Result<(Question, Noted), RecordFault> {
+        let question = Question::read(alloc, reader)?;
+        let told = read_told(alloc, &question, reader)?;
+        Ok((question, told))
+    }
+}
+
+/// Puts the spelling of what was told behind the bytes. `BadField` where it hasn't the kind of its question.
+fn write_told(question: &Question, told: &Noted, bytes: &mut Bytes) -> Result<(), RecordFault>
+    ensures { MatchResult result
+        (λ _. NotedFits question.now told.now × (bytes.new ≡ bytes.old ++ noted_spelling told.now))
+        (λ fault. (fault ≡ RecordFault.Memory) ⊎ ((fault ≡ RecordFault.BadField) × (¬ NotedFits question.now told.now))) }
+{
+    match (question, told) {
+        (Question::Content(_), Noted::Content(stamp)) => {
+            bytes.extend_from_slice(&[1])?;
+            stamp.write(bytes)
+        }
+        (Question::Config(_), Noted::Config(value)) => {
+            bytes.extend_from_slice(&[2])?;
+            value.write(bytes)
+        }
+        (Question::Names(_), Noted::Names(names)) => {
+            bytes.extend_from_slice(&[3])?;
+            names.write(bytes)
+        }
+        (Question::Kind(_), Noted::Kind(kind)) => {
+            bytes.extend_from_slice(&[4])?;
+            kind.write(bytes)
+        }
+        _ => Err(RecordFault::BadField),
+    }
+}
+
+/// Reads what was told of a question. `BadField` where the mark isn't that of the question's kind.
+fn read_told(
+    alloc: Global,
+    question: &Question,
+    reader: &mut Reader<'_>,
+) -> Result<Noted, RecordFault>
+    ensures { MatchResult result
+        (λ told. noted_at question.now reader.old ≡ Ok (told, reader.new))
+        (λ fault. (fault ≡ RecordFault.Memory) ⊎ (noted_at question.now reader.old ≡ Err fault)) }
+{
+    let mark = reader.byte()?;
+    match (question, mark) {
+        (Question::Content(_), 1) => Ok(Noted::Content(Option::<Stamp>::read(alloc, reader)?)),
+        (Question::Config(_), 2) => Ok(Noted::Config(Option::<Text>::read(alloc, reader)?)),
+        (Question::Names(_), 3) => Ok(Noted::Names(Names::read(alloc, reader)?)),
+        (Question::Kind(_), 4) => Ok(Noted::Kind(Kind::read(alloc, reader)?)),
+        _ => Err(RecordFault::BadField),
+    }
+}

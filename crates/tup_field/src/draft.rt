@@ -1,0 +1,54 @@
+//! Drafts of rules as fields: one field of theirs behind the other.
+use crate::fault::RecordFault;
+use crate::field::Field;
+use crate::reader::Reader;
+use std::alloc::Global;
+use tup_path::{Bytes, Path, Paths};
+use tup_rule::{Draft, GroupRef, GroupRefs, Pieces};
+
+impl Field for Draft {
+    ghost use Rattle.tup_field.specs.Rules.{draft};
+    ghost use Rattle.tup_field.specs.RulesLaws.{draft-exact};
+
+    ghost format = { draft };
+
+    ghost exact = { draft-exact };
+
+    fn write(&self, bytes: &mut Bytes) -> Result<(), RecordFault> {
+        self.file.write(bytes)?;
+        self.line.write(bytes)?;
+        self.pieces.write(bytes)?;
+        self.display.write(bytes)?;
+        self.compare.write(bytes)?;
+        self.inputs.write(bytes)?;
+        self.order.write(bytes)?;
+        self.outputs.write(bytes)?;
+        self.groups.write(bytes)?;
+        self.gives.write(bytes)
+    }
+
+    fn read(alloc: Global, reader: &mut Reader<'_>) -> Result<Draft, RecordFault> {
+        let file = Path::read(alloc, reader)?;
+        let line = u32::read(alloc, reader)?;
+        let pieces = Pieces::read(alloc, reader)?;
+        let display = Option::<Pieces>::read(alloc, reader)?;
+        let compare = bool::read(alloc, reader)?;
+        let inputs = Paths::read(alloc, reader)?;
+        let order = Paths::read(alloc, reader)?;
+        let outputs = Paths::read(alloc, reader)?;
+        let groups = GroupRefs::read(alloc, reader)?;
+        let gives = Option::<GroupRef>::read(alloc, reader)?;
+        Ok(Draft {
+            file,
+            line,
+            pieces,
+            display,
+            compare,
+            inputs,
+            order,
+            outputs,
+            groups,
+            gives,
+        })
+    }
+}

@@ -1,0 +1,61 @@
+//! Lists as fields: the members behind their count.
+ghost use Rattle.std.specs.Prelude.{◌≡◌, ◌⊎◌, ◌++◌, MatchResult};
+ghost use Rattle.std.specs.List.{flat_map, AllByRecursion};
+ghost use Rattle.tup_field.specs.Parts.{many_at};
+
+use crate::fault::RecordFault;
+use crate::field::Field;
+use crate::reader::Reader;
+use std::alloc::Global;
+use tup_path::{Bytes, Items};
+
+impl<T: Field> Field for Items<T> {
+    ghost use Rattle.tup_field.specs.Parts.{list};
+    ghost use Rattle.tup_field.specs.PartsLaws.{list-exact};
+
+    ghost format = { list T.format };
+
+    ghost exact = { list-exact T.format T.exact };
+
+    fn write(&self, bytes: &mut Bytes) -> Result<(), RecordFault> {
+        let Ok(count) = u32::try_from(self.len()) else {
+            return Err(RecordFault::BadField);
+        };
+        count.write(bytes)?;
+        write_all(self.as_slice(), bytes)
+    }
+
+    fn read(alloc: Global, reader: &mut Reader<'_>) -> Result<Items<T>, RecordFault> {
+        let count = u32::read(alloc, reader)?;
+        read_all(alloc, count, reader)
+    }
+}
+
+/// Puts the spellings of all items behind the bytes.
+fn write_all<T: Field>(items: &[T], bytes: &mut Bytes) -> Result<(), RecordFault>
+    ensures { MatchResult result
+        (λ _. AllByRecursion T.format.Fits items.now × (bytes.new ≡ bytes.old ++ flat_map T.format.spelling items.now))
+        (λ fault. (fault ≡ RecordFault.Memory) ⊎ ((fault ≡ RecordFault.BadField) × (¬ AllByRecursion T.format.Fits items.now))) }
+{
+    for item in items {
+        item.write(bytes)?;
+    }
+    Ok(())
+}
+
+/// Reads so many items. Room is taken for those that are read, and not for the count.
+fn read_all<T: Field>(
+    alloc: Global,
+    count: u32,
+    reader: &mut Reader<'_>,
+) -> Result<Items<T>, RecordFault>
+    ensures { MatchResult result
+        (λ items. many_at T.format.reading count reader.old ≡ Ok (items, reader.new))
+        (λ fault. (fault ≡ RecordFault.Memory) ⊎ (many_at T.format.reading count reader.old ≡ Err fault)) }
+{
+    let mut items = Items::new(alloc);
+    for _ in 0..count {
+        items.push(T::read(alloc, reader)?)?;
+    }
+    Ok(items)
+}

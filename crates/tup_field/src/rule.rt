@@ -1,0 +1,45 @@
+//! Rules as fields: one field of theirs behind the other.
+use crate::fault::RecordFault;
+use crate::field::Field;
+use crate::reader::Reader;
+use std::alloc::Global;
+use tup_path::{Bytes, Path, Paths, Text};
+use tup_rule::Rule;
+
+impl Field for Rule {
+    ghost use Rattle.tup_field.specs.Rules.{rule};
+    ghost use Rattle.tup_field.specs.RulesLaws.{rule-exact};
+
+    ghost format = { rule };
+
+    ghost exact = { rule-exact };
+
+    fn write(&self, bytes: &mut Bytes) -> Result<(), RecordFault> {
+        self.dir.write(bytes)?;
+        self.text.write(bytes)?;
+        self.display.write(bytes)?;
+        self.compare.write(bytes)?;
+        self.inputs.write(bytes)?;
+        self.order.write(bytes)?;
+        self.outputs.write(bytes)
+    }
+
+    fn read(alloc: Global, reader: &mut Reader<'_>) -> Result<Rule, RecordFault> {
+        let dir = Path::read(alloc, reader)?;
+        let text = Text::read(alloc, reader)?;
+        let display = Option::<Text>::read(alloc, reader)?;
+        let compare = bool::read(alloc, reader)?;
+        let inputs = Paths::read(alloc, reader)?;
+        let order = Paths::read(alloc, reader)?;
+        let outputs = Paths::read(alloc, reader)?;
+        Ok(Rule {
+            dir,
+            text,
+            display,
+            compare,
+            inputs,
+            order,
+            outputs,
+        })
+    }
+}
