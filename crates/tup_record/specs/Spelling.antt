@@ -1,0 +1,48 @@
+-- The one spelling of each record: a key, which begins with the byte of its kind, and a value (own).
+use Rattle.std.specs.Prelude.{ℕ, List, [], ◌∷◌}
+use Rattle.tup_field.specs.Parts.{number, ◌&◌, option}
+use Rattle.tup_field.specs.Values.{path, stamp}
+use Rattle.tup_field.specs.Rules.{rule, reading}
+use Rattle.tup_record.specs.Fields.{run, state}
+use Rattle.tup_record.specs.declared.record.Record.{Record}
+use Rattle.tup_record.specs.declared.record.Record.TheVariants.{Seen, Reading, Rule, Run, Owned, Create, Modify}
+
+abbrev pub key_of : Record → List ℕ
+key_of (Seen p s) = 1 ∷ path.spelling p
+key_of (Reading dir r) = 2 ∷ path.spelling dir
+key_of (Rule n place r) = 3 ∷ number.spelling n
+key_of (Run n r) = 4 ∷ number.spelling n
+key_of (Owned p maker s) = 5 ∷ path.spelling p
+key_of (Create dir) = 6 ∷ path.spelling dir
+key_of (Modify n) = 7 ∷ number.spelling n
+
+abbrev pub value_of : Record → List ℕ
+value_of (Seen p s) = stamp.spelling s
+value_of (Reading dir r) = reading.spelling r
+value_of (Rule n place r) = (number & rule).spelling (place, r)
+value_of (Run n r) = run.spelling r
+value_of (Owned p maker s) = (option number & state).spelling (maker, s)
+value_of (Create dir) = []
+value_of (Modify n) = []
+
+abbrev pub KeyFits : Record → Type 0
+KeyFits (Seen p s) = path.Fits p
+KeyFits (Reading dir r) = path.Fits dir
+KeyFits (Rule n place r) = number.Fits n
+KeyFits (Run n r) = number.Fits n
+KeyFits (Owned p maker s) = path.Fits p
+KeyFits (Create dir) = path.Fits dir
+KeyFits (Modify n) = number.Fits n
+
+abbrev pub ValueFits : Record → Type 0
+ValueFits (Seen p s) = stamp.Fits s
+ValueFits (Reading dir r) = reading.Fits r
+ValueFits (Rule n place r) = (number & rule).Fits (place, r)
+ValueFits (Run n r) = run.Fits r
+ValueFits (Owned p maker s) = (option number & state).Fits (maker, s)
+ValueFits (Create dir) = Unit {0}
+ValueFits (Modify n) = Unit {0}
+
+-- the record has a spelling
+abbrev pub Fits : Record → Type 0
+Fits r = KeyFits r × ValueFits r
