@@ -1,5 +1,5 @@
 -- What is found after a path was given to a key, and gifts that are kept as sets.
-use Rattle.std.proofs.Common.{◌≡◌, ℕ, ◌||◌, ◌&&◌, Bool, true, false, cond, List, [], ◌∷◌, map, get_or, set, position, option_map, Option, Some, None, Result, Ok, Err, OnOk, is_some, unwrap_or, refl, sym, ap, subst, ◌∙◌}
+use Rattle.std.proofs.Common.{◌≡◌, ◌||◌, ◌&&◌, Bool, true, false, cond, List, [], ◌∷◌, ◌++◌, map, option_map, Option, Some, None, Result, Ok, Err, OnOk, is_some, unwrap_or, refl, sym, ap, subst, ◌∙◌}
 use Rattle.std.specs.BTreeSet.{BTreeSet, insert_key}
 use Rattle.std.specs.Cmp.{IsEquivalence, on_equiv}
 use Rattle.std.specs.HashMap.Eq.{lookup_congr}
@@ -8,15 +8,18 @@ use Rattle.std.specs.Option.{option_map_or}
 use Rattle.std.specs.Ordering.{match_ordering}
 use Rattle.std.specs.declared.cmp.Ordering.TheVariants.{Less, Equal, Greater}
 use Rattle.std.proofs.lemmas.Cmp.{and_equiv, lists_equiv, nat_list_eq_equiv}
+use Rattle.std.proofs.lemmas.List.{map-append}
 use Rattle.std.proofs.lemmas.Map.{lookup-set_value}
 use Rattle.std.proofs.lemmas.Map.Made.{lookup-map_values}
-use Rattle.std.proofs.Math.Seq.{map-set_same}
+use Rattle.std.proofs.lemmas.Map.Steps.{set_value_same}
+use Rattle.indexmap.specs.IndexMap.{IndexMap, get, insert_entry}
+use Rattle.indexmap.proofs.CallerLemmas.{insert_entry-new}
 use Rattle.tup_path.specs.Name.{Names}
 use Rattle.tup_path.specs.Order.{by_names, same_path, by_names-antisymmetric}
 use Rattle.tup_rule.specs.Rule.{among}
 use Rattle.tup_rule.specs.declared.draft.GroupRef.{GroupRef}
 use Rattle.tup_macro.specs.Gifts.{GiftsTo, same_group, members_of, with_gift, IsOneMore}
-use Rattle.tup_macro.proofs.Lookups.{lookup-place, set-place, map-set_value, lookup-last}
+use Rattle.tup_macro.proofs.Lookups.{map-set_value, lookup-last}
 
 -- being the same group is an equivalence
 pub same_group-equiv : IsEquivalence same_group
@@ -87,18 +90,30 @@ module _ {K : Type 0} (eq : K → K → Bool) (key : K) (kept : List (K × BTree
   members-seen gifts found are there =
       ap (λ (table : GiftsTo K). members_of eq table key) (sym are) ∙ lookup-map_values (λ (s : BTreeSet Names). s.keys) (eq key) kept ∙ ap (option_map (λ (s : BTreeSet Names). s.keys)) (sym there)
 
+  -- a key to which nothing was given has no set
+  pub absent-seen : (gifts : GiftsTo K) → seen kept ≡ gifts → members_of eq gifts key ≡ None → lookup (eq key) kept ≡ None
+  absent-seen gifts are none = by (lookup (eq key) kept) (sym (members-seen gifts (lookup (eq key) kept) are refl) ∙ none)
+    where
+      by : (found : Option (BTreeSet Names)) → option_map (λ (s : BTreeSet Names). s.keys) found ≡ None → found ≡ None
+      by None e = refl
+      by (Some members) e = absurd (cc)
+
   -- a set that stays the same set
-  pub seen-kept : (at : ℕ) (e : K × BTreeSet Names) (more : BTreeSet Names) → e ≡ get_or kept at e → more.keys ≡ e.1.keys → seen (set kept at (e.0, more)) ≡ seen kept
-  seen-kept at e more here same =
-      map-set_same (λ (x : K × BTreeSet Names). (x.0, x.1.keys)) kept at (e.0, more) e (ap (λ (keys : List Names). (e.0, keys)) same ∙ ap (λ (x : K × BTreeSet Names). (x.0, x.1.keys)) here)
+  pub seen-kept : (members more : BTreeSet Names) → lookup (eq key) kept ≡ Some members → more.keys ≡ members.keys → seen (set_value (eq key) kept more) ≡ seen kept
+  seen-kept members more there same =
+      map-set_value (eq key) (λ (s : BTreeSet Names). s.keys) kept more
+      ∙ set_value_same (eq key) (seen kept) more.keys (members-seen (seen kept) (Some members) refl (sym there) ∙ ap (λ (keys : List Names). Some keys) (sym same))
 
   -- a path that comes into the set of its key
-  pub seen-given : (at : ℕ) (e : K × BTreeSet Names) (more : BTreeSet Names) (path : Names) → position (λ (e : K × BTreeSet Names). eq key e.0) kept ≡ Some at → e ≡ get_or kept at e → more.keys ≡ insert_key by_names e.1.keys path →
-      seen (set kept at (e.0, more)) ≡ with_gift eq (seen kept) key path
-  seen-given at e more path place here one =
-      let there : members_of eq (seen kept) key ≡ Some e.1.keys = members-seen (seen kept) (Some e.1) refl (ap (λ (x : K × BTreeSet Names). Some x.1) here ∙ sym (lookup-place (eq key) kept at e place)) in
-      ap (λ (x : K × BTreeSet Names). seen (set kept at (x.0, more))) here
-      ∙ ap seen (set-place (eq key) kept at e more place)
-      ∙ map-set_value (eq key) (λ (s : BTreeSet Names). s.keys) kept more
-      ∙ ap (set_value (eq key) (seen kept)) one
-      ∙ rw there refl
+  pub seen-given : (members more : BTreeSet Names) (path : Names) → lookup (eq key) kept ≡ Some members → more.keys ≡ insert_key by_names members.keys path → seen (set_value (eq key) kept more) ≡ with_gift eq (seen kept) key path
+  seen-given members more path there one =
+      let known : members_of eq (seen kept) key ≡ Some members.keys = members-seen (seen kept) (Some members) refl (sym there) in
+      map-set_value (eq key) (λ (s : BTreeSet Names). s.keys) kept more ∙ ap (set_value (eq key) (seen kept)) one ∙ rw known refl
+
+-- a key that comes last with its first path
+pub seen-begun : {K S : Type 0} (eq : K → K → Bool) (kept : IndexMap K (BTreeSet Names) S) (key : K) (first : BTreeSet Names) (path : Names) → get eq kept key ≡ None → first.keys ≡ path ∷ [] →
+    seen (insert_entry eq kept.entries key first) ≡ seen kept.entries ++ (key, path ∷ []) ∷ []
+seen-begun {K} eq kept key first path absent one =
+    ap seen (insert_entry-new eq kept key first absent)
+    ∙ map-append (λ (e : K × BTreeSet Names). (e.0, e.1.keys)) kept.entries ((key, first) ∷ [])
+    ∙ ap (λ (keys : List Names). seen kept.entries ++ (key, keys) ∷ []) one

@@ -6,6 +6,7 @@ ghost use Rattle.tup_macro.specs.Gifts.{members_of, with_gift, IsOneMore};
 
 use crate::fault::MacroFault;
 use crate::gifts::Gifts;
+use crate::key::Key;
 use std::alloc::Global;
 use std::marker::Model;
 use tup_path::{Path, Paths, Text};
@@ -14,7 +15,7 @@ use tup_path::{Path, Paths, Text};
 /// their members.
 #[derive(Drop)]
 pub struct Bins {
-    gifts: Gifts<Text>,
+    gifts: Gifts<Key<'static, Text>>,
 }
 
 impl Model for Bins {
@@ -41,7 +42,7 @@ impl Bins {
         ensures one_more { OnOk result (IsOneMore bytes_eq self.old self.new name.now path.now) }
         ensures refused { IfErr result (λ fault. (fault ≡ MacroFault.Memory) × (self.new ≡ self.old)) }
     {
-        self.gifts.add(name.clone()?, path.clone()?)
+        self.gifts.add(Key::kept(name.clone()?), path.clone()?)
     }
 
     /// The paths of a bin in their order. `NoSuchBin` comes just where nothing was given to it.
@@ -51,7 +52,7 @@ impl Bins {
         ensures unknown { (result ≡ Err MacroFault.NoSuchBin) ↔ (members_of bytes_eq self.now name.now ≡ None) }
         ensures refused { IfErr result (λ fault. (fault ≡ MacroFault.NoSuchBin) ⊎ (fault ≡ MacroFault.Memory)) }
     {
-        match self.gifts.members(alloc, name)? {
+        match self.gifts.members(alloc, &Key::sought(name))? {
             Some(members) => Ok(members),
             None => Err(MacroFault::NoSuchBin),
         }

@@ -1,24 +1,25 @@
 //! Paths that were given to keys.
-ghost use Rattle.std.specs.Prelude.{◌≡◌, ◌++◌, ◌∷◌, [], IsSome, IfOk, IfErr, IfSome, OnOk};
+ghost use Rattle.std.specs.Prelude.{◌≡◌, ◌++◌, ◌∷◌, [], None, IsSome, IfOk, IfErr, IfSome, OnOk};
 ghost use Rattle.std.specs.List.Sorted.{IsStrictlySortedBy};
 ghost use Rattle.tup_path.specs.Order.{by_names};
 ghost use Rattle.tup_macro.specs.Gifts.{members_of, with_gift};
 
-use crate::entries::{place_of, value_of};
 use crate::fault::MacroFault;
+use indexmap::IndexMap;
 use std::alloc::{AllocError, Global};
 use std::collections::BTreeSet;
+use std::hash::Hash;
 use std::marker::Model;
 use tup_path::{Items, Path, Paths};
 
 /// The paths given to each key, the keys in the order of their first gifts. Contracts see the list
 /// of keys with their paths, which are in the order of paths, each once.
 #[derive(Drop)]
-pub(crate) struct Gifts<K> {
-    given: Vec<(K, BTreeSet<Path>)>,
+pub(crate) struct Gifts<K: Eq + Hash> {
+    given: IndexMap<K, BTreeSet<Path>>,
 }
 
-impl<K> Model for Gifts<K> {
+impl<K: Eq + Hash> Model for Gifts<K> {
     ghost use Rattle.std.specs.Prelude.{List, ℕ, map};
     ghost use Rattle.std.specs.Coded.{coded_list, coded_ℕ, coded×};
 
@@ -26,16 +27,16 @@ impl<K> Model for Gifts<K> {
 
     ghost coded = { coded_list (coded× K.code (coded_list (coded_list (coded_list coded_ℕ)))) };
 
-    ghost view = { λ gifts. map (λ gift. (gift.0, gift.1.keys)) gifts.given.items };
+    ghost view = { λ gifts. map (λ gift. (gift.0, gift.1.keys)) gifts.given.entries };
 }
 
-impl<K: PartialEq> Gifts<K> {
+impl<K: Eq + Hash> Gifts<K> {
     /// The table without a gift; it takes no memory.
     pub(crate) fn new(alloc: Global) -> Gifts<K>
         ensures { result ≡ [] }
     {
         Gifts {
-            given: Vec::new(alloc),
+            given: IndexMap::new(alloc),
         }
     }
 
@@ -46,10 +47,9 @@ impl<K: PartialEq> Gifts<K> {
         ensures given { OnOk result (self.new ≡ with_gift K.eq self.old key path) }
         ensures refused { IfErr result (λ fault. (fault ≡ MacroFault.Memory) × (self.new ≡ self.old)) }
     {
-        let Some(at) = place_of(&self.given, &key) else {
+        let Some(members) = self.given.get_mut(&key) else {
             return self.begin(key, path);
         };
-        let (_, members) = &mut self.given[at];
         members.insert(path)?;
         Ok(())
     }
@@ -58,12 +58,13 @@ impl<K: PartialEq> Gifts<K> {
     fn begin(&mut self, key: K, path: Path) -> Result<(), MacroFault>
     where
         K: Drop,
+        requires { members_of K.eq self.old key ≡ None }
         ensures given { OnOk result (self.new ≡ self.old ++ (key, path ∷ []) ∷ []) }
         ensures refused { IfErr result (λ fault. (fault ≡ MacroFault.Memory) × (self.new ≡ self.old)) }
     {
         let mut first = BTreeSet::new(*self.given.allocator());
         first.insert(path)?;
-        self.given.push((key, first))?;
+        self.given.insert(key, first)?;
         Ok(())
     }
 
@@ -73,7 +74,7 @@ impl<K: PartialEq> Gifts<K> {
         ensures refused { IfErr result (λ fault. (fault ≡ MacroFault.Memory) × IsSome (members_of K.eq self.now key.now)) }
         ensures ordered { IfOk result (λ found. IfSome found (λ paths. IsStrictlySortedBy by_names paths)) }
     {
-        match value_of(&self.given, key) {
+        match self.given.get(key) {
             Some(members) => Ok(Some(listed(alloc, members)?)),
             None => Ok(None),
         }

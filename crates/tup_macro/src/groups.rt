@@ -6,6 +6,7 @@ ghost use Rattle.tup_macro.specs.Gifts.{members_of, same_group, with_gift, IsOne
 
 use crate::fault::MacroFault;
 use crate::gifts::Gifts;
+use crate::key::Key;
 use std::alloc::Global;
 use std::marker::Model;
 use tup_path::{Path, Paths};
@@ -14,7 +15,7 @@ use tup_rule::GroupRef;
 /// Groups, in the order of their first gifts. Contracts see the list of groups with their members.
 #[derive(Drop)]
 pub struct Groups {
-    gifts: Gifts<GroupRef>,
+    gifts: Gifts<Key<'static, GroupRef>>,
 }
 
 impl Model for Groups {
@@ -42,7 +43,7 @@ impl Groups {
         ensures one_more { OnOk result (IsOneMore same_group self.old self.new group.now path.now) }
         ensures refused { IfErr result (λ fault. (fault ≡ MacroFault.Memory) × (self.new ≡ self.old)) }
     {
-        self.gifts.add(group.clone()?, path.clone()?)
+        self.gifts.add(Key::kept(group.clone()?), path.clone()?)
     }
 
     /// The paths of a group in their order, or `None` just where nothing was given to it.
@@ -51,6 +52,6 @@ impl Groups {
         ensures ordered { IfOk result (λ found. IfSome found (λ paths. IsStrictlySortedBy by_names paths)) }
         ensures refused { IfErr result (λ fault. (fault ≡ MacroFault.Memory) × IsSome (members_of same_group self.now group.now)) }
     {
-        self.gifts.members(alloc, group)
+        self.gifts.members(alloc, &Key::sought(group))
     }
 }

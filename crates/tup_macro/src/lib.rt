@@ -6,10 +6,10 @@
 #![tactic(auto)]
 
 mod bins;
-mod entries;
 mod fault;
 mod gifts;
 mod groups;
+mod key;
 mod macros;
 
 pub use bins::Bins;

@@ -2,8 +2,9 @@
 ghost use Rattle.std.specs.Prelude.{◌≡◌, ◌⊎◌, ◌↔◌, ◌++◌, ◌∷◌, [], List, ℕ, Ok, Err, Some, None, IsSome, IfOk, IfErr, OnOk, bytes_eq, if◌then◌else◌};
 ghost use Rattle.tup_macro.specs.Macros.{macro_of};
 
-use crate::entries::value_of;
 use crate::fault::MacroFault;
+use crate::key::Key;
+use indexmap::IndexMap;
 use std::alloc::Global;
 use std::marker::Model;
 use tup_path::{Items, Text};
@@ -28,7 +29,7 @@ pub struct Macro {
 /// their macros.
 #[derive(Drop)]
 pub struct Macros {
-    macros: Vec<(Text, Macro)>,
+    macros: IndexMap<Key<'static, Text>, Macro>,
 }
 
 impl Model for Macros {
@@ -37,7 +38,7 @@ impl Model for Macros {
 
     ghost Value = { List (List ℕ × Macro) };
 
-    ghost view = { λ table. table.macros.items };
+    ghost view = { λ table. table.macros.entries };
 }
 
 impl Macros {
@@ -46,7 +47,7 @@ impl Macros {
         ensures { result ≡ Ok [] }
     {
         Ok(Macros {
-            macros: Vec::new(alloc),
+            macros: IndexMap::new(alloc),
         })
     }
 
@@ -58,10 +59,10 @@ impl Macros {
         ensures twice { (result ≡ Err MacroFault.DefinedTwice) ↔ IsSome (macro_of self.old name.now) }
         ensures refused { IfErr result (λ fault. ((fault ≡ MacroFault.DefinedTwice) ⊎ (fault ≡ MacroFault.Memory)) × (self.new ≡ self.old)) }
     {
-        if value_of(&self.macros, name).is_some() {
+        if self.macros.contains_key(&Key::sought(name)) {
             return Err(MacroFault::DefinedTwice);
         }
-        self.macros.push((name.clone()?, body))?;
+        self.macros.insert(Key::kept(name.clone()?), body)?;
         Ok(())
     }
 
@@ -70,6 +71,10 @@ impl Macros {
         ensures found { IfOk result (λ body. macro_of self.now name.now ≡ Some body.now) }
         ensures refused { IfErr result (λ fault. (fault ≡ MacroFault.NoSuchMacro) × (macro_of self.now name.now ≡ None)) }
     {
-        value_of(&self.macros, name).ok_or(MacroFault::NoSuchMacro)
+        // By its place, since the answer must not borrow the name.
+        match self.macros.get_index_of(&Key::sought(name)) {
+            Some(at) => Ok(&self.macros[at]),
+            None => Err(MacroFault::NoSuchMacro),
+        }
     }
 }
