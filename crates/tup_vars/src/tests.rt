@@ -95,79 +95,87 @@ fn expanded(alloc: Global, bytes: &str) -> Result<String, Fail> {
     Ok(shown(alloc, &expanded)?)
 }
 
+const TEXTS: [(&str, &str); 13] = [
+    ("", ""),
+    ("$(A)", "x"),
+    ("-$(A)-", "-x-"),
+    ("$(B)", "$(A)"),
+    ("$(a_9)", "@(S)"),
+    ("$(E)", ""),
+    ("$(U)", ""),
+    ("$(TUP_CWD)/a.h", "../inc/a.h"),
+    ("@(S)@(V)", "s$(A)"),
+    ("@(U)", ""),
+    ("@(TUP_CWD)", "t"),
+    ("$$(A)", "$x"),
+    ("@$(A)@", "@x@"),
+];
+
 #[test]
 fn texts(rt: HostRuntime) -> Result<(), Fail> {
-    for (bytes, want) in [
-        ("", ""),
-        ("$(A)", "x"),
-        ("-$(A)-", "-x-"),
-        ("$(B)", "$(A)"),
-        ("$(a_9)", "@(S)"),
-        ("$(E)", ""),
-        ("$(U)", ""),
-        ("$(TUP_CWD)/a.h", "../inc/a.h"),
-        ("@(S)@(V)", "s$(A)"),
-        ("@(U)", ""),
-        ("@(TUP_CWD)", "t"),
-        ("$$(A)", "$x"),
-        ("@$(A)@", "@x@"),
-    ] {
+    for (bytes, want) in TEXTS {
         assert_eq!(rt; expanded(rt.alloc(), bytes)?.as_str(), want, "{bytes}");
     }
     Ok(())
 }
+
+const MARKS_AND_BRACKETS: [(&str, &str); 11] = [
+    ("$", "$"),
+    ("@", "@"),
+    ("$A", "$A"),
+    ("$ (A)", "$ (A)"),
+    ("(A)", "(A)"),
+    (")", ")"),
+    ("))$(A))", "))x)"),
+    ("@@", "@@"),
+    ("$@(S)", "$s"),
+    ("%($(A)", "%(x"),
+    ("\u{e4}$(A)\u{e4}", "\u{e4}x\u{e4}"),
+];
 
 #[test]
 fn marks_and_brackets(rt: HostRuntime) -> Result<(), Fail> {
-    for (bytes, want) in [
-        ("$", "$"),
-        ("@", "@"),
-        ("$A", "$A"),
-        ("$ (A)", "$ (A)"),
-        ("(A)", "(A)"),
-        (")", ")"),
-        ("))$(A))", "))x)"),
-        ("@@", "@@"),
-        ("$@(S)", "$s"),
-        ("%($(A)", "%(x"),
-        ("\u{e4}$(A)\u{e4}", "\u{e4}x\u{e4}"),
-    ] {
+    for (bytes, want) in MARKS_AND_BRACKETS {
         assert_eq!(rt; expanded(rt.alloc(), bytes)?.as_str(), want, "{bytes}");
     }
     Ok(())
 }
+
+const BAD_TEXTS: [(&str, &str); 11] = [
+    ("$(", "unclosed bracket"),
+    ("@(", "unclosed bracket"),
+    ("$(A", "unclosed bracket"),
+    ("a)$(A", "unclosed bracket"),
+    ("$()", "bad name"),
+    ("@()", "bad name"),
+    ("$(A B)", "bad name"),
+    ("$(A-B)$(", "bad name"),
+    ("$($(A)", "bad name"),
+    ("$(CFLAGS_%e)", "bad name"),
+    ("@(A )", "bad name"),
+];
 
 #[test]
 fn bad_texts(rt: HostRuntime) -> Result<(), Fail> {
-    for (bytes, want) in [
-        ("$(", "unclosed bracket"),
-        ("@(", "unclosed bracket"),
-        ("$(A", "unclosed bracket"),
-        ("a)$(A", "unclosed bracket"),
-        ("$()", "bad name"),
-        ("@()", "bad name"),
-        ("$(A B)", "bad name"),
-        ("$(A-B)$(", "bad name"),
-        ("$($(A)", "bad name"),
-        ("$(CFLAGS_%e)", "bad name"),
-        ("@(A )", "bad name"),
-    ] {
+    for (bytes, want) in BAD_TEXTS {
         assert_eq!(rt; expanded(rt.alloc(), bytes)?.as_str(), want, "{bytes}");
     }
     Ok(())
 }
 
+const SETTINGS_AND_STOPS: [(&str, &str); 7] = [
+    ("$(CONFIG_S)", "bad name"),
+    ("@(CONFIG_S)", ""),
+    ("@(\u{e4})", "bad name"),
+    ("@(S)@(S)@(S)", "the lookup has stopped"),
+    ("@(S)@(S)@(S)$(", "the lookup has stopped"),
+    ("@(S)@(S)$(", "unclosed bracket"),
+    ("@(S)@(S)@()@(S)", "bad name"),
+];
+
 #[test]
 fn settings_and_stops(rt: HostRuntime) -> Result<(), Fail> {
-    for (bytes, want) in [
-        ("$(CONFIG_S)", "bad name"),
-        ("@(CONFIG_S)", ""),
-        ("@(\u{e4})", "bad name"),
-        ("@(S)@(S)@(S)", "the lookup has stopped"),
-        ("@(S)@(S)@(S)$(", "the lookup has stopped"),
-        ("@(S)@(S)$(", "unclosed bracket"),
-        ("@(S)@(S)@()@(S)", "bad name"),
-    ] {
+    for (bytes, want) in SETTINGS_AND_STOPS {
         assert_eq!(rt; expanded(rt.alloc(), bytes)?.as_str(), want, "{bytes}");
     }
     Ok(())
@@ -189,21 +197,23 @@ fn long(alloc: Global, text: &Text) -> Result<Result<usize, VarFault>, Fail> {
     Ok(expanded.map(|text| text.as_str().len()))
 }
 
+const LONG_TEXTS: [(&str, usize, &str, Result<usize, VarFault>); 11] = [
+    ("", 1_048_576, "", Ok(1_048_576)),
+    ("", 1_048_577, "", Err(VarFault::TooLong)),
+    ("$(A)", 1_048_574, "", Ok(1_048_576)),
+    ("$(A)", 1_048_575, "", Err(VarFault::TooLong)),
+    ("", 1_048_574, "$(A)", Ok(1_048_576)),
+    ("", 1_048_575, "$(A)", Err(VarFault::TooLong)),
+    ("", 1_048_575, ")", Ok(1_048_576)),
+    ("", 1_048_576, ")", Err(VarFault::TooLong)),
+    ("", 1_048_577, "$(", Err(VarFault::TooLong)),
+    ("", 1_048_576, "$(U)$(", Err(VarFault::Unclosed)),
+    ("@(S)", 1_048_577, "", Err(VarFault::Stopped)),
+];
+
 #[test]
 fn long_texts(rt: HostRuntime) -> Result<(), Fail> {
-    for (front, count, end, want) in [
-        ("", 1_048_576, "", Ok(1_048_576)),
-        ("", 1_048_577, "", Err(VarFault::TooLong)),
-        ("$(A)", 1_048_574, "", Ok(1_048_576)),
-        ("$(A)", 1_048_575, "", Err(VarFault::TooLong)),
-        ("", 1_048_574, "$(A)", Ok(1_048_576)),
-        ("", 1_048_575, "$(A)", Err(VarFault::TooLong)),
-        ("", 1_048_575, ")", Ok(1_048_576)),
-        ("", 1_048_576, ")", Err(VarFault::TooLong)),
-        ("", 1_048_577, "$(", Err(VarFault::TooLong)),
-        ("", 1_048_576, "$(U)$(", Err(VarFault::Unclosed)),
-        ("@(S)", 1_048_577, "", Err(VarFault::Stopped)),
-    ] {
+    for (front, count, end, want) in LONG_TEXTS {
         let text = long_text(rt.alloc(), front, count, end)?;
         assert_eq!(rt; long(rt.alloc(), &text)?, want);
     }
@@ -224,23 +234,25 @@ fn appended(alloc: Global, name: &str, values: &[&str]) -> Result<String, Fail> 
     Ok(shown(alloc, &vars.expand(alloc, &named, &name, &mut lookup))?)
 }
 
+const APPENDS: [(&str, &[&str], &str); 13] = [
+    ("A", &["x", "y", ""], "x y "),
+    ("A", &["", "y"], "y"),
+    ("A", &["x", "", "y"], "x  y"),
+    ("9", &[" x"], " x"),
+    ("", &["x"], "bad name"),
+    ("A-B", &["x"], "bad name"),
+    ("A ", &["x"], "bad name"),
+    ("CONFIG_", &["x"], "bad name"),
+    ("CONFIG_A", &["x"], "bad name"),
+    ("TUP_CWD", &["x"], "bad name"),
+    ("CONFIG", &["x"], "x"),
+    ("xTUP_CWD", &["x"], "x"),
+    ("\u{e4}", &["x"], "bad name"),
+];
+
 #[test]
 fn appends(rt: HostRuntime) -> Result<(), Fail> {
-    for (name, values, want) in [
-        ("A", ["x", "y", ""].as_slice(), "x y "),
-        ("A", ["", "y"].as_slice(), "y"),
-        ("A", ["x", "", "y"].as_slice(), "x  y"),
-        ("9", [" x"].as_slice(), " x"),
-        ("", ["x"].as_slice(), "bad name"),
-        ("A-B", ["x"].as_slice(), "bad name"),
-        ("A ", ["x"].as_slice(), "bad name"),
-        ("CONFIG_", ["x"].as_slice(), "bad name"),
-        ("CONFIG_A", ["x"].as_slice(), "bad name"),
-        ("TUP_CWD", ["x"].as_slice(), "bad name"),
-        ("CONFIG", ["x"].as_slice(), "x"),
-        ("xTUP_CWD", ["x"].as_slice(), "x"),
-        ("\u{e4}", ["x"].as_slice(), "bad name"),
-    ] {
+    for (name, values, want) in APPENDS {
         assert_eq!(rt;
             appended(rt.alloc(), name, values)?.as_str(),
             want,
@@ -290,25 +302,27 @@ fn walked(alloc: Global, calls: &str) -> Result<String, AllocError> {
     Ok(shown)
 }
 
+const CONDITIONALS: [(&str, &str); 15] = [
+    ("", " ends"),
+    ("+.", "11 ends"),
+    ("-.", "01 ends"),
+    ("-e.", "011 ends"),
+    ("+e.", "101 ends"),
+    ("+-e..", "10111 ends"),
+    ("-+e..", "00001 ends"),
+    ("-+.e.", "00011 ends"),
+    ("e", "! ends"),
+    (".", "! ends"),
+    ("+ee.", "10!1 ends"),
+    ("+..", "11! ends"),
+    (".-+", "!00 if without endif in line 2"),
+    ("+-", "10 if without endif in line 1"),
+    ("+.-", "110 if without endif in line 3"),
+];
+
 #[test]
 fn conditionals(rt: HostRuntime) -> Result<(), Fail> {
-    for (calls, want) in [
-        ("", " ends"),
-        ("+.", "11 ends"),
-        ("-.", "01 ends"),
-        ("-e.", "011 ends"),
-        ("+e.", "101 ends"),
-        ("+-e..", "10111 ends"),
-        ("-+e..", "00001 ends"),
-        ("-+.e.", "00011 ends"),
-        ("e", "! ends"),
-        (".", "! ends"),
-        ("+ee.", "10!1 ends"),
-        ("+..", "11! ends"),
-        (".-+", "!00 if without endif in line 2"),
-        ("+-", "10 if without endif in line 1"),
-        ("+.-", "110 if without endif in line 3"),
-    ] {
+    for (calls, want) in CONDITIONALS {
         assert_eq!(rt; walked(rt.alloc(), calls)?.as_str(), want, "{calls}");
     }
     Ok(())
@@ -345,64 +359,67 @@ fn configured(alloc: Global, lines: &[u8]) -> Result<String, AllocError> {
     Ok(shown)
 }
 
+const CONFIGS: [(&[u8], &str); 13] = [
+    (b"", ""),
+    (b"CONFIG_A=1\n# CONFIG_B is not set", "A=1;B=n;"),
+    (b" \tCONFIG_A=1 \t\n", "A=1;"),
+    (b"CONFIG_A=1\r\nCONFIG_B=2\r", "A=1;B=2\r;"),
+    (b"CONFIG_A=\n", "A=;"),
+    (b"CONFIG_A==", "A==;"),
+    (b"CONFIG_A=a=b", "A=a=b;"),
+    (b"CONFIG_A= \"x y\" ", "A=\"x y\";"),
+    (b"CONFIG_a_9=\\\nCONFIG_B=b", "B=b;a_9=\\;"),
+    (b"CONFIG_A=1\nCONFIG_B=x\nCONFIG_A=2", "A=2;B=x;"),
+    (b"CONFIG_A=1\n# CONFIG_A is not set", "A=n;"),
+    (b"# CONFIG_A is not set\nCONFIG_A=y", "A=y;"),
+    (b"\t# CONFIG_A is not set ", "A=n;"),
+];
+
 #[test]
 fn configs(rt: HostRuntime) -> Result<(), Fail> {
-    for (lines, want) in [
-        (b"".as_slice(), ""),
-        (b"CONFIG_A=1\n# CONFIG_B is not set".as_slice(), "A=1;B=n;"),
-        (b" \tCONFIG_A=1 \t\n".as_slice(), "A=1;"),
-        (b"CONFIG_A=1\r\nCONFIG_B=2\r".as_slice(), "A=1;B=2\r;"),
-        (b"CONFIG_A=\n".as_slice(), "A=;"),
-        (b"CONFIG_A==".as_slice(), "A==;"),
-        (b"CONFIG_A=a=b".as_slice(), "A=a=b;"),
-        (b"CONFIG_A= \"x y\" ".as_slice(), "A=\"x y\";"),
-        (b"CONFIG_a_9=\\\nCONFIG_B=b".as_slice(), "B=b;a_9=\\;"),
-        (b"CONFIG_A=1\nCONFIG_B=x\nCONFIG_A=2".as_slice(), "A=2;B=x;"),
-        (b"CONFIG_A=1\n# CONFIG_A is not set".as_slice(), "A=n;"),
-        (b"# CONFIG_A is not set\nCONFIG_A=y".as_slice(), "A=y;"),
-        (b"\t# CONFIG_A is not set ".as_slice(), "A=n;"),
-    ] {
+    for (lines, want) in CONFIGS {
         assert_eq!(rt; configured(rt.alloc(), lines)?.as_str(), want);
     }
     Ok(())
 }
+
+const COMMENTS_OF_CONFIGS: [(&[u8], &str); 9] = [
+    (b"\n\n \t\n#\n", ""),
+    (b"#CONFIG_A is not set", ""),
+    (b"# CONFIG_A is not set.", ""),
+    (b"# CONFIG_A  is not set", ""),
+    (b"# CONFIG_ is not set", ""),
+    (b"# CONFIG_A B is not set", ""),
+    (b"# CONFIG_A=1", ""),
+    (b"# CONFIG_A", ""),
+    (b" #\xC3\xA4\nCONFIG_A=\xC3\xA4", "A=\u{e4};"),
+];
 
 #[test]
 fn comments_of_configs(rt: HostRuntime) -> Result<(), Fail> {
-    for (lines, want) in [
-        (b"\n\n \t\n#\n".as_slice(), ""),
-        (b"#CONFIG_A is not set".as_slice(), ""),
-        (b"# CONFIG_A is not set.".as_slice(), ""),
-        (b"# CONFIG_A  is not set".as_slice(), ""),
-        (b"# CONFIG_ is not set".as_slice(), ""),
-        (b"# CONFIG_A B is not set".as_slice(), ""),
-        (b"# CONFIG_A=1".as_slice(), ""),
-        (b"# CONFIG_A".as_slice(), ""),
-        (b" #\xC3\xA4\nCONFIG_A=\xC3\xA4".as_slice(), "A=\u{e4};"),
-    ] {
+    for (lines, want) in COMMENTS_OF_CONFIGS {
         assert_eq!(rt; configured(rt.alloc(), lines)?.as_str(), want);
     }
     Ok(())
 }
 
+const BAD_CONFIGS: [(&[u8], &str); 11] = [
+    (b"CONFIG_=y", "line 1: bad config line"),
+    (b"\nCONFIG_A = 1", "line 2: bad config line"),
+    (b"CONFIG_A", "line 1: bad config line"),
+    (b"CONFIG_A-B=1", "line 1: bad config line"),
+    (b"A=1", "line 1: bad config line"),
+    (b"config_A=1", "line 1: bad config line"),
+    (b"CONFIG_\xC3\xA4=1", "line 1: bad config line"),
+    (b"\xEF\xBB\xBFCONFIG_A=1", "line 1: bad config line"),
+    (b"#\nx\ny", "line 2: bad config line"),
+    (b"x\n\n\xFF", "line 3: not UTF-8"),
+    (b"\xC3", "line 1: not UTF-8"),
+];
+
 #[test]
 fn bad_configs(rt: HostRuntime) -> Result<(), Fail> {
-    for (lines, want) in [
-        (b"CONFIG_=y".as_slice(), "line 1: bad config line"),
-        (b"\nCONFIG_A = 1".as_slice(), "line 2: bad config line"),
-        (b"CONFIG_A".as_slice(), "line 1: bad config line"),
-        (b"CONFIG_A-B=1".as_slice(), "line 1: bad config line"),
-        (b"A=1".as_slice(), "line 1: bad config line"),
-        (b"config_A=1".as_slice(), "line 1: bad config line"),
-        (b"CONFIG_\xC3\xA4=1".as_slice(), "line 1: bad config line"),
-        (
-            b"\xEF\xBB\xBFCONFIG_A=1".as_slice(),
-            "line 1: bad config line",
-        ),
-        (b"#\nx\ny".as_slice(), "line 2: bad config line"),
-        (b"x\n\n\xFF".as_slice(), "line 3: not UTF-8"),
-        (b"\xC3".as_slice(), "line 1: not UTF-8"),
-    ] {
+    for (lines, want) in BAD_CONFIGS {
         assert_eq!(rt; configured(rt.alloc(), lines)?.as_str(), want);
     }
     Ok(())
@@ -422,53 +439,19 @@ fn long_line(
     configured(alloc, &lines)
 }
 
+const LONG_LINES: [(&[u8], u8, usize, &[u8], &str); 7] = [
+    (b"CONFIG_B=1\n#", b'x', 65534, b"\r\n", "B=1;"),
+    (b"#", b'x', 65535, b"", "line 1: line too long"),
+    (b"\n", b' ', 65535, b"", ""),
+    (b"\n", b' ', 65536, b"\n", "line 2: line too long"),
+    (b"x\n", b' ', 65536, b"\n", "line 2: line too long"),
+    (b"x\n", b' ', 65535, b"\n", "line 1: bad config line"),
+    (b"\n", b' ', 65536, b"\n\xFF", "line 3: not UTF-8"),
+];
+
 #[test]
 fn long_lines(rt: HostRuntime) -> Result<(), Fail> {
-    for (front, byte, count, end, want) in [
-        (
-            b"CONFIG_B=1\n#".as_slice(),
-            b'x',
-            65534,
-            b"\r\n".as_slice(),
-            "B=1;",
-        ),
-        (
-            b"#".as_slice(),
-            b'x',
-            65535,
-            b"".as_slice(),
-            "line 1: line too long",
-        ),
-        (b"\n".as_slice(), b' ', 65535, b"".as_slice(), ""),
-        (
-            b"\n".as_slice(),
-            b' ',
-            65536,
-            b"\n".as_slice(),
-            "line 2: line too long",
-        ),
-        (
-            b"x\n".as_slice(),
-            b' ',
-            65536,
-            b"\n".as_slice(),
-            "line 2: line too long",
-        ),
-        (
-            b"x\n".as_slice(),
-            b' ',
-            65535,
-            b"\n".as_slice(),
-            "line 1: bad config line",
-        ),
-        (
-            b"\n".as_slice(),
-            b' ',
-            65536,
-            b"\n\xFF".as_slice(),
-            "line 3: not UTF-8",
-        ),
-    ] {
+    for (front, byte, count, end, want) in LONG_LINES {
         assert_eq!(rt;
             long_line(rt.alloc(), front, byte, count, end)?.as_str(),
             want
