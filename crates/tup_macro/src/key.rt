@@ -1,4 +1,4 @@
-//! The keys of tables: names and groups, which have a hash here.
+//! The keys of tables: names and groups, which have no hash of their own.
 ghost use Rattle.std.specs.Prelude.{◌≡◌, ◌++◌, fold};
 ghost use Rattle.std.specs.Hash as fed;
 ghost use Rattle.std.specs.Hash.{on_Alike, and-Alike, same_Alike};
@@ -83,6 +83,7 @@ impl<'a> Hash for Key<'a, GroupRef> {
     }
 }
 
+/// Feeds each name in turn.
 fn hash_names<H: Hasher>(names: &[Text], state: &mut H)
     ensures { state.new ≡ fold H.write state.old (flat_map fed.str names.now) }
 {

@@ -2,7 +2,8 @@
 //!
 //! A macro is defined once and looked up by its name. A bin holds the paths that were given to its
 //! name, a group those that were given to its name in its folder. Contracts see each table as a list
-//! in the order of first mention, and say what every look-up finds after each change.
+//! in the order of first mention, and say what every look-up finds after each change. Keys are hashed,
+//! so that a change or a look-up doesn't go through the table.
 #![tactic(auto)]
 
 mod bins;
