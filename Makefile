@@ -1,9 +1,20 @@
-# `make demo` builds the program and shows it at work; `make test` runs the gate; `make rows` tries the program over
-# small projects, with full disks, damaged stores and the like, and compares what it prints and leaves.
+# `make help` says what there is.
 PREFIX ?= /usr/local
 TUP = crates/tup/out/tup
+MAN = $(DESTDIR)$(PREFIX)/share/man/man1/tup.1
+VERSION = $(shell sed -n 's/^const VERSION: &str = "tup \(.*\)\\n";/\1/p' crates/tup/src/main.rt)
 
-.PHONY: demo rows build install test
+.PHONY: help build demo test try fmt times install uninstall clean
+
+help:
+	@echo 'make demo       builds the program and shows it on a copy of examples/hello'
+	@echo 'make test       the gate: every proof, every edit that must be refused, every test, the program as a user meets it'
+	@echo 'make try        the last part of the gate alone: the program over small projects, full disks, damaged stores'
+	@echo 'make install    builds it and puts it at $(PREFIX)/bin/tup, its page where `man tup` finds it'
+	@echo 'make uninstall  takes both away'
+	@echo 'make fmt        lays out every crate'
+	@echo 'make times      measures what each crate costs the gate from nothing (an hour and more)'
+	@echo 'make clean      removes what was built and what checks kept in this checkout'
 
 build:
 	cd crates/tup && rt run -- --version
@@ -11,11 +22,25 @@ build:
 demo: build
 	sh examples/demo.sh $(TUP)
 
-rows: build
-	sh examples/rows.sh $(TUP)
+test:
+	.ci/run
+
+try: build
+	sh tests/program.sh $(TUP)
+
+fmt:
+	for crate in crates/*; do (cd $$crate && rt fmt) || exit 1; done
+
+times:
+	sh tests/times.sh
 
 install: build
 	install -D -m 755 $(TUP) $(DESTDIR)$(PREFIX)/bin/tup
+	mkdir -p $(dir $(MAN))
+	sed 's/@VERSION@/$(VERSION)/' docs/tup.1 > $(MAN)
 
-test:
-	.ci/run
+uninstall:
+	rm -f $(DESTDIR)$(PREFIX)/bin/tup $(MAN)
+
+clean:
+	rm -rf crates/*/out

@@ -1,5 +1,5 @@
 #!/bin/sh
-# Runs the program given as the first word over small projects, each in a new folder, and compares lines, exit
+# The program as a user meets it: runs the one given as the first word over small projects, each in a new folder, and compares lines, exit
 # numbers and files with what they have to be. It ends with 1 where something differs. What needs the superuser
 # (a full disk, a folder without permission) is passed over for others.
 set -u
@@ -28,7 +28,7 @@ same() {
 row() {
     name=$1 status=$2 lines=$3
     shift 3
-    found=$("$tup" "$@" 2>&1; printf 'exit %s' "$?")
+    found=$("$tup" "$@" 2> "$work/said"; printf 'exit %s' "$?")
     same "$name" "$(printf '%s' "$found" | tr '\n' ';')" "${lines}exit $status"
 }
 
