@@ -3,7 +3,7 @@ use Rattle.std.specs.Prelude.{◌≡◌, ◌≢◌, Bool, true, false, Some, Non
 use Rattle.std.specs.Ordering.{eq_by_cmp}
 use Rattle.std.specs.FinMap as finite
 use Rattle.std.proofs.Common.{ap, subst, ◌∙◌}
-use Rattle.std.proofs.lemmas.Slice.Eq.{slice_eq-Decides, bytes_eq-Decides}
+use Rattle.std.specs.Cmp.Lexicographic.{bytes_decides, pointwise_decides}
 use Rattle.tup_path.specs.Name.{Names, Content}
 use Rattle.tup_path.specs.Order.{by_names, same_path, same_path-by_names, by_names-total, by_names-antisymmetric}
 use Rattle.tup_path.specs.Tree.{Tree}
@@ -14,11 +14,11 @@ differs false tells apart = refl
 
 -- `==` of two contents or texts
 pub same_bytes-decides : (x y : List ℕ) → Decides (bytes_eq x y) (x ≡ y)
-same_bytes-decides = bytes_eq-Decides
+same_bytes-decides = bytes_decides
 
 -- `==` of two paths
 pub same_path-decides : (x y : Names) → Decides (same_path x y) (x ≡ y)
-same_path-decides x y = slice_eq-Decides bytes_eq-Decides x y (same_path x y) refl
+same_path-decides = pointwise_decides bytes_decides
 
 -- `cmp` of two paths
 pub by_names-decides : (x y : Names) → Decides (eq_by_cmp by_names x y) (x ≡ y)
@@ -30,9 +30,6 @@ get_inserted tree path content = finite.get-insert by_names-total tree path cont
 pub get_inserted_elsewhere : (tree : Tree) (path other : Names) (content : Content) → other ≢ path → finite.get (finite.insert tree path content) other ≡ finite.get tree other
 get_inserted_elsewhere tree path other content apart =
     finite.get-insert by_names-total tree path content other ∙ ap (λ b. cond b (Some content) (finite.get tree other)) (differs (eq_by_cmp by_names other path) (by_names-decides other path) apart)
-
-pub get_removed : (tree : Tree) (path : Names) → finite.get (finite.remove tree path) path ≡ None
-get_removed tree path = finite.get-remove by_names-total tree path path ∙ ap (λ b. cond b None (finite.get tree path)) ((by_names-decides path path).1 refl)
 
 pub get_removed_elsewhere : (tree : Tree) (path other : Names) → other ≢ path → finite.get (finite.remove tree path) other ≡ finite.get tree other
 get_removed_elsewhere tree path other apart =

@@ -6,10 +6,10 @@ use Rattle.std.proofs.lemmas.List.Elements.{All-nil, All-cons, All-head, All-tai
 use Rattle.std.proofs.lemmas.List.Splits.{slice_split_none, slice_split_at}
 use Rattle.std.specs.List.{join_with_byte}
 use Rattle.tup_path.specs.Name.{Names, IsNameByte, IsVisibleName, IsPath}
-use Rattle.tup_path.specs.Resolve.{walk, resolve}
-use Rattle.tup_path.specs.Show.{show, shared, show_from}
+use Rattle.tup_path.specs.Resolve.{parts, walk, resolve}
+use Rattle.tup_path.specs.Show.{HasBytes, show, shared, show_from}
 use Rattle.tup_path.specs.declared.fault.PathFault.TheVariants.{Outside}
-use Rattle.tup_path.specs.Walks.{parts, up, HasNoSlash, HasBytes, walk_through, walk_down, walk_up}
+use Rattle.tup_path.proofs.Walks.{up, HasNoSlash, walk_through, walk_down, walk_up}
 
 -- ---- a text of parts is cut into these parts
 cut_join : (names : Names) → All HasNoSlash names → 1 ≤ length names → parts (join_with_byte 47 names) ≡ names
