@@ -1,5 +1,5 @@
 //! A text: bytes that are UTF-8.
-ghost use Rattle.std.specs.Prelude.{◌≡◌, nat_eq, refl, IsUtf8, MatchOption, IfOk, string_bytes, Some};
+ghost use Rattle.std.specs.Prelude.{◌≡◌, nat_eq, refl, IsUtf8, MatchOption, IfOk, string_bytes, Some, ◌++◌, OnOk, OnErr};
 ghost use Rattle.std.specs.Cmp.{partial_order_from_own_ties};
 ghost use Rattle.std.specs.Cmp.Rules.{comparing};
 ghost use Rattle.std.specs.Hash as fed;
@@ -75,6 +75,14 @@ impl Text {
         ensures utf8 { IsUtf8 self.now }
     {
         unsafe { str::from_utf8_unchecked(self.bytes.as_slice()) }
+    }
+
+    /// Adds a text at the end. After a refusal the text is as it was.
+    pub fn push_str(&mut self, more: &str) -> Result<(), AllocError>
+        ensures ok { OnOk result (self.new ≡ self.old ++ more.now) }
+        ensures err { OnErr result (self.new ≡ self.old) }
+    {
+        self.bytes.extend_from_slice(more.as_bytes())
     }
 
     /// Gives the bytes back; nothing is copied.
