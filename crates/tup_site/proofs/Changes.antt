@@ -10,7 +10,7 @@ use Rattle.tup_path.specs.Tree.{Tree, IsTree}
 use Rattle.tup_site.specs.Cause.{IsPlace, SameBut}
 use Rattle.tup_site.specs.Edit.{tree_of, MayAdd}
 use Rattle.tup_site.specs.Memory.{calls_of, fails_of, one_more, fails_next}
-use Rattle.tup_site.specs.Trees.{get-of_entries, from_entries-set, from_entries-unset, put_tree, removed_tree}
+use Rattle.tup_site.proofs.Trees.{get-of_entries, from_entries-set, from_entries-unset, put_tree, removed_tree}
 use Rattle.tup_site.specs.declared.memory.MemSite.{MemSite}
 
 -- a call passes whose number isn't listed

@@ -2,9 +2,7 @@
 -- there, a list in order is its map's, and a file more or less leaves a tree.
 use Rattle.std.specs.Prelude.{◌≡◌, ◌≢◌, ◌⊎◌, Bool, true, false, cond, List, [], ◌∷◌, ◌++◌, Option, None, Some, is_some, IsSome, map, length, All, slice_index_or}
 use Rattle.std.proofs.Common.{refl, sym, ap, subst, ◌∙◌, inl, inr, arith, length-append}
-use Rattle.std.proofs.Props.{props}
 use Rattle.std.specs.declared.cmp.Ordering.{Ordering}
-use Rattle.std.specs.Coded.{Coded-set, coded_ℕ, coded_list, coded_option}
 use Rattle.std.specs.Ordering.{eq_by_cmp}
 use Rattle.std.specs.Cmp.{IsTotalOrder, eq_by_cmp_equiv}
 use Rattle.std.specs.List.Sorted.{IsStrictlySortedBy}
@@ -105,10 +103,6 @@ some-from_all_keys P tree all q s =
     subst P (any.3 ∙ sym ((by_names-decides q any.1).0 any.4)) (all any.0 any.1 any.2)
 
 -- ---- trees
-
--- that a tree is one holds in one way only
-pub IsTree-prop : (tree : Tree) → IsProp (IsTree tree)
-IsTree-prop tree = let set = Coded-set (coded_option (coded_list coded_ℕ)) in hlevel (props, set)
 
 not_at_top : {X : Type 0} (there : Option X) → there ≡ None → IsSome there → ⊥
 not_at_top there e s = let no : false ≡ true = sym (ap is_some e) ∙ s in cc
