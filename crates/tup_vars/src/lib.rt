@@ -20,6 +20,3 @@ pub use expand::expansion_laws;
 pub use fault::{ConfigFault, VarFault};
 pub use lookup::{Lookup, Stopped};
 pub use vars::{MAX_TEXT, Vars};
-
-#[cfg(test)]
-mod tests;

@@ -1,6 +1,6 @@
 //! Where a name begins in a text.
 ghost use Rattle.std.specs.Prelude.{◌≡◌, ◌<◌, ◌+◌, ℕ, true, false, ◌&&◌, ◌==◌, length, slice_index, MatchOption, option_map};
-ghost use Rattle.tup_vars.specs.Pieces.{opened, is_mark, opens_at};
+ghost use Rattle.tup_vars.specs.Segments.{opened, is_mark, opens_at};
 
 /// What stands before the first `$(` or `@(` of a text, its mark, and what stands behind it.
 pub(crate) fn opened(text: &str) -> Option<(&str, u8, &str)>
