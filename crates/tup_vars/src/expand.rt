@@ -3,15 +3,15 @@ ghost use Rattle.std.specs.Prelude.{◌≡◌, ◌⊎◌, ◌≤◌, [], List, �
 ghost use Rattle.std.specs.List.{flat_map};
 ghost use Rattle.tup_vars.specs.Segments.{IsSegment, closed, last, marked, segments, spelled};
 ghost use Rattle.tup_vars.specs.Expand.{Scope, scope, variable, answer, grown, with_segment, with_segments, expansion, is_plain, are_apart, Joins, is_stop, HasNoAnswer, EndsAs};
-ghost use Rattle.tup_vars.specs.declared.fault.VarFault.TheVariants.{BadName, Memory, Stopped};
+ghost use Rattle.tup_vars.specs.declared.fault.VarFault.TheVariants.{BadName, Memory};
 
 use crate::fault::VarFault;
 use crate::lookup::Lookup;
 use crate::name::{is_cwd, is_free, is_name};
 use crate::opening::opened;
-use crate::vars::{MAX_TEXT, Vars, or_empty};
+use crate::vars::{Vars, or_empty};
 use std::alloc::Global;
-use tup_path::Text;
+use tup_path::{MAX_EXPANDED, Text};
 
 impl Vars {
     /// The text with what its names stand for: the value of the variable for `$(NAME)`, and what the
@@ -154,7 +154,7 @@ fn add(expanded: &mut String, more: &str) -> Result<(), VarFault>
         (result ≡ Err Memory) ⊎ EndsAs result (string_bytes expanded.new) all }
     ensures stopped { is_stop result ≡ false }
 {
-    if expanded.len().saturating_add(more.len()) > MAX_TEXT {
+    if expanded.len().saturating_add(more.len()) > MAX_EXPANDED {
         return Err(VarFault::TooLong);
     }
     expanded.push_str(more)?;

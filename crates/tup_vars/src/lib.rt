@@ -19,4 +19,4 @@ pub use config::{Config, config_lines, read_config};
 pub use expand::expansion_laws;
 pub use fault::{ConfigFault, VarFault};
 pub use lookup::{Lookup, Stopped};
-pub use vars::{MAX_TEXT, Vars};
+pub use vars::Vars;

@@ -15,7 +15,8 @@ pub(crate) fn opened(text: &str) -> Option<(&str, u8, &str)>
 fn opening(text: &[u8]) -> Option<usize>
     ensures { MatchOption result
         ((k : ℕ) → k + 1 < length text.now → opens_at text.now k ≡ false)
-        (λ at. (at + 1 < length text.now) × (opens_at text.now at ≡ true) × ((k : ℕ) → k < at → opens_at text.now k ≡ false)) }
+        (λ at. (at + 1 < length text.now) × (opens_at text.now at ≡ true)
+        × ((k : ℕ) → k < at → opens_at text.now k ≡ false)) }
 {
     text.windows(2).position(|pair| opens(pair))
 }

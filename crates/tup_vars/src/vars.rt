@@ -10,10 +10,7 @@ use crate::name::is_free;
 use crate::table::Table;
 use std::alloc::Global;
 use std::marker::Model;
-use tup_path::Text;
-
-/// How many bytes the value of a variable, or an expanded text, may have.
-pub const MAX_TEXT: usize = 1_048_576;
+use tup_path::{MAX_EXPANDED, Text};
 
 /// Variables and their values, in the order in which they were set first.
 #[derive(Drop)]
@@ -91,12 +88,8 @@ fn continuation(alloc: Global, value: &str, text: &str) -> Result<String, VarFau
         ⊎ ((fault ≡ TooLong) × (is_too_long (length (appended value.now text.now)) ≡ true))) }
 {
     let joint = joint(value);
-    if value
-        .len()
-        .saturating_add(joint.len())
-        .saturating_add(text.len())
-        > MAX_TEXT
-    {
+    let added = joint.len().saturating_add(text.len());
+    if value.len().saturating_add(added) > MAX_EXPANDED {
         return Err(VarFault::TooLong);
     }
     let mut more = String::from_str(alloc, joint)?;
