@@ -118,9 +118,6 @@ module _ (texts : List (List ℕ)) (kept : List Line) (first n : ℕ) (begun tex
       ∙ ap (after (kept ++ told (line first new))) (sym (fresh (n + 1) rest))
 
 -- and at the end of the file
-pub end-long : (texts : List (List ℕ)) (kept : List Line) (first n : ℕ) (begun : List ℕ) → length texts ≤ n → So texts kept first begun n → is_long begun ≡ true → said (joined (numbered 0 texts)) ≡ Err (LineTooLong first)
-end-long texts kept first n begun end so long = so ∙ at_drop_all (λ rest. after kept (said (onto_next first begun (joined (numbered n rest))))) texts n end ∙ ap (after kept) (said-long (line first begun) [] long)
-
 pub end-fits : (texts : List (List ℕ)) (kept : List Line) (first n : ℕ) (begun : List ℕ) → length texts ≤ n → So texts kept first begun n → is_long begun ≡ false → said (joined (numbered 0 texts)) ≡ Ok (kept ++ told (line first begun))
 end-fits texts kept first n begun end so fits =
     so ∙ at_drop_all (λ rest. after kept (said (onto_next first begun (joined (numbered n rest))))) texts n end

@@ -4,7 +4,7 @@ use Rattle.std.specs.List.{prefix_len, suffix_len}
 use Rattle.std.proofs.lemmas.List.{get_or-drop}
 use Rattle.std.proofs.lemmas.List.Sums.{prefix_len_is, suffix_len_is}
 use Rattle.std.proofs.lemmas.Bool.{cases_lt, not-true, not_from_false, true_from_ne_false}
-use Rattle.std.proofs.lemmas.Str.{IsCharBoundary-before_ascii, IsCharBoundary-after_ascii, IsCharBoundary-end}
+use Rattle.std.proofs.lemmas.Str.{IsCharBoundary-after_ascii}
 use Rattle.std.specs.Str.{IsUtf8, IsCharBoundary}
 use Rattle.bstr.specs.Bytes.{is_in, not_in}
 use Rattle.bstr.specs.Find.{NoneBefore, NoneAfter, Nowhere, Passes}
@@ -78,9 +78,3 @@ start-IsCharBoundary text first last utf8 e h =
     let back : first - 1 + 1 ≡ first = omega arith in
     let blank : is_blank (get_or text (first - 1) 0) ≡ true = e.before (first - 1) (omega arith) (omega arith) in
     rw back at (IsCharBoundary-after_ascii text (first - 1) utf8 (omega arith) (small (get_or text (first - 1) 0) blank))
-
-pub end-IsCharBoundary : (text : List ℕ) (first last : ℕ) → Ends text first last → IsCharBoundary text (last + 1)
-end-IsCharBoundary text first last e = ⊎_elim
-    (λ (h : last + 1 < length text). IsCharBoundary-before_ascii text (last + 1) h (small _ (e.behind (last + 1) (omega arith) h)))
-    (λ h. let all : last + 1 ≡ length text = omega arith in rw all (IsCharBoundary-end text))
-    (cases_lt (last + 1) (length text))
