@@ -6,7 +6,7 @@ use Rattle.tup_path.specs.Name.{Names}
 use Rattle.tup_path.specs.Order.{same_path}
 use Rattle.tup_rule.specs.declared.rule.Rule.{Rule}
 use Rattle.tup_path.proofs.Same.{same_path-decides}
-use Rattle.tup_rule.specs.Laws.{among-decides, is_generated-at, maker-Some}
+use Rattle.tup_rule.proofs.Laws.{among-decides, is_generated-at, maker-Some}
 use Rattle.tup_rule.specs.Rule.{among, writes, maker, is_generated}
 use Rattle.tup_clean.specs.InOrder.{IsOutputAt}
 use Rattle.tup_clean.proofs.Places.{position_any}
