@@ -2,6 +2,7 @@
 #![tactic(auto)]
 
 mod lex;
+mod parse;
 mod vars;
 
 use std::io;
@@ -9,5 +10,6 @@ use std::io;
 fn main(rt: HostRuntime) -> io::Result<()> {
     let alloc = rt.alloc();
     lex::try_rows(&rt, alloc)?;
-    vars::try_rows(&rt, alloc)
+    vars::try_rows(&rt, alloc)?;
+    parse::try_rows(&rt, alloc)
 }
