@@ -2,14 +2,14 @@
 ghost use Rattle.std.specs.Prelude.{◌≡◌, ◌≢◌, ◌⊎◌, ◌≤◌, ◌<◌, ◌+◌, ◌++◌, ◌∷◌, [], Ok, Err, All, length, IfOk, IfErr};
 ghost use Rattle.std.specs.List.{flat_map};
 ghost use Rattle.tup_flags.specs.Part.{parts as cut, spelled};
-ghost use Rattle.tup_flags.specs.Pieces.{total, onto};
+ghost use Rattle.tup_flags.specs.Pieces.{text_limit, total, onto};
 ghost use Rattle.tup_flags.specs.Laws.{IsLeast, IsTextAlone, StandIn, InTurn};
 ghost use Rattle.tup_flags.specs.Expansion as specs;
 ghost use Rattle.tup_flags.specs.declared.fault.FlagFault.TheVariants.{Memory};
 
-use crate::answer::{Answer, MAX_EXPANDED};
+use crate::answer::Answer;
 use crate::fault::FlagFault;
-use crate::mark::read_mark;
+use crate::mark::Mark;
 use crate::parts::{FlagParts, Place};
 use std::alloc::Global;
 use tup_path::Text;
@@ -25,12 +25,12 @@ use tup_rule::Pieces;
 pub fn expand(alloc: Global, text: &Text, parts: &FlagParts) -> Result<Pieces, FlagFault>
     ensures expansion { (result ≡ Err Memory) ⊎ (result ≡ specs.expand parts.now text.now) }
     ensures cut { flat_map spelled (cut text.now) ≡ text.now }
-    ensures plain { All (λ byte. byte ≢ 37) text.now → length text.now ≤ MAX_EXPANDED
+    ensures plain { All (λ byte. byte ≢ 37) text.now → length text.now ≤ text_limit
         → (result ≡ Err Memory) ⊎ (result ≡ Ok (onto text.now [])) }
     ensures alone { parts.now.place ≢ Place.Command → IfOk result IsTextAlone }
     ensures least { IfOk result IsLeast }
     ensures groups { IfOk result (StandIn (length parts.now.groups)) }
-    ensures short { IfOk result (λ pieces. total pieces ≤ MAX_EXPANDED) }
+    ensures short { IfOk result (λ pieces. total pieces ≤ text_limit) }
 {
     expanded(alloc, text.as_str(), parts)
 }
@@ -47,6 +47,7 @@ pub fn expand_in_turn(front: &Text, back: &Text, parts: &FlagParts)
     );
 }
 
+/// The same as `expand`, by a loop over the percent signs.
 fn expanded(alloc: Global, text: &str, parts: &FlagParts) -> Result<Pieces, FlagFault>
     ensures { (result ≡ Err Memory) ⊎ (result ≡ specs.expand parts.now text.now) }
 {
@@ -73,9 +74,9 @@ fn add_mark<'t>(
         ⊎ (specs.with_rest parts.now answer.old (37 ∷ behind.now) ≡ Err fault)) }
     ensures shorter { IfOk result (λ rest. length rest.now < length behind.now) }
 {
-    let Some((mark, rest)) = read_mark(behind) else {
+    let Some((mark, rest)) = Mark::read(behind) else {
         return Err(FlagFault::UnknownFlag);
     };
-    answer.add(alloc, mark.piece(alloc, parts)?)?;
+    mark.add(alloc, answer, parts)?;
     Ok(rest)
 }

@@ -4,7 +4,7 @@ use Rattle.std.proofs.lemmas.Str.{IsCharBoundary-after_ascii}
 use Rattle.std.proofs.lemmas.Str.Pattern.{split_parts, strip_prefix_char}
 use Rattle.tup_flags.specs.Part.{Flagged, parts, parts_from, Behind, Within}
 use Rattle.tup_flags.proofs.Marks.{named-closed, named-open, flag-known, flag-unknown, first-byte, not-open}
-use Rattle.tup_flags.proofs.mark.read_mark.Goals as goal
+use Rattle.tup_flags.proofs.mark.Mark.read.Goals as goal
 
 pub returns-in_err-name-in-Some-clause-parts : goal.returns-in_err-name-in-Some-clause-parts
 returns-in_err-name-in-Some-clause-parts c =
