@@ -1,7 +1,7 @@
 //! What a glob is made of.
 ghost use Rattle.std.specs.Prelude.{◌≡◌};
 ghost use Rattle.std.specs.List.{list_any};
-ghost use Rattle.tup_glob.specs.Piece.{accepts, holds, is_literal};
+ghost use Rattle.tup_glob.specs.Symbol.{accepts, holds, is_literal};
 
 use tup_path::Items;
 
@@ -18,7 +18,7 @@ pub type Ranges = Items<Range>;
 
 /// A part of a glob.
 #[derive(Debug, Drop)]
-pub enum Piece {
+pub enum Symbol {
     /// A character that stands for itself.
     Char(char),
     /// `*`: any run of characters, also an empty one.
@@ -29,25 +29,25 @@ pub enum Piece {
     Set { negated: bool, members: Ranges },
 }
 
-/// A list of pieces.
-pub type Pieces = Items<Piece>;
+/// A list of symbols.
+pub type Symbols = Items<Symbol>;
 
-impl Piece {
-    // Whether it stands for itself.
+impl Symbol {
+    /// Whether it stands for itself.
     pub(crate) fn is_literal(&self) -> bool
         ensures { result ≡ is_literal self.now }
     {
-        matches!(self, Piece::Char(_))
+        matches!(self, Symbol::Char(_))
     }
 
-    // Whether it may stand for this character, or a run of which this is one.
+    /// Whether it may stand for this character, or a run of which this is one.
     pub(crate) fn accepts(&self, char: char) -> bool
         ensures { result ≡ accepts self.now char }
     {
         match self {
-            Piece::Char(own) => *own == char,
-            Piece::Run | Piece::One => true,
-            Piece::Set { negated, members } => *negated != has_member(members.as_slice(), char),
+            Symbol::Char(own) => *own == char,
+            Symbol::Run | Symbol::One => true,
+            Symbol::Set { negated, members } => *negated != has_member(members.as_slice(), char),
         }
     }
 }
