@@ -8,11 +8,8 @@ ghost use Rattle.tup_rule.specs.declared.draft.Piece.{Piece};
 use crate::fault::FlagFault;
 use std::alloc::Global;
 use std::mem;
-use tup_path::Text;
+use tup_path::{MAX_EXPANDED, Text};
 use tup_rule::{Piece, Pieces};
-
-/// How many bytes the texts of an expanded text may have together.
-const MAX_EXPANDED: usize = 1_048_576;
 
 /// Pieces, the text that goes on behind them, and how many bytes there is room for behind that.
 #[derive(Drop)]

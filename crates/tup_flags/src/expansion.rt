@@ -1,6 +1,7 @@
 //! A text with its flags put in.
 ghost use Rattle.std.specs.Prelude.{◌≡◌, ◌≢◌, ◌⊎◌, ◌≤◌, ◌<◌, ◌+◌, ◌++◌, ◌∷◌, [], Ok, Err, All, length, IfOk, IfErr};
 ghost use Rattle.std.specs.List.{flat_map};
+ghost use Rattle.tup_path.specs.Gives.{GivesUnless};
 ghost use Rattle.tup_flags.specs.Part.{parts as cut, spelled};
 ghost use Rattle.tup_flags.specs.Pieces.{text_limit, total, onto};
 ghost use Rattle.tup_flags.specs.Laws.{IsLeast, IsTextAlone, StandIn, InTurn};
@@ -23,10 +24,10 @@ use tup_rule::Pieces;
 /// has nothing to stand for at this place of the rule line, or no group has the name. `TooLong`: the
 /// texts up to here have more than 1,048,576 bytes; a group counts nothing.
 pub fn expand(alloc: Global, text: &Text, parts: &FlagParts) -> Result<Pieces, FlagFault>
-    ensures expansion { (result ≡ Err Memory) ⊎ (result ≡ specs.expand parts.now text.now) }
+    ensures expansion { GivesUnless result Memory (specs.expand parts.now text.now) }
     ensures cut { flat_map spelled (cut text.now) ≡ text.now }
     ensures plain { All (λ byte. byte ≢ 37) text.now → length text.now ≤ text_limit
-        → (result ≡ Err Memory) ⊎ (result ≡ Ok (onto text.now [])) }
+        → GivesUnless result Memory (Ok (onto text.now [])) }
     ensures alone { parts.now.place ≢ Place.Command → IfOk result IsTextAlone }
     ensures least { IfOk result IsLeast }
     ensures groups { IfOk result (StandIn (length parts.now.groups)) }
@@ -49,7 +50,7 @@ pub fn expand_in_turn(front: &Text, back: &Text, parts: &FlagParts)
 
 /// The same as `expand`, by a loop over the percent signs.
 fn expanded(alloc: Global, text: &str, parts: &FlagParts) -> Result<Pieces, FlagFault>
-    ensures { (result ≡ Err Memory) ⊎ (result ≡ specs.expand parts.now text.now) }
+    ensures { GivesUnless result Memory (specs.expand parts.now text.now) }
 {
     let mut answer = Answer::new(alloc);
     let mut rest = text;

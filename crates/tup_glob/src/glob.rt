@@ -7,6 +7,7 @@ ghost use Rattle.tup_glob.specs.Match.{matches as matched};
 ghost use Rattle.tup_glob.specs.Part.{matched_part};
 ghost use Rattle.tup_glob.specs.Symbol.{is_literal};
 ghost use Rattle.tup_glob.specs.Read.{symbols_of};
+ghost use Rattle.tup_path.specs.Gives.{GivesUnless};
 ghost use Rattle.tup_glob.specs.Spelling.{Spells};
 ghost use Rattle.tup_glob.specs.declared.fault.GlobFault.TheVariants.{Memory};
 ghost use Rattle.tup_glob.specs.declared.symbol.Symbol.{Symbol};
@@ -43,7 +44,7 @@ impl Model for Glob {
 impl Glob {
     /// Reads a pattern. A `[` that no `]` closes is refused as `OpenBracket`.
     pub fn read(alloc: Global, pattern: &Text) -> Result<Glob, GlobFault>
-        ensures value { (result ≡ Err Memory) ⊎ (result ≡ symbols_of pattern.now) }
+        ensures value { GivesUnless result Memory (symbols_of pattern.now) }
         ensures spelled { (symbols : List Symbol)
             → ((symbols_of pattern.now ≡ Ok symbols) ↔ Spells symbols (chars pattern.now)) }
     {

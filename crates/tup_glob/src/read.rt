@@ -2,6 +2,7 @@
 ghost use Rattle.std.specs.Prelude.{◌≡◌, ◌⊎◌, ◌≤◌, ◌+◌, ◌∷◌, ℕ, None, Some, length, drop, take, if◌then◌else◌, MatchOption, IfOk, IfErr};
 ghost use Rattle.std.specs.Str.{chars};
 ghost use Rattle.tup_lex.specs.Word.{begins_with};
+ghost use Rattle.tup_path.specs.Gives.{GivesUnless};
 ghost use Rattle.tup_glob.specs.Read.{range, members as members_of, inner_len, set_behind, symbol_of, symbols_of, Leaves};
 ghost use Rattle.tup_glob.specs.declared.fault.GlobFault.TheVariants.{Memory, OpenBracket};
 
@@ -12,7 +13,7 @@ use std::alloc::Global;
 
 /// The symbols of a pattern, in order.
 pub(crate) fn symbols(alloc: Global, pattern: &str) -> Result<Symbols, GlobFault>
-    ensures { (result ≡ Err Memory) ⊎ (result ≡ symbols_of pattern.now) }
+    ensures { GivesUnless result Memory (symbols_of pattern.now) }
 {
     let mut all = Symbols::new(alloc);
     let mut rest = pattern;

@@ -1,10 +1,10 @@
 //! The calls of `macros.rows`.
-use crate::values::{path, shown};
+use crate::values::{path, shown, texts};
 use std::alloc::Global;
 use std::fs::Files;
 use std::io;
 use tup_macro::{Bins, Groups, Macro, MacroFault, Macros};
-use tup_path::{Items, Text};
+use tup_path::{Text, Texts};
 use tup_rows::{Answers, RowFault, Words, try_file};
 use tup_rule::GroupRef;
 
@@ -96,20 +96,12 @@ impl Answers for Tables {
     }
 }
 
+/// The group that a folder and a name are.
 fn group(alloc: Global, arguments: &Words) -> Result<GroupRef, RowFault> {
     Ok(GroupRef {
         dir: path(alloc, arguments.text(0)?)?,
         name: Text::from_str(alloc, arguments.text(1)?)?,
     })
-}
-
-/// Words parted by blanks.
-fn texts(alloc: Global, words: &str) -> Result<Items<Text>, RowFault> {
-    let mut texts = Items::new(alloc);
-    for word in words.split_ascii_whitespace() {
-        texts.push(Text::from_str(alloc, word)?)?;
-    }
-    Ok(texts)
 }
 
 /// No words, or the refusal.
@@ -120,6 +112,7 @@ fn done(alloc: Global, outcome: Result<(), MacroFault>) -> Result<Words, RowFaul
     }
 }
 
+/// The words of a refusal; want of memory ends the report.
 fn refused(alloc: Global, fault: MacroFault) -> Result<Words, RowFault> {
     match fault {
         MacroFault::Memory => Err(RowFault::Memory),
@@ -138,7 +131,7 @@ fn named(alloc: Global, body: &Macro) -> Result<Words, RowFault> {
     Ok(words)
 }
 
-fn each(alloc: Global, words: &mut Words, name: &str, texts: &Items<Text>) -> Result<(), RowFault> {
+fn each(alloc: Global, words: &mut Words, name: &str, texts: &Texts) -> Result<(), RowFault> {
     words.add(alloc, name.as_bytes())?;
     for text in texts.as_slice() {
         words.add(alloc, text.as_str().as_bytes())?;

@@ -1,11 +1,11 @@
 //! Paths, texts and numbers as words.
 use std::alloc::Global;
-use tup_path::{Items, Path, PathFault, Paths, Text};
+use tup_path::{Items, Path, PathFault, Paths, Text, Texts};
 use tup_rows::{RowFault, Words};
 
 /// The path that a word shows from the top directory.
 pub(crate) fn path(alloc: Global, word: &str) -> Result<Path, RowFault> {
-    match Path::resolve(alloc, &Path::top(alloc), &Text::from_str(alloc, word)?) {
+    match Path::from_top(alloc, word) {
         Ok(path) => Ok(path),
         Err(PathFault::Memory) => Err(RowFault::Memory),
         Err(_) => Err(RowFault::OtherKind),
@@ -19,6 +19,15 @@ pub(crate) fn paths(alloc: Global, words: &str) -> Result<Paths, RowFault> {
         paths.push(path(alloc, word)?)?;
     }
     Ok(paths)
+}
+
+/// The texts that words are, parted by blanks.
+pub(crate) fn texts(alloc: Global, words: &str) -> Result<Texts, RowFault> {
+    let mut texts = Items::new(alloc);
+    for word in words.split_ascii_whitespace() {
+        texts.push(Text::from_str(alloc, word)?)?;
+    }
+    Ok(texts)
 }
 
 /// Each path as it is shown from the top directory.
