@@ -13,7 +13,7 @@ use Rattle.std.specs.FinMap.{IsAntisymmetric, get, insert, remove, from_entries,
 use Rattle.std.proofs.lemmas.List.Folds.{Any-from_list_any, list_any_at}
 use Rattle.tup_path.specs.Name.{Names, Content, IsPath}
 use Rattle.tup_path.specs.Order.{by_names, by_names-total}
-use Rattle.tup_path.specs.Same.{by_names-decides, get_inserted, get_inserted_elsewhere}
+use Rattle.tup_path.proofs.Same.{by_names-decides, get_inserted, get_inserted_elsewhere}
 use Rattle.tup_path.specs.Tree.{Tree, IsTree, IsBelow}
 use Rattle.tup_site.specs.Cause.{IsPlace}
 

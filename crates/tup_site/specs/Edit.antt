@@ -6,17 +6,13 @@ use Rattle.std.specs.FinMap as finite
 use Rattle.std.specs.List.{AllPairs}
 use Rattle.std.specs.Map.{keys_of}
 use Rattle.tup_path.specs.Name.{Names, Content}
-use Rattle.tup_path.specs.Tree.{Tree, IsTree, IsBelow}
+use Rattle.tup_path.specs.Tree.{Tree, IsTree, IsBelow, tree_of_files}
 use Rattle.tup_site.specs.Cause.{IsPlace}
-
--- the map that these files make
-abbrev pub tree_of : List (Names × Content) → Tree
-tree_of files = finite.from_entries files
 
 -- these files make a tree: no path stands twice, and each is where a file may be
 pub record AreATree (files : List (Names × Content)) : Type 0 where
   pub once : AllPairs (λ a b. a ≢ b) (keys_of files)
-  pub tree : IsTree (tree_of files)
+  pub tree : IsTree (tree_of_files files)
 
 -- that a tree is one holds in one way only
 pub IsTree-prop : (tree : Tree) → IsProp (IsTree tree)

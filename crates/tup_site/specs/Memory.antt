@@ -1,17 +1,16 @@
 -- A site in memory: what it holds, and which of its calls fail. Own.
 use Rattle.std.specs.Prelude.{◌≡◌, ℕ, Bool, ◌+◌, ◌-◌, ◌^◌, List, if◌then◌else◌, min, nat_eq, IsTrue, ◌↔◌, Result, Err}
 use Rattle.std.specs.List.{list_any}
-use Rattle.tup_path.specs.Tree.{Tree}
+use Rattle.tup_path.specs.Tree.{Tree, tree_of_files}
 use Rattle.tup_site.specs.World.{World}
 use Rattle.tup_site.specs.Cause.{CountsFaults}
-use Rattle.tup_site.specs.Edit.{tree_of}
 use Rattle.tup_site.specs.declared.fault.SiteFailed.{SiteFailed}
 use Rattle.tup_site.specs.declared.fault.SiteFailed.TheVariants.{Fault}
 use Rattle.tup_site.specs.declared.memory.MemSite.{MemSite}
 
 -- the files
 abbrev pub tree_in : MemSite → Tree
-tree_in site = tree_of site.files.entries
+tree_in site = tree_of_files site.files.entries
 
 -- the bytes of the store
 abbrev pub store_in : MemSite → List ℕ

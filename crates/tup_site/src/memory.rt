@@ -2,10 +2,10 @@
 ghost use Rattle.std.specs.Prelude.{◌≡◌, [], ◌+◌, ◌≤◌, length, take, drop, true, IfOk, OnOk, OnErr, Err};
 ghost use Rattle.std.specs.Option.{option_copied};
 ghost use Rattle.std.specs.FinMap as finite;
-ghost use Rattle.tup_path.specs.Tree.{IsTree};
+ghost use Rattle.tup_path.specs.Tree.{IsTree, tree_of_files};
 ghost use Rattle.tup_site.specs.Store.{Holds};
 ghost use Rattle.tup_site.specs.Cause.{NeverTooLarge, OnlyLarge, NamesLength, IsSmall, IsPlace, SameBut};
-ghost use Rattle.tup_site.specs.Edit.{AreATree, MayAdd, IsTree-prop, edited, tree_of};
+ghost use Rattle.tup_site.specs.Edit.{AreATree, MayAdd, IsTree-prop, edited};
 ghost use Rattle.tup_site.specs.declared.fault.SiteFailed.TheVariants.{Fault, Memory};
 ghost use Rattle.tup_site.specs.declared.refused.MemRefused.TheVariants.{NotATree};
 
@@ -26,7 +26,7 @@ pub struct MemSite {
     fails: Vec<u64>,
     calls: u64,
     faults: u64,
-    ghost is_tree: { IsTree (tree_of files.entries) } by { IsTree-prop (tree_of files.entries) },
+    ghost is_tree: { IsTree (tree_of_files files.entries) } by { IsTree-prop (tree_of_files files.entries) },
 }
 
 impl MemSite {
@@ -38,7 +38,7 @@ impl MemSite {
         files: Vec<(Path, Bytes)>,
         fails: Vec<u64>,
     ) -> Result<MemSite, MemRefused>
-        ensures files { IfOk result (λ site. tree_in site ≡ tree_of files.items) }
+        ensures files { IfOk result (λ site. tree_in site ≡ tree_of_files files.items) }
         ensures are_a_tree { OnOk result (AreATree files.items) }
         ensures store { IfOk result (λ site. store_in site ≡ []) }
         ensures calls { IfOk result (λ site. calls_of site ≡ 0) }
