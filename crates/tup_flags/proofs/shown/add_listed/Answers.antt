@@ -1,6 +1,6 @@
-use Rattle.std.proofs.Common.{◌≡◌, [], ◌∷◌, ◌++◌, length, ap, sym, ◌∙◌}
+use Rattle.std.proofs.Common.{ap, sym, ◌∙◌}
 use Rattle.std.proofs.lemmas.List.{nil_from_length}
-use Rattle.tup_flags.specs.Shown.{shown, further, listed}
+use Rattle.tup_flags.specs.Shown.{listed}
 use Rattle.tup_flags.proofs.Listed.{listed-first, grown-none, grown-as, both-grown, both-refused}
 use Rattle.tup_flags.proofs.shown.add_listed.Goals as goal
 
