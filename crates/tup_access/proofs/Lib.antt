@@ -1,1 +1,5 @@
+pub mod Permitted
+pub mod Steps
+pub mod Alike
+pub mod Outputs
 pub mod Writes

@@ -1,20 +1,25 @@
 -- The loops over writes and outputs: one more write, and the first element that passes a test.
-use Rattle.std.proofs.Common.{◌≡◌, ℕ, zero, suc, ◌+◌, ◌<◌, Bool, true, false, not, if◌then◌else◌, List, [], ◌∷◌, ◌++◌, length, take, get_or, map, Option, None, Some, Ok, ◌⊎◌, inl, inr, refl, sym, ap, ◌∙◌, arith}
-use Rattle.std.specs.List.{AllZip, find}
-use Rattle.std.specs.Option.{is_none, unwrap_or}
-use Rattle.std.proofs.lemmas.List.{take_more, length-take, map-append}
-use Rattle.std.proofs.lemmas.List.Folds.{find-append}
-use Rattle.std.proofs.lemmas.Slice.Zip.{all_zipped_more}
+use Rattle.std.proofs.Common.{◌≡◌, ℕ, zero, suc, ◌+◌, ◌<◌, Bool, true, false, cond, not, ◌||◌, if◌then◌else◌, List, [], ◌∷◌, ◌++◌, length, take, get_or, map, Option, None, Some, Result, Ok, Err, Bor, ◌⊎◌, inl, inr, refl, sym, ap, ◌∙◌, arith}
+use Rattle.std.specs.List.{find}
+use Rattle.std.specs.Option.{is_none, is_some, unwrap_or}
+use Rattle.std.specs.Result.{result_ok}
+use Rattle.std.specs.BTreeMap.{get, is_at}
+use Rattle.std.proofs.lemmas.Bool.{cases_Bool, or_left, or_right, true≢false}
+use Rattle.std.proofs.lemmas.List.{take_more, map-append}
+use Rattle.std.proofs.lemmas.List.Folds.{find-append, list_any_more}
+use Rattle.tup_path.specs.declared.fault.PathFault.{PathFault}
 use Rattle.tup_path.specs.Name.{Names, Content}
-use Rattle.tup_path.specs.Order.{same_path}
+use Rattle.tup_path.specs.Order.{by_names, same_path, same_path-by_names}
+use Rattle.tup_path.proofs.Same.{same_path-decides}
 use Rattle.tup_path.specs.Resolve.{resolve}
 use Rattle.tup_rule.specs.declared.rule.Rule.{Rule}
+use Rattle.tup_rule.specs.Rule.{among, writes}
 use Rattle.tup_access.specs.declared.refusal.Refusal.{Refusal}
 use Rattle.tup_access.specs.declared.refusal.Refusal.TheVariants.{Bad, Memory}
-use Rattle.tup_access.specs.declared.verdict.Verdict.TheVariants.{IllegalWrite, Unwritten}
+use Rattle.tup_access.specs.declared.verdict.Verdict.TheVariants.{Unwritten}
 use Rattle.tup_access.specs.Judge.{last_written, names_path, names_output, foreign_write, unwritten}
-use Rattle.tup_access.specs.Written.{last_at, AreNamed}
-use Rattle.tup_access.specs.Refusal.{RefusesWrite, RefusesOutput}
+use Rattle.tup_access.specs.Written.{LastWrites, content_in, HasOutputs, HasLast, AreAllOwn, IsOutputOf}
+use Rattle.tup_access.specs.Refusal.{RefusesWrite, RefusesText, RefusesOutput}
 
 -- ---- the first that passes a test
 
@@ -34,65 +39,131 @@ find_more p xs i x none less here e = rw (take_more xs i x less) (rw (sym here) 
 
 -- ---- what was written last
 
-last_at-push : (path : Names) (paths : List Names) (written : List (List ℕ × Content)) (named : Names) (w : List ℕ × Content) → length paths ≡ length written
-    → last_at path (paths ++ named ∷ []) (written ++ w ∷ []) ≡ (if same_path named path then Some w.1 else last_at path paths written)
-last_at-push path [] [] named w h = refl
-last_at-push path [] (v ∷ written) named w h = absurd (omega arith)
-last_at-push path (other ∷ paths) [] named w h = absurd (omega arith)
-last_at-push path (other ∷ paths) (v ∷ written) named w h =
-    rw (last_at-push path paths written named w (omega arith)) (by (same_path named path))
+-- after one more write
+pub last_written-push : (rule : Rule) (path : Names) (written : List (List ℕ × Content)) (w : List ℕ × Content) →
+    last_written rule path (written ++ w ∷ []) ≡ cond (names_path rule path w.0) (Some w.1) (last_written rule path written)
+last_written-push rule path [] w = refl
+last_written-push rule path (v ∷ written) w = rw (last_written-push rule path written w) (by (names_path rule path w.0))
   where
-    by : (b : Bool)
-        → (elim (if b then Some w.1 else last_at path paths written) [ Some content ↦ Some content | None ↦ if same_path other path then Some v.1 else None ])
-        ≡ (if b then Some w.1 else last_at path (other ∷ paths) (v ∷ written))
+    by : (b : Bool) → (elim (cond b (Some w.1) (last_written rule path written)) [ Some content ↦ Some content | None ↦ if names_path rule path v.0 then Some v.1 else None ])
+        ≡ cond b (Some w.1) (last_written rule path (v ∷ written))
     by true = refl
     by false = refl
 
--- after one more write
-last_at-more : (path : Names) (paths : List Names) (written : List (List ℕ × Content)) (i : ℕ) (named : Names) (w : List ℕ × Content) → length paths ≡ length written → i < length written
-    → named ≡ get_or paths i named → w ≡ get_or written i w
-    → last_at path (take (i + 1) paths) (take (i + 1) written) ≡ (if same_path named path then Some w.1 else last_at path (take i paths) (take i written))
-last_at-more path paths written i named w h less named_here w_here =
-    let grown : take (i + 1) paths ≡ take i paths ++ named ∷ [] = take_more paths i named (omega arith) ∙ ap (λ x. take i paths ++ x ∷ []) (sym named_here) in
-    let longer : take (i + 1) written ≡ take i written ++ w ∷ [] = take_more written i w less ∙ ap (λ (x : List ℕ × Content). take i written ++ x ∷ []) (sym w_here) in
-    rw (grown, longer) (last_at-push path (take i paths) (take i written) named w (simp length-take (rw h refl)))
+-- a path is the one that the map was asked for, or another
+at_place : (x y : Names) → ((x ≡ y) × (is_at (by_names x) y ≡ true) × (same_path x y ≡ true)) ⊎ ((is_at (by_names x) y ≡ false) × (same_path x y ≡ false))
+at_place x y =
+    elim (cases_Bool (same_path x y)) [
+      | inl same ↦ inl ((same_path-decides x y).0 same, sym (same_path-by_names x y) ∙ same, same)
+      | inr apart ↦ inr (sym (same_path-by_names x y) ∙ apart, apart)
+    ]
 
-pub last_at-here : (path : Names) (paths : List Names) (written : List (List ℕ × Content)) (i : ℕ) (named : Names) (w : List ℕ × Content) → length paths ≡ length written → i < length written
-    → named ≡ get_or paths i named → w ≡ get_or written i w → true ≡ same_path named path → last_at path (take (i + 1) paths) (take (i + 1) written) ≡ Some w.1
-last_at-here path paths written i named w h less named_here w_here e = rw (last_at-more path paths written i named w h less named_here w_here) (rw (sym e) refl)
+-- the outputs of a rule, none written
 
-pub last_at-elsewhere : (path : Names) (paths : List Names) (written : List (List ℕ × Content)) (i : ℕ) (named : Names) (w : List ℕ × Content) → length paths ≡ length written → i < length written
-    → named ≡ get_or paths i named → w ≡ get_or written i w → false ≡ same_path named path → last_at path (take (i + 1) paths) (take (i + 1) written) ≡ last_at path (take i paths) (take i written)
-last_at-elsewhere path paths written i named w h less named_here w_here e = rw (last_at-more path paths written i named w h less named_here w_here) (rw (sym e) refl)
+pub record HasFirst (paths : List Names) (last : LastWrites) : Type 0 where
+  pub outputs : (path : Names) → is_some (get by_names last path) ≡ among path paths
+  pub contents : (path : Names) → content_in last path ≡ None
 
--- a look at the named paths finds what was written last
-pub last_at-last_written : (rule : Rule) (path : Names) (written : List (List ℕ × Content)) (paths : List Names) → AreNamed rule written paths → last_at path paths written ≡ last_written rule path written
-last_at-last_written rule path written paths named = by written paths named.each
+pub first_none : (last : LastWrites) → last.entries ≡ [] → HasFirst [] last
+first_none last none = record { outputs = λ path. rw none refl; contents = λ path. rw none refl }
+
+pub first_more : (outputs : List Names) (i : ℕ) (output copy : Names) (old new : LastWrites) → HasFirst (take i outputs) old → i < length outputs → output ≡ get_or outputs i output → copy ≡ output
+    → ((q : Names) → get by_names new q ≡ cond (is_at (by_names copy) q) (Some None) (get by_names old q)) → HasFirst (take (i + 1) outputs) new
+first_more outputs i output copy old new first less here copied updates = record {
+  outputs = λ path.
+      let more : among path (take (i + 1) outputs) ≡ (among path (take i outputs) || same_path path output) = list_any_more (same_path path) outputs i output less ∙ ap (λ (x : Names). among path (take i outputs) || same_path path x) (sym here) in
+      elim (at_place copy path) [
+        | inl same ↦ rw (updates path, same.1, more) (sym (or_right _ _ ((same_path-decides path output).1 (sym same.0 ∙ copied))))
+        | inr apart ↦ rw (updates path, apart.0, more) (first.outputs path ∙ sym (or_false (among path (take i outputs)) (same_path path output) (turned path output (rw (← copied) apart.1))))
+      ];
+  contents = λ path. elim (at_place copy path) [
+    | inl same ↦ rw (updates path, same.1) refl
+    | inr apart ↦ rw (updates path, apart.0) (first.contents path)
+  ];
+}
   where
-    by : (written : List (List ℕ × Content)) (paths : List Names) → AllZip (λ (w : List ℕ × Content) path. resolve rule.dir w.0 ≡ Ok path) written paths → last_at path paths written ≡ last_written rule path written
-    by [] [] h = refl
-    by [] (named ∷ paths) h = absurd h
-    by (w ∷ written) [] h = absurd h
-    by (w ∷ written) (named ∷ paths) h =
-        let told : names_path rule path w.0 ≡ same_path named path = rw (h.0, names_path) refl in
-        rw (by written paths h.1) (ap (λ (b : Bool). elim (last_written rule path written) [ Some content ↦ Some content | None ↦ if b then Some w.1 else None ]) (sym told))
+    or_false : (x y : Bool) → y ≡ false → (x || y) ≡ x
+    or_false true y none = refl
+    or_false false y none = none
+
+    turned : (x y : Names) → same_path y x ≡ false → same_path x y ≡ false
+    turned x y apart = elim (cases_Bool (same_path x y)) [
+      | inl same ↦ absurd (true≢false (sym ((same_path-decides y x).1 (sym ((same_path-decides x y).0 same))) ∙ apart))
+      | inr other ↦ other
+    ]
+
+pub first_all : (rule : Rule) (last : LastWrites) → HasFirst rule.outputs last → HasLast rule [] last
+first_all rule last first = record { outputs = record { each = first.outputs }; contents = λ path own. first.contents path }
+
+-- one more write to an output
+pub last_more : (rule : Rule) (written : List (List ℕ × Content)) (w : List ℕ × Content) (path : Names) (content : Bor Content) (old new : LastWrites) → HasLast rule written old → IsOutputOf rule w.0 path
+    → content.now ≡ w.1 → ((q : Names) → get by_names new q ≡ cond (is_at (by_names path) q) (Some (Some content)) (get by_names old q)) → HasLast rule (written ++ w ∷ []) new
+last_more rule written w path content old new last output is updates = record {
+  outputs = record {
+    each = λ q. elim (at_place path q) [
+      | inl same ↦ rw (updates q, same.1) (sym (own q same.0))
+      | inr apart ↦ rw (updates q, apart.0) (last.outputs.each q)
+    ];
+  };
+  contents = λ q mine. elim (at_place path q) [
+    | inl same ↦ rw (updates q, same.1, last_written-push rule q written w, names_at q ∙ same.2) (ap Some is)
+    | inr apart ↦ rw (updates q, apart.0, last_written-push rule q written w, names_at q ∙ apart.1) (last.contents q mine)
+  ];
+}
+  where
+    names_at : (q : Names) → names_path rule q w.0 ≡ same_path path q
+    names_at q = rw (output.named, names_path) refl
+
+    own : (q : Names) → path ≡ q → writes rule q ≡ true
+    own q same = ap (writes rule) (sym same) ∙ (rw (output.named, names_output) at output.own)
 
 -- ---- the loops
 
 pub write_refused : (rule : Rule) (written : List (List ℕ × Content)) (i : ℕ) (w : List ℕ × Content) (refusal : Refusal) → foreign_write rule (take i written) ≡ None → i < length written → w ≡ get_or written i w
-    → (refusal ≡ Memory) ⊎ ((names_output rule w.0 ≡ false) × (refusal ≡ Bad (IllegalWrite w.0))) → RefusesWrite refusal (foreign_write rule written)
+    → RefusesText rule w.0 refusal → RefusesWrite (foreign_write rule written) refusal
 write_refused rule written i w refusal none less here (inl memory) = rw memory tt
 write_refused rule written i w refusal none less here (inr foreign) =
     rw foreign.1 (w, find-first (λ (v : List ℕ × Content). not (names_output rule v.0)) written i w none less here (ap not foreign.0), refl)
 
-pub AreNamed-more : (rule : Rule) (written : List (List ℕ × Content)) (i : ℕ) (w : List ℕ × Content) (paths : List Names) (path : Names) → AreNamed rule (take i written) paths → i < length written → w ≡ get_or written i w
-    → resolve rule.dir w.0 ≡ Ok path → AreNamed rule (take (i + 1) written) (paths ++ path ∷ [])
-AreNamed-more rule written i w paths path named less here e =
+-- one more write that names an output
+pub own_more : (rule : Rule) (written : List (List ℕ × Content)) (i : ℕ) (w : List ℕ × Content) (path : Names) (content : Bor Content) (old new : LastWrites) → AreAllOwn rule (take i written) old → i < length written → w ≡ get_or written i w
+    → IsOutputOf rule w.0 path → ((q : Names) → get by_names new q ≡ cond (is_at (by_names path) q) (Some (Some content)) (get by_names old q)) → content.now ≡ w.1 → AreAllOwn rule (take (i + 1) written) new
+own_more rule written i w path content old new all less here output updates is =
     let longer : take (i + 1) written ≡ take i written ++ w ∷ [] = take_more written i w less ∙ ap (λ (x : List ℕ × Content). take i written ++ x ∷ []) (sym here) in
-    rw longer (record { each = all_zipped_more (λ (v : List ℕ × Content) path. resolve rule.dir v.0 ≡ Ok path) (take i written) paths w path named.each e })
+    record {
+      own = find_more (λ (v : List ℕ × Content). not (names_output rule v.0)) written i w all.own less here (ap not output.own);
+      has = rw longer (last_more rule (take i written) w path content old new all.has output is updates);
+    }
+
+-- a text that names no path, and one whose path isn't in the map
+
+pub text_nowhere : (rule : Rule) (text : List ℕ) (found : Option Names) → found ≡ result_ok (resolve rule.dir text) → found ≡ None → names_output rule text ≡ false
+text_nowhere rule text found is none = by (resolve rule.dir text) (sym is ∙ none)
+  where
+    by : (r : Result Names PathFault) → result_ok r ≡ None → elim r as (λ _. Bool) [ Ok named ↦ writes rule named | Err fault ↦ false ] ≡ false
+    by (Ok named) e = cc
+    by (Err fault) e = refl
+
+pub text_foreign : (rule : Rule) (text : List ℕ) (found : Option Names) (path : Names) (last : LastWrites) → HasOutputs rule last → found ≡ result_ok (resolve rule.dir text) → found ≡ Some path
+    → is_some (get by_names last path) ≡ false → names_output rule text ≡ false
+text_foreign rule text found path last has is some foreign = by (resolve rule.dir text) (sym is ∙ some)
+  where
+    by : (r : Result Names PathFault) → result_ok r ≡ Some path → elim r as (λ _. Bool) [ Ok named ↦ writes rule named | Err fault ↦ false ] ≡ false
+    by (Ok named) e = let same : named ≡ path = cc in ap (writes rule) same ∙ sym (has.each path) ∙ foreign
+    by (Err fault) e = refl
+
+-- what the map has for an output of the rule
+pub content_at : (rule : Rule) (written : List (List ℕ × Content)) (last : LastWrites) (i : ℕ) (path : Names) → HasLast rule written last → i < length rule.outputs → path ≡ get_or rule.outputs i path
+    → content_in last path ≡ last_written rule path written
+content_at rule written last i path has less here = has.contents path (one_of rule.outputs i path less here)
+  where
+    one_of : (paths : List Names) (i : ℕ) (path : Names) → i < length paths → path ≡ get_or paths i path → among path paths ≡ true
+    one_of [] i path less here = absurd (omega arith)
+    one_of (p ∷ paths) zero path less here = or_left _ _ ((same_path-decides path p).1 here)
+    one_of (p ∷ paths) (suc i) path less here = or_right _ _ (one_of paths i path (omega arith) here)
 
 pub output_refused : (rule : Rule) (written : List (List ℕ × Content)) (i : ℕ) (path : Names) (refusal : Refusal) (last : Option Content) → last ≡ last_written rule path written → find (λ (p : Names). is_none (last_written rule p written)) (take i rule.outputs) ≡ None → i < length rule.outputs → path ≡ get_or rule.outputs i path
-    → (refusal ≡ Memory) ⊎ ((last ≡ None) × (refusal ≡ Bad (Unwritten path))) → RefusesOutput refusal (unwritten rule written)
+    → (refusal ≡ Memory) ⊎ ((last ≡ None) × (refusal ≡ Bad (Unwritten path))) → RefusesOutput (unwritten rule written) refusal
 output_refused rule written i path refusal last is none less here (inl memory) = rw memory tt
 output_refused rule written i path refusal last is none less here (inr missing) =
     rw missing.1 (path, find-first (λ (p : Names). is_none (last_written rule p written)) rule.outputs i path none less here (ap is_none (sym is ∙ missing.0)), refl)

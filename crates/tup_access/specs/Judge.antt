@@ -1,6 +1,6 @@
 -- What an ended command is judged to be. From the manual: a command fails by its status, by a write that its
 -- rule doesn't name, and by an output that it doesn't write.
-use Rattle.std.specs.Prelude.{◌==◌, ℕ, Bool, false, not, List, [], ◌∷◌, Option, None, Some, Ok, Err, if◌then◌else◌, map, find, is_none, unwrap_or}
+use Rattle.std.specs.Prelude.{◌≡◌, ◌==◌, ℕ, Bool, false, not, List, [], ◌∷◌, Option, None, Some, Ok, Err, if◌then◌else◌, map, find, is_none, unwrap_or}
 use Rattle.tup_path.specs.Name.{Names, Content}
 use Rattle.tup_path.specs.Order.{same_path}
 use Rattle.tup_path.specs.Resolve.{resolve}
@@ -15,8 +15,17 @@ pub record Judged : Type 0 where
   pub verdict : Verdict
   pub files : List (Names × Content)
 
+-- a verdict and the files that are left, as a pair gives them
+abbrev pub IsJudged : Verdict → List (Names × Content) → Judged → Type 0
+IsJudged verdict files judged = (verdict ≡ judged.verdict) × (files ≡ judged.files)
+
+-- a command that leaves nothing
 abbrev pub bad : Verdict → Judged
 bad verdict = record { verdict = verdict; files = [] }
+
+-- a command that leaves these files
+abbrev pub good : List (Names × Content) → Judged
+good files = record { verdict = Good; files = files }
 
 -- whether a text names this path from the rule's folder
 abbrev pub names_path : Rule → Names → List ℕ → Bool
@@ -55,6 +64,6 @@ judge rule ended =
       | Some w ↦ bad (IllegalWrite w.0)
       | None ↦ elim (unwritten rule ended.writes) [
         | Some path ↦ bad (Unwritten path)
-        | None ↦ record { verdict = Good; files = files_of rule ended.writes }
+        | None ↦ good (files_of rule ended.writes)
       ]
     ]

@@ -2,9 +2,5 @@ pub mod Access
 pub mod Judge
 pub mod Verdict
 pub mod Generated
-pub mod Allowed
-pub mod Steps
-pub mod Alike
-pub mod Outputs
 pub mod Written
 pub mod Refusal

@@ -1,11 +1,11 @@
 -- The verdict on a command over a tree: what its runner does, step by step, with the tree's answers.
-use Rattle.std.specs.Prelude.{ℕ, zero, suc, List, [], ◌∷◌, ◌++◌, length, None, Some, if◌then◌else◌}
+use Rattle.std.specs.Prelude.{ℕ, ◌-◌, zero, suc, List, [], ◌∷◌, ◌++◌, length, None, Some, if◌then◌else◌}
 use Rattle.std.specs.FinMap as finite
 use Rattle.tup_path.specs.Name.{Names}
 use Rattle.tup_path.specs.Tree.{Tree}
 use Rattle.tup_rule.specs.declared.rule.Rule.{Rule}
 use Rattle.tup_rule.specs.Rule.{writes}
-use Rattle.tup_runner.specs.Next.{Next, Asked}
+use Rattle.tup_runner.specs.Next.{Next, Asks}
 use Rattle.tup_runner.specs.declared.step.Answer.{Answer}
 use Rattle.tup_runner.specs.declared.step.Answer.TheVariants.{Content, Absent}
 use Rattle.tup_runner.specs.declared.step.Step.TheVariants.{Ask, End}
@@ -21,7 +21,7 @@ answer rule tree path =
     else elim (finite.get tree path) [ Some content ↦ Content content | None ↦ Absent ]
 
 -- what becomes of a command that has asked this much, and may go on for so many steps
-unfoldable pub follow : Next → List Rule → Rule → Tree → ℕ → Asked → Judged
+unfoldable pub follow : Next → List Rule → Rule → Tree → ℕ → Asks → Judged
 follow next rules rule tree zero asked = bad TooManyReads
 follow next rules rule tree (suc steps) asked =
     elim (next rule.dir rule.text asked) [
@@ -35,3 +35,7 @@ follow next rules rule tree (suc steps) asked =
 -- from the start; the 4,096th ask is refused, so there are never more steps than that
 unfoldable pub verdict : Next → List Rule → Rule → Tree → Judged
 verdict next rules rule tree = follow next rules rule tree 4096 []
+
+-- the verdict on a command that has asked this much
+unfoldable pub verdict_after : Next → List Rule → Rule → Tree → Asks → Judged
+verdict_after next rules rule tree asked = follow next rules rule tree (4096 - length asked) asked

@@ -1,9 +1,10 @@
 //! What a command may ask for.
-ghost use Rattle.std.specs.Prelude.{◌≡◌, ◌⊎◌, List, Ok, Err, IfOk};
+ghost use Rattle.std.specs.Prelude.{◌≡◌, List, Ok, IfOk};
 ghost use Rattle.std.specs.Result.{result_ok};
+ghost use Rattle.tup_path.specs.Gives.{GivesUnless};
 ghost use Rattle.tup_path.specs.Resolve.{resolve};
 ghost use Rattle.tup_rule.specs.declared.rule.Rule.{Rule as RuleValue};
-ghost use Rattle.tup_access.specs.Access as specs;
+ghost use Rattle.tup_access.specs.Access.{access, may_read as may_read_of};
 ghost use Rattle.tup_access.specs.Generated.{IsGenerated};
 
 use crate::fault::AccessFault;
@@ -27,7 +28,8 @@ pub fn allowed(
     text: &Text,
     asked_before: u32,
 ) -> Result<Access, AccessFault>
-    ensures { (rules : List RuleValue) → IsGenerated rules generated.now → (result ≡ Err AccessFault.Memory) ⊎ (result ≡ Ok (specs.access rules rule.now asked_before text.now)) }
+    ensures { (rules : List RuleValue) → IsGenerated rules generated.now
+        → GivesUnless result AccessFault.Memory (Ok (access rules rule.now asked_before text.now)) }
 {
     if asked_before >= MAX_ASKS - 1 {
         return Ok(Access::No(Verdict::TooManyReads));
@@ -39,7 +41,8 @@ pub fn allowed(
 }
 
 fn may_read(rule: &Rule, generated: &BTreeSet<Path>, path: &Path) -> bool
-    ensures { (rules : List RuleValue) → IsGenerated rules generated.now → result ≡ specs.may_read rules rule.now path.now }
+    ensures { (rules : List RuleValue) → IsGenerated rules generated.now
+        → result ≡ may_read_of rules rule.now path.now }
 {
     !generated.contains(path) || rule.declares(path) || rule.writes(path)
 }

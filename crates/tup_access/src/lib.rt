@@ -15,6 +15,3 @@ pub use access::{MAX_ASKS, allowed};
 pub use fault::AccessFault;
 pub use judging::judge;
 pub use verdict::{Access, Verdict};
-
-#[cfg(test)]
-mod tests;

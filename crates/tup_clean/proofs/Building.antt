@@ -10,7 +10,8 @@ use Rattle.tup_access.specs.Judge.{Judged}
 use Rattle.tup_access.specs.Verdict.{verdict}
 use Rattle.tup_mini.specs.Mini.{mini_next}
 use Rattle.tup_clean.specs.Clean.{Build, good_at, first_ready, given, with_files, builds_on, start, clean}
-use Rattle.tup_clean.specs.Ready.{is_made, next_ready, IsGrown, next_ready-first_ready, grown_start, grown_more}
+use Rattle.tup_clean.specs.Ready.{is_made, next_ready, IsGrown}
+use Rattle.tup_clean.proofs.Growing.{next_ready-first_ready, grown_start, grown_more}
 
 -- ---- what a maker tells
 
@@ -72,9 +73,6 @@ under_way_end rules begun now count way all =
     sym (way.goes_on ∙ ap (λ steps. builds_on steps mini_next rules now) none_left)
 
 -- ---- from the start
-
-pub grown_from_none : (rules : List Rule) (n : ℕ) (verdicts : List (Option Verdict)) → verdicts ≡ replicate n None → IsGrown rules verdicts
-grown_from_none rules n verdicts none = rw none (grown_start rules n)
 
 pub built_clean : (rules : List Rule) (sources : Tree) (begun now : Build) → begun.tree ≡ sources → begun.verdicts ≡ replicate (length rules) None →
     now ≡ builds_on (length rules) mini_next rules begun → now ≡ clean mini_next rules sources

@@ -3,7 +3,7 @@ use Rattle.std.proofs.Common.{◌≡◌, ℕ, ◌+◌, ◌≤◌, ◌⊎◌, Lis
 use Rattle.tup_path.specs.Name.{Names, Content}
 use Rattle.tup_path.specs.Tree.{Tree}
 use Rattle.tup_rule.specs.declared.rule.Rule.{Rule}
-use Rattle.tup_runner.specs.Next.{Asked}
+use Rattle.tup_runner.specs.Next.{Asks}
 use Rattle.tup_runner.specs.declared.step.Ended.{Ended}
 use Rattle.tup_runner.specs.declared.step.Step.{Step}
 use Rattle.tup_runner.specs.declared.step.Step.TheVariants.{Ask, End}
@@ -11,9 +11,9 @@ use Rattle.tup_access.specs.declared.verdict.Verdict.{Verdict}
 use Rattle.tup_access.specs.declared.verdict.Access.TheVariants.{Yes, No}
 use Rattle.tup_access.specs.Access.{access}
 use Rattle.tup_access.specs.Judge.{Judged, bad, judge}
-use Rattle.tup_access.specs.Verdict.{answer, verdict}
-use Rattle.tup_access.specs.Allowed.{access-Yes}
-use Rattle.tup_access.specs.Steps.{verdict_after, verdict_after-none, verdict_after-End, verdict_after-No, verdict_after-Yes}
+use Rattle.tup_access.specs.Verdict.{answer, verdict, verdict_after}
+use Rattle.tup_access.proofs.Permitted.{access-Yes}
+use Rattle.tup_access.proofs.Steps.{verdict_after-none, verdict_after-End, verdict_after-No, verdict_after-Yes}
 use Rattle.tup_mini.specs.declared.command.Command.{Command}
 use Rattle.tup_mini.specs.Command.{command_of}
 use Rattle.tup_mini.specs.Mini.{mini_next, command_next}
@@ -24,13 +24,13 @@ given x y fault (inl refused) = cc refused
 given x y fault (inr same) = cc same
 
 -- a command that has asked this much, and has its verdict still to come
-pub record IsFollowed (rules : List Rule) (rule : Rule) (tree : Tree) (command : Command) (asked : Asked) (before : ℕ) : Type 0 where
+pub record IsFollowed (rules : List Rule) (rule : Rule) (tree : Tree) (command : Command) (asked : Asks) (before : ℕ) : Type 0 where
   pub read : command ≡ command_of rule.text
   pub count : length asked ≡ before
   pub early : before ≤ 4095
   pub after : verdict mini_next rules rule tree ≡ verdict_after mini_next rules rule tree asked
 
-pub followed_start : (rules : List Rule) (rule : Rule) (tree : Tree) (command : Command) (asked : Asked) → command ≡ command_of rule.text → asked ≡ [] → IsFollowed rules rule tree command asked 0
+pub followed_start : (rules : List Rule) (rule : Rule) (tree : Tree) (command : Command) (asked : Asks) → command ≡ command_of rule.text → asked ≡ [] → IsFollowed rules rule tree command asked 0
 followed_start rules rule tree command asked read none = record {
   read = read;
   count = rw none refl;
@@ -38,11 +38,11 @@ followed_start rules rule tree command asked read none = record {
   after = rw none (sym (verdict_after-none mini_next rules rule tree));
 }
 
-module _ (rules : List Rule) (rule : Rule) (tree : Tree) (command : Command) (asked : Asked) (before : ℕ) (followed : IsFollowed rules rule tree command asked before) where
+module _ (rules : List Rule) (rule : Rule) (tree : Tree) (command : Command) (asked : Asks) (before : ℕ) (followed : IsFollowed rules rule tree command asked before) where
   next_is : (step : Step) → step ≡ command_next command asked → mini_next rule.dir rule.text asked ≡ step
   next_is step told = sym (told ∙ ap (λ c. command_next c asked) followed.read)
 
-  pub followed_more : (more : Asked) (text : List ℕ) (path : Names) → Ask text ≡ command_next command asked → Yes path ≡ access rules rule before text →
+  pub followed_more : (more : Asks) (text : List ℕ) (path : Names) → Ask text ≡ command_next command asked → Yes path ≡ access rules rule before text →
       more ≡ asked ++ (text, answer rule tree path) ∷ [] → IsFollowed rules rule tree command more (before + 1)
   followed_more more text path told allowed added =
       let may : access rules rule (length asked) text ≡ Yes path = rw followed.count (sym allowed) in

@@ -1,4 +1,11 @@
+pub mod Places
+pub mod Among
+pub mod VerdictLaws
+pub mod FilesPut
+pub mod InOrderLaws
+pub mod CleanLaws
 pub mod Sorted
 pub mod Following
+pub mod Growing
 pub mod Building
 pub mod Outputs

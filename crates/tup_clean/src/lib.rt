@@ -2,7 +2,7 @@
 //!
 //! `clean_build` gives just the build that `specs/Clean.antt` defines, for every list of rules, and is refused
 //! for want of memory alone. It is plain and slow, and knows nothing of graphs, flags, stamps or threads.
-//! `specs/CleanLaws.antt` and `specs/InOrderLaws.antt` say what the build is where the rules can be run in
+//! `proofs/CleanLaws.antt` and `proofs/InOrderLaws.antt` say what the build is where the rules can be run in
 //! their order, and which trees a rule could as well be run in.
 #![tactic(auto)]
 
@@ -11,8 +11,6 @@ mod fault;
 mod generated;
 mod ready;
 mod running;
-#[cfg(test)]
-mod tests;
 mod tree;
 
 pub use build::clean_build;

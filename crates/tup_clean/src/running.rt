@@ -13,7 +13,7 @@ use tup_access::{Access, MAX_ASKS, Verdict, allowed, judge};
 use tup_mini::Command;
 use tup_path::{Files, Items, Path};
 use tup_rule::Rule;
-use tup_runner::{Answer, Asked, Step};
+use tup_runner::{Answer, Asks, Step};
 
 /// The verdict on a rule over some files, and the files that its command leaves.
 pub(crate) fn run(
@@ -27,7 +27,7 @@ pub(crate) fn run(
     ensures { IfOk result (λ ran. record { verdict = ran.0; files = ran.1 } ≡ specs.verdict mini_next rules.now rule.now tree.now) }
 {
     let command = Command::read(alloc, &rule.text)?;
-    let mut asked: Asked = Items::new(alloc);
+    let mut asked: Asks = Items::new(alloc);
     for before in 0..MAX_ASKS {
         match command.next(alloc, asked.as_slice())? {
             Step::End(ended) => return Ok(judge(alloc, rule, &ended)?),

@@ -1,9 +1,8 @@
 -- How the members of a list are written and read, one after another.
-use Rattle.std.proofs.Common.{◌≡◌, ℕ, suc, ◌+◌, ◌-◌, ◌<◌, ◌≤◌, List, [], ◌∷◌, ◌++◌, length, drop, get_or, Ok, Err, refl, ap, sym, subst, ◌∙◌, append_assoc, append-nil, arith}
+use Rattle.std.proofs.Common.{◌≡◌, ℕ, suc, ◌+◌, ◌-◌, ◌<◌, List, [], ◌∷◌, ◌++◌, length, drop, get_or, Ok, Err, refl, ap, sym, subst, ◌∙◌, append_assoc, arith}
 use Rattle.std.specs.List.{flat_map, AllByRecursion}
-use Rattle.std.proofs.lemmas.List.{drop_more, drop_all}
+use Rattle.std.proofs.lemmas.List.{drop_more}
 use Rattle.std.proofs.lemmas.List.Concat.{flat_map-cons}
-use Rattle.tup_field.specs.declared.fault.RecordFault.{RecordFault}
 use Rattle.tup_field.specs.Format.{Read, Format, ◌>>=◌}
 use Rattle.tup_field.specs.Parts.{many_at}
 
@@ -14,9 +13,6 @@ pub record IsLeft {A : Type 0} (f : Format A) (xs : List A) (i : ℕ) (old now :
   pub left : AllByRecursion f.Fits xs → AllByRecursion f.Fits (drop i xs)
 
 module _ {A : Type 0} (f : Format A) (xs : List A) (old : List ℕ) where
-  pub left_none : IsLeft f xs 0 old old
-  left_none = record { bytes = refl; all = λ fits. fits; left = λ fits. fits }
-
   pub left_more : (i : ℕ) (x : A) (now new : List ℕ) → i < length xs → x ≡ get_or xs i x → f.Fits x → new ≡ now ++ f.spelling x → IsLeft f xs i old now → IsLeft f xs (i + 1) old new
   left_more i x now new lt at fits e so_far =
       let cut : drop i xs ≡ x ∷ drop (i + 1) xs = drop_more xs i x lt ∙ ap (λ (y : A). y ∷ drop (i + 1) xs) (sym at) in
@@ -26,17 +22,6 @@ module _ {A : Type 0} (f : Format A) (xs : List A) (old : List ℕ) where
         all = λ more. so_far.all (subst (AllByRecursion f.Fits) (sym cut) (fits, more));
         left = λ each. (let here : AllByRecursion f.Fits (x ∷ drop (i + 1) xs) = subst (AllByRecursion f.Fits) cut (so_far.left each) in here.1);
       }
-
-  pub left_bad : (i : ℕ) (x : A) (now : List ℕ) → i < length xs → x ≡ get_or xs i x → ¬ f.Fits x → IsLeft f xs i old now → ¬ AllByRecursion f.Fits xs
-  left_bad i x now lt at bad so_far each =
-      let cut : drop i xs ≡ x ∷ drop (i + 1) xs = drop_more xs i x lt ∙ ap (λ (y : A). y ∷ drop (i + 1) xs) (sym at) in
-      let here : AllByRecursion f.Fits (x ∷ drop (i + 1) xs) = subst (AllByRecursion f.Fits) cut (so_far.left each) in
-      bad here.0
-
-  pub left_all : (i : ℕ) (now : List ℕ) → length xs ≤ i → IsLeft f xs i old now → AllByRecursion f.Fits xs × (now ≡ old ++ flat_map f.spelling xs)
-  left_all i now le so_far =
-      let end : drop i xs ≡ [] = drop_all i xs le in
-      (so_far.all (subst (AllByRecursion f.Fits) (sym end) tt), sym (append-nil now) ∙ sym (ap (λ (ys : List A). now ++ flat_map f.spelling ys) end) ∙ so_far.bytes)
 
 -- ---- reading: what was read before, and what is still read
 abbrev pub with_front : {A : Type 0} → List A → Read (List A) → Read (List A)
@@ -53,16 +38,3 @@ module _ {A : Type 0} (read : List ℕ → Read A) where
       let k : count - i ≡ suc (count - (i + 1)) = omega arith in
       let one : with_front front (many_at read (count - i) bytes) ≡ with_front (front ++ x ∷ []) (many_at read (count - (i + 1)) rest) = rw (k, e) (regroup front x (many_at read (count - (i + 1)) rest)) in
       sym one ∙ so_far
-
-  pub reads_fault : (fault : RecordFault) (front : List A) (count i : ℕ) (bytes : List ℕ) (total : Read (List A)) → i < count → read bytes ≡ Err fault
-      → with_front front (many_at read (count - i) bytes) ≡ total → total ≡ Err fault
-  reads_fault fault front count i bytes total lt e so_far =
-      let k : count - i ≡ suc (count - (i + 1)) = omega arith in
-      let one : with_front front (many_at read (count - i) bytes) ≡ Err fault = rw (k, e) refl in
-      sym so_far ∙ one
-
-  pub reads_all : (front : List A) (count i : ℕ) (bytes : List ℕ) (total : Read (List A)) → count ≤ i → with_front front (many_at read (count - i) bytes) ≡ total → total ≡ Ok (front, bytes)
-  reads_all front count i bytes total le so_far =
-      let k : count - i ≡ 0 = omega arith in
-      let one : with_front front (many_at read (count - i) bytes) ≡ Ok (front, bytes) = rw k (ap (λ (xs : List A). Ok (xs, bytes)) (append-nil front)) in
-      sym so_far ∙ one

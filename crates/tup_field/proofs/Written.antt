@@ -1,16 +1,15 @@
 -- How one value is written behind another.
-use Rattle.std.proofs.Common.{◌≡◌, List, ℕ, ◌++◌, Result, Ok, Err, ◌⊎◌, inl, inr, ap, ◌∙◌, append_assoc}
+use Rattle.std.proofs.Common.{◌≡◌, List, ℕ, ◌++◌, Result, Ok, Err, inl, inr, ap, ◌∙◌, append_assoc}
 use Rattle.std.specs.Prelude.{MatchResult}
 use Rattle.tup_field.specs.declared.fault.RecordFault.{RecordFault}
-use Rattle.tup_field.specs.declared.fault.RecordFault.TheVariants.{Memory, BadField}
-use Rattle.tup_field.specs.Format.{Format}
+use Rattle.tup_field.specs.Format.{Format, IsUnwritten}
 use Rattle.tup_field.specs.Parts.{◌&◌}
 
 -- what a write tells
 abbrev pub IsWritten : {A : Type 0} → Format A → A → List ℕ → List ℕ → Result (Unit {0}) RecordFault → Type 0
-IsWritten f a old new result = MatchResult result (λ _. f.Fits a × (new ≡ old ++ f.spelling a)) (λ fault. (fault ≡ Memory) ⊎ ((fault ≡ BadField) × (¬ f.Fits a)))
+IsWritten f a old new result = MatchResult result (λ _. f.Fits a × (new ≡ old ++ f.spelling a)) (IsUnwritten (f.Fits a))
 
-refused : {A B : Type 0} (f : Format A) (g : Format B) (a : A) (b : B) (fault : RecordFault) → (fault ≡ Memory) ⊎ ((fault ≡ BadField) × (¬ g.Fits b)) → (fault ≡ Memory) ⊎ ((fault ≡ BadField) × (¬ (f & g).Fits (a, b)))
+refused : {A B : Type 0} (f : Format A) (g : Format B) (a : A) (b : B) (fault : RecordFault) → IsUnwritten (g.Fits b) fault → IsUnwritten ((f & g).Fits (a, b)) fault
 refused f g a b fault (inl memory) = inl memory
 refused f g a b fault (inr bad) = inr (bad.0, λ fits. bad.1 fits.1)
 

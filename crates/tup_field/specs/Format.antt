@@ -1,12 +1,13 @@
 -- A format: how the values of a type are spelled as bytes, and how a value is read from the front of bytes (own).
-use Rattle.std.specs.Prelude.{◌≡◌, ◌≢◌, ℕ, ◌<◌, List, ◌++◌, Result, Ok, Err, slice_index}
+use Rattle.std.specs.Prelude.{◌≡◌, ◌≢◌, ◌⊎◌, ℕ, ◌<◌, List, ◌++◌, Result, Ok, Err, slice_index}
 use Rattle.tup_field.specs.declared.fault.RecordFault.{RecordFault}
-use Rattle.tup_field.specs.declared.fault.RecordFault.TheVariants.{Short}
+use Rattle.tup_field.specs.declared.fault.RecordFault.TheVariants.{Short, BadField, Memory}
 
 -- a value from the front of bytes with the bytes behind it, or the first place from the left that doesn't fit
 abbrev pub Read : Type 0 → Type 0
 Read A = Result (A × List ℕ) RecordFault
 
+-- one step after another, up to the first that fails
 infixl 10 ◌>>=◌
 abbrev pub ◌>>=◌ : {A B : Type 0} → Result A RecordFault → (A → Result B RecordFault) → Result B RecordFault
 (Ok x) >>= f = f x
@@ -18,10 +19,15 @@ pub record Format (A : Type 0) : Type 1 where
   pub spelling : A → List ℕ
   pub reading : List ℕ → Read A
 
+-- numbers that are bytes
 abbrev pub IsBytes : List ℕ → Type 0
 IsBytes bytes = (i : ℕ) → slice_index bytes i < 256
 
--- the same with more bytes behind it
+-- why a value isn't written: there was no memory, or it has no spelling
+abbrev pub IsUnwritten : Type 0 → RecordFault → Type 0
+IsUnwritten Fits fault = (fault ≡ Memory) ⊎ ((fault ≡ BadField) × (¬ Fits))
+
+-- what was read, with more bytes behind it
 abbrev pub carry : {A : Type 0} → List ℕ → Read A → Read A
 carry more (Ok x) = Ok (x.0, x.1 ++ more)
 carry more (Err fault) = Err fault

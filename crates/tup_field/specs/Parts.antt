@@ -11,10 +11,12 @@ use Rattle.tup_field.specs.Format.{Read, Format, ◌>>=◌}
 abbrev pub taken : ℕ → List ℕ → Read (List ℕ)
 taken n bytes = if nat_lt (length bytes) n then Err Short else Ok (take n bytes, drop n bytes)
 
+-- the first byte
 abbrev pub byte_at : List ℕ → Read ℕ
 byte_at [] = Err Short
 byte_at (b ∷ rest) = Ok (b, rest)
 
+-- the number that the first four bytes are
 abbrev pub number_at : List ℕ → Read ℕ
 number_at bytes = do
   four ← taken 4 bytes
@@ -49,6 +51,7 @@ depending f g = record {
     Ok ((a.0, b.0), b.1);
 }
 
+-- a value, and another one behind it
 infixr 20 ◌&◌
 abbrev pub ◌&◌ : {A B : Type 0} → Format A → Format B → Format (A × B)
 f & g = depending f (λ _. g)
@@ -89,6 +92,7 @@ sized count = record {
     taken n.0 n.1;
 }
 
+-- so many values
 abbrev pub many_at : {A : Type 0} → (List ℕ → Read A) → ℕ → List ℕ → Read (List A)
 many_at read zero bytes = Ok ([], bytes)
 many_at read (suc n) bytes = do
@@ -106,6 +110,7 @@ counted count f = record {
     many_at f.reading n.0 n.1;
 }
 
+-- values behind their number, in four bytes
 abbrev pub list : {A : Type 0} → Format A → Format (List A)
 list f = counted number f
 
@@ -125,18 +130,22 @@ arm own f make others mark rest = if mark == own then (do
   a ← f.reading rest
   Ok (make a.0, a.1)) else others mark rest
 
+-- a mark, and what stands behind it
 abbrev pub marked_at : {A : Type 0} → Arms A → List ℕ → Read A
 marked_at arms [] = Err Short
 marked_at arms (mark ∷ rest) = arms mark rest
 
+-- an option: the mark 0 alone, or the mark 1 and the value
 abbrev pub OptionFits : {A : Type 0} → Format A → Option A → Type 0
 OptionFits f None = Unit {0}
 OptionFits f (Some a) = f.Fits a
 
+-- its spelling
 abbrev pub option_spelling : {A : Type 0} → Format A → Option A → List ℕ
 option_spelling f None = 0 ∷ []
 option_spelling f (Some a) = 1 ∷ f.spelling a
 
+-- its format
 abbrev pub option : {A : Type 0} → Format A → Format (Option A)
 option f = record {
   Fits = OptionFits f;

@@ -7,7 +7,7 @@ use Rattle.std.proofs.lemmas.List.Elements.{All-head, All-tail, All-from_recursi
 use Rattle.std.proofs.lemmas.Str.{IsUtf8-from_is_utf8, is_utf8-from_IsUtf8}
 use Rattle.tup_path.specs.Name.{Names, IsVisibleName, IsPath}
 use Rattle.tup_path.specs.Resolve.{is_visible}
-use Rattle.tup_path.specs.Walks.{visible_again}
+use Rattle.tup_path.proofs.Walks.{visible_again}
 use Rattle.tup_path.proofs.Names.{visible_name}
 use Rattle.tup_field.specs.Format.{IsExact}
 use Rattle.tup_field.specs.Parts.{fixed, byte, number, empty, sized, counted, no_mark, arm}

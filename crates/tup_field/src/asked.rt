@@ -1,13 +1,14 @@
 //! Questions with what was told, as fields. What was told has the kind of its question.
 ghost use Rattle.std.specs.Prelude.{◌≡◌, ◌⊎◌, ◌++◌, Ok, Err, MatchResult};
+ghost use Rattle.tup_field.specs.Format.{IsUnwritten};
 ghost use Rattle.tup_field.specs.Rules.{NotedFits, noted_spelling, noted_at};
 
 use crate::fault::RecordFault;
 use crate::field::Field;
 use crate::reader::Reader;
 use std::alloc::Global;
-use tup_path::{Bytes, Text};
-use tup_rule::{Kind, Names, Noted, Question};
+use tup_path::{Bytes, Text, Texts};
+use tup_rule::{Kind, Noted, Question};
 use tup_stamp::Stamp;
 
 impl Field for (Question, Noted) {
@@ -34,7 +35,7 @@ impl Field for (Question, Noted) {
 fn write_told(question: &Question, told: &Noted, bytes: &mut Bytes) -> Result<(), RecordFault>
     ensures { MatchResult result
         (λ _. NotedFits question.now told.now × (bytes.new ≡ bytes.old ++ noted_spelling told.now))
-        (λ fault. (fault ≡ RecordFault.Memory) ⊎ ((fault ≡ RecordFault.BadField) × (¬ NotedFits question.now told.now))) }
+        (IsUnwritten (NotedFits question.now told.now)) }
 {
     match (question, told) {
         (Question::Content(_), Noted::Content(stamp)) => {
@@ -71,7 +72,7 @@ fn read_told(
     match (question, mark) {
         (Question::Content(_), 1) => Ok(Noted::Content(Option::<Stamp>::read(alloc, reader)?)),
         (Question::Config(_), 2) => Ok(Noted::Config(Option::<Text>::read(alloc, reader)?)),
-        (Question::Names(_), 3) => Ok(Noted::Names(Names::read(alloc, reader)?)),
+        (Question::Names(_), 3) => Ok(Noted::Names(Texts::read(alloc, reader)?)),
         (Question::Kind(_), 4) => Ok(Noted::Kind(Kind::read(alloc, reader)?)),
         _ => Err(RecordFault::BadField),
     }

@@ -9,8 +9,8 @@ use tup_path::Bytes;
 /// A type whose values are spelled as bytes. Its format says which have a spelling, what it is, and how
 /// bytes are read.
 pub trait Field: Drop + Sized {
-    ghost use Rattle.tup_field.specs.Format.{Format, IsExact};
-    ghost use Rattle.tup_field.specs.declared.fault.RecordFault.TheVariants.{Memory, BadField};
+    ghost use Rattle.tup_field.specs.Format.{Format, IsExact, IsUnwritten};
+    ghost use Rattle.tup_field.specs.declared.fault.RecordFault.TheVariants.{Memory};
 
     ghost format: { Format Self };
 
@@ -20,7 +20,7 @@ pub trait Field: Drop + Sized {
     fn write(&self, bytes: &mut Bytes) -> Result<(), RecordFault>
         ensures { MatchResult result
             (λ _. format.Fits self.now × (bytes.new ≡ bytes.old ++ format.spelling self.now))
-            (λ fault. (fault ≡ Memory) ⊎ ((fault ≡ BadField) × (¬ format.Fits self.now))) };
+            (IsUnwritten (format.Fits self.now)) };
 
     /// Reads a value from the front of the bytes that are left. The first place from the left that doesn't fit is
     /// refused. After a refusal some of the bytes are taken.

@@ -1,6 +1,7 @@
 //! Lists as fields: the members behind their count.
 ghost use Rattle.std.specs.Prelude.{◌≡◌, ◌⊎◌, ◌++◌, MatchResult};
 ghost use Rattle.std.specs.List.{flat_map, AllByRecursion};
+ghost use Rattle.tup_field.specs.Format.{IsUnwritten};
 ghost use Rattle.tup_field.specs.Parts.{many_at};
 
 use crate::fault::RecordFault;
@@ -34,8 +35,9 @@ impl<T: Field> Field for Items<T> {
 /// Puts the spellings of all items behind the bytes.
 fn write_all<T: Field>(items: &[T], bytes: &mut Bytes) -> Result<(), RecordFault>
     ensures { MatchResult result
-        (λ _. AllByRecursion T.format.Fits items.now × (bytes.new ≡ bytes.old ++ flat_map T.format.spelling items.now))
-        (λ fault. (fault ≡ RecordFault.Memory) ⊎ ((fault ≡ RecordFault.BadField) × (¬ AllByRecursion T.format.Fits items.now))) }
+        (λ _. AllByRecursion T.format.Fits items.now
+        × (bytes.new ≡ bytes.old ++ flat_map T.format.spelling items.now))
+        (IsUnwritten (AllByRecursion T.format.Fits items.now)) }
 {
     for item in items {
         item.write(bytes)?;
@@ -51,7 +53,8 @@ fn read_all<T: Field>(
 ) -> Result<Items<T>, RecordFault>
     ensures { MatchResult result
         (λ items. many_at T.format.reading count reader.old ≡ Ok (items, reader.new))
-        (λ fault. (fault ≡ RecordFault.Memory) ⊎ (many_at T.format.reading count reader.old ≡ Err fault)) }
+        (λ fault. (fault ≡ RecordFault.Memory)
+        ⊎ (many_at T.format.reading count reader.old ≡ Err fault)) }
 {
     let mut items = Items::new(alloc);
     for _ in 0..count {

@@ -28,6 +28,3 @@ mod truth;
 pub use fault::RecordFault;
 pub use field::Field;
 pub use reader::Reader;
-
-#[cfg(test)]
-mod tests;

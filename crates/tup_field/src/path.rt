@@ -33,7 +33,9 @@ impl Field for Path {
 /// Puts the spellings of names behind the bytes.
 fn write_names(names: &[Text], bytes: &mut Bytes) -> Result<(), RecordFault>
     requires { All IsVisibleName names.now }
-    ensures { MatchResult result (λ _. bytes.new ≡ bytes.old ++ flat_map formats.name.spelling names.now) (λ fault. fault ≡ RecordFault.Memory) }
+    ensures { MatchResult result
+        (λ _. bytes.new ≡ bytes.old ++ flat_map formats.name.spelling names.now)
+        (λ fault. fault ≡ RecordFault.Memory) }
 {
     for name in names {
         write_name(name, bytes)?;
@@ -44,7 +46,9 @@ fn write_names(names: &[Text], bytes: &mut Bytes) -> Result<(), RecordFault>
 /// Puts a name behind the bytes, after its length.
 fn write_name(name: &Text, bytes: &mut Bytes) -> Result<(), RecordFault>
     requires { length name.now ≤ 255 }
-    ensures { MatchResult result (λ _. bytes.new ≡ bytes.old ++ formats.name.spelling name.now) (λ fault. fault ≡ RecordFault.Memory) }
+    ensures { MatchResult result
+        (λ _. bytes.new ≡ bytes.old ++ formats.name.spelling name.now)
+        (λ fault. fault ≡ RecordFault.Memory) }
 {
     let name = name.bytes().as_slice();
     bytes.extend_from_slice(&[name.len() as u8])?;
@@ -70,7 +74,8 @@ fn read_names(alloc: Global, depth: u8, reader: &mut Reader<'_>) -> Result<Path,
     requires { depth ≤ 32 }
     ensures { MatchResult result
         (λ path. many_at formats.name.reading depth reader.old ≡ Ok (path, reader.new))
-        (λ fault. (fault ≡ RecordFault.Memory) ⊎ (many_at formats.name.reading depth reader.old ≡ Err fault)) }
+        (λ fault. (fault ≡ RecordFault.Memory)
+        ⊎ (many_at formats.name.reading depth reader.old ≡ Err fault)) }
 {
     let mut path = Path::top(alloc);
     for _ in 0..depth {
@@ -83,7 +88,8 @@ fn read_names(alloc: Global, depth: u8, reader: &mut Reader<'_>) -> Result<Path,
 fn read_below(alloc: Global, path: &Path, reader: &mut Reader<'_>) -> Result<Path, RecordFault>
     requires { length path.now < 32 }
     ensures { MatchResult result
-        (λ below. (name : List ℕ) × (below ≡ path.now ++ name ∷ []) × (formats.name.reading reader.old ≡ Ok (name, reader.new)))
+        (λ below. (name : List ℕ) × (below ≡ path.now ++ name ∷ [])
+        × (formats.name.reading reader.old ≡ Ok (name, reader.new)))
         (λ fault. (fault ≡ RecordFault.Memory) ⊎ (formats.name.reading reader.old ≡ Err fault)) }
 {
     let name = read_part(alloc, reader)?;
@@ -98,7 +104,8 @@ fn read_below(alloc: Global, path: &Path, reader: &mut Reader<'_>) -> Result<Pat
 #[tactic(auto, using(crate::proofs::Texts::not_utf8))]
 fn read_part(alloc: Global, reader: &mut Reader<'_>) -> Result<Text, RecordFault>
     ensures { MatchResult result
-        (λ part. ((sized byte).reading reader.old ≡ Ok (part, reader.new)) × IsUtf8 part × (length part ≤ 255))
+        (λ part. ((sized byte).reading reader.old ≡ Ok (part, reader.new))
+        × IsUtf8 part × (length part ≤ 255))
         (λ fault. (fault ≡ RecordFault.Memory) ⊎ (formats.name.reading reader.old ≡ Err fault)) }
 {
     let length = reader.byte()?;

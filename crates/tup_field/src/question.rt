@@ -1,4 +1,4 @@
-//! Questions as fields, alone and with what was told.
+//! Questions as fields: a mark, and what is asked about.
 use crate::fault::RecordFault;
 use crate::field::Field;
 use crate::reader::Reader;

@@ -34,9 +34,11 @@ impl<'a> Reader<'a> {
         self.rest.is_empty()
     }
 
-    /// The next byte. Where none is left that is `Short`.
+    /// The next byte. Where none is left that is `Short`, and nothing is taken.
     pub fn byte(&mut self) -> Result<u8, RecordFault>
-        ensures { MatchResult result (λ byte. byte_at self.old ≡ Ok (byte, self.new)) (λ fault. (byte_at self.old ≡ Err fault) × (self.new ≡ self.old)) }
+        ensures { MatchResult result
+            (λ byte. byte_at self.old ≡ Ok (byte, self.new))
+            (λ fault. (byte_at self.old ≡ Err fault) × (self.new ≡ self.old)) }
     {
         let Some((byte, rest)) = self.rest.split_first() else {
             return Err(RecordFault::Short);
@@ -45,9 +47,11 @@ impl<'a> Reader<'a> {
         Ok(*byte)
     }
 
-    /// The next `count` bytes. Where fewer are left that is `Short`.
+    /// The next `count` bytes. Where fewer are left that is `Short`, and nothing is taken.
     pub fn bytes(&mut self, count: usize) -> Result<&'a [u8], RecordFault>
-        ensures { MatchResult result (λ bytes. taken count self.old ≡ Ok (bytes.now, self.new)) (λ fault. (taken count self.old ≡ Err fault) × (self.new ≡ self.old)) }
+        ensures { MatchResult result
+            (λ bytes. taken count self.old ≡ Ok (bytes.now, self.new))
+            (λ fault. (taken count self.old ≡ Err fault) × (self.new ≡ self.old)) }
     {
         let Some((bytes, rest)) = self.rest.split_at_checked(count) else {
             return Err(RecordFault::Short);
@@ -56,9 +60,11 @@ impl<'a> Reader<'a> {
         Ok(bytes)
     }
 
-    /// The next `N` bytes. Where fewer are left that is `Short`.
+    /// The next `N` bytes. Where fewer are left that is `Short`, and nothing is taken.
     pub fn array<const N: usize>(&mut self) -> Result<[u8; N], RecordFault>
-        ensures { MatchResult result (λ bytes. taken N self.old ≡ Ok (bytes, self.new)) (λ fault. (taken N self.old ≡ Err fault) × (self.new ≡ self.old)) }
+        ensures { MatchResult result
+            (λ bytes. taken N self.old ≡ Ok (bytes, self.new))
+            (λ fault. (taken N self.old ≡ Err fault) × (self.new ≡ self.old)) }
     {
         let Some((bytes, rest)) = self.rest.split_first_chunk() else {
             return Err(RecordFault::Short);

@@ -4,7 +4,7 @@ use crate::field::Field;
 use crate::reader::Reader;
 use std::alloc::Global;
 use tup_path::Bytes;
-use tup_rule::{Asked, Drafts, Reading};
+use tup_rule::{Drafts, Questions, Reading};
 
 impl Field for Reading {
     ghost use Rattle.tup_field.specs.Rules.{reading};
@@ -20,7 +20,7 @@ impl Field for Reading {
     }
 
     fn read(alloc: Global, reader: &mut Reader<'_>) -> Result<Reading, RecordFault> {
-        let asked = Asked::read(alloc, reader)?;
+        let asked = Questions::read(alloc, reader)?;
         let drafts = Drafts::read(alloc, reader)?;
         Ok(Reading { drafts, asked })
     }

@@ -3,10 +3,9 @@ use Rattle.std.proofs.Common.{◌≡◌, ◌≢◌, ◌⊎◌, inl, inr, ℕ, �
 use Rattle.std.proofs.lemmas.Bool.{ltb-true, ltb-false, lt-ltb, le-ltb}
 use Rattle.tup_rule.specs.declared.draft.Piece.{Piece}
 use Rattle.tup_rule.specs.declared.draft.Piece.TheVariants.{Text, Group}
-use Rattle.tup_flags.specs.declared.answer.TheConstants.{MAX_EXPANDED}
 use Rattle.tup_flags.specs.declared.fault.FlagFault.{FlagFault}
 use Rattle.tup_flags.specs.declared.fault.FlagFault.TheVariants.{TooLong, UnknownFlag}
-use Rattle.tup_flags.specs.Pieces.{total, onto, joined, granted, refusal, unless_refused, outcome}
+use Rattle.tup_flags.specs.Pieces.{text_limit, total, onto, joined, granted, refusal, unless_refused, outcome}
 use Rattle.tup_flags.specs.Laws.{IsLeast, IsTextAlone, together}
 use Rattle.tup_flags.proofs.Onward.{Values, onto-onto}
 
@@ -94,35 +93,35 @@ total-on (Err fault ∷ front) back = omega arith
 -- ---- what an outcome tells
 
 pub record Goes (values : Values) (pieces : List Piece) : Type 0 where
-  pub fits : total (granted values) ≤ MAX_EXPANDED
+  pub fits : total (granted values) ≤ text_limit
   pub refused : refusal values ≡ None
   pub is : pieces ≡ joined (granted values)
 
 pub goes : (values : Values) (pieces : List Piece) → outcome values ≡ Ok pieces → Goes values pieces
-goes values pieces e = by_test (nat_lt MAX_EXPANDED (total (granted values))) (refusal values) refl refl e
+goes values pieces e = by_test (nat_lt text_limit (total (granted values))) (refusal values) refl refl e
   where
-    by_test : (long : Bool) (fault : Option FlagFault) → nat_lt MAX_EXPANDED (total (granted values)) ≡ long → refusal values ≡ fault
+    by_test : (long : Bool) (fault : Option FlagFault) → nat_lt text_limit (total (granted values)) ≡ long → refusal values ≡ fault
         → (if long then Err TooLong else unless_refused (joined (granted values)) fault) ≡ Ok pieces → Goes values pieces
     by_test true fault l r e = absurd (cc)
-    by_test false None l r e = record { fits = ltb-false MAX_EXPANDED (total (granted values)) l; refused = r; is = cc }
+    by_test false None l r e = record { fits = ltb-false text_limit (total (granted values)) l; refused = r; is = cc }
     by_test false (Some fault) l r e = absurd (cc)
 
 pub stops : (values : Values) (fault : FlagFault) → outcome values ≡ Err fault
-    → ((MAX_EXPANDED < total (granted values)) × (fault ≡ TooLong)) ⊎ ((total (granted values) ≤ MAX_EXPANDED) × (refusal values ≡ Some fault))
-stops values fault e = by_test (nat_lt MAX_EXPANDED (total (granted values))) (refusal values) refl refl e
+    → ((text_limit < total (granted values)) × (fault ≡ TooLong)) ⊎ ((total (granted values) ≤ text_limit) × (refusal values ≡ Some fault))
+stops values fault e = by_test (nat_lt text_limit (total (granted values))) (refusal values) refl refl e
   where
-    by_test : (long : Bool) (other : Option FlagFault) → nat_lt MAX_EXPANDED (total (granted values)) ≡ long → refusal values ≡ other
+    by_test : (long : Bool) (other : Option FlagFault) → nat_lt text_limit (total (granted values)) ≡ long → refusal values ≡ other
         → (if long then Err TooLong else unless_refused (joined (granted values)) other) ≡ Err fault
-        → ((MAX_EXPANDED < total (granted values)) × (fault ≡ TooLong)) ⊎ ((total (granted values) ≤ MAX_EXPANDED) × (refusal values ≡ Some fault))
-    by_test true other l r e = inl (ltb-true MAX_EXPANDED (total (granted values)) l, cc)
+        → ((text_limit < total (granted values)) × (fault ≡ TooLong)) ⊎ ((total (granted values) ≤ text_limit) × (refusal values ≡ Some fault))
+    by_test true other l r e = inl (ltb-true text_limit (total (granted values)) l, cc)
     by_test false None l r e = absurd (cc)
-    by_test false (Some other) l r e = inr (ltb-false MAX_EXPANDED (total (granted values)) l, cc)
+    by_test false (Some other) l r e = inr (ltb-false text_limit (total (granted values)) l, cc)
 
-outcome-long : (values : Values) → MAX_EXPANDED < total (granted values) → outcome values ≡ Err TooLong
-outcome-long values long = ap (λ b. if b then Err TooLong else unless_refused (joined (granted values)) (refusal values)) (lt-ltb MAX_EXPANDED (total (granted values)) long)
+outcome-long : (values : Values) → text_limit < total (granted values) → outcome values ≡ Err TooLong
+outcome-long values long = ap (λ b. if b then Err TooLong else unless_refused (joined (granted values)) (refusal values)) (lt-ltb text_limit (total (granted values)) long)
 
-outcome-fits : (values : Values) → total (granted values) ≤ MAX_EXPANDED → outcome values ≡ unless_refused (joined (granted values)) (refusal values)
-outcome-fits values fits = ap (λ b. if b then Err TooLong else unless_refused (joined (granted values)) (refusal values)) (le-ltb MAX_EXPANDED (total (granted values)) fits)
+outcome-fits : (values : Values) → total (granted values) ≤ text_limit → outcome values ≡ unless_refused (joined (granted values)) (refusal values)
+outcome-fits values fits = ap (λ b. if b then Err TooLong else unless_refused (joined (granted values)) (refusal values)) (le-ltb text_limit (total (granted values)) fits)
 
 -- ---- outcomes in turn
 
@@ -137,9 +136,9 @@ both-go front back start rest e d =
     ∙ ap (λ n. total start + n) (sym (ap total b.is ∙ total-joined (granted back))) in
     let same : joined (granted (front ++ back)) ≡ joined (start ++ rest) =
     ap joined ps ∙ sym (joined-both (granted front) (granted back)) ∙ ap (λ x. joined (x ++ joined (granted back))) (sym f.is) ∙ ap (λ x. joined (start ++ x)) (sym b.is) in
-    ap (λ n. if nat_lt MAX_EXPANDED n then Err TooLong else unless_refused (joined (granted (front ++ back))) (refusal (front ++ back))) whole
-    ∙ ap (λ x. if nat_lt MAX_EXPANDED (total start + total rest) then Err TooLong else unless_refused x (refusal (front ++ back))) same
-    ∙ ap (λ x. if nat_lt MAX_EXPANDED (total start + total rest) then Err TooLong else unless_refused (joined (start ++ rest)) x) none
+    ap (λ n. if nat_lt text_limit n then Err TooLong else unless_refused (joined (granted (front ++ back))) (refusal (front ++ back))) whole
+    ∙ ap (λ x. if nat_lt text_limit (total start + total rest) then Err TooLong else unless_refused x (refusal (front ++ back))) same
+    ∙ ap (λ x. if nat_lt text_limit (total start + total rest) then Err TooLong else unless_refused (joined (start ++ rest)) x) none
 
 pub second-stops : (front back : Values) (start : List Piece) (fault : FlagFault) → outcome front ≡ Ok start → outcome back ≡ Err fault
     → (outcome (front ++ back) ≡ Err fault) ⊎ (outcome (front ++ back) ≡ Err TooLong)
@@ -151,14 +150,14 @@ second-stops front back start fault e d = by_case (stops back fault d)
     whole : total (granted (front ++ back)) ≡ total (granted front) + total (granted back)
     whole = ap total (granted-on front back f.refused) ∙ total-append (granted front) (granted back)
 
-    by_test : refusal back ≡ Some fault → (long : Bool) → nat_lt MAX_EXPANDED (total (granted (front ++ back))) ≡ long → (outcome (front ++ back) ≡ Err fault) ⊎ (outcome (front ++ back) ≡ Err TooLong)
-    by_test r true l = inr (outcome-long (front ++ back) (ltb-true MAX_EXPANDED (total (granted (front ++ back))) l))
-    by_test r false l = inl (outcome-fits (front ++ back) (ltb-false MAX_EXPANDED (total (granted (front ++ back))) l) ∙ ap (unless_refused (joined (granted (front ++ back)))) (refusal-on front back f.refused ∙ r))
+    by_test : refusal back ≡ Some fault → (long : Bool) → nat_lt text_limit (total (granted (front ++ back))) ≡ long → (outcome (front ++ back) ≡ Err fault) ⊎ (outcome (front ++ back) ≡ Err TooLong)
+    by_test r true l = inr (outcome-long (front ++ back) (ltb-true text_limit (total (granted (front ++ back))) l))
+    by_test r false l = inl (outcome-fits (front ++ back) (ltb-false text_limit (total (granted (front ++ back))) l) ∙ ap (unless_refused (joined (granted (front ++ back)))) (refusal-on front back f.refused ∙ r))
 
-    by_case : ((MAX_EXPANDED < total (granted back)) × (fault ≡ TooLong)) ⊎ ((total (granted back) ≤ MAX_EXPANDED) × (refusal back ≡ Some fault))
+    by_case : ((text_limit < total (granted back)) × (fault ≡ TooLong)) ⊎ ((total (granted back) ≤ text_limit) × (refusal back ≡ Some fault))
         → (outcome (front ++ back) ≡ Err fault) ⊎ (outcome (front ++ back) ≡ Err TooLong)
     by_case (inl long) = inr (outcome-long (front ++ back) (omega (arith, whole, long.0)))
-    by_case (inr some) = by_test some.1 (nat_lt MAX_EXPANDED (total (granted (front ++ back)))) refl
+    by_case (inr some) = by_test some.1 (nat_lt text_limit (total (granted (front ++ back)))) refl
 
 -- values in front, which stop with whatever is behind them, if nothing but an unknown flag may be
 pub first-stops : (front tail back : Values) (fault : FlagFault) → granted tail ≡ [] → ((other : FlagFault) → refusal tail ≡ Some other → other ≡ UnknownFlag) → fault ≢ UnknownFlag
@@ -170,7 +169,7 @@ first-stops front tail back fault nothing unknown known e = by_case (refusal fro
     same (Some other) r = ap total (granted-off front tail other r)
 
     by_case : (o : Option FlagFault) → refusal front ≡ o
-        → ((MAX_EXPANDED < total (granted (front ++ tail))) × (fault ≡ TooLong)) ⊎ ((total (granted (front ++ tail)) ≤ MAX_EXPANDED) × (refusal (front ++ tail) ≡ Some fault))
+        → ((text_limit < total (granted (front ++ tail))) × (fault ≡ TooLong)) ⊎ ((total (granted (front ++ tail)) ≤ text_limit) × (refusal (front ++ tail) ≡ Some fault))
         → outcome (front ++ back) ≡ Err fault
     by_case o r (inl long) = outcome-long (front ++ back) (omega (arith, same o r, total-on front back, long.0)) ∙ ap (λ f. Err f) (sym long.1)
     by_case None r (inr some) = absurd (known (unknown fault (sym (refusal-on front tail r) ∙ some.1)))

@@ -2,7 +2,7 @@
 use Rattle.std.proofs.Common.{◌≡◌, ◌≢◌, ℕ, suc, ◌<◌, List, [], ◌∷◌, ◌++◌, length, drop, get_or, map, if◌then◌else◌, Some, None, refl, ap, sym, ◌∙◌, append_assoc, append-nil, arith}
 use Rattle.std.proofs.lemmas.Bool.{ne_eqb}
 use Rattle.std.specs.Option.{option_map_or}
-use Rattle.tup_flags.specs.declared.mark.Flag.{Flag}
+use Rattle.tup_flags.specs.declared.flag.Flag.{Flag}
 use Rattle.tup_flags.specs.Part.{Byte, Flagged, Named, Unknown, Behind, Within, flag_of, parts_from, parts}
 
 -- no element of a list is this one

@@ -1,23 +1,18 @@
 -- What a text comes to from the middle on: pieces that are there, the text that goes on behind them, the room that is left, and the values still to come.
-use Rattle.std.proofs.Common.{◌≡◌, ℕ, ◌+◌, ◌<◌, ◌≤◌, nat_lt, true, if◌then◌else◌, List, [], ◌∷◌, ◌++◌, length, map, Result, Ok, Err, refl, ap, sym, ◌∙◌, append_assoc, append-nil, zero-add, arith}
+use Rattle.std.proofs.Common.{◌≡◌, ℕ, ◌+◌, ◌<◌, ◌≤◌, nat_lt, true, if◌then◌else◌, List, [], ◌∷◌, ◌++◌, length, map, Result, Ok, Err, refl, ap, sym, ◌∙◌, append_assoc, append-nil, arith}
 use Rattle.std.proofs.lemmas.Bool.{le-ltb}
 use Rattle.std.proofs.lemmas.Bool.Decides.{nat_tests}
 use Rattle.tup_rule.specs.declared.draft.Piece.{Piece}
 use Rattle.tup_rule.specs.declared.draft.Piece.TheVariants.{Text, Group}
-use Rattle.tup_flags.specs.declared.answer.TheConstants.{MAX_EXPANDED}
 use Rattle.tup_flags.specs.declared.fault.FlagFault.{FlagFault}
 use Rattle.tup_flags.specs.declared.fault.FlagFault.TheVariants.{TooLong}
 use Rattle.tup_flags.specs.declared.parts.FlagParts.{FlagParts}
 use Rattle.tup_flags.specs.Part.{Part, Byte}
 use Rattle.tup_flags.specs.Flag.{value}
-use Rattle.tup_flags.specs.Pieces.{total, onto, joined, granted, refusal, unless_refused, outcome, onward}
+use Rattle.tup_flags.specs.Pieces.{total, onto, joined, granted, refusal, unless_refused, onward}
 
 abbrev pub Values : Type 0
 Values = List (Result Piece FlagFault)
-
--- at the beginning nothing is there
-pub onward-start : (values : Values) → outcome values ≡ onward [] [] MAX_EXPANDED values
-onward-start values = refl
 
 -- a text onto a text
 pub onto-onto : (text next : List ℕ) (pieces : List Piece) → onto text (onto next pieces) ≡ onto (text ++ next) pieces
@@ -36,29 +31,7 @@ onward-text pieces text next room left values e =
     ap (λ b. if b then Err TooLong else unless_refused (pieces ++ onto text (onto next (joined (granted values)))) (refusal values)) (same-test left room (length next) (total (granted values)) e)
     ∙ ap (λ ps. if nat_lt left (total (granted values)) then Err TooLong else unless_refused (pieces ++ ps) (refusal values)) (onto-onto text next (joined (granted values)))
 
--- and one that is too long
-pub onward-long : (pieces : List Piece) (text next : List ℕ) (room : ℕ) (values : Values) → room < length next → onward pieces text room (Ok (Text next) ∷ values) ≡ Err TooLong
-onward-long pieces text next room values long =
-    let over : nat_lt room (length next + total (granted values)) ≡ true = grind (arith, nat_tests) in
-    ap (λ b. if b then Err TooLong else unless_refused (pieces ++ onto text (onto next (joined (granted values)))) (refusal values)) over
-
-onto-group : (text : List ℕ) (at : ℕ) (pieces : List Piece) → onto text (Group at ∷ pieces) ≡ onto text (Group at ∷ []) ++ pieces
-onto-group [] at pieces = refl
-onto-group (b ∷ text) at pieces = refl
-
--- a group
-pub onward-group : (pieces : List Piece) (text : List ℕ) (at room : ℕ) (values : Values) → onward pieces text room (Ok (Group at) ∷ values) ≡ onward (pieces ++ onto text (Group at ∷ [])) [] room values
-onward-group pieces text at room values =
-    let more = joined (granted values) in
-    ap (λ n. if nat_lt room n then Err TooLong else unless_refused (pieces ++ onto text (Group at ∷ more)) (refusal values)) (zero-add (total (granted values)))
-    ∙ ap (λ ps. if nat_lt room (total (granted values)) then Err TooLong else unless_refused ps (refusal values))
-    (ap (λ ps. pieces ++ ps) (onto-group text at more) ∙ sym (append_assoc pieces (onto text (Group at ∷ [])) more))
-
--- a refusal
-pub onward-refused : (pieces : List Piece) (text : List ℕ) (room : ℕ) (fault : FlagFault) (values : Values) → onward pieces text room (Err fault ∷ values) ≡ Err fault
-onward-refused pieces text room fault values = ap (λ b. if b then Err TooLong else Err fault) (le-ltb room 0 (omega arith))
-
--- the end
+-- at the end
 pub onward-end : (pieces : List Piece) (text : List ℕ) (room : ℕ) → onward pieces text room [] ≡ Ok (pieces ++ onto text [])
 onward-end pieces text room = ap (λ b. if b then Err TooLong else Ok (pieces ++ onto text [])) (le-ltb room 0 (omega arith))
 

@@ -3,8 +3,8 @@ use Rattle.std.proofs.Common.{◌≡◌, ℕ, true, false, eqb, if◌then◌else
 use Rattle.std.proofs.lemmas.Bool.{eqb-true}
 use Rattle.std.specs.List.{flat_map}
 use Rattle.std.specs.Option.{option_map_or}
-use Rattle.tup_flags.specs.declared.mark.Flag.{Flag}
-use Rattle.tup_flags.specs.declared.mark.Flag.TheVariants.{Percent, Inputs, Names, Stems, Extension, Outputs, Trunk, Folder, Glob, Order}
+use Rattle.tup_flags.specs.declared.flag.Flag.{Flag}
+use Rattle.tup_flags.specs.declared.flag.Flag.TheVariants.{Percent, Inputs, Names, Stems, Extension, Outputs, Trunk, Folder, Glob, Order}
 use Rattle.tup_flags.specs.Part.{Part, Byte, Flagged, Named, Unknown, character, spelled, flag_of, State, Between, Behind, Within, parts_from, parts}
 
 -- the part behind a percent sign, where it is one byte

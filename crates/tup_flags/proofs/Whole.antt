@@ -5,7 +5,6 @@ use Rattle.std.proofs.lemmas.List.Quantifiers.{position-Some}
 use Rattle.tup_rule.specs.declared.draft.GroupRef.{GroupRef}
 use Rattle.tup_rule.specs.declared.draft.Piece.{Piece}
 use Rattle.tup_rule.specs.declared.draft.Piece.TheVariants.{Text, Group}
-use Rattle.tup_flags.specs.declared.answer.TheConstants.{MAX_EXPANDED}
 use Rattle.tup_flags.specs.declared.fault.FlagFault.{FlagFault}
 use Rattle.tup_flags.specs.declared.fault.FlagFault.TheVariants.{Memory, UnknownFlag, FlagNotHere}
 use Rattle.tup_flags.specs.declared.parts.FlagParts.{FlagParts}
@@ -13,7 +12,7 @@ use Rattle.tup_flags.specs.declared.parts.Place.{Place}
 use Rattle.tup_flags.specs.declared.parts.Place.TheVariants as place
 use Rattle.tup_flags.specs.Part.{Part, Byte, Flagged, Named, Unknown, State, Between, Behind, Within, parts_from, parts}
 use Rattle.tup_flags.specs.Flag.{in_command, stands, meaning, first_named, small, place_of, group_at, value}
-use Rattle.tup_flags.specs.Pieces.{total, onto, joined, granted, refusal, outcome}
+use Rattle.tup_flags.specs.Pieces.{text_limit, total, onto, joined, granted, refusal, outcome}
 use Rattle.tup_flags.specs.Laws.{IsLeast, IsTextAlone, StandIn, InTurn}
 use Rattle.tup_flags.specs.Expansion.{values, expand}
 use Rattle.tup_flags.proofs.Joined.{goes, alone-onto, least-joined, total-joined, both-go, second-stops, first-stops}
@@ -31,7 +30,7 @@ pub is-least : (given : FlagParts) (text : List ℕ) (pieces : List Piece) → e
 is-least given text pieces e =
     let is = (goes (values given text) pieces e).is in rw is (least-joined (granted (values given text)))
 
-pub is-short : (given : FlagParts) (text : List ℕ) (pieces : List Piece) → expand given text ≡ Ok pieces → total pieces ≤ MAX_EXPANDED
+pub is-short : (given : FlagParts) (text : List ℕ) (pieces : List Piece) → expand given text ≡ Ok pieces → total pieces ≤ text_limit
 is-short given text pieces e =
     let g = goes (values given text) pieces e in
     let same : total pieces ≡ total (granted (values given text)) = ap total g.is ∙ total-joined (granted (values given text)) in
@@ -103,10 +102,10 @@ is-alone given text other pieces e =
     let is = (goes (values given text) pieces e).is in rw is (alone-granted given (not-command given.place other) (parts text))
 
 -- a text without a percent sign
-pub is-plain : (given : FlagParts) (text : List ℕ) → All (λ byte. byte ≢ 37) text → length text ≤ MAX_EXPANDED → expand given text ≡ Ok (onto text [])
+pub is-plain : (given : FlagParts) (text : List ℕ) → All (λ byte. byte ≢ 37) text → length text ≤ text_limit → expand given text ≡ Ok (onto text [])
 is-plain given text plain short =
-    front-in given [] [] [] text text [] text MAX_EXPANDED _ (sym (append-nil text)) (λ i l. plain i 0 l) refl refl (omega arith)
-    ∙ onward-end [] text (MAX_EXPANDED - length text)
+    front-in given [] [] [] text text [] text text_limit _ (sym (append-nil text)) (λ i l. plain i 0 l) refl refl (omega arith)
+    ∙ onward-end [] text (text_limit - length text)
 
 -- ---- in turn
 

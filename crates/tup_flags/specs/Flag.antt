@@ -5,8 +5,8 @@ use Rattle.tup_rule.specs.declared.draft.Piece.TheVariants.{Text, Group}
 use Rattle.tup_rule.specs.declared.draft.GroupRef.{GroupRef}
 use Rattle.tup_flags.specs.declared.fault.FlagFault.{FlagFault}
 use Rattle.tup_flags.specs.declared.fault.FlagFault.TheVariants.{UnknownFlag, FlagNotHere}
-use Rattle.tup_flags.specs.declared.mark.Flag.{Flag}
-use Rattle.tup_flags.specs.declared.mark.Flag.TheVariants.{Percent, Inputs, Names, Stems, Extension, Outputs, Trunk, Folder, Glob, Order}
+use Rattle.tup_flags.specs.declared.flag.Flag.{Flag}
+use Rattle.tup_flags.specs.declared.flag.Flag.TheVariants.{Percent, Inputs, Names, Stems, Extension, Outputs, Trunk, Folder, Glob, Order}
 use Rattle.tup_flags.specs.declared.parts.FlagParts.{FlagParts}
 use Rattle.tup_flags.specs.declared.parts.Place.{Place}
 use Rattle.tup_flags.specs.declared.parts.Place.TheVariants as place
@@ -14,18 +14,21 @@ use Rattle.tup_flags.specs.declared.shown.Side.TheVariants as side
 use Rattle.tup_flags.specs.Part.{Part, Byte, Flagged, Named, Unknown}
 use Rattle.tup_flags.specs.Shown.{last_name, listed}
 
+-- whether a place is among the inputs
 abbrev pub among_inputs : Place → Bool
 among_inputs place.Inputs = true
 among_inputs place.Command = false
 among_inputs place.Outputs = false
 among_inputs place.Extra = false
 
+-- whether it is in the command
 abbrev pub in_command : Place → Bool
 in_command place.Inputs = false
 in_command place.Command = true
 in_command place.Outputs = false
 in_command place.Extra = false
 
+-- whether it is among the extra outputs
 abbrev pub among_extra : Place → Bool
 among_extra place.Inputs = false
 among_extra place.Command = false

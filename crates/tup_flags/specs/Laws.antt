@@ -2,11 +2,10 @@
 use Rattle.std.specs.Prelude.{◌≡◌, ◌≢◌, ◌⊎◌, ℕ, ◌+◌, ◌<◌, ◌≤◌, nat_lt, if◌then◌else◌, List, [], ◌∷◌, ◌++◌, length, Result, Ok, Err, ⊤}
 use Rattle.tup_rule.specs.declared.draft.Piece.{Piece}
 use Rattle.tup_rule.specs.declared.draft.Piece.TheVariants.{Text, Group}
-use Rattle.tup_flags.specs.declared.answer.TheConstants.{MAX_EXPANDED}
 use Rattle.tup_flags.specs.declared.fault.FlagFault.{FlagFault}
 use Rattle.tup_flags.specs.declared.fault.FlagFault.TheVariants.{UnknownFlag, TooLong}
 use Rattle.tup_flags.specs.declared.parts.FlagParts.{FlagParts}
-use Rattle.tup_flags.specs.Pieces.{total, joined}
+use Rattle.tup_flags.specs.Pieces.{text_limit, total, joined}
 use Rattle.tup_flags.specs.Expansion.{expand}
 
 -- no text is empty, and no two texts stand side by side
@@ -32,7 +31,7 @@ StandIn count (Group at ∷ more) = (at < count) × StandIn count more
 
 -- pieces behind one another, if they aren't too long together
 abbrev pub together : List Piece → List Piece → Result (List Piece) FlagFault
-together front back = if nat_lt MAX_EXPANDED (total front + total back) then Err TooLong else Ok (joined (front ++ back))
+together front back = if nat_lt text_limit (total front + total back) then Err TooLong else Ok (joined (front ++ back))
 
 -- two texts behind one another, by what each of them expands to
 pub record InTurn (given : FlagParts) (front back : List ℕ) : Type 0 where

@@ -1,8 +1,8 @@
 -- A text as bytes, flags and groups, from the manual; that another character or the end behind a percent sign is no flag is own.
 use Rattle.std.specs.Prelude.{◌≡◌, ℕ, ◌==◌, if◌then◌else◌, List, [], ◌∷◌, ◌++◌, Option, Some, None}
 use Rattle.std.specs.Option.{option_map_or}
-use Rattle.tup_flags.specs.declared.mark.Flag.{Flag}
-use Rattle.tup_flags.specs.declared.mark.Flag.TheVariants.{Percent, Inputs, Names, Stems, Extension, Outputs, Trunk, Folder, Glob, Order}
+use Rattle.tup_flags.specs.declared.flag.Flag.{Flag}
+use Rattle.tup_flags.specs.declared.flag.Flag.TheVariants.{Percent, Inputs, Names, Stems, Extension, Outputs, Trunk, Folder, Glob, Order}
 use Rattle.tup_flags.specs.declared.mark.Mark.{Mark}
 use Rattle.tup_flags.specs.declared.mark.Mark.TheVariants as mark
 

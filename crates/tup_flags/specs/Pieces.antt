@@ -2,15 +2,19 @@
 use Rattle.std.specs.Prelude.{ℕ, ◌+◌, nat_lt, if◌then◌else◌, List, [], ◌∷◌, ◌++◌, length, Option, Some, None, Result, Ok, Err}
 use Rattle.tup_rule.specs.declared.draft.Piece.{Piece}
 use Rattle.tup_rule.specs.declared.draft.Piece.TheVariants.{Text, Group}
-use Rattle.tup_flags.specs.declared.answer.TheConstants.{MAX_EXPANDED}
 use Rattle.tup_flags.specs.declared.fault.FlagFault.{FlagFault}
 use Rattle.tup_flags.specs.declared.fault.FlagFault.TheVariants.{TooLong}
+
+-- how many bytes the texts of an expansion may have together
+abbrev pub text_limit : ℕ
+text_limit = 1048576
 
 -- how many bytes of text a piece has; a group counts nothing
 abbrev pub size : Piece → ℕ
 size (Text text) = length text
 size (Group _) = 0
 
+-- and how many some pieces have together
 abbrev pub total : List Piece → ℕ
 total [] = 0
 total (piece ∷ more) = size piece + total more
@@ -40,13 +44,14 @@ refusal [] = None
 refusal (Ok _ ∷ more) = refusal more
 refusal (Err fault ∷ _) = Some fault
 
+-- pieces, where nothing is refused
 abbrev pub unless_refused : List Piece → Option FlagFault → Result (List Piece) FlagFault
 unless_refused pieces None = Ok pieces
 unless_refused pieces (Some fault) = Err fault
 
 -- what values come to: they are too long if what stands before the first refusal is
 abbrev pub outcome : List (Result Piece FlagFault) → Result (List Piece) FlagFault
-outcome values = if nat_lt MAX_EXPANDED (total (granted values)) then Err TooLong else unless_refused (joined (granted values)) (refusal values)
+outcome values = if nat_lt text_limit (total (granted values)) then Err TooLong else unless_refused (joined (granted values)) (refusal values)
 
 -- what values come to behind pieces and a text that goes on, where there is room for so many bytes
 abbrev pub onward : List Piece → List ℕ → ℕ → List (Result Piece FlagFault) → Result (List Piece) FlagFault

@@ -1,14 +1,16 @@
 -- What a flag shows of files, from the manual; where an extension begins is own.
-use Rattle.std.specs.Prelude.{ℕ, ◌-◌, ◌==◌, Bool, not, ◌&&◌, if◌then◌else◌, List, [], length, map, slice_get, unwrap_or}
-use Rattle.std.specs.List.{list_any, before_last, after_last, join_with_byte}
+use Rattle.std.specs.Prelude.{ℕ, ◌-◌, ◌==◌, Bool, not, ◌&&◌, if◌then◌else◌, List, [], ◌∷◌, length, map, slice_get, unwrap_or}
+use Rattle.std.specs.List.{list_any, flat_map, before_last, after_last, join_with_byte}
 use Rattle.tup_path.specs.Name.{Names}
 use Rattle.tup_path.specs.Show.{show_from}
 use Rattle.tup_flags.specs.declared.shown.Side.{Side}
 use Rattle.tup_flags.specs.declared.shown.Side.TheVariants.{Way, Trunk, Name, Stem, Extension}
 
+-- a dot begins an extension
 abbrev pub is_dot : ℕ → Bool
 is_dot byte = byte == 46
 
+-- a slash parts the names of a path
 abbrev pub is_slash : ℕ → Bool
 is_slash byte = byte == 47
 
@@ -35,6 +37,10 @@ shown dir Trunk path = without_extension (show_from dir path)
 shown dir Name path = last_name path
 shown dir Stem path = without_extension (last_name path)
 shown dir Extension path = extension (last_name path)
+
+-- what is shown of each of some files, each behind a space
+abbrev pub further : Names → Side → List Names → List ℕ
+further dir side paths = flat_map (λ path. 32 ∷ shown dir side path) paths
 
 -- what is shown of each of some files, parted by one space
 abbrev pub listed : Names → Side → List Names → List ℕ

@@ -1,18 +1,15 @@
 //! The pieces of an expanded text as they come.
-ghost use Rattle.std.specs.Prelude.{◌≡◌, ◌⊎◌, ◌<◌, ◌+◌, ◌++◌, [], ◌∷◌, length, string_bytes, List, Result, Ok, Err, OnOk, IfErr, IfOk};
-ghost use Rattle.tup_flags.specs.Pieces.{onto, onward};
+ghost use Rattle.std.specs.Prelude.{◌≡◌, ◌++◌, [], ◌∷◌, string_bytes, OnOk, IfErr, IfOk};
+ghost use Rattle.tup_flags.specs.Answer.{IsGrown, HasNoRoom};
+ghost use Rattle.tup_flags.specs.Pieces.{onto, text_limit};
+ghost use Rattle.tup_flags.specs.declared.fault.FlagFault.TheVariants.{Memory};
 ghost use Rattle.tup_rule.specs.declared.draft.Piece.{Piece};
-ghost use Rattle.tup_flags.specs.declared.fault.FlagFault.{FlagFault};
-ghost use Rattle.tup_flags.specs.declared.fault.FlagFault.TheVariants.{Memory, TooLong};
 
 use crate::fault::FlagFault;
 use std::alloc::Global;
 use std::mem;
-use tup_path::Text;
+use tup_path::{MAX_EXPANDED, Text};
 use tup_rule::{Piece, Pieces};
-
-/// How many bytes the texts of an expanded text may have together.
-pub const MAX_EXPANDED: usize = 1_048_576;
 
 /// Pieces, the text that goes on behind them, and how many bytes there is room for behind that.
 #[derive(Drop)]
@@ -23,10 +20,11 @@ pub(crate) struct Answer {
 }
 
 impl Answer {
+    /// The answer to which nothing came yet; it takes no memory.
     pub(crate) fn new(alloc: Global) -> Answer
         ensures pieces { result.pieces ≡ [] }
         ensures text { string_bytes result.text ≡ [] }
-        ensures room { result.room ≡ MAX_EXPANDED }
+        ensures room { result.room ≡ text_limit }
     {
         Answer {
             pieces: Pieces::new(alloc),
@@ -35,28 +33,10 @@ impl Answer {
         }
     }
 
-    /// Goes on with a piece.
-    pub(crate) fn add(&mut self, alloc: Global, piece: Piece) -> Result<(), FlagFault>
-        ensures ok { OnOk result ((values : List (Result Piece FlagFault))
-            → onward self.old.pieces (string_bytes self.old.text) self.old.room (Ok piece ∷ values)
-            ≡ onward self.new.pieces (string_bytes self.new.text) self.new.room values) }
-        ensures err { IfErr result (λ fault. (fault ≡ Memory) ⊎ ((values : List (Result Piece FlagFault))
-            → onward self.old.pieces (string_bytes self.old.text) self.old.room (Ok piece ∷ values)
-            ≡ Err fault)) }
-    {
-        match piece {
-            Piece::Text(text) => self.add_text(text.as_str()),
-            Piece::Group(place) => self.add_group(alloc, place),
-        }
-    }
-
-    /// Goes on with a text.
+    /// Goes on with a text, if there is room for it.
     pub(crate) fn add_text(&mut self, text: &str) -> Result<(), FlagFault>
-        ensures pieces { OnOk result (self.new.pieces ≡ self.old.pieces) }
-        ensures text { OnOk result (string_bytes self.new.text ≡ string_bytes self.old.text ++ text.now) }
-        ensures room { OnOk result (self.new.room + length text.now ≡ self.old.room) }
-        ensures refused { IfErr result (λ fault. (fault ≡ Memory)
-            ⊎ ((fault ≡ TooLong) × (self.old.room < length text.now))) }
+        ensures grown { OnOk result (IsGrown self.old self.new text.now) }
+        ensures refused { IfErr result (HasNoRoom self.old text.now) }
     {
         if text.len() > self.room {
             return Err(FlagFault::TooLong);
@@ -67,7 +47,7 @@ impl Answer {
     }
 
     /// Goes on with a group.
-    fn add_group(&mut self, alloc: Global, place: u32) -> Result<(), FlagFault>
+    pub(crate) fn add_group(&mut self, alloc: Global, place: u32) -> Result<(), FlagFault>
         ensures pieces { OnOk result (self.new.pieces
             ≡ self.old.pieces ++ onto (string_bytes self.old.text) (Piece.Group place ∷ [])) }
         ensures text { OnOk result (string_bytes self.new.text ≡ []) }
@@ -81,7 +61,8 @@ impl Answer {
 
     /// Nothing comes behind.
     pub(crate) fn finish(mut self, alloc: Global) -> Result<Pieces, FlagFault>
-        ensures pieces { IfOk result (λ pieces. pieces ≡ self.pieces ++ onto (string_bytes self.text) []) }
+        ensures pieces { IfOk result (λ pieces.
+            pieces ≡ self.pieces ++ onto (string_bytes self.text) []) }
         ensures refused { IfErr result (λ fault. fault ≡ Memory) }
     {
         self.close(alloc)?;

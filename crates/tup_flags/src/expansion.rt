@@ -1,15 +1,16 @@
 //! A text with its flags put in.
 ghost use Rattle.std.specs.Prelude.{◌≡◌, ◌≢◌, ◌⊎◌, ◌≤◌, ◌<◌, ◌+◌, ◌++◌, ◌∷◌, [], Ok, Err, All, length, IfOk, IfErr};
 ghost use Rattle.std.specs.List.{flat_map};
+ghost use Rattle.tup_path.specs.Gives.{GivesUnless};
 ghost use Rattle.tup_flags.specs.Part.{parts as cut, spelled};
-ghost use Rattle.tup_flags.specs.Pieces.{total, onto};
+ghost use Rattle.tup_flags.specs.Pieces.{text_limit, total, onto};
 ghost use Rattle.tup_flags.specs.Laws.{IsLeast, IsTextAlone, StandIn, InTurn};
 ghost use Rattle.tup_flags.specs.Expansion as specs;
 ghost use Rattle.tup_flags.specs.declared.fault.FlagFault.TheVariants.{Memory};
 
-use crate::answer::{Answer, MAX_EXPANDED};
+use crate::answer::Answer;
 use crate::fault::FlagFault;
-use crate::mark::read_mark;
+use crate::mark::Mark;
 use crate::parts::{FlagParts, Place};
 use std::alloc::Global;
 use tup_path::Text;
@@ -23,14 +24,14 @@ use tup_rule::Pieces;
 /// has nothing to stand for at this place of the rule line, or no group has the name. `TooLong`: the
 /// texts up to here have more than 1,048,576 bytes; a group counts nothing.
 pub fn expand(alloc: Global, text: &Text, parts: &FlagParts) -> Result<Pieces, FlagFault>
-    ensures expansion { (result ≡ Err Memory) ⊎ (result ≡ specs.expand parts.now text.now) }
+    ensures expansion { GivesUnless result Memory (specs.expand parts.now text.now) }
     ensures cut { flat_map spelled (cut text.now) ≡ text.now }
-    ensures plain { All (λ byte. byte ≢ 37) text.now → length text.now ≤ MAX_EXPANDED
-        → (result ≡ Err Memory) ⊎ (result ≡ Ok (onto text.now [])) }
+    ensures plain { All (λ byte. byte ≢ 37) text.now → length text.now ≤ text_limit
+        → GivesUnless result Memory (Ok (onto text.now [])) }
     ensures alone { parts.now.place ≢ Place.Command → IfOk result IsTextAlone }
     ensures least { IfOk result IsLeast }
     ensures groups { IfOk result (StandIn (length parts.now.groups)) }
-    ensures short { IfOk result (λ pieces. total pieces ≤ MAX_EXPANDED) }
+    ensures short { IfOk result (λ pieces. total pieces ≤ text_limit) }
 {
     expanded(alloc, text.as_str(), parts)
 }
@@ -47,8 +48,9 @@ pub fn expand_in_turn(front: &Text, back: &Text, parts: &FlagParts)
     );
 }
 
+/// The same as `expand`, by a loop over the percent signs.
 fn expanded(alloc: Global, text: &str, parts: &FlagParts) -> Result<Pieces, FlagFault>
-    ensures { (result ≡ Err Memory) ⊎ (result ≡ specs.expand parts.now text.now) }
+    ensures { GivesUnless result Memory (specs.expand parts.now text.now) }
 {
     let mut answer = Answer::new(alloc);
     let mut rest = text;
@@ -73,9 +75,9 @@ fn add_mark<'t>(
         ⊎ (specs.with_rest parts.now answer.old (37 ∷ behind.now) ≡ Err fault)) }
     ensures shorter { IfOk result (λ rest. length rest.now < length behind.now) }
 {
-    let Some((mark, rest)) = read_mark(behind) else {
+    let Some((mark, rest)) = Mark::read(behind) else {
         return Err(FlagFault::UnknownFlag);
     };
-    answer.add(alloc, mark.piece(alloc, parts)?)?;
+    mark.add(alloc, answer, parts)?;
     Ok(rest)
 }

@@ -1,36 +1,63 @@
 //! What each flag is, and where it may stand.
-ghost use Rattle.std.specs.Prelude.{◌≡◌, ◌⊎◌, Ok, Err};
-ghost use Rattle.tup_flags.specs.Flag.{stands, meaning, value, first_named, place_of, glob_text};
-ghost use Rattle.tup_flags.specs.Part.{part_of};
-ghost use Rattle.tup_flags.specs.declared.fault.FlagFault.TheVariants.{Memory};
+ghost use Rattle.std.specs.Prelude.{◌≡◌, ◌<◌, OnOk, IfErr, IfSome};
+ghost use Rattle.tup_flags.specs.Answer.{IsGrown, HasNoRoom};
+ghost use Rattle.tup_flags.specs.Flag.{stands, meaning, glob_text};
+ghost use Rattle.tup_flags.specs.Part.{flag_of};
 
+use crate::answer::Answer;
 use crate::fault::FlagFault;
-use crate::mark::{Flag, Mark};
 use crate::parts::{FlagParts, Place};
-use crate::shown::{Side, last_name, listed};
+use crate::shown::{Side, add_listed, last_name};
 use std::alloc::Global;
-use tup_path::Text;
-use tup_rule::{GroupRef, Piece};
 
-impl Mark<'_> {
-    /// What the mark stands for.
-    pub(crate) fn piece(self, alloc: Global, parts: &FlagParts) -> Result<Piece, FlagFault>
-        ensures { (result ≡ Err Memory) ⊎ (result ≡ value parts.now (part_of self.entry)) }
-    {
-        match self {
-            Mark::Flag(flag) if flag.stands(parts) => Ok(Piece::Text(flag.meaning(alloc, parts)?)),
-            Mark::Flag(_) => Err(FlagFault::FlagNotHere),
-            Mark::Group(name) => match place_of(parts, name) {
-                Some(place) => Ok(Piece::Group(place)),
-                None => Err(FlagFault::FlagNotHere),
-            },
-        }
-    }
+/// A flag of one character.
+#[derive(Clone, Copy)]
+pub(crate) enum Flag {
+    /// `%%`
+    Percent,
+    /// `%f`
+    Inputs,
+    /// `%b`
+    Names,
+    /// `%B`
+    Stems,
+    /// `%e`
+    Extension,
+    /// `%o`
+    Outputs,
+    /// `%O`
+    Trunk,
+    /// `%d`
+    Folder,
+    /// `%g`
+    Glob,
+    /// `%i`
+    Order,
 }
 
 impl Flag {
+    /// The flag with this character.
+    pub(crate) fn of(character: u8) -> Option<Flag>
+        ensures flag { result ≡ flag_of character }
+        ensures ascii { IfSome result (λ _. character < 128) }
+    {
+        Some(match character {
+            b'%' => Flag::Percent,
+            b'f' => Flag::Inputs,
+            b'b' => Flag::Names,
+            b'B' => Flag::Stems,
+            b'e' => Flag::Extension,
+            b'o' => Flag::Outputs,
+            b'O' => Flag::Trunk,
+            b'd' => Flag::Folder,
+            b'g' => Flag::Glob,
+            b'i' => Flag::Order,
+            _ => return None,
+        })
+    }
+
     /// Whether the flag may stand where the text does.
-    fn stands(self, parts: &FlagParts) -> bool
+    pub(crate) fn stands(self, parts: &FlagParts) -> bool
         ensures { result ≡ stands parts.now self }
     {
         let behind_inputs = parts.place != Place::Inputs;
@@ -47,26 +74,37 @@ impl Flag {
         }
     }
 
-    /// The text that the flag stands for, where it may stand.
-    fn meaning(self, alloc: Global, parts: &FlagParts) -> Result<Text, FlagFault>
-        ensures { (result ≡ Err Memory) ⊎ (result ≡ Ok (meaning parts.now self)) }
+    /// Goes on with the text that the flag stands for, where it may stand.
+    pub(crate) fn add(
+        self,
+        alloc: Global,
+        answer: &mut Answer,
+        parts: &FlagParts,
+    ) -> Result<(), FlagFault>
+        ensures grown { OnOk result (IsGrown answer.old answer.new (meaning parts.now self)) }
+        ensures refused { IfErr result (HasNoRoom answer.old (meaning parts.now self)) }
     {
-        let (dir, inputs) = (&parts.dir, parts.inputs.as_slice());
+        let (dir, inputs, outputs) = (
+            &parts.dir,
+            parts.inputs.as_slice(),
+            parts.outputs.as_slice(),
+        );
         match self {
-            Flag::Percent => Ok(Text::from_str(alloc, "%")?),
-            Flag::Inputs => listed(alloc, dir, Side::Way, inputs),
-            Flag::Names => listed(alloc, dir, Side::Name, inputs),
-            Flag::Stems => listed(alloc, dir, Side::Stem, inputs),
-            Flag::Extension => listed(alloc, dir, Side::Extension, inputs),
-            Flag::Outputs => listed(alloc, dir, Side::Way, parts.outputs.as_slice()),
-            Flag::Trunk => listed(alloc, dir, Side::Trunk, parts.outputs.as_slice()),
-            Flag::Folder => Ok(Text::from_str(alloc, last_name(dir))?),
-            Flag::Glob => Ok(Text::from_str(alloc, glob_text(parts))?),
-            Flag::Order => listed(alloc, dir, Side::Way, parts.order.as_slice()),
+            Flag::Percent => answer.add_text("%"),
+            Flag::Inputs => add_listed(alloc, answer, dir, Side::Way, inputs),
+            Flag::Names => add_listed(alloc, answer, dir, Side::Name, inputs),
+            Flag::Stems => add_listed(alloc, answer, dir, Side::Stem, inputs),
+            Flag::Extension => add_listed(alloc, answer, dir, Side::Extension, inputs),
+            Flag::Outputs => add_listed(alloc, answer, dir, Side::Way, outputs),
+            Flag::Trunk => add_listed(alloc, answer, dir, Side::Trunk, outputs),
+            Flag::Folder => answer.add_text(last_name(dir)),
+            Flag::Glob => answer.add_text(glob_text(parts)),
+            Flag::Order => add_listed(alloc, answer, dir, Side::Way, parts.order.as_slice()),
         }
     }
 }
 
+/// What the first operator of the glob matched.
 fn glob_text(parts: &FlagParts) -> &str
     ensures { result.now ≡ glob_text parts.now }
 {
@@ -74,20 +112,4 @@ fn glob_text(parts: &FlagParts) -> &str
         Some(matched) => matched.as_str(),
         None => "",
     }
-}
-
-/// The place of the first group of this name; a group is named in the command alone.
-fn place_of(parts: &FlagParts, name: &str) -> Option<u32>
-    ensures { result ≡ place_of parts.now name.now }
-{
-    if parts.place != Place::Command {
-        return None;
-    }
-    u32::try_from(first_named(parts.groups.as_slice(), name)?).ok()
-}
-
-fn first_named(groups: &[GroupRef], name: &str) -> Option<usize>
-    ensures { result ≡ first_named groups.now name.now }
-{
-    groups.iter().position(|group| group.name.as_str() == name)
 }

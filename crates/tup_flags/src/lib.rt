@@ -13,10 +13,6 @@ mod mark;
 mod parts;
 mod shown;
 
-pub use answer::MAX_EXPANDED;
 pub use expansion::{expand, expand_in_turn};
 pub use fault::FlagFault;
 pub use parts::{FlagParts, Place};
-
-#[cfg(test)]
-mod tests;

@@ -1,11 +1,12 @@
 //! What a flag shows of files.
-ghost use Rattle.std.specs.Prelude.{◌≡◌, ◌⊎◌, Ok, Err};
+ghost use Rattle.std.specs.Prelude.{◌≡◌, OnOk, IfErr};
+ghost use Rattle.tup_flags.specs.Answer.{IsGrown, HasNoRoom};
 ghost use Rattle.tup_flags.specs.Shown as specs;
-ghost use Rattle.tup_flags.specs.declared.fault.FlagFault.TheVariants.{Memory};
 
+use crate::answer::Answer;
 use crate::fault::FlagFault;
 use std::alloc::Global;
-use tup_path::{Path, Text};
+use tup_path::Path;
 
 /// What a flag shows of a file.
 #[derive(Clone, Copy)]
@@ -22,44 +23,66 @@ pub(crate) enum Side {
     Extension,
 }
 
-/// What is shown of each of some files, parted by one space.
-pub(crate) fn listed(
+/// Goes on with what is shown of each of some files, parted by one space, as far as there is room.
+pub(crate) fn add_listed(
     alloc: Global,
+    answer: &mut Answer,
     dir: &Path,
     side: Side,
     paths: &[Path],
-) -> Result<Text, FlagFault>
-    ensures { (result ≡ Err Memory) ⊎ (result ≡ Ok (specs.listed dir.now side paths.now)) }
+) -> Result<(), FlagFault>
+    ensures grown { OnOk result
+        (IsGrown answer.old answer.new (specs.listed dir.now side paths.now)) }
+    ensures refused { IfErr result (HasNoRoom answer.old (specs.listed dir.now side paths.now)) }
 {
-    let mut all = String::new(alloc);
-    for (at, path) in paths.iter().enumerate() {
-        if at > 0 {
-            all.push(' ')?;
-        }
-        all.push_str(shown(alloc, dir, side, path)?.as_str())?;
-    }
-    Ok(Text::from_string(all))
-}
-
-/// What is shown of one file.
-fn shown(alloc: Global, dir: &Path, side: Side, path: &Path) -> Result<Text, FlagFault>
-    ensures { (result ≡ Err Memory) ⊎ (result ≡ Ok (specs.shown dir.now side path.now)) }
-{
-    let part = match side {
-        Side::Way => return Ok(path.show_from(alloc, dir)?),
-        Side::Trunk => return trunk(alloc, dir, path),
-        Side::Name => last_name(path),
-        Side::Stem => without_extension(last_name(path)),
-        Side::Extension => extension(last_name(path)),
+    let Some((first, others)) = paths.split_first() else {
+        return Ok(());
     };
-    Ok(Text::from_str(alloc, part)?)
+    add_shown(alloc, answer, dir, side, first)?;
+    add_further(alloc, answer, dir, side, others)
 }
 
-fn trunk(alloc: Global, dir: &Path, path: &Path) -> Result<Text, FlagFault>
-    ensures { (result ≡ Err Memory) ⊎ (result ≡ Ok (specs.shown dir.now Side.Trunk path.now)) }
+/// Goes on with what is shown of each of some files, each behind a space.
+fn add_further(
+    alloc: Global,
+    answer: &mut Answer,
+    dir: &Path,
+    side: Side,
+    paths: &[Path],
+) -> Result<(), FlagFault>
+    ensures grown { OnOk result
+        (IsGrown answer.old answer.new (specs.further dir.now side paths.now)) }
+    ensures refused { IfErr result (HasNoRoom answer.old (specs.further dir.now side paths.now)) }
 {
-    let way = path.show_from(alloc, dir)?;
-    Ok(Text::from_str(alloc, without_extension(way.as_str()))?)
+    for path in paths {
+        answer.add_text(" ")?;
+        add_shown(alloc, answer, dir, side, path)?;
+    }
+    Ok(())
+}
+
+/// Goes on with what is shown of one file.
+fn add_shown(
+    alloc: Global,
+    answer: &mut Answer,
+    dir: &Path,
+    side: Side,
+    path: &Path,
+) -> Result<(), FlagFault>
+    ensures grown { OnOk result
+        (IsGrown answer.old answer.new (specs.shown dir.now side path.now)) }
+    ensures refused { IfErr result (HasNoRoom answer.old (specs.shown dir.now side path.now)) }
+{
+    match side {
+        Side::Way => answer.add_text(path.show_from(alloc, dir)?.as_str()),
+        Side::Trunk => {
+            let way = path.show_from(alloc, dir)?;
+            answer.add_text(without_extension(way.as_str()))
+        }
+        Side::Name => answer.add_text(last_name(path)),
+        Side::Stem => answer.add_text(without_extension(last_name(path))),
+        Side::Extension => answer.add_text(extension(last_name(path))),
+    }
 }
 
 /// The last name of a path; the top directory has none, which is the empty text.

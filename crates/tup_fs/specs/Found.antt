@@ -1,9 +1,10 @@
--- What is found where a file is asked for: what was read isn't longer than the limit, and what is longer wasn't read. Own.
+-- What is found where a file is asked for. Own.
 use Rattle.std.specs.Prelude.{ℕ, ◌<◌, ◌≤◌, length}
 use Rattle.tup_fs.specs.declared.reading.Found.{Found}
 use Rattle.tup_fs.specs.declared.reading.Found.TheVariants.{Nothing, Content, TooLarge}
 
-abbrev pub IsWithin : ℕ → Found → Type 0
-IsWithin limit Nothing = Unit {0}
-IsWithin limit (Content bytes) = length bytes ≤ limit
-IsWithin limit (TooLarge len) = limit < len
+-- what was read isn't longer than a file may be, and what is longer wasn't read
+abbrev pub IsWithin : Found → Type 0
+IsWithin Nothing = Unit {0}
+IsWithin (Content bytes) = length bytes ≤ 16777216
+IsWithin (TooLarge len) = 16777216 < len

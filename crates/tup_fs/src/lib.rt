@@ -6,12 +6,14 @@
 //! what the system does is tested once.
 #![tactic(auto)]
 
+mod failure;
 mod listing;
-mod place;
 mod reading;
 mod site;
 mod store;
+mod top;
 mod touched;
 mod writing;
 
+pub use failure::Failure;
 pub use site::FsSite;

@@ -2,11 +2,11 @@
 ghost use Rattle.std.specs.Prelude.{IfOk};
 ghost use Rattle.tup_fs.specs.Found.{IsWithin};
 
-use crate::place::{Standing, place_of, standing_above, standing_at};
-use std::alloc::Global;
+use crate::failure::Refused;
+use crate::top::{Standing, Top};
 use std::fs::File;
 use std::io;
-use std::io::Read;
+use std::io::{ErrorKind, Read};
 use std::rt::Files;
 use tup_path::{Bytes, Path};
 use tup_site::MAX_FILE_BYTES;
@@ -21,32 +21,43 @@ pub(crate) enum Found {
     TooLarge(u64),
 }
 
-/// What the file at a path holds. A file that is too large isn't read.
-pub(crate) fn find(rt: &impl Files, alloc: Global, root: &str, path: &Path) -> io::Result<Found>
-    ensures { IfOk result (IsWithin MAX_FILE_BYTES) }
-{
-    if standing_above(rt, alloc, root, path)? != Standing::Folder {
-        return Ok(Found::Nothing);
+impl<R: Files + Drop> Top<R> {
+    /// What the file at a path holds. A file that is too large isn't read.
+    pub fn find(&self, path: &Path) -> Result<Found, Refused>
+        ensures { IfOk result IsWithin }
+    {
+        if self.standing_above(path)? != Standing::Folder {
+            return Ok(Found::Nothing);
+        }
+        let place = self.place(path.names())?;
+        match self.standing(place.as_str())? {
+            Standing::File(len) if len > MAX_FILE_BYTES => Ok(Found::TooLarge(len)),
+            Standing::File(_) => self.read(place.as_str()),
+            _ => Ok(Found::Nothing),
+        }
     }
-    let place = place_of(alloc, root, path.names())?;
-    match standing_at(rt, place.as_str())? {
-        Standing::File(len) if len > MAX_FILE_BYTES => Ok(Found::TooLarge(len)),
-        Standing::File(_) => read(rt, alloc, place.as_str()),
-        _ => Ok(Found::Nothing),
-    }
-}
 
-// Reads one byte more than a file may have, since it may grow meanwhile.
-fn read(rt: &impl Files, alloc: Global, place: &str) -> io::Result<Found>
-    ensures { IfOk result (IsWithin MAX_FILE_BYTES) }
-{
-    let mut bytes = Vec::new(alloc);
-    File::open(rt, place)?
-        .take(MAX_FILE_BYTES + 1)
-        .read_to_end(&mut bytes)?;
-    let len = bytes.len() as u64;
-    if len > MAX_FILE_BYTES {
-        return Ok(Found::TooLarge(len));
+    // Reads one byte more than a file may have, since it may grow meanwhile.
+    fn read(&self, place: &str) -> Result<Found, Refused>
+        ensures { IfOk result IsWithin }
+    {
+        let mut bytes = Vec::new(self.alloc);
+        match self.read_into(&mut bytes, place) {
+            Ok(()) => {}
+            Err(e) if e.kind() == ErrorKind::OutOfMemory => return Err(Refused::Memory),
+            Err(e) => return Err(self.refused(place, e)),
+        }
+        let len = bytes.len() as u64;
+        if len > MAX_FILE_BYTES {
+            return Ok(Found::TooLarge(len));
+        }
+        Ok(Found::Content(Bytes::new(bytes)))
     }
-    Ok(Found::Content(Bytes::new(bytes)))
+
+    fn read_into(&self, bytes: &mut Vec<u8>, place: &str) -> io::Result<()> {
+        File::open(&self.rt, place)?
+            .take(MAX_FILE_BYTES + 1)
+            .read_to_end(bytes)?;
+        Ok(())
+    }
 }

@@ -1,18 +1,15 @@
 //! The site over real files.
-ghost use Rattle.std.specs.Prelude.{◌≡◌, ◌≤◌, [], false, Ok, Err, IfOk};
+ghost use Rattle.std.specs.Prelude.{◌≡◌, [], false, Ok, IfOk};
 ghost use Rattle.std.specs.FinMap as finite;
-ghost use Rattle.tup_path.specs.Count.{Rose};
-ghost use Rattle.tup_site.specs.Cause.{NeverTooLarge};
-ghost use Rattle.tup_site.specs.declared.fault.SiteFailed.TheVariants.{Fault};
+ghost use Rattle.tup_site.specs.Cause.{CountsFaults, NeverTooLarge};
 
-use crate::listing::files_below;
-use crate::reading::{Found, find};
+use crate::failure::{Failure, Refused};
+use crate::reading::Found;
+use crate::store::Store;
+use crate::top::Top;
 use crate::touched::Touched;
-use crate::{store, writing};
 use std::alloc::{AllocError, Global};
 use std::fs::File;
-use std::io;
-use std::io::ErrorKind;
 use std::rt::Files;
 use tup_path::{Bytes, Path, Paths};
 use tup_site::{Site, SiteFailed};
@@ -21,10 +18,10 @@ use tup_site::{Site, SiteFailed};
 /// faults: each failing call of the system is one.
 #[derive(Drop)]
 pub struct FsSite<R: Files<File = File> + Clone + Drop> {
-    rt: R,
-    root: String,
+    top: Top<R>,
     touched: Touched,
-    is_store_new: bool,
+    store: Store,
+    last: Option<Failure>,
     faults: u64,
 }
 
@@ -32,107 +29,104 @@ impl<R: Files<File = File> + Clone + Drop> FsSite<R> {
     /// The files below this folder, which has to be there. It touches nothing yet.
     pub fn new(rt: R, alloc: Global, root: &str) -> Result<FsSite<R>, AllocError> {
         Ok(FsSite {
-            rt,
-            root: String::from_str(alloc, root)?,
+            top: Top {
+                rt,
+                alloc,
+                root: String::from_str(alloc, root)?,
+            },
             touched: Touched::new(alloc),
-            is_store_new: false,
+            store: Store::new(),
+            last: None,
             faults: 0,
         })
     }
-}
 
-// An answer of the system as one of the site; each failure but want of memory is counted.
-fn told<T>(faults: &mut u64, answer: io::Result<T>) -> Result<T, SiteFailed>
-    ensures later { faults.old ≤ faults.new }
-    ensures fault { result ≡ Err Fault → Rose faults.old faults.new }
-    ensures never_too_large { NeverTooLarge result }
-    ensures value { IfOk result (λ value. answer ≡ Ok value) }
-{
-    match answer {
-        Ok(value) => Ok(value),
-        Err(e) if e.kind() == ErrorKind::OutOfMemory => Err(SiteFailed::Memory),
-        Err(_) => {
-            *faults = faults.saturating_add(1);
-            Err(SiteFailed::Fault)
+    /// The last failure: its place, and what the system said. `None` where nothing failed yet.
+    pub fn last(&self) -> Option<&Failure> {
+        self.last.as_ref()
+    }
+
+    // An answer as the site gives it. Each failure is counted and kept.
+    fn told<T>(&mut self, answer: Result<T, Refused>) -> Result<T, SiteFailed>
+        ensures cause { CountsFaults self.old.faults self.new.faults result }
+        ensures never_too_large { NeverTooLarge result }
+        ensures value { IfOk result (λ value. answer ≡ Ok value) }
+    {
+        match answer {
+            Ok(value) => Ok(value),
+            Err(Refused::Memory) => Err(SiteFailed::Memory),
+            Err(Refused::Failed(failure)) => {
+                self.last = Some(failure);
+                self.faults = self.faults.saturating_add(1);
+                Err(SiteFailed::Fault)
+            }
         }
     }
 }
 
 impl<R: Files<File = File> + Clone + Drop + Send> Site for FsSite<R> {
+    ghost use Rattle.tup_site.specs.World.{World};
+
     ghost tells = { false };
 
-    ghost tree = { λ _. finite.empty };
-
-    ghost store = { λ _. [] };
+    ghost world = { λ _. record { tree = finite.empty; store = [] } };
 
     ghost faults = { λ site. site.faults };
 
     ghost is_tree = { λ site no. Prim.cc };
 
-    fn list(&mut self, alloc: Global) -> Result<Paths, SiteFailed> {
-        let files = files_below(&self.rt, alloc, self.root.as_str());
-        Ok(Paths::from_vec(told(&mut self.faults, files)?))
+    fn list(&mut self, _alloc: Global) -> Result<Paths, SiteFailed> {
+        let files = self.top.files();
+        Ok(Paths::from_vec(self.told(files)?))
     }
 
-    fn get(&mut self, alloc: Global, path: &Path) -> Result<Option<Bytes>, SiteFailed> {
-        let found = find(&self.rt, alloc, self.root.as_str(), path);
-        match told(&mut self.faults, found)? {
+    fn get(&mut self, _alloc: Global, path: &Path) -> Result<Option<Bytes>, SiteFailed> {
+        let found = self.top.find(path);
+        match self.told(found)? {
             Found::Nothing => Ok(None),
             Found::Content(bytes) => Ok(Some(bytes)),
             Found::TooLarge(len) => Err(SiteFailed::TooLarge(len)),
         }
     }
 
-    fn put(&mut self, alloc: Global, path: &Path, content: &Bytes) -> Result<(), SiteFailed> {
-        let done = writing::put(
-            &self.rt,
-            alloc,
-            self.root.as_str(),
-            &mut self.touched,
-            path,
-            content.as_slice(),
-        );
-        told(&mut self.faults, done)
+    fn put(&mut self, _alloc: Global, path: &Path, content: &Bytes) -> Result<(), SiteFailed> {
+        let done = self.top.put(&mut self.touched, path, content.as_slice());
+        self.told(done)
     }
 
-    fn remove(&mut self, alloc: Global, path: &Path) -> Result<(), SiteFailed> {
-        let done = writing::remove(&self.rt, alloc, self.root.as_str(), &mut self.touched, path);
-        told(&mut self.faults, done)
+    fn remove(&mut self, _alloc: Global, path: &Path) -> Result<(), SiteFailed> {
+        let done = self.top.remove(&mut self.touched, path);
+        self.told(done)
     }
 
     fn settle(&mut self, _alloc: Global) -> Result<(), SiteFailed> {
-        let done = self.touched.settle(&self.rt);
-        told(&mut self.faults, done)
+        let done = self.touched.settle(&self.top);
+        self.told(done)
     }
 
-    fn db_len(&mut self, alloc: Global) -> Result<u64, SiteFailed> {
-        let len = store::len(&self.rt, alloc, self.root.as_str());
-        Ok(told(&mut self.faults, len)?.unwrap_or(0))
+    fn db_len(&mut self, _alloc: Global) -> Result<u64, SiteFailed> {
+        let len = self.store.len(&self.top);
+        Ok(self.told(len)?.unwrap_or(0))
     }
 
-    fn db_read(&mut self, alloc: Global, at: u64, into: &mut [u8]) -> Result<(), SiteFailed> {
-        let done = store::read(&self.rt, alloc, self.root.as_str(), at, into);
-        told(&mut self.faults, done)
+    fn db_read(&mut self, _alloc: Global, at: u64, into: &mut [u8]) -> Result<(), SiteFailed> {
+        let done = self.store.read(&self.top, at, into);
+        self.told(done)
     }
 
-    fn db_write(&mut self, alloc: Global, at: u64, bytes: &[u8]) -> Result<(), SiteFailed> {
-        let is_new = store::write(&self.rt, alloc, self.root.as_str(), at, bytes);
-        if told(&mut self.faults, is_new)? {
-            self.is_store_new = true;
-        }
-        Ok(())
+    fn db_write(&mut self, _alloc: Global, at: u64, bytes: &[u8]) -> Result<(), SiteFailed> {
+        let done = self.store.write(&self.top, at, bytes);
+        self.told(done)
     }
 
-    fn db_sync(&mut self, alloc: Global) -> Result<(), SiteFailed> {
-        let done = store::settle(&self.rt, alloc, self.root.as_str(), self.is_store_new);
-        told(&mut self.faults, done)?;
-        self.is_store_new = false;
-        Ok(())
+    fn db_sync(&mut self, _alloc: Global) -> Result<(), SiteFailed> {
+        let done = self.store.sync(&self.top);
+        self.told(done)
     }
 
-    fn db_cut(&mut self, alloc: Global, len: u64) -> Result<(), SiteFailed> {
-        let done = store::cut(&self.rt, alloc, self.root.as_str(), len);
-        told(&mut self.faults, done)
+    fn db_cut(&mut self, _alloc: Global, len: u64) -> Result<(), SiteFailed> {
+        let done = self.store.cut(&self.top, len);
+        self.told(done)
     }
 
     fn faults(&self) -> u64 {

@@ -1,9 +1,9 @@
 //! What was written and isn't durable yet.
-use crate::place::is_absence;
+use crate::failure::Refused;
+use crate::top::{Top, is_absence};
 use std::alloc::{AllocError, Global};
 use std::collections::BTreeSet;
 use std::fs::{File, OpenFile};
-use std::io;
 use std::rt::Files;
 
 /// The files that were written, and the folders in which names came or went, each by its place.
@@ -32,12 +32,12 @@ impl Touched {
     }
 
     /// Makes all of it durable, the files first; after an error all of it counts as touched still.
-    pub fn settle(&mut self, rt: &impl Files) -> io::Result<()> {
+    pub fn settle<R: Files + Drop>(&mut self, top: &Top<R>) -> Result<(), Refused> {
         for place in self.files.iter() {
-            sync(rt, place.as_str())?;
+            top.sync(place.as_str())?;
         }
         for place in self.folders.iter() {
-            sync(rt, place.as_str())?;
+            top.sync(place.as_str())?;
         }
         self.files.clear();
         self.folders.clear();
@@ -45,11 +45,13 @@ impl Touched {
     }
 }
 
-/// Makes a file or a folder durable. What went again needs no more than its folder.
-pub(crate) fn sync(rt: &impl Files, place: &str) -> io::Result<()> {
-    match File::open(rt, place) {
-        Ok(file) => file.sync_all(),
-        Err(e) if is_absence(e.kind()) => Ok(()),
-        Err(e) => Err(e),
+impl<R: Files + Drop> Top<R> {
+    /// Makes a file or a folder durable. What went again needs no more than its folder.
+    pub fn sync(&self, place: &str) -> Result<(), Refused> {
+        match File::open(&self.rt, place) {
+            Ok(file) => self.at(place, file.sync_all()),
+            Err(e) if is_absence(e.kind()) => Ok(()),
+            Err(e) => Err(self.refused(place, e)),
+        }
     }
 }

@@ -1,19 +1,18 @@
 -- A name matches where it can be cut, and the part of the first operator is the shortest.
 use Rattle.std.proofs.Common.{◌≡◌, ℕ, suc, ◌+◌, ◌-◌, ◌≤◌, Bool, true, false, ◌&&◌, List, [], ◌∷◌, ◌++◌, length, Option, Some, None, is_some, not, if◌then◌else◌, refl, ap, sym, subst, ◌∙◌, length-append, arith}
-use borrow.Author.Tests.{eqb-true}
-use Rattle.std.proofs.lemmas.Bool.{false≢true}
+use Rattle.std.proofs.lemmas.Bool.{false≢true, and_parts, and_from, eqb-true}
 use Rattle.std.proofs.lemmas.Str.{encodes-chars, encodes-append}
 use Rattle.std.specs.List.{list_all}
 use Rattle.std.specs.Option.{option_map}
 use Rattle.std.specs.Str.{chars, IsUtf8, encode_utf8_all}
 use Rattle.tup_lex.specs.declared.span.Span.{Span}
 use Rattle.tup_lex.specs.Word.{span}
-use Rattle.tup_glob.specs.declared.piece.Piece.{Piece}
-use Rattle.tup_glob.specs.declared.piece.Piece.TheVariants.{Char, Run, One, Set}
-use Rattle.tup_glob.specs.declared.piece.Range.{Range}
-use Rattle.tup_glob.specs.Piece.{accepts, is_literal}
+use Rattle.tup_glob.specs.declared.symbol.Symbol.{Symbol}
+use Rattle.tup_glob.specs.declared.symbol.Symbol.TheVariants.{Char, Run, One, Set}
+use Rattle.tup_glob.specs.declared.symbol.Range.{Range}
+use Rattle.tup_glob.specs.Symbol.{accepts, is_literal}
 use Rattle.tup_glob.specs.Match.{first_rest, matches}
-use Rattle.tup_glob.specs.Part.{part_of, place, matched_part}
+use Rattle.tup_glob.specs.Part.{ends_of, part_of, place, matched_part}
 use Rattle.tup_glob.specs.Cut.{StandsFor, CanBeCut, IsCutAt, IsMatchedPart}
 
 -- ---- the longest rest that passes
@@ -22,13 +21,6 @@ pub record IsFirst (test : List ℕ → Bool) (text run rest : List ℕ) : Type 
   pub whole : text ≡ run ++ rest
   pub passes : test rest ≡ true
   pub shortest : (run' rest' : List ℕ) → text ≡ run' ++ rest' → test rest' ≡ true → length run ≤ length run'
-
-first_at_once : (test : List ℕ → Bool) (text : List ℕ) → test text ≡ true → IsFirst test text [] text
-first_at_once test text passes = record {
-  whole = refl;
-  passes = passes;
-  shortest = λ run' rest' whole passes'. omega arith;
-}
 
 first_later : (test : List ℕ → Bool) (char : ℕ) (text run rest : List ℕ) → test (char ∷ text) ≡ false → IsFirst test text run rest → IsFirst test (char ∷ text) (char ∷ run) rest
 first_later test char text run rest fails is = record {
@@ -70,19 +62,15 @@ some_rest test [] (char ∷ rest) passes = ap (λ b. is_some (if b then Some (ch
 some_rest test (char ∷ run) rest passes = found_later (test (char ∷ (run ++ rest))) (char ∷ (run ++ rest)) (first_rest test (run ++ rest)) (some_rest test run rest passes)
 
 -- ---- a name matches where it can be cut
-both : (a b : Bool) → (a && b) ≡ true → (a ≡ true) × (b ≡ true)
-both true b e = (refl, e)
-both false b e = absurd cc
-
-cut_one : (piece : Piece) (more : List Piece) (char : ℕ) (rest : List ℕ) → StandsFor piece (char ∷ []) → CanBeCut more rest → CanBeCut (piece ∷ more) (char ∷ rest)
-cut_one piece more char rest stands cut = (char ∷ [], rest, refl, stands, cut)
+cut_one : (symbol : Symbol) (more : List Symbol) (char : ℕ) (rest : List ℕ) → StandsFor symbol (char ∷ []) → CanBeCut more rest → CanBeCut (symbol ∷ more) (char ∷ rest)
+cut_one symbol more char rest stands cut = (char ∷ [], rest, refl, stands, cut)
 
 -- of a text that was found, if one was
 found_text : (o : Option (List ℕ)) → is_some o ≡ true → (rest : List ℕ) × (o ≡ Some rest)
 found_text None e = absurd cc
 found_text (Some rest) e = (rest, refl)
 
-pub cut_from_matches : (pieces : List Piece) (name : List ℕ) → matches pieces name ≡ true → CanBeCut pieces name
+pub cut_from_matches : (symbols : List Symbol) (name : List ℕ) → matches symbols name ≡ true → CanBeCut symbols name
 cut_from_matches [] [] e = refl
 cut_from_matches [] (char ∷ rest) e = absurd cc
 cut_from_matches (Run ∷ more) name e =
@@ -93,42 +81,38 @@ cut_from_matches (Char own ∷ more) [] e = absurd cc
 cut_from_matches (One ∷ more) [] e = absurd cc
 cut_from_matches (Set negated members ∷ more) [] e = absurd cc
 cut_from_matches (Char own ∷ more) (char ∷ rest) e =
-    let facts = both (accepts (Char own) char) (matches more rest) e in
+    let facts = and_parts (accepts (Char own) char) (matches more rest) e in
     cut_one (Char own) more char rest (char, refl, facts.0) (cut_from_matches more rest facts.1)
 cut_from_matches (One ∷ more) (char ∷ rest) e = cut_one One more char rest (char, refl, refl) (cut_from_matches more rest e)
 cut_from_matches (Set negated members ∷ more) (char ∷ rest) e =
-    let facts = both (accepts (Set negated members) char) (matches more rest) e in
+    let facts = and_parts (accepts (Set negated members) char) (matches more rest) e in
     cut_one (Set negated members) more char rest (char, refl, facts.0) (cut_from_matches more rest facts.1)
 
 -- one character and what follows it
-all_of : (a b : Bool) → a ≡ true → b ≡ true → (a && b) ≡ true
-all_of true b p q = q
-all_of false b p q = absurd cc
+behind_one : (name part rest : List ℕ) (char : ℕ) → name ≡ part ++ rest → part ≡ char ∷ [] → name ≡ char ∷ rest
+behind_one name part rest char whole one = whole ∙ ap (λ p. p ++ rest) one
 
-behind_one : (piece : Piece) (name part rest : List ℕ) (char : ℕ) → name ≡ part ++ rest → part ≡ char ∷ [] → name ≡ char ∷ rest
-behind_one piece name part rest char whole one = whole ∙ ap (λ p. p ++ rest) one
-
-pub matches_from_cut : (pieces : List Piece) (name : List ℕ) → CanBeCut pieces name → matches pieces name ≡ true
+pub matches_from_cut : (symbols : List Symbol) (name : List ℕ) → CanBeCut symbols name → matches symbols name ≡ true
 matches_from_cut [] name cut = ap (matches []) cut
 matches_from_cut (Run ∷ more) name (part, rest, whole, stands, cut) =
     ap (λ n. is_some (first_rest (matches more) n)) whole ∙ some_rest (matches more) part rest (matches_from_cut more rest cut)
 matches_from_cut (Char own ∷ more) name (part, rest, whole, (char, one, accepted), cut) =
-    ap (matches (Char own ∷ more)) (behind_one One name part rest char whole one) ∙ all_of (accepts (Char own) char) (matches more rest) accepted (matches_from_cut more rest cut)
+    ap (matches (Char own ∷ more)) (behind_one name part rest char whole one) ∙ and_from (accepts (Char own) char) (matches more rest) accepted (matches_from_cut more rest cut)
 matches_from_cut (One ∷ more) name (part, rest, whole, (char, one, accepted), cut) =
-    ap (matches (One ∷ more)) (behind_one One name part rest char whole one) ∙ matches_from_cut more rest cut
+    ap (matches (One ∷ more)) (behind_one name part rest char whole one) ∙ matches_from_cut more rest cut
 matches_from_cut (Set negated members ∷ more) name (part, rest, whole, (char, one, accepted), cut) =
-    ap (matches (Set negated members ∷ more)) (behind_one One name part rest char whole one)
-    ∙ all_of (accepts (Set negated members) char) (matches more rest) accepted (matches_from_cut more rest cut)
+    ap (matches (Set negated members ∷ more)) (behind_one name part rest char whole one)
+    ∙ and_from (accepts (Set negated members) char) (matches more rest) accepted (matches_from_cut more rest cut)
 
 -- ---- the part of the first operator
 -- a name that is cut, by what is left from the part on and behind it
-pub record IsCutFrom (pieces : List Piece) (name from behind : List ℕ) : Type 0 where
+pub record IsCutFrom (symbols : List Symbol) (name from behind : List ℕ) : Type 0 where
   pub before : List ℕ
   pub part : List ℕ
   pub from_is : from ≡ part ++ behind
-  pub cut : IsCutAt pieces name before part behind
+  pub cut : IsCutAt symbols name before part behind
 
-cut_char : (own char : ℕ) (more : List Piece) (rest from behind : List ℕ) → own ≡ char → IsCutFrom more rest from behind → IsCutFrom (Char own ∷ more) (char ∷ rest) from behind
+cut_char : (own char : ℕ) (more : List Symbol) (rest from behind : List ℕ) → own ≡ char → IsCutFrom more rest from behind → IsCutFrom (Char own ∷ more) (char ∷ rest) from behind
 cut_char own char more rest from behind same is = record {
   before = char ∷ is.before;
   part = is.part;
@@ -142,7 +126,7 @@ cut_char own char more rest from behind same is = record {
   };
 }
 
-cut_run : (more : List Piece) (name behind : List ℕ) → first_rest (matches more) name ≡ Some behind → IsCutFrom (Run ∷ more) name name behind
+cut_run : (more : List Symbol) (name behind : List ℕ) → first_rest (matches more) name ≡ Some behind → IsCutFrom (Run ∷ more) name name behind
 cut_run more name behind found =
     let first = first_rest_is (matches more) name behind found in
     record {
@@ -157,10 +141,10 @@ cut_run more name behind found =
     }
 
 -- no text for which one character stands is shorter than one
-one_long : (piece : Piece) (char : ℕ) (text : List ℕ) → text ≡ char ∷ [] → 1 ≤ length text
-one_long piece char text one = let long : length text ≡ 1 = ap length one in omega arith
+one_long : (char : ℕ) (text : List ℕ) → text ≡ char ∷ [] → 1 ≤ length text
+one_long char text one = let long : length text ≡ 1 = ap length one in omega arith
 
-cut_any : (more : List Piece) (char : ℕ) (rest : List ℕ) → matches more rest ≡ true → IsCutFrom (One ∷ more) (char ∷ rest) (char ∷ rest) rest
+cut_any : (more : List Symbol) (char : ℕ) (rest : List ℕ) → matches more rest ≡ true → IsCutFrom (One ∷ more) (char ∷ rest) (char ∷ rest) rest
 cut_any more char rest e = record {
   before = [];
   part = char ∷ [];
@@ -168,11 +152,11 @@ cut_any more char rest e = record {
   cut = record {
     whole = refl;
     parts = (refl, (char, refl, refl), cut_from_matches more rest e);
-    shortest = λ before' part' rest' whole parts. one_long One parts.1.0 part' parts.1.1;
+    shortest = λ before' part' rest' whole parts. one_long parts.1.0 part' parts.1.1;
   };
 }
 
-cut_set : (negated : Bool) (members : List Range) (more : List Piece) (char : ℕ) (rest : List ℕ) → accepts (Set negated members) char ≡ true → matches more rest ≡ true →
+cut_set : (negated : Bool) (members : List Range) (more : List Symbol) (char : ℕ) (rest : List ℕ) → accepts (Set negated members) char ≡ true → matches more rest ≡ true →
     IsCutFrom (Set negated members ∷ more) (char ∷ rest) (char ∷ rest) rest
 cut_set negated members more char rest accepted e = record {
   before = [];
@@ -181,7 +165,7 @@ cut_set negated members more char rest accepted e = record {
   cut = record {
     whole = refl;
     parts = (refl, (char, refl, accepted), cut_from_matches more rest e);
-    shortest = λ before' part' rest' whole parts. one_long One parts.1.0 part' parts.1.1;
+    shortest = λ before' part' rest' whole parts. one_long parts.1.0 part' parts.1.1;
   };
 }
 
@@ -193,32 +177,28 @@ run_found : (o : Option (List ℕ)) (name from behind : List ℕ) → ◌≡◌ 
 run_found None name from behind e = absurd cc
 run_found (Some rest) name from behind e = let same = same_pair (name, rest) (from, behind) e in (same.0, ap (λ r. Some r) same.1)
 
-same_ends : (pieces : List Piece) (name from behind from' behind' : List ℕ) → ◌≡◌ {A = Option (List ℕ × List ℕ)} (Some (from', behind')) (Some (from, behind)) → IsCutFrom pieces name from' behind' → IsCutFrom pieces name from behind
-same_ends pieces name from behind from' behind' e is =
+same_ends : (symbols : List Symbol) (name from behind from' behind' : List ℕ) → ◌≡◌ {A = Option (List ℕ × List ℕ)} (Some (from', behind')) (Some (from, behind)) → IsCutFrom symbols name from' behind' → IsCutFrom symbols name from behind
+same_ends symbols name from behind from' behind' e is =
     let same = same_pair (from', behind') (from, behind) e in
-    let P : List ℕ → Type 0 = λ f. IsCutFrom pieces name f behind in
-    let Q : List ℕ → Type 0 = λ b. IsCutFrom pieces name from' b in
+    let P : List ℕ → Type 0 = λ f. IsCutFrom symbols name f behind in
+    let Q : List ℕ → Type 0 = λ b. IsCutFrom symbols name from' b in
     subst P same.0 (subst Q same.1 is)
 
--- these are the ends of the part
-abbrev pub IsPartOf : List Piece → List ℕ → List ℕ → List ℕ → Type 0
-IsPartOf pieces name from behind = part_of pieces name ≡ Some (from, behind)
-
-pub part_is_cut : (pieces : List Piece) (name from behind : List ℕ) → matches pieces name ≡ true → IsPartOf pieces name from behind → IsCutFrom pieces name from behind
-part_is_cut [] name from behind matched e = absurd cc
-part_is_cut (Run ∷ more) name from behind matched e =
+ends_are_cut : (symbols : List Symbol) (name from behind : List ℕ) → matches symbols name ≡ true → ends_of symbols name ≡ Some (from, behind) → IsCutFrom symbols name from behind
+ends_are_cut [] name from behind matched e = absurd cc
+ends_are_cut (Run ∷ more) name from behind matched e =
     let found = run_found (first_rest (matches more) name) name from behind e in
     let P : List ℕ → Type 0 = λ f. IsCutFrom (Run ∷ more) name f behind in
     subst P found.0 (cut_run more name behind found.1)
-part_is_cut (Char own ∷ more) [] from behind matched e = absurd cc
-part_is_cut (One ∷ more) [] from behind matched e = absurd cc
-part_is_cut (Set negated members ∷ more) [] from behind matched e = absurd cc
-part_is_cut (Char own ∷ more) (char ∷ rest) from behind matched e =
-    let facts = both (accepts (Char own) char) (matches more rest) matched in
-    cut_char own char more rest from behind (eqb-true own char facts.0) (part_is_cut more rest from behind facts.1 e)
-part_is_cut (One ∷ more) (char ∷ rest) from behind matched e = same_ends (One ∷ more) (char ∷ rest) from behind (char ∷ rest) rest e (cut_any more char rest matched)
-part_is_cut (Set negated members ∷ more) (char ∷ rest) from behind matched e =
-    let facts = both (accepts (Set negated members) char) (matches more rest) matched in
+ends_are_cut (Char own ∷ more) [] from behind matched e = absurd cc
+ends_are_cut (One ∷ more) [] from behind matched e = absurd cc
+ends_are_cut (Set negated members ∷ more) [] from behind matched e = absurd cc
+ends_are_cut (Char own ∷ more) (char ∷ rest) from behind matched e =
+    let facts = and_parts (accepts (Char own) char) (matches more rest) matched in
+    cut_char own char more rest from behind (eqb-true own char facts.0) (ends_are_cut more rest from behind facts.1 e)
+ends_are_cut (One ∷ more) (char ∷ rest) from behind matched e = same_ends (One ∷ more) (char ∷ rest) from behind (char ∷ rest) rest e (cut_any more char rest matched)
+ends_are_cut (Set negated members ∷ more) (char ∷ rest) from behind matched e =
+    let facts = and_parts (accepts (Set negated members) char) (matches more rest) matched in
     same_ends (Set negated members ∷ more) (char ∷ rest) from behind (char ∷ rest) rest e (cut_set negated members more char rest facts.0 facts.1)
 
 -- ---- a pattern that matches has such a part, unless it has no operator
@@ -226,23 +206,38 @@ run_is_found : (o : Option (List ℕ)) (name : List ℕ) → is_some o ≡ true 
 run_is_found None name e = absurd cc
 run_is_found (Some rest) name e = refl
 
-pub part_is_some : (pieces : List Piece) (name : List ℕ) → matches pieces name ≡ true → is_some (part_of pieces name) ≡ not (list_all is_literal pieces)
-part_is_some [] name matched = refl
-part_is_some (Run ∷ more) name matched = run_is_found (first_rest (matches more) name) name matched
-part_is_some (Char own ∷ more) [] matched = absurd cc
-part_is_some (Char own ∷ more) (char ∷ rest) matched = part_is_some more rest (both (accepts (Char own) char) (matches more rest) matched).1
-part_is_some (One ∷ more) name matched = refl
-part_is_some (Set negated members ∷ more) name matched = refl
+ends_are_some : (symbols : List Symbol) (name : List ℕ) → matches symbols name ≡ true → is_some (ends_of symbols name) ≡ not (list_all is_literal symbols)
+ends_are_some [] name matched = refl
+ends_are_some (Run ∷ more) name matched = run_is_found (first_rest (matches more) name) name matched
+ends_are_some (Char own ∷ more) [] matched = absurd cc
+ends_are_some (Char own ∷ more) (char ∷ rest) matched = ends_are_some more rest (and_parts (accepts (Char own) char) (matches more rest) matched).1
+ends_are_some (One ∷ more) name matched = refl
+ends_are_some (Set negated members ∷ more) name matched = refl
+
+-- what a part that is found says of the name
+pub part_is_some : (symbols : List Symbol) (name : List ℕ) → is_some (part_of symbols name) ≡ (matches symbols name && not (list_all is_literal symbols))
+part_is_some symbols name =
+    (elim (matches symbols name) as (λ m. matches symbols name ≡ m → is_some (if m then ends_of symbols name else None) ≡ (m && not (list_all is_literal symbols))) [
+      | true ↦ ends_are_some symbols name
+      | false ↦ λ e. refl
+    ]) refl
+
+part_is_cut : (symbols : List Symbol) (name from behind : List ℕ) → part_of symbols name ≡ Some (from, behind) → IsCutFrom symbols name from behind
+part_is_cut symbols name from behind =
+    (elim (matches symbols name) as (λ m. matches symbols name ≡ m → (if m then ends_of symbols name else None) ≡ Some (from, behind) → IsCutFrom symbols name from behind) [
+      | true ↦ ends_are_cut symbols name from behind
+      | false ↦ λ e found. absurd cc
+    ]) refl
 
 -- ---- the same in bytes
 -- how many bytes stand before the part, and how many it has
-record AreLengths (pieces : List Piece) (name from behind : List ℕ) (is : IsCutFrom pieces (chars name) (chars from) (chars behind)) : Type 0 where
+record AreLengths (symbols : List Symbol) (name from behind : List ℕ) (is : IsCutFrom symbols (chars name) (chars from) (chars behind)) : Type 0 where
   to_part : length name ≡ length (encode_utf8_all is.before) + length from
   behind_part : length from ≡ length (encode_utf8_all is.part) + length behind
 
-lengths : (pieces : List Piece) (name from behind : List ℕ) → IsUtf8 name → IsUtf8 from → IsUtf8 behind → (is : IsCutFrom pieces (chars name) (chars from) (chars behind)) →
-    AreLengths pieces name from behind is
-lengths pieces name from behind name_utf8 from_utf8 behind_utf8 is =
+lengths : (symbols : List Symbol) (name from behind : List ℕ) → IsUtf8 name → IsUtf8 from → IsUtf8 behind → (is : IsCutFrom symbols (chars name) (chars from) (chars behind)) →
+    AreLengths symbols name from behind is
+lengths symbols name from behind name_utf8 from_utf8 behind_utf8 is =
     let from_bytes : from ≡ encode_utf8_all is.part ++ behind =
     sym (encodes-chars from from_utf8) ∙ ap encode_utf8_all is.from_is ∙ encodes-append is.part (chars behind) ∙ ap (λ b. encode_utf8_all is.part ++ b) (encodes-chars behind behind_utf8) in
     let name_bytes : name ≡ encode_utf8_all is.before ++ from =
@@ -257,54 +252,28 @@ lengths pieces name from behind name_utf8 from_utf8 behind_utf8 is =
 abbrev pub span_between : List ℕ → List ℕ → List ℕ → Span
 span_between name from behind = span (length name - length from) (length name - length behind)
 
--- what is known of the part
-pub record IsAnswer (pieces : List Piece) (name : List ℕ) (span : Span) : Type 0 where
-  pub value : Some span ≡ matched_part pieces name
-  pub some : true ≡ (matches pieces (chars name) && not (list_all is_literal pieces))
-  pub cut : IsMatchedPart pieces (chars name) span
-
-pub same_answer : (pieces others : List Piece) (name other : List ℕ) (span : Span) → pieces ≡ others → name ≡ other → IsAnswer pieces name span → IsAnswer others other span
-same_answer pieces others name other span same_pieces same_name is =
-    let P : List Piece → Type 0 = λ p. IsAnswer p other span in
-    let Q : List ℕ → Type 0 = λ n. IsAnswer pieces n span in
-    subst P same_pieces (subst Q same_name is)
-
 -- what is known of the part's ends
-pub record IsPart (pieces : List Piece) (name from behind : List ℕ) : Type 0 where
+pub record IsPart (symbols : List Symbol) (name from behind : List ℕ) : Type 0 where
   pub from_within : length from ≤ length name
   pub behind_within : length behind ≤ length name
-  pub answer : IsAnswer pieces name (span_between name from behind)
+  pub value : Some (span_between name from behind) ≡ matched_part symbols name
+  pub cut : IsMatchedPart symbols (chars name) (span_between name from behind)
 
-span_value : (pieces : List Piece) (name from behind : List ℕ) → IsUtf8 from → IsUtf8 behind → matches pieces (chars name) ≡ true → IsPartOf pieces (chars name) (chars from) (chars behind) →
-    matched_part pieces name ≡ Some (span_between name from behind)
-span_value pieces name from behind from_utf8 behind_utf8 matched found =
-    let in_name : List ℕ × List ℕ → Span = λ part. span (place (length name) part.0) (place (length name) part.1) in
-    ap (λ b. if b then option_map in_name (part_of pieces (chars name)) else None) matched
-    ∙ ap (option_map in_name) found
-    ∙ ap (λ t. Some (span (length name - length t) (place (length name) (chars behind)))) (encodes-chars from from_utf8)
-    ∙ ap (λ t. Some (span (length name - length from) (length name - length t))) (encodes-chars behind behind_utf8)
-
-pub is_part : (pieces : List Piece) (name from behind : List ℕ) → IsUtf8 name → IsUtf8 from → IsUtf8 behind → matches pieces (chars name) ≡ true →
-    IsPartOf pieces (chars name) (chars from) (chars behind) → IsPart pieces name from behind
-is_part pieces name from behind name_utf8 from_utf8 behind_utf8 matched found =
-    let is = part_is_cut pieces (chars name) (chars from) (chars behind) matched found in
-    let are = lengths pieces name from behind name_utf8 from_utf8 behind_utf8 is in
+pub is_part : (symbols : List Symbol) (name from behind : List ℕ) → IsUtf8 name → IsUtf8 from → IsUtf8 behind → part_of symbols (chars name) ≡ Some (chars from, chars behind) →
+    IsPart symbols name from behind
+is_part symbols name from behind name_utf8 from_utf8 behind_utf8 found =
+    let is = part_is_cut symbols (chars name) (chars from) (chars behind) found in
+    let are = lengths symbols name from behind name_utf8 from_utf8 behind_utf8 is in
     let to_part = are.to_part in
     let behind_part = are.behind_part in
+    let in_name : List ℕ × List ℕ → Span = λ part. span (place (length name) part.0) (place (length name) part.1) in
     record {
       from_within = omega arith;
       behind_within = omega arith;
-      answer = record {
-        value = sym (span_value pieces name from behind from_utf8 behind_utf8 matched found);
-        some = sym (ap (λ b. b && not (list_all is_literal pieces)) matched ∙ sym (part_is_some pieces (chars name) matched) ∙ ap is_some found);
-        cut = record { before = is.before; part = is.part; rest = chars behind; cut = is.cut; from = omega arith; to = omega arith };
-      };
+      value = sym (
+          ap (option_map in_name) found
+          ∙ ap (λ t. Some (span (length name - length t) (place (length name) (chars behind)))) (encodes-chars from from_utf8)
+          ∙ ap (λ t. Some (span (length name - length from) (length name - length t))) (encodes-chars behind behind_utf8)
+          );
+      cut = record { before = is.before; part = is.part; rest = chars behind; cut = is.cut; from = omega arith; to = omega arith };
     }
-
--- a name that matches and has no part: the pieces have no operator
-pub no_part : (pieces others : List Piece) (name other : List ℕ) → pieces ≡ others → name ≡ other → matches pieces (chars name) ≡ true → part_of pieces (chars name) ≡ None →
-    false ≡ (matches others (chars other) && not (list_all is_literal others))
-no_part pieces others name other same_pieces same_name matched none =
-    sym (ap (λ b. b && not (list_all is_literal pieces)) matched ∙ sym (part_is_some pieces (chars name) matched) ∙ ap is_some none)
-    ∙ ap (λ n. matches pieces (chars n) && not (list_all is_literal pieces)) same_name
-    ∙ ap (λ p. matches p (chars other) && not (list_all is_literal p)) same_pieces

@@ -1,4 +1,4 @@
--- The pieces of a pattern, one after another.
+-- The symbols of a pattern, one after another.
 use Rattle.std.proofs.Common.{◌≡◌, ◌≢◌, ℕ, zero, suc, ◌+◌, Bool, true, false, List, [], ◌∷◌, ◌++◌, take, drop, Some, None, Ok, Err, Result, if◌then◌else◌, eqb, refl, sym, ap, ◌∙◌, append_assoc, arith}
 use Rattle.std.proofs.lemmas.List.{drop-drop}
 use Rattle.std.proofs.lemmas.Bool.{ne_eqb}
@@ -7,10 +7,10 @@ use Rattle.std.specs.Option.{option_map}
 use Rattle.tup_lex.specs.Word.{begins_with}
 use Rattle.tup_glob.specs.declared.fault.GlobFault.{GlobFault}
 use Rattle.tup_glob.specs.declared.fault.GlobFault.TheVariants.{OpenBracket}
-use Rattle.tup_glob.specs.declared.piece.Piece.{Piece}
-use Rattle.tup_glob.specs.declared.piece.Piece.TheVariants.{Set}
-use Rattle.tup_glob.specs.declared.piece.Range.{Range}
-use Rattle.tup_glob.specs.Read.{members, inner_len, set_of, longer, set_behind, piece_of, onto, pieces_behind, Leaves}
+use Rattle.tup_glob.specs.declared.symbol.Symbol.{Symbol}
+use Rattle.tup_glob.specs.declared.symbol.Symbol.TheVariants.{Set}
+use Rattle.tup_glob.specs.declared.symbol.Range.{Range}
+use Rattle.tup_glob.specs.Read.{members, inner_len, set_of, longer, set_behind, symbol_of, onto, symbols_behind, Leaves}
 
 -- ---- a set
 set_from : (negated : Bool) (text : List ℕ) (n : ℕ) → inner_len text ≡ Some n → set_of negated text ≡ Some (Set negated (members (take n text)), n + 1)
@@ -44,24 +44,24 @@ pub bracket_later : (rest behind : List ℕ) (n char : ℕ) → rest ≡ char �
 bracket_later rest behind n char next other =
     ap (position_from (λ c. eqb c 93) n) next ∙ ap (λ b. if b then Some n else position_from (λ c. eqb c 93) (n + 1) behind) (ne_eqb char 93 other)
 
--- ---- the pieces
-pub pieces_skip : (n : ℕ) (text : List ℕ) → pieces_behind n text ≡ pieces_behind 0 (drop n text)
-pieces_skip zero text = refl
-pieces_skip (suc n) [] = refl
-pieces_skip (suc n) (char ∷ more) = pieces_skip n more
+-- ---- the symbols
+pub symbols_skip : (n : ℕ) (text : List ℕ) → symbols_behind n text ≡ symbols_behind 0 (drop n text)
+symbols_skip zero text = refl
+symbols_skip (suc n) [] = refl
+symbols_skip (suc n) (char ∷ more) = symbols_skip n more
 
-onto-onto : (front more : List Piece) (pieces : Result (List Piece) GlobFault) → onto front (onto more pieces) ≡ onto (front ++ more) pieces
-onto-onto front more (Ok pieces) = ap (λ p. Ok p) (sym (append_assoc front more pieces))
+onto-onto : (front more : List Symbol) (symbols : Result (List Symbol) GlobFault) → onto front (onto more symbols) ≡ onto (front ++ more) symbols
+onto-onto front more (Ok symbols) = ap (λ p. Ok p) (sym (append_assoc front more symbols))
 onto-onto front more (Err fault) = refl
 
--- one piece more
-pub pieces_step : (rest more behind : List ℕ) (char : ℕ) (piece : Piece) → rest ≡ char ∷ more → Leaves (piece_of char more) more piece behind →
-    pieces_behind 0 rest ≡ onto (piece ∷ []) (pieces_behind 0 behind)
-pieces_step rest more behind char piece next (n, found, is_behind) =
-    ap (pieces_behind 0) next
-    ∙ ap (λ o. elim o [ Some (piece, k) ↦ onto (piece ∷ []) (pieces_behind k more) | None ↦ Err OpenBracket ]) found
-    ∙ ap (onto (piece ∷ [])) (pieces_skip n more ∙ ap (pieces_behind 0) (sym is_behind))
+-- one symbol more
+pub symbols_step : (rest more behind : List ℕ) (char : ℕ) (symbol : Symbol) → rest ≡ char ∷ more → Leaves (symbol_of char more) more symbol behind →
+    symbols_behind 0 rest ≡ onto (symbol ∷ []) (symbols_behind 0 behind)
+symbols_step rest more behind char symbol next (n, found, is_behind) =
+    ap (symbols_behind 0) next
+    ∙ ap (λ o. elim o [ Some (symbol, k) ↦ onto (symbol ∷ []) (symbols_behind k more) | None ↦ Err OpenBracket ]) found
+    ∙ ap (onto (symbol ∷ [])) (symbols_skip n more ∙ ap (symbols_behind 0) (sym is_behind))
 
-pub pieces_next : (all : List Piece) (rest more behind : List ℕ) (char : ℕ) (piece : Piece) → rest ≡ char ∷ more → Leaves (piece_of char more) more piece behind →
-    onto all (pieces_behind 0 rest) ≡ onto (all ++ piece ∷ []) (pieces_behind 0 behind)
-pieces_next all rest more behind char piece next leaves = ap (onto all) (pieces_step rest more behind char piece next leaves) ∙ onto-onto all (piece ∷ []) (pieces_behind 0 behind)
+pub symbols_next : (all : List Symbol) (rest more behind : List ℕ) (char : ℕ) (symbol : Symbol) → rest ≡ char ∷ more → Leaves (symbol_of char more) more symbol behind →
+    onto all (symbols_behind 0 rest) ≡ onto (all ++ symbol ∷ []) (symbols_behind 0 behind)
+symbols_next all rest more behind char symbol next leaves = ap (onto all) (symbols_step rest more behind char symbol next leaves) ∙ onto-onto all (symbol ∷ []) (symbols_behind 0 behind)

@@ -1,20 +1,19 @@
--- A pattern is read to the pieces that it spells, and to no others.
+-- A pattern is read to the symbols that it spells, and to no others.
 use Rattle.std.proofs.Common.{◌≡◌, ◌≢◌, ◌↔◌, ℕ, zero, suc, ◌+◌, Bool, true, false, List, [], ◌∷◌, ◌++◌, length, take, drop, All, Option, Some, None, Ok, Err, Result, if◌then◌else◌, eqb, refl, sym, ap, ◌∙◌, subst, add-one, append_assoc, length-append, take-append-drop, arith}
-use borrow.Author.Tests.{eqb-true, eqb-false}
 use Rattle.std.proofs.Math.Seq.{take-append_seam, take-append-add, drop-append_seam}
-use Rattle.std.proofs.lemmas.Bool.{ne_eqb}
+use Rattle.std.proofs.lemmas.Bool.{eqb-true, eqb-false, ne_eqb}
 use Rattle.std.proofs.lemmas.List.Elements.{All-nil, All-cons, All-head, All-tail}
 use Rattle.std.specs.List.{position_from}
 use Rattle.std.specs.Option.{option_map}
 use Rattle.tup_lex.specs.Word.{begins_with}
 use Rattle.tup_glob.specs.declared.fault.GlobFault.{GlobFault}
 use Rattle.tup_glob.specs.declared.fault.GlobFault.TheVariants.{OpenBracket}
-use Rattle.tup_glob.specs.declared.piece.Piece.{Piece}
-use Rattle.tup_glob.specs.declared.piece.Piece.TheVariants.{Char, Run, One, Set}
-use Rattle.tup_glob.specs.declared.piece.Range.{Range}
-use Rattle.tup_glob.specs.Read.{members, inner_len, set_of, longer, set_behind, piece_of, onto, pieces_behind}
+use Rattle.tup_glob.specs.declared.symbol.Symbol.{Symbol}
+use Rattle.tup_glob.specs.declared.symbol.Symbol.TheVariants.{Char, Run, One, Set}
+use Rattle.tup_glob.specs.declared.symbol.Range.{Range}
+use Rattle.tup_glob.specs.Read.{members, inner_len, set_of, longer, set_behind, symbol_of, onto, symbols_behind}
 use Rattle.tup_glob.specs.Spelling.{IsInner, caret, Writes, Spells}
-use Rattle.tup_glob.proofs.Reading.{pieces_step}
+use Rattle.tup_glob.proofs.Reading.{symbols_step}
 
 abbrev is_bracket : ℕ → Bool
 is_bracket char = eqb char 93
@@ -52,24 +51,24 @@ bracket_found (char ∷ front) back start none =
     ∙ bracket_found front back (start + 1) (All-tail (λ c. c ≢ 93) char front none) ∙ ap (λ n. Some n) further
 
 -- ---- a set that is read is written so
-record IsSetText (negated : Bool) (text : List ℕ) (piece : Piece) (n : ℕ) : Type 0 where
+record IsSetText (negated : Bool) (text : List ℕ) (symbol : Symbol) (n : ℕ) : Type 0 where
   inner : List ℕ
   is_inner : IsInner negated inner
-  piece_is : Set negated (members inner) ≡ piece
+  symbol_is : Set negated (members inner) ≡ symbol
   own : take n text ≡ inner ++ 93 ∷ []
 
-same_pair : (x y : Piece × ℕ) → Some x ≡ Some y → (x.0 ≡ y.0) × (x.1 ≡ y.1)
+same_pair : (x y : Symbol × ℕ) → Some x ≡ Some y → (x.0 ≡ y.0) × (x.1 ≡ y.1)
 same_pair x y e = let same : x ≡ y = cc in (ap (λ p. p.0) same, ap (λ p. p.1) same)
 
-abbrev set_up_to : Bool → List ℕ → Option ℕ → Option (Piece × ℕ)
+abbrev set_up_to : Bool → List ℕ → Option ℕ → Option (Symbol × ℕ)
 set_up_to negated text found = option_map (λ k. (Set negated (members (take k text)), k + 1)) found
 
-set_text_at : (negated : Bool) (first : ℕ) (more : List ℕ) (piece : Piece) (n : ℕ) (found : Option ℕ) → position_from is_bracket 1 more ≡ found → (negated ≡ false → first ≢ 94) →
-    set_up_to negated (first ∷ more) found ≡ Some (piece, n) → IsSetText negated (first ∷ more) piece n
-set_text_at negated first more piece n None found may e = absurd cc
-set_text_at negated first more piece n (Some k) found may e =
+set_text_at : (negated : Bool) (first : ℕ) (more : List ℕ) (symbol : Symbol) (n : ℕ) (found : Option ℕ) → position_from is_bracket 1 more ≡ found → (negated ≡ false → first ≢ 94) →
+    set_up_to negated (first ∷ more) found ≡ Some (symbol, n) → IsSetText negated (first ∷ more) symbol n
+set_text_at negated first more symbol n None found may e = absurd cc
+set_text_at negated first more symbol n (Some k) found may e =
     let at = bracket_at more 1 k found in
-    let same = same_pair (Set negated (members (take k (first ∷ more))), k + 1) (piece, n) e in
+    let same = same_pair (Set negated (members (take k (first ∷ more))), k + 1) (symbol, n) e in
     let place = at.place in
     let ends = same.1 in
     let k_is : k ≡ suc (length at.front) = omega arith in
@@ -79,86 +78,86 @@ set_text_at negated first more piece n (Some k) found may e =
     record {
       inner = first ∷ at.front;
       is_inner = (may, at.none);
-      piece_is = ap (λ t. Set negated (members t)) (sym inner_is) ∙ same.0;
+      symbol_is = ap (λ t. Set negated (members t)) (sym inner_is) ∙ same.0;
       own = ap (λ m. take m (first ∷ more)) n_is ∙ ap (λ t. first ∷ take (length at.front + 1) t) at.whole ∙ ap (λ t. first ∷ t) (take-append-add at.front (93 ∷ at.back) 1);
     }
 
-set_text : (negated : Bool) (text : List ℕ) (piece : Piece) (n : ℕ) → (negated ≡ false → begins_with 94 text ≡ false) → set_of negated text ≡ Some (piece, n) → IsSetText negated text piece n
-set_text negated [] piece n may e = absurd cc
-set_text negated (first ∷ more) piece n may e = set_text_at negated first more piece n (position_from is_bracket 1 more) refl (λ no. eqb-false first 94 (may no)) e
+set_text : (negated : Bool) (text : List ℕ) (symbol : Symbol) (n : ℕ) → (negated ≡ false → begins_with 94 text ≡ false) → set_of negated text ≡ Some (symbol, n) → IsSetText negated text symbol n
+set_text negated [] symbol n may e = absurd cc
+set_text negated (first ∷ more) symbol n may e = set_text_at negated first more symbol n (position_from is_bracket 1 more) refl (λ no. eqb-false first 94 (may no)) e
 
-set_writes : (negated : Bool) (text own : List ℕ) (piece : Piece) (n : ℕ) → IsSetText negated text piece n → own ≡ 91 ∷ (caret negated ++ take n text) → Writes piece own
-set_writes negated text own piece n is whole =
-    let P : Piece → Type 0 = λ p. Writes p own in
-    subst P is.piece_is (is.inner, whole ∙ ap (λ t. 91 ∷ (caret negated ++ t)) is.own, is.is_inner, refl)
+set_writes : (negated : Bool) (text own : List ℕ) (symbol : Symbol) (n : ℕ) → IsSetText negated text symbol n → own ≡ 91 ∷ (caret negated ++ take n text) → Writes symbol own
+set_writes negated text own symbol n is whole =
+    let P : Symbol → Type 0 = λ p. Writes p own in
+    subst P is.symbol_is (is.inner, whole ∙ ap (λ t. 91 ∷ (caret negated ++ t)) is.own, is.is_inner, refl)
 
-shorter : (found : Option (Piece × ℕ)) (piece : Piece) (n : ℕ) → longer found ≡ Some (piece, n) → (m : ℕ) × (found ≡ Some (piece, m)) × (n ≡ m + 1)
-shorter None piece n e = absurd cc
-shorter (Some (other, m)) piece n e =
-    let same = same_pair (other, m + 1) (piece, n) e in
+shorter : (found : Option (Symbol × ℕ)) (symbol : Symbol) (n : ℕ) → longer found ≡ Some (symbol, n) → (m : ℕ) × (found ≡ Some (symbol, m)) × (n ≡ m + 1)
+shorter None symbol n e = absurd cc
+shorter (Some (other, m)) symbol n e =
+    let same = same_pair (other, m + 1) (symbol, n) e in
     (m, ap (λ p. Some (p, m)) same.0, sym same.1)
 
-set_behind_writes : (more : List ℕ) (piece : Piece) (n : ℕ) (negated : Bool) → begins_with 94 more ≡ negated → (if negated then longer (set_of true (drop 1 more)) else set_of false more) ≡ Some (piece, n) →
-    Writes piece (91 ∷ take n more)
-set_behind_writes more piece n false begins e = set_writes false more (91 ∷ take n more) piece n (set_text false more piece n (λ no. begins) e) refl
-set_behind_writes [] piece n true begins e = absurd cc
-set_behind_writes (first ∷ more) piece n true begins e =
-    let found = shorter (set_of true more) piece n e in
+set_behind_writes : (more : List ℕ) (symbol : Symbol) (n : ℕ) (negated : Bool) → begins_with 94 more ≡ negated → (if negated then longer (set_of true (drop 1 more)) else set_of false more) ≡ Some (symbol, n) →
+    Writes symbol (91 ∷ take n more)
+set_behind_writes more symbol n false begins e = set_writes false more (91 ∷ take n more) symbol n (set_text false more symbol n (λ no. begins) e) refl
+set_behind_writes [] symbol n true begins e = absurd cc
+set_behind_writes (first ∷ more) symbol n true begins e =
+    let found = shorter (set_of true more) symbol n e in
     let sign : first ≡ 94 = eqb-true first 94 begins in
     let n_is : n ≡ suc found.0 = found.2 ∙ add-one found.0 in
-    set_writes true more (91 ∷ take n (first ∷ more)) piece found.0 (set_text true more piece found.0 (λ no. absurd cc) found.1)
+    set_writes true more (91 ∷ take n (first ∷ more)) symbol found.0 (set_text true more symbol found.0 (λ no. absurd cc) found.1)
     (ap (λ m. 91 ∷ take m (first ∷ more)) n_is ∙ ap (λ c. 91 ∷ c ∷ take found.0 more) sign)
 
--- ---- and so is each other piece
-abbrev by_tests : Bool → Bool → Bool → ℕ → List ℕ → Option (Piece × ℕ)
+-- ---- and so is each other symbol
+abbrev by_tests : Bool → Bool → Bool → ℕ → List ℕ → Option (Symbol × ℕ)
 by_tests star any bracket char more = if star then Some (Run, 0) else if any then Some (One, 0) else if bracket then set_behind more else Some (Char char, 0)
 
-writes_one : (p piece : Piece) (n char : ℕ) (more : List ℕ) → ◌≡◌ {A = Option (Piece × ℕ)} (Some (p, 0)) (Some (piece, n)) → Writes p (char ∷ []) → Writes piece (char ∷ take n more)
-writes_one p piece n char more e writes =
-    let same = same_pair (p, 0) (piece, n) e in
-    let P : Piece → Type 0 = λ q. Writes q (char ∷ take n more) in
+writes_one : (p symbol : Symbol) (n char : ℕ) (more : List ℕ) → ◌≡◌ {A = Option (Symbol × ℕ)} (Some (p, 0)) (Some (symbol, n)) → Writes p (char ∷ []) → Writes symbol (char ∷ take n more)
+writes_one p symbol n char more e writes =
+    let same = same_pair (p, 0) (symbol, n) e in
+    let P : Symbol → Type 0 = λ q. Writes q (char ∷ take n more) in
     let Q : ℕ → Type 0 = λ m. Writes p (char ∷ take m more) in
     subst P same.0 (subst Q same.1 writes)
 
-writes_by_tests : (star any bracket : Bool) (char : ℕ) (more : List ℕ) (piece : Piece) (n : ℕ) → eqb char 42 ≡ star → eqb char 63 ≡ any → eqb char 91 ≡ bracket →
-    by_tests star any bracket char more ≡ Some (piece, n) → Writes piece (char ∷ take n more)
-writes_by_tests true any bracket char more piece n is_star is_any is_open e = writes_one Run piece n char more e (ap (λ c. c ∷ []) (eqb-true char 42 is_star))
-writes_by_tests false true bracket char more piece n is_star is_any is_open e = writes_one One piece n char more e (ap (λ c. c ∷ []) (eqb-true char 63 is_any))
-writes_by_tests false false true char more piece n is_star is_any is_open e =
-    let P : ℕ → Type 0 = λ c. Writes piece (c ∷ take n more) in
-    subst P (sym (eqb-true char 91 is_open)) (set_behind_writes more piece n (begins_with 94 more) refl e)
-writes_by_tests false false false char more piece n is_star is_any is_open e =
-    writes_one (Char char) piece n char more e (refl, eqb-false char 42 is_star, eqb-false char 63 is_any, eqb-false char 91 is_open)
+writes_by_tests : (star any bracket : Bool) (char : ℕ) (more : List ℕ) (symbol : Symbol) (n : ℕ) → eqb char 42 ≡ star → eqb char 63 ≡ any → eqb char 91 ≡ bracket →
+    by_tests star any bracket char more ≡ Some (symbol, n) → Writes symbol (char ∷ take n more)
+writes_by_tests true any bracket char more symbol n is_star is_any is_open e = writes_one Run symbol n char more e (ap (λ c. c ∷ []) (eqb-true char 42 is_star))
+writes_by_tests false true bracket char more symbol n is_star is_any is_open e = writes_one One symbol n char more e (ap (λ c. c ∷ []) (eqb-true char 63 is_any))
+writes_by_tests false false true char more symbol n is_star is_any is_open e =
+    let P : ℕ → Type 0 = λ c. Writes symbol (c ∷ take n more) in
+    subst P (sym (eqb-true char 91 is_open)) (set_behind_writes more symbol n (begins_with 94 more) refl e)
+writes_by_tests false false false char more symbol n is_star is_any is_open e =
+    writes_one (Char char) symbol n char more e (refl, eqb-false char 42 is_star, eqb-false char 63 is_any, eqb-false char 91 is_open)
 
-piece_writes : (char : ℕ) (more : List ℕ) (piece : Piece) (n : ℕ) → piece_of char more ≡ Some (piece, n) → Writes piece (char ∷ take n more)
-piece_writes char more piece n e = writes_by_tests (eqb char 42) (eqb char 63) (eqb char 91) char more piece n refl refl refl e
+symbol_writes : (char : ℕ) (more : List ℕ) (symbol : Symbol) (n : ℕ) → symbol_of char more ≡ Some (symbol, n) → Writes symbol (char ∷ take n more)
+symbol_writes char more symbol n e = writes_by_tests (eqb char 42) (eqb char 63) (eqb char 91) char more symbol n refl refl refl e
 
 -- ---- what is read is spelled
-abbrev read_on : Option (Piece × ℕ) → List ℕ → Result (List Piece) GlobFault
-read_on found more = elim found [ Some (piece, n) ↦ onto (piece ∷ []) (pieces_behind n more) | None ↦ Err OpenBracket ]
+abbrev read_on : Option (Symbol × ℕ) → List ℕ → Result (List Symbol) GlobFault
+read_on found more = elim found [ Some (symbol, n) ↦ onto (symbol ∷ []) (symbols_behind n more) | None ↦ Err OpenBracket ]
 
-spelled_more : (char : ℕ) (more : List ℕ) (pieces : List Piece) (piece : Piece) (n : ℕ) (others : Result (List Piece) GlobFault) → piece_of char more ≡ Some (piece, n) → pieces_behind n more ≡ others →
-    onto (piece ∷ []) others ≡ Ok pieces → ((others : List Piece) → pieces_behind n more ≡ Ok others → Spells others (drop n more)) → Spells pieces (char ∷ more)
-spelled_more char more pieces piece n (Err fault) found rest e later = absurd cc
-spelled_more char more pieces piece n (Ok others) found rest e later =
-    let same : piece ∷ others ≡ pieces = cc in
-    let P : List Piece → Type 0 = λ p. Spells p (char ∷ more) in
-    subst P same (char ∷ take n more, drop n more, ap (λ t. char ∷ t) (sym (take-append-drop n more)), piece_writes char more piece n found, later others rest)
+spelled_more : (char : ℕ) (more : List ℕ) (symbols : List Symbol) (symbol : Symbol) (n : ℕ) (others : Result (List Symbol) GlobFault) → symbol_of char more ≡ Some (symbol, n) → symbols_behind n more ≡ others →
+    onto (symbol ∷ []) others ≡ Ok symbols → ((others : List Symbol) → symbols_behind n more ≡ Ok others → Spells others (drop n more)) → Spells symbols (char ∷ more)
+spelled_more char more symbols symbol n (Err fault) found rest e later = absurd cc
+spelled_more char more symbols symbol n (Ok others) found rest e later =
+    let same : symbol ∷ others ≡ symbols = cc in
+    let P : List Symbol → Type 0 = λ p. Spells p (char ∷ more) in
+    subst P same (char ∷ take n more, drop n more, ap (λ t. char ∷ t) (sym (take-append-drop n more)), symbol_writes char more symbol n found, later others rest)
 
-spelled_step : (char : ℕ) (more : List ℕ) (pieces : List Piece) (found : Option (Piece × ℕ)) → piece_of char more ≡ found → read_on found more ≡ Ok pieces →
-    ((n : ℕ) (others : List Piece) → pieces_behind n more ≡ Ok others → Spells others (drop n more)) → Spells pieces (char ∷ more)
-spelled_step char more pieces None found e later = absurd cc
-spelled_step char more pieces (Some (piece, n)) found e later = spelled_more char more pieces piece n (pieces_behind n more) found refl e (later n)
+spelled_step : (char : ℕ) (more : List ℕ) (symbols : List Symbol) (found : Option (Symbol × ℕ)) → symbol_of char more ≡ found → read_on found more ≡ Ok symbols →
+    ((n : ℕ) (others : List Symbol) → symbols_behind n more ≡ Ok others → Spells others (drop n more)) → Spells symbols (char ∷ more)
+spelled_step char more symbols None found e later = absurd cc
+spelled_step char more symbols (Some (symbol, n)) found e later = spelled_more char more symbols symbol n (symbols_behind n more) found refl e (later n)
 
-none_spelled : (pieces : List Piece) → ◌≡◌ {A = Result (List Piece) GlobFault} (Ok []) (Ok pieces) → Spells pieces []
+none_spelled : (symbols : List Symbol) → ◌≡◌ {A = Result (List Symbol) GlobFault} (Ok []) (Ok symbols) → Spells symbols []
 none_spelled [] e = refl
-none_spelled (piece ∷ more) e = absurd cc
+none_spelled (symbol ∷ more) e = absurd cc
 
-spelled_behind : (n : ℕ) (text : List ℕ) (pieces : List Piece) → pieces_behind n text ≡ Ok pieces → Spells pieces (drop n text)
-spelled_behind zero [] pieces e = none_spelled pieces e
-spelled_behind (suc n) [] pieces e = none_spelled pieces e
-spelled_behind (suc n) (char ∷ more) pieces e = spelled_behind n more pieces e
-spelled_behind zero (char ∷ more) pieces e = spelled_step char more pieces (piece_of char more) refl e (λ n others e. spelled_behind n more others e)
+spelled_behind : (n : ℕ) (text : List ℕ) (symbols : List Symbol) → symbols_behind n text ≡ Ok symbols → Spells symbols (drop n text)
+spelled_behind zero [] symbols e = none_spelled symbols e
+spelled_behind (suc n) [] symbols e = none_spelled symbols e
+spelled_behind (suc n) (char ∷ more) symbols e = spelled_behind n more symbols e
+spelled_behind zero (char ∷ more) symbols e = spelled_step char more symbols (symbol_of char more) refl e (λ n others e. spelled_behind n more others e)
 
 -- ---- a set that is written is read so
 read_set : (negated : Bool) (first : ℕ) (more rest : List ℕ) → NoBracket more →
@@ -172,11 +171,11 @@ read_set negated first more rest none =
     ap (set_up_to negated text) found ∙ ap (λ t. Some (Set negated (members t), suc (length more) + 1)) inner ∙ ap (λ n. Some (Set negated (members (first ∷ more)), n)) long
 
 -- ---- what is spelled is read
-record IsRead (piece : Piece) (own : List ℕ) : Type 0 where
+record IsRead (symbol : Symbol) (own : List ℕ) : Type 0 where
   char : ℕ
   tail : List ℕ
   whole : own ≡ char ∷ tail
-  read : (rest : List ℕ) → piece_of char (tail ++ rest) ≡ Some (piece, length tail)
+  read : (rest : List ℕ) → symbol_of char (tail ++ rest) ≡ Some (symbol, length tail)
 
 read_written_set : (negated : Bool) (held : List Range) (own inner : List ℕ) → own ≡ 91 ∷ (caret negated ++ (inner ++ 93 ∷ [])) → IsInner negated inner → held ≡ members inner → IsRead (Set negated held) own
 read_written_set negated held own [] whole is same = absurd is
@@ -197,7 +196,7 @@ read_written_set true held own (first ∷ more) whole is same = record {
       ∙ ap (λ n. Some (Set true held, n)) (add-one (length (first ∷ (more ++ 93 ∷ []))));
 }
 
-read_written : (piece : Piece) (own : List ℕ) → Writes piece own → IsRead piece own
+read_written : (symbol : Symbol) (own : List ℕ) → Writes symbol own → IsRead symbol own
 read_written (Char char) own (whole, no_star, no_any, no_open) = record {
   char = char;
   tail = [];
@@ -211,13 +210,13 @@ read_written Run own whole = record { char = 42; tail = []; whole = whole; read 
 read_written One own whole = record { char = 63; tail = []; whole = whole; read = λ rest. refl }
 read_written (Set negated held) own (inner, whole, is, same) = read_written_set negated held own inner whole is same
 
-read_spelled : (pieces : List Piece) (text : List ℕ) → Spells pieces text → pieces_behind 0 text ≡ Ok pieces
-read_spelled [] text e = ap (pieces_behind 0) e
-read_spelled (piece ∷ more) text (own, rest, whole, writes, spells) =
-    let is = read_written piece own writes in
+read_spelled : (symbols : List Symbol) (text : List ℕ) → Spells symbols text → symbols_behind 0 text ≡ Ok symbols
+read_spelled [] text e = ap (symbols_behind 0) e
+read_spelled (symbol ∷ more) text (own, rest, whole, writes, spells) =
+    let is = read_written symbol own writes in
     let next : text ≡ is.char ∷ (is.tail ++ rest) = whole ∙ ap (λ t. t ++ rest) is.whole in
-    pieces_step text (is.tail ++ rest) rest is.char piece next (length is.tail, is.read rest, sym (drop-append_seam is.tail rest)) ∙ ap (onto (piece ∷ [])) (read_spelled more rest spells)
+    symbols_step text (is.tail ++ rest) rest is.char symbol next (length is.tail, is.read rest, sym (drop-append_seam is.tail rest)) ∙ ap (onto (symbol ∷ [])) (read_spelled more rest spells)
 
--- a pattern has the pieces that it spells
-pub read_is_spelled : (text : List ℕ) (pieces : List Piece) → (pieces_behind 0 text ≡ Ok pieces) ↔ Spells pieces text
-read_is_spelled text pieces = (spelled_behind 0 text pieces, read_spelled pieces text)
+-- a pattern has the symbols that it spells
+pub read_is_spelled : (text : List ℕ) (symbols : List Symbol) → (symbols_behind 0 text ≡ Ok symbols) ↔ Spells symbols text
+read_is_spelled text symbols = (spelled_behind 0 text symbols, read_spelled symbols text)

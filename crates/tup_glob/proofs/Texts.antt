@@ -5,7 +5,7 @@ use Rattle.std.proofs.Math.Seq.{take-append_seam}
 use Rattle.std.proofs.lemmas.List.{drop-drop}
 use Rattle.std.proofs.lemmas.Str.{encodes-chars, encodes-append, encodes_same, chars-nil, IsCharBoundary-at_seam}
 use Rattle.std.specs.Str.{chars, IsUtf8, IsCharBoundary, encode_utf8_all}
-use Rattle.tup_glob.specs.declared.piece.Piece.{Piece}
+use Rattle.tup_glob.specs.declared.symbol.Symbol.{Symbol}
 use Rattle.tup_glob.specs.Fit.{fit}
 
 -- a text with no bytes is one with no characters
@@ -16,19 +16,19 @@ chars_of_none (byte ∷ more) none = absurd cc
 pub chars_of_some : (text : List ℕ) → IsUtf8 text → length text ≢ 0 → chars text ≢ []
 chars_of_some text utf8 some none = some (ap length (sym (encodes-chars text utf8) ∙ ap encode_utf8_all none))
 
--- ---- behind all pieces
+-- ---- behind all symbols
 fit_none : (name : List ℕ) → name ≢ [] → fit [] name ≡ None
 fit_none [] some = absurd (some refl)
 fit_none (char ∷ rest) some = refl
 
-pub fit_end : (pieces : List Piece) (k : ℕ) (rest : List ℕ) → length pieces ≤ k → length rest ≡ 0 → fit (drop k pieces) (chars rest) ≡ Some (chars rest)
-fit_end pieces k rest all none =
+pub fit_end : (symbols : List Symbol) (k : ℕ) (rest : List ℕ) → length symbols ≤ k → length rest ≡ 0 → fit (drop k symbols) (chars rest) ≡ Some (chars rest)
+fit_end symbols k rest all none =
     let empty = chars_of_none rest none in
-    ap (λ p. fit p (chars rest)) (drop_of_length-le pieces all) ∙ ap (fit []) empty ∙ ap (λ t. Some t) (sym empty)
+    ap (λ p. fit p (chars rest)) (drop_of_length-le symbols all) ∙ ap (fit []) empty ∙ ap (λ t. Some t) (sym empty)
 
-pub fit_not_end : (pieces : List Piece) (k : ℕ) (rest : List ℕ) → length pieces ≤ k → IsUtf8 rest → length rest ≢ 0 → fit (drop k pieces) (chars rest) ≡ None
-fit_not_end pieces k rest all utf8 some =
-    ap (λ p. fit p (chars rest)) (drop_of_length-le pieces all) ∙ fit_none (chars rest) (chars_of_some rest utf8 some)
+pub fit_not_end : (symbols : List Symbol) (k : ℕ) (rest : List ℕ) → length symbols ≤ k → IsUtf8 rest → length rest ≢ 0 → fit (drop k symbols) (chars rest) ≡ None
+fit_not_end symbols k rest all utf8 some =
+    ap (λ p. fit p (chars rest)) (drop_of_length-le symbols all) ∙ fit_none (chars rest) (chars_of_some rest utf8 some)
 
 -- ---- a text and the rest of it behind so many characters
 pub drop_next : (text behind : List ℕ) (n char : ℕ) → drop n text ≡ char ∷ behind → behind ≡ drop (n + 1) text

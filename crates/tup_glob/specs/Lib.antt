@@ -1,4 +1,4 @@
-pub mod Piece
+pub mod Symbol
 pub mod Read
 pub mod Match
 pub mod Fit

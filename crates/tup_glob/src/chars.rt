@@ -1,8 +1,9 @@
 //! Texts cut behind their first character.
-ghost use Rattle.std.specs.Prelude.{◌≡◌, [], ◌∷◌, drop, MatchOption};
+ghost use Rattle.std.specs.Prelude.{◌≡◌, [], ◌∷◌, false, MatchOption};
 ghost use Rattle.std.specs.Str.{chars};
+ghost use Rattle.tup_lex.specs.Word.{begins_with};
 
-// The first character of a text, and what follows it.
+/// The first character of a text, and what follows it.
 pub(crate) fn first_char(text: &str) -> Option<(char, &str)>
     ensures { MatchOption result (chars text.now ≡ [])
         (λ first. chars text.now ≡ first.0 ∷ chars first.1.now) }
@@ -12,12 +13,13 @@ pub(crate) fn first_char(text: &str) -> Option<(char, &str)>
     Some((first, rest.as_str()))
 }
 
-// A text without its first character, if it has one.
-pub(crate) fn behind_first(text: &str) -> &str
-    ensures { chars result.now ≡ drop 1 (chars text.now) }
+/// What follows a character in a text that begins with it.
+pub(crate) fn behind_char(char: char, text: &str) -> Option<&str>
+    ensures { MatchOption result (begins_with char (chars text.now) ≡ false)
+        (λ behind. chars text.now ≡ char ∷ chars behind.now) }
 {
     match first_char(text) {
-        Some((_, behind)) => behind,
-        None => text,
+        Some((first, behind)) if first == char => Some(behind),
+        _ => None,
     }
 }

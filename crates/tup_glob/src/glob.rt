@@ -5,22 +5,23 @@ ghost use Rattle.std.specs.Str.{chars};
 ghost use Rattle.tup_glob.specs.Cut.{CanBeCut, IsMatchedPart};
 ghost use Rattle.tup_glob.specs.Match.{matches as matched};
 ghost use Rattle.tup_glob.specs.Part.{matched_part};
-ghost use Rattle.tup_glob.specs.Piece.{is_literal};
-ghost use Rattle.tup_glob.specs.Read.{pieces_of};
+ghost use Rattle.tup_glob.specs.Symbol.{is_literal};
+ghost use Rattle.tup_glob.specs.Read.{symbols_of};
+ghost use Rattle.tup_path.specs.Gives.{GivesUnless};
 ghost use Rattle.tup_glob.specs.Spelling.{Spells};
 ghost use Rattle.tup_glob.specs.declared.fault.GlobFault.TheVariants.{Memory};
-ghost use Rattle.tup_glob.specs.declared.piece.Piece.{Piece};
+ghost use Rattle.tup_glob.specs.declared.symbol.Symbol.{Symbol};
 
 use crate::fault::GlobFault;
 use crate::fit::{matches, part};
-use crate::piece::Pieces;
-use crate::read::pieces;
+use crate::read::symbols;
+use crate::symbol::Symbols;
 use std::alloc::Global;
 use std::marker::Model;
 use tup_lex::Span;
 use tup_path::Text;
 
-/// A pattern that names match or don't. Contracts see its pieces.
+/// A pattern that names match or don't. Contracts see its symbols.
 ///
 /// In a set a `^` that comes first is the sign that it is negated. A `]` that comes first behind that is
 /// a member, and the next `]` closes the set. A `-` between two characters makes a range of them, which
@@ -28,40 +29,40 @@ use tup_path::Text;
 /// takes away another's meaning: a backslash stands for itself.
 #[derive(Debug, Drop)]
 pub struct Glob {
-    pieces: Pieces,
+    symbols: Symbols,
 }
 
 impl Model for Glob {
     ghost use Rattle.std.specs.Prelude.{List};
-    ghost use Rattle.tup_glob.specs.declared.piece.Piece.{Piece};
+    ghost use Rattle.tup_glob.specs.declared.symbol.Symbol.{Symbol};
 
-    ghost Value = { List Piece };
+    ghost Value = { List Symbol };
 
-    ghost view = { λ g. g.pieces };
+    ghost view = { λ g. g.symbols };
 }
 
 impl Glob {
     /// Reads a pattern. A `[` that no `]` closes is refused as `OpenBracket`.
     pub fn read(alloc: Global, pattern: &Text) -> Result<Glob, GlobFault>
-        ensures value { (result ≡ Err Memory) ⊎ (result ≡ pieces_of pattern.now) }
-        ensures spelled { (pieces : List Piece)
-            → ((pieces_of pattern.now ≡ Ok pieces) ↔ Spells pieces (chars pattern.now)) }
+        ensures value { GivesUnless result Memory (symbols_of pattern.now) }
+        ensures spelled { (symbols : List Symbol)
+            → ((symbols_of pattern.now ≡ Ok symbols) ↔ Spells symbols (chars pattern.now)) }
     {
         Ok(Glob {
-            pieces: pieces(alloc, pattern.as_str())?,
+            symbols: symbols(alloc, pattern.as_str())?,
         })
     }
 
     /// Whether the whole name matches. Letters differ from their capitals, and a dot in front is a
     /// character as any other.
     ///
-    /// It takes no memory. The steps grow as the number of pieces times the number of characters in the
+    /// It takes no memory. The steps grow as the number of symbols times the number of characters in the
     /// name, however many `*` there are.
     pub fn matches(&self, name: &Text) -> bool
         ensures value { result ≡ matched self.now (chars name.now) }
         ensures cut { IsTrue result ↔ CanBeCut self.now (chars name.now) }
     {
-        matches(self.pieces.as_slice(), name.as_str())
+        matches(self.symbols.as_slice(), name.as_str())
     }
 
     /// What the first operator of the pattern, a `*`, a `?` or a set, stands for in a name: its place in
@@ -76,12 +77,8 @@ impl Glob {
             ≡ (matched self.now (chars name.now) && not (list_all is_literal self.now)) }
         ensures cut { IfSome result (IsMatchedPart self.now (chars name.now)) }
     {
-        let pieces = self.pieces.as_slice();
         let name = name.as_str();
-        if !matches(pieces, name) {
-            return None;
-        }
-        let (from, behind) = part(pieces, name)?;
+        let (from, behind) = part(self.symbols.as_slice(), name)?;
         Some(Span {
             from: (name.len() - from.len()) as u32,
             to: (name.len() - behind.len()) as u32,
@@ -92,9 +89,9 @@ impl Glob {
     pub fn is_plain(&self) -> bool
         ensures { result ≡ list_all is_literal self.now }
     {
-        self.pieces
+        self.symbols
             .as_slice()
             .iter()
-            .all(|piece| piece.is_literal())
+            .all(|symbol| symbol.is_literal())
     }
 }

@@ -9,12 +9,9 @@ mod chars;
 mod fault;
 mod fit;
 mod glob;
-mod piece;
 mod read;
+mod symbol;
 
 pub use fault::GlobFault;
 pub use glob::Glob;
-pub use piece::{Piece, Pieces, Range, Ranges};
-
-#[cfg(test)]
-mod tests;
+pub use symbol::{Range, Ranges, Symbol, Symbols};

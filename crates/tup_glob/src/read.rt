@@ -1,46 +1,47 @@
-//! The pieces of a pattern.
+//! The symbols of a pattern.
 ghost use Rattle.std.specs.Prelude.{◌≡◌, ◌⊎◌, ◌≤◌, ◌+◌, ◌∷◌, ℕ, None, Some, length, drop, take, if◌then◌else◌, MatchOption, IfOk, IfErr};
 ghost use Rattle.std.specs.Str.{chars};
 ghost use Rattle.tup_lex.specs.Word.{begins_with};
-ghost use Rattle.tup_glob.specs.Read.{range, members as members_of, inner_len, set_behind, piece_of, pieces_of, Leaves};
+ghost use Rattle.tup_path.specs.Gives.{GivesUnless};
+ghost use Rattle.tup_glob.specs.Read.{range, members as members_of, inner_len, set_behind, symbol_of, symbols_of, Leaves};
 ghost use Rattle.tup_glob.specs.declared.fault.GlobFault.TheVariants.{Memory, OpenBracket};
 
 use crate::chars::first_char;
 use crate::fault::GlobFault;
-use crate::piece::{Piece, Pieces, Range, Ranges};
+use crate::symbol::{Range, Ranges, Symbol, Symbols};
 use std::alloc::Global;
 
-// The pieces of a pattern, in order.
-pub(crate) fn pieces(alloc: Global, pattern: &str) -> Result<Pieces, GlobFault>
-    ensures { (result ≡ Err Memory) ⊎ (result ≡ pieces_of pattern.now) }
+/// The symbols of a pattern, in order.
+pub(crate) fn symbols(alloc: Global, pattern: &str) -> Result<Symbols, GlobFault>
+    ensures { GivesUnless result Memory (symbols_of pattern.now) }
 {
-    let mut all = Pieces::new(alloc);
+    let mut all = Symbols::new(alloc);
     let mut rest = pattern;
     while let Some((char, more)) = first_char(rest) {
-        let (piece, behind) = piece(alloc, char, more)?;
-        all.push(piece)?;
+        let (symbol, behind) = symbol(alloc, char, more)?;
+        all.push(symbol)?;
         rest = behind;
     }
     Ok(all)
 }
 
-// The piece that begins with a character, and what follows it.
-fn piece(alloc: Global, char: char, more: &str) -> Result<(Piece, &str), GlobFault>
+/// The symbol that begins with a character, and what follows it.
+fn symbol(alloc: Global, char: char, more: &str) -> Result<(Symbol, &str), GlobFault>
     ensures ok { IfOk result (λ found.
-        Leaves (piece_of char (chars more.now)) (chars more.now) found.0 (chars found.1.now)) }
+        Leaves (symbol_of char (chars more.now)) (chars more.now) found.0 (chars found.1.now)) }
     ensures err { IfErr result (λ fault. (fault ≡ Memory)
-        ⊎ ((fault ≡ OpenBracket) × (piece_of char (chars more.now) ≡ None))) }
+        ⊎ ((fault ≡ OpenBracket) × (symbol_of char (chars more.now) ≡ None))) }
 {
     match char {
-        '*' => Ok((Piece::Run, more)),
-        '?' => Ok((Piece::One, more)),
+        '*' => Ok((Symbol::Run, more)),
+        '?' => Ok((Symbol::One, more)),
         '[' => set(alloc, more),
-        own => Ok((Piece::Char(own), more)),
+        own => Ok((Symbol::Char(own), more)),
     }
 }
 
-// The set whose opening bracket comes before a text, and what follows its closing one.
-fn set(alloc: Global, text: &str) -> Result<(Piece, &str), GlobFault>
+/// The set whose opening bracket comes before a text, and what follows its closing one.
+fn set(alloc: Global, text: &str) -> Result<(Symbol, &str), GlobFault>
     ensures ok { IfOk result (λ found.
         Leaves (set_behind (chars text.now)) (chars text.now) found.0 (chars found.1.now)) }
     ensures err { IfErr result (λ fault. (fault ≡ Memory)
@@ -50,13 +51,13 @@ fn set(alloc: Global, text: &str) -> Result<(Piece, &str), GlobFault>
     match body(text) {
         Some((body, behind)) => {
             let members = members(alloc, body)?;
-            Ok((Piece::Set { negated, members }, behind))
+            Ok((Symbol::Set { negated, members }, behind))
         }
         None => Err(GlobFault::OpenBracket),
     }
 }
 
-// Whether the text of a set begins with `^`, and what follows that.
+/// Whether the text of a set begins with `^`, and what follows that.
 fn negation(text: &str) -> (bool, &str)
     ensures negated { result.0 ≡ begins_with 94 (chars text.now) }
     ensures behind { chars result.1.now
@@ -68,7 +69,7 @@ fn negation(text: &str) -> (bool, &str)
     }
 }
 
-// A text cut at the closing bracket of a set: the first `]` that isn't its first character.
+/// A text cut at the closing bracket of a set: the first `]` that isn't its first character.
 fn body(text: &str) -> Option<(&str, &str)>
     ensures { MatchOption result (inner_len (chars text.now) ≡ None)
         (λ parts. (n : ℕ) × (inner_len (chars text.now) ≡ Some n)
@@ -85,7 +86,7 @@ fn body(text: &str) -> Option<(&str, &str)>
     }
 }
 
-// The members that the text between the brackets of a set names.
+/// The members that the text between the brackets of a set names.
 fn members(alloc: Global, text: &str) -> Result<Ranges, GlobFault>
     ensures ok { IfOk result (λ all. all ≡ members_of (chars text.now)) }
     ensures err { IfErr result (λ fault. fault ≡ Memory) }
@@ -100,8 +101,8 @@ fn members(alloc: Global, text: &str) -> Result<Ranges, GlobFault>
     Ok(all)
 }
 
-// The end of the range that begins with a character, and what follows the range: the character behind
-// a `-`, or itself where none follows.
+/// The end of the range that begins with a character, and what follows the range: the character behind
+/// a `-`, or itself where none follows.
 fn range_end(first: char, more: &str) -> (char, &str)
     ensures ranges { members_of (first ∷ chars more.now)
         ≡ range first result.0 ∷ members_of (chars result.1.now) }

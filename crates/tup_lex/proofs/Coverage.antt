@@ -1,6 +1,5 @@
 -- joined lines cover the lines of the file
-use Rattle.std.proofs.Common.{◌≡◌, ℕ, ◌+◌, Bool, true, false, cond, List, [], ◌∷◌, ◌++◌, length, refl, sym, ap, ◌∙◌, append-nil, arith, suc}
-use Rattle.std.specs.List.{flat_map}
+use Rattle.std.proofs.Common.{◌≡◌, ℕ, ◌+◌, Bool, true, false, cond, List, [], ◌∷◌, ◌++◌, length, refl, sym, ap, ◌∙◌, append-nil, arith}
 use Rattle.tup_lex.specs.Line.{line, line_number, numbered, goes_on, unbroken, onto_next, joined}
 use Rattle.tup_lex.specs.Covers.{IsRun, Covers}
 use Rattle.tup_lex.specs.declared.line.Line.{Line}

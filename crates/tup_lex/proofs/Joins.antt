@@ -1,15 +1,13 @@
 -- lines joined one after another, as the loop takes them
-use Rattle.std.proofs.Common.{◌≡◌, ℕ, ◌+◌, ◌-◌, ◌<◌, ◌≤◌, Bool, true, false, cond, nat_lt, min, List, [], ◌∷◌, ◌++◌, length, take, drop, get_or, Option, Some, None, Result, Ok, Err, refl, sym, ap, ◌∙◌, append_assoc, append-nil, arith, length-append, ◌≢◌, suc}
+use Rattle.std.proofs.Common.{◌≡◌, ℕ, ◌+◌, ◌-◌, ◌<◌, ◌≤◌, Bool, true, false, cond, min, List, [], ◌∷◌, ◌++◌, length, take, drop, get_or, Option, Some, None, Result, Ok, Err, refl, sym, ap, ◌∙◌, append_assoc, append-nil, arith, length-append, ◌≢◌, suc}
 use Rattle.std.specs.List.{filter, flat_map, slice_get}
 use Rattle.std.proofs.Math.Seq.{get_or-append_seam, take-append_seam, drop-cons}
 use Rattle.std.proofs.lemmas.List.{take-append-drop, at_drop_more, drop_all, at_drop_all}
 use Rattle.std.proofs.lemmas.Bool.Decides.{nat_tests}
-use Rattle.std.specs.Str.Lines.{lines as cut_lines}
-use Rattle.tup_lex.specs.Line.{line, line_number, numbered, goes_on, unbroken, onto_next, joined, joined_lines, is_too_long, told, said}
+use Rattle.tup_lex.specs.Line.{line, line_number, numbered, goes_on, unbroken, onto_next, joined, is_long, is_too_long, told, said}
 use Rattle.tup_lex.specs.declared.fault.LexFault.{LexFault}
 use Rattle.tup_lex.specs.declared.fault.LexFault.TheVariants.{LineTooLong}
 use Rattle.tup_lex.specs.declared.line.Line.{Line}
-use Rattle.tup_lex.specs.declared.line.TheConstants.{MAX_LINE}
 
 -- what was kept before, and what is said after it
 abbrev pub after : List Line → Result (List Line) LexFault → Result (List Line) LexFault
@@ -21,13 +19,12 @@ after-after a b (Ok more) = ap Ok (sym (append_assoc a b more))
 after-after a b (Err fault) = refl
 
 -- one line more in front
-pub said-long : (one : Line) (more : List Line) → MAX_LINE < length one.text → said (one ∷ more) ≡ Err (LineTooLong one.number)
-said-long one more h = let e : nat_lt MAX_LINE (length one.text) ≡ true = grind (arith, nat_tests) in rw (e, said) refl
+pub said-long : (one : Line) (more : List Line) → is_long one.text ≡ true → said (one ∷ more) ≡ Err (LineTooLong one.number)
+said-long one more h = rw (h, said) refl
 
-pub said-fits : (one : Line) (more : List Line) → length one.text ≤ MAX_LINE → said (one ∷ more) ≡ after (told one) (said more)
+pub said-fits : (one : Line) (more : List Line) → is_long one.text ≡ false → said (one ∷ more) ≡ after (told one) (said more)
 said-fits one more h =
-    let e : nat_lt MAX_LINE (length one.text) ≡ false = grind (arith, nat_tests) in
-    rw (e, said) (by_first (slice_get (filter is_too_long more) 0))
+    rw (h, said) (by_first (slice_get (filter is_too_long more) 0))
   where
     by_first : (r : Option Line) → (elim r as (λ _. Result (List Line) LexFault) [ Some long ↦ Err (LineTooLong long.number) | None ↦ Ok (told one ++ flat_map told more) ]) ≡ after (told one) (elim r as (λ _. Result (List Line) LexFault) [ Some long ↦ Err (LineTooLong long.number) | None ↦ Ok (flat_map told more) ])
     by_first (Some long) = refl
@@ -105,13 +102,13 @@ module _ (texts : List (List ℕ)) (kept : List Line) (first n : ℕ) (begun tex
   pub so-goes_on : So texts kept first begun n → (front new : List ℕ) → text ≡ front ++ 92 ∷ [] → new ≡ begun ++ front → So texts kept first new (n + 1)
   so-goes_on so front new e is_new = so ∙ ap (λ all. after kept (said all)) (joined-goes_on first n begun front text texts h is e) ∙ rw (← is_new) refl
 
-  pub so-long : So texts kept first begun n → (new : List ℕ) → goes_on text ≡ false → new ≡ begun ++ text → MAX_LINE < length new → said (joined (numbered 0 texts)) ≡ Err (LineTooLong first)
+  pub so-long : So texts kept first begun n → (new : List ℕ) → goes_on text ≡ false → new ≡ begun ++ text → is_long new ≡ true → said (joined (numbered 0 texts)) ≡ Err (LineTooLong first)
   so-long so new stays is_new long =
       so ∙ ap (λ all. after kept (said all)) (joined-ends first n begun text texts h is stays)
       ∙ ap (λ t. after kept (said (line first t ∷ joined (numbered (n + 1) (drop (n + 1) texts))))) (sym is_new)
       ∙ ap (after kept) (said-long (line first new) (joined (numbered (n + 1) (drop (n + 1) texts))) long)
 
-  pub so-fits : So texts kept first begun n → (new : List ℕ) → goes_on text ≡ false → new ≡ begun ++ text → length new ≤ MAX_LINE → So texts (kept ++ told (line first new)) (line_number (n + 1)) [] (n + 1)
+  pub so-fits : So texts kept first begun n → (new : List ℕ) → goes_on text ≡ false → new ≡ begun ++ text → is_long new ≡ false → So texts (kept ++ told (line first new)) (line_number (n + 1)) [] (n + 1)
   so-fits so new stays is_new fits =
       let rest = drop (n + 1) texts in
       so ∙ ap (λ all. after kept (said all)) (joined-ends first n begun text texts h is stays)
@@ -121,10 +118,7 @@ module _ (texts : List (List ℕ)) (kept : List Line) (first n : ℕ) (begun tex
       ∙ ap (after (kept ++ told (line first new))) (sym (fresh (n + 1) rest))
 
 -- and at the end of the file
-pub end-long : (texts : List (List ℕ)) (kept : List Line) (first n : ℕ) (begun : List ℕ) → length texts ≤ n → So texts kept first begun n → MAX_LINE < length begun → said (joined (numbered 0 texts)) ≡ Err (LineTooLong first)
-end-long texts kept first n begun end so long = so ∙ at_drop_all (λ rest. after kept (said (onto_next first begun (joined (numbered n rest))))) texts n end ∙ ap (after kept) (said-long (line first begun) [] long)
-
-pub end-fits : (texts : List (List ℕ)) (kept : List Line) (first n : ℕ) (begun : List ℕ) → length texts ≤ n → So texts kept first begun n → length begun ≤ MAX_LINE → said (joined (numbered 0 texts)) ≡ Ok (kept ++ told (line first begun))
+pub end-fits : (texts : List (List ℕ)) (kept : List Line) (first n : ℕ) (begun : List ℕ) → length texts ≤ n → So texts kept first begun n → is_long begun ≡ false → said (joined (numbered 0 texts)) ≡ Ok (kept ++ told (line first begun))
 end-fits texts kept first n begun end so fits =
     so ∙ at_drop_all (λ rest. after kept (said (onto_next first begun (joined (numbered n rest))))) texts n end
     ∙ ap (after kept) (said-fits (line first begun) [] fits) ∙ ap (λ t. Ok (kept ++ t)) (append-nil (told (line first begun)))

@@ -1,16 +1,17 @@
 -- the spans of words lie in the text, one after another
-use Rattle.std.proofs.Common.{◌≡◌, ℕ, zero, suc, ◌+◌, ◌-◌, ◌<◌, ◌≤◌, Bool, true, false, cond, ltb, List, [], ◌∷◌, length, take, drop, map, Option, Some, None, refl, sym, ap, ◌∙◌, arith, length-drop, length-take, ◌&&◌, Result, Ok, Err, rules, subst, ⊎_elim, ◌⊎◌}
+use Rattle.std.proofs.Common.{◌≡◌, ℕ, zero, suc, ◌+◌, ◌-◌, ◌<◌, ◌≤◌, Bool, true, false, cond, ltb, List, [], ◌∷◌, length, take, drop, map, Option, Some, None, refl, sym, ◌∙◌, arith, length-drop, length-take, ◌&&◌, Result, Ok, Err, rules, subst, ⊎_elim, ◌⊎◌}
 use Rattle.std.specs.List.{filter, slice_split, onto_first, find, All, prefix_len, suffix_len, before_first, after_first, position_or_len}
 use Rattle.std.specs.Option.{option_map, IfSome}
 use Rattle.std.specs.Result.{IfOk}
+use Rattle.std.proofs.lemmas.Bool.{and_parts}
 use Rattle.std.proofs.lemmas.Bool.Decides.{nat_tests}
 use Rattle.std.proofs.lemmas.List.Sums.{prefix_len-le-length}
 use Rattle.std.proofs.lemmas.List.Elements.{All-cons}
 use Rattle.bstr.specs.Find.{matches}
 use Rattle.bstr.specs.Text.{MatchList}
 use Rattle.bstr.proofs.lemmas.MatchListLemmas.{matches-list, MatchList-head}
-use Rattle.tup_lex.specs.Blank.{is_blank, trim}
-use Rattle.tup_lex.specs.Word.{Word, span, span_of, inner_span, placed, is_some_word, words, is_bin, is_group, is_bar, is_gift}
+use Rattle.tup_lex.specs.Blank.{is_blank}
+use Rattle.tup_lex.specs.Word.{Word, span_of, inner_span, placed, is_some_word, words, is_bin, is_group, is_bar, is_gift}
 use Rattle.tup_lex.specs.Parts.{just_two, arrows, trimmed_span, says_foreach, inputs_of, made_of, gifts_of, inputs_stand, outputs_stand, assembled, parts_of, rule_parts}
 use Rattle.tup_lex.specs.Spans.{IsIn, InOrder, AreIn, LieIn}
 use Rattle.tup_lex.specs.declared.fault.LexFault.{LexFault}
@@ -88,12 +89,8 @@ group-IsIn n from (one ∷ more) (start, some, within, rest) = by_test (is_group
     by_test true h = (omega arith, within)
     by_test false h = h
 
-and_right : (a b : Bool) → a && b ≡ true → b ≡ true
-and_right true b e = e
-and_right false b e = cc
-
 longer_bin : (one : Word) → is_bin one ≡ true → 2 < length one.1
-longer_bin one e = let longer : ltb 2 (length one.1) ≡ true = and_right _ (ltb 2 (length one.1)) e in grind (arith, nat_tests)
+longer_bin one e = let longer : ltb 2 (length one.1) ≡ true = (and_parts _ (ltb 2 (length one.1)) e).1 in grind (arith, nat_tests)
 
 pub bin-IsIn : (n from : ℕ) (all : List Word) → Follow n from all → IfSome (option_map inner_span (find is_bin all)) (IsIn n)
 bin-IsIn n from [] h = tt

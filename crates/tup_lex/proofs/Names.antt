@@ -1,18 +1,14 @@
 -- the last name by the place of the last slash
-use Rattle.std.proofs.Common.{◌≡◌, ℕ, ◌+◌, ◌-◌, ◌<◌, ◌≤◌, Bool, true, false, not, eqb, List, [], ◌∷◌, length, take, drop, get_or, refl, sym, ap, ◌∙◌, arith, length-drop}
+use Rattle.std.proofs.Common.{◌≡◌, ℕ, ◌+◌, ◌-◌, ◌<◌, true, false, not, eqb, List, length, take, drop, get_or, refl, ◌∙◌, arith, length-drop}
 use Rattle.std.specs.List.{suffix_len}
+use Rattle.std.proofs.lemmas.Bool.{not_from_false, false_from_ne_true}
 use Rattle.std.proofs.lemmas.List.{take_all}
 use Rattle.std.proofs.lemmas.List.Sums.{suffix_len_is}
-use Rattle.std.proofs.lemmas.Bool.Decides.{nat_tests}
 use Rattle.bstr.specs.Find.{NoneAfter, Nowhere, Passes, is_byte}
 use Rattle.tup_lex.specs.Word.{last_name}
 
 not_slash : (text : List ℕ) (k : ℕ) → ¬ (Passes (is_byte 47) text k) → not (eqb (get_or text k 0) 47) ≡ true
-not_slash text k h = by_test (eqb (get_or text k 0) 47) h
-  where
-    by_test : (b : Bool) → ¬ (b ≡ true) → not b ≡ true
-    by_test true h = absurd (h refl)
-    by_test false h = refl
+not_slash text k h = not_from_false _ (false_from_ne_true _ h)
 
 pub last_name-after : (text : List ℕ) (slash : ℕ) → NoneAfter (Passes (is_byte 47) text) 0 (length text) slash × Passes (is_byte 47) text slash → take (length text - (slash + 1)) (drop (slash + 1) text) ≡ last_name text
 last_name-after text slash h =

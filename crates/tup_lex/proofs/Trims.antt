@@ -1,10 +1,10 @@
 -- trimming by the places of the first and the last byte that isn't blank
-use Rattle.std.proofs.Common.{◌≡◌, ℕ, ◌+◌, ◌-◌, ◌<◌, ◌≤◌, Bool, true, false, not, List, [], ◌∷◌, length, take, drop, get_or, refl, sym, ap, ⊎_elim, ◌⊎◌, ◌∙◌, arith, length-drop, length-take}
+use Rattle.std.proofs.Common.{◌≡◌, ℕ, ◌+◌, ◌-◌, ◌<◌, ◌≤◌, true, false, not, List, [], ◌∷◌, length, take, drop, get_or, refl, sym, ap, ⊎_elim, ◌∙◌, arith, length-drop, length-take}
 use Rattle.std.specs.List.{prefix_len, suffix_len}
 use Rattle.std.proofs.lemmas.List.{get_or-drop}
 use Rattle.std.proofs.lemmas.List.Sums.{prefix_len_is, suffix_len_is}
-use Rattle.std.proofs.lemmas.Bool.{cases_lt}
-use Rattle.std.proofs.lemmas.Str.{IsCharBoundary-before_ascii, IsCharBoundary-after_ascii, IsCharBoundary-end}
+use Rattle.std.proofs.lemmas.Bool.{cases_lt, not-true, not_from_false, true_from_ne_false}
+use Rattle.std.proofs.lemmas.Str.{IsCharBoundary-after_ascii}
 use Rattle.std.specs.Str.{IsUtf8, IsCharBoundary}
 use Rattle.bstr.specs.Bytes.{is_in, not_in}
 use Rattle.bstr.specs.Find.{NoneBefore, NoneAfter, Nowhere, Passes}
@@ -33,19 +33,11 @@ not_in-blank byte = grind arith
 abbrev IsKept : List ℕ → ℕ → Type 0
 IsKept = Passes (not_in (32 ∷ 9 ∷ []))
 
-true_from_not : (b : Bool) → ¬ (not b ≡ true) → b ≡ true
-true_from_not true _ = refl
-true_from_not false h = absurd (h refl)
-
-false_from_not : (b : Bool) → not b ≡ true → b ≡ false
-false_from_not true h = cc
-false_from_not false _ = refl
-
 pub blank_from_nowhere : (text : List ℕ) (a b : ℕ) → Nowhere (IsKept text) a b → BlankFrom text a b
-blank_from_nowhere text a b h k low high = true_from_not _ (λ e. h k low high (not_in-blank (get_or text k 0) ∙ e))
+blank_from_nowhere text a b h k low high = true_from_ne_false _ (λ e. h k low high (not_in-blank (get_or text k 0) ∙ not_from_false _ e))
 
 kept : (text : List ℕ) (k : ℕ) → IsKept text k → is_blank (get_or text k 0) ≡ false
-kept text k h = false_from_not _ (sym (not_in-blank (get_or text k 0)) ∙ h)
+kept text k h = not-true _ (sym (not_in-blank (get_or text k 0)) ∙ h)
 
 pub Ends-from_searches : (text : List ℕ) (first last : ℕ) → NoneBefore (IsKept text) 0 (length text) first × IsKept text first → NoneAfter (IsKept text) 0 (length text) last × IsKept text last → Ends text first last
 Ends-from_searches text first last f l = record {
@@ -86,9 +78,3 @@ start-IsCharBoundary text first last utf8 e h =
     let back : first - 1 + 1 ≡ first = omega arith in
     let blank : is_blank (get_or text (first - 1) 0) ≡ true = e.before (first - 1) (omega arith) (omega arith) in
     rw back at (IsCharBoundary-after_ascii text (first - 1) utf8 (omega arith) (small (get_or text (first - 1) 0) blank))
-
-pub end-IsCharBoundary : (text : List ℕ) (first last : ℕ) → Ends text first last → IsCharBoundary text (last + 1)
-end-IsCharBoundary text first last e = ⊎_elim
-    (λ (h : last + 1 < length text). IsCharBoundary-before_ascii text (last + 1) h (small _ (e.behind (last + 1) (omega arith) h)))
-    (λ h. let all : last + 1 ≡ length text = omega arith in rw all (IsCharBoundary-end text))
-    (cases_lt (last + 1) (length text))

@@ -8,7 +8,6 @@ use Rattle.tup_lex.specs.Blank.{trim}
 use Rattle.tup_lex.specs.declared.fault.LexFault.{LexFault}
 use Rattle.tup_lex.specs.declared.fault.LexFault.TheVariants.{NotUtf8, LineTooLong}
 use Rattle.tup_lex.specs.declared.line.Line.{Line}
-use Rattle.tup_lex.specs.declared.line.TheConstants.{MAX_LINE}
 
 -- a line by its number and its bytes
 abbrev pub line : ℕ → List ℕ → Line
@@ -50,8 +49,13 @@ says_something (byte ∷ _) = not (byte == 35)
 abbrev pub told : Line → List Line
 told one = let text = trim one.text in if says_something text then line one.number text ∷ [] else []
 
+-- whether a text has more bytes than a line may have
+abbrev pub is_long : List ℕ → Bool
+is_long text = nat_lt 65535 (length text)
+
+-- whether a joined line has, before it is trimmed
 abbrev pub is_too_long : Line → Bool
-is_too_long one = nat_lt MAX_LINE (length one.text)
+is_too_long one = is_long one.text
 
 -- what joined lines say, in order; the first of them that is too long is refused
 abbrev pub said : List Line → Result (List Line) LexFault

@@ -1,5 +1,5 @@
 -- The parts of a rule line, from the manual; what is refused is own.
-use Rattle.std.specs.Prelude.{ℕ, ◌+◌, ◌-◌, nat_lt, Bool, true, false, not, ◌&&◌, if◌then◌else◌, List, [], ◌∷◌, length, take, drop, map, count_by, codes, Option, Some, None, option_map, Result, Ok, Err}
+use Rattle.std.specs.Prelude.{ℕ, ◌+◌, ◌-◌, nat_lt, Bool, false, not, ◌&&◌, if◌then◌else◌, List, [], ◌∷◌, length, take, drop, map, count_by, codes, Option, Some, None, option_map, Result, Ok, Err}
 use Rattle.std.specs.List.{list_all, list_any, find, prefix_len, position_or_len, before_first, after_first}
 use Rattle.bstr.specs.Find.{matches}
 use Rattle.tup_lex.specs.Blank.{is_blank, trim}
@@ -31,10 +31,11 @@ says_foreach (first ∷ _) = is_foreach first
 abbrev pub inputs_of : List Word → List Word
 inputs_of all = if says_foreach all then drop 1 all else all
 
--- the words of the outputs part before the first bin or group, and the others
+-- the words of the outputs part before the first bin or group
 abbrev pub made_of : List Word → List Word
 made_of all = before_first is_gift all
 
+-- that bin or group and all behind it
 abbrev pub gifts_of : List Word → List Word
 gifts_of all = drop (position_or_len is_gift all) all
 

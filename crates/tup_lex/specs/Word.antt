@@ -21,6 +21,7 @@ abbrev pub placed : ℕ → List (List ℕ) → List Word
 placed at [] = []
 placed at (piece ∷ more) = (at, piece) ∷ placed (at + length piece + 1) more
 
+-- whether there is something between two bytes that part words
 abbrev pub is_some_word : Word → Bool
 is_some_word word = nat_lt 0 (length word.1)
 
@@ -28,6 +29,7 @@ is_some_word word = nat_lt 0 (length word.1)
 abbrev pub words : ℕ → List ℕ → List Word
 words at part = filter is_some_word (placed at (slice_split is_blank part))
 
+-- whether a text begins with a byte
 abbrev pub begins_with : ℕ → List ℕ → Bool
 begins_with byte [] = false
 begins_with byte (first ∷ _) = first == byte
@@ -44,6 +46,7 @@ last_name text = drop (length text - suffix_len (λ byte. not (byte == 47)) text
 abbrev pub is_bar : Word → Bool
 is_bar word = bytes_eq word.1 (codes "|")
 
+-- the word in front that makes one command for each input
 abbrev pub is_foreach : Word → Bool
 is_foreach word = bytes_eq word.1 (codes "foreach")
 

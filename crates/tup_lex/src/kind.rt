@@ -2,10 +2,11 @@
 ghost use Rattle.std.specs.Prelude.{Some};
 
 use std::fmt;
+use thiserror::Error;
 use tup_path::Text;
 
 /// What is wrong with a line of a Tupfile, of a file that it includes, or of tup.config.
-#[derive(Clone, Debug, PartialEq, Eq, Drop)]
+#[derive(Clone, Debug, PartialEq, Eq, Drop, Error)]
 pub enum ParseKind {
     /// The file isn't UTF-8.
     NotUtf8,
@@ -98,26 +99,5 @@ impl fmt::Display for ParseKind {
             ParseKind::IncludeMissing => "include file missing",
             ParseKind::TooDeep => "nested too deep",
         })
-    }
-}
-
-#[cfg(test)]
-mod tests {
-    use super::*;
-    use std::test::Fail;
-
-    #[test]
-    fn texts(rt: HostRuntime) -> Result<(), Fail> {
-        let alloc = rt.alloc();
-        let own = Text::from_str(alloc, "no compiler")?;
-        for (kind, text) in [
-            (ParseKind::UserError(own), "error: no compiler"),
-            (ParseKind::NotUtf8, "not UTF-8"),
-            (ParseKind::NoArrow, "a rule has two arrows"),
-            (ParseKind::FlagNotHere, "percent flag not allowed here"),
-        ] {
-            assert_eq!(rt; format!(in alloc; "{kind}")?.as_str(), text);
-        }
-        Ok(())
     }
 }

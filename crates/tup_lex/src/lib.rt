@@ -13,9 +13,6 @@ mod word;
 pub use blank::trimmed;
 pub use fault::LexFault;
 pub use kind::ParseKind;
-pub use line::{Line, Lines, MAX_LINE, last_line, lines, says_something};
+pub use line::{Line, Lines, MAX_LINE, is_long, last_line, line_number, lines, says_something};
 pub use parts::{Parts, rule_parts};
 pub use span::{Span, Spans};
-
-#[cfg(test)]
-mod tests;

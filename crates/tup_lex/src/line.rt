@@ -1,8 +1,8 @@
 //! The lines of a Tupfile.
-ghost use Rattle.std.specs.Prelude.{◌≡◌, ◌⊎◌, ◌≤◌, ◌<◌, ◌+◌, ◌++◌, length, count_by, min, OnOk, IfErr, ◌==◌};
+ghost use Rattle.std.specs.Prelude.{◌≡◌, ◌⊎◌, ◌++◌, true, false, count_by, OnOk, IfErr, ◌==◌};
 ghost use Rattle.std.specs.Str.Lines.{lines as cut_lines};
 ghost use Rattle.tup_lex.specs.Covers.{Covers};
-ghost use Rattle.tup_lex.specs.Line.{line, line_number, says_something, told, said, joined_lines, lines};
+ghost use Rattle.tup_lex.specs.Line.{line, line_number, is_long, says_something, told, said, joined_lines, lines};
 ghost use Rattle.tup_lex.specs.declared.fault.LexFault.TheVariants.{Memory, LineTooLong};
 
 use crate::blank::trimmed;
@@ -11,7 +11,7 @@ use std::alloc::Global;
 use std::str;
 use tup_path::{Bytes, Items, Text};
 
-/// How many bytes a joined line may have, before it is trimmed.
+/// How many bytes a line may have, joined and not yet trimmed.
 pub const MAX_LINE: usize = 65535;
 
 /// A joined and trimmed line with the number of its first line in the file, counted from 1. In a
@@ -42,13 +42,26 @@ pub fn lines(alloc: Global, file: &Bytes) -> Result<Lines, LexFault>
     }
 }
 
-/// The number of the line in which these bytes end, counted from 1. The last number of a `u32`
+/// The number of the line that has so many before it, counted from 1. The last number of a `u32`
 /// stands for all above it.
-pub fn last_line(bytes: &[u8]) -> u32
-    ensures { result ≡ line_number (count_by (λ byte. byte == 10) bytes.now) }
+pub fn line_number(before: usize) -> u32
+    ensures { result ≡ line_number before }
 {
-    let ends = bytes.iter().filter(|byte| **byte == b'\n').count();
-    u32::try_from(ends).unwrap_or(u32::MAX).saturating_add(1)
+    u32::try_from(before).unwrap_or(u32::MAX).saturating_add(1)
+}
+
+/// The number of the line in which a front of a file ends: that of the byte behind it.
+pub fn last_line(front: &[u8]) -> u32
+    ensures { result ≡ line_number (count_by (λ byte. byte == 10) front.now) }
+{
+    line_number(front.iter().filter(|byte| **byte == b'\n').count())
+}
+
+/// Whether a text has more bytes than a line may have.
+pub fn is_long(text: &str) -> bool
+    ensures { result ≡ is_long text.now }
+{
+    text.len() > MAX_LINE
 }
 
 fn said_lines(alloc: Global, text: &str) -> Result<Lines, LexFault>
@@ -76,12 +89,12 @@ fn said_lines(alloc: Global, text: &str) -> Result<Lines, LexFault>
 
 // Adds a joined line to those that are kept, if it says something.
 fn keep(alloc: Global, kept: &mut Lines, number: u32, joined: &str) -> Result<(), LexFault>
-    ensures fits { OnOk result (length joined.now ≤ MAX_LINE) }
+    ensures fits { OnOk result (is_long joined.now ≡ false) }
     ensures kept { OnOk result (kept.new ≡ kept.old ++ told (line number joined.now)) }
     ensures refused { IfErr result (λ fault. (fault ≡ Memory)
-        ⊎ ((fault ≡ LineTooLong number) × (MAX_LINE < length joined.now))) }
+        ⊎ ((fault ≡ LineTooLong number) × (is_long joined.now ≡ true))) }
 {
-    if joined.len() > MAX_LINE {
+    if is_long(joined) {
         return Err(LexFault::LineTooLong { line: number });
     }
     let text = trimmed(joined);

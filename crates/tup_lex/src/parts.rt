@@ -65,7 +65,8 @@ fn parts_in(alloc: Global, text: &[u8]) -> Result<Parts, LexFault>
 // The places of the two arrows of a rule.
 fn arrows(text: &[u8]) -> Option<(usize, usize)>
     ensures value { result ≡ arrows text.now }
-    ensures within { IfSome result (λ places. (places.0 + 2 ≤ places.1) × (places.1 + 2 ≤ length text.now)) }
+    ensures within { IfSome result (λ places.
+        (places.0 + 2 ≤ places.1) × (places.1 + 2 ≤ length text.now)) }
 {
     let mut found = text.find_iter(b"|>");
     let first = found.next()?;
@@ -110,7 +111,8 @@ fn assembled(
     command: Span,
     right: &[Word],
 ) -> Result<Parts, LexFault>
-    ensures { (result ≡ Err Memory) ⊎ (result ≡ Ok (assembled foreach inputs.now command right.now)) }
+    ensures { (result ≡ Err Memory)
+        ⊎ (result ≡ Ok (assembled foreach inputs.now command right.now)) }
 {
     let (inputs, order) = around_bar(inputs);
     let (made, gifts) = before_gifts(right);

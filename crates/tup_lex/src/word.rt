@@ -11,7 +11,8 @@ use bstr::ByteSlice;
 use std::alloc::Global;
 use std::marker::Model;
 
-// A word with the place in the text where it begins. It isn't empty. Contracts see the place and the bytes.
+// A word with the place in the text where it begins. It isn't empty. Contracts see the place and
+// the bytes.
 #[derive(Drop)]
 pub(crate) struct Word<'a> {
     from: u32,

@@ -111,9 +111,10 @@ module _ {K : Type 0} (eq : K → K → Bool) (key : K) (kept : List (K × BTree
       map-set_value (eq key) (λ (s : BTreeSet Names). s.keys) kept more ∙ ap (set_value (eq key) (seen kept)) one ∙ rw known refl
 
 -- a key that comes last with its first path
-pub seen-begun : {K S : Type 0} (eq : K → K → Bool) (kept : IndexMap K (BTreeSet Names) S) (key : K) (first : BTreeSet Names) (path : Names) → get eq kept key ≡ None → first.keys ≡ path ∷ [] →
-    seen (insert_entry eq kept.entries key first) ≡ seen kept.entries ++ (key, path ∷ []) ∷ []
-seen-begun {K} eq kept key first path absent one =
+pub seen-begun : {K S : Type 0} (eq : K → K → Bool) (kept : IndexMap K (BTreeSet Names) S) (gifts : GiftsTo K) (key : K) (first : BTreeSet Names) (path : Names) → seen kept.entries ≡ gifts →
+    get eq kept key ≡ None → first.keys ≡ path ∷ [] → seen (insert_entry eq kept.entries key first) ≡ gifts ++ (key, path ∷ []) ∷ []
+seen-begun {K} eq kept gifts key first path are absent one =
     ap seen (insert_entry-new eq kept key first absent)
     ∙ map-append (λ (e : K × BTreeSet Names). (e.0, e.1.keys)) kept.entries ((key, first) ∷ [])
     ∙ ap (λ (keys : List Names). seen kept.entries ++ (key, keys) ∷ []) one
+    ∙ ap (λ (table : GiftsTo K). table ++ (key, path ∷ []) ∷ []) are

@@ -1,3 +1,2 @@
 pub mod Lookups
 pub mod Giving
-pub mod Hashing

@@ -6,7 +6,6 @@ ghost use Rattle.tup_macro.specs.Gifts.{members_of, with_gift, IsOneMore};
 
 use crate::fault::MacroFault;
 use crate::gifts::Gifts;
-use crate::key::Key;
 use std::alloc::Global;
 use std::marker::Model;
 use tup_path::{Path, Paths, Text};
@@ -15,7 +14,7 @@ use tup_path::{Path, Paths, Text};
 /// their members.
 #[derive(Drop)]
 pub struct Bins {
-    gifts: Gifts<Key<'static, Text>>,
+    gifts: Gifts<Text>,
 }
 
 impl Model for Bins {
@@ -40,19 +39,23 @@ impl Bins {
     pub fn add(&mut self, name: &Text, path: &Path) -> Result<(), MacroFault>
         ensures given { OnOk result (self.new ≡ with_gift bytes_eq self.old name.now path.now) }
         ensures one_more { OnOk result (IsOneMore bytes_eq self.old self.new name.now path.now) }
-        ensures refused { IfErr result (λ fault. (fault ≡ MacroFault.Memory) × (self.new ≡ self.old)) }
+        ensures refused { IfErr result (λ fault.
+            (fault ≡ MacroFault.Memory) × (self.new ≡ self.old)) }
     {
-        self.gifts.add(Key::kept(name.clone()?), path.clone()?)
+        self.gifts.add(name.clone()?, path.clone()?)
     }
 
     /// The paths of a bin in their order. `NoSuchBin` comes just where nothing was given to it.
     pub fn members(&self, alloc: Global, name: &Text) -> Result<Paths, MacroFault>
-        ensures members { IfOk result (λ paths. members_of bytes_eq self.now name.now ≡ Some paths) }
+        ensures members { IfOk result (λ paths.
+            members_of bytes_eq self.now name.now ≡ Some paths) }
         ensures ordered { IfOk result (λ paths. IsStrictlySortedBy by_names paths) }
-        ensures unknown { (result ≡ Err MacroFault.NoSuchBin) ↔ (members_of bytes_eq self.now name.now ≡ None) }
-        ensures refused { IfErr result (λ fault. (fault ≡ MacroFault.NoSuchBin) ⊎ (fault ≡ MacroFault.Memory)) }
+        ensures unknown { (result ≡ Err MacroFault.NoSuchBin)
+            ↔ (members_of bytes_eq self.now name.now ≡ None) }
+        ensures refused { IfErr result (λ fault.
+            (fault ≡ MacroFault.NoSuchBin) ⊎ (fault ≡ MacroFault.Memory)) }
     {
-        match self.gifts.members(alloc, &Key::sought(name))? {
+        match self.gifts.members(alloc, name)? {
             Some(members) => Ok(members),
             None => Err(MacroFault::NoSuchBin),
         }

@@ -45,7 +45,8 @@ impl<K: Eq + Hash> Gifts<K> {
     where
         K: Drop,
         ensures given { OnOk result (self.new ≡ with_gift K.eq self.old key path) }
-        ensures refused { IfErr result (λ fault. (fault ≡ MacroFault.Memory) × (self.new ≡ self.old)) }
+        ensures refused { IfErr result (λ fault.
+            (fault ≡ MacroFault.Memory) × (self.new ≡ self.old)) }
     {
         let Some(members) = self.given.get_mut(&key) else {
             return self.begin(key, path);
@@ -60,7 +61,8 @@ impl<K: Eq + Hash> Gifts<K> {
         K: Drop,
         requires { members_of K.eq self.old key ≡ None }
         ensures given { OnOk result (self.new ≡ self.old ++ (key, path ∷ []) ∷ []) }
-        ensures refused { IfErr result (λ fault. (fault ≡ MacroFault.Memory) × (self.new ≡ self.old)) }
+        ensures refused { IfErr result (λ fault.
+            (fault ≡ MacroFault.Memory) × (self.new ≡ self.old)) }
     {
         let mut first = BTreeSet::new(*self.given.allocator());
         first.insert(path)?;
@@ -71,8 +73,10 @@ impl<K: Eq + Hash> Gifts<K> {
     /// The paths given to a key, or `None` where there is none.
     pub(crate) fn members(&self, alloc: Global, key: &K) -> Result<Option<Paths>, MacroFault>
         ensures members { IfOk result (λ found. found ≡ members_of K.eq self.now key.now) }
-        ensures refused { IfErr result (λ fault. (fault ≡ MacroFault.Memory) × IsSome (members_of K.eq self.now key.now)) }
-        ensures ordered { IfOk result (λ found. IfSome found (λ paths. IsStrictlySortedBy by_names paths)) }
+        ensures refused { IfErr result (λ fault.
+            (fault ≡ MacroFault.Memory) × IsSome (members_of K.eq self.now key.now)) }
+        ensures ordered { IfOk result (λ found.
+            IfSome found (λ paths. IsStrictlySortedBy by_names paths)) }
     {
         match self.given.get(key) {
             Some(members) => Ok(Some(listed(alloc, members)?)),

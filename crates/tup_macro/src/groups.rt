@@ -6,7 +6,6 @@ ghost use Rattle.tup_macro.specs.Gifts.{members_of, same_group, with_gift, IsOne
 
 use crate::fault::MacroFault;
 use crate::gifts::Gifts;
-use crate::key::Key;
 use std::alloc::Global;
 use std::marker::Model;
 use tup_path::{Path, Paths};
@@ -15,7 +14,7 @@ use tup_rule::GroupRef;
 /// Groups, in the order of their first gifts. Contracts see the list of groups with their members.
 #[derive(Drop)]
 pub struct Groups {
-    gifts: Gifts<Key<'static, GroupRef>>,
+    gifts: Gifts<GroupRef>,
 }
 
 impl Model for Groups {
@@ -41,17 +40,20 @@ impl Groups {
     pub fn add(&mut self, group: &GroupRef, path: &Path) -> Result<(), MacroFault>
         ensures given { OnOk result (self.new ≡ with_gift same_group self.old group.now path.now) }
         ensures one_more { OnOk result (IsOneMore same_group self.old self.new group.now path.now) }
-        ensures refused { IfErr result (λ fault. (fault ≡ MacroFault.Memory) × (self.new ≡ self.old)) }
+        ensures refused { IfErr result (λ fault.
+            (fault ≡ MacroFault.Memory) × (self.new ≡ self.old)) }
     {
-        self.gifts.add(Key::kept(group.clone()?), path.clone()?)
+        self.gifts.add(group.clone()?, path.clone()?)
     }
 
     /// The paths of a group in their order, or `None` just where nothing was given to it.
     pub fn members(&self, alloc: Global, group: &GroupRef) -> Result<Option<Paths>, MacroFault>
         ensures members { IfOk result (λ found. found ≡ members_of same_group self.now group.now) }
-        ensures ordered { IfOk result (λ found. IfSome found (λ paths. IsStrictlySortedBy by_names paths)) }
-        ensures refused { IfErr result (λ fault. (fault ≡ MacroFault.Memory) × IsSome (members_of same_group self.now group.now)) }
+        ensures ordered { IfOk result (λ found.
+            IfSome found (λ paths. IsStrictlySortedBy by_names paths)) }
+        ensures refused { IfErr result (λ fault.
+            (fault ≡ MacroFault.Memory) × IsSome (members_of same_group self.now group.now)) }
     {
-        self.gifts.members(alloc, &Key::sought(group))
+        self.gifts.members(alloc, group)
     }
 }

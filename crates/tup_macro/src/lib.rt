@@ -10,13 +10,9 @@ mod bins;
 mod fault;
 mod gifts;
 mod groups;
-mod key;
 mod macros;
 
 pub use bins::Bins;
 pub use fault::MacroFault;
 pub use groups::Groups;
-pub use macros::{Macro, Macros, Texts};
-
-#[cfg(test)]
-mod tests;
+pub use macros::{Macro, Macros};

@@ -1,16 +1,12 @@
 //! Macros by their names.
-ghost use Rattle.std.specs.Prelude.{◌≡◌, ◌⊎◌, ◌↔◌, ◌++◌, ◌∷◌, [], List, ℕ, Ok, Err, Some, None, IsSome, IfOk, IfErr, OnOk, bytes_eq, if◌then◌else◌};
-ghost use Rattle.tup_macro.specs.Macros.{macro_of};
+ghost use Rattle.std.specs.Prelude.{◌≡◌, ◌⊎◌, ◌↔◌, ◌++◌, ◌∷◌, [], Ok, Err, Some, None, IsSome, IfOk, IfErr, OnOk, OnErr};
+ghost use Rattle.tup_macro.specs.Macros.{macro_of, Defines};
 
 use crate::fault::MacroFault;
-use crate::key::Key;
 use indexmap::IndexMap;
 use std::alloc::Global;
 use std::marker::Model;
-use tup_path::{Items, Text};
-
-/// A list of texts.
-pub type Texts = Items<Text>;
+use tup_path::{Text, Texts};
 
 /// What a macro line says behind its name.
 #[derive(Debug, Drop, PartialEq, Eq)]
@@ -29,7 +25,7 @@ pub struct Macro {
 /// their macros.
 #[derive(Drop)]
 pub struct Macros {
-    macros: IndexMap<Key<'static, Text>, Macro>,
+    macros: IndexMap<Text, Macro>,
 }
 
 impl Model for Macros {
@@ -55,25 +51,28 @@ impl Macros {
     /// is as it was.
     pub fn define(&mut self, name: &Text, body: Macro) -> Result<(), MacroFault>
         ensures defined { OnOk result (self.new ≡ self.old ++ (name.now, body) ∷ []) }
-        ensures found { OnOk result ((other : List ℕ) → macro_of self.new other ≡ (if bytes_eq name.now other then Some body else macro_of self.old other)) }
-        ensures twice { (result ≡ Err MacroFault.DefinedTwice) ↔ IsSome (macro_of self.old name.now) }
-        ensures refused { IfErr result (λ fault. ((fault ≡ MacroFault.DefinedTwice) ⊎ (fault ≡ MacroFault.Memory)) × (self.new ≡ self.old)) }
+        ensures found { OnOk result (Defines self.old self.new name.now body) }
+        ensures twice { (result ≡ Err MacroFault.DefinedTwice)
+            ↔ IsSome (macro_of self.old name.now) }
+        ensures refused { IfErr result (λ fault.
+            (fault ≡ MacroFault.DefinedTwice) ⊎ (fault ≡ MacroFault.Memory)) }
+        ensures kept { OnErr result (self.new ≡ self.old) }
     {
-        if self.macros.contains_key(&Key::sought(name)) {
+        if self.macros.contains_key(name) {
             return Err(MacroFault::DefinedTwice);
         }
-        self.macros.insert(Key::kept(name.clone()?), body)?;
+        self.macros.insert(name.clone()?, body)?;
         Ok(())
     }
 
     /// The macro of a name. `NoSuchMacro` comes just where it has none, and nothing else is refused.
     pub fn get(&self, name: &Text) -> Result<&Macro, MacroFault>
         ensures found { IfOk result (λ body. macro_of self.now name.now ≡ Some body.now) }
-        ensures refused { IfErr result (λ fault. (fault ≡ MacroFault.NoSuchMacro) × (macro_of self.now name.now ≡ None)) }
+        ensures refused { IfErr result (λ fault.
+            (fault ≡ MacroFault.NoSuchMacro) × (macro_of self.now name.now ≡ None)) }
     {
-        // By its place, since the answer must not borrow the name.
-        match self.macros.get_index_of(&Key::sought(name)) {
-            Some(at) => Ok(&self.macros[at]),
+        match self.macros.get(name) {
+            Some(body) => Ok(body),
             None => Err(MacroFault::NoSuchMacro),
         }
     }

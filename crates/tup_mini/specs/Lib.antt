@@ -2,4 +2,3 @@ pub mod Words
 pub mod Command
 pub mod Inputs
 pub mod Mini
-pub mod Laws

@@ -1,5 +1,6 @@
 //! A small command, read from its text.
-ghost use Rattle.std.specs.Prelude.{◌≡◌, ◌⊎◌, IfOk, Err, Ok};
+ghost use Rattle.std.specs.Prelude.{◌≡◌, IfOk, Ok};
+ghost use Rattle.tup_path.specs.Gives.{GivesUnless};
 
 use crate::fault::MiniFault;
 use crate::words::{has_stray_arrow, is_arrow, status, words};
@@ -24,14 +25,14 @@ impl Command {
 
     /// The command that a text is. Each text is one: what names no command ends with a status of its own.
     pub fn read(alloc: Global, text: &Text) -> Result<Command, MiniFault>
-        ensures { (result ≡ Err MiniFault.Memory) ⊎ (result ≡ Ok (command_of text.now)) }
+        ensures { GivesUnless result MiniFault.Memory (Ok (command_of text.now)) }
     {
         let words = words(alloc, text)?;
         Ok(Command::from_words(alloc, &words)?)
     }
 
     /// The words that the command asks for, in order; it asks for nothing else.
-    pub fn inputs(&self) -> &[Text]
+    pub(crate) fn inputs(&self) -> &[Text]
         ensures { result.now ≡ inputs_of self.now }
     {
         match self {

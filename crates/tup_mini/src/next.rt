@@ -1,6 +1,7 @@
 //! What a small command does next.
-ghost use Rattle.std.specs.Prelude.{◌≡◌, ◌⊎◌, Err, Ok, IfOk, [], length};
-ghost use Rattle.tup_mini.specs.Mini.{stops, writes_file, joins, command_next};
+ghost use Rattle.std.specs.Prelude.{◌≡◌, [], Ok, IfOk};
+ghost use Rattle.tup_path.specs.Gives.{GivesUnless};
+ghost use Rattle.tup_mini.specs.Mini.{stops, writes_file, contents, joins, command_next};
 
 use crate::command::Command;
 use crate::fault::MiniFault;
@@ -16,21 +17,18 @@ impl Command {
     /// input, or it ends. A file that isn't there gives status 1, and more than 16,777,216 bytes to be
     /// written give status 5; then nothing is written.
     pub fn next(&self, alloc: Global, asked: &[(Text, Answer)]) -> Result<Step, MiniFault>
-        ensures { (result ≡ Err MiniFault.Memory) ⊎ (result ≡ Ok (command_next self.now asked.now)) }
+        ensures { GivesUnless result MiniFault.Memory (Ok (command_next self.now asked.now)) }
     {
         match self {
-            Command::Copy { to, .. } | Command::Join { to, .. } => Ok(join(
-                alloc,
-                self.inputs(),
-                to,
-                asked,
-            )?),
+            Command::Copy { to, .. } | Command::Join { to, .. } => {
+                Ok(join(alloc, self.inputs(), to, asked)?)
+            }
             Command::Stop(status) => Ok(stop(alloc, *status)),
         }
     }
 }
 
-/// Asks for files in order, and writes their contents one behind the other.
+/// Asks for files in order. Their contents are joined once, when all are there.
 fn join(
     alloc: Global,
     from: &[Text],
@@ -39,15 +37,28 @@ fn join(
 ) -> Result<Step, AllocError>
     ensures { IfOk result (λ step. step ≡ joins from.now to.now [] asked.now) }
 {
-    let mut content = Vec::new(alloc);
     for (at, text) in from.iter().enumerate() {
-        match asked.get(at) {
-            None => return Ok(Step::Ask(text.clone()?)),
-            Some((_, Answer::Absent)) => return Ok(stop(alloc, 1)),
-            Some((_, Answer::Content(bytes))) => content.extend_from_slice(bytes.as_slice())?,
+        let Some((_, answer)) = asked.get(at) else {
+            return Ok(Step::Ask(text.clone()?));
+        };
+        if matches!(answer, Answer::Absent) {
+            return Ok(stop(alloc, 1));
         }
     }
-    write_file(alloc, to, content)
+    write_file(alloc, to, joined(alloc, &asked[..from.len()])?)
+}
+
+/// The contents that were answered, one behind the other.
+fn joined(alloc: Global, asked: &[(Text, Answer)]) -> Result<Vec<u8>, AllocError>
+    ensures { IfOk result (λ content. content.items ≡ contents asked.now) }
+{
+    let mut content = Vec::new(alloc);
+    for (_, answer) in asked {
+        if let Answer::Content(bytes) = answer {
+            content.extend_from_slice(bytes.as_slice())?;
+        }
+    }
+    Ok(content)
 }
 
 /// The end that writes one file.

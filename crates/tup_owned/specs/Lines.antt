@@ -9,11 +9,11 @@ use Rattle.std.proofs.lemmas.Str.{IsUtf8-append, IsUtf8-from_is_utf8, is_utf8-fr
 use Rattle.std.specs.List.{list_all, join_with_byte}
 use Rattle.std.specs.Str.{is_utf8}
 use Rattle.tup_path.specs.Name.{Names, IsNameByte, IsVisibleName, IsPath}
-use Rattle.tup_path.specs.Resolve.{is_visible, resolve}
+use Rattle.tup_path.specs.Resolve.{is_visible, resolve, parts}
 use Rattle.tup_path.specs.Show.{show}
-use Rattle.tup_path.specs.Written.{resolve-show}
+use Rattle.tup_path.proofs.Written.{resolve-show}
 use Rattle.tup_path.specs.declared.fault.PathFault.{PathFault}
-use Rattle.tup_path.specs.Walks.{visible_again, parts, HasNoSlash}
+use Rattle.tup_path.proofs.Walks.{visible_again, HasNoSlash}
 use Rattle.tup_path.proofs.Names.{visible_name}
 use Rattle.tup_owned.specs.Owned.{is_name, line_path}
 

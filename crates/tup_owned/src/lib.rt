@@ -15,6 +15,3 @@ pub use fault::OwnedFault;
 pub use lists::{sorted, union};
 pub use read::read_owned;
 pub use spell::spell_owned;
-
-#[cfg(test)]
-mod tests;

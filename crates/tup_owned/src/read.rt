@@ -11,7 +11,8 @@ use tup_path::{Bytes, Items, Path, PathFault, Paths, Text};
 /// the line before.
 pub fn read_owned(alloc: Global, bytes: &[u8]) -> Result<Paths, OwnedFault>
     ensures owned { IfOk result (λ paths. owned_of bytes.now ≡ Ok paths) }
-    ensures damaged { (offset : ℕ) → result ≡ Err (OwnedFault.Damaged offset) → owned_of bytes.now ≡ Err offset }
+    ensures damaged { (offset : ℕ) → result ≡ Err (OwnedFault.Damaged offset)
+        → owned_of bytes.now ≡ Err offset }
 {
     let mut paths = Items::new(alloc);
     let mut rest = bytes;

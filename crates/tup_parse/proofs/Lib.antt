@@ -1,9 +1,7 @@
 pub mod Behind
-pub mod Buildable
 pub mod Cuts
 pub mod Lines
 pub mod Project
-pub mod Repeats
 pub mod Sets
-pub mod Stand
+pub mod Occupants
 pub mod Words

@@ -12,42 +12,43 @@ use Rattle.tup_parse.specs.declared.fault.ReadEnd.{ReadEnd}
 use Rattle.tup_parse.specs.declared.fault.ReadEnd.TheVariants.{Memory}
 use Rattle.tup_parse.specs.declared.placed.Placed.{Placed}
 use Rattle.tup_parse.specs.declared.rule_line.Written.{Written}
-use Rattle.tup_parse.specs.declared.standing.Standing.{Standing}
-use Rattle.tup_parse.specs.declared.standing.Standing.TheVariants.{Output}
-use Rattle.tup_parse.specs.Standing.{standing, Stands}
+use Rattle.tup_parse.specs.declared.occupant.Occupant.{Occupant}
+use Rattle.tup_parse.specs.declared.occupant.Occupant.TheVariants.{Output}
+use Rattle.tup_parse.specs.Occupant.{occupant, HasOccupants}
+use Rattle.tup_parse.specs.Blanks.{IsFirstLine}
 use Rattle.tup_parse.specs.Reading.{rule_of, line_written, rules_in, fault_at, behind_line, with_line, read_lines}
-use Rattle.tup_parse.proofs.Stand.{stands_output}
+use Rattle.tup_parse.proofs.Occupants.{has_output}
 
-same_at : (names : BTreeMap (List ℕ) Standing) (sources : List Names) (rules : List Rule) → Stands names sources rules → (λ (word : List ℕ). standing sources rules (word ∷ [])) ≡ tree.get by_bytes names
-same_at names sources rules stands = sym (λ i word. stands word i)
+same_at : (occupants : BTreeMap (List ℕ) Occupant) (sources : List Names) (rules : List Rule) → HasOccupants occupants sources rules → (λ (word : List ℕ). occupant sources rules (word ∷ [])) ≡ tree.get by_bytes occupants
+same_at occupants sources rules has = sym (λ i word. has word i)
 
-with_line-is : (names : BTreeMap (List ℕ) Standing) (sources : List Names) (line : ℕ) (placed : List Placed) (text : List ℕ) (r : Result (Option Written) ParseKind)
-    → Stands names sources (rules_in placed) → line_written (tree.get by_bytes names) text ≡ r → with_line sources line placed text ≡ behind_line line placed r
-with_line-is names sources line placed text r stands e =
-    ap (λ at. behind_line line placed (line_written at text)) (same_at names sources (rules_in placed) stands) ∙ ap (behind_line line placed) e
+with_line-is : (occupants : BTreeMap (List ℕ) Occupant) (sources : List Names) (line : ℕ) (placed : List Placed) (text : List ℕ) (r : Result (Option Written) ParseKind)
+    → HasOccupants occupants sources (rules_in placed) → line_written (tree.get by_bytes occupants) text ≡ r → with_line sources line placed text ≡ behind_line line placed r
+with_line-is occupants sources line placed text r has e =
+    ap (λ at. behind_line line placed (line_written at text)) (same_at occupants sources (rules_in placed) has) ∙ ap (behind_line line placed) e
 
-pub line_some : (old new : BTreeMap (List ℕ) Standing) (sources : List Names) (line : ℕ) (placed more : List Placed) (text : List ℕ) (written : Written)
-    → Stands old sources (rules_in placed) → line_written (tree.get by_bytes old) text ≡ Ok (Some written)
+pub line_some : (old new : BTreeMap (List ℕ) Occupant) (sources : List Names) (line : ℕ) (placed more : List Placed) (text : List ℕ) (written : Written)
+    → HasOccupants old sources (rules_in placed) → line_written (tree.get by_bytes old) text ≡ Ok (Some written)
     → more ≡ placed ++ record { line = line; rule = rule_of written } ∷ [] → tree.Updates by_bytes old new written.output (Some Output)
-    → (with_line sources line placed text ≡ Ok more) × Stands new sources (rules_in more)
-line_some old new sources line placed more text written stands e pushed updates =
+    → (with_line sources line placed text ≡ Ok more) × HasOccupants new sources (rules_in more)
+line_some old new sources line placed more text written has e pushed updates =
     let added : Placed = record { line = line; rule = rule_of written } in
     let pushed_rules : rules_in more ≡ rules_in placed ++ rule_of written ∷ [] = ap rules_in pushed ∙ map_push (λ (p : Placed). p.rule) placed added in (
-      with_line-is old sources line placed text (Ok (Some written)) stands e ∙ ap Ok (sym pushed),
-      subst (Stands new sources) (sym pushed_rules) (stands_output old new sources (rules_in placed) (rule_of written) written.output stands refl updates),
+      with_line-is old sources line placed text (Ok (Some written)) has e ∙ ap Ok (sym pushed),
+      subst (HasOccupants new sources) (sym pushed_rules) (has_output old new sources (rules_in placed) (rule_of written) written.output has refl updates),
     )
 
-pub line_none : (names : BTreeMap (List ℕ) Standing) (sources : List Names) (line : ℕ) (placed : List Placed) (text : List ℕ)
-    → Stands names sources (rules_in placed) → line_written (tree.get by_bytes names) text ≡ Ok None
-    → (with_line sources line placed text ≡ Ok placed) × Stands names sources (rules_in placed)
-line_none names sources line placed text stands e = (with_line-is names sources line placed text (Ok None) stands e, stands)
+pub line_none : (occupants : BTreeMap (List ℕ) Occupant) (sources : List Names) (line : ℕ) (placed : List Placed) (text : List ℕ)
+    → HasOccupants occupants sources (rules_in placed) → line_written (tree.get by_bytes occupants) text ≡ Ok None
+    → (with_line sources line placed text ≡ Ok placed) × HasOccupants occupants sources (rules_in placed)
+line_none occupants sources line placed text has e = (with_line-is occupants sources line placed text (Ok None) has e, has)
 
-pub line_fault : (names : BTreeMap (List ℕ) Standing) (sources : List Names) (line : ℕ) (placed : List Placed) (text : List ℕ) (kind : ParseKind) (end : ReadEnd)
-    → Stands names sources (rules_in placed) → line_written (tree.get by_bytes names) text ≡ Err kind → end ≡ fault_at [] (codes "Tupfile" ∷ []) line kind
+pub line_fault : (occupants : BTreeMap (List ℕ) Occupant) (sources : List Names) (line : ℕ) (placed : List Placed) (text : List ℕ) (kind : ParseKind) (end : ReadEnd)
+    → HasOccupants occupants sources (rules_in placed) → line_written (tree.get by_bytes occupants) text ≡ Err kind → end ≡ fault_at [] (codes "Tupfile" ∷ []) line kind
     → with_line sources line placed text ≡ Err end
-line_fault names sources line placed text kind end stands e is = with_line-is names sources line placed text (Err kind) stands e ∙ ap Err (sym is)
+line_fault occupants sources line placed text kind end has e is = with_line-is occupants sources line placed text (Err kind) has e ∙ ap Err (sym is)
 
-abbrev cut : List ℕ → List (List ℕ)
+abbrev pub cut : List ℕ → List (List ℕ)
 cut text = slice_split (λ b. eqb b 10) text
 
 abbrev going_on : List Names → ℕ → List (List ℕ) → Result (List Placed) ReadEnd → Result (List Placed) ReadEnd
@@ -62,7 +63,7 @@ step_err : (sources : List Names) (line : ℕ) (placed : List Placed) (text : Li
 step_err sources line placed text lines end e = ap (going_on sources line lines) e
 
 pub read_on : (sources : List Names) (line : ℕ) (placed next : List Placed) (rest text more : List ℕ)
-    → (slice_split (λ b. eqb b 10) rest ≡ text ∷ slice_split (λ b. eqb b 10) more) ⊎ ((slice_split (λ b. eqb b 10) rest ≡ text ∷ []) × (more ≡ []))
+    → IsFirstLine rest text more
     → with_line sources line placed text ≡ Ok next
     → read_lines sources (suc line) next (slice_split (λ b. eqb b 10) more) ≡ read_lines sources line placed (slice_split (λ b. eqb b 10) rest)
 read_on sources line placed next rest text more first e =
@@ -72,7 +73,7 @@ read_on sources line placed next rest text more first e =
     ]
 
 pub read_fault : (sources : List Names) (line : ℕ) (placed : List Placed) (rest text more : List ℕ) (end : ReadEnd)
-    → (slice_split (λ b. eqb b 10) rest ≡ text ∷ slice_split (λ b. eqb b 10) more) ⊎ ((slice_split (λ b. eqb b 10) rest ≡ text ∷ []) × (more ≡ []))
+    → IsFirstLine rest text more
     → with_line sources line placed text ≡ Err end → read_lines sources line placed (slice_split (λ b. eqb b 10) rest) ≡ Err end
 read_fault sources line placed rest text more end first e =
     elim first [
@@ -80,37 +81,26 @@ read_fault sources line placed rest text more end first e =
       | inr p ↦ ap (read_lines sources line placed) p.0 ∙ step_err sources line placed text [] end e
     ]
 
-pub read_end : (sources : List Names) (line : ℕ) (placed : List Placed) (rest : List ℕ) → length rest ≡ 0 → read_lines sources line placed (slice_split (λ b. eqb b 10) rest) ≡ Ok placed
-read_end sources line placed [] e = refl
-read_end sources line placed (b ∷ bs) e = absurd (omega arith)
-
--- what a line has, from the answer of the code
-pub line_value : (names : BTreeMap (List ℕ) Standing) (text : List ℕ) (r : Result (Result (Option Written) ParseKind) ReadEnd) (v : Result (Option Written) ParseKind)
-    → (r ≡ Err Memory) ⊎ (r ≡ Ok (line_written (tree.get by_bytes names) text)) → r ≡ Ok v → line_written (tree.get by_bytes names) text ≡ v
-line_value names text r v h e =
-    elim h [
-      | inl memory ↦ cc
-      | inr value ↦ cc
-    ]
-
 next_line : (line : ℕ) → line + 1 ≡ suc line
 next_line line = omega arith
 
 pub lines_on : (sources : List Names) (line : ℕ) (placed next : List Placed) (rest text more content : List ℕ)
-    → (slice_split (λ b. eqb b 10) rest ≡ text ∷ slice_split (λ b. eqb b 10) more) ⊎ ((slice_split (λ b. eqb b 10) rest ≡ text ∷ []) × (more ≡ []))
+    → IsFirstLine rest text more
     → with_line sources (line + 1) placed text ≡ Ok next
     → read_lines sources (suc line) placed (slice_split (λ b. eqb b 10) rest) ≡ read_lines sources 1 [] (slice_split (λ b. eqb b 10) content)
     → read_lines sources (suc (line + 1)) next (slice_split (λ b. eqb b 10) more) ≡ read_lines sources 1 [] (slice_split (λ b. eqb b 10) content)
 lines_on sources line placed next rest text more content first e all =
     read_on sources (line + 1) placed next rest text more first e ∙ ap (λ n. read_lines sources n placed (cut rest)) (next_line line) ∙ all
 
-pub lines_fault : (sources : List Names) (line : ℕ) (placed : List Placed) (rest text more content : List ℕ) (end : ReadEnd)
-    → (slice_split (λ b. eqb b 10) rest ≡ text ∷ slice_split (λ b. eqb b 10) more) ⊎ ((slice_split (λ b. eqb b 10) rest ≡ text ∷ []) × (more ≡ []))
+-- an answer that is the definition's, or that there was no memory
+abbrev pub IsLinesAnswer : List Names → List ℕ → Result (List Placed) ReadEnd → Type 0
+IsLinesAnswer sources content r = (r ≡ Err Memory) ⊎ (r ≡ read_lines sources 1 [] (cut content))
+
+pub lines_fault : (sources : List Names) (line : ℕ) (placed : List Placed) (rest text more content : List ℕ) (end : ReadEnd) (r : Result (List Placed) ReadEnd)
+    → r ≡ Err end → IsFirstLine rest text more
     → (end ≡ Memory) ⊎ (with_line sources (line + 1) placed text ≡ Err end)
     → read_lines sources (suc line) placed (slice_split (λ b. eqb b 10) rest) ≡ read_lines sources 1 [] (slice_split (λ b. eqb b 10) content)
-    → (end ≡ Memory) ⊎ (read_lines sources 1 [] (slice_split (λ b. eqb b 10) content) ≡ Err end)
-lines_fault sources line placed rest text more content end first fault all =
-    elim fault [
-      | inl memory ↦ inl memory
-      | inr e ↦ inr (sym all ∙ sym (ap (λ n. read_lines sources n placed (cut rest)) (next_line line)) ∙ read_fault sources (line + 1) placed rest text more end first e)
-    ]
+    → IsLinesAnswer sources content r
+lines_fault sources line placed rest text more content end r is first (inl memory) all = inl (is ∙ ap Err memory)
+lines_fault sources line placed rest text more content end r is first (inr e) all =
+    inr (is ∙ sym (sym all ∙ sym (ap (λ n. read_lines sources n placed (cut rest)) (next_line line)) ∙ read_fault sources (line + 1) placed rest text more end first e))

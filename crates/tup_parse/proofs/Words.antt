@@ -1,27 +1,23 @@
 -- Words that name files: they are ASCII, and each is a path of one name.
-use Rattle.std.proofs.Common.{◌≡◌, ◌⊎◌, inl, inr, ℕ, suc, zero, ◌+◌, ◌<◌, ◌≤◌, Bool, true, false, cond, not, ◌&&◌, eqb, ltb, leb, List, [], ◌∷◌, ◌++◌, length, take, drop, get_or, Option, Some, None, Result, Ok, Err, MatchOption, refl, ap, sym, ◌∙◌, subst, if◌then◌else◌, arith}
+use Rattle.std.proofs.Common.{◌≡◌, ◌≢◌, ◌⊎◌, inl, inr, ℕ, suc, zero, ◌+◌, ◌<◌, ◌≤◌, Bool, true, false, cond, not, ◌&&◌, eqb, ltb, leb, List, [], ◌∷◌, ◌++◌, length, take, drop, get_or, Option, Some, None, Result, Ok, Err, MatchOption, refl, ap, sym, ◌∙◌, subst, if◌then◌else◌, slice_get, lit≤, arith}
 use Rattle.std.specs.List.{list_all, All}
 use Rattle.std.specs.Str.{IsUtf8}
-use Rattle.std.proofs.lemmas.Bool.{and_parts, and_from, cond-true, cond-false}
-use Rattle.std.proofs.lemmas.List.{take_more, drop_more, take_all, drop_all}
+use Rattle.std.proofs.lemmas.Bool.{and_parts, and_from, leb-true}
+use Rattle.std.proofs.lemmas.List.{take_more, drop_more}
 use Rattle.std.proofs.lemmas.Bool.Decides.{nat_tests}
 use Rattle.std.proofs.lemmas.List.Elements.{All-cons, All-nil}
-use Rattle.std.proofs.lemmas.List.Folds.{list_all-append, list_all_at}
+use Rattle.std.proofs.lemmas.List.Folds.{list_all-append}
 use Rattle.std.proofs.lemmas.Str.{IsUtf8-from_ascii}
 use Rattle.std.proofs.lemmas.Str.Ascii.{IsAscii-from_all}
 use Rattle.std.specs.Char.{is_ascii}
-use Rattle.tup_path.specs.Name.{Names}
+use Rattle.tup_path.specs.Name.{Names, IsNameByte, IsVisibleName, IsPath}
 use Rattle.tup_path.specs.declared.fault.PathFault.{PathFault}
 use Rattle.tup_path.specs.declared.fault.PathFault.TheVariants.{Memory}
 use Rattle.tup_path.specs.Resolve.{is_name_byte, is_visible, below}
-use Rattle.tup_mini.specs.Words.{words}
-use Rattle.tup_mini.specs.Command.{command_of}
-use Rattle.tup_parse.specs.declared.fault.ReadEnd.{ReadEnd}
-use Rattle.tup_parse.specs.declared.fault.ReadEnd.TheVariants.{Memory as NoMemory}
 use Rattle.tup_parse.specs.declared.rule_line.Written.{Written}
-use Rattle.tup_parse.specs.Word.{is_word_byte, is_file_word, is_reserved, has_word, joined}
-use Rattle.tup_parse.specs.Blanks.{trim, Parts, parts_of}
-use Rattle.tup_parse.specs.RuleLine.{file_words, output_word, output_of, keeps_to, command_text, written_in, written_rule, IsProper}
+use Rattle.tup_parse.specs.Word.{words, is_word_byte, is_file_word, is_reserved, has_word, joined}
+use Rattle.tup_parse.specs.Blanks.{Parts, parts_of}
+use Rattle.tup_parse.specs.RuleLine.{file_words, output_word, output_of, command_text, written_in, written_rule, IsProper}
 
 byte_ascii : (b : ℕ) → is_word_byte b ≡ true → b < 128
 byte_ascii b e = grind (arith, nat_tests)
@@ -83,11 +79,6 @@ pub text_of_ascii : (bytes copy : List ℕ) (r : Option (List ℕ)) → copy ≡
 text_of_ascii bytes copy None same e h = absurd (h (subst IsUtf8 (sym same) (ascii_utf8 bytes e)))
 text_of_ascii bytes copy (Some text) same e h = rw e (ap Some (h.0 ∙ same))
 
-pub list_all_get : {X : Type 0} (p : X → Bool) (xs : List X) (i : ℕ) (x : X) → list_all p xs ≡ true → i < length xs → x ≡ get_or xs i x → p x ≡ true
-list_all_get p [] i x e l h = absurd (omega arith)
-list_all_get p (y ∷ ys) zero x e l h = rw h (and_parts _ _ e).0
-list_all_get p (y ∷ ys) (suc i) x e l h = list_all_get p ys i x (and_parts _ _ e).1 (omega arith) h
-
 -- a word names the file of that name in the top directory
 pub below_word : (word : List ℕ) → is_file_word word ≡ true → below [] word ≡ Ok (word ∷ [])
 below_word [] e = cc
@@ -146,26 +137,20 @@ with_command inputs output c =
     elim c [ None ↦ None | Some command ↦ Some (record { inputs = inputs; command = command; output = output }) ]
 
 abbrev with_output : List (List ℕ) → List ℕ → Option (List ℕ) → Option Written
-with_output inputs part o = elim o [ None ↦ None | Some output ↦ with_command inputs output (command_text inputs output part) ]
+with_output inputs part o = elim o [ None ↦ None | Some output ↦ with_command inputs output (command_text part) ]
 
-command_keeps : (inputs : List (List ℕ)) (output part command : List ℕ) → command_text inputs output part ≡ Some command → keeps_to inputs output (command_of command) (words command) ≡ true
-command_keeps inputs output part command e =
-    let text = trim part in
-    let p = from_if (list_all is_ascii text && keeps_to inputs output (command_of text) (words text)) text command e in
-    subst (λ (t : List ℕ). keeps_to inputs output (command_of t) (words t) ≡ true) p.1 (and_parts (list_all is_ascii text) (keeps_to inputs output (command_of text) (words text)) p.0).1
-
-command_files : (inputs : List (List ℕ)) (output part : List ℕ) (c : Option (List ℕ)) (written : Written) → list_all is_file_word inputs ≡ true → is_file_word output ≡ true
-    → command_text inputs output part ≡ c → with_command inputs output c ≡ Some written → IsProper written
-command_files inputs output part None written f g h e = cc
-command_files inputs output part (Some command) written f g h e =
+command_files : (inputs : List (List ℕ)) (output : List ℕ) (c : Option (List ℕ)) (written : Written) → list_all is_file_word inputs ≡ true → is_file_word output ≡ true
+    → with_command inputs output c ≡ Some written → IsProper written
+command_files inputs output None written f g e = cc
+command_files inputs output (Some command) written f g e =
     let whole : Written = record { inputs = inputs; command = command; output = output } in
     let same : whole ≡ written = cc in
-    subst IsProper same (record { inputs = f; output = g; command = command_keeps inputs output part command h })
+    subst IsProper same (record { inputs = f; output = g })
 
 output_files : (inputs : List (List ℕ)) (part : List ℕ) (op : List ℕ) (o : Option (List ℕ)) (written : Written) → list_all is_file_word inputs ≡ true → output_of op ≡ o
     → with_output inputs part o ≡ Some written → IsProper written
 output_files inputs part op None written f h e = cc
-output_files inputs part op (Some output) written f h e = command_files inputs output part (command_text inputs output part) written f (output_of-is op output h).0 refl e
+output_files inputs part op (Some output) written f h e = command_files inputs output (command_text part) written f (output_of-is op output h).0 e
 
 parts_files : (parts : Parts) (i : Option (List (List ℕ))) (written : Written) → file_words parts.inputs ≡ i
     → (elim i as (λ _. Option Written) [ None ↦ None | Some inputs ↦ with_output inputs parts.command (output_of parts.output) ]) ≡ Some written → IsProper written
@@ -209,27 +194,35 @@ words_step items kept next at word copy name r l read same test some is files re
       ap (λ k. joined k (drop (at + 1) items)) next_is ∙ sym (joined-step kept (drop (at + 1) items) word) ∙ ap (joined kept) (sym back) ∙ rest,
     )
 
--- after the last word
-pub words_end : (items kept : List (List ℕ)) (at : ℕ) (part : List ℕ) → items ≡ words part → length items ≤ at
-    → list_all is_file_word (take at items) ≡ true → joined kept (drop at items) ≡ joined [] items → Some kept ≡ file_words part
-words_end items kept at part is l files rest =
-    let all : list_all is_file_word (words part) ≡ true = subst (λ (xs : List (List ℕ)). list_all is_file_word xs ≡ true) (take_all at items l ∙ is) files in
-    let kept_is : kept ≡ joined [] (words part) = ap (joined kept) (sym (drop_all at items l)) ∙ rest ∙ ap (joined []) is in
-    ap Some kept_is ∙ sym (cond-true (list_all is_file_word (words part)) (Some (joined [] (words part))) None all)
+-- ---- a word as a path
 
--- at a word that names no file
-pub words_bad : (items : List (List ℕ)) (at : ℕ) (word copy : List ℕ) (part : List ℕ) (r : Option (List ℕ)) → items ≡ words part → at < length items → word ≡ get_or items at word → copy ≡ word
-    → r ≡ (if is_file_word copy then Some copy else None) → r ≡ None → None ≡ file_words part
-words_bad items at word copy part r is l read same test none =
-    let bad : is_file_word copy ≡ false = none_if (is_file_word copy) copy (sym none ∙ test) in
-    let here : is_file_word (get_or items at word) ≡ false = subst (λ (w : List ℕ). is_file_word w ≡ false) (same ∙ read) bad in
-    let all : list_all is_file_word (words part) ≡ false = subst (λ (xs : List (List ℕ)). list_all is_file_word xs ≡ false) is (list_all_at is_file_word items at word l here) in
-    sym (cond-false (list_all is_file_word (words part)) (Some (joined [] (words part))) None all)
+not_del : (b : ℕ) → is_word_byte b ≡ true → b ≢ 0x7F
+not_del b h = λ e. let x : is_word_byte 0x7F ≡ true = subst (λ (n : ℕ). is_word_byte n ≡ true) e h in cc
 
--- the same of what the code answers
-pub proper_from : (line : List ℕ) (r : Result (Option Written) ReadEnd) (written : Written) → (r ≡ Err NoMemory) ⊎ (r ≡ Ok (written_rule line)) → r ≡ Ok (Some written) → IsProper written
-proper_from line r written h e =
-    elim h [
-      | inl memory ↦ cc
-      | inr value ↦ let same : written_rule line ≡ Some written = cc in written_rule-IsProper line written same
-    ]
+not_slash : (b : ℕ) → is_word_byte b ≡ true → b ≢ 47
+not_slash b h = λ e. let x : is_word_byte 47 ≡ true = subst (λ (n : ℕ). is_word_byte n ≡ true) e h in cc
+
+is_name : (b : ℕ) → is_word_byte b ≡ true → IsNameByte b
+is_name b h = (grind (arith, nat_tests), not_del b h, not_slash b h)
+
+name_bytes : (word : List ℕ) → list_all is_word_byte word ≡ true → All IsNameByte word
+name_bytes [] e = All-nil IsNameByte
+name_bytes (b ∷ bs) e = let p = and_parts _ _ e in All-cons IsNameByte b bs (is_name b p.0) (name_bytes bs p.1)
+
+not_hidden : (word : List ℕ) → not (eqb (get_or word 0 0) 46) ≡ true → slice_get word 0 ≢ Some 46
+not_hidden [] h = λ e. cc
+not_hidden (b ∷ bs) h = λ e. let same : b ≡ 46 = cc in let x : not (eqb 46 46) ≡ true = subst (λ (n : ℕ). not (eqb n 46) ≡ true) same h in cc
+
+visible_word : (word : List ℕ) → is_file_word word ≡ true → IsVisibleName word
+visible_word word e =
+    let facts = file_word_facts word e in
+    record {
+      text = file_word_utf8 word e;
+      not_empty = leb-true 1 (length word) facts.some;
+      not_long = leb-true (length word) 255 facts.short;
+      not_hidden = not_hidden word facts.no_dot;
+      bytes = name_bytes word facts.bytes;
+    }
+
+pub path_of_word : (word : List ℕ) → is_file_word word ≡ true → IsPath (word ∷ [])
+path_of_word word e = record { names = All-cons IsVisibleName word [] (visible_word word e) (All-nil IsVisibleName); depth = lit≤ tt }

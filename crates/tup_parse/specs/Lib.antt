@@ -1,7 +1,7 @@
 pub mod Blanks
 pub mod Word
 pub mod Known
-pub mod Plain
 pub mod RuleLine
-pub mod Standing
+pub mod Occupant
 pub mod Reading
+pub mod Plain

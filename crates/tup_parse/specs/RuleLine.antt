@@ -1,15 +1,11 @@
--- The one kind of rule line that is read (own): `: INPUTS |> COMMAND |> OUTPUT`, where the command is
--- `cp A B`, `cat A.. > B` or `fail N`, each A being one of the inputs and B the output.
-use Rattle.std.specs.Prelude.{◌≡◌, ℕ, Bool, true, not, ◌&&◌, ◌||◌, ◌==◌, if◌then◌else◌, List, [], length, drop, slice_index, slice_index_or, Option, None, Some, codes, bytes_eq}
+-- The one kind of rule line that is read (own): `: INPUTS |> COMMAND |> OUTPUT`, with names of files of the top
+-- directory. What the command means isn't looked at.
+use Rattle.std.specs.Prelude.{◌≡◌, ℕ, Bool, true, not, ◌&&◌, ◌||◌, ◌==◌, if◌then◌else◌, List, [], length, drop, slice_index, slice_index_or, Option, None, Some}
 use Rattle.std.specs.Char.{is_ascii}
 use Rattle.std.specs.List.{list_all}
-use Rattle.tup_mini.specs.Words.{words}
-use Rattle.tup_mini.specs.Command.{command_of}
-use Rattle.tup_mini.specs.declared.command.Command.{Command}
-use Rattle.tup_mini.specs.declared.command.Command.TheVariants.{Copy, Join, Stop}
 use Rattle.tup_parse.specs.declared.rule_line.Written.{Written}
 use Rattle.tup_parse.specs.Blanks.{trim, Parts, parts_of}
-use Rattle.tup_parse.specs.Word.{is_file_word, is_reserved, has_word, joined, is_status}
+use Rattle.tup_parse.specs.Word.{words, is_file_word, is_reserved, joined}
 
 -- the words of a part that has file words alone, each once
 abbrev pub file_words : List ℕ → Option (List (List ℕ))
@@ -23,22 +19,9 @@ output_word word = if is_file_word word && not (is_reserved word) then Some word
 abbrev pub output_of : List ℕ → Option (List ℕ)
 output_of part = if length (words part) == 1 then output_word (slice_index_or (words part) 0 []) else None
 
--- whether words are `fail N`
-abbrev pub is_fail : List (List ℕ) → Bool
-is_fail words =
-    length words == 2 && bytes_eq (slice_index_or words 0 []) (codes "fail") && is_status (slice_index_or words 1 [])
-
--- whether a command reads inputs of its rule alone, and writes its output
-abbrev pub keeps_to : List (List ℕ) → List ℕ → Command → List (List ℕ) → Bool
-keeps_to inputs output (Copy from to) words = has_word inputs from && bytes_eq to output
-keeps_to inputs output (Join from to) words = list_all (has_word inputs) from && bytes_eq to output
-keeps_to inputs output (Stop status) words = is_fail words
-
--- the text of a command of one of the three forms, without the blanks at its ends
-abbrev pub command_text : List (List ℕ) → List ℕ → List ℕ → Option (List ℕ)
-command_text inputs output part =
-    let text = trim part in
-    if list_all is_ascii text && keeps_to inputs output (command_of text) (words text) then Some text else None
+-- the text of a command in ASCII, without the blanks at its ends
+abbrev pub command_text : List ℕ → Option (List ℕ)
+command_text part = let text = trim part in if list_all is_ascii text then Some text else None
 
 -- the rule of three parts
 abbrev pub written_in : Parts → Option Written
@@ -47,7 +30,7 @@ written_in parts =
       | None ↦ None
       | Some inputs ↦ elim (output_of parts.output) [
         | None ↦ None
-        | Some output ↦ elim (command_text inputs output parts.command) [
+        | Some output ↦ elim (command_text parts.command) [
           | None ↦ None
           | Some command ↦ Some (record { inputs = inputs; command = command; output = output })
         ]
@@ -57,14 +40,15 @@ written_in parts =
 -- the rule of a trimmed line: a colon, and three parts with arrows between them
 abbrev pub written_rule : List ℕ → Option Written
 written_rule line =
-    if slice_index line 0 == 58 then elim (parts_of (drop 1 line)) [ Some parts ↦ written_in parts | None ↦ None ] else None
+    if slice_index line 0 == 58
+    then elim (parts_of (drop 1 line)) [ Some parts ↦ written_in parts | None ↦ None ]
+    else None
 
 -- whether a trimmed line is empty or a comment
 abbrev pub is_skipped : List ℕ → Bool
 is_skipped line = length line == 0 || slice_index line 0 == 35
 
--- what a rule line gives: names of files, and a command that keeps to them
+-- what a rule line gives: names of files
 pub record IsProper (written : Written) : Type 0 where
   pub inputs : list_all is_file_word written.inputs ≡ true
   pub output : is_file_word written.output ≡ true
-  pub command : keeps_to written.inputs written.output (command_of written.command) (words written.command) ≡ true

@@ -1,12 +1,20 @@
 -- The words that a rule may have (own): names of files of the top directory, in letters that need no quoting.
-use Rattle.std.specs.Prelude.{ℕ, Bool, false, not, ◌&&◌, ◌||◌, ◌==◌, nat_le, nat_lt, if◌then◌else◌, List, [], ◌∷◌, ◌++◌, length, slice_index, codes, bytes_eq}
-use Rattle.std.specs.List.{list_all, list_any}
-use Rattle.tup_mini.specs.Command.{is_digit, decimal_value}
+use Rattle.std.specs.Prelude.{ℕ, Bool, true, false, not, ◌&&◌, ◌||◌, ◌==◌, nat_le, if◌then◌else◌, List, [], ◌∷◌, ◌++◌, length, slice_index, codes, bytes_eq}
+use Rattle.std.specs.List.{filter, list_all, list_any, slice_split}
+
+-- whether a piece between two spaces is a word
+abbrev pub is_word : List ℕ → Bool
+is_word [] = false
+is_word (b ∷ bs) = true
+
+-- the words of a text, parted by spaces
+abbrev pub words : List ℕ → List (List ℕ)
+words text = filter is_word (slice_split (λ b. b == 32) text)
 
 -- a byte of a word: an ASCII letter or digit, `_`, `-` or `.`
 abbrev pub is_word_byte : ℕ → Bool
 is_word_byte b =
-    (nat_le 97 b && nat_le b 122) || (nat_le 65 b && nat_le b 90) || is_digit b || (b == 95) || (b == 45) || (b == 46)
+    (nat_le 97 b && nat_le b 122) || (nat_le 65 b && nat_le b 90) || (nat_le 48 b && nat_le b 57) || (b == 95) || (b == 45) || (b == 46)
 
 -- a word of 1 to 255 bytes that doesn't begin with a dot and isn't `foreach`
 abbrev pub is_file_word : List ℕ → Bool
@@ -26,9 +34,3 @@ has_word words word = list_any (bytes_eq word) words
 abbrev pub joined : List (List ℕ) → List (List ℕ) → List (List ℕ)
 joined words [] = words
 joined words (word ∷ more) = if has_word words word then joined words more else joined (words ++ word ∷ []) more
-
--- a status as `fail` takes it: 1 to 255 in decimal without a leading zero
-abbrev pub is_status : List ℕ → Bool
-is_status [] = false
-is_status (d ∷ digits) =
-    list_all is_digit (d ∷ digits) && nat_lt 48 d && nat_lt (length digits) 3 && nat_lt (decimal_value 0 (d ∷ digits)) 256

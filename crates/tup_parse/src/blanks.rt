@@ -1,5 +1,5 @@
 //! How a line is cut.
-ghost use Rattle.std.specs.Prelude.{◌≡◌, ◌==◌, ◌⊎◌, ◌<◌, [], ◌∷◌, None, Some, MatchOption, length, reverse, option_map};
+ghost use Rattle.std.specs.Prelude.{◌≡◌, ◌==◌, ◌⊎◌, ◌<◌, [], ◌∷◌, length, reverse, option_map};
 ghost use Rattle.std.specs.List.{slice_split};
 ghost use Rattle.tup_parse.specs.Blanks as specs;
 
@@ -40,8 +40,7 @@ fn without_end(text: &[u8]) -> &[u8]
 
 /// The first line of a text, and what follows its line feed.
 pub(crate) fn first_line(text: &[u8]) -> (&[u8], &[u8])
-    ensures split { (slice_split (λ b. b == 10) text.now ≡ result.0.now ∷ slice_split (λ b. b == 10) result.1.now)
-        ⊎ ((slice_split (λ b. b == 10) text.now ≡ result.0.now ∷ []) × (result.1.now ≡ [])) }
+    ensures split { specs.IsFirstLine text.now result.0.now result.1.now }
     ensures shorter { 0 < length text.now → length result.1.now < length text.now }
 {
     for at in 0..text.len() {
@@ -66,7 +65,7 @@ fn at_arrow(text: &[u8]) -> Option<(&[u8], &[u8])>
 
 /// The parts of a text that has exactly two arrows.
 pub(crate) fn rule_parts(text: &[u8]) -> Option<Parts<'_>>
-    ensures { MatchOption result (specs.parts_of text.now ≡ None) (λ p. specs.parts_of text.now ≡ Some (record { inputs = p.inputs.now; command = p.command.now; output = p.output.now })) }
+    ensures { option_map specs.in_bytes result ≡ specs.parts_of text.now }
 {
     let (inputs, rest) = at_arrow(text)?;
     let (command, output) = at_arrow(rest)?;

@@ -37,7 +37,8 @@ impl Distinct {
 
     /// The words with one more at the end, unless it is there.
     pub(crate) fn with(self, word: Text) -> Result<Distinct, AllocError>
-        ensures { IfOk result (λ words. words ≡ (if has_word self word then self else self ++ word ∷ [])) }
+        ensures { IfOk result (λ words.
+            words ≡ (if has_word self word then self else self ++ word ∷ [])) }
     {
         let Distinct {
             mut words,
@@ -48,12 +49,6 @@ impl Distinct {
         }
         words.push(word)?;
         Ok(Distinct { words, known })
-    }
-
-    pub(crate) fn has(&self, word: &Text) -> bool
-        ensures { result ≡ has_word self.now word.now }
-    {
-        self.known.contains(word)
     }
 
     pub(crate) fn as_slice(&self) -> &[Text]

@@ -1,19 +1,23 @@
 //! Why a project isn't read.
 use std::alloc::{AllocError, AllocFailed};
+use thiserror::Error;
 use tup_lex::ParseKind;
 use tup_path::Path;
 
 /// Why a reading ends without rules.
-#[derive(Clone, Debug, Drop)]
+#[derive(Clone, Debug, Drop, Error)]
 pub enum ReadEnd {
     /// A file has a fault; the first one is named.
+    #[error("{0}")]
     Fault(ParseFault),
     /// There was no memory; nothing is known of the project.
+    #[error("no memory")]
     Memory,
 }
 
 /// A fault in a file that says what to build.
-#[derive(Clone, Debug, Drop)]
+#[derive(Clone, Debug, Drop, Error)]
+#[error("{file}:{line}: {kind}, read for {dir}")]
 pub struct ParseFault {
     /// The folder for which the file was read.
     pub dir: Path,

@@ -1,10 +1,14 @@
-//! A rule and the place where it is written.
+//! Rules and the places where they are written.
+use tup_path::Items;
 use tup_rule::Rule;
 
 /// A rule with the line that has it.
 #[derive(Debug, Drop)]
-pub(crate) struct Placed {
+pub struct Placed {
     /// The line, counted from 1.
-    pub(crate) line: u32,
-    pub(crate) rule: Rule,
+    pub line: u32,
+    pub rule: Rule,
 }
+
+/// Rules with their lines, in the order of the lines.
+pub type PlacedRules = Items<Placed>;

@@ -1,17 +1,14 @@
 //! A rule line, taken apart.
-ghost use Rattle.std.specs.Prelude.{◌≡◌, ◌⊎◌, None, Some, Ok, Err, IfOk, MatchOption, if◌then◌else◌};
+ghost use Rattle.std.specs.Prelude.{◌≡◌, None, Some, IfOk, if◌then◌else◌};
 ghost use Rattle.std.specs.Char.{is_ascii};
 ghost use Rattle.std.specs.List.{list_all};
-ghost use Rattle.tup_parse.specs.Word.{has_word};
+ghost use Rattle.tup_parse.specs.Blanks.{in_bytes};
 ghost use Rattle.tup_parse.specs.RuleLine as specs;
-ghost use Rattle.tup_mini.specs.Words.{words as words_of};
 
 use crate::blanks::{Parts, rule_parts, trim};
 use crate::distinct::Distinct;
-use crate::fault::ReadEnd;
-use crate::word::{file_word, is_reserved, is_status, words};
+use crate::word::{file_word, is_reserved, words};
 use std::alloc::{AllocError, Global};
-use tup_mini::Command;
 use tup_path::{Bytes, Text};
 
 /// A rule as its line has it.
@@ -23,8 +20,8 @@ pub(crate) struct Written {
 }
 
 /// The rule of a trimmed line, or `None` where the line is of no kind that is read.
-pub(crate) fn written_rule(alloc: Global, line: &[u8]) -> Result<Option<Written>, ReadEnd>
-    ensures { (result ≡ Err ReadEnd.Memory) ⊎ (result ≡ Ok (specs.written_rule line.now)) }
+pub(crate) fn written_rule(alloc: Global, line: &[u8]) -> Result<Option<Written>, AllocError>
+    ensures { IfOk result (λ found. found ≡ specs.written_rule line.now) }
 {
     match line {
         [b':', rest @ ..] => match rule_parts(rest) {
@@ -35,8 +32,8 @@ pub(crate) fn written_rule(alloc: Global, line: &[u8]) -> Result<Option<Written>
     }
 }
 
-fn written_in(alloc: Global, parts: Parts<'_>) -> Result<Option<Written>, ReadEnd>
-    ensures { (result ≡ Err ReadEnd.Memory) ⊎ (result ≡ Ok (specs.written_in (record { inputs = parts.entry.inputs.now; command = parts.entry.command.now; output = parts.entry.output.now }))) }
+fn written_in(alloc: Global, parts: Parts<'_>) -> Result<Option<Written>, AllocError>
+    ensures { IfOk result (λ found. found ≡ specs.written_in (in_bytes parts.entry)) }
 {
     let Some(inputs) = file_words(alloc, parts.inputs)? else {
         return Ok(None);
@@ -44,7 +41,7 @@ fn written_in(alloc: Global, parts: Parts<'_>) -> Result<Option<Written>, ReadEn
     let Some(output) = output(alloc, parts.output)? else {
         return Ok(None);
     };
-    let Some(command) = command_text(alloc, &inputs, &output, parts.command)? else {
+    let Some(command) = ascii_text(alloc, trim(parts.command))? else {
         return Ok(None);
     };
     Ok(Some(Written {
@@ -88,32 +85,10 @@ fn output_word(word: Bytes) -> Option<Text>
     }
 }
 
-/// The text of a command that keeps to the files of its rule, or `None`.
-fn command_text(
-    alloc: Global,
-    inputs: &Distinct,
-    output: &Text,
-    part: &[u8],
-) -> Result<Option<Text>, ReadEnd>
-    ensures { (result ≡ Err ReadEnd.Memory) ⊎ (result ≡ Ok (specs.command_text inputs.now output.now part.now)) }
-{
-    let Some(text) = ascii_text(alloc, trim(part))? else {
-        return Ok(None);
-    };
-    let command = match Command::read(alloc, &text) {
-        Ok(command) => command,
-        Err(_) => return Err(ReadEnd::Memory),
-    };
-    if keeps_to(alloc, inputs, output, &command, text.bytes().as_slice())? {
-        Ok(Some(text))
-    } else {
-        Ok(None)
-    }
-}
-
 /// A copy of ASCII bytes as a text, or `None` where one of them isn't ASCII.
 fn ascii_text(alloc: Global, bytes: &[u8]) -> Result<Option<Text>, AllocError>
-    ensures { IfOk result (λ text. text ≡ (if list_all is_ascii bytes.now then Some bytes.now else None)) }
+    ensures { IfOk result (λ text.
+        text ≡ (if list_all is_ascii bytes.now then Some bytes.now else None)) }
 {
     if !all_ascii(bytes) {
         return Ok(None);
@@ -125,37 +100,4 @@ fn all_ascii(bytes: &[u8]) -> bool
     ensures { result ≡ list_all is_ascii bytes.now }
 {
     bytes.iter().all(|byte| byte.is_ascii())
-}
-
-/// Whether a command reads inputs of its rule alone and writes its output, or is `fail N`.
-fn keeps_to(
-    alloc: Global,
-    inputs: &Distinct,
-    output: &Text,
-    command: &Command,
-    text: &[u8],
-) -> Result<bool, AllocError>
-    ensures { IfOk result (λ kept. kept ≡ specs.keeps_to inputs.now output.now command.now (words_of text.now)) }
-{
-    match command {
-        Command::Copy { from, to } => Ok(inputs.has(from) && to == output),
-        Command::Join { from, to } => Ok(has_all(inputs, from.as_slice()) && to == output),
-        Command::Stop(_) => is_fail(alloc, text),
-    }
-}
-
-fn has_all(inputs: &Distinct, names: &[Text]) -> bool
-    ensures { result ≡ list_all (has_word inputs.now) names.now }
-{
-    names.iter().all(|name| inputs.has(name))
-}
-
-/// Whether a text is `fail N`.
-fn is_fail(alloc: Global, text: &[u8]) -> Result<bool, AllocError>
-    ensures { IfOk result (λ fails. fails ≡ specs.is_fail (words_of text.now)) }
-{
-    match words(alloc, text)?.as_slice() {
-        [name, status] => Ok(name.as_slice() == b"fail".as_slice() && is_status(status.as_slice())),
-        _ => Ok(false),
-    }
 }

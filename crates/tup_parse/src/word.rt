@@ -1,15 +1,14 @@
 //! The words of a rule line.
-ghost use Rattle.std.specs.Prelude.{◌≡◌, ◌==◌, ◌&&◌, not, if◌then◌else◌, None, Some, Ok, Err, IfOk};
+ghost use Rattle.std.specs.Prelude.{◌≡◌, if◌then◌else◌, None, Some, IfOk};
 ghost use Rattle.std.specs.List.{list_all};
-ghost use Rattle.tup_mini.specs.Words.{words as words_of};
 ghost use Rattle.tup_parse.specs.Word as specs;
 
 use std::alloc::{AllocError, Global};
 use tup_path::{Bytes, Items, Text};
 
-/// The words of a text, parted by blanks.
+/// The words of a text, parted by spaces.
 pub(crate) fn words(alloc: Global, text: &[u8]) -> Result<Items<Bytes>, AllocError>
-    ensures { IfOk result (λ found. found ≡ words_of text.now) }
+    ensures { IfOk result (λ found. found ≡ specs.words text.now) }
 {
     let mut found = Items::new(alloc);
     for part in text.split(|byte| *byte == b' ') {
@@ -59,18 +58,4 @@ pub(crate) fn is_reserved(name: &Text) -> bool
     ensures { result ≡ specs.is_reserved name.now }
 {
     matches!(name.as_str(), "Tupfile" | "Tuprules.tup" | "tup.config")
-}
-
-/// Whether a word is a number from 1 to 255 in decimal without a leading zero.
-pub(crate) fn is_status(word: &[u8]) -> bool
-    ensures { result ≡ specs.is_status word.now }
-{
-    match word {
-        [b'1'..=b'9'] => true,
-        [b'1'..=b'9', d] => d.is_ascii_digit(),
-        [h @ b'1'..=b'9', t, d] => t.is_ascii_digit()
-            && d.is_ascii_digit()
-            && [*h, *t, *d] <= *b"255",
-        _ => false,
-    }
 }

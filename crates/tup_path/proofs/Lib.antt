@@ -1,3 +1,6 @@
+pub mod Same
 pub mod Names
 pub mod Walks
+pub mod Cuts
+pub mod Written
 pub mod Shown

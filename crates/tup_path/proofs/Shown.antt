@@ -1,5 +1,5 @@
 -- Names joined one after another, and what two paths share.
-use Rattle.std.proofs.Common.{take, length-take, suc, ◌<◌, ◌+◌, true, false, get_or, drop, drop-cons, length-drop, add-one, bytes_eq, ◌≡◌, ℕ, ◌≤◌, List, [], ◌∷◌, ◌++◌, length, refl, ap, sym, ◌∙◌, arith, append_assoc, All, inl, inr, Result, Ok, Err, OnOk, is_ok, if◌then◌else◌, ◌⊎◌, length-append}
+use Rattle.std.proofs.Common.{take, length-take, ◌<◌, ◌+◌, get_or, drop, length-drop, ◌≡◌, ℕ, ◌≤◌, List, [], ◌∷◌, ◌++◌, length, refl, ap, sym, ◌∙◌, arith, append_assoc, All, inl, inr, Result, Ok, Err, OnOk, is_ok, if◌then◌else◌, ◌⊎◌, length-append}
 use Rattle.std.proofs.lemmas.Grind.{common_steps}
 use Rattle.std.proofs.lemmas.List.{nil_from_length, take_more}
 use Rattle.std.proofs.lemmas.List.Elements.{All-head, All-weaker}
@@ -57,12 +57,6 @@ pub shared_past : (left right : Names) (n : ℕ) → length right ≤ n → spec
 shared_past left right n l =
     let none : drop n right ≡ [] = nil_from_length (drop n right) (omega (arith, length-drop n right)) in
     rw none (shared_end (drop n left))
-
-pub shared_head : (left right : Names) (n : ℕ) → n < length left → n < length right → bytes_eq (get_or left n []) (get_or right n []) ≡ true → specs.shared (drop n left) (drop n right) ≡ suc (specs.shared (drop (n + 1) left) (drop (n + 1) right))
-shared_head left right n l r e = rw (drop-cons left n [], drop-cons right n [], e, add-one)
-
-pub shared_other : (left right : Names) (n : ℕ) → n < length left → n < length right → bytes_eq (get_or left n []) (get_or right n []) ≡ false → specs.shared (drop n left) (drop n right) ≡ 0
-shared_other left right n l r e = rw (drop-cons left n [], drop-cons right n [], e)
 
 show_join : (names : Names) → 1 ≤ length names → show names ≡ join_with_byte 47 names
 show_join [] some = absurd (omega arith)

@@ -7,9 +7,11 @@ use Rattle.std.specs.Cmp.Lexicographic.{pointwise, slice_cmp, lists_ties, lists_
 use Rattle.std.specs.FinMap.{IsAntisymmetric, slice_cmp-IsAntisymmetric, nat_cmp-IsAntisymmetric}
 use Rattle.tup_path.specs.Name.{Names}
 
+-- which of two texts comes first
 abbrev pub by_bytes : List ℕ → List ℕ → Ordering
 by_bytes = slice_cmp nat_cmp
 
+-- which of two paths comes first
 abbrev pub by_names : Names → Names → Ordering
 by_names = slice_cmp by_bytes
 
@@ -21,6 +23,7 @@ same_path = pointwise (pointwise nat_eq)
 pub same_path-by_names : (x y : Names) → same_path x y ≡ eq_by_cmp by_names x y
 same_path-by_names = lists_ties by_bytes texts_ties
 
+-- the laws that `Ord` and `PartialOrd` of a path rest on: the order is total, and ties are equal
 pub by_names-total : IsTotalOrder by_names
 by_names-total = lists_total nat_list_cmp_total
 

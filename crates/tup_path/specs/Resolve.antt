@@ -45,7 +45,11 @@ abbrev pub walk : Names → List (List ℕ) → Result Names PathFault
 walk dir [] = Ok dir
 walk dir (part ∷ parts) = elim (step dir part) [ Ok next ↦ walk next parts | Err fault ↦ Err fault ]
 
+-- the parts of a text, cut at its slashes
+abbrev pub parts : List ℕ → List (List ℕ)
+parts text = slice_split (λ b. b == 47) text
+
 -- the path that a text names from a folder
 abbrev pub resolve : Names → List ℕ → Result Names PathFault
 resolve dir [] = Err Empty
-resolve dir (b ∷ bs) = if b == 47 then Err Outside else walk dir (slice_split (λ c. c == 47) (b ∷ bs))
+resolve dir (b ∷ bs) = if b == 47 then Err Outside else walk dir (parts (b ∷ bs))

@@ -1,5 +1,5 @@
 -- How a path is written. The form is that of every Unix tool.
-use Rattle.std.specs.Prelude.{ℕ, suc, ◌-◌, if◌then◌else◌, List, [], ◌∷◌, ◌++◌, length, drop, bytes_eq, replicate}
+use Rattle.std.specs.Prelude.{◌≡◌, ℕ, suc, ◌≤◌, All, ◌-◌, if◌then◌else◌, List, [], ◌∷◌, ◌++◌, length, drop, bytes_eq, replicate}
 use Rattle.std.specs.List.{join_with_byte}
 use Rattle.tup_path.specs.Name.{Names}
 
@@ -7,6 +7,15 @@ use Rattle.tup_path.specs.Name.{Names}
 abbrev pub show : Names → List ℕ
 show [] = 46 ∷ []
 show (name ∷ names) = join_with_byte 47 (name ∷ names)
+
+-- a part of a path that has a byte at least
+abbrev pub HasBytes : List ℕ → Type 0
+HasBytes part = 1 ≤ length part
+
+-- a text of joined names has gained these behind them, whichever stood there
+abbrev pub GainsNames : List ℕ → List ℕ → Names → Type 0
+GainsNames old new names =
+    (front : Names) → All HasBytes front → old ≡ join_with_byte 47 front → new ≡ join_with_byte 47 (front ++ names)
 
 -- how many names two paths share at their front
 abbrev pub shared : Names → Names → ℕ

@@ -1,5 +1,5 @@
 -- The file tree: a finite map from the paths of files to their contents.
-use Rattle.std.specs.Prelude.{◌≡◌, ◌≢◌, ◌++◌, [], None, IsSome, All}
+use Rattle.std.specs.Prelude.{◌≡◌, ◌≢◌, ◌++◌, List, [], None, IsSome, All}
 use Rattle.std.specs.FinMap as finite
 use Rattle.tup_path.specs.Name.{Names, Content, IsPath}
 use Rattle.tup_path.specs.Order.{by_names}
@@ -7,6 +7,10 @@ use Rattle.tup_path.specs.Order.{by_names}
 -- equal trees are equal values
 abbrev pub Tree : Type 0
 Tree = finite.FinMap by_names Content
+
+-- the map that a list of files makes; where a path stands twice, its first content stays
+abbrev pub tree_of_files : List (Names × Content) → Tree
+tree_of_files files = finite.from_entries files
 
 -- a path lies below another: it goes on where the other ends
 abbrev pub IsBelow : Names → Names → Type 0

@@ -7,6 +7,7 @@ ghost use Rattle.std.proofs.Common.{rules};
 
 use crate::bytes::Bytes;
 use crate::path::Path;
+use crate::text::Text;
 use std::alloc::{AllocError, AllocFailed, Global};
 use std::marker::Model;
 
@@ -15,6 +16,9 @@ use std::marker::Model;
 pub struct Items<T> {
     items: Vec<T>,
 }
+
+/// A list of texts.
+pub type Texts = Items<Text>;
 
 /// A list of paths.
 pub type Paths = Items<Path>;

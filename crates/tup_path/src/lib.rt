@@ -10,16 +10,12 @@ mod fault;
 mod items;
 mod name;
 mod path;
-mod resolve;
 mod show;
 mod text;
 
 pub use bytes::Bytes;
 pub use fault::PathFault;
-pub use items::{Files, Items, Paths};
+pub use items::{Files, Items, Paths, Texts};
 pub use path::{MAX_DEPTH, MAX_NAME, Path};
 pub use show::shown_reads_back;
-pub use text::Text;
-
-#[cfg(test)]
-mod tests;
+pub use text::{MAX_EXPANDED, Text};

@@ -2,18 +2,25 @@
 ghost use Rattle.std.specs.Prelude.{◌≡◌, ◌<◌, ◌⊎◌, ◌↔◌, [], ◌∷◌, ◌++◌, nat_eq, refl, length, slice_get, Some, Ok, Err, IfOk, IsTrue, IfErr, OnOk, OnErr, MatchOption, MatchResult};
 ghost use Rattle.std.specs.Result.{result_ok};
 ghost use Rattle.std.specs.Cmp.Rules.{comparing};
+ghost use Rattle.std.specs.Cmp.Lexicographic.{pointwise_decides, bytes_decides};
+ghost use Rattle.std.specs.Hash as fed;
+ghost use Rattle.std.specs.Hash.{same_Alike};
 ghost use Rattle.std.specs.Ordering.{as_partial_cmp};
 ghost use Rattle.std.proofs.Common.{rules};
 ghost use Rattle.tup_path.specs.Name.{IsPath};
-ghost use Rattle.tup_path.specs.Resolve.{below, above};
+ghost use Rattle.tup_path.specs.Resolve.{resolve, below, above, step, parts, walk};
+ghost use Rattle.tup_path.specs.Show.{show, show_from};
 ghost use Rattle.tup_path.specs.Tree.{IsBelow};
+ghost use Rattle.tup_path.specs.Gives.{GivesUnless};
 ghost use Rattle.tup_path.specs.Order.{by_names, same_path, same_path-by_names, by_names-total, by_names-partial};
 
 use crate::fault::PathFault;
 use crate::name::is_visible;
+use crate::show::{shared, written};
 use crate::text::Text;
 use std::alloc::{AllocError, Global};
 use std::cmp::Ordering;
+use std::hash::{Hash, Hasher};
 use std::marker::Model;
 
 /// How many bytes a name may have.
@@ -50,6 +57,35 @@ impl Path {
         }
     }
 
+    /// The path that a text names from a folder. The text is cut at its slashes: an empty part and
+    /// `.` stay, `..` goes up, and each other part goes down.
+    ///
+    /// `Empty` is refused first, then a slash in front as `Outside`. Then the first part that leads
+    /// nowhere is refused: `Outside` above the top, `TooLong` for more than 255 bytes, `Hidden`
+    /// where it isn't a visible name, `TooLong` where it would be the 33rd name.
+    pub fn resolve(alloc: Global, dir: &Path, text: &Text) -> Result<Path, PathFault>
+        ensures { GivesUnless result PathFault.Memory (resolve dir.now text.now) }
+    {
+        dir.led_by(alloc, text.as_str())
+    }
+
+    /// The path that a text names from the top directory; it is refused as in `resolve`.
+    pub fn from_top(alloc: Global, text: &str) -> Result<Path, PathFault>
+        ensures { GivesUnless result PathFault.Memory (resolve [] text.now) }
+    {
+        Path::top(alloc).led_by(alloc, text)
+    }
+
+    /// The path one name further down. A name that isn't visible, as `.`, `..`, the empty one or
+    /// one with a slash, is `Hidden`; `TooLong` is as in `resolve`.
+    pub fn join(&self, alloc: Global, name: &Text) -> Result<Path, PathFault>
+        ensures { GivesUnless result PathFault.Memory (below self.now name.now) }
+    {
+        let mut path = self.copy(alloc)?;
+        path.push(alloc, name.as_str())?;
+        Ok(path)
+    }
+
     /// How many names the path has; 0 is the top directory.
     pub fn depth(&self) -> usize
         ensures depth { result ≡ length self.now }
@@ -74,10 +110,12 @@ impl Path {
     }
 
     /// The same path once more; it takes memory, and has no other refusal.
-    pub fn copy(&self) -> Result<Path, PathFault>
-        ensures { (result ≡ Err PathFault.Memory) ⊎ (result ≡ Ok self.now) }
+    pub fn copy(&self, alloc: Global) -> Result<Path, PathFault>
+        ensures { GivesUnless result PathFault.Memory (Ok self.now) }
     {
-        Ok(self.clone()?)
+        Ok(Path {
+            names: Vec::from_clones(alloc, &self.names)?,
+        })
     }
 
     /// The names from the top down.
@@ -90,7 +128,7 @@ impl Path {
 
     /// The folder that the path lies in: all names but the last. `None` for the top directory.
     pub fn parent(&self, alloc: Global) -> Result<Option<Path>, PathFault>
-        ensures { (result ≡ Err PathFault.Memory) ⊎ (result ≡ Ok (result_ok (above self.now))) }
+        ensures { GivesUnless result PathFault.Memory (Ok (result_ok (above self.now))) }
     {
         match self.names.split_last() {
             Some((_, folder)) => Ok(Some(Path {
@@ -100,9 +138,66 @@ impl Path {
         }
     }
 
+    /// The names with a slash between them, and `.` for the top directory.
+    pub fn show(&self, alloc: Global) -> Result<Text, PathFault>
+        ensures { GivesUnless result PathFault.Memory (Ok (show self.now)) }
+    {
+        Ok(written(alloc, 0, self.names())?)
+    }
+
+    /// The way from a folder to the path: `..` for each name of the folder past those that both
+    /// share at their front, then the rest of the path. It is `.` where both are equal.
+    pub fn show_from(&self, alloc: Global, dir: &Path) -> Result<Text, PathFault>
+        ensures { GivesUnless result PathFault.Memory (Ok (show_from dir.now self.now)) }
+    {
+        let shared = shared(dir.names(), self.names());
+        let up = dir.depth() - shared;
+        Ok(written(alloc, up, &self.names()[shared..])?)
+    }
+
+    /// Where a text leads from a folder.
+    fn led_by(&self, alloc: Global, text: &str) -> Result<Path, PathFault>
+        ensures { GivesUnless result PathFault.Memory (resolve self.now text.now) }
+    {
+        match text.as_bytes().first() {
+            None => Err(PathFault::Empty),
+            Some(b'/') => Err(PathFault::Outside),
+            Some(_) => self.copy(alloc)?.walk(alloc, text),
+        }
+    }
+
+    /// Goes where the parts of a text lead, one after another.
+    fn walk(self, alloc: Global, text: &str) -> Result<Path, PathFault>
+        ensures { GivesUnless result PathFault.Memory (walk self (parts text.now)) }
+    {
+        let mut path = self;
+        let mut rest = text;
+        'parts: while let Some((part, more)) = rest.split_once('/') {
+            path.step(alloc, part)?;
+            rest = more;
+        }
+        path.step(alloc, rest)?;
+        Ok(path)
+    }
+
+    /// Goes where one part leads.
+    fn step(&mut self, alloc: Global, part: &str) -> Result<(), PathFault>
+        ensures { MatchResult result
+            (λ _. step self.old part.now ≡ Ok self.new)
+            (λ fault. (fault ≡ PathFault.Memory) ⊎ (step self.old part.now ≡ Err fault)) }
+    {
+        match part.as_bytes() {
+            b"" | b"." => Ok(()),
+            b".." => self.pop(),
+            _ => self.push(alloc, part),
+        }
+    }
+
     /// Goes down to a name. After a refusal the path is as it was.
-    pub(crate) fn push(&mut self, alloc: Global, name: &str) -> Result<(), PathFault>
-        ensures way { MatchResult result (λ _. below self.old name.now ≡ Ok self.new) (λ fault. (fault ≡ PathFault.Memory) ⊎ (below self.old name.now ≡ Err fault)) }
+    fn push(&mut self, alloc: Global, name: &str) -> Result<(), PathFault>
+        ensures way { MatchResult result
+            (λ _. below self.old name.now ≡ Ok self.new)
+            (λ fault. (fault ≡ PathFault.Memory) ⊎ (below self.old name.now ≡ Err fault)) }
         ensures kept { OnErr result (self.new ≡ self.old) }
     {
         if name.len() > MAX_NAME {
@@ -119,8 +214,10 @@ impl Path {
     }
 
     /// Goes up by a name. At the top directory that is `Outside`, and the path stays.
-    pub(crate) fn pop(&mut self) -> Result<(), PathFault>
-        ensures { MatchResult result (λ _. above self.old ≡ Ok self.new) (λ fault. (above self.old ≡ Err fault) × (self.new ≡ self.old)) }
+    fn pop(&mut self) -> Result<(), PathFault>
+        ensures { MatchResult result
+            (λ _. above self.old ≡ Ok self.new)
+            (λ fault. (above self.old ≡ Err fault) × (self.new ≡ self.old)) }
     {
         match self.names.pop() {
             Some(_) => Ok(()),
@@ -151,6 +248,16 @@ impl PartialEq for Path {
 
 impl Eq for Path {
     ghost laws = { Prim.search (comparing, rules) };
+}
+
+impl Hash for Path {
+    ghost hash_input = { fed.slice fed.str };
+
+    ghost respects_eq = { (same_Alike (fed.slice fed.str) (pointwise_decides bytes_decides)).fed };
+
+    fn hash<H: Hasher>(&self, state: &mut H) {
+        self.names.hash(state);
+    }
 }
 
 impl PartialOrd for Path {

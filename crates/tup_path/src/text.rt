@@ -1,17 +1,23 @@
 //! A text: bytes that are UTF-8.
-ghost use Rattle.std.specs.Prelude.{◌≡◌, nat_eq, refl, IsUtf8, MatchOption, IfOk, string_bytes, Some};
+ghost use Rattle.std.specs.Prelude.{◌≡◌, nat_eq, refl, IsUtf8, MatchOption, IfOk, string_bytes, Some, ◌++◌, OnOk, OnErr};
 ghost use Rattle.std.specs.Cmp.{partial_order_from_own_ties};
 ghost use Rattle.std.specs.Cmp.Rules.{comparing};
+ghost use Rattle.std.specs.Hash as fed;
+ghost use Rattle.std.specs.Hash.{same_Alike};
 ghost use Rattle.std.specs.Ordering.{as_partial_cmp};
-ghost use Rattle.std.specs.Cmp.Lexicographic.{pointwise};
+ghost use Rattle.std.specs.Cmp.Lexicographic.{pointwise, bytes_decides};
 ghost use Rattle.std.proofs.Common.{rules};
 ghost use Rattle.tup_path.specs.Order.{by_bytes};
 
 use crate::bytes::Bytes;
 use std::alloc::{AllocError, Global};
 use std::cmp::Ordering;
+use std::hash::{Hash, Hasher};
 use std::marker::Model;
 use std::{fmt, str};
+
+/// How many bytes a text may have once its variables or flags are put in.
+pub const MAX_EXPANDED: usize = 1_048_576;
 
 /// A list of bytes that is UTF-8. Contracts see the bytes.
 #[derive(Debug, Drop)]
@@ -71,6 +77,14 @@ impl Text {
         unsafe { str::from_utf8_unchecked(self.bytes.as_slice()) }
     }
 
+    /// Adds a text at the end. After a refusal the text is as it was.
+    pub fn push_str(&mut self, more: &str) -> Result<(), AllocError>
+        ensures ok { OnOk result (self.new ≡ self.old ++ more.now) }
+        ensures err { OnErr result (self.new ≡ self.old) }
+    {
+        self.bytes.extend_from_slice(more.as_bytes())
+    }
+
     /// Gives the bytes back; nothing is copied.
     pub fn into_bytes(self) -> Bytes
         ensures bytes { result ≡ self }
@@ -112,10 +126,21 @@ impl Eq for Text {
     ghost laws = { Prim.search (comparing, rules) };
 }
 
+impl Hash for Text {
+    ghost hash_input = { fed.str };
+
+    ghost respects_eq = { (same_Alike fed.str bytes_decides).fed };
+
+    fn hash<H: Hasher>(&self, state: &mut H) {
+        self.as_str().hash(state);
+    }
+}
+
 impl PartialOrd for Text {
     ghost partial_cmp = { as_partial_cmp by_bytes };
 
-    ghost laws = { partial_order_from_own_ties (Prim.search (comparing, rules)) (Prim.search (comparing, rules)) };
+    ghost laws = { partial_order_from_own_ties
+        (Prim.search (comparing, rules)) (Prim.search (comparing, rules)) };
 
     fn partial_cmp(&self, other: &Text) -> Option<Ordering> {
         Some(self.cmp(other))

@@ -17,13 +17,10 @@ use Rattle.tup_record.specs.declared.record.Record.TheVariants.{Seen, Reading, R
 use Rattle.tup_record.specs.Fields.{run, state}
 use Rattle.tup_record.specs.FieldLaws.{run-exact, state-exact}
 use Rattle.tup_record.specs.Reading.{Gives, whole, parts, Kinds, no_kind, kind, kinds, record_at}
-use Rattle.tup_record.specs.Spelling.{key_of, value_of, Fits}
+use Rattle.tup_record.specs.Spelling.{key_of, value_of, Fits, IsSpelled}
 use Rattle.tup_record.proofs.Ends.{whole_again, whole_short, whole_left, whole_found}
 
 -- ---- what is read is spelled so
-abbrev IsSpelled : List ℕ → List ℕ → Record → Type 0
-IsSpelled key value r = Fits r × (key ≡ key_of r) × (value ≡ value_of r)
-
 record AreKinds (some : Kinds) : Type 0 where
   found : (mark : ℕ) (key value : List ℕ) (r : Record) → IsBytes key → IsBytes value → some mark key value ≡ Ok r → IsSpelled (mark ∷ key) value r
 
@@ -74,7 +71,7 @@ record_found (mark ∷ key) value r kb vb e = all_kinds.found mark key value r (
 abbrev decoded : Record → Result Record RecordFault
 decoded r = Ok r
 
-pub is_found : (key value : List ℕ) (result : Result Record RecordFault) → IsBytes key → IsBytes value → Gives result (record_at key value) → IfOk result (λ r. Fits r × (key ≡ key_of r) × (value ≡ value_of r))
+pub is_found : (key value : List ℕ) (result : Result Record RecordFault) → IsBytes key → IsBytes value → Gives result (record_at key value) → IfOk result (IsSpelled key value)
 is_found key value (Ok r) kb vb (inl memory) = absurd (let no : decoded r ≡ Err Memory = memory in cc)
 is_found key value (Ok r) kb vb (inr e) = record_found key value r kb vb (sym e)
 is_found key value (Err fault) kb vb given = tt

@@ -11,16 +11,19 @@ use Rattle.tup_record.specs.declared.owned.OwnedState.TheVariants.{Never, Unsure
 abbrev pub run : Format RunRecord
 run = as_if (λ x. record { asks = x.0; writes = x.1 }) (λ r. (r.asks, r.writes)) (list (path & option stamp) & list (path & stamp))
 
+-- the state of an owned path: the mark 0 or 1 alone, or the mark 2 and a stamp
 abbrev pub StateFits : OwnedState → Type 0
 StateFits Never = Unit {0}
 StateFits Unsure = Unit {0}
 StateFits (Written s) = stamp.Fits s
 
+-- its spelling
 abbrev pub state_spelling : OwnedState → List ℕ
 state_spelling Never = 0 ∷ []
 state_spelling Unsure = 1 ∷ []
 state_spelling (Written s) = 2 ∷ stamp.spelling s
 
+-- its format
 abbrev pub state : Format OwnedState
 state = record {
   Fits = StateFits;

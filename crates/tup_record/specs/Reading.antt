@@ -1,5 +1,6 @@
 -- How the spelling of a record is read, from the left, the key before the value (own).
-use Rattle.std.specs.Prelude.{◌≡◌, ◌⊎◌, ℕ, List, [], ◌∷◌, Result, Ok, Err, ◌==◌, if◌then◌else◌}
+use Rattle.std.specs.Prelude.{◌≡◌, ◌≢◌, ℕ, List, [], ◌∷◌, ◌++◌, Result, Ok, Err, ◌==◌, if◌then◌else◌}
+use Rattle.tup_path.specs.Gives.{GivesUnless}
 use Rattle.tup_field.specs.declared.fault.RecordFault.{RecordFault}
 use Rattle.tup_field.specs.declared.fault.RecordFault.TheVariants.{Short, BadKind, Trailing, Memory}
 use Rattle.tup_field.specs.Format.{Format, ◌>>=◌}
@@ -12,7 +13,11 @@ use Rattle.tup_record.specs.declared.record.Record.TheVariants.{Seen, Reading, R
 
 -- an answer, unless memory ran out
 abbrev pub Gives : Result Record RecordFault → Result Record RecordFault → Type 0
-Gives result answer = (result ≡ Err Memory) ⊎ (result ≡ answer)
+Gives result answer = GivesUnless result Memory answer
+
+-- bytes that go on behind a front of theirs
+abbrev pub GoesOn : List ℕ → List ℕ → Type 0
+GoesOn front bytes = (more : List ℕ) × (more ≢ []) × (bytes ≡ front ++ more)
 
 -- a value that no bytes are left behind
 abbrev pub ended : {A : Type 0} → A → List ℕ → Result A RecordFault
@@ -36,6 +41,7 @@ parts f g key value = do
 abbrev pub Kinds : Type 0
 Kinds = ℕ → List ℕ → List ℕ → Result Record RecordFault
 
+-- no byte is known
 abbrev pub no_kind : Kinds
 no_kind mark key value = Err BadKind
 
@@ -45,6 +51,7 @@ kind own f g make others mark key value = if mark == own then (do
   x ← parts f g key value
   Ok (make x.0 x.1)) else others mark key value
 
+-- the seven kinds
 abbrev pub kinds : Kinds
 kinds =
     kind 1 path stamp (λ p s. Seen p s) (kind 2 path reading (λ dir r. Reading dir r) (kind 3 number (number & rule) (λ n x. Rule n x.0 x.1) (kind 4 number run (λ n r. Run n r)

@@ -1,5 +1,5 @@
 -- The one spelling of each record: a key, which begins with the byte of its kind, and a value (own).
-use Rattle.std.specs.Prelude.{ℕ, List, [], ◌∷◌}
+use Rattle.std.specs.Prelude.{◌≡◌, ℕ, List, [], ◌∷◌}
 use Rattle.tup_field.specs.Parts.{number, ◌&◌, option}
 use Rattle.tup_field.specs.Values.{path, stamp}
 use Rattle.tup_field.specs.Rules.{rule, reading}
@@ -7,6 +7,7 @@ use Rattle.tup_record.specs.Fields.{run, state}
 use Rattle.tup_record.specs.declared.record.Record.{Record}
 use Rattle.tup_record.specs.declared.record.Record.TheVariants.{Seen, Reading, Rule, Run, Owned, Create, Modify}
 
+-- the key: the byte of the kind, then what tells the record from others of its kind
 abbrev pub key_of : Record → List ℕ
 key_of (Seen p s) = 1 ∷ path.spelling p
 key_of (Reading dir r) = 2 ∷ path.spelling dir
@@ -16,6 +17,7 @@ key_of (Owned p maker s) = 5 ∷ path.spelling p
 key_of (Create dir) = 6 ∷ path.spelling dir
 key_of (Modify n) = 7 ∷ number.spelling n
 
+-- the value: all that isn't in the key
 abbrev pub value_of : Record → List ℕ
 value_of (Seen p s) = stamp.spelling s
 value_of (Reading dir r) = reading.spelling r
@@ -25,6 +27,7 @@ value_of (Owned p maker s) = (option number & state).spelling (maker, s)
 value_of (Create dir) = []
 value_of (Modify n) = []
 
+-- the key has a spelling
 abbrev pub KeyFits : Record → Type 0
 KeyFits (Seen p s) = path.Fits p
 KeyFits (Reading dir r) = path.Fits dir
@@ -34,6 +37,7 @@ KeyFits (Owned p maker s) = path.Fits p
 KeyFits (Create dir) = path.Fits dir
 KeyFits (Modify n) = number.Fits n
 
+-- the value has a spelling
 abbrev pub ValueFits : Record → Type 0
 ValueFits (Seen p s) = stamp.Fits s
 ValueFits (Reading dir r) = reading.Fits r
@@ -46,3 +50,7 @@ ValueFits (Modify n) = Unit {0}
 -- the record has a spelling
 abbrev pub Fits : Record → Type 0
 Fits r = KeyFits r × ValueFits r
+
+-- a key and a value are the spelling of a record
+abbrev pub IsSpelled : List ℕ → List ℕ → Record → Type 0
+IsSpelled key value r = Fits r × (key ≡ key_of r) × (value ≡ value_of r)

@@ -17,6 +17,3 @@ pub use record::Record;
 pub use run::{Asks, RunRecord, Writes};
 pub use spell::encode;
 pub use tup_field::RecordFault;
-
-#[cfg(test)]
-mod tests;

@@ -1,7 +1,8 @@
 //! How the spelling of a record is read.
-ghost use Rattle.std.specs.Prelude.{◌≡◌, ◌≢◌, ◌⊎◌, ◌∷◌, ◌++◌, ◌<◌, [], List, ℕ, Ok, Err, IfOk};
-ghost use Rattle.tup_record.specs.Reading.{whole as whole_of, parts as parts_of, kinds, record_at, Gives};
-ghost use Rattle.tup_record.specs.Spelling.{Fits, key_of, value_of};
+ghost use Rattle.std.specs.Prelude.{◌≡◌, ◌⊎◌, ◌∷◌, ◌<◌, List, ℕ, Ok, Err, IfOk};
+ghost use Rattle.tup_path.specs.Gives.{GivesUnless};
+ghost use Rattle.tup_record.specs.Reading.{whole as whole_of, parts as parts_of, kinds, record_at, Gives, GoesOn};
+ghost use Rattle.tup_record.specs.Spelling.{Fits, IsSpelled, key_of, value_of};
 ghost use Rattle.tup_record.specs.declared.record.Record.{Record};
 
 use crate::owned::OwnedState;
@@ -18,25 +19,31 @@ use tup_stamp::Stamp;
 /// where bytes spell no value of their field, `Trailing` where bytes are left behind the last field.
 pub fn decode(alloc: Global, key: &Bytes, value: &Bytes) -> Result<Record, RecordFault>
     // What is read is spelled so.
-    ensures found { IfOk result (λ entry. Fits entry × (key.now ≡ key_of entry) × (value.now ≡ value_of entry)) }
+    ensures found { IfOk result (IsSpelled key.now value.now) }
     // What is spelled so is read.
-    ensures only { (entry : Record) → Fits entry → key.now ≡ key_of entry → value.now ≡ value_of entry → Gives result (Ok entry) }
+    ensures only { (entry : Record) → IsSpelled key.now value.now entry → Gives result (Ok entry) }
     // A spelling that is cut off is short.
-    ensures short_key { (entry : Record) (more : List ℕ) → Fits entry → more ≢ [] → key_of entry ≡ key.now ++ more → Gives result (Err RecordFault.Short) }
-    ensures short_value { (entry : Record) (more : List ℕ) → Fits entry → more ≢ [] → key.now ≡ key_of entry → value_of entry ≡ value.now ++ more → Gives result (Err RecordFault.Short) }
+    ensures short_key { (entry : Record) → Fits entry → GoesOn key.now (key_of entry)
+        → Gives result (Err RecordFault.Short) }
+    ensures short_value { (entry : Record) → Fits entry → key.now ≡ key_of entry
+        → GoesOn value.now (value_of entry) → Gives result (Err RecordFault.Short) }
     // Bytes behind a spelling are trailing.
-    ensures trailing_key { (entry : Record) (more : List ℕ) → Fits entry → more ≢ [] → key.now ≡ key_of entry ++ more → Gives result (Err RecordFault.Trailing) }
-    ensures trailing_value { (entry : Record) (more : List ℕ) → Fits entry → more ≢ [] → key.now ≡ key_of entry → value.now ≡ value_of entry ++ more → Gives result (Err RecordFault.Trailing) }
+    ensures trailing_key { (entry : Record) → Fits entry → GoesOn (key_of entry) key.now
+        → Gives result (Err RecordFault.Trailing) }
+    ensures trailing_value { (entry : Record) → Fits entry → key.now ≡ key_of entry
+        → GoesOn (value_of entry) value.now → Gives result (Err RecordFault.Trailing) }
     // The kinds are 1 to 7.
-    ensures bad_kind { (kind : ℕ) (rest : List ℕ) → (kind ≡ 0) ⊎ (7 < kind) → key.now ≡ kind ∷ rest → Gives result (Err RecordFault.BadKind) }
+    ensures bad_kind { (kind : ℕ) (rest : List ℕ) → (kind ≡ 0) ⊎ (7 < kind) → key.now ≡ kind ∷ rest
+        → Gives result (Err RecordFault.BadKind) }
     // Which fault it is.
     ensures exact { Gives result (record_at key.now value.now) }
 {
     entry(alloc, key.as_slice(), value.as_slice())
 }
 
+/// The record that a key and a value spell.
 fn entry(alloc: Global, key: &[u8], value: &[u8]) -> Result<Record, RecordFault>
-    ensures found { IfOk result (λ entry. Fits entry × (key.now ≡ key_of entry) × (value.now ≡ value_of entry)) }
+    ensures found { IfOk result (IsSpelled key.now value.now) }
     ensures exact { Gives result (record_at key.now value.now) }
 {
     let Some((kind, key)) = key.split_first() else {
@@ -90,7 +97,7 @@ fn of_kind(alloc: Global, kind: u8, key: &[u8], value: &[u8]) -> Result<Record, 
 
 /// What all bytes of a key and all bytes of a value spell, the key first.
 fn parts<K: Field, V: Field>(alloc: Global, key: &[u8], value: &[u8]) -> Result<(K, V), RecordFault>
-    ensures { (result ≡ Err RecordFault.Memory) ⊎ (result ≡ parts_of K.format V.format key.now value.now) }
+    ensures { GivesUnless result RecordFault.Memory (parts_of K.format V.format key.now value.now) }
 {
     let key = whole::<K>(alloc, key)?;
     let value = whole::<V>(alloc, value)?;
@@ -99,7 +106,7 @@ fn parts<K: Field, V: Field>(alloc: Global, key: &[u8], value: &[u8]) -> Result<
 
 /// What all of the bytes spell.
 fn whole<T: Field>(alloc: Global, bytes: &[u8]) -> Result<T, RecordFault>
-    ensures { (result ≡ Err RecordFault.Memory) ⊎ (result ≡ whole_of T.format bytes.now) }
+    ensures { GivesUnless result RecordFault.Memory (whole_of T.format bytes.now) }
 {
     let mut reader = Reader::new(bytes);
     let value = T::read(alloc, &mut reader)?;

@@ -1,6 +1,9 @@
 //! What the store keeps.
+ghost use Rattle.std.specs.Prelude.{◌≡◌};
+
 use crate::owned::OwnedState;
 use crate::run::RunRecord;
+use std::alloc::AllocError;
 use tup_path::Path;
 use tup_rule::{Reading, Rule};
 use tup_stamp::Stamp;
@@ -43,4 +46,41 @@ pub enum Record {
     Modify {
         number: u32,
     },
+}
+
+impl Clone for Record {
+    ghost is_clone = { λ entry copy. copy ≡ entry };
+
+    fn clone(&self) -> Result<Record, AllocError> {
+        Ok(match self {
+            Record::Seen { path, stamp } => Record::Seen {
+                path: path.clone()?,
+                stamp: *stamp,
+            },
+            Record::Reading { dir, reading } => Record::Reading {
+                dir: dir.clone()?,
+                reading: reading.clone()?,
+            },
+            Record::Rule {
+                number,
+                place,
+                rule,
+            } => Record::Rule {
+                number: *number,
+                place: *place,
+                rule: rule.clone()?,
+            },
+            Record::Run { number, run } => Record::Run {
+                number: *number,
+                run: run.clone()?,
+            },
+            Record::Owned { path, maker, state } => Record::Owned {
+                path: path.clone()?,
+                maker: *maker,
+                state: *state,
+            },
+            Record::Create { dir } => Record::Create { dir: dir.clone()? },
+            Record::Modify { number } => Record::Modify { number: *number },
+        })
+    }
 }

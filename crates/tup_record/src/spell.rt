@@ -1,5 +1,6 @@
 //! How a record is spelled.
-ghost use Rattle.std.specs.Prelude.{◌≡◌, ◌⊎◌, ◌∷◌, ◌++◌, MatchResult};
+ghost use Rattle.std.specs.Prelude.{◌≡◌, ◌∷◌, MatchResult};
+ghost use Rattle.tup_field.specs.Format.{IsUnwritten};
 ghost use Rattle.tup_field.specs.Parts.{◌&◌};
 ghost use Rattle.tup_record.specs.Spelling.{KeyFits, ValueFits, Fits, key_of, value_of};
 
@@ -13,7 +14,7 @@ use tup_path::Bytes;
 pub fn encode(alloc: Global, entry: &Record) -> Result<(Bytes, Bytes), RecordFault>
     ensures { MatchResult result
         (λ spelled. Fits entry.now × (spelled ≡ (key_of entry.now, value_of entry.now)))
-        (λ fault. (fault ≡ RecordFault.Memory) ⊎ ((fault ≡ RecordFault.BadField) × (¬ Fits entry.now))) }
+        (IsUnwritten (Fits entry.now)) }
 {
     let key = key(alloc, entry)?;
     let value = value(alloc, entry)?;
@@ -24,7 +25,7 @@ pub fn encode(alloc: Global, entry: &Record) -> Result<(Bytes, Bytes), RecordFau
 fn key(alloc: Global, entry: &Record) -> Result<Bytes, RecordFault>
     ensures { MatchResult result
         (λ key. KeyFits entry.now × (key ≡ key_of entry.now))
-        (λ fault. (fault ≡ RecordFault.Memory) ⊎ ((fault ≡ RecordFault.BadField) × (¬ KeyFits entry.now))) }
+        (IsUnwritten (KeyFits entry.now)) }
 {
     match entry {
         Record::Seen { path, .. } => marked(alloc, 1, path),
@@ -41,7 +42,7 @@ fn key(alloc: Global, entry: &Record) -> Result<Bytes, RecordFault>
 fn value(alloc: Global, entry: &Record) -> Result<Bytes, RecordFault>
     ensures { MatchResult result
         (λ value. ValueFits entry.now × (value ≡ value_of entry.now))
-        (λ fault. (fault ≡ RecordFault.Memory) ⊎ ((fault ≡ RecordFault.BadField) × (¬ ValueFits entry.now))) }
+        (IsUnwritten (ValueFits entry.now)) }
 {
     match entry {
         Record::Seen { stamp, .. } => alone(alloc, stamp),
@@ -57,7 +58,7 @@ fn value(alloc: Global, entry: &Record) -> Result<Bytes, RecordFault>
 fn marked<T: Field>(alloc: Global, kind: u8, field: &T) -> Result<Bytes, RecordFault>
     ensures { MatchResult result
         (λ bytes. T.format.Fits field.now × (bytes ≡ kind ∷ T.format.spelling field.now))
-        (λ fault. (fault ≡ RecordFault.Memory) ⊎ ((fault ≡ RecordFault.BadField) × (¬ T.format.Fits field.now))) }
+        (IsUnwritten (T.format.Fits field.now)) }
 {
     let mut bytes = Bytes::new(Vec::new(alloc));
     bytes.extend_from_slice(&[kind])?;
@@ -69,7 +70,7 @@ fn marked<T: Field>(alloc: Global, kind: u8, field: &T) -> Result<Bytes, RecordF
 fn alone<T: Field>(alloc: Global, field: &T) -> Result<Bytes, RecordFault>
     ensures { MatchResult result
         (λ bytes. T.format.Fits field.now × (bytes ≡ T.format.spelling field.now))
-        (λ fault. (fault ≡ RecordFault.Memory) ⊎ ((fault ≡ RecordFault.BadField) × (¬ T.format.Fits field.now))) }
+        (IsUnwritten (T.format.Fits field.now)) }
 {
     let mut bytes = Bytes::new(Vec::new(alloc));
     field.write(&mut bytes)?;
@@ -79,8 +80,9 @@ fn alone<T: Field>(alloc: Global, field: &T) -> Result<Bytes, RecordFault>
 /// The spellings of two fields, one behind the other.
 fn both<A: Field, B: Field>(alloc: Global, first: &A, second: &B) -> Result<Bytes, RecordFault>
     ensures { MatchResult result
-        (λ bytes. (A.format & B.format).Fits (first.now, second.now) × (bytes ≡ (A.format & B.format).spelling (first.now, second.now)))
-        (λ fault. (fault ≡ RecordFault.Memory) ⊎ ((fault ≡ RecordFault.BadField) × (¬ (A.format & B.format).Fits (first.now, second.now)))) }
+        (λ bytes. (A.format & B.format).Fits (first.now, second.now)
+        × (bytes ≡ (A.format & B.format).spelling (first.now, second.now)))
+        (IsUnwritten ((A.format & B.format).Fits (first.now, second.now))) }
 {
     let mut bytes = Bytes::new(Vec::new(alloc));
     first.write(&mut bytes)?;

@@ -1,3 +1,3 @@
 pub mod Rule
+pub mod Producer
 pub mod Question
-pub mod Laws

@@ -5,7 +5,7 @@ use std::alloc::AllocError;
 use tup_path::{Items, Path, Paths, Text};
 
 /// A group: the rules of the whole project give files to it, and others take them.
-#[derive(Debug, Drop, PartialEq, Eq)]
+#[derive(Debug, Drop, PartialEq, Eq, Hash)]
 pub struct GroupRef {
     /// The folder in which the group stands.
     pub dir: Path,

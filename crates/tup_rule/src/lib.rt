@@ -12,8 +12,5 @@ mod rule;
 
 pub use draft::{Draft, Drafts, GroupRef, GroupRefs, Piece, Pieces};
 pub use fault::RuleFault;
-pub use question::{Asked, Kind, Names, Noted, Question, Reading, Told};
+pub use question::{Kind, Noted, Question, Questions, Reading, Told};
 pub use rule::{Rule, RuleName, Rules};
-
-#[cfg(test)]
-mod tests;

@@ -4,7 +4,7 @@ ghost use Rattle.tup_rule.specs.Question.{noted};
 
 use crate::draft::Drafts;
 use std::alloc::AllocError;
-use tup_path::{Bytes, Items, Path, Text};
+use tup_path::{Bytes, Items, Path, Text, Texts};
 use tup_stamp::{Stamp, stamp_of};
 
 /// What stands at a path.
@@ -44,9 +44,6 @@ impl Clone for Question {
     }
 }
 
-/// Names of files, in byte order.
-pub type Names = Items<Text>;
-
 /// What a reading is told; each answer has the kind of its question.
 #[derive(Debug, Drop, PartialEq, Eq)]
 pub enum Told {
@@ -55,7 +52,7 @@ pub enum Told {
     /// The value, or `None` where tup.config sets none.
     Config(Option<Text>),
     /// The names of the files in the folder, in byte order.
-    Names(Names),
+    Names(Texts),
     /// What stands at the path.
     Kind(Kind),
 }
@@ -81,7 +78,7 @@ pub enum Noted {
     /// The value, or `None` where tup.config set none.
     Config(Option<Text>),
     /// The names of the files in the folder, in byte order.
-    Names(Names),
+    Names(Texts),
     /// What stood at the path.
     Kind(Kind),
 }
@@ -116,7 +113,7 @@ impl Told {
 }
 
 /// Questions with what was told, in the order of their first asking.
-pub type Asked = Items<(Question, Noted)>;
+pub type Questions = Items<(Question, Noted)>;
 
 /// What the reading of one folder's Tupfile leaves.
 #[derive(Debug, Drop, PartialEq, Eq)]
@@ -124,7 +121,7 @@ pub struct Reading {
     /// Its rules, in the order of their lines.
     pub drafts: Drafts,
     /// What it asked, each question once, and what it was told.
-    pub asked: Asked,
+    pub asked: Questions,
 }
 
 impl Clone for Reading {

@@ -1,8 +1,10 @@
 //! A rule of a Tupfile, ready to be run.
-ghost use Rattle.std.specs.Prelude.{◌≡◌, ◌↔◌, IsTrue, IfOk};
+ghost use Rattle.std.specs.Prelude.{◌≡◌, ◌↔◌, Ok, IsTrue};
+ghost use Rattle.tup_path.specs.Gives.{GivesUnless};
 ghost use Rattle.tup_rule.specs.Rule.{among};
 
 use crate::fault::RuleFault;
+use std::alloc::Global;
 use tup_path::{Items, Path, Paths, Text};
 
 /// One command with its folder, the files that it may read and those that it makes.
@@ -38,6 +40,7 @@ pub type Rules = Items<Rule>;
 
 impl Rule {
     ghost use Rattle.tup_rule.specs.Rule.{declares, writes, name_of, label_of};
+    ghost use Rattle.tup_rule.specs.declared.fault.RuleFault.{RuleFault};
 
     /// Whether two rules are the same in every field. It takes no memory.
     pub fn same(&self, other: &Rule) -> bool
@@ -61,21 +64,21 @@ impl Rule {
     }
 
     /// The rule's folder and its command, copied.
-    pub fn name(&self) -> Result<RuleName, RuleFault>
-        ensures { IfOk result (λ name. name ≡ name_of self.now) }
+    pub fn name(&self, alloc: Global) -> Result<RuleName, RuleFault>
+        ensures { GivesUnless result RuleFault.Memory (Ok (name_of self.now)) }
     {
         Ok(RuleName {
-            dir: self.dir.clone()?,
-            text: self.text.clone()?,
+            dir: self.dir.copy(alloc).map_err(|_| RuleFault::Memory)?,
+            text: Text::from_str(alloc, self.text.as_str())?,
         })
     }
 
     /// What is printed for the rule, copied: its display text, or its command where there is none.
-    pub fn label(&self) -> Result<Text, RuleFault>
-        ensures { IfOk result (λ label. label ≡ label_of self.now) }
+    pub fn label(&self, alloc: Global) -> Result<Text, RuleFault>
+        ensures { GivesUnless result RuleFault.Memory (Ok (label_of self.now)) }
     {
         let label = self.display.as_ref().unwrap_or(&self.text);
-        Ok(label.clone()?)
+        Ok(Text::from_str(alloc, label.as_str())?)
     }
 }
 

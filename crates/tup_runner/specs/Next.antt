@@ -5,8 +5,10 @@ use Rattle.tup_path.specs.Name.{Names}
 use Rattle.tup_runner.specs.declared.step.Answer.{Answer}
 use Rattle.tup_runner.specs.declared.step.Step.{Step}
 
-abbrev pub Asked : Type 0
-Asked = List (List ℕ × Answer)
+-- the texts that a command has asked for, in their order, each with what it was answered
+abbrev pub Asks : Type 0
+Asks = List (List ℕ × Answer)
 
+-- what a runner does next
 abbrev pub Next : Type 0
-Next = Names → List ℕ → Asked → Step
+Next = Names → List ℕ → Asks → Step

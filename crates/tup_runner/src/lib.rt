@@ -3,4 +3,4 @@
 
 mod step;
 
-pub use step::{Answer, Asked, Ended, Step, Writes};
+pub use step::{Answer, Asks, Ended, Step, Writes};

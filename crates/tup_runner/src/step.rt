@@ -9,7 +9,7 @@ pub enum Answer {
 }
 
 /// The files that a command has asked for, each by the text that it used, with the answers.
-pub type Asked = Items<(Text, Answer)>;
+pub type Asks = Items<(Text, Answer)>;
 
 /// The files that a command wrote, each by the text that it used, in the order of writing.
 pub type Writes = Items<(Text, Bytes)>;

@@ -1,3 +1,4 @@
+pub mod Trees
 pub mod Places
 pub mod Changes
 pub mod Made

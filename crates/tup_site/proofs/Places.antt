@@ -14,10 +14,10 @@ use Rattle.std.specs.BTreeMap.{BTreeMap, get}
 use Rattle.std.specs.BTreeMap.Range.{IsRangeOf, IsEntryInRange, IsLeBy}
 use Rattle.std.proofs.lemmas.List.{append-nil}
 use Rattle.tup_path.specs.Name.{Names, Content}
-use Rattle.tup_path.specs.Tree.{IsTree, IsBelow}
+use Rattle.tup_path.specs.Tree.{IsTree, IsBelow, tree_of_files}
 use Rattle.tup_path.specs.Order.{by_bytes, by_names, by_names-total}
-use Rattle.tup_site.specs.Edit.{tree_of, NoneAbove, NoneBelow}
-use Rattle.tup_site.specs.Trees.{get-of_entries}
+use Rattle.tup_site.specs.Edit.{NoneAbove, NoneBelow}
+use Rattle.tup_site.proofs.Trees.{get-of_entries}
 
 module _ {K : Type 0} {R : K → K → Ordering} (o : IsTotalOrder R) where
   -- what stands between a list and one that goes on from it goes on from it too
@@ -71,22 +71,22 @@ same_or_below : (a q : Names) → (s : Names) × (q ≡ a ++ s) → (q ≡ a) �
 same_or_below a q ([], e) = inl (e ∙ append-nil a)
 same_or_below a q (x ∷ s, e) = inr (x ∷ s, (λ (no : x ∷ s ≡ []). cc), e)
 
-some_entry : (m : BTreeMap Names Content) (q : Names) (content : Content) → get by_names m q ≡ Some content → IsSome (finite.get (tree_of m.entries) q)
+some_entry : (m : BTreeMap Names Content) (q : Names) (content : Content) → get by_names m q ≡ Some content → IsSome (finite.get (tree_of_files m.entries) q)
 some_entry m q content e = ap is_some (get-of_entries by_names-total m.entries q ∙ e)
 
-has_entry : (m : BTreeMap Names Content) (q : Names) → IsSome (finite.get (tree_of m.entries) q) → IsSome (get by_names m q)
+has_entry : (m : BTreeMap Names Content) (q : Names) → IsSome (finite.get (tree_of_files m.entries) q) → IsSome (get by_names m q)
 has_entry m q s = subst IsSome (get-of_entries by_names-total m.entries q) s
 
-no_entry : (m : BTreeMap Names Content) (q : Names) → get by_names m q ≡ None → IsSome (finite.get (tree_of m.entries) q) → ⊥
+no_entry : (m : BTreeMap Names Content) (q : Names) → get by_names m q ≡ None → IsSome (finite.get (tree_of_files m.entries) q) → ⊥
 no_entry m q none s = let no : false ≡ true = sym (ap is_some none) ∙ has_entry m q s in cc
 
 -- no file comes before a path
-pub none_above_at_front : (m : BTreeMap Names Content) (path : Names) (r : List (Names × Content)) → IsRangeOf by_names Unbounded (Excluded path) m r → r ≡ [] → NoneAbove (tree_of m.entries) path
+pub none_above_at_front : (m : BTreeMap Names Content) (path : Names) (r : List (Names × Content)) → IsRangeOf by_names Unbounded (Excluded path) m r → r ≡ [] → NoneAbove (tree_of_files m.entries) path
 none_above_at_front m path r range empty file s below =
     no_entry m file (range.5 empty file (tt, folder_first file path below)) s
 
 -- the file right before a path isn't above it, and so none is
-above_is_before : (m : BTreeMap Names Content) (path : Names) (r t : List (Names × Content)) (e : Names × Content) → IsTree (tree_of m.entries) → IsRangeOf by_names Unbounded (Excluded path) m r → r ≡ t ++ e ∷ [] → (IsBelow e.0 path → ⊥) → NoneAbove (tree_of m.entries) path
+above_is_before : (m : BTreeMap Names Content) (path : Names) (r t : List (Names × Content)) (e : Names × Content) → IsTree (tree_of_files m.entries) → IsRangeOf by_names Unbounded (Excluded path) m r → r ≡ t ++ e ∷ [] → (IsBelow e.0 path → ⊥) → NoneAbove (tree_of_files m.entries) path
 above_is_before m path r t e is range last apart file s below =
     let at = range.3 e t last in
     let before = range.4 e t last file (tt, folder_first file path below) (has_entry m file s) in
@@ -96,17 +96,17 @@ above_is_before m path r t e is range last apart file s below =
       | inr under ↦ is.no_file_above file e.0 s (some_entry m e.0 e.1 at.1) under
     ]
 
-pub none_above_from_last : (m : BTreeMap Names Content) (path : Names) (r t : List (Names × Content)) (e : Names × Content) (b : Bool) → IsTree (tree_of m.entries) → IsRangeOf by_names Unbounded (Excluded path) m r → r ≡ t ++ e ∷ [] → IsTrue b ↔ IsBelow e.0 path → IsTrue (not b) ↔ NoneAbove (tree_of m.entries) path
+pub none_above_from_last : (m : BTreeMap Names Content) (path : Names) (r t : List (Names × Content)) (e : Names × Content) (b : Bool) → IsTree (tree_of_files m.entries) → IsRangeOf by_names Unbounded (Excluded path) m r → r ≡ t ++ e ∷ [] → IsTrue b ↔ IsBelow e.0 path → IsTrue (not b) ↔ NoneAbove (tree_of_files m.entries) path
 none_above_from_last m path r t e b is range last tested =
     as_no_fact b _ _ tested (λ below none. none e.0 (some_entry m e.0 e.1 (range.3 e t last).1) below) (above_is_before m path r t e is range last)
 
 -- no file comes behind a path
-pub none_below_at_end : (m : BTreeMap Names Content) (path : Names) (r : List (Names × Content)) → IsRangeOf by_names (Excluded path) Unbounded m r → r ≡ [] → NoneBelow (tree_of m.entries) path
+pub none_below_at_end : (m : BTreeMap Names Content) (path : Names) (r : List (Names × Content)) → IsRangeOf by_names (Excluded path) Unbounded m r → r ≡ [] → NoneBelow (tree_of_files m.entries) path
 none_below_at_end m path r range empty file s below =
     no_entry m file (range.5 empty file (folder_first path file below, tt)) s
 
 -- the file right behind a path isn't below it, and so none is
-below_is_behind : (m : BTreeMap Names Content) (path : Names) (r t : List (Names × Content)) (e : Names × Content) → IsRangeOf by_names (Excluded path) Unbounded m r → r ≡ e ∷ t → (IsBelow path e.0 → ⊥) → NoneBelow (tree_of m.entries) path
+below_is_behind : (m : BTreeMap Names Content) (path : Names) (r t : List (Names × Content)) (e : Names × Content) → IsRangeOf by_names (Excluded path) Unbounded m r → r ≡ e ∷ t → (IsBelow path e.0 → ⊥) → NoneBelow (tree_of_files m.entries) path
 below_is_behind m path r t e range first apart file s below =
     let at : by_names path e.0 ≡ Less = (subst (λ (l : List (Names × Content)). IfSome (slice_get l 0) (IsEntryInRange by_names (Excluded path) Unbounded m)) first range.1).0.0 in
     let least : is_gt (by_names e.0 file) ≡ false = subst (λ (l : List (Names × Content)). IfSome (slice_get l 0) (λ e. IsLeBy by_names e.0 file)) first (range.2 file (folder_first path file below, tt) (has_entry m file s)) in
@@ -116,7 +116,7 @@ below_is_behind m path r t e range first apart file s below =
       | inr under ↦ apart under
     ]
 
-pub none_below_from_first : (m : BTreeMap Names Content) (path : Names) (r t : List (Names × Content)) (e : Names × Content) (b : Bool) → IsRangeOf by_names (Excluded path) Unbounded m r → r ≡ e ∷ t → IsTrue b ↔ IsBelow path e.0 → IsTrue (not b) ↔ NoneBelow (tree_of m.entries) path
+pub none_below_from_first : (m : BTreeMap Names Content) (path : Names) (r t : List (Names × Content)) (e : Names × Content) (b : Bool) → IsRangeOf by_names (Excluded path) Unbounded m r → r ≡ e ∷ t → IsTrue b ↔ IsBelow path e.0 → IsTrue (not b) ↔ NoneBelow (tree_of_files m.entries) path
 none_below_from_first m path r t e b range first tested =
     as_no_fact b _ _ tested
     (λ below none. none e.0 (some_entry m e.0 e.1 (subst (λ (l : List (Names × Content)). IfSome (slice_get l 0) (IsEntryInRange by_names (Excluded path) Unbounded m)) first range.1).1) below)

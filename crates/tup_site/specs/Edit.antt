@@ -1,20 +1,22 @@
 -- Files given as a list, the place of a file among them, and one file set or taken away. Own.
 use Rattle.std.specs.Prelude.{◌≡◌, ◌≢◌, List, Option, None, Some, IsSome}
+use Rattle.std.proofs.Props.{props}
+use Rattle.std.specs.Coded.{Coded-set, coded_ℕ, coded_list, coded_option}
 use Rattle.std.specs.FinMap as finite
 use Rattle.std.specs.List.{AllPairs}
 use Rattle.std.specs.Map.{keys_of}
 use Rattle.tup_path.specs.Name.{Names, Content}
-use Rattle.tup_path.specs.Tree.{Tree, IsTree, IsBelow}
+use Rattle.tup_path.specs.Tree.{Tree, IsTree, IsBelow, tree_of_files}
 use Rattle.tup_site.specs.Cause.{IsPlace}
-
--- the map that these files make
-abbrev pub tree_of : List (Names × Content) → Tree
-tree_of files = finite.from_entries files
 
 -- these files make a tree: no path stands twice, and each is where a file may be
 pub record AreATree (files : List (Names × Content)) : Type 0 where
   pub once : AllPairs (λ a b. a ≢ b) (keys_of files)
-  pub tree : IsTree (tree_of files)
+  pub tree : IsTree (tree_of_files files)
+
+-- that a tree is one holds in one way only
+pub IsTree-prop : (tree : Tree) → IsProp (IsTree tree)
+IsTree-prop tree = let set = Coded-set (coded_option (coded_list coded_ℕ)) in hlevel (props, set)
 
 -- no file stands where a folder above the path has to be
 abbrev pub NoneAbove : Tree → Names → Type 0

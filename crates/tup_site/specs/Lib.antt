@@ -1,5 +1,5 @@
+pub mod World
 pub mod Store
 pub mod Cause
 pub mod Edit
 pub mod Memory
-pub mod Trees

@@ -1,20 +1,24 @@
 -- A site in memory: what it holds, and which of its calls fail. Own.
 use Rattle.std.specs.Prelude.{◌≡◌, ℕ, Bool, ◌+◌, ◌-◌, ◌^◌, List, if◌then◌else◌, min, nat_eq, IsTrue, ◌↔◌, Result, Err}
 use Rattle.std.specs.List.{list_any}
-use Rattle.tup_path.specs.Tree.{Tree}
+use Rattle.tup_path.specs.Tree.{Tree, tree_of_files}
+use Rattle.tup_site.specs.World.{World}
 use Rattle.tup_site.specs.Cause.{CountsFaults}
-use Rattle.tup_site.specs.Edit.{tree_of}
 use Rattle.tup_site.specs.declared.fault.SiteFailed.{SiteFailed}
 use Rattle.tup_site.specs.declared.fault.SiteFailed.TheVariants.{Fault}
 use Rattle.tup_site.specs.declared.memory.MemSite.{MemSite}
 
 -- the files
 abbrev pub tree_in : MemSite → Tree
-tree_in site = tree_of site.files.entries
+tree_in site = tree_of_files site.files.entries
 
 -- the bytes of the store
 abbrev pub store_in : MemSite → List ℕ
 store_in site = site.store.items
+
+-- the files and the store
+abbrev pub world_in : MemSite → World
+world_in site = record { tree = tree_in site; store = store_in site }
 
 -- how many calls were made
 abbrev pub calls_of : MemSite → ℕ
@@ -43,11 +47,6 @@ pub record IsCounted {T : Type 0} (old new : MemSite) (result : Result T SiteFai
   pub fails : fails_of new ≡ fails_of old
   pub fault : (result ≡ Err Fault) ↔ IsTrue (fails_next old)
   pub cause : CountsFaults (faults_of old) (faults_of new) result
-
--- the files and the store are what they were
-pub record IsSame (old new : MemSite) : Type 0 where
-  pub tree : tree_in new ≡ tree_in old
-  pub store : store_in new ≡ store_in old
 
 -- the store, the counts and the calls that fail are what they were
 pub record IsSameBeside (old new : MemSite) : Type 0 where

@@ -1,13 +1,12 @@
 //! A site in memory, which tells everything. Chosen calls fail.
-ghost use Rattle.std.specs.Prelude.{◌≡◌, ◌≢◌, ℕ, List, [], ◌+◌, ◌≤◌, ◌<◌, length, take, drop, true, IsTrue, Some, IfOk, OnOk, OnErr, Err, ◌↔◌};
+ghost use Rattle.std.specs.Prelude.{◌≡◌, [], ◌+◌, ◌≤◌, length, take, drop, true, IfOk, OnOk, OnErr, Err};
 ghost use Rattle.std.specs.Option.{option_copied};
 ghost use Rattle.std.specs.FinMap as finite;
-ghost use Rattle.tup_path.specs.Tree.{IsTree};
+ghost use Rattle.tup_path.specs.Tree.{IsTree, tree_of_files};
 ghost use Rattle.tup_site.specs.Store.{Holds};
-ghost use Rattle.tup_site.specs.Cause.{NeverTooLarge, IsTooLarge, IsPlace, SameBut};
-ghost use Rattle.tup_site.specs.Edit.{AreATree, MayAdd, edited, tree_of};
-ghost use Rattle.tup_site.specs.Trees.{IsTree-prop};
-ghost use Rattle.tup_site.specs.declared.fault.SiteFailed.TheVariants.{Fault, TooLarge, Memory};
+ghost use Rattle.tup_site.specs.Cause.{NeverTooLarge, OnlyLarge, NamesLength, IsSmall, IsPlace, SameBut};
+ghost use Rattle.tup_site.specs.Edit.{AreATree, MayAdd, IsTree-prop, edited};
+ghost use Rattle.tup_site.specs.declared.fault.SiteFailed.TheVariants.{Fault, Memory};
 ghost use Rattle.tup_site.specs.declared.refused.MemRefused.TheVariants.{NotATree};
 
 use crate::fault::{MAX_FILE_BYTES, SiteFailed};
@@ -27,11 +26,11 @@ pub struct MemSite {
     fails: Vec<u64>,
     calls: u64,
     faults: u64,
-    ghost is_tree: { IsTree (tree_of files.entries) } by { IsTree-prop (tree_of files.entries) },
+    ghost is_tree: { IsTree (tree_of_files files.entries) } by { IsTree-prop (tree_of_files files.entries) },
 }
 
 impl MemSite {
-    ghost use Rattle.tup_site.specs.Memory.{tree_in, store_in, calls_of, faults_of, fails_of, fails_next, IsCounted, IsSame, IsSameBeside, IsSameBesideStore};
+    ghost use Rattle.tup_site.specs.Memory.{tree_in, store_in, calls_of, faults_of, fails_of, world_in, IsCounted, IsSameBeside, IsSameBesideStore};
 
     /// A site with these files and an empty store. The calls with these numbers will fail.
     pub fn new(
@@ -39,7 +38,7 @@ impl MemSite {
         files: Vec<(Path, Bytes)>,
         fails: Vec<u64>,
     ) -> Result<MemSite, MemRefused>
-        ensures files { IfOk result (λ site. tree_in site ≡ tree_of files.items) }
+        ensures files { IfOk result (λ site. tree_in site ≡ tree_of_files files.items) }
         ensures are_a_tree { OnOk result (AreATree files.items) }
         ensures store { IfOk result (λ site. store_in site ≡ []) }
         ensures calls { IfOk result (λ site. calls_of site ≡ 0) }
@@ -62,7 +61,8 @@ impl MemSite {
 
     // Adds a file at a path where none is.
     fn add(&mut self, path: Path, content: Bytes) -> Result<(), MemRefused>
-        ensures added { OnOk result (tree_in self.new ≡ finite.insert (tree_in self.old) path content) }
+        ensures added { OnOk result
+            (tree_in self.new ≡ finite.insert (tree_in self.old) path content) }
         ensures may { OnOk result (MayAdd (tree_in self.old) path) }
         ensures beside { IsSameBeside self.old self.new }
         ensures not_a_tree { result ≡ Err NotATree → ¬ MayAdd (tree_in self.old) path }
@@ -75,7 +75,8 @@ impl MemSite {
 
     // Sets a file where one may be.
     fn set(&mut self, path: Path, content: Bytes) -> Result<(), MemRefused>
-        ensures set { OnOk result (tree_in self.new ≡ finite.insert (tree_in self.old) path content) }
+        ensures set { OnOk result
+            (tree_in self.new ≡ finite.insert (tree_in self.old) path content) }
         ensures may { OnOk result (IsPlace (tree_in self.old) path) }
         ensures unchanged { OnErr result (tree_in self.new ≡ tree_in self.old) }
         ensures beside { IsSameBeside self.old self.new }
@@ -89,7 +90,8 @@ impl MemSite {
 
     fn insert(&mut self, path: Path, content: Bytes) -> Result<(), AllocFailed<(Path, Bytes)>>
         requires { IsPlace (tree_in self.old) path }
-        ensures inserted { OnOk result (tree_in self.new ≡ finite.insert (tree_in self.old) path content) }
+        ensures inserted { OnOk result
+            (tree_in self.new ≡ finite.insert (tree_in self.old) path content) }
         ensures unchanged { OnErr result (tree_in self.new ≡ tree_in self.old) }
         ensures beside { IsSameBeside self.old self.new }
     {
@@ -117,7 +119,8 @@ impl MemSite {
         ensures tree { OnOk result (IsTree (edited (tree_in self.old) path content)) }
         ensures unchanged { OnErr result (tree_in self.new ≡ tree_in self.old) }
         ensures beside { IsSameBeside self.old self.new }
-        ensures not_a_tree { result ≡ Err NotATree → ¬ IsTree (edited (tree_in self.old) path content) }
+        ensures not_a_tree { result ≡ Err NotATree
+            → ¬ IsTree (edited (tree_in self.old) path content) }
     {
         match content {
             Some(content) => self.set(path, content),
@@ -152,7 +155,7 @@ impl MemSite {
     // Counts a call, which may have to fail.
     fn begin(&mut self) -> Result<(), SiteFailed>
         ensures counted { IsCounted self.old self.new result }
-        ensures same { IsSame self.old self.new }
+        ensures same { world_in self.new ≡ world_in self.old }
         ensures no_other { OnErr result (result ≡ Err Fault) }
     {
         self.calls = self.calls.saturating_add(1);
@@ -179,13 +182,11 @@ impl MemSite {
 }
 
 impl Site for MemSite {
-    ghost use Rattle.tup_site.specs.Memory.{tree_in, store_in, faults_of, IsCounted, IsSame};
+    ghost use Rattle.tup_site.specs.Memory.{tree_in, store_in, world_in, faults_of, IsCounted};
 
     ghost tells = { true };
 
-    ghost tree = { tree_in };
-
-    ghost store = { store_in };
+    ghost world = { world_in };
 
     ghost faults = { faults_of };
 
@@ -193,7 +194,7 @@ impl Site for MemSite {
 
     fn list(&mut self, alloc: Global) -> Result<Paths, SiteFailed>
         ensures paths { IfOk result (λ paths. paths ≡ finite.keys (tree_in self.old)) }
-        ensures same { IsSame self.old self.new }
+        ensures same { world_in self.new ≡ world_in self.old }
         ensures counted { IsCounted self.old self.new result }
         ensures never_too_large { NeverTooLarge result }
     {
@@ -206,11 +207,12 @@ impl Site for MemSite {
     }
 
     fn get(&mut self, _alloc: Global, path: &Path) -> Result<Option<Bytes>, SiteFailed>
-        ensures content { IfOk result (λ content. content ≡ finite.get (tree_in self.old) path.now) }
-        ensures small { IfOk result (λ content. (bytes : List ℕ) → content ≡ Some bytes → length bytes ≤ MAX_FILE_BYTES) }
-        ensures too_large { (n : ℕ) → result ≡ Err (TooLarge n) → MAX_FILE_BYTES < n }
-        ensures length { (n : ℕ) → result ≡ Err (TooLarge n) → IsTooLarge (tree_in self.old) path.now n }
-        ensures same { IsSame self.old self.new }
+        ensures content { IfOk result
+            (λ content. content ≡ finite.get (tree_in self.old) path.now) }
+        ensures small { IfOk result IsSmall }
+        ensures too_large { OnlyLarge result }
+        ensures length { NamesLength (tree_in self.old) path.now result }
+        ensures same { world_in self.new ≡ world_in self.old }
         ensures counted { IsCounted self.old self.new result }
     {
         self.begin()?;
@@ -226,7 +228,8 @@ impl Site for MemSite {
 
     fn put(&mut self, _alloc: Global, path: &Path, content: &Bytes) -> Result<(), SiteFailed>
         requires { IsPlace (tree_in self.old) path.now }
-        ensures put { OnOk result (tree_in self.new ≡ finite.insert (tree_in self.old) path.now content.now) }
+        ensures put { OnOk result
+            (tree_in self.new ≡ finite.insert (tree_in self.old) path.now content.now) }
         ensures unchanged { OnErr result (tree_in self.new ≡ tree_in self.old) }
         ensures others { SameBut path.now (tree_in self.old) (tree_in self.new) }
         ensures store { store_in self.new ≡ store_in self.old }
@@ -238,7 +241,8 @@ impl Site for MemSite {
     }
 
     fn remove(&mut self, _alloc: Global, path: &Path) -> Result<(), SiteFailed>
-        ensures removed { OnOk result (tree_in self.new ≡ finite.remove (tree_in self.old) path.now) }
+        ensures removed { OnOk result
+            (tree_in self.new ≡ finite.remove (tree_in self.old) path.now) }
         ensures unchanged { OnErr result (tree_in self.new ≡ tree_in self.old) }
         ensures others { SameBut path.now (tree_in self.old) (tree_in self.new) }
         ensures store { store_in self.new ≡ store_in self.old }
@@ -251,7 +255,7 @@ impl Site for MemSite {
     }
 
     fn settle(&mut self, _alloc: Global) -> Result<(), SiteFailed>
-        ensures same { IsSame self.old self.new }
+        ensures same { world_in self.new ≡ world_in self.old }
         ensures counted { IsCounted self.old self.new result }
         ensures never_too_large { NeverTooLarge result }
     {
@@ -260,7 +264,7 @@ impl Site for MemSite {
 
     fn db_len(&mut self, _alloc: Global) -> Result<u64, SiteFailed>
         ensures bytes { IfOk result (λ len. len ≡ length (store_in self.old)) }
-        ensures same { IsSame self.old self.new }
+        ensures same { world_in self.new ≡ world_in self.old }
         ensures counted { IsCounted self.old self.new result }
         ensures never_too_large { NeverTooLarge result }
     {
@@ -270,8 +274,9 @@ impl Site for MemSite {
 
     fn db_read(&mut self, _alloc: Global, at: u64, into: &mut [u8]) -> Result<(), SiteFailed>
         requires { at + length into.old ≤ length (store_in self.old) }
-        ensures bytes { OnOk result (into.new ≡ take (length into.old) (drop at (store_in self.old))) }
-        ensures same { IsSame self.old self.new }
+        ensures bytes { OnOk result
+            (into.new ≡ take (length into.old) (drop at (store_in self.old))) }
+        ensures same { world_in self.new ≡ world_in self.old }
         ensures counted { IsCounted self.old self.new result }
         ensures never_too_large { NeverTooLarge result }
     {
@@ -294,7 +299,7 @@ impl Site for MemSite {
     }
 
     fn db_sync(&mut self, _alloc: Global) -> Result<(), SiteFailed>
-        ensures same { IsSame self.old self.new }
+        ensures same { world_in self.new ≡ world_in self.old }
         ensures counted { IsCounted self.old self.new result }
         ensures never_too_large { NeverTooLarge result }
     {
@@ -302,7 +307,6 @@ impl Site for MemSite {
     }
 
     fn db_cut(&mut self, _alloc: Global, len: u64) -> Result<(), SiteFailed>
-        requires { len ≤ length (store_in self.old) }
         ensures cut { OnOk result (store_in self.new ≡ take len (store_in self.old)) }
         ensures unchanged { OnErr result (store_in self.new ≡ store_in self.old) }
         ensures tree { tree_in self.new ≡ tree_in self.old }

@@ -1,8 +1,8 @@
 //! Where a file may be put.
 ghost use Rattle.std.specs.Prelude.{IsTrue, ◌↔◌};
-ghost use Rattle.tup_path.specs.Tree.{IsTree};
+ghost use Rattle.tup_path.specs.Tree.{IsTree, tree_of_files};
 ghost use Rattle.tup_site.specs.Cause.{IsPlace};
-ghost use Rattle.tup_site.specs.Edit.{tree_of, NoneAbove, NoneBelow};
+ghost use Rattle.tup_site.specs.Edit.{NoneAbove, NoneBelow};
 
 use std::collections::BTreeMap;
 use std::ops::Bound;
@@ -10,16 +10,16 @@ use tup_path::{Bytes, Path};
 
 /// Whether a file may be put at a path, beside the files that there are.
 pub(crate) fn is_place(files: &BTreeMap<Path, Bytes>, path: &Path) -> bool
-    requires { IsTree (tree_of files.now.entries) }
-    ensures { IsTrue result ↔ IsPlace (tree_of files.now.entries) path.now }
+    requires { IsTree (tree_of_files files.now.entries) }
+    ensures { IsTrue result ↔ IsPlace (tree_of_files files.now.entries) path.now }
 {
     path.depth() > 0 && is_none_above(files, path) && is_none_below(files, path)
 }
 
 // A file above a path stands right before it in the order of paths, since there is none below it.
 fn is_none_above(files: &BTreeMap<Path, Bytes>, path: &Path) -> bool
-    requires { IsTree (tree_of files.now.entries) }
-    ensures { IsTrue result ↔ NoneAbove (tree_of files.now.entries) path.now }
+    requires { IsTree (tree_of_files files.now.entries) }
+    ensures { IsTrue result ↔ NoneAbove (tree_of_files files.now.entries) path.now }
 {
     match files
         .range((Bound::Unbounded, Bound::Excluded(path)))
@@ -32,7 +32,7 @@ fn is_none_above(files: &BTreeMap<Path, Bytes>, path: &Path) -> bool
 
 // If any file is below a path, then the one right behind it is.
 fn is_none_below(files: &BTreeMap<Path, Bytes>, path: &Path) -> bool
-    ensures { IsTrue result ↔ NoneBelow (tree_of files.now.entries) path.now }
+    ensures { IsTrue result ↔ NoneBelow (tree_of_files files.now.entries) path.now }
 {
     match files
         .range((Bound::Excluded(path), Bound::Unbounded))

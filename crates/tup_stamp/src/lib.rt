@@ -29,26 +29,3 @@ pub fn hex(stamp: &Stamp) -> [u8; 64]
     let _ = encode_to_slice(stamp.0, &mut digits);
     digits
 }
-
-#[cfg(test)]
-mod tests {
-    use super::*;
-    use std::test::Fail;
-
-    #[test]
-    fn known_digests(rt: HostRuntime) -> Result<(), Fail> {
-        for (content, digits) in [
-            (
-                b"".as_slice(),
-                b"e3b0c44298fc1c149afbf4c8996fb92427ae41e4649b934ca495991b7852b855",
-            ),
-            (
-                b"abc".as_slice(),
-                b"ba7816bf8f01cfea414140de5dae2223b00361a396177a9cb410ff61f20015ad",
-            ),
-        ] {
-            assert_eq!(rt; hex(&stamp_of(content)).as_slice(), digits.as_slice());
-        }
-        Ok(())
-    }
-}

@@ -1,6 +1,6 @@
 //! A sink in memory, for tests and for looking at lines.
 ghost use Rattle.std.specs.Prelude.{◌≡◌, ◌++◌, ◌+◌, ◌-◌, ◌^◌, ◌↔◌, [], true, min, IsTrue, IfOk, IsErrOf, OnErr, OnOk, Contains};
-ghost use Rattle.tup_tell.specs.Sink.{GrownByPart, CountsFaults};
+ghost use Rattle.tup_tell.specs.Sink.{CountsFaults};
 ghost use Rattle.tup_tell.specs.declared.sink.SinkFailed.TheVariants.{Fault};
 
 use crate::sink::{Sink, SinkFailed};
@@ -54,7 +54,7 @@ impl Sink for MemSink {
 
     fn write(&mut self, _alloc: Global, bytes: &Bytes) -> Result<(), SinkFailed>
         ensures written { OnOk result (held_of self.new ≡ held_of self.old ++ bytes.now) }
-        ensures part { OnErr result (GrownByPart bytes.now (held_of self.old) (held_of self.new)) }
+        ensures unchanged { OnErr result (held_of self.new ≡ held_of self.old) }
         ensures cause { CountsFaults (faults_of self.old) (faults_of self.new) result }
 
         // Just the writes whose number was given are faults.

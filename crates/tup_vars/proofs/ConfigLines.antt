@@ -1,9 +1,9 @@
 -- the lines of a tup.config that set a name
-use Rattle.std.proofs.Common.{◌≡◌, ◌↔◌, ℕ, ◌+◌, ◌<◌, Bool, true, false, not, ◌&&◌, eqb, ltb, if◌then◌else◌, List, [], ◌∷◌, ◌++◌, length, take, drop, get_or, All, codes, bytes_eq, Option, Some, None, refl, sym, ap, ◌∙◌, arith, length-append}
+use Rattle.std.proofs.Common.{◌≡◌, ◌↔◌, ℕ, ◌+◌, ◌<◌, Bool, true, false, not, eqb, ltb, if◌then◌else◌, List, [], ◌∷◌, ◌++◌, length, take, drop, get_or, All, codes, bytes_eq, Option, Some, None, refl, sym, ap, ◌∙◌, arith, length-append}
 use Rattle.std.specs.List.{position_or_len, before_first, after_first, list_all}
 use Rattle.std.specs.Option.{option_and_then}
 use Rattle.std.proofs.lemmas.Bool.Decides.{nat_tests}
-use Rattle.std.proofs.lemmas.Bool.{ne_eqb}
+use Rattle.std.proofs.lemmas.Bool.{ne_eqb, and_parts}
 use Rattle.std.proofs.lemmas.List.{take_at}
 use Rattle.std.proofs.lemmas.List.Elements.{All-weaker}
 use Rattle.std.proofs.lemmas.List.Sums.{split_at_first, passes_at_first, position_or_len_is, AllPass-from_list_all}
@@ -69,15 +69,11 @@ entry-ok name value one other e = by_test (is_name name) e
 entry-is : (name value : List ℕ) → is_name name ≡ true → entry name value ≡ Some (name, value)
 entry-is name value e = ap (λ b. choice b name value) e
 
-and-right : (a b : Bool) → (a && b) ≡ true → b ≡ true
-and-right true b e = e
-and-right false b e = absurd (let no : false ≡ true = e in cc)
-
 -- a name holds no byte that isn't one of a name
 lacks : (byte : ℕ) → is_name_byte byte ≡ false → (name : List ℕ) → is_name name ≡ true → All (λ b. eqb b byte ≡ false) name
 lacks byte other name e =
     All-weaker (λ b. is_name_byte b ≡ true) (λ b. eqb b byte ≡ false) (λ b is. ne_eqb b byte (λ same. let yes : is_name_byte byte ≡ true = ap is_name_byte (sym same) ∙ is in cc)) name
-    (AllPass-from_list_all is_name_byte name (and-right (not (eqb (length name) 0)) (list_all is_name_byte name) e))
+    (AllPass-from_list_all is_name_byte name (and_parts (not (eqb (length name) 0)) (list_all is_name_byte name) e).1)
 
 -- ---- what stands behind a front, round a byte
 abbrev parted : List ℕ → ℕ → (List ℕ → List ℕ → Option (List ℕ × List ℕ)) → List ℕ → Option (List ℕ × List ℕ)

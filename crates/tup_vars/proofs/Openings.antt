@@ -4,7 +4,8 @@ use Rattle.std.specs.Option.{option_map}
 use Rattle.std.proofs.lemmas.Bool.Decides.{nat_tests}
 use Rattle.std.proofs.lemmas.Str.{IsCharBoundary-after_ascii}
 use Rattle.std.specs.Str.{IsCharBoundary}
-use Rattle.tup_vars.specs.Pieces.{opened, opens_at, is_mark, begins_with}
+use Rattle.tup_lex.specs.Word.{begins_with}
+use Rattle.tup_vars.specs.Segments.{opened, opens_at, is_mark}
 
 -- no name begins before a place
 abbrev pub NoneBefore : List ℕ → ℕ → Type 0

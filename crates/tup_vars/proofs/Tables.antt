@@ -1,10 +1,11 @@
 -- names and values in a map whose keys are texts, and look-ups after a name was set
-use Rattle.std.proofs.Common.{◌≡◌, ℕ, Bool, true, false, List, [], ◌∷◌, Some, String, string_bytes, bytes_eq, if◌then◌else◌, refl, sym, ap, ◌∙◌}
-use Rattle.std.specs.Map.{lookup}
+use Rattle.std.proofs.Common.{◌≡◌, ℕ, Bool, true, false, List, [], ◌∷◌, Some, None, ◌++◌, unwrap_or, Result, Ok, Err, OnOk, OnErr, String, string_bytes, bytes_eq, if◌then◌else◌, refl, sym, ap, ◌∙◌}
+use Rattle.std.specs.Map.{lookup, set_value}
 use Rattle.std.specs.String.{string_eq}
+use Rattle.std.proofs.lemmas.Map.Steps.{set_value_same}
 use Rattle.std.proofs.lemmas.Slice.Eq.{bytes_eq-Decides}
 use Rattle.indexmap.specs.IndexMap.{insert_entry}
-use Rattle.tup_vars.specs.Table.{Entries, look, put, named}
+use Rattle.tup_vars.specs.Table.{Entries, look, put, value_of, named}
 
 pub look-named : {Y : Type 0} (name : List ℕ) (all : List (String Y × List ℕ)) → lookup (λ key. bytes_eq name (string_bytes key)) all ≡ look (named all) name
 look-named name [] = refl
@@ -18,6 +19,36 @@ put-named key value (entry ∷ more) = by_test (put-named key value more) (strin
         ≡ (if b then (string_bytes entry.0, value) ∷ named more else (string_bytes entry.0, entry.1) ∷ put (named more) (string_bytes key) value)
     by_test rest true = refl
     by_test rest false = ap (λ rest. (string_bytes entry.0, entry.1) ∷ rest) rest
+
+-- a map whose keys are texts, in which the value of a name was written over
+module _ {Y : Type 0} (name : List ℕ) where
+  written-named : (all : List (String Y × List ℕ)) (old new : List ℕ) → lookup (λ key. bytes_eq name (string_bytes key)) all ≡ Some old → named (set_value (λ key. bytes_eq name (string_bytes key)) all new) ≡ put (named all) name new
+  written-named [] old new there = absurd (cc)
+  written-named (entry ∷ more) old new there = by_test (bytes_eq name (string_bytes entry.0)) there (written-named more old new)
+    where
+      by_test : (b : Bool) → (if b then Some entry.1 else lookup (λ key. bytes_eq name (string_bytes key)) more) ≡ Some old
+          → (lookup (λ key. bytes_eq name (string_bytes key)) more ≡ Some old → named (set_value (λ key. bytes_eq name (string_bytes key)) more new) ≡ put (named more) name new)
+          → named (if b then (entry.0, new) ∷ more else entry ∷ set_value (λ key. bytes_eq name (string_bytes key)) more new) ≡ (if b then (string_bytes entry.0, new) ∷ named more else (string_bytes entry.0, entry.1) ∷ put (named more) name new)
+      by_test true there rest = refl
+      by_test false there rest = ap (λ rest. (string_bytes entry.0, entry.1) ∷ rest) (rest there)
+
+  -- where the value has grown by a text, or stays as it was
+  module _ (all after : List (String Y × List ℕ)) (table : Entries) (value more new : List ℕ) (seen : named all ≡ table) (there : Some value ≡ lookup (λ key. bytes_eq name (string_bytes key)) all) (is : after ≡ set_value (λ key. bytes_eq name (string_bytes key)) all new) where
+    pub grown-named : {T E : Type 0} (r : Result T E) → OnOk r (new ≡ value ++ more) → OnOk r (named after ≡ put table name (value_of table name ++ more))
+    grown-named (Ok _) grown =
+        let found : Some value ≡ look table name = there ∙ look-named name all ∙ ap (λ t. look t name) seen in
+        ap named is ∙ written-named all value new (sym there) ∙ ap (λ t. put t name new) seen ∙ ap (put table name) (grown ∙ ap (λ o. unwrap_or o [] ++ more) found)
+    grown-named (Err _) grown = tt
+
+    pub same-named : {T E : Type 0} (r : Result T E) → OnErr r (new ≡ value) → OnErr r (named after ≡ table)
+    same-named (Ok _) same = tt
+    same-named (Err _) same = ap named (is ∙ set_value_same (λ key. bytes_eq name (string_bytes key)) all new (sym there ∙ ap (λ v. Some v) (sym same))) ∙ seen
+
+-- a name without a value begins one
+pub begun-named : {T E : Type 0} (r : Result T E) (name value more : List ℕ) (before table new : Entries) → before ≡ table → None ≡ look table name → value ≡ more → OnOk r (new ≡ put before name value) → OnOk r (new ≡ put table name (value_of table name ++ more))
+begun-named (Ok _) name value more before table new same none is begun =
+    begun ∙ ap (λ t. put t name value) same ∙ ap (put table name) (is ∙ ap (λ o. unwrap_or o [] ++ more) none)
+begun-named (Err _) name value more before table new same none is begun = tt
 
 -- the name that was set has its value, and each other one the value that it had
 pub look-put : (all : Entries) (name value other : List ℕ) → look (put all name value) other ≡ (if bytes_eq other name then Some value else look all other)

@@ -2,16 +2,16 @@
 use Rattle.std.specs.Prelude.{ℕ, ◌-◌, nat_lt, Bool, true, false, not, if◌then◌else◌, List, [], ◌∷◌, ◌++◌, length, take, slice_get, Some, None, Result, Ok, Err}
 use Rattle.std.specs.List.{slice_set, list_all}
 use Rattle.tup_vars.specs.declared.branches.Level.{Level}
-use Rattle.tup_vars.specs.declared.branches.TheConstants.{MAX_OPEN}
 use Rattle.tup_vars.specs.declared.fault.VarFault.{VarFault}
 use Rattle.tup_vars.specs.declared.fault.VarFault.TheVariants.{TooDeep, StrayElse, StrayEndif, MissingEndif}
 
+-- an open conditional by its line, whether it holds, and whether its `else` was there
 abbrev pub level : ℕ → Bool → Bool → Level
 level line on other = record { line = line; on = on; other = other }
 
 -- one more conditional, whose `else` wasn't there yet
 abbrev pub entered : List Level → ℕ → Bool → Result (List Level) VarFault
-entered levels line on = if nat_lt (length levels) MAX_OPEN then Ok (levels ++ level line on false ∷ []) else Err TooDeep
+entered levels line on = if nat_lt (length levels) 64 then Ok (levels ++ level line on false ∷ []) else Err TooDeep
 
 -- the innermost conditional at its `else`: what held doesn't, and the other way round
 abbrev pub turned : List Level → Result (List Level) VarFault

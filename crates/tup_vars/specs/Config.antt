@@ -4,9 +4,8 @@ use Rattle.std.specs.List.{filter_map, position_or_len, before_first, after_firs
 use Rattle.std.specs.Str.{is_utf8}
 use Rattle.std.specs.Str.Lines.{lines as cut_lines}
 use Rattle.tup_lex.specs.Blank.{trim}
-use Rattle.tup_lex.specs.Line.{line_number, wrong_line, says_something}
+use Rattle.tup_lex.specs.Line.{line_number, wrong_line, is_long, says_something}
 use Rattle.tup_lex.specs.declared.kind.ParseKind.TheVariants.{NotUtf8, LineTooLong, ConfigLine}
-use Rattle.tup_lex.specs.declared.line.TheConstants.{MAX_LINE}
 use Rattle.tup_vars.specs.Name.{is_name}
 use Rattle.tup_vars.specs.Table.{Entries, put}
 use Rattle.tup_vars.specs.declared.fault.ConfigFault.{ConfigFault}
@@ -47,9 +46,6 @@ setting line = elim (set (trim line)) [ Some one ↦ Some one | None ↦ unset (
 abbrev pub is_wrong : List ℕ → Bool
 is_wrong line = is_none (setting line) && says_something (trim line)
 
-abbrev pub is_long : List ℕ → Bool
-is_long line = nat_lt MAX_LINE (length line)
-
 -- a line that is `CONFIG_NAME=` and a value, which is trimmed
 abbrev pub IsSet : List ℕ → List ℕ → List ℕ → Type 0
 IsSet line name value = (rest : List ℕ) × (line ≡ codes "CONFIG_" ++ (name ++ 61 ∷ rest)) × IsTrue (is_name name) × (value ≡ trim rest)
@@ -67,14 +63,25 @@ last_of ((key, value) ∷ more) name = elim (last_of more name) [ Some later ↦
 abbrev pub set_all : Entries → List (List ℕ × List ℕ) → Entries
 set_all entries all = fold (λ done (name, value). put done name value) entries all
 
--- what lines set: the first that is too long is refused, and else the first that may not stand there
+-- a table with what the line of this number sets, if it may stand there
+abbrev pub with_line : Entries → ℕ → List ℕ → Result Entries ConfigFault
+with_line table number line = elim (setting line) [
+  | Some (name, value) ↦ Ok (put table name value)
+  | None ↦ if says_something (trim line) then Err (At number ConfigLine) else Ok table
+]
+
+-- what lines set of which none is too long: the first that may not stand there is refused
+abbrev pub short_settings : List (List ℕ) → Result Entries ConfigFault
+short_settings lines = elim (position is_wrong lines) [
+  | Some place ↦ Err (At (line_number place) ConfigLine)
+  | None ↦ Ok (set_all [] (filter_map setting lines))
+]
+
+-- what lines set: the first that is too long is refused before all else
 abbrev pub settings : List (List ℕ) → Result Entries ConfigFault
 settings lines = elim (position is_long lines) [
   | Some place ↦ Err (At (line_number place) LineTooLong)
-  | None ↦ elim (position is_wrong lines) [
-    | Some place ↦ Err (At (line_number place) ConfigLine)
-    | None ↦ Ok (set_all [] (filter_map setting lines))
-  ]
+  | None ↦ short_settings lines
 ]
 
 -- what a file sets

@@ -2,6 +2,6 @@ pub mod Name
 pub mod Table
 pub mod Vars
 pub mod Branches
-pub mod Pieces
+pub mod Segments
 pub mod Expand
 pub mod Config

@@ -50,7 +50,8 @@ impl Branches {
     /// are open already.
     pub fn enter(&mut self, line: u32, on: bool) -> Result<(), VarFault>
         ensures entered { OnOk result (entered self.old line on ≡ Ok self.new) }
-        ensures refused { IfErr result (λ fault. (fault ≡ Memory) ⊎ (entered self.old line on ≡ Err fault)) }
+        ensures refused { IfErr result (λ fault. (fault ≡ Memory)
+            ⊎ (entered self.old line on ≡ Err fault)) }
         ensures unchanged { OnErr result (self.new ≡ self.old) }
     {
         if self.levels.len() >= MAX_OPEN {
@@ -67,7 +68,8 @@ impl Branches {
     /// Goes over to the `else` of the innermost conditional. `StrayElse` comes where none is open,
     /// and where its `else` was there already.
     pub fn other(&mut self) -> Result<(), VarFault>
-        ensures turned { MatchResult result (λ _. turned self.old ≡ Ok self.new) (λ fault. turned self.old ≡ Err fault) }
+        ensures turned { MatchResult result
+            (λ _. turned self.old ≡ Ok self.new) (λ fault. turned self.old ≡ Err fault) }
         ensures unchanged { OnErr result (self.new ≡ self.old) }
     {
         match self.levels.last() {
@@ -87,7 +89,8 @@ impl Branches {
 
     /// Closes the innermost conditional. `StrayEndif` comes where none is open.
     pub fn leave(&mut self) -> Result<(), VarFault>
-        ensures left { MatchResult result (λ _. left self.old ≡ Ok self.new) (λ fault. left self.old ≡ Err fault) }
+        ensures left { MatchResult result
+            (λ _. left self.old ≡ Ok self.new) (λ fault. left self.old ≡ Err fault) }
         ensures unchanged { OnErr result (self.new ≡ self.old) }
     {
         match self.levels.pop() {

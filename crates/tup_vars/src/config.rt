@@ -1,12 +1,12 @@
 //! The settings of tup.config.
-ghost use Rattle.std.specs.Prelude.{◌≡◌, ◌⊎◌, ◌↔◌, ℕ, List, [], Some, Ok, Err, IfOk, IfErr, option_map, position};
+ghost use Rattle.std.specs.Prelude.{◌≡◌, ◌⊎◌, ◌↔◌, ℕ, List, Some, Ok, Err, IfOk, OnOk, IfErr, option_map, position};
 ghost use Rattle.std.specs.Option.{option_copied};
 ghost use Rattle.std.specs.Str.Lines.{lines as cut_lines};
 ghost use Rattle.std.specs.List.{filter_map};
-ghost use Rattle.tup_lex.specs.Line.{line_number};
+ghost use Rattle.tup_lex.specs.Line.{is_long};
 ghost use Rattle.tup_vars.specs.Table.{look};
-ghost use Rattle.tup_vars.specs.Config.{set, unset, IsSet, IsUnset, setting, is_wrong, is_long, set_all, last_of, settings, config_of};
-ghost use Rattle.tup_vars.specs.declared.fault.ConfigFault.TheVariants.{At, Memory};
+ghost use Rattle.tup_vars.specs.Config.{set, unset, IsSet, IsUnset, setting, last_of, with_line, short_settings, settings, config_of};
+ghost use Rattle.tup_vars.specs.declared.fault.ConfigFault.TheVariants.{Memory};
 
 use crate::fault::ConfigFault;
 use crate::name::is_name;
@@ -14,7 +14,7 @@ use crate::table::Table;
 use std::alloc::Global;
 use std::marker::Model;
 use std::str;
-use tup_lex::{MAX_LINE, ParseKind, last_line, says_something, trimmed};
+use tup_lex::{ParseKind, is_long, last_line, line_number, says_something, trimmed};
 use tup_path::{Bytes, Text};
 
 /// What tup.config sets, in the order in which the names came first.
@@ -47,7 +47,8 @@ impl Config {
 /// that sets nothing, isn't empty and is no comment as `ConfigLine` at the first such.
 pub fn read_config(alloc: Global, file: &Bytes) -> Result<Config, ConfigFault>
     ensures config { (result ≡ Err Memory) ⊎ (result ≡ config_of file.now) }
-    ensures last { IfOk result (λ config. (name : List ℕ) → look config name ≡ last_of (filter_map setting (cut_lines file.now)) name) }
+    ensures last { IfOk result (λ config. (name : List ℕ) →
+        look config name ≡ last_of (filter_map setting (cut_lines file.now)) name) }
 {
     let bytes = file.as_slice();
     match str::from_utf8(bytes) {
@@ -61,20 +62,22 @@ pub fn read_config(alloc: Global, file: &Bytes) -> Result<Config, ConfigFault>
 
 /// Laws of the lines of a tup.config: the two forms that set a name are just the lines which read so.
 pub fn config_lines()
-    ensures set { (line name value : List ℕ) → (set line ≡ Some (name, value)) ↔ IsSet line name value }
-    ensures unset { (line name value : List ℕ) → (unset line ≡ Some (name, value)) ↔ IsUnset line name value }
+    ensures set { (line name value : List ℕ) →
+        (set line ≡ Some (name, value)) ↔ IsSet line name value }
+    ensures unset { (line name value : List ℕ) →
+        (unset line ≡ Some (name, value)) ↔ IsUnset line name value }
 {}
 
 fn said(alloc: Global, text: &str) -> Result<Config, ConfigFault>
     ensures { (result ≡ Err Memory) ⊎ (result ≡ settings (cut_lines text.now)) }
 {
-    if let Some(before) = first_long(text) {
-        return Err(fault(before, ParseKind::LineTooLong));
+    match first_long(text) {
+        Some(before) => Err(ConfigFault::At {
+            line: line_number(before),
+            kind: ParseKind::LineTooLong,
+        }),
+        None => short_settings(alloc, text),
     }
-    if let Some(before) = first_wrong(text) {
-        return Err(fault(before, ParseKind::ConfigLine));
-    }
-    settings(alloc, text)
 }
 
 // How many lines stand before the first that is too long.
@@ -84,47 +87,34 @@ fn first_long(text: &str) -> Option<usize>
     text.lines().position(|line| is_long(line))
 }
 
-// How many stand before the first that may not stand there.
-fn first_wrong(text: &str) -> Option<usize>
-    ensures { result ≡ position is_wrong (cut_lines text.now) }
-{
-    text.lines().position(|line| is_wrong(line))
-}
-
-// A fault in a line that has so many before it.
-fn fault(before: usize, kind: ParseKind) -> ConfigFault
-    ensures { result ≡ At (line_number before) kind }
-{
-    ConfigFault::At {
-        line: u32::try_from(before).unwrap_or(u32::MAX).saturating_add(1),
-        kind,
-    }
-}
-
-fn settings(alloc: Global, text: &str) -> Result<Config, ConfigFault>
-    ensures ok { IfOk result (λ config. config ≡ set_all [] (filter_map setting (cut_lines text.now))) }
-    ensures err { IfErr result (λ fault. fault ≡ Memory) }
+// What lines set of which none is too long.
+fn short_settings(alloc: Global, text: &str) -> Result<Config, ConfigFault>
+    ensures { (result ≡ Err Memory) ⊎ (result ≡ short_settings (cut_lines text.now)) }
 {
     let mut table = Table::new(alloc);
+    let mut number = 0u32;
     for line in text.lines() {
-        if let Some((name, value)) = setting(line) {
-            table.put(alloc, name, Text::from_str(alloc, value)?)?;
-        }
+        number = number.saturating_add(1);
+        read_line(alloc, &mut table, number, line)?;
     }
     Ok(Config { table })
 }
 
-fn is_long(line: &str) -> bool
-    ensures { result ≡ is_long line.now }
+// Takes what the line of this number sets into a table. One that may not stand there is refused.
+fn read_line(alloc: Global, table: &mut Table, number: u32, line: &str) -> Result<(), ConfigFault>
+    ensures read { OnOk result (with_line table.old number line.now ≡ Ok table.new) }
+    ensures refused { IfErr result (λ fault. (fault ≡ Memory)
+        ⊎ (with_line table.old number line.now ≡ Err fault)) }
 {
-    line.len() > MAX_LINE
-}
-
-// Whether a line sets nothing, and may not stand there.
-fn is_wrong(line: &str) -> bool
-    ensures { result ≡ is_wrong line.now }
-{
-    setting(line).is_none() && says_something(trimmed(line))
+    if let Some((name, value)) = setting(line) {
+        table.put(alloc, name, Text::from_str(alloc, value)?)?;
+    } else if says_something(trimmed(line)) {
+        return Err(ConfigFault::At {
+            line: number,
+            kind: ParseKind::ConfigLine,
+        });
+    }
+    Ok(())
 }
 
 // The name and the value that a line sets.

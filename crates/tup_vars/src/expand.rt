@@ -1,17 +1,17 @@
 //! Texts with what their names stand for.
-ghost use Rattle.std.specs.Prelude.{◌≡◌, ◌⊎◌, ◌≤◌, [], ◌++◌, ◌+◌, List, ℕ, length, IsTrue, false, Ok, Err, IfErr, MatchResult, unwrap_or, All, string_bytes};
+ghost use Rattle.std.specs.Prelude.{◌≡◌, ◌⊎◌, ◌≤◌, [], List, ℕ, length, IsTrue, false, Ok, Err, IfErr, MatchResult, unwrap_or, All, string_bytes};
 ghost use Rattle.std.specs.List.{flat_map};
-ghost use Rattle.tup_vars.specs.Pieces.{IsPiece, closed, last, pieces, spelled};
-ghost use Rattle.tup_vars.specs.Expand.{Scope, scope, variable, setting, grown, with_pieces, expansion, is_plain, are_apart, Joins, is_stop, HasNoAnswer};
-ghost use Rattle.tup_vars.specs.declared.fault.VarFault.TheVariants.{BadName, Memory, Stopped};
+ghost use Rattle.tup_vars.specs.Segments.{IsSegment, closed, last, marked, segments, spelled};
+ghost use Rattle.tup_vars.specs.Expand.{Scope, scope, variable, answer, grown, with_segment, with_segments, expansion, is_plain, are_apart, Joins, is_stop, HasNoAnswer, EndsAs};
+ghost use Rattle.tup_vars.specs.declared.fault.VarFault.TheVariants.{BadName, Memory};
 
 use crate::fault::VarFault;
 use crate::lookup::Lookup;
 use crate::name::{is_cwd, is_free, is_name};
 use crate::opening::opened;
-use crate::vars::{MAX_TEXT, Vars, or_empty};
+use crate::vars::{Vars, or_empty};
 use std::alloc::Global;
-use tup_path::Text;
+use tup_path::{MAX_EXPANDED, Text};
 
 impl Vars {
     /// The text with what its names stand for: the value of the variable for `$(NAME)`, and what the
@@ -30,7 +30,9 @@ impl Vars {
         config: &mut C,
     ) -> Result<Text, VarFault>
         requires { C.stopped config.old ≡ false }
-        ensures expanded { IsTrue C.tells → HasNoAnswer result ⊎ (result ≡ expansion (scope self.now cwd.now (C.answers config.old)) text.now) }
+        ensures expanded { IsTrue C.tells →
+            let names = scope self.now cwd.now (C.answers config.old) in
+            HasNoAnswer result ⊎ (result ≡ expansion names text.now) }
         ensures same { IsTrue C.tells → C.answers config.new ≡ C.answers config.old }
         ensures stopped { is_stop result ≡ C.stopped config.new }
     {
@@ -54,20 +56,17 @@ impl Vars {
         config: &mut C,
     ) -> Result<(), VarFault>
         requires { C.stopped config.old ≡ false }
-        ensures added { IsTrue C.tells → let all = with_pieces (scope self.now cwd.now (C.answers config.old)) (string_bytes expanded.old) (closed part.now) in
-            HasNoAnswer result ⊎ MatchResult result (λ _. all ≡ Ok (string_bytes expanded.new)) (λ fault. all ≡ Err fault) }
+        ensures added { IsTrue C.tells →
+            let names = scope self.now cwd.now (C.answers config.old) in
+            let all = with_segments names (string_bytes expanded.old) (closed part.now) in
+            HasNoAnswer result ⊎ EndsAs result (string_bytes expanded.new) all }
         ensures same { IsTrue C.tells → C.answers config.new ≡ C.answers config.old }
         ensures stopped { is_stop result ≡ C.stopped config.new }
     {
         match opened(part) {
-            Some((front, b'$', name)) => {
+            Some((front, mark, name)) => {
                 add(expanded, front)?;
-                add(expanded, self.variable(name, cwd)?)
-            }
-            Some((front, _, name)) => {
-                add(expanded, front)?;
-                let value = setting(alloc, name, config)?;
-                add(expanded, or_empty(value.as_ref()))
+                self.add_marked(alloc, expanded, mark, name, cwd, config)
             }
             None => {
                 add(expanded, part)?;
@@ -76,10 +75,36 @@ impl Vars {
         }
     }
 
+    // Adds what a name in brackets behind its mark stands for.
+    fn add_marked<C: Lookup>(
+        &self,
+        alloc: Global,
+        expanded: &mut String,
+        mark: u8,
+        name: &str,
+        cwd: &Text,
+        config: &mut C,
+    ) -> Result<(), VarFault>
+        requires { C.stopped config.old ≡ false }
+        ensures added { IsTrue C.tells →
+            let names = scope self.now cwd.now (C.answers config.old) in
+            let all = with_segment names (string_bytes expanded.old) (marked mark name.now) in
+            HasNoAnswer result ⊎ EndsAs result (string_bytes expanded.new) all }
+        ensures same { IsTrue C.tells → C.answers config.new ≡ C.answers config.old }
+        ensures stopped { is_stop result ≡ C.stopped config.new }
+    {
+        if mark == b'$' {
+            return add(expanded, self.variable(name, cwd)?);
+        }
+        let value = answer(alloc, name, config)?;
+        add(expanded, or_empty(value.as_ref()))
+    }
+
     // What a name in `$(` and `)` stands for.
     fn variable<'a>(&'a self, name: &str, cwd: &'a Text) -> Result<&'a str, VarFault>
         ensures bad_name { IfErr result (λ fault. fault ≡ BadName) }
-        ensures variable { MatchResult result (λ text. variable self.now cwd.now name.now ≡ Ok text.now) (λ fault. variable self.now cwd.now name.now ≡ Err fault) }
+        ensures variable { let wanted = variable self.now cwd.now name.now in
+            MatchResult result (λ text. wanted ≡ Ok text.now) (λ fault. wanted ≡ Err fault) }
     {
         if is_cwd(name) {
             Ok(cwd.as_str())
@@ -92,10 +117,11 @@ impl Vars {
 }
 
 // What the lookup answers to a name in `@(` and `)`.
-fn setting<C: Lookup>(alloc: Global, name: &str, config: &mut C) -> Result<Option<Text>, VarFault>
+fn answer<C: Lookup>(alloc: Global, name: &str, config: &mut C) -> Result<Option<Text>, VarFault>
     requires { C.stopped config.old ≡ false }
-    ensures answer { IsTrue C.tells → HasNoAnswer result ⊎ MatchResult result
-        (λ answer. setting (C.answers config.old) name.now ≡ Ok (unwrap_or answer [])) (λ fault. setting (C.answers config.old) name.now ≡ Err fault) }
+    ensures answered { IsTrue C.tells → let wanted = answer (C.answers config.old) name.now in
+        HasNoAnswer result ⊎ MatchResult result
+        (λ found. wanted ≡ Ok (unwrap_or found [])) (λ fault. wanted ≡ Err fault) }
     ensures same { IsTrue C.tells → C.answers config.new ≡ C.answers config.old }
     ensures stopped { is_stop result ≡ C.stopped config.new }
 {
@@ -108,8 +134,9 @@ fn setting<C: Lookup>(alloc: Global, name: &str, config: &mut C) -> Result<Optio
 
 // Adds the part of a text behind its last closing bracket.
 fn add_last(expanded: &mut String, part: &str) -> Result<(), VarFault>
-    ensures added { (names : Scope) → let all = with_pieces names (string_bytes expanded.old) (last part.now) in
-        (result ≡ Err Memory) ⊎ MatchResult result (λ _. all ≡ Ok (string_bytes expanded.new)) (λ fault. all ≡ Err fault) }
+    ensures added { (names : Scope) →
+        let all = with_segments names (string_bytes expanded.old) (last part.now) in
+        (result ≡ Err Memory) ⊎ EndsAs result (string_bytes expanded.new) all }
     ensures stopped { is_stop result ≡ false }
 {
     match opened(part) {
@@ -124,23 +151,25 @@ fn add_last(expanded: &mut String, part: &str) -> Result<(), VarFault>
 // Adds a text, if there is room for it.
 fn add(expanded: &mut String, more: &str) -> Result<(), VarFault>
     ensures added { let all = grown (string_bytes expanded.old) more.now in
-        (result ≡ Err Memory) ⊎ MatchResult result (λ _. all ≡ Ok (string_bytes expanded.new)) (λ fault. all ≡ Err fault) }
+        (result ≡ Err Memory) ⊎ EndsAs result (string_bytes expanded.new) all }
     ensures stopped { is_stop result ≡ false }
 {
-    if expanded.len().saturating_add(more.len()) > MAX_TEXT {
+    if expanded.len().saturating_add(more.len()) > MAX_EXPANDED {
         return Err(VarFault::TooLong);
     }
     expanded.push_str(more)?;
     Ok(())
 }
 
-/// Laws of what texts are expanded to. The pieces of a text are the text, and each is one piece: no
+/// Laws of what texts are expanded to. The segments of a text are the text, and each is one segment: no
 /// name begins in plain bytes, and none holds its closing bracket. A text without `$` and `@` stands for
 /// itself. And two texts of which each stands for something stand for both together, one behind the
 /// other, but where a mark ends the first and its bracket begins the second.
 pub fn expansion_laws()
-    ensures each { (text : List ℕ) → All IsPiece (pieces text) }
-    ensures whole { (text : List ℕ) → flat_map spelled (pieces text) ≡ text }
-    ensures plain { (names : Scope) (text : List ℕ) → IsTrue (is_plain text) → length text ≤ MAX_TEXT → expansion names text ≡ Ok text }
-    ensures joins { (names : Scope) (front back : List ℕ) → IsTrue (are_apart front back) → Joins names front back }
+    ensures each { (text : List ℕ) → All IsSegment (segments text) }
+    ensures whole { (text : List ℕ) → flat_map spelled (segments text) ≡ text }
+    ensures plain { (names : Scope) (text : List ℕ) →
+        IsTrue (is_plain text) → length text ≤ 1048576 → expansion names text ≡ Ok text }
+    ensures joins { (names : Scope) (front back : List ℕ) →
+        IsTrue (are_apart front back) → Joins names front back }
 {}

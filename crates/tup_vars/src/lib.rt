@@ -19,7 +19,4 @@ pub use config::{Config, config_lines, read_config};
 pub use expand::expansion_laws;
 pub use fault::{ConfigFault, VarFault};
 pub use lookup::{Lookup, Stopped};
-pub use vars::{MAX_TEXT, Vars};
-
-#[cfg(test)]
-mod tests;
+pub use vars::Vars;

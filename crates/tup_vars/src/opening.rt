@@ -1,6 +1,6 @@
 //! Where a name begins in a text.
 ghost use Rattle.std.specs.Prelude.{◌≡◌, ◌<◌, ◌+◌, ℕ, true, false, ◌&&◌, ◌==◌, length, slice_index, MatchOption, option_map};
-ghost use Rattle.tup_vars.specs.Pieces.{opened, is_mark, opens_at};
+ghost use Rattle.tup_vars.specs.Segments.{opened, is_mark, opens_at};
 
 /// What stands before the first `$(` or `@(` of a text, its mark, and what stands behind it.
 pub(crate) fn opened(text: &str) -> Option<(&str, u8, &str)>
@@ -15,7 +15,8 @@ pub(crate) fn opened(text: &str) -> Option<(&str, u8, &str)>
 fn opening(text: &[u8]) -> Option<usize>
     ensures { MatchOption result
         ((k : ℕ) → k + 1 < length text.now → opens_at text.now k ≡ false)
-        (λ at. (at + 1 < length text.now) × (opens_at text.now at ≡ true) × ((k : ℕ) → k < at → opens_at text.now k ≡ false)) }
+        (λ at. (at + 1 < length text.now) × (opens_at text.now at ≡ true)
+        × ((k : ℕ) → k < at → opens_at text.now k ≡ false)) }
 {
     text.windows(2).position(|pair| opens(pair))
 }

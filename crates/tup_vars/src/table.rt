@@ -1,7 +1,7 @@
 //! Names with their values.
-ghost use Rattle.std.specs.Prelude.{◌≡◌, [], OnOk, OnErr};
+ghost use Rattle.std.specs.Prelude.{◌≡◌, [], ◌++◌, OnOk, OnErr};
 ghost use Rattle.std.specs.Option.{option_copied};
-ghost use Rattle.tup_vars.specs.Table.{look, put, named};
+ghost use Rattle.tup_vars.specs.Table.{look, put, value_of};
 
 use indexmap::IndexMap;
 use std::alloc::{AllocError, Global};
@@ -44,5 +44,17 @@ impl Table {
     {
         self.entries.insert(String::from_str(alloc, name)?, value)?;
         Ok(())
+    }
+
+    /// Puts a text behind the value of a name, which it begins where there is none.
+    pub(crate) fn extend(&mut self, alloc: Global, name: &str, more: &str) -> Result<(), AllocError>
+        ensures ok { OnOk result
+            (self.new ≡ put self.old name.now (value_of self.old name.now ++ more.now)) }
+        ensures err { OnErr result (self.new ≡ self.old) }
+    {
+        match self.entries.get_mut(name) {
+            Some(value) => value.push_str(more),
+            None => self.put(alloc, name, Text::from_str(alloc, more)?),
+        }
     }
 }

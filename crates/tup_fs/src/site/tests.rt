@@ -1,9 +1,10 @@
 //! Each call against a real folder, which every test makes and takes away again.
 use super::*;
+use std::io::ErrorKind;
 use std::os::unix::fs::symlink;
 use std::process::Command;
 use std::test::Fail;
-use std::{env, fs, process};
+use std::{env, fs, io, process};
 use tup_path::{PathFault, Text};
 
 // A new folder of a test's own.
@@ -308,7 +309,12 @@ fn the_store_is_written_and_cut(rt: HostRuntime) -> Result<(), Fail> {
     assert_eq!(rt; part, *b"lEY");
     site.db_cut(alloc, 4)?;
     assert_eq!(rt; site.db_len(alloc), Ok(4));
+    // Until the next sync the store's file is whole as it was.
+    assert_eq!(rt; text_at(rt, &folder, ".tup/db")?.as_str(), "helEY!!");
+    assert_eq!(rt; site.db_cut(alloc, 9), Ok(()));
+    site.db_sync(alloc)?;
     assert_eq!(rt; text_at(rt, &folder, ".tup/db")?.as_str(), "helE");
+    assert_eq!(rt; is_there(rt, &folder, ".tup/db.new")?, false);
     assert_eq!(rt; site.db_read(alloc, 2, &mut part), Err(SiteFailed::Fault));
     assert_eq!(rt; site.faults(), 1);
     fs::remove_dir_all(&rt, folder)?;
@@ -321,7 +327,9 @@ fn failures_are_counted(rt: HostRuntime) -> Result<(), Fail> {
     let folder = new_folder(rt, "gone")?;
     let mut site = FsSite::new(rt, alloc, folder.as_str())?;
     fs::remove_dir_all(&rt, folder)?;
+    assert_eq!(rt; site.last().is_none(), true);
     assert_eq!(rt; listed(alloc, &mut site).err(), Some(SiteFailed::Fault));
+    assert_eq!(rt; site.last().is_some(), true);
     let put = site.put(alloc, &path(alloc, "a")?, &bytes(alloc, "x")?);
     assert_eq!(rt; put, Err(SiteFailed::Fault));
     assert_eq!(rt; site.db_write(alloc, 0, b"x"), Err(SiteFailed::Fault));

@@ -1,7 +1,6 @@
 use Rattle.std.proofs.Common.{length, ◌≤◌, inl, inr, ◌∙◌, ap}
-use Rattle.tup_flags.specs.declared.answer.TheConstants.{MAX_EXPANDED}
 use Rattle.tup_flags.specs.Laws.{IsLeast, IsTextAlone, StandIn}
-use Rattle.tup_flags.specs.Pieces.{total}
+use Rattle.tup_flags.specs.Pieces.{text_limit, total}
 use Rattle.tup_flags.specs.Expansion.{expand}
 use Rattle.tup_flags.proofs.Spelled.{spelled-parts}
 use Rattle.tup_flags.proofs.Whole.{carried, is-plain, is-alone, is-least, are-within, is-short}
@@ -24,7 +23,7 @@ pub returns-clause-least : goal.returns-clause-least
 returns-clause-least c = carried IsLeast _ _ c.expanded.ensures (is-least c.args.parts.now c.as_str.result.now)
 
 pub returns-clause-short : goal.returns-clause-short
-returns-clause-short c = carried (λ pieces. total pieces ≤ MAX_EXPANDED) _ _ c.expanded.ensures (is-short c.args.parts.now c.as_str.result.now)
+returns-clause-short c = carried (λ pieces. total pieces ≤ text_limit) _ _ c.expanded.ensures (is-short c.args.parts.now c.as_str.result.now)
 
 pub returns-clause-groups : goal.returns-clause-groups
 returns-clause-groups c = carried (StandIn (length c.args.parts.now.groups)) _ _ c.expanded.ensures (are-within c.args.parts.now c.as_str.result.now)

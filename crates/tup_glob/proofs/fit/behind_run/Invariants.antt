@@ -4,4 +4,4 @@ use Rattle.tup_glob.proofs.fit.behind_run.Given as goal
 
 -- no run came yet
 abbrev pub invariant-loop-index : goal.invariant-loop-index
-invariant-loop-index l = others_of l.pieces ≡ others_of (drop l.index l.pieces)
+invariant-loop-index l = others_of l.symbols ≡ others_of (drop l.index l.symbols)

@@ -6,4 +6,4 @@ use Rattle.tup_glob.proofs.fit.first_fit.Goals as goal
 
 pub returns-in-Some : goal.returns-in-Some
 returns-in-Some c =
-    (c.places.invariant.1 ∙ rest_here (λ rest. is_some (fitted c.args.pieces.now rest)) (chars c.places.place.now) (ap is_some c.in-Some.ensures), c.in-Some.ensures)
+    (c.places.invariant.1 ∙ rest_here (λ rest. is_some (fitted c.args.symbols.now rest)) (chars c.places.place.now) (ap is_some c.in-Some.ensures), c.in-Some.ensures)

@@ -5,6 +5,6 @@ use Rattle.std.specs.Str.{chars}
 use Rattle.tup_glob.specs.Fit.{fit as fitted}
 use Rattle.tup_glob.proofs.fit.fit.Given as goal
 
--- what is left of the name is for the pieces that are left
-abbrev pub invariant-loop-piece : goal.invariant-loop-piece
-invariant-loop-piece l = shadow (Utf8 l.rest) × (fitted l.pieces (chars l.name) ≡ fitted (drop l.piece-index l.pieces) (chars l.rest))
+-- what is left of the name is for the symbols that are left
+abbrev pub invariant-loop-symbol : goal.invariant-loop-symbol
+invariant-loop-symbol l = shadow (Utf8 l.rest) × (fitted l.symbols (chars l.name) ≡ fitted (drop l.symbol-index l.symbols) (chars l.rest))

@@ -7,7 +7,7 @@ use Rattle.tup_glob.proofs.fit.matches.Goals as goal
 pub returns-in-Some : goal.returns-in-Some
 returns-in-Some c =
     c.others_match.ensures
-    ∙ sym (matches_by_left c.args.pieces.now (chars c.args.name.now) ∙ ap (by_left (others_of c.args.pieces.now)) c.in-Some.ensures)
+    ∙ sym (matches_by_left c.args.symbols.now (chars c.args.name.now) ∙ ap (by_left (others_of c.args.symbols.now)) c.in-Some.ensures)
 
 pub returns-in-None : goal.returns-in-None
-returns-in-None c = sym (matches_by_left c.args.pieces.now (chars c.args.name.now) ∙ ap (by_left (others_of c.args.pieces.now)) c.in-None.ensures)
+returns-in-None c = sym (matches_by_left c.args.symbols.now (chars c.args.name.now) ∙ ap (by_left (others_of c.args.symbols.now)) c.in-None.ensures)

@@ -1,5 +1,3 @@
-use Rattle.std.proofs.Common.{◌≡◌, None, sym, ◌∙◌}
-use Rattle.tup_lex.specs.Blank.{BlankFrom, Ends}
 use Rattle.tup_lex.proofs.Trims.{blank_from_nowhere, Ends-from_searches}
 use Rattle.tup_lex.proofs.blank.ends.Goals as goal
 

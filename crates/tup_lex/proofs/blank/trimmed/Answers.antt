@@ -1,6 +1,6 @@
 use Rattle.std.proofs.Common.{sym, ◌∙◌, length}
 use Rattle.tup_lex.specs.Blank.{Ends, BlankFrom}
-use Rattle.tup_lex.proofs.Trims.{trim_none, trim-between, start-IsCharBoundary, end-IsCharBoundary}
+use Rattle.tup_lex.proofs.Trims.{trim_none, trim-between, start-IsCharBoundary}
 use Rattle.tup_lex.proofs.blank.trimmed.Goals as goal
 
 pub range-requires-clause-start_boundary : goal.range-requires-clause-start_boundary

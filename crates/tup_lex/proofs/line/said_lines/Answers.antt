@@ -1,13 +1,12 @@
-use Rattle.std.proofs.Common.{◌≡◌, ℕ, ◌+◌, ◌<◌, ◌≤◌, ◌⊎◌, List, length, drop, get_or, [], ◌∷◌, ◌++◌, Ok, Err, sym, ◌∙◌, refl, arith, ap, inl, inr, ⊎_elim, false}
-use Rattle.std.specs.String.{string_bytes}
+use Rattle.std.proofs.Common.{◌≡◌, ◌<◌, length, get_or, [], ◌∷◌, ◌++◌, Ok, Err, sym, ◌∙◌, refl, arith, ap, inl, inr, ⊎_elim, false}
 use Rattle.std.specs.Str.Lines.{lines as cut_lines}
 use Rattle.std.proofs.lemmas.List.{length_push}
 use Rattle.std.proofs.lemmas.Iterator.Splits.{YieldsList-from_lines}
 use Rattle.std.proofs.lemmas.Iterator.Consumers.{YieldsList-turn, YieldsList-end}
 use Rattle.std.proofs.lemmas.Result.{err_from_is_err_and}
 use Rattle.std.proofs.lemmas.Str.Pattern.{strip_suffix_char}
-use Rattle.tup_lex.specs.Line.{goes_on, said, joined_lines, line_number}
-use Rattle.tup_lex.proofs.Joins.{So, So-same, so-begins, so-goes_on, so-long, so-fits, end-long, end-fits, not_goes_on, next_number}
+use Rattle.tup_lex.specs.Line.{goes_on, line_number}
+use Rattle.tup_lex.proofs.Joins.{So, So-same, so-begins, so-goes_on, so-long, so-fits, end-fits, not_goes_on, next_number}
 use Rattle.tup_lex.proofs.line.said_lines.Goals as goal
 
 pub loop-line-init : goal.loop-line-init

@@ -1,10 +1,9 @@
-use Rattle.std.proofs.Common.{◌≡◌, Bool, List, Option, map, Ok, inr, refl, sym, ap, ◌∙◌}
+use Rattle.std.proofs.Common.{◌≡◌, Bool, List, Option, map, Ok, inr, refl, ap}
 use Rattle.std.specs.List.{before_first, after_first, find}
 use Rattle.std.specs.Option.{option_map}
 use Rattle.tup_lex.specs.Word.{Word, span_of, inner_span, is_bar, is_bin, is_group}
 use Rattle.tup_lex.specs.Parts.{assembled, made_of, gifts_of}
 use Rattle.tup_lex.specs.declared.span.Span.{Span}
-use Rattle.tup_lex.specs.declared.parts.Parts.{Parts}
 use Rattle.tup_lex.proofs.parts.assembled.Goals as goal
 
 -- field by field

@@ -1,4 +1,4 @@
-use Rattle.std.proofs.Common.{◌≡◌, ℕ, ◌+◌, ◌-◌, length, arith, List, refl, sym, ap, ◌∙◌}
+use Rattle.std.proofs.Common.{◌≡◌, ℕ, ◌+◌, ◌-◌, length, arith, List, refl, ap}
 use Rattle.std.specs.List.{prefix_len}
 use Rattle.tup_lex.specs.Blank.{is_blank, trim, BlankFrom, Ends}
 use Rattle.tup_lex.specs.Word.{span}

@@ -1,5 +1,5 @@
-use Rattle.std.proofs.Common.{sym, ap, ◌∙◌, arith, subst, ◌+◌}
-use Rattle.tup_lex.proofs.Cuts.{So, so-blank, so-other, so-end}
+use Rattle.std.proofs.Common.{sym, ap, ◌∙◌, arith}
+use Rattle.tup_lex.proofs.Cuts.{so-blank, so-other, so-end}
 use Rattle.tup_lex.proofs.word.words.Goals as goal
 use Rattle.tup_lex.proofs.word.words.Goals.{then-is_blank+in_ok-add, else-is_blank}
 

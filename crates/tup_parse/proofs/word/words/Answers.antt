@@ -1,7 +1,7 @@
 use Rattle.std.proofs.Common.{ap, ◌∙◌, filter, rules, tests, ◌==◌}
 use Rattle.std.proofs.lemmas.Iterator.Consumers.{YieldsList-at, YieldsList-end}
 use Rattle.std.proofs.lemmas.Iterator.Splits.{YieldsList-from_slice_split}
-use Rattle.tup_mini.specs.Words.{is_word}
+use Rattle.tup_parse.specs.Word.{is_word}
 use Rattle.tup_parse.proofs.word.words.Goals as goal
 
 pub returns : goal.returns

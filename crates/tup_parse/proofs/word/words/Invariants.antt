@@ -1,5 +1,5 @@
 use Rattle.std.proofs.Common.{◌≡◌, filter, map}
-use Rattle.tup_mini.specs.Words.{is_word}
+use Rattle.tup_parse.specs.Word.{is_word}
 use Rattle.tup_parse.proofs.word.words.Given as goal
 
 abbrev pub invariant-loop-part : goal.invariant-loop-part

@@ -1,4 +1,4 @@
-use Rattle.tup_path.specs.Written.{resolve-show, resolve-show_from}
+use Rattle.tup_path.proofs.Written.{resolve-show, resolve-show_from}
 use Rattle.tup_path.proofs.show.shown_reads_back.Goals as goal
 
 pub returns : goal.returns

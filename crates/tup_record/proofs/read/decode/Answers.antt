@@ -9,16 +9,16 @@ given c =
     subst (λ value. Gives c.entry.result (record_at c.args.key.now value)) c.as_slice-2.ensures (subst (λ key. Gives c.entry.result (record_at key c.as_slice-2.result.now)) c.as_slice.ensures c.entry.ensures.exact)
 
 pub returns-clause-only : goal.returns-clause-only
-returns-clause-only c = λ entry fits key value. only c.args.key.now c.args.value.now c.entry.result (given c) entry fits key value
+returns-clause-only c = λ entry is. only c.args.key.now c.args.value.now c.entry.result (given c) entry is.0 is.1 is.2
 
 pub returns-clause-short_key : goal.returns-clause-short_key
-returns-clause-short_key c = λ entry more fits some key. short_key c.args.key.now c.args.value.now c.entry.result (given c) entry fits more some key
+returns-clause-short_key c = λ entry fits more. short_key c.args.key.now c.args.value.now c.entry.result (given c) entry fits more.0 more.1 more.2
 
 pub returns-clause-short_value : goal.returns-clause-short_value
-returns-clause-short_value c = λ entry more fits some key value. short_value c.args.key.now c.args.value.now c.entry.result (given c) entry fits more some key value
+returns-clause-short_value c = λ entry fits key more. short_value c.args.key.now c.args.value.now c.entry.result (given c) entry fits more.0 more.1 key more.2
 
 pub returns-clause-trailing_key : goal.returns-clause-trailing_key
-returns-clause-trailing_key c = λ entry more fits some key. trailing_key c.args.key.now c.args.value.now c.entry.result (given c) entry fits more some key
+returns-clause-trailing_key c = λ entry fits more. trailing_key c.args.key.now c.args.value.now c.entry.result (given c) entry fits more.0 more.1 more.2
 
 pub returns-clause-trailing_value : goal.returns-clause-trailing_value
-returns-clause-trailing_value c = λ entry more fits some key value. trailing_value c.args.key.now c.args.value.now c.entry.result (given c) entry fits more some key value
+returns-clause-trailing_value c = λ entry fits key more. trailing_value c.args.key.now c.args.value.now c.entry.result (given c) entry fits more.0 more.1 key more.2

@@ -1,4 +1,4 @@
-use Rattle.std.proofs.Common.{◌≡◌, ◌++◌, ◌∷◌, [], ◌∙◌, ap, rules}
+use Rattle.std.proofs.Common.{◌≡◌, ◌∷◌, [], ◌∙◌, ap, rules}
 use Rattle.tup_macro.proofs.Giving.{seen, seen-begun, absent-seen}
 use Rattle.tup_macro.proofs.gifts.Gifts.begin.Goals as goal
 
@@ -8,4 +8,4 @@ returns-clause-given g c =
     let kept = c.self.inside.given in
     let one : c.insert.new.self.keys ≡ c.args.path ∷ [] = search rules in
     let absent = absent-seen eq c.args.key kept.entries c.args.self.now c.self.view_is c.requires in
-    ap seen c.in_ok-insert-2.ensures.entries ∙ seen-begun eq kept c.args.key c.insert.new.self c.args.path absent one ∙ ap (λ gifts. gifts ++ (c.args.key, c.args.path ∷ []) ∷ []) c.self.view_is
+    ap seen c.in_ok-insert-2.ensures.entries ∙ seen-begun eq kept c.args.self.now c.args.key c.insert.new.self c.args.path c.self.view_is absent one

@@ -11,6 +11,6 @@ returns-clause-defined c =
     let absent : macro_of c.args.self.now name ≡ None = search rules in
     let new : get bytes_eq kept name ≡ None = ap (λ macros. macro_of macros name) c.self.view_is ∙ absent in
     c.in_ok-insert.ensures.entries
-    ∙ ap (λ key. insert_entry bytes_eq kept.entries key c.args.body) (c.kept.ensures ∙ c.in_ok-clone.ensures.cases)
+    ∙ ap (λ key. insert_entry bytes_eq kept.entries key c.args.body) c.in_ok-clone.ensures.cases
     ∙ insert_entry-new bytes_eq kept name c.args.body new
     ∙ ap (λ macros. macros ++ (name, c.args.body) ∷ []) c.self.view_is

@@ -1,7 +1,7 @@
 use Rattle.std.proofs.Common.{◌≡◌, ◌++◌, ◌∷◌, [], Ok, Some, inr, ap, sym, ◌∙◌}
 use Rattle.std.specs.Result.{result_ok}
 use Rattle.tup_path.specs.Resolve.{above}
-use Rattle.tup_path.specs.Walks.{above_last}
+use Rattle.tup_path.proofs.Walks.{above_last}
 use Rattle.tup_path.proofs.Names.{path_front}
 use Rattle.tup_path.proofs.path.Path.parent.Goals as goal
 

@@ -1,7 +1,7 @@
 use Rattle.std.proofs.Common.{◌≡◌, ◌++◌, ◌∷◌, [], arith, ap, sym, ◌∙◌}
 use Rattle.std.proofs.lemmas.Grind.{common_steps}
 use Rattle.tup_path.specs.Resolve.{above}
-use Rattle.tup_path.specs.Walks.{above_last}
+use Rattle.tup_path.proofs.Walks.{above_last}
 use Rattle.tup_path.proofs.path.Path.pop.Goals as goal
 use Rattle.tup_path.proofs.path.Path.pop.Goals.{in-Some, in-None}
 

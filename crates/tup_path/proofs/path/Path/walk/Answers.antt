@@ -1,8 +1,8 @@
 use Rattle.std.proofs.Common.{[], inr, sym, ap, ◌∙◌, rules, arith}
 use Rattle.std.proofs.lemmas.Str.Pattern.{split_parts}
-use Rattle.tup_path.specs.Resolve.{walk}
-use Rattle.tup_path.specs.Walks.{parts, walk_on}
-use Rattle.tup_path.proofs.Walks.{parts_first, parts_last, walk_stops}
+use Rattle.tup_path.specs.Resolve.{parts, walk}
+use Rattle.tup_path.proofs.Walks.{walk_on}
+use Rattle.tup_path.proofs.Cuts.{parts_first, parts_last, walk_stops}
 use Rattle.tup_path.proofs.path.Path.walk.Goals as goal
 
 pub returns-in_err-step : goal.returns-in_err-step

@@ -1,6 +1,5 @@
 use Rattle.std.proofs.Common.{◌≡◌, length, IsUtf8}
-use Rattle.tup_path.specs.Resolve.{walk}
-use Rattle.tup_path.specs.Walks.{parts}
+use Rattle.tup_path.specs.Resolve.{parts, walk}
 use Rattle.tup_path.proofs.path.Path.walk.Given as goal
 
 abbrev pub invariant-parts : goal.invariant-parts

@@ -11,5 +11,5 @@ returns-clause-counted c =
       faults = sym (ap (λ b. cond b (one_more (faults_of c.args.self.now)) (faults_of c.args.self.now)) passed);
       fails = refl;
       fault = (λ e. cc, λ t. cc);
-      cause = record { later = omega arith; fault = λ e. cc };
+      cause = record { later = omega arith; fault = λ e. cc; steady = λ e. refl };
     }

@@ -1,12 +1,12 @@
 use Rattle.std.proofs.Common.{rules, sym, subst, ap, ◌∙◌, ◌++◌, append_assoc}
 use Rattle.std.specs.FinMap as finite
-use Rattle.tup_path.specs.Tree.{Tree, IsTree}
-use Rattle.tup_site.specs.Edit.{tree_of, MayAdd, AreATree}
+use Rattle.tup_path.specs.Tree.{Tree, IsTree, tree_of_files}
+use Rattle.tup_site.specs.Edit.{MayAdd, AreATree}
 use Rattle.tup_site.proofs.Made.{no_files, once_more, tree_more, refused}
 use Rattle.tup_site.proofs.memory.MemSite.new.Goals as goal
 
 pub invariant_of-site : goal.invariant_of-site
-invariant_of-site c = record { is_tree = subst (λ es. IsTree (tree_of es)) (sym c.new.ensures.empty) no_files }
+invariant_of-site c = record { is_tree = subst (λ es. IsTree (tree_of_files es)) (sym c.new.ensures.empty) no_files }
 
 pub loop-path-preserved : goal.loop-path-preserved
 loop-path-preserved c =

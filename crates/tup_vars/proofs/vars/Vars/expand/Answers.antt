@@ -1,4 +1,4 @@
-use Rattle.std.proofs.Common.{Ok, Err, inr, string_bytes, refl, sym, ap, ◌∙◌, arith, rules}
+use Rattle.std.proofs.Common.{Ok, Err, false, inr, string_bytes, refl, sym, ap, ◌∙◌, arith, rules}
 use Rattle.std.proofs.lemmas.Str.Pattern.{split_parts}
 use Rattle.tup_vars.specs.Expand.{scope}
 use Rattle.tup_vars.proofs.Joined.{no_bracket, IsCut, turn-ok, turn-err, end-ok, end-err}
@@ -19,7 +19,7 @@ parts-preserved g c =
     let is_cut : IsCut l.rest.now c.in-Some.part.now c.in-Some.more.now = record { whole = cut.0; none = no_bracket c.in-Some.part.now cut.1 } in
     record {
       text = search rules;
-      running = sym c.in_ok-add_closed.ensures.stopped;
+      running = sym {a = false} c.in_ok-add_closed.ensures.stopped;
       same = λ tells. c.in_ok-add_closed.ensures.same tells ∙ l.invariant.same tells;
       so_far = λ tells. turn-ok c.args.self.now c.args.cwd.now _ _ (l.invariant.same tells) _ (string_bytes l.expanded) l.rest.now (l.invariant.so_far tells) c.in-Some.part.now c.in-Some.more.now is_cut
           c.in_ok-add_closed.field-0 (string_bytes c.add_closed.new.expanded) (c.in_ok-add_closed.ensures.added tells);

@@ -1,0 +1,16 @@
+//! Answers the rows of `data/` on commands: a file of rows, and a module, for each crate.
+#![tactic(auto)]
+
+mod access;
+mod clean;
+mod mini;
+mod values;
+
+use std::io;
+
+fn main(rt: HostRuntime) -> io::Result<()> {
+    let alloc = rt.alloc();
+    mini::try_rows(&rt, alloc)?;
+    access::try_rows(&rt, alloc)?;
+    clean::try_rows(&rt, alloc)
+}

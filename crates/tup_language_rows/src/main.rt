@@ -1,0 +1,22 @@
+//! Answers the rows of `data/` on the language of a Tupfile: a file of rows, and a module, for each crate.
+#![tactic(auto)]
+
+mod flags;
+mod glob;
+mod lex;
+mod macros;
+mod parse;
+mod values;
+mod vars;
+
+use std::io;
+
+fn main(rt: HostRuntime) -> io::Result<()> {
+    let alloc = rt.alloc();
+    lex::try_rows(&rt, alloc)?;
+    vars::try_rows(&rt, alloc)?;
+    glob::try_rows(&rt, alloc)?;
+    flags::try_rows(&rt, alloc)?;
+    macros::try_rows(&rt, alloc)?;
+    parse::try_rows(&rt, alloc)
+}

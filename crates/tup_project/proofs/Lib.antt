@@ -1,0 +1,5 @@
+pub mod Named
+pub mod Repeats
+pub mod Strays
+pub mod Buildable
+pub mod Whole

@@ -1,0 +1,24 @@
+//! The rows of the store: fields, records, and lists of owned paths.
+//!
+//! Each file of `data/` has rows, a call with the answer that is wanted each. The head of a file says what its calls
+//! and their arguments mean.
+#![tactic(auto)]
+
+mod field;
+mod owned;
+mod record;
+mod say;
+mod values;
+
+use field::Fields;
+use owned::OwnedLists;
+use record::Records;
+use std::io;
+use tup_rows::try_file;
+
+fn main(rt: HostRuntime) -> io::Result<()> {
+    let alloc = rt.alloc();
+    try_file(&rt, alloc, "field.rows", &mut Fields)?;
+    try_file(&rt, alloc, "record.rows", &mut Records)?;
+    try_file(&rt, alloc, "owned.rows", &mut OwnedLists)
+}
