@@ -5,7 +5,6 @@ use std::os::unix::fs::symlink;
 use std::process::Command;
 use std::test::Fail;
 use std::{env, fs, io, process};
-use tup_path::{PathFault, Text};
 
 // A new folder of a test's own.
 fn new_folder(rt: HostRuntime, name: &str) -> io::Result<String> {
@@ -42,10 +41,6 @@ fn is_there(rt: HostRuntime, folder: &String, rest: &str) -> io::Result<bool> {
         Err(e) if e.kind() == ErrorKind::NotFound => Ok(false),
         Err(e) => Err(e),
     }
-}
-
-fn path(alloc: Global, text: &str) -> Result<Path, PathFault> {
-    Path::resolve(alloc, &Path::top(alloc), &Text::from_str(alloc, text)?)
 }
 
 fn bytes(alloc: Global, text: &str) -> Result<Bytes, AllocError> {
@@ -116,7 +111,7 @@ fn special_files_are_passed_over(rt: HostRuntime) -> Result<(), Fail> {
         )?
     );
     let mut site = FsSite::new(rt, alloc, folder.as_str())?;
-    let pipe = path(alloc, "pipe")?;
+    let pipe = Path::from_top(alloc, "pipe")?;
     assert_eq!(rt; listed(alloc, &mut site)?.as_str(), "ok ");
     assert_eq!(rt; site.get(alloc, &pipe)?, None);
     assert_eq!(rt; site.faults(), 0);
@@ -134,7 +129,7 @@ fn special_files_are_passed_over(rt: HostRuntime) -> Result<(), Fail> {
 fn folders_that_refuse_files_are_faults(rt: HostRuntime) -> Result<(), Fail> {
     let alloc = rt.alloc();
     let mut site = FsSite::new(rt, alloc, "/proc")?;
-    let put = site.put(alloc, &path(alloc, "tup")?, &bytes(alloc, "x")?);
+    let put = site.put(alloc, &Path::from_top(alloc, "tup")?, &bytes(alloc, "x")?);
     assert_eq!(rt; put, Err(SiteFailed::Fault));
     assert_eq!(rt; site.db_write(alloc, 0, b"x"), Err(SiteFailed::Fault));
     assert_eq!(rt; site.faults(), 2);
@@ -194,7 +189,7 @@ fn files_are_found(rt: HostRuntime) -> Result<(), Fail> {
             Some(content) => Some(bytes(alloc, content)?),
             None => None,
         };
-        assert_eq!(rt; site.get(alloc, &path(alloc, text)?)?, want, "{text}");
+        assert_eq!(rt; site.get(alloc, &Path::from_top(alloc, text)?)?, want, "{text}");
     }
     assert_eq!(rt; site.faults(), 0);
     fs::remove_dir_all(&rt, folder)?;
@@ -206,7 +201,7 @@ fn large_files_are_refused(rt: HostRuntime) -> Result<(), Fail> {
     let alloc = rt.alloc();
     let folder = new_folder(rt, "large")?;
     let mut site = FsSite::new(rt, alloc, folder.as_str())?;
-    let a = path(alloc, "a")?;
+    let a = Path::from_top(alloc, "a")?;
     let file = File::create(&rt, below(rt, &folder, "a")?)?;
     for (len, want) in [
         (16_777_216, Ok(true)),
@@ -239,7 +234,7 @@ fn files_are_put(rt: HostRuntime) -> Result<(), Fail> {
         ("there", "x", Err(SiteFailed::Fault)),
         ("mine/x", "x", Err(SiteFailed::Fault)),
     ] {
-        let put = site.put(alloc, &path(alloc, text)?, &bytes(alloc, content)?);
+        let put = site.put(alloc, &Path::from_top(alloc, text)?, &bytes(alloc, content)?);
         assert_eq!(rt; put, want, "{text}");
     }
     assert_eq!(rt; site.faults(), 4);
@@ -275,7 +270,7 @@ fn files_are_removed(rt: HostRuntime) -> Result<(), Fail> {
         ("folder/mine", Ok(())),
         ("file", Err(SiteFailed::Fault)),
     ] {
-        assert_eq!(rt; site.remove(alloc, &path(alloc, text)?), want, "{text}");
+        assert_eq!(rt; site.remove(alloc, &Path::from_top(alloc, text)?), want, "{text}");
     }
     site.settle(alloc)?;
     for (rest, want) in [
@@ -330,7 +325,7 @@ fn failures_are_counted(rt: HostRuntime) -> Result<(), Fail> {
     assert_eq!(rt; site.last().is_none(), true);
     assert_eq!(rt; listed(alloc, &mut site).err(), Some(SiteFailed::Fault));
     assert_eq!(rt; site.last().is_some(), true);
-    let put = site.put(alloc, &path(alloc, "a")?, &bytes(alloc, "x")?);
+    let put = site.put(alloc, &Path::from_top(alloc, "a")?, &bytes(alloc, "x")?);
     assert_eq!(rt; put, Err(SiteFailed::Fault));
     assert_eq!(rt; site.db_write(alloc, 0, b"x"), Err(SiteFailed::Fault));
     assert_eq!(rt; site.faults(), 3);
