@@ -12,12 +12,7 @@ use tup_stamp::Stamp;
 pub struct Fields;
 
 impl Answers for Fields {
-    fn answer(
-        &mut self,
-        alloc: Global,
-        call: &str,
-        arguments: &Words,
-    ) -> Result<Words, RowFault> {
+    fn answer(&mut self, alloc: Global, call: &str, arguments: &Words) -> Result<Words, RowFault> {
         let bytes = joined(alloc, arguments.as_slice())?;
         let bytes = bytes.as_slice();
         match call {

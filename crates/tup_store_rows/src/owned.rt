@@ -11,12 +11,7 @@ use tup_rows::{Answers, RowFault, Words};
 pub struct OwnedLists;
 
 impl Answers for OwnedLists {
-    fn answer(
-        &mut self,
-        alloc: Global,
-        call: &str,
-        arguments: &Words,
-    ) -> Result<Words, RowFault> {
+    fn answer(&mut self, alloc: Global, call: &str, arguments: &Words) -> Result<Words, RowFault> {
         let words = arguments.as_slice();
         match call {
             "read" => listed(alloc, read_owned(alloc, &joined(alloc, words)?)),
@@ -26,7 +21,9 @@ impl Answers for OwnedLists {
             },
             "sorted" => listed(alloc, sorted(alloc, &paths(alloc, words)?)),
             "union" => {
-                let end = words.iter().position(|word| word.as_slice() == b"|".as_slice());
+                let end = words
+                    .iter()
+                    .position(|word| word.as_slice() == b"|".as_slice());
                 let Some(end) = end else {
                     return Err(RowFault::TooFew);
                 };

@@ -11,12 +11,7 @@ use tup_rows::{Answers, RowFault, Words};
 pub struct Records;
 
 impl Answers for Records {
-    fn answer(
-        &mut self,
-        alloc: Global,
-        call: &str,
-        arguments: &Words,
-    ) -> Result<Words, RowFault> {
+    fn answer(&mut self, alloc: Global, call: &str, arguments: &Words) -> Result<Words, RowFault> {
         if call != "record" {
             return Err(RowFault::NoSuchCall);
         }
@@ -33,12 +28,7 @@ impl Answers for Records {
 }
 
 /// The record in words. A key and a value that aren't what it was read from come after `spelled`.
-fn spelled(
-    alloc: Global,
-    record: &Record,
-    key: &Bytes,
-    value: &Bytes,
-) -> Result<Words, RowFault> {
+fn spelled(alloc: Global, record: &Record, key: &Bytes, value: &Bytes) -> Result<Words, RowFault> {
     let mut words = Words::new(alloc);
     record.say(alloc, &mut words)?;
     match encode(alloc, &record.clone()?) {
