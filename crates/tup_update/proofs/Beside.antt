@@ -6,7 +6,7 @@ use Rattle.tup_path.specs.Name.{Names, Content}
 use Rattle.tup_path.specs.Order.{by_names-antisymmetric}
 use Rattle.tup_path.specs.Tree.{Tree}
 use Rattle.tup_rule.specs.Rule.{among}
-use Rattle.tup_update.specs.World.{files_beside}
+use Rattle.tup_update.specs.Sources.{files_beside}
 
 -- a file is left where it isn't among those
 pub get_beside : (paths : List Names) (tree : Tree) (path : Names) →

@@ -1,30 +1,27 @@
 -- After an update the sources are what they were: what the store lists then, and what stands beside it.
-use Rattle.std.proofs.Common.{◌≡◌, ◌⊎◌, inl, inr, ◌++◌, ◌||◌, Bool, true, false, cond, not, List, Option, None, Some, IsTrue, Result, Ok, Err, OnOk, IfErr, length, refl, sym, ◌∙◌, ap, subst, arith}
-use Rattle.std.specs.Result.{result_err}
+use Rattle.std.proofs.Common.{◌≡◌, ◌++◌, ◌||◌, Bool, true, false, cond, not, List, None, IsTrue, Ok, length, refl, sym, ◌∙◌, ap, arith}
 use Rattle.std.specs.FinMap as finite
 use Rattle.std.proofs.lemmas.Bool.{false≢true, or_right}
 use Rattle.std.proofs.lemmas.List.Folds.{list_any-append}
 use Rattle.tup_path.specs.Name.{Names}
 use Rattle.tup_path.specs.Order.{same_path}
 use Rattle.tup_path.specs.Tree.{Tree}
-use Rattle.tup_path.specs.Same.{same_tree}
+use Rattle.tup_path.proofs.Same.{same_tree}
 use Rattle.tup_rule.specs.declared.rule.Rule.{Rule}
 use Rattle.tup_rule.specs.Rule.{among, is_generated}
 use Rattle.tup_mini.specs.Mini.{mini_next}
-use Rattle.tup_clean.specs.Among.{among-Contains, Contains-among, is_generated-IsOutputAt}
-use Rattle.tup_clean.specs.Clean.{Build, clean, succeeds}
+use Rattle.tup_clean.proofs.Among.{among-Contains, Contains-among, is_generated-IsOutputAt}
+use Rattle.tup_clean.specs.Clean.{Build, succeeds}
 use Rattle.tup_clean.specs.InOrder.{IsBuildable}
-use Rattle.tup_clean.specs.InOrderLaws.{in_order_good}
-use Rattle.tup_clean.specs.CleanLaws.{clean_of_good, good_where_clean_succeeds}
+use Rattle.tup_clean.proofs.InOrderLaws.{in_order_good}
+use Rattle.tup_clean.proofs.CleanLaws.{clean_of_good, good_where_clean_succeeds}
 use Rattle.tup_owned.specs.Owned.{owned_of, spelling}
 use Rattle.tup_owned.specs.Ascending.{ascending}
 use Rattle.tup_owned.specs.Members.{ascending_has, ascending_has_only}
-use Rattle.tup_update.specs.World.{World, owned, sources, rules, build, files_beside, rules_beside, outputs}
-use Rattle.tup_update.specs.Building.{Changes, IsLeft}
-use Rattle.tup_update.specs.Parts.{IsBuilt, IsPlainStop, IsReadStop, IsRunStop, build_beside}
-use Rattle.tup_update.specs.Outcome.{IsListed, NothingForgotten, claimed}
-use Rattle.tup_update.specs.declared.stop.Stop.{Stop}
-use Rattle.tup_update.specs.declared.stop.Stop.TheVariants.{BadStore, Parse, Bad, Site, TooLarge, Memory}
+use Rattle.tup_site.specs.World.{World}
+use Rattle.tup_update.specs.Sources.{owned, sources, rules, build, files_beside, rules_beside, outputs, build_beside}
+use Rattle.tup_update.specs.Parts.{Changes}
+use Rattle.tup_update.specs.Outcome.{IsListed, claimed}
 use Rattle.tup_update.proofs.Beside.{get_beside}
 use Rattle.tup_update.proofs.Fronts.{among_outputs}
 use Rattle.tup_update.proofs.Running.{made_at}
@@ -109,14 +106,14 @@ same_beside_outputs owned rules old buildable clean_build =
 
 -- ---- of worlds
 
-build_is : (w : World) (paths : List Names) (found : List Rule) → owned_of w.store ≡ Ok paths → rules_beside paths w.tree ≡ Ok found → build_beside paths found w.tree ≡ build w
-build_is w paths found owns asks = λ i. clean mini_next (sym (rules_are w paths found owns asks) i) (files_beside (sym (owned_is w paths owns) i) w.tree)
+pub build_is : (w : World) (paths : List Names) (found : List Rule) → owned_of w.store ≡ Ok paths → rules_beside paths w.tree ≡ Ok found → build_beside paths found w.tree ≡ build w
+build_is w paths found owns asks = λ i. build_beside (sym (owned_is w paths owns) i) (sym (rules_are w paths found owns asks) i) w.tree
 
 -- the sources of a world, by what its store lists
 sources_are : (w : World) (paths : List Names) → owned_of w.store ≡ Ok paths → sources w ≡ files_beside paths w.tree
 sources_are w paths owns = ap (λ (p : List Names). files_beside p w.tree) (owned_is w paths owns)
 
-claimed_known : (old new : World) (paths : List Names) (found : List Rule) → owned_of old.store ≡ Ok paths → rules_beside paths old.tree ≡ Ok found →
+pub claimed_known : (old new : World) (paths : List Names) (found : List Rule) → owned_of old.store ≡ Ok paths → rules_beside paths old.tree ≡ Ok found →
     IsBuildable (files_beside paths old.tree) found → Changes paths found old.tree new.tree → new.store ≡ spelling (ascending (paths ++ outputs found)) → IsListed (claimed old) old new
 claimed_known old new paths found owns asks buildable changes stored =
     let reads : owned_of new.store ≡ Ok (ascending (paths ++ outputs found)) = ap owned_of stored ∙ claimed_reads old.store paths (files_beside paths old.tree) found owns buildable in
@@ -125,7 +122,7 @@ claimed_known old new paths found owns asks buildable changes stored =
       same = sources_are new (ascending (paths ++ outputs found)) reads ∙ same_beside_claimed paths found old.tree new.tree buildable changes ∙ sym (sources_are old paths owns);
     }
 
-made_known : (old new : World) (paths : List Names) (found : List Rule) → owned_of old.store ≡ Ok paths → rules_beside paths old.tree ≡ Ok found →
+pub made_known : (old new : World) (paths : List Names) (found : List Rule) → owned_of old.store ≡ Ok paths → rules_beside paths old.tree ≡ Ok found →
     IsBuildable (files_beside paths old.tree) found → IsTrue (succeeds (build_beside paths found old.tree)) → new.tree ≡ (build_beside paths found old.tree).tree →
     owned_of new.store ≡ Ok (ascending (outputs found)) → IsListed (ascending (outputs (rules old))) old new
 made_known old new paths found owns asks buildable clean_build files reads = record {
@@ -134,50 +131,3 @@ made_known old new paths found owns asks buildable clean_build files reads = rec
       sources_are new (ascending (outputs found)) reads ∙ ap (files_beside (ascending (outputs found))) files
       ∙ same_beside_outputs paths found old.tree buildable clean_build ∙ sym (sources_are old paths owns);
 }
-
--- an update that changed nothing forgot nothing
-pub unchanged : (old new : World) (stop : Stop) (stopped : Option Stop) → new ≡ old → IsReadStop stop → stopped ≡ Some stop → NothingForgotten old new stopped
-unchanged old new stop stopped same kind is = subst (NothingForgotten old new) (sym is) (by stop kind)
-  where
-    by : (stop : Stop) → IsReadStop stop → NothingForgotten old new (Some stop)
-    by (BadStore offset) kind = same
-    by (Parse fault) kind = same
-    by (Bad name verdict) kind = absurd kind
-    by (TooLarge n) kind = inl same
-    by Site kind = inr (inl (ap (λ (w : World). w.tree) same))
-    by Memory kind = inr (inl (ap (λ (w : World). w.tree) same))
-
--- what is left where the making of the files stops
-abbrev pub IsStoppedAt : World → World → Stop → Type 0
-IsStoppedAt old new stop = IsListed (claimed old) old new ⊎ (IsPlainStop stop × ((new.tree ≡ old.tree) ⊎ IsBuilt (build old) new.tree))
-
-stopped_at : (old new : World) (paths listed : List Names) (found : List Rule) (stop : Stop) → owned_of old.store ≡ Ok paths → rules_beside paths old.tree ≡ Ok found →
-    IsBuildable (files_beside paths old.tree) found → Changes paths found old.tree new.tree → listed ≡ ascending (paths ++ outputs found) →
-    IsLeft listed (build_beside paths found old.tree) old new stop → IsStoppedAt old new stop
-stopped_at old new paths listed found stop owns asks buildable changes is (inl stored) =
-    inl (claimed_known old new paths found owns asks buildable changes (stored ∙ ap spelling is))
-stopped_at old new paths listed found stop owns asks buildable changes is (inr (plain, inl same)) = inr (plain, inl same)
-stopped_at old new paths listed found stop owns asks buildable changes is (inr (plain, inr built)) =
-    inr (plain, inr (subst (λ (b : Build). IsBuilt b new.tree) (build_is old paths found owns asks) built))
-
-forgets_nothing : (old new : World) (stop : Stop) → IsRunStop stop → IsStoppedAt old new stop → NothingForgotten old new (Some stop)
-forgets_nothing old new (BadStore offset) kind at = absurd kind
-forgets_nothing old new (Parse fault) kind at = absurd kind
-forgets_nothing old new (Bad name verdict) kind (inl known) = known
-forgets_nothing old new (Bad name verdict) kind (inr (plain, how)) = absurd plain
-forgets_nothing old new (TooLarge n) kind (inl known) = inr known
-forgets_nothing old new (TooLarge n) kind (inr (plain, how)) = absurd plain
-forgets_nothing old new Site kind (inl known) = inl known
-forgets_nothing old new Site kind (inr (plain, how)) = inr how
-forgets_nothing old new Memory kind (inl known) = inl known
-forgets_nothing old new Memory kind (inr (plain, how)) = inr how
-
--- nor did one that made files, to its end or not
-pub after_making : {A : Type 0} (old new : World) (paths listed : List Names) (found : List Rule) (result : Result A Stop) → owned_of old.store ≡ Ok paths → rules_beside paths old.tree ≡ Ok found →
-    IsBuildable (files_beside paths old.tree) found → Changes paths found old.tree new.tree → listed ≡ ascending (paths ++ outputs found) →
-    OnOk result (new.tree ≡ (build_beside paths found old.tree).tree) → OnOk result (IsTrue (succeeds (build_beside paths found old.tree))) → OnOk result (owned_of new.store ≡ Ok (ascending (outputs found))) →
-    IfErr result IsRunStop → IfErr result (IsLeft listed (build_beside paths found old.tree) old new) → NothingForgotten old new (result_err result)
-after_making {A} old new paths listed found (Ok value) owns asks buildable changes is files clean_build reads kind left =
-    made_known old new paths found owns asks buildable clean_build files reads
-after_making {A} old new paths listed found (Err stop) owns asks buildable changes is files clean_build reads kind left =
-    forgets_nothing old new stop kind (stopped_at old new paths listed found stop owns asks buildable changes is left)

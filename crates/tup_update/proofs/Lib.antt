@@ -1,10 +1,11 @@
-pub mod Fronts
-pub mod Trees
-pub mod Stops
+pub mod Handed
 pub mod Asking
 pub mod Beside
-pub mod Running
+pub mod Fronts
 pub mod Reading
+pub mod Running
 pub mod Preparing
-pub mod Ending
+pub mod Trees
 pub mod Known
+pub mod Ending
+pub mod Keeping

@@ -1,6 +1,6 @@
 -- A tree from which the files of vanished rules were taken: its sources are the same, and the rules can be run over it.
 use Rattle.std.proofs.lemmas.List.Elements.{All-weaker, All-contains, All-contains_itself, Contains-append_cases}
-use Rattle.std.proofs.Common.{◌≡◌, ◌≢◌, inl, inr, ℕ, [], ◌++◌, Ok, Contains, Bool, true, false, cond, if◌then◌else◌, not, ◌&&◌, List, Option, None, IsSome, is_some, refl, sym, ◌∙◌, ap, subst}
+use Rattle.std.proofs.Common.{◌≡◌, ◌≢◌, inl, inr, ℕ, [], ◌++◌, Ok, Contains, Bool, true, false, cond, if◌then◌else◌, not, ◌&&◌, filter, List, Option, None, IsSome, is_some, refl, sym, ◌∙◌, ap, subst}
 use Rattle.std.specs.FinMap as finite
 use Rattle.std.proofs.lemmas.Bool.{false≢true}
 use Rattle.tup_path.specs.Name.{Names, Content, IsPath}
@@ -8,24 +8,30 @@ use Rattle.tup_owned.specs.Owned.{owned_of, spelling}
 use Rattle.tup_owned.specs.Ascending.{ascending}
 use Rattle.tup_owned.specs.Members.{ascending-IsAscending, ascending_has_only}
 use Rattle.tup_owned.specs.Spelled.{reads_back, spelled}
-use Rattle.tup_clean.specs.Among.{among-Contains}
+use Rattle.tup_clean.proofs.Among.{among-Contains}
 use Rattle.tup_update.proofs.Running.{made_at}
 use Rattle.tup_path.specs.Tree.{Tree}
-use Rattle.tup_path.specs.Same.{same_tree}
+use Rattle.tup_path.proofs.Same.{same_tree}
 use Rattle.tup_rule.specs.declared.rule.Rule.{Rule}
 use Rattle.tup_rule.specs.Rule.{among, is_generated}
 use Rattle.tup_clean.specs.InOrder.{IsBuildable}
-use Rattle.tup_update.specs.World.{files_beside, outputs}
-use Rattle.tup_update.specs.Parts.{IsCleared, SameBeside, SameBesideOutputs, IsRunnable}
-use Rattle.tup_update.specs.Building.{gone, Changes}
+use Rattle.tup_update.specs.Sources.{files_beside, outputs, gone}
+use Rattle.tup_update.specs.Parts.{IsCleared, SameBeside, SameBesideOutputs, IsRunnable, Changes}
 use Rattle.tup_update.proofs.Fronts.{among_filter, among_outputs}
 use Rattle.tup_update.proofs.Beside.{get_beside}
 use Rattle.tup_update.proofs.Reading.{among_their_keys}
 
 gone_is : (owned files : List Names) (rules : List Rule) (path : Names) → among path (gone owned files rules) ≡ (among path owned && (among path files && not (is_generated rules path)))
 gone_is owned files rules path =
-    among_filter (λ p. among p files && not (among p (outputs rules))) owned path
-    ∙ (λ i. among path owned && (among path files && not (among_outputs rules path i)))
+    among_filter (λ p. not (among p (outputs rules))) (filter (λ p. among p owned) files) path
+    ∙ (λ i. among_filter (λ p. among p owned) files path i && not (among_outputs rules path i))
+    ∙ turned (among path files) (among path owned) (not (is_generated rules path))
+  where
+    turned : (file mine rest : Bool) → ((file && mine) && rest) ≡ (mine && (file && rest))
+    turned true true rest = refl
+    turned true false rest = refl
+    turned false true rest = refl
+    turned false false rest = refl
 
 and_false : (a b : Bool) → a ≡ false → (a && b) ≡ false
 and_false a b e = ap (λ (x : Bool). x && b) e

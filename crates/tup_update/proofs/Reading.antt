@@ -1,7 +1,6 @@
 -- The sources of a tree: their keys, and that they are a tree themselves.
 use Rattle.std.proofs.Common.{◌≡◌, T, ◌⊎◌, inl, inr, is_some, Result, Ok, Err, Bool, true, false, cond, not, filter, List, [], ◌∷◌, Option, None, Some, IsSome, map, All, refl, sym, ◌∙◌, ap, subst}
 use Rattle.std.specs.List.{list_any}
-use Rattle.std.specs.Result.{IsErrAnd}
 use Rattle.std.specs.Ordering.{eq_by_cmp}
 use Rattle.std.specs.Cmp.{eq_by_cmp_equiv}
 use Rattle.std.proofs.lemmas.Bool.{false≢true}
@@ -14,13 +13,9 @@ use Rattle.tup_path.specs.Order.{by_names, same_path, same_path-by_names, by_nam
 use Rattle.tup_path.specs.Tree.{Tree, IsTree}
 use Rattle.tup_rule.specs.Rule.{among}
 use Rattle.tup_rule.specs.declared.rule.Rule.{Rule}
-use Rattle.tup_parse.specs.declared.fault.ParseFault.{ParseFault}
 use Rattle.tup_parse.specs.declared.fault.ReadEnd.{ReadEnd}
-use Rattle.tup_parse.specs.declared.fault.ReadEnd.TheVariants.{Fault, Memory}
-use Rattle.tup_update.specs.declared.stop.Stop.{Stop}
-use Rattle.tup_update.specs.declared.stop.Stop.TheVariants.{Parse}
-use Rattle.tup_update.specs.Stopped.{stop_of_reading}
-use Rattle.tup_update.specs.World.{files_beside}
+use Rattle.tup_parse.specs.declared.fault.ReadEnd.TheVariants.{Memory}
+use Rattle.tup_update.specs.Sources.{files_beside}
 use Rattle.tup_update.proofs.Beside.{get_beside, left_is}
 
 keys-where_key : (p : Names → Bool) (entries : List (Names × Content)) →
@@ -92,28 +87,17 @@ present tree sources slice path named found keys same is tells there =
     ap (λ (p : Names). is_some (finite.get tree p)) (sym is) ∙ sym (among_keys tree path) ∙ ap (list_any (λ other. same_path other path)) (keys ∙ sym same) ∙ sym tells ∙ there
 
 -- the paths of the sources are the keys of what is left
-pub sources_are : (owned files mine theirs sources : List Names) (tree : Tree) → theirs ≡ files → mine ≡ owned → files ≡ finite.keys tree →
-    sources ≡ filter (λ path. not (among path mine)) theirs → finite.keys (files_beside owned tree) ≡ sources
-sources_are owned files mine theirs sources tree all some keys is =
+pub sources_are : (owned files sources : List Names) (inside : Names → Bool) (tree : Tree) → ((path : Names) → inside path ≡ among path owned) → files ≡ finite.keys tree →
+    sources ≡ filter (λ path. not (inside path)) files → finite.keys (files_beside owned tree) ≡ sources
+sources_are owned files sources inside tree tests keys is =
     keys_beside owned tree
-    ∙ ap (filter (λ path. not (among path owned))) (sym (all ∙ keys))
-    ∙ ap (λ (o : List Names). filter (λ path. not (among path o)) theirs) (sym some)
+    ∙ (λ i. filter (λ path. not (sym (tests path) i)) (sym keys i))
     ∙ sym is
 
 -- what the reading gave that had the choice between want of memory and its answer
 pub read_ok : (r right : Result (List Rule) ReadEnd) (rules : List Rule) → (r ≡ Err Memory) ⊎ (r ≡ right) → r ≡ Ok rules → right ≡ Ok rules
 read_ok r right rules (inl none) is = absurd (cc (none, is))
 read_ok r right rules (inr some) is = sym some ∙ is
-
-pub read_fault : (r right : Result (List Rule) ReadEnd) (end : ReadEnd) (fault : ParseFault) → (r ≡ Err Memory) ⊎ (r ≡ right) → r ≡ Err end → stop_of_reading end ≡ Parse fault → right ≡ Err (Fault fault)
-read_fault r right (Fault found) fault (inl none) is stop = absurd (cc (none, is))
-read_fault r right (Fault found) fault (inr some) is stop = let same : found ≡ fault = cc in sym some ∙ is ∙ ap (λ (f : ParseFault). Err (Fault f)) same
-read_fault r right Memory fault choice is stop = absurd (cc (stop))
-
--- the stop that a result carries
-pub carried : {A : Type 0} (result : Result A Stop) (stop other : Stop) → IsErrAnd result (λ e. e ≡ stop) → result ≡ Err other → stop ≡ other
-carried (Ok value) stop other is e = absurd is
-carried (Err given) stop other is e = let same : given ≡ other = cc in sym is ∙ same
 
 -- a path is one of the keys where a file is
 pub among_their_keys : (tree : Tree) (path : Names) → among path (finite.keys tree) ≡ is_some (finite.get tree path)

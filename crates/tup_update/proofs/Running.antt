@@ -1,5 +1,5 @@
 -- Rules that are run one after another over a tree, beside their clean build.
-use Rattle.std.proofs.Common.{◌≡◌, ◌⊎◌, inl, inr, ℕ, zero, suc, ◌+◌, ◌-◌, ◌<◌, ◌≤◌, Bool, true, false, cond, not, if◌then◌else◌, get_or, append_assoc, List, [], ◌∷◌, ◌++◌, length, map, Option, None, Some, IsSome, IsTrue, replicate, refl, sym, ◌∙◌, ap, subst, arith}
+use Rattle.std.proofs.Common.{◌≡◌, ◌≢◌, ◌⊎◌, inl, inr, ℕ, zero, suc, ◌+◌, ◌-◌, ◌<◌, ◌≤◌, Bool, true, false, cond, not, if◌then◌else◌, get_or, append_assoc, append-nil, List, [], ◌∷◌, ◌++◌, length, map, Option, None, Some, IsSome, is_some, IsTrue, replicate, refl, sym, ◌∙◌, ap, subst, arith}
 use Rattle.std.specs.List.{slice_get}
 use Rattle.std.specs.FinMap as finite
 use Rattle.std.proofs.lemmas.Bool.{false≢true}
@@ -8,23 +8,23 @@ use Rattle.tup_path.specs.Tree.{Tree}
 use Rattle.tup_rule.specs.declared.rule.Rule.{Rule}
 use Rattle.tup_rule.specs.declared.rule.RuleName.{RuleName}
 use Rattle.tup_rule.specs.Rule.{among, is_generated, name_of}
-use Rattle.tup_access.specs.Outputs.{LeavesOutputs}
+use Rattle.tup_access.proofs.Outputs.{LeavesOutputs}
 use Rattle.std.proofs.lemmas.Option.{slice_get-get_or, slice_get_within}
-use Rattle.tup_rule.specs.Laws.{writes-at}
+use Rattle.tup_rule.proofs.Laws.{writes-at}
 use Rattle.tup_access.specs.declared.verdict.Verdict.{Verdict}
-use Rattle.tup_access.specs.declared.verdict.Verdict.TheVariants.{Good}
-use Rattle.tup_access.specs.Judge.{Judged}
+use Rattle.tup_access.specs.declared.verdict.Verdict.TheVariants.{Good, Failed, IllegalRead, IllegalWrite, Unwritten, TooManyReads}
+use Rattle.tup_access.specs.Judge.{Judged, IsJudged}
 use Rattle.tup_access.specs.Verdict.{verdict}
 use Rattle.tup_mini.specs.Mini.{mini_next}
 use Rattle.tup_clean.specs.Clean.{Build, clean, is_good, good_at, with_files}
 use Rattle.tup_clean.specs.InOrder.{IsOutputAt, IsBuildable, AllGoodBefore, AgreesBefore, judged_at}
-use Rattle.tup_clean.specs.Among.{maker-IsOutputAt, is_generated-maker, Contains-among}
-use Rattle.tup_clean.specs.InOrderLaws.{good_more, agrees_start, agrees_put, verdict_over, in_order_good}
-use Rattle.tup_clean.specs.CleanLaws.{clean_verdict_at, clean_names_the_first_bad, clean_of_good}
-use Rattle.tup_update.specs.World.{files_beside}
-use Rattle.tup_update.specs.Log.{up_to_first_bad, IsFront}
+use Rattle.tup_clean.proofs.Among.{maker-IsOutputAt, is_generated-maker, Contains-among}
+use Rattle.tup_clean.proofs.InOrderLaws.{good_more, agrees_start, agrees_put, verdict_over, in_order_good}
+use Rattle.tup_clean.proofs.CleanLaws.{clean_verdict_at, clean_names_the_first_bad, clean_of_good}
+use Rattle.tup_update.specs.Sources.{files_beside, build_beside}
+use Rattle.tup_update.specs.Log.{up_to_first_bad, IsFront, IsGrownByFront}
+use Rattle.tup_update.specs.Parts.{HasRun, bad_of, SameBeside, SameBesideOutputs, IsRunnable, IsFirstBad, Leaves}
 use Rattle.tup_update.specs.Put.{HasRoom}
-use Rattle.tup_update.specs.Parts.{IsJudged, SameBeside, SameBesideOutputs, IsRunnable, IsFirstBad, Leaves, build_beside}
 use Rattle.tup_update.proofs.Beside.{get_beside}
 
 -- a path that a rule makes is an output at some place
@@ -91,11 +91,11 @@ pub record CarriesOn (count : ℕ) (rules : List Rule) (sources tree : Tree) : T
   pub good : AllGoodBefore count mini_next rules sources
   pub agrees : AgreesBefore count mini_next rules sources tree
 
-pub carried_on : (count : ℕ) (rules : List Rule) (sources before after : Tree) (rule : Rule) → IsBuildable sources rules → slice_get rules count ≡ Some rule → CarriesOn count rules sources before →
-    Leaves (verdict mini_next rules rule before) before after → CarriesOn (suc count) rules sources after
-carried_on count rules sources before after rule buildable here run left =
+pub carried_on : (count : ℕ) (rules : List Rule) (sources before after : Tree) (rule : Rule) (given : Verdict) → IsBuildable sources rules → slice_get rules count ≡ Some rule → CarriesOn count rules sources before →
+    Leaves (verdict mini_next rules rule before) before after given → given ≡ Good → CarriesOn (suc count) rules sources after
+carried_on count rules sources before after rule given buildable here run left is =
     let same = verdict_over count mini_next rules sources before rule buildable here run.agrees in
-    let good : (judged_at mini_next rules sources count rule).verdict ≡ Good = ap (λ (j : Judged). j.verdict) (sym same) ∙ left.good in
+    let good : (judged_at mini_next rules sources count rule).verdict ≡ Good = ap (λ (j : Judged). j.verdict) (sym same) ∙ sym left.is ∙ is in
     record {
       good = good_more count mini_next rules sources rule here run.good good;
       agrees = subst (AgreesBefore (suc count) mini_next rules sources) (sym (left.files ∙ ap (λ (j : Judged). with_files before j.files) same))
@@ -128,16 +128,48 @@ pub rule_here : (rules items : List Rule) (at : ℕ) (item : Rule) → items ≡
 rule_here rules items at item same within is =
     ap (λ (l : List Rule). slice_get l at) (sym same) ∙ slice_get-get_or items at item within ∙ ap (λ (r : Rule). Some r) (sym is)
 
--- the places of a Good command's files are its rule's outputs
-pub own_places : (rule : Rule) (given : Verdict) (files slice : List (Names × Content)) (judged : Judged) → slice ≡ files → IsJudged given files judged → given ≡ Good → LeavesOutputs rule judged →
-    map (λ (file : Names × Content). file.0) slice ≡ rule.outputs
-own_places rule given files slice judged same is good leaves =
-    ap (λ (l : List (Names × Content)). map (λ (file : Names × Content). file.0) l) (same ∙ is.1) ∙ leaves.good (sym is.0 ∙ good)
+-- the places of a command's files are its rule's outputs, or it leaves none
+pub own_places : (rule : Rule) (given : Verdict) (files slice : List (Names × Content)) (judged : Judged) → slice ≡ files → IsJudged given files judged → LeavesOutputs rule judged →
+    (map (λ (file : Names × Content). file.0) slice ≡ rule.outputs) ⊎ (map (λ (file : Names × Content). file.0) slice ≡ [])
+own_places rule given files slice judged same is leaves = by judged.verdict refl
+  where
+    placed : map (λ (file : Names × Content). file.0) slice ≡ map (λ (file : Names × Content). file.0) judged.files
+    placed = ap (λ (l : List (Names × Content)). map (λ (file : Names × Content). file.0) l) (same ∙ is.1)
 
--- what changed beside those places alone changed beside the outputs
-pub beside_places : (rule : Rule) (places : List Names) (old between now : Tree) → places ≡ rule.outputs → between ≡ old → SameBeside places between now → SameBeside rule.outputs old now
-beside_places rule places old between now is same more path outside =
+    none : judged.verdict ≢ Good → (map (λ (file : Names × Content). file.0) slice ≡ rule.outputs) ⊎ (map (λ (file : Names × Content). file.0) slice ≡ [])
+    none apart = inr (placed ∙ ap (λ (l : List (Names × Content)). map (λ (file : Names × Content). file.0) l) (leaves.other apart))
+
+    by : (v : Verdict) → judged.verdict ≡ v → (map (λ (file : Names × Content). file.0) slice ≡ rule.outputs) ⊎ (map (λ (file : Names × Content). file.0) slice ≡ [])
+    by Good e = inl (placed ∙ leaves.good e)
+    by (Failed status) e = none (λ good. cc (e, good))
+    by (IllegalRead text) e = none (λ good. cc (e, good))
+    by (IllegalWrite text) e = none (λ good. cc (e, good))
+    by (Unwritten path) e = none (λ good. cc (e, good))
+    by TooManyReads e = none (λ good. cc (e, good))
+
+-- so there is room for them
+pub room_for_places : (rule : Rule) (places : List Names) (tree now : Tree) → (places ≡ rule.outputs) ⊎ (places ≡ []) → now ≡ tree → HasRoom tree rule.outputs → HasRoom now places
+room_for_places rule places tree now (inl is) same room = subst (HasRoom now) (sym is) (subst (λ (t : Tree). HasRoom t rule.outputs) (sym same) room)
+room_for_places rule places tree now (inr none) same room = subst (HasRoom now) (sym none) (record {
+  places = λ path mine. absurd (false≢true mine);
+  apart = λ folder path mine other is_below. absurd (false≢true mine);
+})
+
+-- and what changed beside those places alone changed beside the outputs
+pub beside_places : (rule : Rule) (places : List Names) (old between now : Tree) → (places ≡ rule.outputs) ⊎ (places ≡ []) → between ≡ old → SameBeside places between now → SameBeside rule.outputs old now
+beside_places rule places old between now (inl is) same more path outside =
     more path (ap (among path) is ∙ outside) ∙ ap (λ (t : Tree). finite.get t path) same
+beside_places rule places old between now (inr none) same more path outside =
+    more path (ap (among path) none) ∙ ap (λ (t : Tree). finite.get t path) same
+
+-- a good verdict is Good
+pub is_the_good : (v : Verdict) → is_good (Some v) ≡ true → v ≡ Good
+is_the_good Good e = refl
+is_the_good (Failed status) e = absurd (false≢true e)
+is_the_good (IllegalRead text) e = absurd (false≢true e)
+is_the_good (IllegalWrite text) e = absurd (false≢true e)
+is_the_good (Unwritten path) e = absurd (false≢true e)
+is_the_good TooManyReads e = absurd (false≢true e)
 
 pub replicate_more : {A : Type 0} (n : ℕ) (x : A) → replicate n x ++ x ∷ [] ≡ replicate (n + 1) x
 replicate_more {A} n x = let next : suc n ≡ n + 1 = omega arith in by n ∙ ap (λ (m : ℕ). replicate m x) next
@@ -221,3 +253,37 @@ noted_all owned rules old tree runnable run =
     all : (n m : ℕ) → m ≡ 0 → up_to_first_bad (replicate n (Some Good) ++ replicate m None) ≡ replicate n Good
     all zero m e = ap (λ (k : ℕ). up_to_first_bad (replicate k None)) e
     all (suc n) m e = ap (λ (l : List Verdict). Good ∷ l) (all n m e)
+
+-- ---- where a verdict stops the run
+
+-- a rule that is named as bad isn't Good
+pub named_bad : (rule : Rule) (given : Verdict) (bad : Option (RuleName × Verdict)) → bad ≡ bad_of rule given → is_some bad ≡ true → (bad ≡ Some (name_of rule, given)) × (is_good (Some given) ≡ false)
+named_bad rule given bad is some = by (is_good (Some given)) refl
+  where
+    by : (b : Bool) → is_good (Some given) ≡ b → (bad ≡ Some (name_of rule, given)) × (is_good (Some given) ≡ false)
+    by true e =
+        let none : bad ≡ None = is ∙ ap (λ (b : Bool). if b then None else Some (name_of rule, given)) e in
+        absurd (false≢true (sym (ap (λ (o : Option (RuleName × Verdict)). is_some o) none) ∙ some))
+    by false e = (is ∙ ap (λ (b : Bool). if b then None else Some (name_of rule, given)) e, e)
+
+-- and one that isn't named is
+pub unnamed_good : (rule : Rule) (given : Verdict) (bad : Option (RuleName × Verdict)) → bad ≡ bad_of rule given → is_some bad ≡ false → given ≡ Good
+unnamed_good rule given bad is none = by (is_good (Some given)) refl
+  where
+    by : (b : Bool) → is_good (Some given) ≡ b → given ≡ Good
+    by true e = is_the_good given e
+    by false e =
+        let some : bad ≡ Some (name_of rule, given) = is ∙ ap (λ (b : Bool). if b then None else Some (name_of rule, given)) e in
+        absurd (false≢true (sym none ∙ ap (λ (o : Option (RuleName × Verdict)). is_some o) some))
+
+-- the run that stops there has run as promised
+pub stops_at : (count : ℕ) (owned : List Names) (rules : List Rule) (old tree now : Tree) (rule : Rule) (given : Verdict) (bad : Option (RuleName × Verdict)) → IsRunnable owned rules old →
+    slice_get rules count ≡ Some rule → CarriesOn count rules (files_beside owned old) tree → given ≡ (verdict mini_next rules rule tree).verdict →
+    bad ≡ bad_of rule given → is_some bad ≡ true → HasRun rules (build_beside owned rules old) now bad
+stops_at count owned rules old tree now rule given bad runnable here run is names some =
+    let at = named_bad rule given bad names some in
+    subst (HasRun rules (build_beside owned rules old) now) (sym at.0) (first_bad count owned rules old tree rule (name_of rule) given runnable here run is refl at.1)
+
+-- a list that grew by all of it grew by a front of it
+pub whole_grown : {A : Type 0} (old new whole : List A) → new ≡ old ++ whole → IsGrownByFront old new whole
+whole_grown {A} old new whole e = (whole, ([], append-nil whole), e)

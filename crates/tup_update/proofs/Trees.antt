@@ -7,7 +7,7 @@ use Rattle.std.proofs.lemmas.List.Folds.{list_any_more, list_any_at}
 use Rattle.tup_path.specs.Name.{Names, Content}
 use Rattle.tup_path.specs.Order.{same_path, same_path-by_names, by_names-total}
 use Rattle.tup_path.specs.Tree.{Tree}
-use Rattle.tup_path.specs.Same.{same_path-decides, get_inserted_elsewhere}
+use Rattle.tup_path.proofs.Same.{same_path-decides, get_inserted_elsewhere}
 use Rattle.tup_site.specs.Cause.{SameBut, IsPlace}
 use Rattle.tup_rule.specs.Rule.{among}
 use Rattle.tup_update.specs.Parts.{IsCleared, SameBeside}

@@ -1,10 +1,8 @@
-pub mod World
+pub mod Sources
 pub mod Log
 pub mod Outside
 pub mod Stopped
 pub mod Parts
 pub mod Put
 pub mod Going
-pub mod Building
-pub mod Whole
 pub mod Outcome

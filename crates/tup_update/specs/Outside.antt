@@ -1,12 +1,12 @@
--- Why an update stops, by the outside's own counts.
-use Rattle.std.specs.Prelude.{◌≡◌, ℕ, ◌<◌, ◌≤◌, Result, Err}
+-- How the outside stops a part of an update: by the site's own count, and at a file that is too large.
+use Rattle.std.specs.Prelude.{◌≡◌, ◌≢◌, ℕ, ◌<◌, Result, Err}
 use Rattle.tup_path.specs.Count.{Rose}
-use Rattle.tup_site.specs.declared.fault.TheConstants.{MAX_FILE_BYTES}
-use Rattle.tup_update.specs.declared.stop.Stop.{Stop}
-use Rattle.tup_update.specs.declared.stop.Stop.TheVariants.{Site, TooLarge}
+use Rattle.tup_site.specs.declared.fault.SiteFailed.{SiteFailed}
+use Rattle.tup_site.specs.declared.fault.SiteFailed.TheVariants.{Fault, TooLarge}
 
--- the count doesn't fall, a failed site is blamed only where it rose, and a file only where it is too large
-pub record HasOutsideCause {T : Type 0} (before now : ℕ) (result : Result T Stop) : Type 0 where
-  pub later : before ≤ now
-  pub site : result ≡ Err Site → Rose before now
-  pub too_large : (n : ℕ) → result ≡ Err (TooLarge n) → MAX_FILE_BYTES < n
+-- where a refusal of the site is handed on so: the count rises with each fault and at no other answer, and a file is
+-- too large only above the limit
+pub record HandsOn {T E : Type 0} (handed : SiteFailed → E) (before now : ℕ) (result : Result T E) : Type 0 where
+  pub fault : result ≡ Err (handed Fault) → Rose before now
+  pub steady : result ≢ Err (handed Fault) → now ≡ before
+  pub too_large : (n : ℕ) → result ≡ Err (handed (TooLarge n)) → 16777216 < n

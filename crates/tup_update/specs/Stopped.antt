@@ -1,22 +1,26 @@
--- What a refusal of a part becomes for the whole update.
-use Rattle.tup_site.specs.declared.fault.SiteFailed.{SiteFailed}
-use Rattle.tup_site.specs.declared.fault.SiteFailed.TheVariants.{Fault, TooLarge, Memory}
+-- What a refusal of a part becomes for the reading of a project, and what that becomes for the whole update.
+use Rattle.tup_site.specs.declared.fault.SiteFailed.TheVariants.{Memory}
 use Rattle.tup_parse.specs.declared.fault.ReadEnd.{ReadEnd}
-use Rattle.tup_parse.specs.declared.fault.ReadEnd.TheVariants.{Fault as ParseFailed, Memory as NoMemory}
-use Rattle.tup_owned.specs.declared.OwnedFault.{OwnedFault}
-use Rattle.tup_owned.specs.declared.OwnedFault.TheVariants.{Damaged, Memory as NoRoom}
+use Rattle.tup_parse.specs.declared.fault.ReadEnd.TheVariants.{Fault, Memory as NoMemory}
+use Rattle.tup_owned.specs.declared.fault.OwnedFault.{OwnedFault}
+use Rattle.tup_owned.specs.declared.fault.OwnedFault.TheVariants.{Damaged, Memory as NoRoom}
 use Rattle.tup_update.specs.declared.stop.Stop.{Stop}
-use Rattle.tup_update.specs.declared.stop.Stop.TheVariants.{BadStore, Site, Parse, TooLarge as FileTooLarge, Memory as OutOfMemory}
+use Rattle.tup_update.specs.declared.stop.Stop.TheVariants.{BadStore, Parse, Outside as Stopped}
+use Rattle.tup_update.specs.declared.stop.Unread.{Unread}
+use Rattle.tup_update.specs.declared.stop.Unread.TheVariants.{Store, Sources, Outside}
 
-abbrev pub stop_of_site : SiteFailed → Stop
-stop_of_site Fault = Site
-stop_of_site (TooLarge n) = FileTooLarge n
-stop_of_site Memory = OutOfMemory
+-- what stops the reading stops the update
+abbrev pub stop_of : Unread → Stop
+stop_of (Store offset) = BadStore offset
+stop_of (Sources fault) = Parse fault
+stop_of (Outside failed) = Stopped failed
 
-abbrev pub stop_of_reading : ReadEnd → Stop
-stop_of_reading (ParseFailed fault) = Parse fault
-stop_of_reading NoMemory = OutOfMemory
+-- what the reading of the sources ends with
+abbrev pub unread_of_reading : ReadEnd → Unread
+unread_of_reading (Fault fault) = Sources fault
+unread_of_reading NoMemory = Outside Memory
 
-abbrev pub stop_of_owned : OwnedFault → Stop
-stop_of_owned (Damaged offset) = BadStore offset
-stop_of_owned NoRoom = OutOfMemory
+-- what the reading of the store ends with
+abbrev pub unread_of_owned : OwnedFault → Unread
+unread_of_owned (Damaged offset) = Store offset
+unread_of_owned NoRoom = Outside Memory

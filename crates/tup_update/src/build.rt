@@ -1,29 +1,89 @@
 //! The making of a project's files.
-ghost use Rattle.std.specs.Prelude.{◌≡◌, ◌⊎◌, ◌++◌, ℕ, IsTrue, IfErr, OnOk, OnErr, Ok, Err};
-ghost use Rattle.std.specs.FinMap as finite;
-ghost use Rattle.tup_rule.specs.declared.rule.RuleName.{RuleName};
-ghost use Rattle.tup_access.specs.declared.verdict.Verdict.{Verdict as VerdictValue};
+ghost use Rattle.std.specs.Prelude.{◌≡◌, ◌⊎◌, ◌++◌, IsTrue, IfOk, IfErr, OnOk};
+ghost use Rattle.std.specs.Result.{result_err};
+ghost use Rattle.tup_site.specs.World.{TreeStays, StoreStays};
+ghost use Rattle.tup_site.specs.Cause.{CountsFaults, NeverTooLarge};
 ghost use Rattle.tup_access.specs.Generated.{IsGenerated};
-ghost use Rattle.tup_clean.specs.Clean.{succeeds};
-ghost use Rattle.tup_clean.specs.InOrder.{IsBuildable};
-ghost use Rattle.tup_owned.specs.Owned.{owned_of, spelling};
+ghost use Rattle.tup_owned.specs.Owned.{spelling};
 ghost use Rattle.tup_owned.specs.Ascending.{ascending};
-ghost use Rattle.tup_update.specs.World.{files_beside, outputs, world};
-ghost use Rattle.tup_update.specs.Log.{up_to_first_bad, IsGrownByFront};
-ghost use Rattle.tup_update.specs.Outside.{HasOutsideCause};
-ghost use Rattle.tup_update.specs.Parts.{HasFileOf, IsOutside, IsPlainStop, IsRunStop, IsFirstBad, IsCleared, SameBeside, build_beside};
-ghost use Rattle.tup_update.specs.Building.{gone, Changes, IsLeft};
-ghost use Rattle.tup_update.specs.declared.stop.Stop.TheVariants.{Bad, TooLarge};
+ghost use Rattle.tup_update.specs.Log.{IsGrownByFront, IsUnused, with_read};
+ghost use Rattle.tup_update.specs.Outcome.{Keeps, HasCountedCause};
+ghost use Rattle.tup_update.specs.Parts.{IsProject, IsCleared, SameBeside};
+ghost use Rattle.tup_update.specs.Sources.{outputs, left_over};
+ghost use Rattle.tup_site.specs.declared.fault.SiteFailed.TheVariants.{Memory};
+ghost use Rattle.tup_update.specs.declared.stop.Stop.TheVariants.{Outside};
 
-use crate::clear::clear;
-use crate::log::Log;
-use crate::plan::Plan;
-use crate::project::Project;
+use crate::project::{Project, parted, path_set};
 use crate::stop::Stop;
-use crate::store::write_store;
-use std::alloc::Global;
+use crate::update::Log;
+use std::alloc::{AllocError, Global};
+use std::collections::BTreeSet;
+use tup_owned::{sorted, spell_owned, union};
 use tup_path::{Path, Paths};
-use tup_site::Site;
+use tup_rule::Rule;
+use tup_site::{Site, SiteFailed};
+
+/// What is to be done for a project, made before anything is touched.
+#[derive(Debug, Drop)]
+pub(crate) struct Plan {
+    /// The outputs of all rules, for quick look-ups.
+    pub made: BTreeSet<Path>,
+    /// What is owned while the rules run: what was, and the outputs.
+    pub claimed: Paths,
+    /// The files of vanished rules, which are removed.
+    pub vanished: Paths,
+    /// What is owned in the end: the outputs.
+    pub listed: Paths,
+}
+
+impl Plan {
+    fn of(alloc: Global, project: &Project) -> Result<Plan, AllocError>
+        ensures made { IfOk result (λ plan. IsGenerated project.now.rules plan.made) }
+        ensures claimed { IfOk result
+            (λ plan. plan.claimed ≡ ascending (project.now.owned ++ outputs project.now.rules)) }
+        ensures vanished { IfOk result
+            (λ plan. plan.vanished ≡ left_over project.now.owned_files project.now.rules) }
+        ensures listed { IfOk result (λ plan. plan.listed ≡ ascending (outputs project.now.rules)) }
+    {
+        let outputs = outputs_of(alloc, project.rules.as_slice())?;
+        let outputs = outputs.as_slice();
+        let made = path_set(alloc, outputs)?;
+        let (_, vanished) = parted(alloc, project.owned_files.as_slice(), &made)?;
+        let Ok(claimed) = union(alloc, project.owned.as_slice(), outputs) else {
+            return Err(AllocError);
+        };
+        let Ok(listed) = sorted(alloc, outputs) else {
+            return Err(AllocError);
+        };
+        Ok(Plan {
+            made,
+            claimed,
+            vanished,
+            listed,
+        })
+    }
+}
+
+/// All outputs of some rules, in the order of the rules.
+fn outputs_of(alloc: Global, rules: &[Rule]) -> Result<Paths, AllocError>
+    ensures { IfOk result (λ paths. paths ≡ outputs rules.now) }
+{
+    let mut paths = Paths::new(alloc);
+    for rule in rules {
+        add_all(&mut paths, rule.outputs.as_slice())?;
+    }
+    Ok(paths)
+}
+
+/// Adds copies of paths at the end.
+fn add_all(paths: &mut Paths, more: &[Path]) -> Result<(), AllocError>
+    ensures { OnOk result (paths.new ≡ paths.old ++ more.now) }
+{
+    for path in more {
+        paths.push(path.clone()?)?;
+    }
+    Ok(())
+}
 
 impl Project {
     /// Makes the files of a project. What may be written is owned before it is.
@@ -31,42 +91,21 @@ impl Project {
         &self,
         alloc: Global,
         site: &mut S,
-        plan: &Plan,
         log: &mut Log,
     ) -> Result<(), Stop>
-        requires made { IsGenerated self.now.rules plan.now.made }
-        requires vanished { plan.now.vanished ≡ gone self.now.owned self.now.files self.now.rules }
-        requires listed { plan.now.listed ≡ ascending (outputs self.now.rules) }
-        requires files { IsTrue S.tells → self.now.files ≡ finite.keys (S.tree site.old) }
-        requires buildable { IsTrue S.tells → IsBuildable (files_beside self.now.owned (S.tree site.old)) self.now.rules }
-
-        ensures files { IsTrue S.tells → OnOk result (S.tree site.new ≡ (build_beside self.now.owned self.now.rules (S.tree site.old)).tree) }
-        ensures succeeds { IsTrue S.tells → OnOk result (IsTrue (succeeds (build_beside self.now.owned self.now.rules (S.tree site.old)))) }
-        ensures listed { IsTrue S.tells → OnOk result (owned_of (S.store site.new) ≡ Ok plan.now.listed) }
-        ensures left { IsTrue S.tells → IfErr result (IsLeft plan.now.claimed (build_beside self.now.owned self.now.rules (S.tree site.old))
-            (world S.tree S.store site.old) (world S.tree S.store site.new)) }
-        ensures first_bad { IsTrue S.tells → (name : RuleName) (verdict : VerdictValue) → result ≡ Err (Bad name verdict)
-            → IsFirstBad self.now.rules (build_beside self.now.owned self.now.rules (S.tree site.old)) name verdict }
-        ensures changes { IsTrue S.tells → Changes self.now.owned self.now.rules (S.tree site.old) (S.tree site.new) }
-
-        // The log grows by all that was done; after a stop by the outside, by as much as was.
-        ensures read { log.new.read ≡ log.old.read }
-        ensures removed { OnOk result (log.new.removed ≡ log.old.removed ++ plan.now.vanished) }
-        ensures removed_bad { (name : RuleName) (verdict : VerdictValue) → result ≡ Err (Bad name verdict) → log.new.removed ≡ log.old.removed ++ plan.now.vanished }
-        ensures removed_part { IsGrownByFront log.old.removed log.new.removed plan.now.vanished }
-        ensures ran { IsTrue S.tells → OnOk result (log.new.verdicts ≡ log.old.verdicts ++ up_to_first_bad (build_beside self.now.owned self.now.rules (S.tree site.old)).verdicts) }
-        ensures ran_bad { IsTrue S.tells → (name : RuleName) (verdict : VerdictValue) → result ≡ Err (Bad name verdict)
-            → log.new.verdicts ≡ log.old.verdicts ++ up_to_first_bad (build_beside self.now.owned self.now.rules (S.tree site.old)).verdicts }
-        ensures ran_part { IsTrue S.tells → IfErr result (λ stop. IsOutside stop
-            → IsGrownByFront log.old.verdicts log.new.verdicts (up_to_first_bad (build_beside self.now.owned self.now.rules (S.tree site.old)).verdicts)) }
-
-        ensures kinds { IfErr result IsRunStop }
-        ensures large { IsTrue S.tells → (n : ℕ) → result ≡ Err (TooLarge n) → HasFileOf n (S.tree site.new) }
-        ensures cause { HasOutsideCause (S.faults site.old) (S.faults site.new) result }
+        requires project { IsTrue S.tells → IsProject self.now (S.world site.old) }
+        requires unused { IsUnused log.old }
+        ensures kept { IsTrue S.tells → Keeps (S.world site.old) (S.world site.new) self.now.rules
+            (with_read self.now.read log.new) (result_err result) }
+        ensures counted { let stopped = result_err result in
+            HasCountedCause (S.faults site.old) (S.faults site.new) stopped }
     {
-        prepare(alloc, site, plan, &mut log.removed)?;
-        self.run(alloc, site, &plan.made, &mut log.verdicts)?;
-        finish(alloc, site, plan.listed.as_slice())
+        let plan = Plan::of(alloc, self)?;
+        prepare(alloc, site, &plan, &mut log.removed)?;
+        match self.run(alloc, site, &plan.made, &mut log.verdicts)? {
+            Some((name, verdict)) => Err(Stop::Bad(name, verdict)),
+            None => Ok(finish(alloc, site, plan.listed.as_slice())?),
+        }
     }
 }
 
@@ -76,27 +115,71 @@ fn prepare<S: Site>(
     site: &mut S,
     plan: &Plan,
     removed: &mut Paths,
-) -> Result<(), Stop>
-    ensures cleared { IsTrue S.tells → OnOk result (IsCleared plan.now.vanished (S.tree site.old) (S.tree site.new)) }
-    ensures others { IsTrue S.tells → SameBeside plan.now.vanished (S.tree site.old) (S.tree site.new) }
-    ensures claimed { IsTrue S.tells → OnOk result (S.store site.new ≡ spelling plan.now.claimed) }
-    ensures unclaimed { IsTrue S.tells → OnErr result ((S.store site.new ≡ spelling plan.now.claimed) ⊎ (S.tree site.new ≡ S.tree site.old)) }
+) -> Result<(), SiteFailed>
+    ensures cleared { IsTrue S.tells
+        → OnOk result (IsCleared plan.now.vanished (S.world site.old).tree (S.world site.new).tree) }
+    ensures others { IsTrue S.tells
+        → SameBeside plan.now.vanished (S.world site.old).tree (S.world site.new).tree }
+    ensures claimed { IsTrue S.tells
+        → OnOk result ((S.world site.new).store ≡ spelling plan.now.claimed) }
+    ensures unclaimed { IsTrue S.tells → ((S.world site.new).store ≡ spelling plan.now.claimed)
+        ⊎ TreeStays (S.world site.old) (S.world site.new) }
     ensures removed { OnOk result (removed.new ≡ removed.old ++ plan.now.vanished) }
     ensures part { IsGrownByFront removed.old removed.new plan.now.vanished }
-    ensures kinds { IfErr result IsPlainStop }
-    ensures cause { HasOutsideCause (S.faults site.old) (S.faults site.new) result }
+    ensures never_too_large { NeverTooLarge result }
+    ensures counted { CountsFaults (S.faults site.old) (S.faults site.new) result }
 {
     write_store(alloc, site, plan.claimed.as_slice())?;
     clear(alloc, site, plan.vanished.as_slice(), removed)
 }
 
+/// Removes the files at these paths in order, and notes each that was removed.
+fn clear<S: Site>(
+    alloc: Global,
+    site: &mut S,
+    vanished: &[Path],
+    removed: &mut Paths,
+) -> Result<(), SiteFailed>
+    ensures cleared { IsTrue S.tells
+        → OnOk result (IsCleared vanished.now (S.world site.old).tree (S.world site.new).tree) }
+    ensures others { IsTrue S.tells
+        → SameBeside vanished.now (S.world site.old).tree (S.world site.new).tree }
+    ensures store { IsTrue S.tells → StoreStays (S.world site.old) (S.world site.new) }
+    ensures removed { OnOk result (removed.new ≡ removed.old ++ vanished.now) }
+    ensures part { IsGrownByFront removed.old removed.new vanished.now }
+    ensures never_too_large { NeverTooLarge result }
+    ensures counted { CountsFaults (S.faults site.old) (S.faults site.new) result }
+{
+    for path in vanished {
+        site.remove(alloc, path)?;
+        removed.push(path.clone()?)?;
+    }
+    Ok(())
+}
+
 /// Settles the files, and owns what was made and nothing else.
-fn finish<S: Site>(alloc: Global, site: &mut S, listed: &[Path]) -> Result<(), Stop>
-    ensures listed { IsTrue S.tells → OnOk result (S.store site.new ≡ spelling listed.now) }
-    ensures tree { IsTrue S.tells → S.tree site.new ≡ S.tree site.old }
-    ensures kinds { IfErr result IsPlainStop }
-    ensures cause { HasOutsideCause (S.faults site.old) (S.faults site.new) result }
+fn finish<S: Site>(alloc: Global, site: &mut S, listed: &[Path]) -> Result<(), SiteFailed>
+    ensures listed { IsTrue S.tells → OnOk result ((S.world site.new).store ≡ spelling listed.now) }
+    ensures tree { IsTrue S.tells → TreeStays (S.world site.old) (S.world site.new) }
+    ensures never_too_large { NeverTooLarge result }
+    ensures counted { CountsFaults (S.faults site.old) (S.faults site.new) result }
 {
     site.settle(alloc)?;
     write_store(alloc, site, listed)
+}
+
+/// Makes the store the list of these paths, durably. After a refusal the store holds anything.
+fn write_store<S: Site>(alloc: Global, site: &mut S, paths: &[Path]) -> Result<(), SiteFailed>
+    ensures owned { IsTrue S.tells → OnOk result ((S.world site.new).store ≡ spelling paths.now) }
+    ensures tree { IsTrue S.tells → TreeStays (S.world site.old) (S.world site.new) }
+    ensures never_too_large { NeverTooLarge result }
+    ensures counted { CountsFaults (S.faults site.old) (S.faults site.new) result }
+{
+    let Ok(bytes) = spell_owned(alloc, paths) else {
+        return Err(SiteFailed::Memory);
+    };
+    let bytes = bytes.as_slice();
+    site.db_write(alloc, 0, bytes)?;
+    site.db_cut(alloc, bytes.len() as u64)?;
+    site.db_sync(alloc)
 }

@@ -1,24 +1,23 @@
 //! The run of one command over the files of a site.
-ghost use Rattle.std.specs.Prelude.{◌≡◌, ◌≤◌, ℕ, List, length, IsTrue, IfOk, IfErr, Err};
+ghost use Rattle.std.specs.Prelude.{◌≡◌, ◌≤◌, List, length, IsTrue, IfOk};
 ghost use Rattle.tup_rule.specs.declared.rule.Rule.{Rule as RuleValue};
+ghost use Rattle.tup_site.specs.Cause.{CountsFaults, OnlyLarge};
 ghost use Rattle.tup_access.specs.Generated.{IsGenerated};
 ghost use Rattle.tup_access.specs.Verdict as specs;
 ghost use Rattle.tup_mini.specs.Command.{command_of};
 ghost use Rattle.tup_mini.specs.Mini.{mini_next};
-ghost use Rattle.tup_update.specs.Outside.{HasOutsideCause};
-ghost use Rattle.tup_update.specs.Parts.{HasFileOf, IsOutside, IsJudged};
+ghost use Rattle.tup_access.specs.Judge.{IsJudged};
+ghost use Rattle.tup_update.specs.Parts.{NamesALargeFile};
 ghost use Rattle.tup_update.specs.Going.{Leads};
-ghost use Rattle.tup_update.specs.declared.stop.Stop.TheVariants.{TooLarge};
 
-use crate::stop::Stop;
 use std::alloc::Global;
 use std::collections::BTreeSet;
 use tup_access::{Access, MAX_ASKS, Verdict, allowed, judge};
 use tup_mini::Command;
 use tup_path::{Files, Path, Text};
 use tup_rule::Rule;
-use tup_runner::{Answer, Asked, Step};
-use tup_site::Site;
+use tup_runner::{Answer, Asks, Step};
+use tup_site::{Site, SiteFailed};
 
 /// What a step of a command comes to.
 #[derive(Debug, Drop)]
@@ -35,17 +34,20 @@ pub(crate) fn run<S: Site>(
     site: &mut S,
     made: &BTreeSet<Path>,
     rule: &Rule,
-) -> Result<(Verdict, Files), Stop>
-    ensures judged { IsTrue S.tells → IfOk result (λ judged. (rules : List RuleValue) → IsGenerated rules made.now
-        → IsJudged judged.0 judged.1 (specs.verdict mini_next rules rule.now (S.tree site.old))) }
-    ensures tree { IsTrue S.tells → S.tree site.new ≡ S.tree site.old }
-    ensures store { IsTrue S.tells → S.store site.new ≡ S.store site.old }
-    ensures outside { IfErr result IsOutside }
-    ensures large { IsTrue S.tells → (n : ℕ) → result ≡ Err (TooLarge n) → HasFileOf n (S.tree site.new) }
-    ensures cause { HasOutsideCause (S.faults site.old) (S.faults site.new) result }
+) -> Result<(Verdict, Files), SiteFailed>
+    ensures judged { IsTrue S.tells → IfOk result (λ judged. (rules : List RuleValue)
+        → IsGenerated rules made.now
+        → IsJudged judged.0 judged.1
+        (specs.verdict mini_next rules rule.now (S.world site.old).tree)) }
+    ensures same { IsTrue S.tells → S.world site.new ≡ S.world site.old }
+    ensures large { IsTrue S.tells → NamesALargeFile (S.world site.new).tree result }
+    ensures only_large { OnlyLarge result }
+    ensures cause { CountsFaults (S.faults site.old) (S.faults site.new) result }
 {
-    let command = Command::read(alloc, &rule.text)?;
-    let mut asked = Asked::new(alloc);
+    let Ok(command) = Command::read(alloc, &rule.text) else {
+        return Err(SiteFailed::Memory);
+    };
+    let mut asked = Asks::new(alloc);
     for _turn in 0..MAX_ASKS {
         match step(alloc, site, made, rule, &command, &asked)? {
             Going::On(text, answer) => asked.push((text, answer))?,
@@ -62,40 +64,49 @@ fn step<S: Site>(
     made: &BTreeSet<Path>,
     rule: &Rule,
     command: &Command,
-    asked: &Asked,
-) -> Result<Going, Stop>
+    asked: &Asks,
+) -> Result<Going, SiteFailed>
     requires { length asked.now ≤ 4095 }
-    ensures leads { IsTrue S.tells → IfOk result (λ going. (rules : List RuleValue) → IsGenerated rules made.now → command.now ≡ command_of rule.now.text
-        → Leads rules rule.now (S.tree site.old) asked.now going) }
-    ensures tree { IsTrue S.tells → S.tree site.new ≡ S.tree site.old }
-    ensures store { IsTrue S.tells → S.store site.new ≡ S.store site.old }
-    ensures outside { IfErr result IsOutside }
-    ensures large { IsTrue S.tells → (n : ℕ) → result ≡ Err (TooLarge n) → HasFileOf n (S.tree site.new) }
-    ensures cause { HasOutsideCause (S.faults site.old) (S.faults site.new) result }
+    ensures leads { IsTrue S.tells → IfOk result (λ going. (rules : List RuleValue)
+        → IsGenerated rules made.now → command.now ≡ command_of rule.now.text
+        → Leads rules rule.now (S.world site.old).tree asked.now going) }
+    ensures same { IsTrue S.tells → S.world site.new ≡ S.world site.old }
+    ensures large { IsTrue S.tells → NamesALargeFile (S.world site.new).tree result }
+    ensures only_large { OnlyLarge result }
+    ensures cause { CountsFaults (S.faults site.old) (S.faults site.new) result }
 {
-    match command.next(alloc, asked.as_slice())? {
-        Step::End(ended) => {
-            let (verdict, files) = judge(alloc, rule, &ended)?;
-            Ok(Going::Over(verdict, files))
-        }
-        Step::Ask(text) => match allowed(alloc, rule, made, &text, asked.len() as u32)? {
-            Access::No(verdict) => Ok(Going::Over(verdict, Files::new(alloc))),
-            Access::Yes(path) => {
+    let Ok(next) = command.next(alloc, asked.as_slice()) else {
+        return Err(SiteFailed::Memory);
+    };
+    match next {
+        Step::End(ended) => match judge(alloc, rule, &ended) {
+            Ok((verdict, files)) => Ok(Going::Over(verdict, files)),
+            Err(_) => Err(SiteFailed::Memory),
+        },
+        Step::Ask(text) => match allowed(alloc, rule, made, &text, asked.len() as u32) {
+            Ok(Access::No(verdict)) => Ok(Going::Over(verdict, Files::new(alloc))),
+            Ok(Access::Yes(path)) => {
                 let answer = answer(alloc, site, rule, &path)?;
                 Ok(Going::On(text, answer))
             }
+            Err(_) => Err(SiteFailed::Memory),
         },
     }
 }
 
 /// What a rule is answered for a path: the file of the site, but its own outputs as absent.
-fn answer<S: Site>(alloc: Global, site: &mut S, rule: &Rule, path: &Path) -> Result<Answer, Stop>
-    ensures answer { IsTrue S.tells → IfOk result (λ answer. answer ≡ specs.answer rule.now (S.tree site.old) path.now) }
-    ensures tree { IsTrue S.tells → S.tree site.new ≡ S.tree site.old }
-    ensures store { IsTrue S.tells → S.store site.new ≡ S.store site.old }
-    ensures outside { IfErr result IsOutside }
-    ensures large { IsTrue S.tells → (n : ℕ) → result ≡ Err (TooLarge n) → HasFileOf n (S.tree site.new) }
-    ensures cause { HasOutsideCause (S.faults site.old) (S.faults site.new) result }
+fn answer<S: Site>(
+    alloc: Global,
+    site: &mut S,
+    rule: &Rule,
+    path: &Path,
+) -> Result<Answer, SiteFailed>
+    ensures answer { IsTrue S.tells
+        → IfOk result (λ answer. answer ≡ specs.answer rule.now (S.world site.old).tree path.now) }
+    ensures same { IsTrue S.tells → S.world site.new ≡ S.world site.old }
+    ensures large { IsTrue S.tells → NamesALargeFile (S.world site.new).tree result }
+    ensures only_large { OnlyLarge result }
+    ensures cause { CountsFaults (S.faults site.old) (S.faults site.new) result }
 {
     if rule.writes(path) {
         return Ok(Answer::Absent);

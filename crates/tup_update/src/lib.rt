@@ -1,19 +1,15 @@
 //! One update of a project with one Tupfile, over any site.
+//!
+//! Read `update`, which reads the `project` that the site asks for and makes its files: `build` owns what may be
+//! written, removes what no rule makes any more and runs the rules (`run`), each a `command` over the site's files.
 #![tactic(auto)]
 
 mod build;
-mod clear;
 mod command;
-mod log;
-mod plan;
 mod project;
-mod put;
 mod run;
-mod sets;
 mod stop;
-mod store;
 mod update;
 
-pub use log::Log;
 pub use stop::Stop;
-pub use update::{Update, update_site};
+pub use update::{Log, Update, update_site};

@@ -1,89 +1,103 @@
 //! What a site asks for: its owned files, its sources and their rules.
-ghost use Rattle.std.specs.Prelude.{◌≡◌, ◌<◌, ◌^◌, ℕ, List, [], ◌∷◌, length, if◌then◌else◌, IsTrue, IsSome, IfOk, IfErr, Ok, Err, Some};
+ghost use Rattle.std.specs.Prelude.{◌≡◌, ◌<◌, ◌^◌, ℕ, List, length, not, filter, IsTrue, IsSome, IfOk, IfErr, Some, None};
 ghost use Rattle.std.specs.FinMap as finite;
+ghost use Rattle.std.specs.BTreeSet.{contains};
 ghost use Rattle.tup_path.specs.Name.{Names};
+ghost use Rattle.tup_path.specs.Order.{by_names};
 ghost use Rattle.tup_path.specs.Tree.{Tree};
-ghost use Rattle.tup_clean.specs.InOrder.{IsBuildable};
-ghost use Rattle.tup_parse.specs.declared.fault.ParseFault.{ParseFault};
-ghost use Rattle.tup_parse.specs.declared.fault.ReadEnd.TheVariants.{Fault};
+ghost use Rattle.tup_site.specs.Cause.{CountsFaults, NeverTooLarge, OnlyLarge};
+ghost use Rattle.tup_rule.specs.Rule.{among};
 ghost use Rattle.tup_parse.specs.Reading.{top_tupfile};
-ghost use Rattle.tup_owned.specs.Owned.{owned_of};
-ghost use Rattle.tup_update.specs.World.{files_beside, rules_beside};
-ghost use Rattle.tup_update.specs.Outside.{HasOutsideCause};
-ghost use Rattle.tup_update.specs.Parts.{HasFileOf, IsOutside, IsReadStop, IsReadAs};
-ghost use Rattle.tup_update.specs.declared.stop.Stop.TheVariants.{BadStore, Parse, TooLarge};
+ghost use Rattle.tup_update.specs.Outcome.{HasCause};
+ghost use Rattle.tup_update.specs.Outside.{HandsOn};
+ghost use Rattle.tup_update.specs.Parts.{IsProject, NamesALargeFile, AgreesOnItsFiles};
+ghost use Rattle.tup_update.specs.Sources.{folders_of_top};
+ghost use Rattle.tup_update.specs.Stopped.{stop_of};
+ghost use Rattle.tup_update.specs.declared.stop.Unread.TheVariants.{Outside};
 
-use crate::sets::without;
-use crate::stop::Stop;
-use crate::store::read_store;
+use crate::stop::Unread;
 use std::alloc::{AllocError, Global};
-use tup_parse::read_rules;
+use std::collections::BTreeSet;
+use tup_owned::read_owned;
 use tup_path::{Bytes, Path, Paths, Text};
+use tup_project::read_rules;
 use tup_rule::Rules;
-use tup_site::Site;
+use tup_site::{Site, SiteFailed};
 
 /// What a site asks for.
 #[derive(Debug, Drop)]
 pub(crate) struct Project {
     /// The paths that the store lists.
     pub owned: Paths,
-    /// All files of the tree.
-    pub files: Paths,
+    /// The files among them.
+    pub owned_files: Paths,
     /// The folders whose Tupfile was read.
     pub read: Paths,
-    /// The rules of the files that aren't owned.
+    /// The rules of all other files, the sources.
     pub rules: Rules,
 }
 
 impl Project {
     /// Reads what the site asks for, and changes nothing.
-    pub(crate) fn read<S: Site>(alloc: Global, site: &mut S) -> Result<Project, Stop>
-        ensures owned { IsTrue S.tells → IfOk result (λ project. owned_of (S.store site.old) ≡ Ok project.owned) }
-        ensures files { IsTrue S.tells → IfOk result (λ project. project.files ≡ finite.keys (S.tree site.old)) }
-        ensures read { IsTrue S.tells → IfOk result (λ project. IsReadAs (finite.get (files_beside project.owned (S.tree site.old)) top_tupfile) project.read) }
-        ensures rules { IsTrue S.tells → IfOk result (λ project. rules_beside project.owned (S.tree site.old) ≡ Ok project.rules) }
-        ensures buildable { IsTrue S.tells → IfOk result (λ project. IsBuildable (files_beside project.owned (S.tree site.old)) project.rules) }
-        ensures damaged { IsTrue S.tells → (n : ℕ) → result ≡ Err (BadStore n) → owned_of (S.store site.old) ≡ Err n }
-        ensures fault { IsTrue S.tells → (fault : ParseFault) → result ≡ Err (Parse fault)
-            → (owned : List Names) × (owned_of (S.store site.old) ≡ Ok owned) × (rules_beside owned (S.tree site.old) ≡ Err (Fault fault)) }
-        ensures tree { IsTrue S.tells → S.tree site.new ≡ S.tree site.old }
-        ensures store { IsTrue S.tells → S.store site.new ≡ S.store site.old }
-        ensures kinds { IfErr result IsReadStop }
-        ensures large { IsTrue S.tells → (n : ℕ) → result ≡ Err (TooLarge n) → HasFileOf n (S.tree site.new) }
-        ensures cause { HasOutsideCause (S.faults site.old) (S.faults site.new) result }
+    pub(crate) fn read<S: Site>(alloc: Global, site: &mut S) -> Result<Project, Unread>
+        ensures project { IsTrue S.tells
+            → IfOk result (λ project. IsProject project (S.world site.old)) }
+        ensures cause { IsTrue S.tells → IfErr result
+            (λ unread. HasCause (S.world site.old) (S.world site.new) (Some (stop_of unread))) }
+        ensures same { IsTrue S.tells → S.world site.new ≡ S.world site.old }
+        ensures counted { HandsOn Outside (S.faults site.old) (S.faults site.new) result }
     {
-        let owned = read_store(alloc, site)?;
+        let store = read_store(alloc, site)?;
+        let owned = read_owned(alloc, &store)?;
         let files = site.list(alloc)?;
-        let sources = without(alloc, files.as_slice(), owned.as_slice())?;
+        let apart = path_set(alloc, owned.as_slice())?;
+        let (owned_files, sources) = parted(alloc, files.as_slice(), &apart)?;
         let tupfile = top_file(alloc, site, &sources)?;
         let read = folders_read(alloc, tupfile.is_some())?;
         let rules = read_rules(alloc, &sources, tupfile.as_ref())?;
         Ok(Project {
             owned,
-            files,
+            owned_files,
             read,
             rules,
         })
     }
 }
 
+/// The bytes of the store.
+fn read_store<S: Site>(alloc: Global, site: &mut S) -> Result<Vec<u8>, SiteFailed>
+    ensures bytes { IsTrue S.tells → IfOk result (λ bytes. bytes.items ≡ (S.world site.old).store) }
+    ensures same { IsTrue S.tells → S.world site.new ≡ S.world site.old }
+    ensures never_too_large { NeverTooLarge result }
+    ensures counted { CountsFaults (S.faults site.old) (S.faults site.new) result }
+{
+    let len = site.db_len(alloc)?;
+    let mut bytes = vec![in alloc; 0; len as usize]?;
+    site.db_read(alloc, 0, &mut bytes)?;
+    Ok(bytes)
+}
+
 /// The content of the top's Tupfile, where it is among the sources.
-fn top_file<S: Site>(alloc: Global, site: &mut S, sources: &Paths) -> Result<Option<Bytes>, Stop>
+fn top_file<S: Site>(
+    alloc: Global,
+    site: &mut S,
+    sources: &Paths,
+) -> Result<Option<Bytes>, SiteFailed>
     ensures content { IsTrue S.tells → (beside : Tree) → finite.keys beside ≡ sources.now
-        → ((path : Names) → IsSome (finite.get beside path) → finite.get beside path ≡ finite.get (S.tree site.old) path)
+        → AgreesOnItsFiles beside (S.world site.old).tree
         → IfOk result (λ content. content ≡ finite.get beside top_tupfile) }
-    ensures small { IfOk result (λ content. (bytes : List ℕ) → content ≡ Some bytes → length bytes < 2 ^ 32) }
-    ensures tree { IsTrue S.tells → S.tree site.new ≡ S.tree site.old }
-    ensures store { IsTrue S.tells → S.store site.new ≡ S.store site.old }
-    ensures kinds { IfErr result IsOutside }
-    ensures large { IsTrue S.tells → (n : ℕ) → result ≡ Err (TooLarge n) → HasFileOf n (S.tree site.new) }
-    ensures cause { HasOutsideCause (S.faults site.old) (S.faults site.new) result }
+    ensures small { IfOk result
+        (λ content. (bytes : List ℕ) → content ≡ Some bytes → length bytes < 2 ^ 32) }
+    ensures same { IsTrue S.tells → S.world site.new ≡ S.world site.old }
+    ensures large { IsTrue S.tells → NamesALargeFile (S.world site.new).tree result }
+    ensures only_large { OnlyLarge result }
+    ensures counted { CountsFaults (S.faults site.old) (S.faults site.new) result }
 {
     let path = tupfile_path(alloc)?;
     if !sources.as_slice().contains(&path) {
         return Ok(None);
     }
-    Ok(site.get(alloc, &path)?)
+    site.get(alloc, &path)
 }
 
 /// `Tupfile` at the top.
@@ -98,11 +112,47 @@ fn tupfile_path(alloc: Global) -> Result<Path, AllocError>
 
 /// The top folder, where its Tupfile was read.
 fn folders_read(alloc: Global, has_tupfile: bool) -> Result<Paths, AllocError>
-    ensures { IfOk result (λ read. read ≡ (if has_tupfile then [] ∷ [] else [])) }
+    ensures { IfOk result (λ read. read ≡ folders_of_top has_tupfile) }
 {
     let mut read = Paths::new(alloc);
     if has_tupfile {
         read.push(Path::top(alloc))?;
     }
     Ok(read)
+}
+
+/// The set of these paths, for quick look-ups.
+pub(crate) fn path_set(alloc: Global, paths: &[Path]) -> Result<BTreeSet<Path>, AllocError>
+    ensures { IfOk result
+        (λ set. (path : Names) → contains by_names set path ≡ among path paths.now) }
+{
+    let mut set = BTreeSet::new(alloc);
+    for path in paths {
+        set.insert(path.clone()?)?;
+    }
+    Ok(set)
+}
+
+/// The paths that are in a set, and those that aren't, each in their order.
+pub(crate) fn parted(
+    alloc: Global,
+    paths: &[Path],
+    set: &BTreeSet<Path>,
+) -> Result<(Paths, Paths), AllocError>
+    ensures inside { IfOk result
+        (λ parts. parts.0 ≡ filter (λ path. contains by_names set.now path) paths.now) }
+    ensures outside { IfOk result
+        (λ parts. parts.1 ≡ filter (λ path. not (contains by_names set.now path)) paths.now) }
+{
+    let mut inside = Paths::new(alloc);
+    let mut outside = Paths::new(alloc);
+    for path in paths {
+        let copy = path.clone()?;
+        if set.contains(path) {
+            inside.push(copy)?;
+        } else {
+            outside.push(copy)?;
+        }
+    }
+    Ok((inside, outside))
 }

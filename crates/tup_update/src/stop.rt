@@ -1,123 +1,128 @@
 //! Why an update stops before its end.
-use std::alloc::{AllocError, AllocFailed};
-use tup_access::{AccessFault, Verdict};
-use tup_mini::MiniFault;
+use std::alloc::AllocError;
+use thiserror::Error;
+use tup_access::Verdict;
 use tup_owned::OwnedFault;
 use tup_parse::{ParseFault, ReadEnd};
-use tup_rule::{RuleFault, RuleName};
+use tup_rule::RuleName;
 use tup_site::SiteFailed;
 
 /// Why an update stopped.
-#[derive(Debug, Drop)]
+#[derive(Debug, Drop, Error)]
 pub enum Stop {
     /// The store doesn't read from this byte on. Nothing was changed.
+    #[error("the store is damaged at byte {0}")]
     BadStore(u64),
     /// The sources ask for no rules, for this fault. Nothing was changed.
+    #[error("the sources ask for no rules")]
     Parse(ParseFault),
     /// This rule came to a bad verdict; what ran before it stands.
+    #[error("a command of the sources is bad")]
     Bad(RuleName, Verdict),
-    /// The site failed, by its own count.
-    Site,
-    /// A file to be read has so many bytes, which are too many.
-    TooLarge(u64),
-    /// There was no memory.
-    Memory,
+    /// The site failed, or a file to be read is too large, or there was no memory.
+    #[error("{0}")]
+    Outside(SiteFailed),
+}
+
+/// Why the reading of a project stops. Nothing was changed.
+#[derive(Debug, Drop, Error)]
+pub(crate) enum Unread {
+    /// The store doesn't read from this byte on.
+    #[error("the store is damaged at byte {0}")]
+    Store(u64),
+    /// The sources ask for no rules, for this fault.
+    #[error("the sources ask for no rules")]
+    Sources(ParseFault),
+    /// The site failed, or a file to be read is too large, or there was no memory.
+    #[error("{0}")]
+    Outside(SiteFailed),
+}
+
+impl From<Unread> for Stop {
+    ghost use Rattle.std.specs.Prelude.{◌≡◌};
+    ghost use Rattle.tup_update.specs.Stopped.{stop_of};
+
+    ghost from_gives = { λ unread stop. stop ≡ stop_of unread };
+
+    fn from(unread: Unread) -> Stop {
+        match unread {
+            Unread::Store(offset) => Stop::BadStore(offset),
+            Unread::Sources(fault) => Stop::Parse(fault),
+            Unread::Outside(failed) => Stop::Outside(failed),
+        }
+    }
 }
 
 impl From<SiteFailed> for Stop {
     ghost use Rattle.std.specs.Prelude.{◌≡◌};
-    ghost use Rattle.tup_update.specs.Stopped.{stop_of_site};
+    ghost use Rattle.tup_update.specs.declared.stop.Stop.TheVariants.{Outside};
 
-    ghost from_gives = { λ failed stop. stop ≡ stop_of_site failed };
+    ghost from_gives = { λ failed stop. stop ≡ Outside failed };
 
     fn from(failed: SiteFailed) -> Stop {
-        match failed {
-            SiteFailed::Fault => Stop::Site,
-            SiteFailed::TooLarge(bytes) => Stop::TooLarge(bytes),
-            SiteFailed::Memory => Stop::Memory,
-        }
-    }
-}
-
-impl From<OwnedFault> for Stop {
-    ghost use Rattle.std.specs.Prelude.{◌≡◌};
-    ghost use Rattle.tup_update.specs.Stopped.{stop_of_owned};
-
-    ghost from_gives = { λ fault stop. stop ≡ stop_of_owned fault };
-
-    fn from(fault: OwnedFault) -> Stop {
-        match fault {
-            OwnedFault::Damaged { offset } => Stop::BadStore(offset),
-            OwnedFault::Memory => Stop::Memory,
-        }
-    }
-}
-
-impl From<ReadEnd> for Stop {
-    ghost use Rattle.std.specs.Prelude.{◌≡◌};
-    ghost use Rattle.tup_update.specs.Stopped.{stop_of_reading};
-
-    ghost from_gives = { λ end stop. stop ≡ stop_of_reading end };
-
-    fn from(end: ReadEnd) -> Stop {
-        match end {
-            ReadEnd::Fault(fault) => Stop::Parse(fault),
-            ReadEnd::Memory => Stop::Memory,
-        }
+        Stop::Outside(failed)
     }
 }
 
 impl From<AllocError> for Stop {
     ghost use Rattle.std.specs.Prelude.{◌≡◌};
-    ghost use Rattle.tup_update.specs.declared.stop.Stop.TheVariants.{Memory};
+    ghost use Rattle.tup_site.specs.declared.fault.SiteFailed.TheVariants.{Memory};
+    ghost use Rattle.tup_update.specs.declared.stop.Stop.TheVariants.{Outside};
 
-    ghost from_gives = { λ _ stop. stop ≡ Memory };
+    ghost from_gives = { λ _ stop. stop ≡ Outside Memory };
 
     fn from(_: AllocError) -> Stop {
-        Stop::Memory
+        Stop::Outside(SiteFailed::Memory)
     }
 }
 
-impl<T: Drop> From<AllocFailed<T>> for Stop {
+impl From<SiteFailed> for Unread {
     ghost use Rattle.std.specs.Prelude.{◌≡◌};
-    ghost use Rattle.tup_update.specs.declared.stop.Stop.TheVariants.{Memory};
+    ghost use Rattle.tup_update.specs.declared.stop.Unread.TheVariants.{Outside};
 
-    ghost from_gives = { λ _ stop. stop ≡ Memory };
+    ghost from_gives = { λ failed unread. unread ≡ Outside failed };
 
-    fn from(_: AllocFailed<T>) -> Stop {
-        Stop::Memory
+    fn from(failed: SiteFailed) -> Unread {
+        Unread::Outside(failed)
     }
 }
 
-impl From<AccessFault> for Stop {
+impl From<AllocError> for Unread {
     ghost use Rattle.std.specs.Prelude.{◌≡◌};
-    ghost use Rattle.tup_update.specs.declared.stop.Stop.TheVariants.{Memory};
+    ghost use Rattle.tup_site.specs.declared.fault.SiteFailed.TheVariants.{Memory};
+    ghost use Rattle.tup_update.specs.declared.stop.Unread.TheVariants.{Outside};
 
-    ghost from_gives = { λ _ stop. stop ≡ Memory };
+    ghost from_gives = { λ _ unread. unread ≡ Outside Memory };
 
-    fn from(_: AccessFault) -> Stop {
-        Stop::Memory
+    fn from(_: AllocError) -> Unread {
+        Unread::Outside(SiteFailed::Memory)
     }
 }
 
-impl From<MiniFault> for Stop {
+impl From<OwnedFault> for Unread {
     ghost use Rattle.std.specs.Prelude.{◌≡◌};
-    ghost use Rattle.tup_update.specs.declared.stop.Stop.TheVariants.{Memory};
+    ghost use Rattle.tup_update.specs.Stopped.{unread_of_owned};
 
-    ghost from_gives = { λ _ stop. stop ≡ Memory };
+    ghost from_gives = { λ fault unread. unread ≡ unread_of_owned fault };
 
-    fn from(_: MiniFault) -> Stop {
-        Stop::Memory
+    fn from(fault: OwnedFault) -> Unread {
+        match fault {
+            OwnedFault::Damaged { offset } => Unread::Store(offset),
+            OwnedFault::Memory => Unread::Outside(SiteFailed::Memory),
+        }
     }
 }
 
-impl From<RuleFault> for Stop {
+impl From<ReadEnd> for Unread {
     ghost use Rattle.std.specs.Prelude.{◌≡◌};
-    ghost use Rattle.tup_update.specs.declared.stop.Stop.TheVariants.{Memory};
+    ghost use Rattle.tup_update.specs.Stopped.{unread_of_reading};
 
-    ghost from_gives = { λ _ stop. stop ≡ Memory };
+    ghost from_gives = { λ end unread. unread ≡ unread_of_reading end };
 
-    fn from(_: RuleFault) -> Stop {
-        Stop::Memory
+    fn from(end: ReadEnd) -> Unread {
+        match end {
+            ReadEnd::Fault(fault) => Unread::Sources(fault),
+            ReadEnd::Memory => Unread::Outside(SiteFailed::Memory),
+        }
     }
 }

@@ -1,17 +1,39 @@
 //! One update, from the store and the sources to the files.
-ghost use Rattle.std.specs.Prelude.{◌≡◌, ◌≤◌, [], IsTrue, IfSome, IfNone, Some};
-ghost use Rattle.tup_update.specs.World.{world};
-ghost use Rattle.tup_update.specs.Log.{IsEmptyLog};
-ghost use Rattle.tup_update.specs.Whole.{LogFits, RulesFit};
-ghost use Rattle.tup_update.specs.Outcome.{ExactlyTheFiles, SourcesStay, NothingForgotten, Refuses, HasCause, HasCountedCause};
+ghost use Rattle.std.specs.Prelude.{◌≡◌, [], IsTrue};
+ghost use Rattle.std.specs.Result.{result_err};
+ghost use Rattle.tup_update.specs.Log.{IsEmptyLog, LogFits, RulesFit};
+ghost use Rattle.tup_update.specs.Outcome.{Keeps, ExactlyTheFiles, SourcesStay, NothingForgotten, HasCause, HasCountedCause};
 
-use crate::log::Log;
-use crate::plan::Plan;
 use crate::project::Project;
 use crate::stop::Stop;
 use std::alloc::Global;
+use tup_access::Verdict;
+use tup_path::{Items, Paths};
 use tup_rule::Rules;
 use tup_site::Site;
+
+/// What an update did, in the order in which it did it.
+#[derive(Debug, Drop)]
+pub struct Log {
+    /// The folders whose Tupfile was read.
+    pub read: Paths,
+    /// The files of vanished rules that were removed.
+    pub removed: Paths,
+    /// What became of the rules that were run, from the first on.
+    pub verdicts: Items<Verdict>,
+}
+
+impl Log {
+    fn new(alloc: Global) -> Log
+        ensures { IsEmptyLog result }
+    {
+        Log {
+            read: Paths::new(alloc),
+            removed: Paths::new(alloc),
+            verdicts: Items::new(alloc),
+        }
+    }
+}
 
 /// What an update did, and why it stopped before its end, if it did.
 #[derive(Debug, Drop)]
@@ -25,43 +47,42 @@ pub struct Update {
 /// Updates the files of a site: reads the store and the sources, removes the files of vanished rules, and runs
 /// every rule in order up to the first that is bad.
 pub fn update_site<S: Site>(alloc: Global, site: &mut S) -> Update
-    ensures exactly_the_files { IsTrue S.tells → IfNone result.stopped (ExactlyTheFiles (world S.tree S.store site.old) (world S.tree S.store site.new)) }
-    ensures sources_stay { IsTrue S.tells → SourcesStay (world S.tree S.store site.old) (world S.tree S.store site.new) }
-    ensures nothing_forgotten { IsTrue S.tells → NothingForgotten (world S.tree S.store site.old) (world S.tree S.store site.new) result.stopped }
-    ensures refused { IsTrue S.tells → Refuses (world S.tree S.store site.old) (world S.tree S.store site.new) result.stopped }
-    ensures cause { IsTrue S.tells → IfSome result.stopped (HasCause (world S.tree S.store site.old) (world S.tree S.store site.new)) }
-    ensures counted_cause { IfSome result.stopped (HasCountedCause (S.faults site.old) (S.faults site.new)) }
-    ensures later { S.faults site.old ≤ S.faults site.new }
-    ensures rules { IsTrue S.tells → RulesFit (world S.tree S.store site.old) result.rules result.stopped }
-    ensures logged { IsTrue S.tells → LogFits (world S.tree S.store site.old) result.log result.stopped }
+    ensures exactly_the_files { IsTrue S.tells
+        → ExactlyTheFiles (S.world site.old) (S.world site.new) result.stopped }
+    ensures sources_stay { IsTrue S.tells → SourcesStay (S.world site.old) (S.world site.new) }
+    ensures nothing_forgotten { IsTrue S.tells
+        → NothingForgotten (S.world site.old) (S.world site.new) result.stopped }
+    ensures cause { IsTrue S.tells → HasCause (S.world site.old) (S.world site.new) result.stopped }
+    ensures counted_cause { HasCountedCause (S.faults site.old) (S.faults site.new) result.stopped }
+    ensures rules { IsTrue S.tells → RulesFit (S.world site.old) result.rules result.stopped }
+    ensures logged { IsTrue S.tells → LogFits (S.world site.old) result.log result.stopped }
 {
-    match Project::read(alloc, site) {
-        Err(stop) => stopped(alloc, stop),
-        Ok(project) => match Plan::of(alloc, &project) {
-            Err(stop) => stopped(alloc, stop),
-            Ok(plan) => {
-                let mut log = Log::new(alloc);
-                let stopped = project.build(alloc, site, &plan, &mut log).err();
-                log.read = project.read;
-                Update {
-                    rules: project.rules,
-                    log,
-                    stopped,
-                }
-            }
-        },
+    let mut rules = Rules::new(alloc);
+    let mut log = Log::new(alloc);
+    let stopped = carry_out(alloc, site, &mut rules, &mut log).err();
+    Update {
+        rules,
+        log,
+        stopped,
     }
 }
 
-/// An update that stopped before it changed anything.
-fn stopped(alloc: Global, stop: Stop) -> Update
-    ensures rules { result.rules ≡ [] }
-    ensures log { IsEmptyLog result.log }
-    ensures stopped { result.stopped ≡ Some stop }
+/// The same, with the rules and what was done told as it goes on.
+fn carry_out<S: Site>(
+    alloc: Global,
+    site: &mut S,
+    rules: &mut Rules,
+    log: &mut Log,
+) -> Result<(), Stop>
+    requires rules { rules.old ≡ [] }
+    requires log { IsEmptyLog log.old }
+    ensures kept { IsTrue S.tells
+        → Keeps (S.world site.old) (S.world site.new) rules.new log.new (result_err result) }
+    ensures counted { HasCountedCause (S.faults site.old) (S.faults site.new) (result_err result) }
 {
-    Update {
-        rules: Rules::new(alloc),
-        log: Log::new(alloc),
-        stopped: Some(stop),
-    }
+    let project = Project::read(alloc, site)?;
+    let built = project.build(alloc, site, log);
+    log.read = project.read;
+    *rules = project.rules;
+    built
 }

@@ -1,9 +1,7 @@
-use Rattle.std.proofs.Common.{◌≡◌, inl, List, Result, Ok, Err, OnOk, ◌∙◌, ap, subst}
+use Rattle.std.proofs.Common.{◌≡◌, List, Result, Ok, Err, OnOk, subst}
 use Rattle.tup_path.specs.Name.{Names}
 use Rattle.tup_path.specs.Tree.{Tree}
-use Rattle.tup_owned.specs.Owned.{spelling}
 use Rattle.tup_update.specs.Parts.{IsCleared}
-use Rattle.tup_update.proofs.Stops.{on_ok, if_err}
 use Rattle.tup_update.proofs.build.prepare.Goals as goal
 
 cleared_of : {E : Type 0} (r : Result (Unit {0}) E) (paths slice : List Names) (old between new : Tree) → slice ≡ paths → between ≡ old → OnOk r (IsCleared slice between new) → OnOk r (IsCleared paths old new)
@@ -13,11 +11,3 @@ cleared_of (Err e) paths slice old between new is same cleared = cleared
 pub returns-clause-cleared : goal.returns-clause-cleared
 returns-clause-cleared g c = λ tells.
     cleared_of c.clear.result _ _ _ _ _ c.as_slice-2.ensures (c.in_ok-write_store.ensures.tree tells) (c.clear.ensures.cleared tells)
-
-pub returns-clause-claimed : goal.returns-clause-claimed
-returns-clause-claimed g c = λ tells.
-    on_ok c.clear.result _ (c.clear.ensures.store tells ∙ c.in_ok-write_store.ensures.owned tells ∙ ap spelling c.as_slice.ensures)
-
-pub returns-clause-unclaimed : goal.returns-clause-unclaimed
-returns-clause-unclaimed g c = λ tells.
-    if_err c.clear.result _ (λ stop. inl (c.clear.ensures.store tells ∙ c.in_ok-write_store.ensures.owned tells ∙ ap spelling c.as_slice.ensures))

@@ -1,12 +1,12 @@
-use Rattle.std.proofs.Common.{Err, sym, ◌∙◌, ap, subst}
-use Rattle.tup_path.specs.Tree.{Tree}
+use Rattle.std.proofs.Common.{sym, subst}
+use Rattle.tup_site.specs.World.{World}
 use Rattle.tup_site.specs.Cause.{IsTooLarge}
-use Rattle.tup_update.proofs.Stops.{large_of}
+use Rattle.tup_update.proofs.Handed.{handed_on}
 use Rattle.tup_update.proofs.command.answer.Goals as goal
 
 pub returns-in_err-content-clause-large : goal.returns-in_err-content-clause-large
 returns-in_err-content-clause-large g c = λ tells n e. (
   c.args.path.now,
-  subst (λ (tree : Tree). IsTooLarge tree c.args.path.now n) (sym (c.get.ensures.tree tells))
-      (c.get.ensures.length tells n (c.in_err-content.was ∙ ap Err (large_of c.in_err-content.field-0.0 c.from_residual.result c.from_residual.ensures.1 n e))),
+  subst (λ (w : World). IsTooLarge w.tree c.args.path.now n) (sym (c.get.ensures.same tells))
+      (c.get.ensures.length tells n (handed_on c.get.result c.from_residual.result c.in_err-content.field-0.0 _ c.in_err-content.was c.from_residual.ensures.1 e)),
 )

@@ -1,6 +1,7 @@
-use Rattle.std.proofs.Common.{◌≡◌, ◌++◌, ◌≤◌, IsTrue, replicate}
+use Rattle.std.proofs.Common.{◌≡◌, ◌++◌, IsTrue, replicate}
+use Rattle.tup_site.specs.World.{StoreStays}
 use Rattle.tup_access.specs.declared.verdict.Verdict.TheVariants.{Good}
-use Rattle.tup_update.specs.World.{files_beside}
+use Rattle.tup_update.specs.Sources.{files_beside}
 use Rattle.tup_update.specs.Parts.{SameBesideOutputs}
 use Rattle.tup_update.proofs.Running.{CarriesOn}
 use Rattle.tup_update.proofs.project.Project.run.Given as goal
@@ -8,8 +9,8 @@ use Rattle.tup_update.proofs.project.Project.run.Given as goal
 abbrev pub invariant-loop-rule : goal.invariant-loop-rule
 invariant-loop-rule g l = record {
   noted : l.verdicts ≡ l.initial.verdicts ++ replicate l.rule-index Good;
-  carries : IsTrue g.S.Site.tells → CarriesOn l.rule-index l.self.rules (files_beside l.self.owned (g.S.Site.tree l.initial.site)) (g.S.Site.tree l.site);
-  others : IsTrue g.S.Site.tells → SameBesideOutputs l.self.rules (g.S.Site.tree l.initial.site) (g.S.Site.tree l.site);
-  store : IsTrue g.S.Site.tells → g.S.Site.store l.site ≡ g.S.Site.store l.initial.site;
-  counted : g.S.Site.faults l.initial.site ≤ g.S.Site.faults l.site;
+  carries : IsTrue g.S.Site.tells → CarriesOn l.rule-index l.self.rules (files_beside l.self.owned (g.S.Site.world l.initial.site).tree) (g.S.Site.world l.site).tree;
+  others : IsTrue g.S.Site.tells → SameBesideOutputs l.self.rules (g.S.Site.world l.initial.site).tree (g.S.Site.world l.site).tree;
+  store : IsTrue g.S.Site.tells → StoreStays (g.S.Site.world l.initial.site) (g.S.Site.world l.site);
+  counted : g.S.Site.faults l.site ≡ g.S.Site.faults l.initial.site;
 }

@@ -1,0 +1,12 @@
+use Rattle.std.proofs.Common.{◌≡◌, ◌++◌, take, IsTrue}
+use Rattle.tup_site.specs.World.{StoreStays}
+use Rattle.tup_update.specs.Parts.{IsCleared}
+use Rattle.tup_update.proofs.build.clear.Given as goal
+
+abbrev pub invariant-loop-path : goal.invariant-loop-path
+invariant-loop-path g l = record {
+  cleared : IsTrue g.S.Site.tells → IsCleared (take l.path-index l.vanished) (g.S.Site.world l.initial.site).tree (g.S.Site.world l.site).tree;
+  store : IsTrue g.S.Site.tells → StoreStays (g.S.Site.world l.initial.site) (g.S.Site.world l.site);
+  removed : l.removed ≡ l.initial.removed ++ take l.path-index l.vanished;
+  counted : g.S.Site.faults l.site ≡ g.S.Site.faults l.initial.site;
+}
