@@ -1,20 +1,20 @@
 -- Where nothing stands in the way of an update, it is done, but for want of memory: every other cause is excluded.
-use Rattle.std.proofs.Common.{◌≡◌, inl, inr, ℕ, ◌-◌, ◌^◌, ◌<◌, Bool, true, false, List, Some, sym, subst, ◌∙◌, arith}
+use Rattle.std.proofs.Common.{◌≡◌, inl, inr, ℕ, ◌-◌, ◌^◌, ◌<◌, Bool, true, false, List, Some, IfSome, sym, subst, ◌∙◌, arith}
 use Rattle.std.specs.List.{list_all, slice_get}
 use Rattle.std.proofs.lemmas.List.Sums.{AllPass-from_list_all}
 use Rattle.std.proofs.lemmas.Option.{slice_get_within, get_or_from_slice_get}
-use Rattle.tup_site.specs.declared.fault.TheConstants.{MAX_FILE_BYTES}
+use Rattle.tup_site.specs.World.{World}
 use Rattle.tup_rule.specs.declared.rule.RuleName.{RuleName}
 use Rattle.tup_access.specs.declared.verdict.Verdict.{Verdict}
 use Rattle.tup_access.specs.declared.verdict.Verdict.TheVariants.{Failed, IllegalRead as ReadsIllegally, IllegalWrite as WritesIllegally, Unwritten as LeavesUnwritten, TooManyReads as ReadsTooOften}
 use Rattle.tup_clean.specs.Clean.{is_good}
 use Rattle.tup_path.specs.Count.{Rose}
-use Rattle.tup_update.specs.World.{World, build}
-use Rattle.tup_update.specs.Outcome.{IsBadRule, SourcesStay}
+use Rattle.tup_update.specs.Outcome.{IsBadRule, SourcesStay, HasCause}
 use Rattle.tup_update.specs.Parts.{HasFileOf}
-use Rattle.tup_update.specs.World.{owned}
+use Rattle.tup_update.specs.Sources.{owned, build}
 use Rattle.tup_update.proofs.Beside.{left_is}
-use Rattle.tup_top.specs.Promise.{UpdateHasCause, HasCountedCause, Counts, NothingFailed, IsClear, IsDoneOrMemory}
+use Rattle.tup_top.specs.Status.{came_to}
+use Rattle.tup_top.specs.Promise.{HasCountedCause, Counts, NothingFailed, IsClear, IsDoneOrMemory}
 use Rattle.tup_top.specs.declared.status.What.TheVariants.{FileSize}
 use Rattle.tup_top.specs.declared.status.Status.{Status}
 use Rattle.tup_top.specs.declared.status.Status.TheVariants.{Done, Command, IllegalRead, IllegalWrite, Unwritten, TooManyReads, Usage, BadStore, Parse, SiteFault, SinkFault, Limit, Memory}
@@ -34,25 +34,25 @@ not_rose : (before now : ℕ) → now ≡ before → now < 2 ^ 64 - 1 → Rose b
 not_rose before now same counts (inl more) = omega (arith, same, more)
 not_rose before now same counts (inr end) = omega (arith, counts, end)
 
-no_large_file : (old new : World) (number : ℕ) → IsClear old new → HasFileOf number new.tree → MAX_FILE_BYTES < number → ⊥
+no_large_file : (old new : World) (number : ℕ) → IsClear old new → HasFileOf number new.tree → 16777216 < number → ⊥
 no_large_file old new number clear file large =
     let small = clear.small file.0 file.1.content file.1.found in
     let bytes = file.1.bytes in
     omega (arith, small, bytes, large)
 
-pub succeeds_so : (old new : World) (before now : Counts) (status : Status) → UpdateHasCause old new status → HasCountedCause before now status → IsClear old new → NothingFailed before now → IsDoneOrMemory status
+pub succeeds_so : (old new : World) (before now : Counts) (status : Status) → IfSome (came_to status) (HasCause old new) → HasCountedCause before now status → IsClear old new → NothingFailed before now → IsDoneOrMemory status
 succeeds_so old new before now (Done read ran removed) cause counted clear fine = tt
 succeeds_so old new before now (Command rule status) cause counted clear fine = no_bad_rule old new rule (Failed status) clear cause
 succeeds_so old new before now (IllegalRead rule text) cause counted clear fine = no_bad_rule old new rule (ReadsIllegally text) clear cause
 succeeds_so old new before now (IllegalWrite rule text) cause counted clear fine = no_bad_rule old new rule (WritesIllegally text) clear cause
 succeeds_so old new before now (Unwritten rule path) cause counted clear fine = no_bad_rule old new rule (LeavesUnwritten path) clear cause
 succeeds_so old new before now (TooManyReads rule) cause counted clear fine = no_bad_rule old new rule ReadsTooOften clear cause
-succeeds_so old new before now (Usage place) cause counted clear fine = cause
+succeeds_so old new before now (Usage place) cause counted clear fine = absurd counted
 succeeds_so old new before now (BadStore offset) cause counted clear fine = let reads = clear.store_reads in absurd (cc)
 succeeds_so old new before now (Parse fault) cause counted clear fine = let reads = clear.sources_read in absurd (cc)
 succeeds_so old new before now SiteFault cause counted clear fine = not_rose before.site now.site fine.site fine.site_counts counted
-succeeds_so old new before now SinkFault cause counted clear fine = not_rose before.sink now.sink fine.sink fine.sink_counts counted
-succeeds_so old new before now (Limit FileSize number) cause counted clear fine = no_large_file old new number clear cause counted
+succeeds_so old new before now SinkFault cause counted clear fine = not_rose before.sink now.sink fine.sink fine.sink_counts counted.1
+succeeds_so old new before now (Limit FileSize number) cause counted clear fine = no_large_file old new number clear cause counted.1
 succeeds_so old new before now Memory cause counted clear fine = tt
 
 -- where nothing was done the sources stay

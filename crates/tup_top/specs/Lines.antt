@@ -10,15 +10,17 @@ use Rattle.tup_access.specs.declared.verdict.Verdict.{Verdict}
 use Rattle.tup_lex.specs.ParseKind.{kind_text}
 use Rattle.tup_clean.specs.Clean.{is_good}
 use Rattle.tup_parse.specs.declared.fault.ParseFault.{ParseFault}
-use Rattle.tup_update.specs.declared.log.Log.{Log}
+use Rattle.tup_update.specs.declared.update.Log.{Log}
 use Rattle.tup_top.specs.declared.status.Status.{Status}
 use Rattle.tup_top.specs.declared.status.Status.TheVariants.{Done, Command, IllegalRead, IllegalWrite, Unwritten, TooManyReads, Usage, BadStore, Parse, SiteFault, SinkFault, Limit, Memory}
 use Rattle.tup_top.specs.declared.status.What.{What}
 use Rattle.tup_top.specs.declared.status.What.TheVariants.{FileSize}
 
+-- a folder whose Tupfile was read
 abbrev pub read_line : Names → List ℕ
 read_line dir = codes "read " ++ (show dir ++ 10 ∷ [])
 
+-- a file that was removed
 abbrev pub removed_line : Names → List ℕ
 removed_line path = codes "remove " ++ (show path ++ 10 ∷ [])
 
@@ -27,6 +29,7 @@ abbrev pub verdict_line : Rule × Verdict → List ℕ
 verdict_line p =
     (if is_good (Some p.1) then codes "run " else codes "bad ") ++ (show p.0.dir ++ (codes ": " ++ (label_of p.0 ++ 10 ∷ [])))
 
+-- what has a limit
 abbrev pub what_text : What → List ℕ
 what_text FileSize = codes "FileSize"
 

@@ -5,6 +5,7 @@ use Rattle.tup_top.specs.declared.order.Order.{Order}
 use Rattle.tup_top.specs.declared.order.Order.TheVariants.{Upd, Demo}
 use Rattle.tup_top.specs.declared.order.OrderFault.{OrderFault}
 
+-- the word at this place can't stand there
 abbrev pub cannot_stand : ℕ → Result Order OrderFault
 cannot_stand place = Err (record { place = place })
 

@@ -2,20 +2,21 @@
 use Rattle.std.specs.Prelude.{◌≡◌, ◌≢◌, ◌⊎◌, ⊤, ℕ, List, [], ◌∷◌, ◌++◌, Option, Ok, Err, codes}
 use Rattle.tup_path.specs.Count.{Rose}
 use Rattle.tup_path.specs.Name.{Names, Content}
-use Rattle.tup_site.specs.Edit.{tree_of}
+use Rattle.tup_path.specs.Tree.{tree_of_files}
+use Rattle.tup_site.specs.World.{World}
 use Rattle.tup_rule.specs.declared.rule.Rule.{Rule}
 use Rattle.tup_tell.specs.Sink.{GrownByPart}
-use Rattle.tup_update.specs.World.{World}
-use Rattle.tup_update.specs.Whole.{LogFits, RulesFit}
-use Rattle.tup_update.specs.declared.log.Log.{Log}
+use Rattle.tup_update.specs.Log.{LogFits, RulesFit}
+use Rattle.tup_update.specs.declared.update.Log.{Log}
 use Rattle.tup_update.specs.declared.stop.Stop.{Stop}
 use Rattle.tup_top.specs.Lines.{lines, last_line}
-use Rattle.tup_top.specs.Promise.{Asked}
+use Rattle.tup_top.specs.Promise.{Wanted}
 use Rattle.tup_top.specs.Status.{status_of}
 use Rattle.tup_top.specs.declared.order.Order.TheVariants.{Upd, Demo}
 use Rattle.tup_top.specs.declared.status.Status.{Status}
 use Rattle.tup_top.specs.declared.status.Status.TheVariants.{Done, Usage, SinkFault, Memory}
 
+-- all was done, and all was told
 abbrev pub IsDone : Status → Type 0
 IsDone (Done read ran removed) = ⊤
 IsDone other = ⊥
@@ -25,9 +26,11 @@ IsDone other = ⊥
 abbrev pub Ends : ℕ → ℕ → Status → Status → Type 0
 Ends before now status answer = (answer ≡ status) ⊎ (answer ≡ Memory) ⊎ ((answer ≡ SinkFault) × IsDone status × Rose before now)
 
--- the sink has grown by this text, or by a front of it where there was no memory or the sink's count rose
+-- the sink has grown by this text, or by a front of it where there was no memory or the sink's count rose; after Done all
+-- of it is there
 pub record Prints (text : List ℕ) (before now : ℕ) (old new : List ℕ) (answer : Status) : Type 0 where
   pub part : GrownByPart text old new
+  pub done : IsDone answer → new ≡ old ++ text
   pub all : answer ≢ Memory → ¬ Rose before now → new ≡ old ++ text
 
 -- what an update of this world told of itself
@@ -48,11 +51,12 @@ pub record PrintsUpdate (world : World) (before now : ℕ) (old new : List ℕ) 
 abbrev pub demo_files : List (Names × Content)
 demo_files = (codes "Tupfile" ∷ [], codes ": a |> cp a b |> b" ++ 10 ∷ []) ∷ (codes "a" ∷ [], codes "hi" ++ 10 ∷ []) ∷ []
 
+-- the site that holds it
 abbrev pub demo_world : World
-demo_world = record { tree = tree_of demo_files; store = [] }
+demo_world = record { tree = tree_of_files demo_files; store = [] }
 
 -- the lines of what was asked for: of the update, of the demo's update, or the line of the refusal
-abbrev pub Printed : Asked → World → ℕ → ℕ → List ℕ → List ℕ → Status → Type 0
+abbrev pub Printed : Wanted → World → ℕ → ℕ → List ℕ → List ℕ → Status → Type 0
 Printed (Ok Upd) world before now old new answer = PrintsUpdate world before now old new answer
 Printed (Ok Demo) world before now old new answer = PrintsUpdate demo_world before now old new answer
 Printed (Err fault) world before now old new answer = Prints (last_line (Usage fault.place)) before now old new answer

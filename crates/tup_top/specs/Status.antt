@@ -1,15 +1,18 @@
--- How an order ended: the exit numbers (own), and what stops an update as a status.
+-- How an order ended: the exit numbers (own), what stops an update as a status, and what a status says of an update.
 use Rattle.std.specs.Prelude.{ℕ, ◌-◌, ◌^◌, length, min, Option, None, Some}
+use Rattle.tup_site.specs.declared.fault.SiteFailed.{SiteFailed}
+use Rattle.tup_site.specs.declared.fault.SiteFailed.TheVariants.{Fault, TooLarge, Memory as NoMemory}
 use Rattle.tup_rule.specs.declared.rule.RuleName.{RuleName}
 use Rattle.tup_access.specs.declared.verdict.Verdict.{Verdict}
 use Rattle.tup_access.specs.declared.verdict.Verdict.TheVariants.{Good, Failed, IllegalRead as ReadsIllegally, IllegalWrite as WritesIllegally, Unwritten as LeavesUnwritten, TooManyReads as ReadsTooOften}
-use Rattle.tup_update.specs.declared.log.Log.{Log}
+use Rattle.tup_update.specs.declared.update.Log.{Log}
 use Rattle.tup_update.specs.declared.stop.Stop.{Stop}
-use Rattle.tup_update.specs.declared.stop.Stop.TheVariants.{BadStore as StoreDamaged, Parse as ParseFailed, Bad, Site, TooLarge, Memory as OutOfMemory}
+use Rattle.tup_update.specs.declared.stop.Stop.TheVariants.{BadStore as StoreDamaged, Parse as ParseFailed, Bad, Outside}
 use Rattle.tup_top.specs.declared.status.Status.{Status}
 use Rattle.tup_top.specs.declared.status.Status.TheVariants.{Done, Command, IllegalRead, IllegalWrite, Unwritten, TooManyReads, Usage, BadStore, Parse, SiteFault, SinkFault, Limit, Memory}
 use Rattle.tup_top.specs.declared.status.What.TheVariants.{FileSize}
 
+-- the exit number of the program
 abbrev pub exit_of : Status → ℕ
 exit_of (Done read ran removed) = 0
 exit_of (Command rule status) = 1
@@ -26,8 +29,8 @@ exit_of (Limit what number) = 11
 exit_of Memory = 12
 
 -- a count as it is told
-abbrev pub told : ℕ → ℕ
-told count = min count (2 ^ 32 - 1)
+abbrev pub capped : ℕ → ℕ
+capped count = min count (2 ^ 32 - 1)
 
 -- the status of a rule that isn't Good
 abbrev pub status_of_bad : RuleName → Verdict → Status
@@ -38,15 +41,36 @@ status_of_bad rule (WritesIllegally text) = IllegalWrite rule text
 status_of_bad rule (LeavesUnwritten path) = Unwritten rule path
 status_of_bad rule ReadsTooOften = TooManyReads rule
 
+-- the status of an order that the outside stops
+abbrev pub status_of_outside : SiteFailed → Status
+status_of_outside Fault = SiteFault
+status_of_outside (TooLarge number) = Limit FileSize number
+status_of_outside NoMemory = Memory
+
 -- the status of an update with this log that stopped for this reason, or came to its end
 abbrev pub status_of : Log → Option Stop → Status
-status_of log None = Done (told (length log.read)) (told (length log.verdicts)) (told (length log.removed))
+status_of log None = Done (capped (length log.read)) (capped (length log.verdicts)) (capped (length log.removed))
 status_of log (Some (StoreDamaged offset)) = BadStore offset
 status_of log (Some (ParseFailed fault)) = Parse fault
 status_of log (Some (Bad rule verdict)) = status_of_bad rule verdict
-status_of log (Some Site) = SiteFault
-status_of log (Some (TooLarge number)) = Limit FileSize number
-status_of log (Some OutOfMemory) = Memory
+status_of log (Some (Outside failed)) = status_of_outside failed
+
+-- what an update came to that is answered so: its end, or the reason for which it stopped. A word that can't stand is no
+-- answer of an update.
+abbrev pub came_to : Status → Option (Option Stop)
+came_to (Done read ran removed) = Some None
+came_to SinkFault = Some None
+came_to (Command rule status) = Some (Some (Bad rule (Failed status)))
+came_to (IllegalRead rule text) = Some (Some (Bad rule (ReadsIllegally text)))
+came_to (IllegalWrite rule text) = Some (Some (Bad rule (WritesIllegally text)))
+came_to (Unwritten rule path) = Some (Some (Bad rule (LeavesUnwritten path)))
+came_to (TooManyReads rule) = Some (Some (Bad rule ReadsTooOften))
+came_to (BadStore offset) = Some (Some (StoreDamaged offset))
+came_to (Parse fault) = Some (Some (ParseFailed fault))
+came_to SiteFault = Some (Some (Outside Fault))
+came_to (Limit FileSize number) = Some (Some (Outside (TooLarge number)))
+came_to Memory = Some (Some (Outside NoMemory))
+came_to (Usage place) = None
 
 -- the status of an order whose lines couldn't be written: the sink's failure is answered where all else went well
 abbrev pub after_sink_fault : Status → Status

@@ -1,16 +1,16 @@
 //! The top call.
 ghost use Rattle.std.specs.Prelude.{IsTrue};
-ghost use Rattle.tup_update.specs.World.{world};
-ghost use Rattle.tup_update.specs.Outcome.{SourcesStay};
+ghost use Rattle.tup_update.specs.Outcome.{ExactlyTheFiles, SourcesStay, NothingForgotten, HasCause};
 ghost use Rattle.tup_top.specs.Order.{order};
-ghost use Rattle.tup_top.specs.Printed.{Printed};
-ghost use Rattle.tup_top.specs.Promise.{ExactlyTheFiles, NothingDone, NothingForgotten, Refuses, HasCause, HasPlainCause, Succeeds, counts};
+ghost use Rattle.tup_top.specs.Lines.{last_line as line_of};
+ghost use Rattle.tup_top.specs.Printed.{Printed, Prints};
+ghost use Rattle.tup_top.specs.Promise.{ForUpdate, NothingDone, TellsWhatWasDone, HasPlainCause, IsRefusal, Succeeds, counts};
+ghost use Rattle.tup_top.specs.declared.status.Status.TheVariants.{Usage};
 
-use crate::demo::demo;
-use crate::order::{Order, Word, order_of};
-use crate::refuse::refuse;
+use crate::order::{Order, OrderFault, Word, order_of};
+use crate::print::{last_line, print};
 use crate::status::Status;
-use crate::update::update;
+use crate::update::{demo, update};
 use std::alloc::Global;
 use tup_site::Site;
 use tup_tell::Sink;
@@ -27,15 +27,27 @@ pub struct Ran<S> {
 /// No words, or `upd`, update the files of the site. `demo` shows an update of a small project in memory, and
 /// leaves the site alone. Other words are refused by the place of the first that can't stand there.
 pub fn tup<S: Site, K: Sink>(alloc: Global, words: &[Word], site: S, out: &mut K) -> Ran<S>
-    ensures exactly_the_files { IsTrue S.tells → ExactlyTheFiles (order words.now) (world S.tree S.store site) (world S.tree S.store result.site) result.status }
-    ensures sources_stay { IsTrue S.tells → SourcesStay (world S.tree S.store site) (world S.tree S.store result.site) }
-    ensures nothing_forgotten { IsTrue S.tells → NothingForgotten (order words.now) (world S.tree S.store site) (world S.tree S.store result.site) result.status }
-    ensures refused { IsTrue S.tells → Refuses (world S.tree S.store site) (world S.tree S.store result.site) result.status }
-    ensures nothing_done { IsTrue S.tells → NothingDone (order words.now) (world S.tree S.store site) (world S.tree S.store result.site) }
-    ensures cause { IsTrue S.tells → HasCause (order words.now) (world S.tree S.store site) (world S.tree S.store result.site) result.status }
-    ensures plain_cause { HasPlainCause (order words.now) (counts S.faults K.faults site out.old) (counts S.faults K.faults result.site out.new) result.status }
-    ensures success { IsTrue S.tells → Succeeds (order words.now) (world S.tree S.store site) (world S.tree S.store result.site) (counts S.faults K.faults site out.old) (counts S.faults K.faults result.site out.new) result.status }
-    ensures told_and_printed { IsTrue S.tells → IsTrue K.tells → Printed (order words.now) (world S.tree S.store site) (K.faults out.old) (K.faults out.new) (K.held out.old) (K.held out.new) result.status }
+    ensures exactly_the_files { IsTrue S.tells → ForUpdate (order words.now) result.status
+        (ExactlyTheFiles (S.world site) (S.world result.site)) }
+    ensures sources_stay { IsTrue S.tells → SourcesStay (S.world site) (S.world result.site) }
+    ensures nothing_forgotten { IsTrue S.tells → ForUpdate (order words.now) result.status
+        (NothingForgotten (S.world site) (S.world result.site)) }
+    ensures nothing_done { IsTrue S.tells
+        → NothingDone (order words.now) (S.world site) (S.world result.site) }
+    ensures cause { IsTrue S.tells → ForUpdate (order words.now) result.status
+        (HasCause (S.world site) (S.world result.site)) }
+    ensures plain_cause { let before = counts S.faults K.faults site out.old in
+        let now = counts S.faults K.faults result.site out.new in
+        HasPlainCause (order words.now) before now result.status }
+    ensures success { IsTrue S.tells → let before = counts S.faults K.faults site out.old in
+        let now = counts S.faults K.faults result.site out.new in
+        Succeeds (order words.now) (S.world site) (S.world result.site) before now result.status }
+    ensures told { IsTrue S.tells
+        → TellsWhatWasDone (order words.now) (S.world site) result.status }
+    ensures printed { IsTrue S.tells → IsTrue K.tells
+        → let before = K.faults out.old in let now = K.faults out.new in
+        Printed (order words.now) (S.world site) before now (K.held out.old) (K.held out.new)
+        result.status }
 {
     match order_of(words) {
         Ok(Order::Upd) => {
@@ -52,4 +64,18 @@ pub fn tup<S: Site, K: Sink>(alloc: Global, words: &[Word], site: S, out: &mut K
             site,
         },
     }
+}
+
+/// Prints the line of a word that can't stand where it stands.
+fn refuse<K: Sink>(alloc: Global, fault: OrderFault, out: &mut K) -> Status
+    ensures cause { IsRefusal fault result }
+    ensures printed { IsTrue K.tells
+        → let before = K.faults out.old in let now = K.faults out.new in
+        Prints (line_of (Usage fault.place)) before now (K.held out.old) (K.held out.new) result }
+{
+    let status = Status::Usage { place: fault.place };
+    let Ok(line) = last_line(alloc, &status) else {
+        return Status::Memory;
+    };
+    print(alloc, &line, status, out)
 }

@@ -6,17 +6,11 @@
 #![tactic(auto)]
 
 mod call;
-mod demo;
-mod lines;
 mod order;
 mod print;
-mod refuse;
 mod status;
 mod update;
 
 pub use call::{Ran, tup};
 pub use order::{Order, OrderFault, Word, order_of};
 pub use status::{Status, What};
-
-#[cfg(test)]
-mod tests;

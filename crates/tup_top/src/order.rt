@@ -2,6 +2,7 @@
 ghost use Rattle.std.specs.Prelude.{◌≡◌};
 ghost use Rattle.tup_top.specs.Order.{order};
 
+use thiserror::Error;
 use tup_path::Text;
 
 /// A word of the command line.
@@ -18,7 +19,8 @@ pub enum Order {
 }
 
 /// The first word that can't stand where it stands, counted from 1.
-#[derive(Clone, Copy, Debug, PartialEq, Eq)]
+#[derive(Clone, Copy, Debug, PartialEq, Eq, Error)]
+#[error("word {place} can't stand there")]
 pub struct OrderFault {
     pub place: u32,
 }

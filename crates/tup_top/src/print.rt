@@ -1,17 +1,91 @@
-//! How the lines of an order are handed to a sink.
-ghost use Rattle.std.specs.Prelude.{IsTrue, ◌≡◌};
-ghost use Rattle.tup_top.specs.Printed.{Ends, Prints};
+//! What is printed of an order, and how it is handed to a sink.
+ghost use Rattle.std.specs.Prelude.{◌≡◌, ◌++◌, IsTrue, IfOk, OnOk, string_bytes};
+ghost use Rattle.std.specs.List.{flat_map, zip};
+ghost use Rattle.tup_top.specs.Lines as specs;
+ghost use Rattle.tup_top.specs.Printed.{Ends, Prints, IsDone};
 ghost use Rattle.tup_top.specs.Status.{after_sink_fault as spec_after};
 
 use crate::status::Status;
-use std::alloc::Global;
-use tup_path::Bytes;
+use std::alloc::{AllocError, Global};
+use tup_access::Verdict;
+use tup_path::{Bytes, Path};
+use tup_rule::Rule;
 use tup_tell::{Sink, SinkFailed};
+use tup_update::Log;
+
+/// All lines of an update with these rules and this log, the last one for its status.
+pub(crate) fn lines(
+    alloc: Global,
+    rules: &[Rule],
+    log: &Log,
+    status: &Status,
+) -> Result<Bytes, AllocError>
+    ensures { IfOk result (λ text. text ≡ specs.lines rules.now log.now status.now) }
+{
+    let mut text = String::new(alloc);
+    add_read(&mut text, log.read.as_slice())?;
+    add_removed(&mut text, log.removed.as_slice())?;
+    add_verdicts(&mut text, rules, log.verdicts.as_slice())?;
+    writeln!(text, "{status}")?;
+    Ok(Bytes::new(text.into_bytes()))
+}
+
+/// The line of a status alone.
+pub(crate) fn last_line(alloc: Global, status: &Status) -> Result<Bytes, AllocError>
+    ensures { IfOk result (λ text. text ≡ specs.last_line status.now) }
+{
+    let text = format!(in alloc; "{status}\n")?;
+    Ok(Bytes::new(text.into_bytes()))
+}
+
+fn add_read(text: &mut String, folders: &[Path]) -> Result<(), AllocError>
+    ensures { OnOk result
+        (string_bytes text.new ≡ string_bytes text.old ++ flat_map specs.read_line folders.now) }
+{
+    for dir in folders {
+        writeln!(text, "read {dir}")?;
+    }
+    Ok(())
+}
+
+fn add_removed(text: &mut String, paths: &[Path]) -> Result<(), AllocError>
+    ensures { OnOk result
+        (string_bytes text.new ≡ string_bytes text.old ++ flat_map specs.removed_line paths.now) }
+{
+    for path in paths {
+        writeln!(text, "remove {path}")?;
+    }
+    Ok(())
+}
+
+fn add_verdicts(text: &mut String, rules: &[Rule], verdicts: &[Verdict]) -> Result<(), AllocError>
+    ensures { let told = flat_map specs.verdict_line (zip rules.now verdicts.now) in
+        OnOk result (string_bytes text.new ≡ string_bytes text.old ++ told) }
+{
+    for (rule, verdict) in rules.iter().zip(verdicts) {
+        add_verdict(text, rule, verdict)?;
+    }
+    Ok(())
+}
+
+fn add_verdict(text: &mut String, rule: &Rule, verdict: &Verdict) -> Result<(), AllocError>
+    ensures { let told = specs.verdict_line (rule.now, verdict.now) in
+        OnOk result (string_bytes text.new ≡ string_bytes text.old ++ told) }
+{
+    let what = match verdict {
+        Verdict::Good => "run",
+        _ => "bad",
+    };
+    let label = rule.display.as_ref().unwrap_or(&rule.text);
+    writeln!(text, "{what} {}: {label}", rule.dir)
+}
 
 /// Writes the text of an order that ends with this status, all of it at once, and says how the order ends then.
 pub(crate) fn print<K: Sink>(alloc: Global, text: &Bytes, status: Status, out: &mut K) -> Status
     ensures ends { Ends (K.faults out.old) (K.faults out.new) status result }
-    ensures prints { IsTrue K.tells → Prints text.now (K.faults out.old) (K.faults out.new) (K.held out.old) (K.held out.new) result }
+    ensures counted { IsDone result → K.faults out.new ≡ K.faults out.old }
+    ensures prints { IsTrue K.tells → let before = K.faults out.old in let now = K.faults out.new in
+        Prints text.now before now (K.held out.old) (K.held out.new) result }
 {
     match out.write(alloc, text) {
         Ok(()) => status,
@@ -20,7 +94,7 @@ pub(crate) fn print<K: Sink>(alloc: Global, text: &Bytes, status: Status, out: &
     }
 }
 
-// The sink's failure is answered where all else went well; another answer tells more.
+/// The sink's failure is answered where all else went well; another answer tells more.
 fn after_sink_fault(status: Status) -> Status
     ensures { result ≡ spec_after status }
 {

@@ -8,6 +8,7 @@ use tup_access::Verdict;
 use tup_parse::ParseFault;
 use tup_path::{Path, Text};
 use tup_rule::RuleName;
+use tup_site::SiteFailed;
 use tup_update::{Log, Stop};
 
 /// What has a limit.
@@ -77,23 +78,18 @@ pub(crate) fn status_of(log: &Log, stopped: Option<Stop>) -> Status
 {
     match stopped {
         None => Status::Done {
-            read: told(log.read.len()),
-            ran: told(log.verdicts.len()),
-            removed: told(log.removed.len()),
+            read: capped(log.read.len()),
+            ran: capped(log.verdicts.len()),
+            removed: capped(log.removed.len()),
         },
         Some(Stop::BadStore(offset)) => Status::BadStore { offset },
         Some(Stop::Parse(fault)) => Status::Parse { fault },
         Some(Stop::Bad(rule, verdict)) => status_of_bad(rule, verdict),
-        Some(Stop::Site) => Status::SiteFault,
-        Some(Stop::TooLarge(number)) => Status::Limit {
-            what: What::FileSize,
-            number,
-        },
-        Some(Stop::Memory) => Status::Memory,
+        Some(Stop::Outside(failed)) => status_of_outside(failed),
     }
 }
 
-// An update stops at no Good verdict.
+/// An update stops at no Good verdict.
 fn status_of_bad(rule: RuleName, verdict: Verdict) -> Status
     ensures { result ≡ specs.status_of_bad rule verdict }
 {
@@ -107,9 +103,23 @@ fn status_of_bad(rule: RuleName, verdict: Verdict) -> Status
     }
 }
 
-// A count as it is told; one that is too large for a number of 32 bits is told as the last of these.
-fn told(count: usize) -> u32
-    ensures { result ≡ specs.told count }
+/// Why the outside stops an order.
+fn status_of_outside(failed: SiteFailed) -> Status
+    ensures { result ≡ specs.status_of_outside failed }
+{
+    match failed {
+        SiteFailed::Fault => Status::SiteFault,
+        SiteFailed::TooLarge(number) => Status::Limit {
+            what: What::FileSize,
+            number,
+        },
+        SiteFailed::Memory => Status::Memory,
+    }
+}
+
+/// A count as it is told; one that is too large for a number of 32 bits is told as the last of these.
+fn capped(count: usize) -> u32
+    ensures { result ≡ specs.capped count }
 {
     count.min(u32::MAX as usize) as u32
 }

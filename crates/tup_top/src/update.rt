@@ -1,27 +1,36 @@
 //! An update, and what is told of it.
-ghost use Rattle.std.specs.Prelude.{IsTrue};
-ghost use Rattle.tup_update.specs.World.{world};
-ghost use Rattle.tup_update.specs.Outcome.{ExactlyTheFiles, SourcesStay};
-ghost use Rattle.tup_top.specs.Promise.{IsCarriedOut, Refuses, UpdateForgetsNothing, UpdateHasCause, HasCountedCause, counts};
-ghost use Rattle.tup_top.specs.Printed.{PrintsUpdate};
+ghost use Rattle.std.specs.Prelude.{◌≡◌, [], IsTrue, IfSome, Ok};
+ghost use Rattle.tup_path.specs.Resolve.{resolve};
+ghost use Rattle.tup_site.specs.Memory.{world_in};
+ghost use Rattle.tup_update.specs.Outcome.{ExactlyTheFiles, SourcesStay, NothingForgotten, HasCause};
+ghost use Rattle.tup_top.specs.Printed.{PrintsUpdate, demo_world};
+ghost use Rattle.tup_top.specs.Promise.{CountsAll, HasCountedCause, HasDemoCause, counts};
+ghost use Rattle.tup_top.specs.Status.{came_to};
 
-use crate::lines::lines;
-use crate::print::print;
+use crate::print::{lines, print};
 use crate::status::{Status, status_of};
 use std::alloc::Global;
-use tup_site::Site;
+use tup_path::{Bytes, Path};
+use tup_site::{MemSite, Site};
 use tup_tell::Sink;
 use tup_update::{Update, update_site};
 
 /// Updates the files of a site and prints the lines of this update.
 pub(crate) fn update<S: Site, K: Sink>(alloc: Global, site: &mut S, out: &mut K) -> Status
-    ensures exactly_the_files { IsTrue S.tells → IsCarriedOut result → ExactlyTheFiles (world S.tree S.store site.old) (world S.tree S.store site.new) }
-    ensures sources_stay { IsTrue S.tells → SourcesStay (world S.tree S.store site.old) (world S.tree S.store site.new) }
-    ensures nothing_forgotten { IsTrue S.tells → UpdateForgetsNothing (world S.tree S.store site.old) (world S.tree S.store site.new) result }
-    ensures refused { IsTrue S.tells → Refuses (world S.tree S.store site.old) (world S.tree S.store site.new) result }
-    ensures cause { IsTrue S.tells → UpdateHasCause (world S.tree S.store site.old) (world S.tree S.store site.new) result }
-    ensures counted_cause { HasCountedCause (counts S.faults K.faults site.old out.old) (counts S.faults K.faults site.new out.new) result }
-    ensures printed { IsTrue S.tells → IsTrue K.tells → PrintsUpdate (world S.tree S.store site.old) (K.faults out.old) (K.faults out.new) (K.held out.old) (K.held out.new) result }
+    ensures exactly_the_files { IsTrue S.tells
+        → IfSome (came_to result) (ExactlyTheFiles (S.world site.old) (S.world site.new)) }
+    ensures sources_stay { IsTrue S.tells → SourcesStay (S.world site.old) (S.world site.new) }
+    ensures nothing_forgotten { IsTrue S.tells
+        → IfSome (came_to result) (NothingForgotten (S.world site.old) (S.world site.new)) }
+    ensures cause { IsTrue S.tells
+        → IfSome (came_to result) (HasCause (S.world site.old) (S.world site.new)) }
+    ensures counted_cause { let before = counts S.faults K.faults site.old out.old in
+        let now = counts S.faults K.faults site.new out.new in
+        HasCountedCause before now result }
+    ensures told { IsTrue S.tells → CountsAll (S.world site.old) result }
+    ensures printed { IsTrue S.tells → IsTrue K.tells
+        → let before = K.faults out.old in let now = K.faults out.new in
+        PrintsUpdate (S.world site.old) before now (K.held out.old) (K.held out.new) result }
 {
     let Update {
         rules,
@@ -33,4 +42,38 @@ pub(crate) fn update<S: Site, K: Sink>(alloc: Global, site: &mut S, out: &mut K)
         return Status::Memory;
     };
     print(alloc, &text, status, out)
+}
+
+/// Updates a small project in memory and prints the lines of this update.
+pub(crate) fn demo<K: Sink>(alloc: Global, out: &mut K) -> Status
+    ensures cause { HasDemoCause (K.faults out.old) (K.faults out.new) result }
+    ensures printed { IsTrue K.tells
+        → let before = K.faults out.old in let now = K.faults out.new in
+        PrintsUpdate demo_world before now (K.held out.old) (K.held out.new) result }
+{
+    match demo_site(alloc) {
+        Some(mut site) => update(alloc, &mut site, out),
+        None => Status::Memory,
+    }
+}
+
+/// The small project, or nothing where there is no memory.
+fn demo_site(alloc: Global) -> Option<MemSite>
+    ensures { IfSome result (λ site. world_in site ≡ demo_world) }
+{
+    let files = vec![in alloc;
+        file(alloc, "Tupfile", b": a |> cp a b |> b\n")?,
+        file(alloc, "a", b"hi\n")?,
+    ]
+    .ok()?;
+    MemSite::new(alloc, files, Vec::new(alloc)).ok()
+}
+
+/// A file at a path below the top.
+fn file(alloc: Global, path: &str, content: &[u8]) -> Option<(Path, Bytes)>
+    ensures { IfSome result (λ file. (resolve [] path.now ≡ Ok file.0) × (file.1 ≡ content.now)) }
+{
+    let path = Path::from_top(alloc, path).ok()?;
+    let content = Bytes::new(Vec::from_slice(alloc, content).ok()?);
+    Some((path, content))
 }

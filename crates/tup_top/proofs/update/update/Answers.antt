@@ -1,10 +1,15 @@
 use Rattle.std.proofs.Common.{rules, inl, inr, refl, subst}
-use Rattle.tup_update.specs.World.{world}
+use Rattle.tup_update.specs.Outcome.{ExactlyTheFiles, NothingForgotten, HasCause}
+use Rattle.tup_top.specs.Promise.{counts}
 use Rattle.tup_top.specs.Printed.{Ends}
-use Rattle.tup_top.proofs.Causes.{untold_forgets_nothing, update_cause, update_forgets_nothing, update_refuses, prints_nothing, prints_update}
+use Rattle.tup_top.proofs.Causes.{answered, untold_left, counts_all, counted_cause, prints_nothing, prints_update}
 use Rattle.tup_top.proofs.update.update.Goals as goal
 
--- src/update.rt:31:9
+pub returns-in_default-clause-nothing_forgotten : goal.returns-in_default-clause-nothing_forgotten
+returns-in_default-clause-nothing_forgotten g c = λ tells.
+    let update = c.update_site-rules in
+    untold_left _ _ update.result.stopped (update.ensures.nothing_forgotten tells) (update.ensures.exactly_the_files tells)
+
 pub returns-in_default-clause-printed : goal.returns-in_default-clause-printed
 returns-in_default-clause-printed g c = λ tells _. record {
   told = record {
@@ -18,34 +23,35 @@ returns-in_default-clause-printed g c = λ tells _. record {
   prints = prints_nothing _ _ _ _;
 }
 
-pub returns-in_default-clause-nothing_forgotten : goal.returns-in_default-clause-nothing_forgotten
-returns-in_default-clause-nothing_forgotten g c = λ tells.
+pub returns-clause-exactly_the_files : goal.returns-clause-exactly_the_files
+returns-clause-exactly_the_files g c = λ tells.
     let update = c.update_site-rules in
-    untold_forgets_nothing _ _ update.result.stopped (update.ensures.nothing_forgotten tells) (update.ensures.exactly_the_files tells)
+    answered (ExactlyTheFiles (g.S.Site.world c.args.site.now) (g.S.Site.world update.new.site)) _ _ _ _ update.result.log update.result.stopped _ _ c.status_of-status.ensures c.print.ensures.ends
+    update.ensures.counted_cause (update.ensures.exactly_the_files tells) tt
 
 pub returns-clause-nothing_forgotten : goal.returns-clause-nothing_forgotten
 returns-clause-nothing_forgotten g c = λ tells.
     let update = c.update_site-rules in
-    update_forgets_nothing _ _ (g.K.Sink.faults c.args.out.now) (g.K.Sink.faults c.print.new.out) update.result.log update.result.stopped _
-    (subst (λ s. Ends (g.K.Sink.faults c.args.out.now) (g.K.Sink.faults c.print.new.out) s c.print.result) c.status_of-status.ensures c.print.ensures.ends)
-    (update.ensures.nothing_forgotten tells) (update.ensures.exactly_the_files tells)
+    answered (NothingForgotten (g.S.Site.world c.args.site.now) (g.S.Site.world update.new.site)) _ _ _ _ update.result.log update.result.stopped _ _ c.status_of-status.ensures c.print.ensures.ends
+    update.ensures.counted_cause (update.ensures.nothing_forgotten tells) (untold_left _ _ update.result.stopped (update.ensures.nothing_forgotten tells) (update.ensures.exactly_the_files tells))
 
-pub returns-clause-refused : goal.returns-clause-refused
-returns-clause-refused g c = λ tells.
-    let update = c.update_site-rules in
-    update_refuses _ _ (g.K.Sink.faults c.args.out.now) (g.K.Sink.faults c.print.new.out) update.result.log update.result.stopped _
-    (subst (λ s. Ends (g.K.Sink.faults c.args.out.now) (g.K.Sink.faults c.print.new.out) s c.print.result) c.status_of-status.ensures c.print.ensures.ends)
-    (update.ensures.refused tells)
-
--- src/update.rt:17:1
 pub returns-clause-cause : goal.returns-clause-cause
 returns-clause-cause g c = λ tells.
     let update = c.update_site-rules in
-    update_cause (world g.S.Site.tree g.S.Site.store c.args.site.now) (world g.S.Site.tree g.S.Site.store update.new.site) (g.K.Sink.faults c.args.out.now) (g.K.Sink.faults c.print.new.out) update.result.log update.result.stopped _
-    (subst (λ s. Ends (g.K.Sink.faults c.args.out.now) (g.K.Sink.faults c.print.new.out) s c.print.result) c.status_of-status.ensures c.print.ensures.ends)
-    (update.ensures.logged tells) (update.ensures.cause tells)
+    answered (HasCause (g.S.Site.world c.args.site.now) (g.S.Site.world update.new.site)) _ _ _ _ update.result.log update.result.stopped _ _ c.status_of-status.ensures c.print.ensures.ends
+    update.ensures.counted_cause (update.ensures.cause tells) tt
 
--- src/update.rt:17:1
+pub returns-clause-told : goal.returns-clause-told
+returns-clause-told g c = λ tells.
+    let update = c.update_site-rules in
+    counts_all (g.S.Site.world c.args.site.now) _ _ update.result.log update.result.stopped _ _ c.status_of-status.ensures c.print.ensures.ends (update.ensures.logged tells)
+
+pub returns-clause-counted_cause : goal.returns-clause-counted_cause
+returns-clause-counted_cause g c =
+    let update = c.update_site-rules in
+    counted_cause (counts g.S.Site.faults g.K.Sink.faults c.args.site.now c.args.out.now) (counts g.S.Site.faults g.K.Sink.faults update.new.site c.print.new.out)
+    update.result.log update.result.stopped _ _ c.status_of-status.ensures c.print.ensures.ends c.print.ensures.counted update.ensures.counted_cause
+
 pub returns-clause-printed : goal.returns-clause-printed
 returns-clause-printed g c = λ tells shows.
     let update = c.update_site-rules in

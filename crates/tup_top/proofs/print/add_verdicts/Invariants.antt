@@ -3,7 +3,7 @@ use Rattle.std.specs.List.{flat_map, zip}
 use Rattle.std.specs.Slice.Iter.{iter_rest}
 use Rattle.std.specs.Iterator.Adapters.{zip_first, zip_second}
 use Rattle.tup_top.specs.Lines as specs
-use Rattle.tup_top.proofs.lines.add_verdicts.Given as goal
+use Rattle.tup_top.proofs.print.add_verdicts.Given as goal
 
 abbrev pub invariant-loop-rule : goal.invariant-loop-rule
 invariant-loop-rule l =

@@ -2,7 +2,7 @@ use Rattle.std.proofs.Common.{◌≡◌, ◌⊎◌, inl, inr, ◌++◌, List, []
 use Rattle.std.proofs.lemmas.Slice.Zip.{either_empty_from_Zip}
 use Rattle.std.specs.List.{flat_map, zip}
 use Rattle.tup_top.specs.Lines as specs
-use Rattle.tup_top.proofs.lines.add_verdicts.Goals as goal
+use Rattle.tup_top.proofs.print.add_verdicts.Goals as goal
 
 zip_none : {A B : Type 0} (xs : List A) (ys : List B) → (xs ≡ []) ⊎ (ys ≡ []) → zip xs ys ≡ []
 zip_none [] ys spent = refl

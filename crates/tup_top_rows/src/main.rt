@@ -1,0 +1,16 @@
+//! Answers the rows of `data/` on the whole program, over a project in memory.
+#![tactic(auto)]
+
+mod session;
+
+use session::Session;
+use std::io;
+use tup_rows::try_file;
+
+fn main(rt: HostRuntime) -> io::Result<()> {
+    let alloc = rt.alloc();
+    match Session::new(alloc, 0) {
+        Ok(mut session) => try_file(&rt, alloc, "tup.rows", &mut session),
+        Err(fault) => println!(rt; "tup.rows: {fault}"),
+    }
+}
