@@ -1,7 +1,8 @@
 //! `tup`, the program: words in, lines out, an exit number.
 //!
 //! All that it does is `tup_top::tup` over the real files below the working folder. What stands here reads the
-//! words and writes to standard output; it is tested, and proved to be safe, but it makes no promise of its own.
+//! words and writes to standard output, and to standard error what the system said of a call that failed; it is
+//! tested, and proved to be safe, but it makes no promise of its own.
 #![tactic(auto)]
 
 mod output;
@@ -27,7 +28,8 @@ Exit numbers: 0 done, 1 a command's fault, 2 usage, 4 damaged store, 5 fault in 
 7 the file tree or the store failed, 9 the output failed, 11 over a limit, 12 no memory.
 ";
 
-const VERSION: &str = "tup 0.1\n";
+/// The version, which stands here alone.
+const VERSION: &str = "0.1";
 
 fn main(rt: HostRuntime) -> ExitCode {
     let status = match words(&rt, rt.alloc()) {
@@ -42,14 +44,19 @@ fn answer(rt: HostRuntime, alloc: Global, words: &[Word]) -> u8 {
     if let [word] = words {
         match word.0.as_str() {
             "--help" => return shown(print!(rt; "{HELP}")),
-            "--version" => return shown(print!(rt; "{VERSION}")),
+            "--version" => return shown(println!(rt; "tup {VERSION}")),
             _ => {}
         }
     }
-    match FsSite::new(rt, alloc, ".") {
-        Ok(site) => tup(alloc, words, site, &mut Output::new(&rt)).status.exit(),
-        Err(_) => told(&rt, Status::Memory),
+    let Ok(site) = FsSite::new(rt, alloc, ".") else {
+        return told(&rt, Status::Memory);
+    };
+    let ran = tup(alloc, words, site, &mut Output::new(&rt));
+    if let Some(failure) = ran.site.last() {
+        // Words that can't be printed change nothing: the exit number tells as much.
+        drop(eprintln!(rt; "tup: {failure}"));
     }
+    ran.status.exit()
 }
 
 /// The exit number of a text that was to be printed.
