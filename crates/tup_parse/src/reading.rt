@@ -140,7 +140,7 @@ fn read_line(
     ensures ok { OnOk result ((sources : List Names)
         → HasOccupants occupants.old sources (specs.rules_in placed.old)
         → (specs.with_line sources line placed.old text.now ≡ Ok placed.new)
-            × HasOccupants occupants.new sources (specs.rules_in placed.new)) }
+        × HasOccupants occupants.new sources (specs.rules_in placed.new)) }
     ensures err { IfErr result (λ end. (sources : List Names)
         → HasOccupants occupants.old sources (specs.rules_in placed.old)
         → (end ≡ ReadEnd.Memory) ⊎ (specs.with_line sources line placed.old text.now ≡ Err end)) }

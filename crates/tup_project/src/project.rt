@@ -22,11 +22,7 @@ use tup_rule::Rules;
 /// `Fault` names the first fault in this order: a tup.config, a line of the Tupfile from top to bottom, a Tupfile
 /// below the top, a command that isn't one of the small ones or doesn't keep to its rule's files (`UnknownLine`), and
 /// a command that two rules have.
-pub fn read_rules(
-    alloc: Global,
-    sources: &Paths,
-    tupfile: Option<&Bytes>,
-) -> Result<Rules, ReadEnd>
+pub fn read_rules(alloc: Global, sources: &Paths, tupfile: Option<&Bytes>) -> Result<Rules, ReadEnd>
     requires { IfSome tupfile (λ content. length content.now < 2 ^ 32) }
     ensures read { GivesUnless result ReadEnd.Memory
         (specs.rules_of sources.now (option_map (λ c. c.now) tupfile.entry)) }

@@ -189,7 +189,11 @@ fn files_are_found(rt: HostRuntime) -> Result<(), Fail> {
             Some(content) => Some(bytes(alloc, content)?),
             None => None,
         };
-        assert_eq!(rt; site.get(alloc, &Path::from_top(alloc, text)?)?, want, "{text}");
+        assert_eq!(rt;
+            site.get(alloc, &Path::from_top(alloc, text)?)?,
+            want,
+            "{text}"
+        );
     }
     assert_eq!(rt; site.faults(), 0);
     fs::remove_dir_all(&rt, folder)?;
@@ -234,7 +238,11 @@ fn files_are_put(rt: HostRuntime) -> Result<(), Fail> {
         ("there", "x", Err(SiteFailed::Fault)),
         ("mine/x", "x", Err(SiteFailed::Fault)),
     ] {
-        let put = site.put(alloc, &Path::from_top(alloc, text)?, &bytes(alloc, content)?);
+        let put = site.put(
+            alloc,
+            &Path::from_top(alloc, text)?,
+            &bytes(alloc, content)?,
+        );
         assert_eq!(rt; put, want, "{text}");
     }
     assert_eq!(rt; site.faults(), 4);
@@ -270,7 +278,11 @@ fn files_are_removed(rt: HostRuntime) -> Result<(), Fail> {
         ("folder/mine", Ok(())),
         ("file", Err(SiteFailed::Fault)),
     ] {
-        assert_eq!(rt; site.remove(alloc, &Path::from_top(alloc, text)?), want, "{text}");
+        assert_eq!(rt;
+            site.remove(alloc, &Path::from_top(alloc, text)?),
+            want,
+            "{text}"
+        );
     }
     site.settle(alloc)?;
     for (rest, want) in [
