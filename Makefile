@@ -2,7 +2,7 @@
 PREFIX ?= /usr/local
 TUP = crates/tup/out/tup
 MAN = $(DESTDIR)$(PREFIX)/share/man/man1/tup.1
-VERSION = $(shell sed -n 's/^const VERSION: &str = "tup \(.*\)\\n";/\1/p' crates/tup/src/main.rt)
+VERSION = $(shell sed -n 's/^const VERSION: &str = "\(.*\)";/\1/p' crates/tup/src/main.rt)
 
 .PHONY: help build demo test try fmt times install uninstall clean
 
