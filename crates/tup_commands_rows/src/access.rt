@@ -86,11 +86,9 @@ fn ended(alloc: Global, arguments: &Words) -> Result<Ended, RowFault> {
         return Err(RowFault::OtherKind);
     };
     let mut writes = Items::new(alloc);
-    let mut at = 1;
-    while at + 1 < arguments.len() {
-        let to = text(alloc, arguments.text(at)?)?;
-        writes.push((to, content(alloc, arguments.bytes(at + 1)?)?))?;
-        at += 2;
+    for write in 0..arguments.len() / 2 {
+        let to = text(alloc, arguments.text(2 * write + 1)?)?;
+        writes.push((to, content(alloc, arguments.bytes(2 * write + 2)?)?))?;
     }
     Ok(Ended { status, writes })
 }

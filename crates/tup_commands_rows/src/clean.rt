@@ -1,5 +1,5 @@
 //! The calls of `clean.rows`.
-ghost use Rattle.std.specs.Prelude.{IsTrue, IfOk};
+ghost use Rattle.std.specs.Prelude.{◌<◌, ◌+◌, ◌^◌, IsTrue, IfOk};
 ghost use Rattle.std.specs.FinMap as finite;
 ghost use Rattle.tup_path.specs.Order.{by_names};
 
@@ -50,20 +50,25 @@ fn sources(alloc: Global) -> Result<Files, RowFault>
 /// Four words for each rule.
 fn rules(alloc: Global, arguments: &Words) -> Result<Vec<Rule>, RowFault> {
     let mut rules = Vec::new(alloc);
-    let mut at = 0;
-    while at + 3 < arguments.len() {
-        rules.push(Rule {
-            dir: Path::top(alloc),
-            text: text(alloc, arguments.text(at)?)?,
-            display: None,
-            compare: false,
-            inputs: paths(alloc, arguments.text(at + 1)?)?,
-            order: paths(alloc, arguments.text(at + 2)?)?,
-            outputs: paths(alloc, arguments.text(at + 3)?)?,
-        })?;
-        at += 4;
+    for at in 0..arguments.len() / 4 {
+        rules.push(rule(alloc, arguments, 4 * at)?)?;
     }
     Ok(rules)
+}
+
+/// The rule whose words begin at a place.
+fn rule(alloc: Global, arguments: &Words, at: usize) -> Result<Rule, RowFault>
+    requires { at + 3 < 2 ^ 64 }
+{
+    Ok(Rule {
+        dir: Path::top(alloc),
+        text: text(alloc, arguments.text(at)?)?,
+        display: None,
+        compare: false,
+        inputs: paths(alloc, arguments.text(at + 1)?)?,
+        order: paths(alloc, arguments.text(at + 2)?)?,
+        outputs: paths(alloc, arguments.text(at + 3)?)?,
+    })
 }
 
 /// The verdict of each rule, and each file with its content.

@@ -36,7 +36,7 @@ fn next(alloc: Global, arguments: &Words) -> Result<Words, RowFault> {
 }
 
 fn answer(alloc: Global, word: &[u8]) -> Result<Answer, RowFault> {
-    if word == b"-" {
+    if word == b"-".as_slice() {
         Ok(Answer::Absent)
     } else {
         Ok(Answer::Content(content(alloc, word)?))
@@ -83,8 +83,8 @@ fn read(alloc: Global, command: &str) -> Result<Command, RowFault> {
     done(Command::read(alloc, &text(alloc, command)?))
 }
 
-fn done<T>(result: Result<T, MiniFault>) -> Result<T, RowFault> {
-    match result {
+fn done<T>(given: Result<T, MiniFault>) -> Result<T, RowFault> {
+    match given {
         Ok(value) => Ok(value),
         Err(MiniFault::Memory) => Err(RowFault::Memory),
     }
