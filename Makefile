@@ -4,12 +4,13 @@ TUP = crates/tup/out/tup
 MAN = $(DESTDIR)$(PREFIX)/share/man/man1/tup.1
 VERSION = $(shell sed -n 's/^const VERSION: &str = "\(.*\)";/\1/p' crates/tup/src/main.rt)
 
-.PHONY: help build demo test try fmt times install uninstall clean
+.PHONY: help build demo test try killed fmt times install uninstall clean
 
 help:
 	@echo 'make demo       builds the program and shows it on a copy of examples/hello'
 	@echo 'make test       the gate: every proof, every edit that must be refused, every test, the program as a user meets it'
 	@echo 'make try        the last part of the gate alone: the program over small projects, full disks, damaged stores'
+	@echo 'make killed     fails and kills each system call of an update in turn and looks at what is left (some minutes)'
 	@echo 'make install    builds it and puts it at $(PREFIX)/bin/tup, its page where `man tup` finds it'
 	@echo 'make uninstall  takes both away'
 	@echo 'make fmt        lays out every crate'
@@ -27,6 +28,9 @@ test:
 
 try: build
 	sh tests/program.sh $(TUP)
+
+killed: build
+	sh tests/killed.sh $(TUP)
 
 fmt:
 	for crate in crates/*; do (cd $$crate && rt fmt) || exit 1; done

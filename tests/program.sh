@@ -1,7 +1,7 @@
 #!/bin/sh
-# The program as a user meets it: runs the one given as the first word over small projects, each in a new folder, and compares lines, exit
-# numbers and files with what they have to be. It ends with 1 where something differs. What needs the superuser
-# (a full disk, a folder without permission) is passed over for others.
+# The program as a user meets it: runs the one given as the first word over small projects, each in a new folder, and
+# compares lines, exit numbers and files with what they have to be. It ends with 1 where something differs. What needs the
+# superuser (a full disk, files without permission) is passed over for others.
 set -u
 tup=$(realpath "$1")
 work=$(mktemp -d)
@@ -24,13 +24,18 @@ same() {
     printf 'differs: %s\n  wanted: %s\n  found:  %s\n' "$1" "$3" "$2"
 }
 
-# Runs the program with words: the row's name, its exit number, its lines with a semicolon behind each, the words.
+# Runs the program with words: the row's name, its exit number, its lines with a semicolon behind each, the words. Only
+# where a call of the system failed it says something on standard error.
 row() {
     name=$1 status=$2 lines=$3
     shift 3
     found=$("$tup" "$@" 2> "$work/said"; printf 'exit %s' "$?")
     same "$name" "$(printf '%s' "$found" | tr '\n' ';')" "${lines}exit $status"
+    if [ "$status" != 7 ]; then same "$name, standard error" "$(cat "$work/said")" ""; fi
 }
+
+# What the last row said on standard error: the place, and the system's words.
+said() { same "$name, standard error" "$(cat "$work/said")" "tup: $1"; }
 
 file() { same "$1" "$(cat "$2" 2>&1)" "$3"; }
 gone() { same "$1" "$(ls "$2" 2>/dev/null)" ""; }
@@ -112,19 +117,88 @@ file "the update is done" b hi
 project "$copy"
 echo mine > target && ln -s target b
 row "a link at the output" 7 'read .;fault: the file tree or the store failed;' upd
+said './b: entity already exists'
 file "its target" target mine
+project "$copy"
+mkdir b
+row "an empty folder at the output" 7 'read .;fault: the file tree or the store failed;' upd
+said './b: entity already exists'
+project "$copy"
+echo mine > .tup
+row "a file named .tup" 7 'fault: the file tree or the store failed;' upd
+said './.tup: not a directory'
+file "it stays" .tup mine
+project "$copy"
+mkdir -p .tup/db
+row "a folder at the store" 7 'fault: the file tree or the store failed;' upd
+said './.tup/db: entity already exists'
+gone "nothing was made" b
+
+# What a hurried user does wrong.
+line() {
+    project "$2"
+    row "$1" 5 'fault: Tupfile:1: unknown line, read for .;' upd
+    gone "$1, nothing was made" b
+}
+line "a shell's arrow in place of the rule's" ': a > b'
+line "no output" ': a |> cp a b |>'
+line "a rule of make" 'b: a'
+line "a tab" "$(printf ':\ta |> cp a b |> b')"
+line "line ends of another system" "$(printf ': a |> cp a b |> b\r')"
+line "a byte order mark" "$(printf '\357\273\277: a |> cp a b |> b')"
+line "a program of the system" ': a |> gcc a -o b |> b'
+line "another output than the rule's" ': a |> cp a c |> b'
+line "another input than the rule's" ': a |> cp Tupfile b |> b'
+line "an arrow without a blank behind it" ': a |> cat a >b |> b'
+line "an output in a folder" ': a |> cp a sub/b |> sub/b'
+line "an output above the project" ': a |> cp a ../b |> ../b'
+line "the Tupfile as an output" ': a |> cp a Tupfile |> Tupfile'
+line "a status that is none" ': a |> fail 256 |> b'
+project "$copy # a copy"
+row "a comment behind a rule" 5 'fault: Tupfile:1: unknown line, read for .;' upd
+project ': b |> cp b c |> c' "$copy"
+row "a rule before the one that makes its input" 5 'fault: Tupfile:1: missing input, read for .;' upd
+project ': b |> cp b b |> b'
+row "a rule that reads its own output" 5 'fault: Tupfile:1: missing input, read for .;' upd
+project "$copy" "$copy"
+row "a rule twice" 5 'fault: Tupfile:2: output named twice, read for .;' upd
+project
+printf ' : a |>  cp  a  b  |> b' > Tupfile
+row "blanks, and no last line feed" 0 'read .;run .: cp  a  b;done: 1 read, 1 run, 0 removed;' upd
+project "$copy"
+row "one update" 0 "$done_copy" upd
+rm a
+row "its source is deleted" 5 'fault: Tupfile:1: missing input, read for .;' upd
+file "what was made stands" b hi
+echo ho > a
+mv b c
+row "an output that was renamed is a source" 0 "$done_copy" upd
+file "its content" c hi
+file "the output" b ho
+rm -r .tup
+row "the store is deleted, and what was made is a source" 5 'fault: Tupfile:1: output is a source file, read for .;' upd
+file "it stays" b ho
+rm b
+row "without it" 0 "$done_copy" upd
+rm Tupfile
+row "the Tupfile is deleted" 0 'remove b;done: 0 read, 0 run, 1 removed;' upd
+file "the source stays" a ho
+for word in -h Upd '' --help=all; do row "the word '$word'" 2 'fault: usage, word 1;' "$word"; done
+row "two orders" 2 'fault: usage, word 2;' upd demo
+row "a word behind --version" 2 'fault: usage, word 1;' --version upd
+
 project ': big |> cp big b |> b'
 truncate -s 16777217 big
 row "a file that is too large" 11 'read .;fault: limit FileSize, 16777217;' upd
 
 rules=$(awk 'BEGIN { p = "a"; for (i = 1; i <= 200; i++) { printf ": %s |> cp %s f%d |> f%d\n", p, p, i, i; p = "f" i } }')
 project "$rules"
-same "200 rules in a chain" "$(timeout 20 "$tup" upd | tail -1)" 'done: 1 read, 200 run, 0 removed'
+same "200 rules in a chain" "$(timeout 60 "$tup" upd | tail -1)" 'done: 1 read, 200 run, 0 removed'
 file "the last of them" f200 hi
 inputs=$(awk 'BEGIN { for (i = 1; i <= 200; i++) printf "i%d ", i }')
 project ": $inputs|> cat $inputs> b |> b"
 for i in $inputs; do echo "$i" > "$i"; done
-same "a rule with 200 inputs" "$(timeout 20 "$tup" upd | tail -1)" 'done: 1 read, 1 run, 0 removed'
+same "a rule with 200 inputs" "$(timeout 60 "$tup" upd | tail -1)" 'done: 1 read, 1 run, 0 removed'
 same "all of them in order" "$(tr '\n' ' ' < b)" "$inputs"
 
 if [ "$(id -u)" = 0 ] && mkdir "$work/small" && mount -t tmpfs -o size=64k none "$work/small" 2> /dev/null; then
@@ -132,6 +206,7 @@ if [ "$(id -u)" = 0 ] && mkdir "$work/small" && mount -t tmpfs -o size=64k none 
     head -c 24576 /dev/zero > a
     printf '%s\n' "$copy" ': b |> cp b c |> c' > Tupfile
     row "a full disk" 7 'read .;run .: cp a b;fault: the file tree or the store failed;' upd
+    said './.tup/new: No space left on device (os error 28)'
     same "a full disk, the source" "$(wc -c < a)" 24576
     mount -o remount,size=1m "$work/small"
     row "room was made" 0 'read .;run .: cp a b;run .: cp b c;done: 1 read, 2 run, 0 removed;' upd
@@ -139,13 +214,31 @@ if [ "$(id -u)" = 0 ] && mkdir "$work/small" && mount -t tmpfs -o size=64k none 
 else
     echo "passed over: a full disk"
 fi
-project "$copy"
+
 if [ "$(id -u)" = 0 ] && command -v setpriv > /dev/null; then
-    chmod 755 "$work" . && cp "$tup" "$work/tup" && chmod 755 "$work/tup"
-    same "no permission" "$(setpriv --reuid 65534 --regid 65534 --clear-groups "$work/tup" upd; echo "exit $?")" "$(printf 'read .\nfault: the file tree or the store failed\nexit 7')"
-    file "no permission, the source" a hi
+    chmod 755 "$work"
+    cp "$tup" "$work/tup" && chmod 755 "$work/tup" && tup=$work/tup
+    # Runs a row as nobody.
+    nobody() {
+        name=$1
+        found=$(setpriv --reuid 65534 --regid 65534 --clear-groups "$tup" upd 2> "$work/said"; printf 'exit %s' "$?")
+        same "$name" "$(printf '%s' "$found" | tr '\n' ';')" "$2exit 7"
+    }
+    project "$copy"
+    chmod 755 .
+    nobody "a folder without permission" 'read .;fault: the file tree or the store failed;'
+    said './.tup: Permission denied (os error 13)'
+    file "its source" a hi
+    project "$copy"
+    chmod 777 . && chmod 600 a
+    nobody "a source without permission" 'read .;fault: the file tree or the store failed;'
+    said './a: Permission denied (os error 13)'
+    project "$copy"
+    chmod 777 . && mkdir -m 700 sub
+    nobody "a folder that nobody may look into" 'fault: the file tree or the store failed;'
+    said './sub: Permission denied (os error 13)'
 else
-    echo "passed over: a folder without permission"
+    echo "passed over: files without permission"
 fi
 
 if [ "$failures" -gt 0 ]; then

@@ -1,0 +1,136 @@
+#!/bin/sh
+# Each system call of an update over real files is failed and killed in turn, by strace: whatever stops the program, no
+# source may be lost, and the next update has to end with `done` and leave just the files of a clean build. Words: the
+# program, and the projects to try (none: all). It ends with 1 where something else came, and says so. It takes some
+# minutes, and is no part of the gate.
+set -u
+tup=$(realpath "$1")
+shift
+if ! strace -o /dev/null true 2> /dev/null; then
+    echo "passed over: there is no strace, or it may not trace"
+    exit 0
+fi
+work=$(mktemp -d)
+trap 'cd /; rm -rf "$work"' EXIT
+calls=%file,%desc
+failures=0
+all=0
+
+wrong() {
+    failures=$((failures + 1))
+    printf 'wrong: %s: %s\n' "$what" "$1"
+}
+
+# The projects: each makes itself in an empty working folder, up to the update that is to be stopped. A user's files have
+# names that aren't outputs of any rule that ever stood there.
+
+three_rules() {
+    printf 'head\n' > head
+    printf 'body\n' > body
+    printf '%s\n' ': head |> cp head top |> top' ': top body |> cat top body > page |> page' ': page |> cp page index |> index' > Tupfile
+}
+
+# One rule has vanished, one command and a source have changed, and a user has written over an output and deleted another.
+after_changes() {
+    three_rules
+    printf '%s\n' ': body |> cp body old |> old' >> Tupfile
+    "$tup" > /dev/null
+    printf 'new body\n' > body
+    printf '%s\n' ': body |> cp body top |> top' ': top body |> cat top body > page |> page' ': page |> cp page index |> index' > Tupfile
+    printf 'mine\n' > page
+    rm index
+}
+
+# The list of owned paths `a`, `az` becomes `az`: were it written in place, its old end would name `z`.
+shorter_list() {
+    printf 'source\n' > source
+    printf 'of the user\n' > z
+    printf '%s\n' ': source |> cp source a |> a' ': source |> cat source > az |> az' > Tupfile
+    "$tup" > /dev/null
+    printf '%s\n' ': source |> cat source > az |> az' > Tupfile
+}
+
+# An earlier update was killed: its new list and a content that it was writing are still there.
+after_a_kill() {
+    three_rules
+    "$tup" > /dev/null
+    printf 'index\npa' > .tup/db.new
+    printf 'half of a con' > .tup/new
+    printf '%s\n' ': body |> cp body page |> page' > Tupfile
+}
+
+# The files that aren't the program's, with their contents: all but the outputs of now and before.
+sources() {
+    for file in *; do
+        case $file in
+            top | page | index | old | a | az) ;;
+            *) printf '%s: ' "$file"; cat "$file" ;;
+        esac
+    done
+}
+
+files() {
+    for file in *; do printf '%s: ' "$file"; cat "$file"; done
+}
+
+# Stops the update of a project at one call, and looks at what is left. Words: the project, the call, its number, what is done to it.
+stop() {
+    rm -rf "$work/now" && cp -a "$work/project" "$work/now" && cd "$work/now" || exit 1
+    what="$1, $2 number $3, $4"
+    strace -o /dev/null -e trace="$2" -e inject="$2:$4:when=$3" "$tup" > "$work/told" 2> "$work/said"
+    exit=$?
+    all=$((all + 1))
+    printf '%s exit %s\n' "$4" "$exit" >> "$work/exits"
+    [ "$(sources)" = "$wanted_sources" ] || wrong "a source is lost"
+    case "$4 $exit" in
+        signal*' 137') ;;
+        error*' 0') [ "$(files)" = "$wanted_files" ] || wrong "exit 0, and the files aren't those of a clean build" ;;
+        error*' 7') grep -q '^tup: .*(os error [0-9]*)$' "$work/said" || wrong "exit 7, and nobody says why: $(cat "$work/said")" ;;
+        error*' 9') [ "$(files)" = "$wanted_files" ] || wrong "exit 9, and the files aren't those of a clean build" ;;
+        *) wrong "exit $exit: $(tail -1 "$work/told")" ;;
+    esac
+    next=$("$tup" 2>&1)
+    case "$? $next" in
+        '0 '*'done: '*) ;;
+        *) wrong "the next update: $next" ;;
+    esac
+    [ "$(sources)" = "$wanted_sources" ] || wrong "a source is lost in the next update"
+    [ "$(files)" = "$wanted_files" ] || wrong "the next update's files aren't those of a clean build"
+    [ "$(ls .tup)" = db ] || wrong "more than the store is left in .tup: $(ls .tup | tr '\n' ' ')"
+}
+
+# All calls of the update of a project, from the first that names one of its files on.
+try() {
+    rm -rf "$work/project" "$work/clean" && mkdir "$work/project" "$work/clean" && cd "$work/project" || exit 1
+    "$1"
+    wanted_sources=$(sources)
+    for file in *; do
+        case $file in
+            top | page | index | old | a | az) ;;
+            *) cp "$file" "$work/clean" ;;
+        esac
+    done
+    cd "$work/clean" && "$tup" > /dev/null || echo "the clean build of $1 isn't done"
+    wanted_files=$(files)
+    rm -rf "$work/now" && cp -a "$work/project" "$work/now" && cd "$work/now" || exit 1
+    strace -o "$work/trace" -e trace="$calls" "$tup" > /dev/null
+    awk '{ name = $0; sub(/\(.*/, "", name); count[name]++ } /"\.\// { begun = 1 } begun && name ~ /^[a-z]/ && name !~ /^mmap/ { print name, count[name] }' "$work/trace" > "$work/list"
+    : > "$work/exits"
+    while read -r call number; do
+        stop "$1" "$call" "$number" error=EIO
+        stop "$1" "$call" "$number" signal=KILL
+        case $call in
+            *write* | *copy* | sendfile | open* | mkdir* | rename* | *sync | ftruncate) stop "$1" "$call" "$number" error=ENOSPC ;;
+        esac
+    done < "$work/list"
+    printf '%s: %s calls, each failed and killed:\n' "$1" "$(wc -l < "$work/list")"
+    sort "$work/exits" | uniq -c | sed 's/^ *\([0-9]*\) /  \1 times /'
+}
+
+for project in ${*:-three_rules after_changes shorter_list after_a_kill}; do try "$project"; done
+
+if [ "$failures" -gt 0 ]; then
+    echo "$failures of $all updates that were stopped went wrong"
+    exit 1
+fi
+echo "$all updates were stopped; no source was lost, and each next update was done"
