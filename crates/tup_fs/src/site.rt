@@ -133,6 +133,3 @@ impl<R: Files<File = File> + Clone + Drop + Send> Site for FsSite<R> {
         self.faults
     }
 }
-
-#[cfg(test)]
-mod tests;
