@@ -20,7 +20,7 @@ impl Answers for Parse {
     fn answer(&mut self, alloc: Global, call: &str, arguments: &Words) -> Result<Words, RowFault> {
         let sources = sources(alloc, arguments.text(0)?)?;
         match call {
-            "parse" => parse(alloc, &sources, arguments.bytes(1)?),
+            "parse" => lines_of(alloc, &sources, arguments.bytes(1)?),
             "project" => project(alloc, &sources, arguments.bytes(1)?),
             "bare" => told(alloc, &read_rules(alloc, &sources, None)),
             _ => Err(RowFault::NoSuchCall),
@@ -40,7 +40,7 @@ fn sources(alloc: Global, texts: &str) -> Result<Paths, RowFault> {
     Ok(paths)
 }
 
-fn parse(alloc: Global, sources: &Paths, tupfile: &[u8]) -> Result<Words, RowFault> {
+fn lines_of(alloc: Global, sources: &Paths, tupfile: &[u8]) -> Result<Words, RowFault> {
     if tupfile.len() > 65535 {
         return Err(RowFault::OtherKind);
     }

@@ -324,6 +324,3 @@ impl Site for MemSite {
         self.faults
     }
 }
-
-#[cfg(test)]
-mod tests;
