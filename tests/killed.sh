@@ -115,6 +115,8 @@ try() {
     rm -rf "$work/now" && cp -a "$work/project" "$work/now" && cd "$work/now" || exit 1
     strace -o "$work/trace" -e trace="$calls" "$tup" > /dev/null
     awk '{ name = $0; sub(/\(.*/, "", name); count[name]++ } /"\.\// { begun = 1 } begun && name ~ /^[a-z]/ && name !~ /^mmap/ { print name, count[name] }' "$work/trace" > "$work/list"
+    what=$1
+    [ -s "$work/list" ] || wrong "no call of the update was found"
     : > "$work/exits"
     while read -r call number; do
         stop "$1" "$call" "$number" error=EIO
