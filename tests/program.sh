@@ -190,6 +190,12 @@ row "a word behind --version" 2 'fault: usage, word 1;' --version upd
 project ': big |> cp big b |> b'
 truncate -s 16777217 big
 row "a file that is too large" 11 'read .;fault: limit FileSize, 16777217;' upd
+project
+truncate -s 16777217 Tupfile
+row "a Tupfile that is too large" 11 'fault: limit FileSize, 16777217;' upd
+project "$copy"
+truncate -s 16777217 big
+row "a large file that nobody reads" 0 "$done_copy" upd
 
 rules=$(awk 'BEGIN { p = "a"; for (i = 1; i <= 200; i++) { printf ": %s |> cp %s f%d |> f%d\n", p, p, i, i; p = "f" i } }')
 project "$rules"
