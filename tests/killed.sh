@@ -1,8 +1,8 @@
 #!/bin/sh
 # Each system call of an update over real files is failed and killed in turn, by strace: whatever stops the program, no
-# source may be lost, and the next update has to end with `done` and leave just the files of a clean build. Words: the
-# program, and the projects to try (none: all). It ends with 1 where something else came, and says so. It takes some
-# minutes, and is no part of the gate.
+# source may be lost, and the next update has to end with `done` and leave just the files of a clean build. Before, the
+# order of its syncs is looked at: no clause speaks of what is durable. Words: the program, and the projects to try (none:
+# all). It ends with 1 where something else came, and says so. It takes some minutes, and is no part of the gate.
 set -u
 tup=$(realpath "$1")
 shift
@@ -99,6 +99,28 @@ stop() {
     [ "$(ls .tup)" = db ] || wrong "more than the store is left in .tup: $(ls .tup | tr '\n' ' ')"
 }
 
+# What a trace of an update shows of its syncs: the list of owned paths is synced before it is put into its place, and its
+# folder behind that; before a new list is there, each file that was put is synced, and the folder in which names came and went.
+unsynced() {
+    awk '
+        { path = "" }
+        /^rename\("\.\/\.tup\/new", / { split($0, part, "\""); waiting[part[4]]; waiting["."] }
+        /^unlink\("\.\/[^.]/ { waiting["."] }
+        /^f(data)?sync\(/ && / = 0$/ { path = $0; sub(/^[a-z]*\([0-9]*</, "", path); sub(/>\).*/, "", path); sub(/^.*\/now/, ".", path) }
+        path != "" { delete waiting[path]; synced[path] }
+        /^rename\("\.\/\.tup\/db\.new", / {
+            for (path in waiting) print path " isn\047t durable before the new list is there"
+            if (!("./.tup/db.new" in synced)) print "the new list isn\047t durable before it is put into its place"
+            delete synced["./.tup/db.new"]
+            delete synced["./.tup"]
+            lists++
+        }
+        END {
+            if (lists != 2) print lists + 0 " lists were put into their place, not 2"
+            if (!("./.tup" in synced)) print "the folder of the list isn\047t synced behind it"
+        }' "$work/trace"
+}
+
 # All calls of the update of a project, from the first that names one of its files on.
 try() {
     rm -rf "$work/project" "$work/clean" && mkdir "$work/project" "$work/clean" && cd "$work/project" || exit 1
@@ -113,10 +135,12 @@ try() {
     cd "$work/clean" && "$tup" > /dev/null || echo "the clean build of $1 isn't done"
     wanted_files=$(files)
     rm -rf "$work/now" && cp -a "$work/project" "$work/now" && cd "$work/now" || exit 1
-    strace -o "$work/trace" -e trace="$calls" "$tup" > /dev/null
+    strace -y -o "$work/trace" -e trace="$calls" "$tup" > /dev/null
     awk '{ name = $0; sub(/\(.*/, "", name); count[name]++ } /"\.\// { begun = 1 } begun && name ~ /^[a-z]/ && name !~ /^mmap/ { print name, count[name] }' "$work/trace" > "$work/list"
     what=$1
     [ -s "$work/list" ] || wrong "no call of the update was found"
+    late=$(unsynced)
+    [ -z "$late" ] || wrong "$late"
     : > "$work/exits"
     while read -r call number; do
         stop "$1" "$call" "$number" error=EIO
