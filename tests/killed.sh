@@ -12,6 +12,7 @@ if ! strace -o /dev/null true 2> /dev/null; then
 fi
 work=$(mktemp -d)
 trap 'cd /; rm -rf "$work"' EXIT
+trap 'exit 1' INT TERM
 calls=%file,%desc
 failures=0
 all=0
