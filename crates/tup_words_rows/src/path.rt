@@ -1,5 +1,5 @@
 //! The calls of `path.rows`.
-use crate::said::{path_at, repeated_at, text_at, written, yes_or_no};
+use crate::said::{digits, path_at, path_word, repeated_at, shown, text_at, text_word, yes_or_no};
 use std::alloc::Global;
 use std::cmp::Ordering;
 use std::fs::Files;
@@ -23,8 +23,8 @@ impl Answers for PathRows {
             "join" => join(alloc, said),
             "long" => long(alloc, repeated_at(alloc, said, 0)?),
             "join_long" => join_long(alloc, repeated_at(alloc, said, 0)?),
-            "show" => shown(alloc, path_at(alloc, said, 0)?.show(alloc)),
-            "display" => written(alloc, &path_at(alloc, said, 0)?),
+            "show" => way(alloc, path_at(alloc, said, 0)?.show(alloc)),
+            "display" => display(alloc, &path_at(alloc, said, 0)?),
             "show_from" => show_from(alloc, said),
             "parent" => parent(alloc, &path_at(alloc, said, 0)?),
             "below" => below(alloc, said),
@@ -42,7 +42,7 @@ impl Answers for PathRows {
 /// A path that was found, as it is written.
 fn place(alloc: Global, found: Result<Path, PathFault>) -> Result<Words, RowFault> {
     match found {
-        Ok(path) => written(alloc, &path),
+        Ok(path) => path_word(alloc, &path),
         Err(fault) => refused(alloc, fault),
     }
 }
@@ -50,16 +50,21 @@ fn place(alloc: Global, found: Result<Path, PathFault>) -> Result<Words, RowFaul
 /// How many names a path has that was found.
 fn depth(alloc: Global, found: Result<Path, PathFault>) -> Result<Words, RowFault> {
     match found {
-        Ok(path) => written(alloc, &path.depth()),
+        Ok(path) => Words::one(alloc, digits(alloc, path.depth())?.as_bytes()),
         Err(fault) => refused(alloc, fault),
     }
 }
 
-fn shown(alloc: Global, text: Result<Text, PathFault>) -> Result<Words, RowFault> {
+/// How a path is written, or why it isn't.
+fn way(alloc: Global, text: Result<Text, PathFault>) -> Result<Words, RowFault> {
     match text {
-        Ok(text) => written(alloc, &text),
+        Ok(text) => text_word(alloc, &text),
         Err(fault) => refused(alloc, fault),
     }
+}
+
+fn display(alloc: Global, path: &Path) -> Result<Words, RowFault> {
+    Words::one(alloc, format!(in alloc; "{path}")?.as_bytes())
 }
 
 fn refused(alloc: Global, fault: PathFault) -> Result<Words, RowFault> {
@@ -94,12 +99,12 @@ fn join_long(alloc: Global, bytes: Vec<u8>) -> Result<Words, RowFault> {
 
 fn show_from(alloc: Global, said: &Words) -> Result<Words, RowFault> {
     let folder = path_at(alloc, said, 0)?;
-    shown(alloc, path_at(alloc, said, 1)?.show_from(alloc, &folder))
+    way(alloc, path_at(alloc, said, 1)?.show_from(alloc, &folder))
 }
 
 fn parent(alloc: Global, path: &Path) -> Result<Words, RowFault> {
     match path.parent(alloc) {
-        Ok(Some(folder)) => written(alloc, &folder),
+        Ok(Some(folder)) => path_word(alloc, &folder),
         Ok(None) => Words::one(alloc, b"none"),
         Err(fault) => refused(alloc, fault),
     }
@@ -112,7 +117,7 @@ fn below(alloc: Global, said: &Words) -> Result<Words, RowFault> {
 
 /// The count of a path's names, and the names.
 fn names(alloc: Global, path: &Path) -> Result<Words, RowFault> {
-    let mut words = written(alloc, &path.depth())?;
+    let mut words = Words::one(alloc, digits(alloc, path.depth())?.as_bytes())?;
     for at in 0..path.depth() {
         words.add(alloc, path.name(at).as_str().as_bytes())?;
     }
@@ -144,14 +149,14 @@ fn list(alloc: Global, said: &Words) -> Result<Words, RowFault> {
     }
     let mut words = Words::new(alloc);
     for path in copy.as_slice() {
-        words.add(alloc, format!(in alloc; "{path}")?.as_bytes())?;
+        words.add(alloc, shown(alloc, path)?.as_str().as_bytes())?;
     }
     Ok(words)
 }
 
 fn text(alloc: Global, bytes: Vec<u8>) -> Result<Words, RowFault> {
     match Text::new(Bytes::new(bytes)) {
-        Some(text) => written(alloc, &text),
+        Some(text) => text_word(alloc, &text),
         None => Words::one(alloc, b"none"),
     }
 }
@@ -159,5 +164,5 @@ fn text(alloc: Global, bytes: Vec<u8>) -> Result<Words, RowFault> {
 fn push_str(alloc: Global, said: &Words) -> Result<Words, RowFault> {
     let mut text = text_at(alloc, said, 0)?;
     text.push_str(said.text(1)?)?;
-    written(alloc, &text)
+    text_word(alloc, &text)
 }

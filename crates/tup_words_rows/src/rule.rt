@@ -1,5 +1,5 @@
 //! The calls of `rule.rows`.
-use crate::said::{done, path_at, text_at, written, yes_or_no};
+use crate::said::{digits, done, path_at, path_word, shown, text_at, text_word, yes_or_no};
 use std::alloc::{AllocError, Global};
 use std::fs::Files;
 use std::io;
@@ -55,20 +55,18 @@ impl RuleRows {
     }
 
     fn name(&self, alloc: Global) -> Result<Words, RowFault> {
-        match self.rule.name(alloc) {
-            Ok(name) => {
-                let mut words = written(alloc, &name.dir)?;
-                words.add(alloc, name.text.as_str().as_bytes())?;
-                Ok(words)
-            }
-            Err(fault) => Words::refused(alloc, format!(in alloc; "{fault}")?.as_str()),
-        }
+        let Ok(name) = self.rule.name(alloc) else {
+            return Err(RowFault::Memory);
+        };
+        let mut words = path_word(alloc, &name.dir)?;
+        words.add(alloc, name.text.as_str().as_bytes())?;
+        Ok(words)
     }
 
     fn label(&self, alloc: Global) -> Result<Words, RowFault> {
         match self.rule.label(alloc) {
-            Ok(label) => written(alloc, &label),
-            Err(fault) => Words::refused(alloc, format!(in alloc; "{fault}")?.as_str()),
+            Ok(label) => text_word(alloc, &label),
+            Err(_) => Err(RowFault::Memory),
         }
     }
 }
@@ -146,7 +144,7 @@ fn texts(alloc: Global, said: &Words) -> Result<Items<Text>, RowFault> {
 fn kept(alloc: Global, told: Told) -> Result<Words, RowFault> {
     match told.clone()?.noted().clone()? {
         Noted::Content(Some(stamp)) => Words::one(alloc, &hex(&stamp)),
-        Noted::Config(Some(value)) => written(alloc, &value),
+        Noted::Config(Some(value)) => text_word(alloc, &value),
         Noted::Content(None) | Noted::Config(None) => Words::one(alloc, b"none"),
         Noted::Names(names) => listed(alloc, &names),
         Noted::Kind(kind) => Words::one(
@@ -218,15 +216,15 @@ fn draft(alloc: Global, said: &Words) -> Result<Draft, RowFault> {
 
 /// What a draft says, in the order of the row's arguments.
 fn summary(alloc: Global, draft: &Draft) -> Result<Words, RowFault> {
-    let mut words = written(alloc, &draft.file)?;
-    words.add(alloc, format!(in alloc; "{}", draft.line)?.as_bytes())?;
+    let mut words = path_word(alloc, &draft.file)?;
+    words.add(alloc, digits(alloc, draft.line as usize)?.as_bytes())?;
     for piece in draft.pieces.as_slice() {
         if let Piece::Text(text) = piece {
             words.add(alloc, text.as_str().as_bytes())?;
         }
     }
     for group in draft.groups.as_slice() {
-        words.add(alloc, format!(in alloc; "{}", group.dir)?.as_bytes())?;
+        words.add(alloc, shown(alloc, &group.dir)?.as_str().as_bytes())?;
         words.add(alloc, group.name.as_str().as_bytes())?;
     }
     Ok(words)

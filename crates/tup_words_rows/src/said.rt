@@ -1,6 +1,5 @@
 //! What the rows of all three files say: paths, texts, and answers of one kind.
 use std::alloc::Global;
-use std::fmt::Display;
 use tup_path::{Path, PathFault, Text};
 use tup_rows::{RowFault, Words};
 
@@ -31,9 +30,27 @@ pub(crate) fn repeated_at(
     Ok(bytes)
 }
 
-/// A value as it is written.
-pub(crate) fn written<T: Display>(alloc: Global, value: &T) -> Result<Words, RowFault> {
-    Words::one(alloc, format!(in alloc; "{value}")?.as_bytes())
+/// A path as it is written.
+pub(crate) fn shown(alloc: Global, path: &Path) -> Result<Text, RowFault> {
+    match path.show(alloc) {
+        Ok(text) => Ok(text),
+        Err(_) => Err(RowFault::Memory),
+    }
+}
+
+/// One word: a path as it is written.
+pub(crate) fn path_word(alloc: Global, path: &Path) -> Result<Words, RowFault> {
+    text_word(alloc, &shown(alloc, path)?)
+}
+
+/// One word: a text.
+pub(crate) fn text_word(alloc: Global, text: &Text) -> Result<Words, RowFault> {
+    Words::one(alloc, text.as_str().as_bytes())
+}
+
+/// A number in decimal digits.
+pub(crate) fn digits(alloc: Global, number: usize) -> Result<String, RowFault> {
+    Ok(format!(in alloc; "{number}")?)
 }
 
 pub(crate) fn yes_or_no(alloc: Global, yes: bool) -> Result<Words, RowFault> {
