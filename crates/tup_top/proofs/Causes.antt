@@ -1,5 +1,5 @@
 -- How an order ends whose update came out so: what is promised of the update holds of the status that tells of it.
-use Rattle.std.proofs.Common.{◌≡◌, ◌⊎◌, inl, inr, ℕ, Bool, true, false, List, [], Option, None, Some, IfSome, refl, sym, ap, subst, ◌∙◌, append-nil}
+use Rattle.std.proofs.Common.{◌≡◌, inl, inr, ℕ, List, [], Option, None, Some, IfSome, refl, sym, ap, subst, ◌∙◌, append-nil}
 use Rattle.std.proofs.lemmas.Bool.{false≢true}
 use Rattle.tup_site.specs.World.{World}
 use Rattle.tup_site.specs.declared.fault.SiteFailed.TheVariants.{Fault, TooLarge, Memory as NoMemory}
@@ -12,7 +12,7 @@ use Rattle.tup_update.specs.declared.stop.Stop.TheVariants.{BadStore as StoreDam
 use Rattle.tup_top.specs.Lines.{lines}
 use Rattle.tup_top.specs.Promise.{CountsAll, Counts, HasCountedCause, HasDemoCause}
 use Rattle.tup_top.specs.Printed.{IsDone, Ends, Prints, Told, PrintsUpdate}
-use Rattle.tup_top.specs.Status.{status_of, status_of_outside, came_to}
+use Rattle.tup_top.specs.Status.{status_of, came_to}
 use Rattle.tup_top.specs.declared.status.What.TheVariants.{FileSize}
 use Rattle.tup_top.specs.declared.status.Status.{Status}
 use Rattle.tup_top.specs.declared.status.Status.TheVariants.{Done, Command, IllegalRead, IllegalWrite, Unwritten, TooManyReads, Usage, BadStore, Parse, SiteFault, SinkFault, Limit, Memory}

@@ -5,7 +5,6 @@ use Rattle.std.specs.FinMap as finite
 use Rattle.tup_path.specs.Name.{Names}
 use Rattle.tup_path.specs.Tree.{Tree}
 use Rattle.tup_site.specs.World.{World, TreeStays}
-use Rattle.tup_site.specs.Cause.{CountsFaults, OnlyLarge}
 use Rattle.tup_site.specs.declared.fault.SiteFailed.{SiteFailed}
 use Rattle.tup_site.specs.declared.fault.SiteFailed.TheVariants.{Fault, TooLarge, Memory}
 use Rattle.tup_rule.specs.declared.rule.Rule.{Rule}
@@ -15,16 +14,13 @@ use Rattle.tup_mini.specs.Mini.{mini_next}
 use Rattle.tup_clean.specs.Clean.{Build, clean}
 use Rattle.tup_parse.specs.declared.fault.ReadEnd.{ReadEnd}
 use Rattle.tup_parse.specs.declared.fault.ReadEnd.TheVariants.{Fault as ParseFailed, Memory as NotRead}
-use Rattle.tup_owned.specs.declared.fault.OwnedFault.{OwnedFault}
-use Rattle.tup_owned.specs.declared.fault.OwnedFault.TheVariants.{Damaged, Memory as NoRoom}
 use Rattle.tup_owned.specs.Owned.{owned_of, spelling}
 use Rattle.tup_owned.specs.Ascending.{ascending}
 use Rattle.tup_update.specs.Log.{up_to_first_bad, IsFront, IsGrownByFront, IsPartOf, IsEmptyLog, LogFits, RulesFit, whole_log, with_read}
-use Rattle.tup_update.specs.Outcome.{Keeps, HasCause, HasCountedCause, IsListed, IsLeft, NothingForgotten, SourcesStay, claimed}
-use Rattle.tup_update.specs.Outside.{HandsOn}
+use Rattle.tup_update.specs.Outcome.{Keeps, HasCause, IsListed, IsLeft, NothingForgotten, SourcesStay, claimed}
 use Rattle.tup_update.specs.Parts.{Changes, SameBeside, SameBesideOutputs, HasFileOf, IsBuilt, IsFirstBad, IsProject}
 use Rattle.tup_update.specs.Sources.{owned, rules_read, build, build_beside, files_beside, outputs, vanished, gone, left_over}
-use Rattle.tup_update.specs.Stopped.{stop_of, unread_of_owned, unread_of_reading}
+use Rattle.tup_update.specs.Stopped.{stop_of, unread_of_reading}
 use Rattle.tup_update.specs.declared.project.Project.{Project}
 use Rattle.tup_update.specs.declared.stop.Stop.TheVariants.{Bad, Outside}
 use Rattle.tup_update.specs.declared.stop.Unread.{Unread}
@@ -40,28 +36,7 @@ pub err_is : {A E : Type 0} (result : Result A E) (stop : E) → IsErrAnd result
 err_is {A} {E} (Ok value) stop is = absurd is
 err_is {A} {E} (Err given) stop is = ap (λ (e : E). Some e) is
 
--- ---- counted causes
-
--- a refusal of the site that is handed on
-pub counted : {A : Type 0} (failed : SiteFailed) (before now : ℕ) (called : Result A SiteFailed) → called ≡ Err failed → CountsFaults before now called → OnlyLarge called → HasCountedCause before now (Some (Outside failed))
-counted Fault before now called is counts large = counts.fault is
-counted (TooLarge n) before now called is counts large = (counts.steady (λ e. cc (e, is)), large n is)
-counted Memory before now called is counts large = counts.steady (λ e. cc (e, is))
-
--- the same of the reading of a project
-pub unread_counted : {A : Type 0} (unread : Unread) (before now : ℕ) (called : Result A Unread) → called ≡ Err unread → HandsOn Unlucky before now called → HasCountedCause before now (Some (stop_of unread))
-unread_counted (Store offset) before now called is counts = counts.steady (λ e. cc (e, is))
-unread_counted (Sources fault) before now called is counts = counts.steady (λ e. cc (e, is))
-unread_counted (Unlucky Fault) before now called is counts = counts.fault is
-unread_counted (Unlucky (TooLarge n)) before now called is counts = (counts.steady (λ e. cc (e, is)), counts.too_large n is)
-unread_counted (Unlucky Memory) before now called is counts = counts.steady (λ e. cc (e, is))
-
--- ---- why a project couldn't be read
-
-pub owned_cause : (old new : World) (fault : OwnedFault) → ((offset : ℕ) → fault ≡ Damaged offset → owned_of old.store ≡ Err offset) → HasCause old new (Some (stop_of (unread_of_owned fault)))
-owned_cause old new (Damaged offset) damaged = damaged offset refl
-owned_cause old new NoRoom damaged = tt
-
+-- why a project couldn't be read, where its sources are at fault
 pub reading_cause : (old new : World) (r right : Result (List Rule) ReadEnd) (end : ReadEnd) → (r ≡ Err NotRead) ⊎ (r ≡ right) → r ≡ Err end → rules_read old ≡ right →
     HasCause old new (Some (stop_of (unread_of_reading end)))
 reading_cause old new r right (ParseFailed found) (inl none) is same = absurd (cc (none, is))

@@ -1,7 +1,6 @@
-use Rattle.std.proofs.Common.{rules, inl, inr, refl, subst}
+use Rattle.std.proofs.Common.{rules, inl, inr, refl}
 use Rattle.tup_update.specs.Outcome.{ExactlyTheFiles, NothingForgotten, HasCause}
 use Rattle.tup_top.specs.Promise.{counts}
-use Rattle.tup_top.specs.Printed.{Ends}
 use Rattle.tup_top.proofs.Causes.{answered, untold_left, counts_all, counted_cause, prints_nothing, prints_update}
 use Rattle.tup_top.proofs.update.update.Goals as goal
 
