@@ -1,4 +1,4 @@
-//! The rows of the store: fields, records, and lists of owned paths.
+//! The rows of the store: fields, records, lists of owned paths, and stores.
 //!
 //! Each file of `data/` has rows, a call with the answer that is wanted each. The head of a file says what its calls
 //! and their arguments mean.
@@ -8,17 +8,20 @@ mod field;
 mod owned;
 mod record;
 mod say;
+mod table;
 mod values;
 
 use field::Fields;
 use owned::OwnedLists;
 use record::Records;
 use std::io;
+use table::Tables;
 use tup_rows::try_file;
 
 fn main(rt: HostRuntime) -> io::Result<()> {
     let alloc = rt.alloc();
     try_file(&rt, alloc, "field.rows", &mut Fields)?;
     try_file(&rt, alloc, "record.rows", &mut Records)?;
-    try_file(&rt, alloc, "owned.rows", &mut OwnedLists)
+    try_file(&rt, alloc, "owned.rows", &mut OwnedLists)?;
+    try_file(&rt, alloc, "table.rows", &mut Tables)
 }

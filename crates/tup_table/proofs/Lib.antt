@@ -1,0 +1,5 @@
+pub mod Apart
+pub mod Fronts
+pub mod Stores
+pub mod Appends
+pub mod Keys

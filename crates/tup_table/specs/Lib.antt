@@ -1,0 +1,5 @@
+pub mod Front
+pub mod Store
+pub mod Entries
+pub mod Reading
+pub mod Appending

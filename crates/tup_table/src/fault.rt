@@ -1,0 +1,43 @@
+//! Why a table isn't read or changed.
+use std::alloc::{AllocError, AllocFailed};
+use thiserror::Error;
+
+/// Why a table isn't read or changed.
+#[derive(Clone, Copy, Debug, PartialEq, Eq, Error)]
+pub enum TableFault {
+    /// The store is empty.
+    #[error("there is no store")]
+    NotThere,
+    /// The bytes are no store: 0 where they don't begin with the header, and else the offset of the open gate behind
+    /// which something stands that is no commit.
+    #[error("the store is damaged at byte {offset}")]
+    BadStore { offset: u64 },
+    /// The store would have more than 1,073,741,824 bytes; nothing was written.
+    #[error("the store is full")]
+    Full,
+    /// There was no memory; nothing is known of the store.
+    #[error("no memory")]
+    Memory,
+}
+
+impl From<AllocError> for TableFault {
+    ghost use Rattle.std.specs.Prelude.{◌≡◌};
+    ghost use Rattle.tup_table.specs.declared.fault.TableFault.TheVariants.{Memory};
+
+    ghost from_gives = { λ _ fault. fault ≡ Memory };
+
+    fn from(_: AllocError) -> TableFault {
+        TableFault::Memory
+    }
+}
+
+impl<T: Drop> From<AllocFailed<T>> for TableFault {
+    ghost use Rattle.std.specs.Prelude.{◌≡◌};
+    ghost use Rattle.tup_table.specs.declared.fault.TableFault.TheVariants.{Memory};
+
+    ghost from_gives = { λ _ fault. fault ≡ Memory };
+
+    fn from(_: AllocFailed<T>) -> TableFault {
+        TableFault::Memory
+    }
+}

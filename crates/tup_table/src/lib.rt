@@ -1,0 +1,27 @@
+//! A map from keys to values in the bytes of a store, which a crash leaves as it was before a commit or as it is
+//! after it.
+//!
+//! The bytes are a header and then commits, each behind a gate: a byte that is opened only once the whole commit is
+//! durable. `read` gives the entries that they stand for, and `appended` the bytes by which a store takes a commit.
+//! Both ways are exact: what is written is read, and what is refused is no store.
+#![tactic(auto)]
+
+mod appending;
+mod change;
+mod entries;
+mod entry;
+mod fault;
+mod laws;
+mod opened;
+mod reader;
+mod reading;
+mod sized;
+
+pub use appending::{appended, have_short_keys};
+pub use change::Change;
+pub use entries::Entries;
+pub use entry::Entry;
+pub use fault::TableFault;
+pub use laws::{last_change_stands, written_is_read};
+pub use opened::Opened;
+pub use reading::read;
