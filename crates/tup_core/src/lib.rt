@@ -1,8 +1,9 @@
 //! The core of an update: which rule may be run next, what a command that runs is answered, and what its end
 //! leaves, as a machine that takes one event after another. It knows no store, no site and no thread.
 //!
-//! `Core::step` takes an event just where `specs/Step.antt` says that it is enabled, and then does just what
-//! stands there; `Core::ready` is that file's word on a rule.
+//! The machine stands as definitions: `specs/Step.antt` says which events are enabled in a state and what each
+//! leaves, `specs/Run.antt` what a run is, and `specs/Honest.antt` which runs are honest. The functions of `laws`
+//! publish what every run keeps, in the words of `specs/Laws.antt`. No code takes events yet.
 #![tactic(auto)]
 
 mod event;
