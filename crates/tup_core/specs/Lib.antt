@@ -1,0 +1,6 @@
+pub mod Step
+pub mod Run
+pub mod Sound
+pub mod Honest
+pub mod Planned
+pub mod Laws

@@ -1,0 +1,40 @@
+-- What a plan and a state must be for the laws of runs to hold (own).
+use Rattle.std.specs.Prelude.{◌≡◌, ℕ, ◌<◌, true, List, length, Option, None, Some, Ok, slice_get}
+use Rattle.tup_path.specs.Name.{Names}
+use Rattle.tup_path.specs.Resolve.{resolve}
+use Rattle.tup_stamp.specs.declared.Stamp.{Stamp}
+use Rattle.tup_rule.specs.declared.rule.Rule.{Rule}
+use Rattle.tup_rule.specs.Rule.{writes}
+use Rattle.tup_rule.specs.Producer.{DeclaredProducer}
+use Rattle.tup_access.specs.Access.{may_read}
+use Rattle.tup_core.specs.declared.plan.Plan.{Plan}
+use Rattle.tup_core.specs.Step.{State, IsReady, is_reached, told}
+
+-- no output of a rule of the reach is an output of another rule of the plan
+abbrev pub HasOneMaker : Plan → Type 0
+HasOneMaker plan =
+    (at other : ℕ) (rule another : Rule) (path : Names) → is_reached plan at ≡ true → slice_get plan.rules at ≡ Some rule
+    → slice_get plan.rules other ≡ Some another → writes rule path ≡ true → writes another path ≡ true → at ≡ other
+
+-- no rule waits for itself
+abbrev pub IsAcyclic : List Rule → Type 0
+IsAcyclic rules = (at : ℕ) (rule : Rule) → slice_get rules at ≡ Some rule → DeclaredProducer rules rule at → ⊥
+
+-- the numbers of the reach are places of rules
+abbrev pub IsInRange : Plan → Type 0
+IsInRange plan = (at : ℕ) → is_reached plan at ≡ true → at < length plan.rules
+
+-- an answered ask still stands: its text names a path that may be read, and a command would now be told the same
+pub record Stands (plan : Plan) (state : State) (rule : Rule) (ask : List ℕ × Option Stamp) : Type 0 where
+  pub path : Names
+  pub named : resolve rule.dir ask.0 ≡ Ok path
+  pub readable : may_read plan.rules rule path ≡ true
+  pub same : ask.1 ≡ told rule state path
+
+-- a rule waits, and nothing will ever change that: none is ready, none runs, none is bad, nothing is stopped
+pub record IsStuck (plan : Plan) (state : State) : Type 0 where
+  pub pending : (at : ℕ) × (state.pending at ≡ true)
+  pub none_ready : (at : ℕ) → IsReady plan state at → ⊥
+  pub none_runs : (seat : ℕ) → state.seats seat ≡ None
+  pub none_bad : (at : ℕ) → state.bad at ≡ None
+  pub going : state.stopped ≡ None

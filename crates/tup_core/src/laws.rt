@@ -1,0 +1,28 @@
+//! Laws of the core: what every run of it keeps, from every opening. Each is a function that does nothing, and
+//! whose contract is the law.
+ghost use Rattle.tup_core.specs.Laws as law;
+
+/// A law: in every run each rule is claimed at most once, and only rules of the reach are.
+pub fn claimed_once()
+    ensures once { law.ClaimsOnce }
+    ensures reached { law.ClaimsReached }
+{}
+
+/// A law: in every run, what a seat's command was answered for a file stands until the command ends or is
+/// stopped, its own outputs aside. It holds where no output of a rule of the reach is an output of another rule.
+pub fn asks_stand()
+    ensures { law.AsksStand }
+{}
+
+/// A law: no run comes to a state that isn't stopped, in which a rule is pending while none is ready, none runs
+/// and none is bad. It holds where no rule is its own declared producer.
+pub fn never_stuck()
+    ensures { law.NeverStuck }
+{}
+
+/// A law: in every run, a command that does what its runner means, over contents of which no two have one stamp,
+/// ends with the verdict, and leaves the stamps, that it has over a tree with the files of that moment: however the
+/// files changed since it began. It holds where no output of a rule of the reach is an output of another rule.
+pub fn ends_are_verdicts()
+    ensures { law.EndsAreVerdicts }
+{}

@@ -1,0 +1,19 @@
+//! The core of an update: which rule may be run next, what a command that runs is answered, and what its end
+//! leaves, as a machine that takes one event after another. It knows no store, no site and no thread.
+//!
+//! The machine stands as definitions: `specs/Step.antt` says which events are enabled in a state and what each
+//! leaves, `specs/Run.antt` what a run is, and `specs/Honest.antt` which runs are honest. The functions of `laws`
+//! publish what every run keeps, in the words of `specs/Laws.antt`. No code takes events yet.
+#![tactic(auto)]
+
+mod event;
+mod fault;
+mod laws;
+mod plan;
+mod running;
+
+pub use event::{Cause, CoreEvent, Stamps};
+pub use fault::CoreFault;
+pub use laws::{asks_stand, claimed_once, ends_are_verdicts, never_stuck};
+pub use plan::{Numbers, Plan};
+pub use running::{Running, StampAsks};

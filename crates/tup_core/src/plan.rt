@@ -1,0 +1,16 @@
+//! What is to be run.
+use tup_path::Items;
+use tup_rule::Rules;
+
+/// Numbers of rules.
+pub type Numbers = Items<u32>;
+
+/// The rules of a project, and which of them an update has to run.
+#[derive(Debug, Drop)]
+pub struct Plan {
+    pub rules: Rules,
+    /// The places of the rules to be run, ascending.
+    pub reach: Numbers,
+    /// Whether the others go on where one ends badly.
+    pub keep_going: bool,
+}
