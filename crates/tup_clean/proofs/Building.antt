@@ -1,25 +1,14 @@
 -- A build that takes the next rule step by step comes to what it is defined to be.
-use Rattle.std.proofs.Common.{◌≡◌, ℕ, suc, ◌+◌, ◌-◌, ◌<◌, ◌≤◌, Bool, true, List, length, Option, None, Some, refl, sym, ap, ◌∙◌, arith, replicate}
+use Rattle.std.proofs.Common.{◌≡◌, ℕ, suc, ◌+◌, ◌-◌, ◌<◌, ◌≤◌, List, length, None, Some, refl, sym, ap, ◌∙◌, arith, replicate}
 use Rattle.std.specs.List.{slice_get, slice_set}
-use Rattle.tup_path.specs.Name.{Names}
 use Rattle.tup_path.specs.Tree.{Tree}
 use Rattle.tup_rule.specs.declared.rule.Rule.{Rule}
-use Rattle.tup_rule.specs.Rule.{maker}
-use Rattle.tup_access.specs.declared.verdict.Verdict.{Verdict}
 use Rattle.tup_access.specs.Judge.{Judged}
 use Rattle.tup_access.specs.Verdict.{verdict}
 use Rattle.tup_mini.specs.Mini.{mini_next}
-use Rattle.tup_clean.specs.Clean.{Build, good_at, first_ready, given, with_files, builds_on, start, clean}
-use Rattle.tup_clean.specs.Ready.{is_made, next_ready, IsGrown}
-use Rattle.tup_clean.proofs.Growing.{next_ready-first_ready, grown_start, grown_more}
-
--- ---- what a maker tells
-
-pub made_by : (rules : List Rule) (verdicts : List (Option Verdict)) (path : Names) (at : ℕ) → Some at ≡ maker path rules → is_made rules verdicts path ≡ good_at verdicts at
-made_by rules verdicts path at is = ap (λ m. elim m as (λ _. Bool) [ None ↦ true | Some place ↦ good_at verdicts place ]) (sym is)
-
-pub made_by_none : (rules : List Rule) (verdicts : List (Option Verdict)) (path : Names) → None ≡ maker path rules → is_made rules verdicts path ≡ true
-made_by_none rules verdicts path is = ap (λ m. elim m as (λ _. Bool) [ None ↦ true | Some place ↦ good_at verdicts place ]) (sym is)
+use Rattle.tup_clean.specs.Clean.{Build, first_ready, given, with_files, builds_on, start, clean}
+use Rattle.tup_clean.specs.Ready.{next_ready, IsGrown}
+use Rattle.tup_clean.proofs.Growing.{next_ready-first_ready, grown_more}
 
 -- ---- one step
 

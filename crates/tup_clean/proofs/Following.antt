@@ -10,7 +10,7 @@ use Rattle.tup_runner.specs.declared.step.Step.TheVariants.{Ask, End}
 use Rattle.tup_access.specs.declared.verdict.Verdict.{Verdict}
 use Rattle.tup_access.specs.declared.verdict.Access.TheVariants.{Yes, No}
 use Rattle.tup_access.specs.Access.{access}
-use Rattle.tup_access.specs.Judge.{Judged, bad, judge}
+use Rattle.tup_access.specs.Judge.{Judged, IsJudged, judge}
 use Rattle.tup_access.specs.Verdict.{answer, verdict, verdict_after}
 use Rattle.tup_access.proofs.Permitted.{access-Yes}
 use Rattle.tup_access.proofs.Steps.{verdict_after-none, verdict_after-End, verdict_after-No, verdict_after-Yes}
@@ -55,14 +55,13 @@ module _ (rules : List Rule) (rule : Rule) (tree : Tree) (command : Command) (as
       }
 
   pub followed_end : (ended : Ended) (verdict_of : Verdict) (files : List (Names × Content)) → End ended ≡ command_next command asked →
-      verdict_of ≡ (judge rule ended).verdict → files ≡ (judge rule ended).files →
-      ◌≡◌ {A = Judged} (record { verdict = verdict_of; files = files }) (verdict mini_next rules rule tree)
-  followed_end ended verdict_of files told same_verdict same_files =
-      let judged : ◌≡◌ {A = Judged} (record { verdict = verdict_of; files = files }) (judge rule ended) = λ i. record { verdict = same_verdict i; files = same_files i } in
-      judged ∙ sym (followed.after ∙ verdict_after-End mini_next rules rule tree asked ended (omega (arith, followed.count, followed.early)) (next_is (End ended) told))
+      IsJudged verdict_of files (judge rule ended) → IsJudged verdict_of files (verdict mini_next rules rule tree)
+  followed_end ended verdict_of files told judged =
+      let same = sym (followed.after ∙ verdict_after-End mini_next rules rule tree asked ended (omega (arith, followed.count, followed.early)) (next_is (End ended) told)) in
+      (judged.0 ∙ ap (λ (j : Judged). j.verdict) same, judged.1 ∙ ap (λ (j : Judged). j.files) same)
 
   pub followed_no : (text : List ℕ) (refusal : Verdict) (files : List (Names × Content)) → Ask text ≡ command_next command asked → No refusal ≡ access rules rule before text → files ≡ [] →
-      ◌≡◌ {A = Judged} (record { verdict = refusal; files = files }) (verdict mini_next rules rule tree)
+      IsJudged refusal files (verdict mini_next rules rule tree)
   followed_no text refusal files told refused none =
-      let judged : ◌≡◌ {A = Judged} (record { verdict = refusal; files = files }) (bad refusal) = λ i. record { verdict = refusal; files = none i } in
-      judged ∙ sym (followed.after ∙ verdict_after-No mini_next rules rule tree asked text refusal (omega (arith, followed.count, followed.early)) (next_is (Ask text) told) (rw followed.count (sym refused)))
+      let same = sym (followed.after ∙ verdict_after-No mini_next rules rule tree asked text refusal (omega (arith, followed.count, followed.early)) (next_is (Ask text) told) (rw followed.count (sym refused))) in
+      (ap (λ (j : Judged). j.verdict) same, none ∙ ap (λ (j : Judged). j.files) same)

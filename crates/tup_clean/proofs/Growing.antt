@@ -5,7 +5,6 @@ use Rattle.std.proofs.Common.{refl, sym, ap, ◌∙◌, subst, inl, inr, not, co
 use Rattle.std.proofs.lemmas.Bool.{cases_Bool, false≢true, true≢false, and_from, and_parts, and_left, cases_eq}
 use Rattle.std.proofs.lemmas.List.Folds.{list_all-append}
 use Rattle.std.proofs.lemmas.Option.{same_Some}
-use Rattle.tup_path.specs.Name.{Names}
 use Rattle.tup_rule.specs.declared.rule.Rule.{Rule}
 use Rattle.tup_rule.specs.Rule.{maker}
 use Rattle.tup_access.specs.declared.verdict.Verdict.{Verdict}
@@ -70,7 +69,7 @@ next_ready-first_ready (rule ∷ rules) verdicts grown =
 
 -- ---- how a build goes on growing
 
-none_good : (n at : ℕ) → good_at (replicate n None) at ≡ false
+pub none_good : (n at : ℕ) → good_at (replicate n None) at ≡ false
 none_good zero at = refl
 none_good (suc n) zero = refl
 none_good (suc n) (suc at) = none_good n at

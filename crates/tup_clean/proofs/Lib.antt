@@ -9,3 +9,7 @@ pub mod Following
 pub mod Growing
 pub mod Building
 pub mod Outputs
+pub mod Counting
+pub mod Queueing
+pub mod Taking
+pub mod Making

@@ -1,3 +1,6 @@
 pub mod Clean
+pub mod Cleaned
 pub mod InOrder
+pub mod Makers
+pub mod Queue
 pub mod Ready

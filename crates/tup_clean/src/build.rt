@@ -2,14 +2,12 @@
 ghost use Rattle.std.specs.Prelude.{◌≡◌, None, IsTrue, IfOk, OnOk, length, replicate};
 ghost use Rattle.std.specs.FinMap as finite;
 ghost use Rattle.tup_path.specs.Order.{by_names};
-ghost use Rattle.tup_mini.specs.Mini.{mini_next};
-ghost use Rattle.tup_clean.specs.Clean.{builds_on, clean};
-ghost use Rattle.tup_clean.specs.Ready.{IsGrown};
+ghost use Rattle.tup_clean.specs.Cleaned.{IsCleaned, build, builds_all};
 
 use crate::Cleaned;
 use crate::fault::CleanFault;
 use crate::generated::generated;
-use crate::ready::next_ready;
+use crate::queue::Queue;
 use crate::running::run;
 use crate::tree::FileTree;
 use std::alloc::{AllocError, Global};
@@ -23,8 +21,7 @@ use tup_rule::Rule;
 /// `Memory` leaves nothing.
 pub fn clean_build(alloc: Global, rules: &[Rule], sources: &Files) -> Result<Cleaned, CleanFault>
     requires { IsTrue (finite.is_sorted by_names sources.now) }
-    ensures tree { IfOk result (λ cleaned. cleaned.tree ≡ finite.entries (clean mini_next rules.now (finite.from_sorted sources.now)).tree) }
-    ensures verdicts { IfOk result (λ cleaned. cleaned.verdicts ≡ (clean mini_next rules.now (finite.from_sorted sources.now)).verdicts) }
+    ensures { IfOk result (IsCleaned rules.now sources.now) }
 {
     let mut tree = FileTree::new(alloc, sources)?;
     let mut verdicts = no_verdicts(alloc, rules.len())?;
@@ -45,23 +42,26 @@ fn no_verdicts(alloc: Global, count: usize) -> Result<Vec<Option<Verdict>>, Allo
     Ok(verdicts)
 }
 
-/// Takes the next rule, again and again, until none is ready.
+/// Takes the first rule that is ready, again and again, until there is none.
 fn build_on(
     alloc: Global,
     rules: &[Rule],
     tree: &mut FileTree,
     verdicts: &mut [Option<Verdict>],
 ) -> Result<(), CleanFault>
-    requires { IsGrown rules.now verdicts.old }
-    ensures { OnOk result (record { tree = tree.new; verdicts = verdicts.new } ≡ builds_on (length rules.now) mini_next rules.now (record { tree = tree.old; verdicts = verdicts.old })) }
+    requires { verdicts.old ≡ replicate (length rules.now) None }
+    ensures { OnOk result (build tree.new verdicts.new
+        ≡ builds_all rules.now (build tree.old verdicts.old)) }
 {
     let generated = generated(alloc, rules)?;
+    let mut queue = Queue::new(alloc, rules)?;
     for _ in 0..rules.len() {
-        let Some(at) = next_ready(rules, verdicts) else {
+        let Some(at) = queue.next() else {
             return Ok(());
         };
         let (verdict, files) = run(alloc, rules, &generated, &rules[at], tree)?;
         tree.put_all(files)?;
+        queue.note(at, &verdict)?;
         verdicts[at] = Some(verdict);
     }
     Ok(())

@@ -23,7 +23,8 @@ pub(crate) fn generated(alloc: Global, rules: &[Rule]) -> Result<BTreeSet<Path>,
 }
 
 fn add_all(set: &mut BTreeSet<Path>, paths: &[Path]) -> Result<(), AllocError>
-    ensures { OnOk result ((path : Names) → contains by_names set.new path ≡ (contains by_names set.old path || among path paths.now)) }
+    ensures { OnOk result ((path : Names) → contains by_names set.new path
+        ≡ (contains by_names set.old path || among path paths.now)) }
 {
     for path in paths {
         set.insert(path.clone()?)?;

@@ -1,7 +1,8 @@
 //! The clean build: what a project's files are, with no history.
 //!
 //! `clean_build` gives just the build that `specs/Clean.antt` defines, for every list of rules, and is refused
-//! for want of memory alone. It is plain and slow, and knows nothing of graphs, flags, stamps or threads.
+//! for want of memory alone. It knows nothing of graphs, flags, stamps or threads. Rules wait in a queue,
+//! so its time is that of the commands, the declared inputs and the rules, times a logarithm.
 //! `proofs/CleanLaws.antt` and `proofs/InOrderLaws.antt` say what the build is where the rules can be run in
 //! their order, and which trees a rule could as well be run in.
 #![tactic(auto)]
@@ -9,7 +10,8 @@
 mod build;
 mod fault;
 mod generated;
-mod ready;
+mod makers;
+mod queue;
 mod running;
 mod tree;
 

@@ -1,8 +1,9 @@
 //! The run of one command over the files of a build.
-ghost use Rattle.std.specs.Prelude.{◌≡◌, IfOk, Ok, Err};
+ghost use Rattle.std.specs.Prelude.{◌≡◌, IfOk};
 ghost use Rattle.tup_rule.specs.declared.rule.Rule.{Rule as RuleValue};
 ghost use Rattle.tup_access.specs.Generated.{IsGenerated};
-ghost use Rattle.tup_access.specs.Verdict as specs;
+ghost use Rattle.tup_access.specs.Judge.{IsJudged};
+ghost use Rattle.tup_access.specs.Verdict.{verdict as verdict_of, answer as answer_of};
 ghost use Rattle.tup_mini.specs.Mini.{mini_next};
 
 use crate::fault::CleanFault;
@@ -24,7 +25,8 @@ pub(crate) fn run(
     tree: &FileTree,
 ) -> Result<(Verdict, Files), CleanFault>
     requires { IsGenerated rules.now generated.now }
-    ensures { IfOk result (λ ran. record { verdict = ran.0; files = ran.1 } ≡ specs.verdict mini_next rules.now rule.now tree.now) }
+    ensures { IfOk result (λ ran. IsJudged ran.0 ran.1
+        (verdict_of mini_next rules.now rule.now tree.now)) }
 {
     let command = Command::read(alloc, &rule.text)?;
     let mut asked: Asks = Items::new(alloc);
@@ -40,9 +42,9 @@ pub(crate) fn run(
     Ok((Verdict::TooManyReads, Items::new(alloc)))
 }
 
-/// What a command is told of a path: what stands there, but nothing of its own outputs.
+/// What a command is answered for a path: what stands there, but nothing of its own outputs.
 fn answer(rule: &Rule, tree: &FileTree, path: &Path) -> Result<Answer, AllocError>
-    ensures { IfOk result (λ told. told ≡ specs.answer rule.now tree.now path.now) }
+    ensures { IfOk result (λ given. given ≡ answer_of rule.now tree.now path.now) }
 {
     if rule.writes(path) {
         return Ok(Answer::Absent);

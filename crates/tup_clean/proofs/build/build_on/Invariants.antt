@@ -1,5 +1,6 @@
-use Rattle.tup_clean.proofs.Building.{IsUnderWay}
+use Rattle.tup_clean.specs.Cleaned.{build}
+use Rattle.tup_clean.proofs.Taking.{IsGoing}
 use Rattle.tup_clean.proofs.build.build_on.Given as goal
 
 abbrev pub invariant-loop : goal.invariant-loop
-invariant-loop l = IsUnderWay l.rules (record { tree = l.fn.tree; verdicts = l.fn.verdicts }) (record { tree = l.tree; verdicts = l.verdicts }) l.counter
+invariant-loop l = IsGoing l.rules (build l.fn.tree l.fn.verdicts) (build l.tree l.verdicts) l.counter l.queue

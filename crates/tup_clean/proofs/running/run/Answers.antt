@@ -17,8 +17,7 @@ pub returns-in-End : goal.returns-in-End
 returns-in-End c =
     followed_end _ _ _ _ _ _ c.loop-before.invariant c.in-End.ended _ _
     (sym c.in-End.is ∙ given _ _ _ c.in_ok-ended.ensures ∙ ap (command_next _) c.as_slice.ensures)
-    c.in_ok-judge-in-End.ensures.0
-    c.in_ok-judge-in-End.ensures.1
+    c.in_ok-judge-in-End.ensures
 
 pub returns-in-No : goal.returns-in-No
 returns-in-No c =
