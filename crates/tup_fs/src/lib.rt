@@ -8,6 +8,7 @@
 
 mod failure;
 mod listing;
+mod opening;
 mod reading;
 mod site;
 mod store;

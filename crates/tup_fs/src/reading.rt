@@ -21,9 +21,9 @@ pub(crate) enum Found {
     TooLarge(u64),
 }
 
-impl<R: Files + Drop> Top<R> {
+impl<R: Files<File = File> + Clone + Drop> Top<R> {
     /// What the file at a path holds. A file that is too large isn't read.
-    pub fn find(&self, path: &Path) -> Result<Found, Refused>
+    pub fn find(&mut self, path: &Path) -> Result<Found, Refused>
         ensures { IfOk result IsWithin }
     {
         if self.standing_above(path)? != Standing::Folder {

@@ -5,9 +5,7 @@ ghost use Rattle.tup_site.specs.Cause.{CountsFaults, NeverTooLarge};
 
 use crate::failure::{Failure, Refused};
 use crate::reading::Found;
-use crate::store::Store;
 use crate::top::Top;
-use crate::touched::Touched;
 use std::alloc::{AllocError, Global};
 use std::fs::File;
 use std::rt::Files;
@@ -19,8 +17,7 @@ use tup_site::{Site, SiteFailed};
 #[derive(Drop)]
 pub struct FsSite<R: Files<File = File> + Clone + Drop> {
     top: Top<R>,
-    touched: Touched,
-    store: Store,
+    lock: Option<File>,
     last: Option<Failure>,
     faults: u64,
 }
@@ -29,13 +26,8 @@ impl<R: Files<File = File> + Clone + Drop> FsSite<R> {
     /// The files below this folder, which has to be there. It touches nothing yet.
     pub fn new(rt: R, alloc: Global, root: &str) -> Result<FsSite<R>, AllocError> {
         Ok(FsSite {
-            top: Top {
-                rt,
-                alloc,
-                root: String::from_str(alloc, root)?,
-            },
-            touched: Touched::new(alloc),
-            store: Store::new(),
+            top: Top::new(rt, alloc, root)?,
+            lock: None,
             last: None,
             faults: 0,
         })
@@ -44,6 +36,22 @@ impl<R: Files<File = File> + Clone + Drop> FsSite<R> {
     /// The last failure: its place, and what the system said. `None` where nothing failed yet.
     pub fn last(&self) -> Option<&Failure> {
         self.last.as_ref()
+    }
+
+    // Before anything else the first call takes the lock, and removes what a run that died has left.
+    fn begin(&mut self) -> Result<(), SiteFailed>
+        ensures cause { CountsFaults self.old.faults self.new.faults result }
+        ensures never_too_large { NeverTooLarge result }
+    {
+        if self.lock.is_some() {
+            return Ok(());
+        }
+        let lock = self.top.lock();
+        let lock = self.told(lock)?;
+        let swept = self.top.sweep();
+        self.told(swept)?;
+        self.lock = Some(lock);
+        Ok(())
     }
 
     // An answer as the site gives it. Each failure is counted and kept.
@@ -76,11 +84,13 @@ impl<R: Files<File = File> + Clone + Drop + Send> Site for FsSite<R> {
     ghost is_tree = { λ site no. Prim.cc };
 
     fn list(&mut self, _alloc: Global) -> Result<Paths, SiteFailed> {
+        self.begin()?;
         let files = self.top.files();
         Ok(Paths::from_vec(self.told(files)?))
     }
 
     fn get(&mut self, _alloc: Global, path: &Path) -> Result<Option<Bytes>, SiteFailed> {
+        self.begin()?;
         let found = self.top.find(path);
         match self.told(found)? {
             Found::Nothing => Ok(None),
@@ -90,42 +100,50 @@ impl<R: Files<File = File> + Clone + Drop + Send> Site for FsSite<R> {
     }
 
     fn put(&mut self, _alloc: Global, path: &Path, content: &Bytes) -> Result<(), SiteFailed> {
-        let done = self.top.put(&mut self.touched, path, content.as_slice());
+        self.begin()?;
+        let done = self.top.put(path, content.as_slice());
         self.told(done)
     }
 
     fn remove(&mut self, _alloc: Global, path: &Path) -> Result<(), SiteFailed> {
-        let done = self.top.remove(&mut self.touched, path);
+        self.begin()?;
+        let done = self.top.remove(path);
         self.told(done)
     }
 
     fn settle(&mut self, _alloc: Global) -> Result<(), SiteFailed> {
-        let done = self.touched.settle(&self.top);
+        self.begin()?;
+        let done = self.top.settle();
         self.told(done)
     }
 
     fn db_len(&mut self, _alloc: Global) -> Result<u64, SiteFailed> {
-        let len = self.store.len(&self.top);
-        Ok(self.told(len)?.unwrap_or(0))
+        self.begin()?;
+        let len = self.top.db_len();
+        self.told(len)
     }
 
     fn db_read(&mut self, _alloc: Global, at: u64, into: &mut [u8]) -> Result<(), SiteFailed> {
-        let done = self.store.read(&self.top, at, into);
+        self.begin()?;
+        let done = self.top.db_read(at, into);
         self.told(done)
     }
 
     fn db_write(&mut self, _alloc: Global, at: u64, bytes: &[u8]) -> Result<(), SiteFailed> {
-        let done = self.store.write(&self.top, at, bytes);
+        self.begin()?;
+        let done = self.top.db_write(at, bytes);
         self.told(done)
     }
 
     fn db_sync(&mut self, _alloc: Global) -> Result<(), SiteFailed> {
-        let done = self.store.sync(&self.top);
+        self.begin()?;
+        let done = self.top.db_sync();
         self.told(done)
     }
 
     fn db_cut(&mut self, _alloc: Global, len: u64) -> Result<(), SiteFailed> {
-        let done = self.store.cut(&self.top, len);
+        self.begin()?;
+        let done = self.top.db_cut(len);
         self.told(done)
     }
 

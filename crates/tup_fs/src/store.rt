@@ -3,22 +3,22 @@
 //! whole.
 use crate::failure::Refused;
 use crate::top::{OWN_FOLDER, Standing, Top};
-use std::fs::{File, OpenFile, OpenOptions};
-use std::io::ErrorKind;
+use std::fs::{File, OpenOptions};
 use std::os::unix::fs::FileExt;
 use std::rt::Files;
 use std::{fs, io};
 
 const STORE: &str = "/.tup/db";
 
-// The store with what was written and cut since the last sync.
-const ASIDE: &str = "/.tup/db.new";
+/// The store with what was written and cut since the last sync.
+pub(crate) const ASIDE: &str = "/.tup/db.new";
 
 /// The store as this process sees it.
 #[derive(Drop)]
 pub(crate) struct Store {
     aside: Option<File>,
     is_lost: bool,
+    was_synced: bool,
 }
 
 impl Store {
@@ -26,120 +26,94 @@ impl Store {
         Store {
             aside: None,
             is_lost: false,
+            was_synced: false,
         }
     }
+}
 
-    /// The length of the store, or `None` where there is none.
-    pub fn len<R: Files + Drop>(&self, top: &Top<R>) -> Result<Option<u64>, Refused> {
-        match &self.aside {
-            Some(file) => {
-                let found = top.at(top.own(ASIDE)?.as_str(), file.metadata())?;
-                Ok(Some(found.len()))
-            }
-            None => top.stored_len(),
+impl<R: Files<File = File> + Clone + Drop> Top<R> {
+    /// The length of the store; 0 where there is none.
+    pub fn db_len(&self) -> Result<u64, Refused> {
+        match &self.store.aside {
+            Some(file) => Ok(self.at(self.own(ASIDE)?.as_str(), file.metadata())?.len()),
+            None => Ok(self.stored_len()?.unwrap_or(0)),
         }
     }
 
     /// Fills the buffer from a place on.
-    pub fn read<R: Files<File = File> + Drop>(
-        &self,
-        top: &Top<R>,
-        at: u64,
-        into: &mut [u8],
-    ) -> Result<(), Refused> {
-        match &self.aside {
-            Some(file) => top.at(top.own(ASIDE)?.as_str(), file.read_exact_at(into, at)),
-            None => top.read_stored(at, into),
+    pub fn db_read(&self, at: u64, into: &mut [u8]) -> Result<(), Refused> {
+        match &self.store.aside {
+            Some(file) => self.at(self.own(ASIDE)?.as_str(), file.read_exact_at(into, at)),
+            None => self.read_stored(at, into),
         }
     }
 
     /// Writes from a place on.
-    pub fn write<R: Files<File = File> + Drop>(
-        &mut self,
-        top: &Top<R>,
-        at: u64,
-        bytes: &[u8],
-    ) -> Result<(), Refused> {
-        let place = top.own(ASIDE)?;
-        let file = self.take_aside(top)?;
+    pub fn db_write(&mut self, at: u64, bytes: &[u8]) -> Result<(), Refused> {
+        let place = self.own(ASIDE)?;
+        let file = self.take_aside()?;
         let done = file.write_all_at(bytes, at);
-        self.aside = Some(file);
-        top.at(place.as_str(), done)
+        self.store.aside = Some(file);
+        self.at(place.as_str(), done)
     }
 
     /// Cuts the store; one that is no longer stays.
-    pub fn cut<R: Files<File = File> + Drop>(
-        &mut self,
-        top: &Top<R>,
-        to: u64,
-    ) -> Result<(), Refused> {
-        if self.len(top)?.unwrap_or(0) <= to {
+    pub fn db_cut(&mut self, to: u64) -> Result<(), Refused> {
+        if self.db_len()? <= to {
             return Ok(());
         }
-        let place = top.own(ASIDE)?;
-        let file = self.take_aside(top)?;
+        let place = self.own(ASIDE)?;
+        let file = self.take_aside()?;
         let done = file.set_len(to);
-        self.aside = Some(file);
-        top.at(place.as_str(), done)
+        self.store.aside = Some(file);
+        self.at(place.as_str(), done)
     }
 
-    // The file beside, begun as a copy of the store where there is none yet.
-    fn take_aside<R: Files<File = File> + Drop>(&mut self, top: &Top<R>) -> Result<File, Refused> {
-        match self.aside.take() {
+    // The file aside, begun as a copy of the store where there is none yet.
+    fn take_aside(&mut self) -> Result<File, Refused> {
+        match self.store.aside.take() {
             Some(file) => Ok(file),
-            None => top.open_aside(),
+            None => self.open_aside(),
         }
     }
 
     /// Makes durable what was written and cut. The system tells a lost write but once: so after a
     /// failure no later sync succeeds.
-    pub fn sync<R: Files<File = File> + Drop>(&mut self, top: &Top<R>) -> Result<(), Refused> {
-        let store = top.own(STORE)?;
-        if self.is_lost {
-            let error = io::Error::other("an earlier write of the store was lost");
-            return Err(top.refused(store.as_str(), error));
+    pub fn db_sync(&mut self) -> Result<(), Refused> {
+        let (own, store, aside) = (self.own(OWN_FOLDER)?, self.own(STORE)?, self.own(ASIDE)?);
+        if self.store.is_lost {
+            return Err(self.lost(store.as_str()));
         }
-        let (own, aside) = (top.own(OWN_FOLDER)?, top.own(ASIDE)?);
-        self.is_lost = true;
-        match &self.aside {
+        self.store.is_lost = true;
+        match &self.store.aside {
             Some(file) => {
-                top.at(aside.as_str(), file.sync_all())?;
-                top.at(
-                    store.as_str(),
-                    fs::rename(&top.rt, aside.as_str(), store.as_str()),
-                )?;
+                self.at(aside.as_str(), file.sync_all())?;
+                let done = fs::rename(&self.rt, aside, store.as_str());
+                self.at(store.as_str(), done)?;
             }
-            None => top.sync(store.as_str())?,
+            None => self.sync(store.as_str())?,
         }
-        self.aside = None;
-        top.sync(own.as_str())?;
-        top.sync(top.root.as_str())?;
-        self.is_lost = false;
+        self.store.aside = None;
+        self.sync(own.as_str())?;
+        if !self.store.was_synced {
+            self.sync(self.root.as_str())?;
+        }
+        self.store.was_synced = true;
+        self.store.is_lost = false;
         Ok(())
     }
-}
 
-impl<R: Files + Drop> Top<R> {
     // The length of the store's file. Anything else that stands in its place is a failure.
     fn stored_len(&self) -> Result<Option<u64>, Refused> {
-        let own = self.own(OWN_FOLDER)?;
-        match self.standing(own.as_str())? {
-            Standing::Folder => {}
-            Standing::Nothing => return Ok(None),
-            _ => return Err(self.refused(own.as_str(), io::Error::from(ErrorKind::NotADirectory))),
-        }
         let store = self.own(STORE)?;
         match self.standing(store.as_str())? {
             Standing::File(len) => Ok(Some(len)),
             Standing::Nothing => Ok(None),
-            _ => Err(self.refused(store.as_str(), io::Error::from(ErrorKind::AlreadyExists))),
+            _ => Err(self.in_the_way(store.as_str())),
         }
     }
 
-    fn read_stored(&self, at: u64, into: &mut [u8]) -> Result<(), Refused>
-    where
-        R: Files<File = File>,
-    {
+    fn read_stored(&self, at: u64, into: &mut [u8]) -> Result<(), Refused> {
         if self.stored_len()?.is_none() && into.is_empty() {
             return Ok(());
         }
@@ -148,14 +122,10 @@ impl<R: Files + Drop> Top<R> {
         self.at(store.as_str(), file.read_exact_at(into, at))
     }
 
-    // In the place of a file that an earlier run left.
-    fn open_aside(&self) -> Result<File, Refused>
-    where
-        R: Files<File = File>,
-    {
-        let (own, store, aside) = (self.own(OWN_FOLDER)?, self.own(STORE)?, self.own(ASIDE)?);
-        self.make_folder(own.as_str())?;
-        self.clear(aside.as_str())?;
+    fn open_aside(&mut self) -> Result<File, Refused> {
+        let (store, aside) = (self.own(STORE)?, self.own(ASIDE)?);
+        let own = self.own(OWN_FOLDER)?;
+        self.make_folder(own)?;
         let is_there = self.stored_len()?.is_some();
         let opened = self.copy_aside(is_there, store.as_str(), aside.as_str());
         if opened.is_err() {
@@ -164,10 +134,7 @@ impl<R: Files + Drop> Top<R> {
         self.at(aside.as_str(), opened)
     }
 
-    fn copy_aside(&self, is_there: bool, store: &str, aside: &str) -> io::Result<File>
-    where
-        R: Files<File = File>,
-    {
+    fn copy_aside(&self, is_there: bool, store: &str, aside: &str) -> io::Result<File> {
         if is_there {
             fs::copy(&self.rt, store, aside)?;
         }

@@ -1,6 +1,10 @@
 //! The folder below which all lies, and what stands at a place there.
 use crate::failure::{Failure, Refused};
+use crate::store::Store;
+use crate::touched::Touched;
 use std::alloc::{AllocError, Global};
+use std::collections::BTreeSet;
+use std::fs::File;
 use std::io::ErrorKind;
 use std::rt::Files;
 use std::{fs, io};
@@ -19,15 +23,32 @@ pub(crate) enum Standing {
     Other,
 }
 
-/// The folder below which all lies, and the way to it.
+/// The folder below which all lies and the way to it; the folders that were seen there, what was
+/// touched, and the store.
 #[derive(Drop)]
-pub(crate) struct Top<R: Files + Drop> {
+pub(crate) struct Top<R: Files<File = File> + Clone + Drop> {
     pub rt: R,
     pub alloc: Global,
     pub root: String,
+    pub folders: BTreeSet<String>,
+    pub touched: Touched,
+    pub store: Store,
+    pub ignores_case: Option<bool>,
 }
 
-impl<R: Files + Drop> Top<R> {
+impl<R: Files<File = File> + Clone + Drop> Top<R> {
+    pub fn new(rt: R, alloc: Global, root: &str) -> Result<Top<R>, AllocError> {
+        Ok(Top {
+            rt,
+            alloc,
+            root: String::from_str(alloc, root)?,
+            folders: BTreeSet::new(alloc),
+            touched: Touched::new(alloc),
+            store: Store::new(),
+            ignores_case: None,
+        })
+    }
+
     /// The place of these names, as the system names it.
     pub fn place(&self, names: &[Text]) -> Result<String, AllocError> {
         let mut place = String::from_str(self.alloc, self.root.as_str())?;
@@ -43,6 +64,15 @@ impl<R: Files + Drop> Top<R> {
         let mut place = String::from_str(self.alloc, self.root.as_str())?;
         place.push_str(rest)?;
         Ok(place)
+    }
+
+    /// The places of the folders above a path, from the top down, without the top itself.
+    pub fn folders_above(&self, path: &Path) -> Result<Vec<String>, Refused> {
+        let mut folders = Vec::new(self.alloc);
+        for depth in 1..path.depth() {
+            folders.push(self.place(&path.names()[..depth])?)?;
+        }
+        Ok(folders)
     }
 
     /// An answer of the system, with its place if it is a failure.
@@ -62,6 +92,14 @@ impl<R: Files + Drop> Top<R> {
         Refused::Failed(Failure { place, error })
     }
 
+    /// The failure that something stands here which is neither a file nor a folder of the project.
+    pub fn in_the_way(&self, place: &str) -> Refused {
+        self.refused(
+            place,
+            io::Error::other("a link or a special file stands here"),
+        )
+    }
+
     /// What stands at a place; no link is followed at its end.
     pub fn standing(&self, place: &str) -> Result<Standing, Refused> {
         match fs::symlink_metadata(&self.rt, place) {
@@ -74,37 +112,55 @@ impl<R: Files + Drop> Top<R> {
     }
 
     /// What stands above a path: a folder if all is, or else the first that is none.
-    pub fn standing_above(&self, path: &Path) -> Result<Standing, Refused> {
-        for depth in 1..path.depth() {
-            let place = self.place(&path.names()[..depth])?;
-            let standing = self.standing(place.as_str())?;
-            if standing != Standing::Folder {
-                return Ok(standing);
+    pub fn standing_above(&mut self, path: &Path) -> Result<Standing, Refused> {
+        for folder in self.folders_above(path)? {
+            if !self.folders.contains(&folder) {
+                let standing = self.standing(folder.as_str())?;
+                if standing != Standing::Folder {
+                    return Ok(standing);
+                }
+                self.folders.insert(folder)?;
             }
         }
         Ok(Standing::Folder)
     }
 
     /// Makes a folder unless there is one. All else that stands there is a failure.
-    pub fn make_folder(&self, place: &str) -> Result<(), Refused> {
-        match self.standing(place)? {
-            Standing::Folder => Ok(()),
-            Standing::Nothing => self.at(place, fs::create_dir(&self.rt, place)),
-            _ => Err(self.refused(place, io::Error::from(ErrorKind::NotADirectory))),
+    pub fn make_folder(&mut self, folder: String) -> Result<(), Refused> {
+        if self.folders.contains(&folder) {
+            return Ok(());
         }
+        match self.standing(folder.as_str())? {
+            Standing::Folder => {}
+            Standing::Nothing => {
+                let done = fs::create_dir(&self.rt, folder.as_str());
+                self.at(folder.as_str(), done)?;
+            }
+            _ => return Err(self.in_the_way(folder.as_str())),
+        }
+        self.folders.insert(folder)?;
+        Ok(())
     }
 
-    /// Removes what stands at a place, if anything does.
-    pub fn clear(&self, place: &str) -> Result<(), Refused> {
-        match fs::remove_file(&self.rt, place) {
-            Ok(()) => Ok(()),
-            Err(e) if is_absence(e.kind()) => Ok(()),
-            Err(e) => Err(self.refused(place, e)),
+    /// The names in a folder; one that isn't a text is passed over.
+    pub fn names_in(&self, folder: &str) -> Result<Vec<Text>, Refused> {
+        let runtime = (self.rt.clone()?, self.alloc);
+        let mut names = Vec::new(self.alloc);
+        for entry in self.at(folder, fs::read_dir(&runtime, folder))? {
+            match entry {
+                Ok(entry) => names.push(Text::from_str(self.alloc, entry.file_name())?)?,
+                Err(e) if e.kind() == ErrorKind::InvalidFilename => {}
+                Err(e) => return Err(self.refused(folder, e)),
+            }
         }
+        Ok(names)
     }
 }
 
-/// Whether an error says that nothing stands at the place.
+/// Whether an error says that nothing stands at the place, as where its name is longer than a name
+/// may be.
 pub(crate) fn is_absence(kind: ErrorKind) -> bool {
-    kind == ErrorKind::NotFound || kind == ErrorKind::NotADirectory
+    kind == ErrorKind::NotFound
+        || kind == ErrorKind::NotADirectory
+        || kind == ErrorKind::InvalidFilename
 }

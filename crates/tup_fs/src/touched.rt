@@ -3,7 +3,8 @@ use crate::failure::Refused;
 use crate::top::{Top, is_absence};
 use std::alloc::{AllocError, Global};
 use std::collections::BTreeSet;
-use std::fs::{File, OpenFile};
+use std::fs::File;
+use std::io;
 use std::rt::Files;
 
 /// The files that were written, and the folders in which names came or went, each by its place.
@@ -11,6 +12,7 @@ use std::rt::Files;
 pub(crate) struct Touched {
     files: BTreeSet<String>,
     folders: BTreeSet<String>,
+    is_lost: bool,
 }
 
 impl Touched {
@@ -18,34 +20,46 @@ impl Touched {
         Touched {
             files: BTreeSet::new(alloc),
             folders: BTreeSet::new(alloc),
+            is_lost: false,
         }
     }
 
-    pub fn file(&mut self, place: String) -> Result<(), AllocError> {
+    pub fn add_file(&mut self, place: String) -> Result<(), AllocError> {
         self.files.insert(place)?;
         Ok(())
     }
 
-    pub fn folder(&mut self, place: String) -> Result<(), AllocError> {
+    pub fn add_folder(&mut self, place: String) -> Result<(), AllocError> {
         self.folders.insert(place)?;
-        Ok(())
-    }
-
-    /// Makes all of it durable, the files first; after an error all of it counts as touched still.
-    pub fn settle<R: Files + Drop>(&mut self, top: &Top<R>) -> Result<(), Refused> {
-        for place in self.files.iter() {
-            top.sync(place.as_str())?;
-        }
-        for place in self.folders.iter() {
-            top.sync(place.as_str())?;
-        }
-        self.files.clear();
-        self.folders.clear();
         Ok(())
     }
 }
 
-impl<R: Files + Drop> Top<R> {
+impl<R: Files<File = File> + Clone + Drop> Top<R> {
+    /// Makes durable what was touched, the files first. The system tells a lost write but once: so
+    /// after a failure none of it settles any more.
+    pub fn settle(&mut self) -> Result<(), Refused> {
+        if self.touched.is_lost {
+            return Err(self.lost(self.root.as_str()));
+        }
+        self.touched.is_lost = true;
+        for place in self.touched.files.iter() {
+            self.sync(place.as_str())?;
+        }
+        for place in self.touched.folders.iter() {
+            self.sync(place.as_str())?;
+        }
+        self.touched.files.clear();
+        self.touched.folders.clear();
+        self.touched.is_lost = false;
+        Ok(())
+    }
+
+    /// The failure of every sync after one that failed.
+    pub fn lost(&self, place: &str) -> Refused {
+        self.refused(place, io::Error::other("an earlier write was lost"))
+    }
+
     /// Makes a file or a folder durable. What went again needs no more than its folder.
     pub fn sync(&self, place: &str) -> Result<(), Refused> {
         match File::open(&self.rt, place) {

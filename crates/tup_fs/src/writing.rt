@@ -1,110 +1,146 @@
 //! One file, written as a whole or removed. All memory is taken before the tree changes.
 use crate::failure::Refused;
 use crate::top::{OWN_FOLDER, Standing, Top};
-use crate::touched::Touched;
 use std::fs::File;
 use std::io::{ErrorKind, Write};
 use std::rt::Files;
 use std::{fs, io};
 use tup_path::Path;
 
-// Where a file is written before it comes to its place.
-const NEW_FILE: &str = "/.tup/new";
+/// Where a file is written before it comes to its place.
+pub(crate) const NEW_FILE: &str = "/.tup/new";
 
-impl<R: Files + Drop> Top<R> {
-    /// Writes a file beside, and puts it into the place of the one that is there.
-    pub fn put(&self, touched: &mut Touched, path: &Path, content: &[u8]) -> Result<(), Refused> {
+// Its name in the folder of its place, where that is on another mount.
+const NEW_BESIDE: &str = "/.tup-new";
+
+impl<R: Files<File = File> + Clone + Drop> Top<R> {
+    /// Writes a file aside, and puts it into the place of the one that is there.
+    pub fn put(&mut self, path: &Path, content: &[u8]) -> Result<(), Refused> {
         for folder in self.folders_above(path)? {
-            self.make_folder(folder.as_str())?;
+            self.make_folder(folder)?;
+        }
+        let own = self.own(OWN_FOLDER)?;
+        self.make_folder(own)?;
+        let place = self.place(path.names())?;
+        self.make_way(path, &place)?;
+        let new = self.own(NEW_FILE)?;
+        let mut beside = self.folder_of(path)?;
+        beside.push_str(NEW_BESIDE)?;
+        self.touch(path)?;
+        self.bring(new.as_str(), beside.as_str(), content, place.as_str())
+    }
+
+    // Looks at what stands at a file's place: a file of just this name stays till it is replaced,
+    // an empty folder goes, and all else is a failure.
+    fn make_way(&mut self, path: &Path, place: &String) -> Result<(), Refused> {
+        match self.standing(place.as_str())? {
+            Standing::Nothing => Ok(()),
+            Standing::File(_) => self.check_spelling(path, place.as_str()),
+            Standing::Folder => {
+                self.folders.remove(place);
+                self.at(place.as_str(), fs::remove_dir(&self.rt, place.as_str()))
+            }
+            Standing::Other => Err(self.in_the_way(place.as_str())),
+        }
+    }
+
+    // Where the file system doesn't tell case apart, a file of another spelling isn't ours.
+    fn check_spelling(&mut self, path: &Path, place: &str) -> Result<(), Refused> {
+        if self.ignores_case()? {
+            let names = self.names_in(self.folder_of(path)?.as_str())?;
+            if path
+                .names()
+                .last()
+                .is_some_and(|name| !names.contains(name))
+            {
+                let error = io::Error::other("a file of another spelling stands here");
+                return Err(self.refused(place, error));
+            }
+        }
+        Ok(())
+    }
+
+    // Whether the file system may not tell case apart; it is asked once.
+    fn ignores_case(&mut self) -> Result<bool, Refused> {
+        if let Some(ignores) = self.ignores_case {
+            return Ok(ignores);
+        }
+        let other = self.own("/.TUP")?;
+        let ignores = self.standing(other.as_str())? == Standing::Folder;
+        self.ignores_case = Some(ignores);
+        Ok(ignores)
+    }
+
+    // The place of the folder that a path is in.
+    fn folder_of(&self, path: &Path) -> Result<String, Refused> {
+        let depth = path.depth().saturating_sub(1);
+        Ok(self.place(&path.names()[..depth])?)
+    }
+
+    // Notes the file and all folders above it: also one that a run which died has made or emptied.
+    fn touch(&mut self, path: &Path) -> Result<(), Refused> {
+        let mut folders = self.folders_above(path)?;
+        folders.push(self.place(&[])?)?;
+        for folder in folders {
+            self.touched.add_folder(folder)?;
         }
         let place = self.place(path.names())?;
-        let is_there = self.is_file(place.as_str())?;
-        let new = self.own(NEW_FILE)?;
-        self.make_folder(self.own(OWN_FOLDER)?.as_str())?;
-        self.touch(touched, path)?;
-        self.clear(new.as_str())?;
-        let done = self.write_and_replace(is_there, new.as_str(), content, place.as_str());
+        Ok(self.touched.add_file(place)?)
+    }
+
+    // Writes the file aside and renames it into its place; what doesn't come there is removed.
+    fn bring(&self, new: &str, beside: &str, content: &[u8], place: &str) -> Result<(), Refused> {
+        match self.write_and_rename(new, content, place) {
+            Err(e) if e.kind() == ErrorKind::CrossesDevices => {
+                let _ = fs::remove_file(&self.rt, beside);
+                self.at(place, self.write_and_rename(beside, content, place))
+            }
+            done => self.at(place, done),
+        }
+    }
+
+    fn write_and_rename(&self, new: &str, content: &[u8], place: &str) -> io::Result<()> {
+        let done = self.try_write_and_rename(new, content, place);
         if done.is_err() {
             let _ = fs::remove_file(&self.rt, new);
         }
         done
     }
 
-    // The places of the folders above a path, from the top down, without the top itself.
-    fn folders_above(&self, path: &Path) -> Result<Vec<String>, Refused> {
-        let mut folders = Vec::new(self.alloc);
-        for depth in 1..path.depth() {
-            folders.push(self.place(&path.names()[..depth])?)?;
-        }
-        Ok(folders)
+    fn try_write_and_rename(&self, new: &str, content: &[u8], place: &str) -> io::Result<()> {
+        File::create_new(&self.rt, new)?.write_all(content)?;
+        fs::rename(&self.rt, new, place)
     }
 
-    // Whether a file is there. What is neither a file nor nothing is a failure.
-    fn is_file(&self, place: &str) -> Result<bool, Refused> {
-        match self.standing(place)? {
-            Standing::Nothing => Ok(false),
-            Standing::File(_) => Ok(true),
-            _ => Err(self.refused(place, io::Error::from(ErrorKind::AlreadyExists))),
-        }
-    }
-
-    // Notes the file and all folders above it: also one that a run which died has made or emptied.
-    fn touch(&self, touched: &mut Touched, path: &Path) -> Result<(), Refused> {
-        touched.folder(self.place(&[])?)?;
-        for folder in self.folders_above(path)? {
-            touched.folder(folder)?;
-        }
-        touched.file(self.place(path.names())?)?;
-        Ok(())
-    }
-
-    // Renaming over a file takes far longer than removing it first.
-    fn write_and_replace(
-        &self,
-        is_there: bool,
-        new: &str,
-        content: &[u8],
-        place: &str,
-    ) -> Result<(), Refused> {
-        self.at(new, self.write_new(new, content))?;
-        if is_there {
-            self.at(place, fs::remove_file(&self.rt, place))?;
-        }
-        self.at(place, fs::rename(&self.rt, new, place))
-    }
-
-    fn write_new(&self, new: &str, content: &[u8]) -> io::Result<()> {
-        File::create_new(&self.rt, new)?.write_all(content)
-    }
-
-    /// Removes a file, and the folders that it leaves empty.
-    pub fn remove(&self, touched: &mut Touched, path: &Path) -> Result<(), Refused> {
+    /// Removes a file, and the folders that it leaves empty. Where there is none its folders are
+    /// noted still, since an earlier run's removal may not be durable.
+    pub fn remove(&mut self, path: &Path) -> Result<(), Refused> {
         let folders = self.folders_above(path)?;
         let place = self.place(path.names())?;
-        self.touch(touched, path)?;
+        self.touch(path)?;
         if self.standing_above(path)? != Standing::Folder {
             return Ok(());
         }
         match self.standing(place.as_str())? {
             Standing::File(_) => {
+                self.check_spelling(path, place.as_str())?;
                 self.at(place.as_str(), fs::remove_file(&self.rt, place.as_str()))?;
                 self.remove_empty(&folders);
                 Ok(())
             }
             // Not a file of ours: what somebody put there stays.
-            Standing::Other => {
-                Err(self.refused(place.as_str(), io::Error::from(ErrorKind::AlreadyExists)))
-            }
+            Standing::Other => Err(self.in_the_way(place.as_str())),
             Standing::Nothing | Standing::Folder => Ok(()),
         }
     }
 
     // From the lowest up, as long as they are empty.
-    fn remove_empty(&self, folders: &[String]) {
+    fn remove_empty(&mut self, folders: &[String]) {
         for folder in folders.iter().rev() {
             if fs::remove_dir(&self.rt, folder.as_str()).is_err() {
                 break;
             }
+            self.folders.remove(folder);
         }
     }
 }

@@ -1,5 +1,5 @@
 //! The calls of `fs.rows`.
-use crate::answers::{done, ended, number, path_of, refused, show, yes_or_no};
+use crate::answers::{done, ended, number, path_of, refused, show};
 use crate::folder::Folder;
 use std::alloc::{AllocError, Global};
 use tup_fs::FsSite;
@@ -38,6 +38,24 @@ impl Session {
     fn again(&mut self, alloc: Global) -> Result<Words, RowFault> {
         self.site = FsSite::new(self.folder.rt, alloc, self.folder.place.as_str())?;
         done(alloc)
+    }
+
+    /// Asks another site over the same folder for the store's length, while this one is at work.
+    fn beside(&mut self, alloc: Global) -> Result<Words, RowFault> {
+        let rt = self.folder.rt;
+        let mut other = FsSite::new(rt, alloc, self.folder.place.as_str())?;
+        match other.db_len(alloc) {
+            Ok(len) => number(alloc, len),
+            Err(failed) => refused(alloc, failed),
+        }
+    }
+
+    /// What the site says of its last failure.
+    fn said(&self, alloc: Global) -> Result<Words, RowFault> {
+        match self.site.last() {
+            Some(failure) => Words::one(alloc, format!(in alloc; "{failure}")?.as_bytes()),
+            None => Ok(Words::new(alloc)),
+        }
     }
 
     /// Begins a site over a folder that is there.
@@ -111,6 +129,7 @@ impl Answers for Session {
         match call {
             "begin" => self.begin(alloc, arguments.text(0)?),
             "again" => self.again(alloc),
+            "beside" => self.beside(alloc),
             "over" => self.over(alloc, arguments.text(0)?),
             "list" => self.list(alloc),
             "get" => self.get(alloc, arguments.text(0)?),
@@ -118,7 +137,7 @@ impl Answers for Session {
             "put" => self.put(alloc, arguments.text(0)?, arguments.bytes(1)?),
             "remove" => self.remove(alloc, arguments.text(0)?),
             "faults" => number(alloc, self.site.faults()),
-            "said" => yes_or_no(alloc, self.site.last().is_some()),
+            "said" => self.said(alloc),
             _ => self.answer_of_store(alloc, call, arguments),
         }
     }
