@@ -117,21 +117,31 @@ file "the update is done" b hi
 project "$copy"
 echo mine > target && ln -s target b
 row "a link at the output" 7 'read .;fault: the file tree or the store failed;' upd
-said './b: entity already exists'
+said './b: a link or a special file stands here'
 file "its target" target mine
 project "$copy"
 mkdir b
-row "an empty folder at the output" 7 'read .;fault: the file tree or the store failed;' upd
-said './b: entity already exists'
+row "an empty folder at the output" 0 "$done_copy" upd
+file "an empty folder at the output, its file" b hi
+project "$copy"
+mkdir b && echo mine > b/.mine
+row "a folder with a hidden file at the output" 7 'read .;fault: the file tree or the store failed;' upd
+said './b: Directory not empty (os error 39)'
+file "it stays" b/.mine mine
+project
+echo "$copy" > elsewhere && ln -s elsewhere Tupfile
+row "a link named Tupfile" 7 'fault: the file tree or the store failed;' upd
+said './Tupfile: a link or a special file stands here'
+gone "nothing was made" b
 project "$copy"
 echo mine > .tup
 row "a file named .tup" 7 'fault: the file tree or the store failed;' upd
-said './.tup: not a directory'
+said './.tup: a link or a special file stands here'
 file "it stays" .tup mine
 project "$copy"
 mkdir -p .tup/db
 row "a folder at the store" 7 'fault: the file tree or the store failed;' upd
-said './.tup/db: entity already exists'
+said './.tup/db: a link or a special file stands here'
 gone "nothing was made" b
 
 # What a hurried user does wrong.
@@ -212,7 +222,7 @@ if [ "$(id -u)" = 0 ] && mkdir "$work/small" && mount -t tmpfs -o size=64k none 
     head -c 24576 /dev/zero > a
     printf '%s\n' "$copy" ': b |> cp b c |> c' > Tupfile
     row "a full disk" 7 'read .;run .: cp a b;fault: the file tree or the store failed;' upd
-    said './.tup/new: No space left on device (os error 28)'
+    said './c: No space left on device (os error 28)'
     same "a full disk, the source" "$(wc -c < a)" 24576
     mount -o remount,size=1m "$work/small"
     row "room was made" 0 'read .;run .: cp a b;run .: cp b c;done: 1 read, 2 run, 0 removed;' upd
