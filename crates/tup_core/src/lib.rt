@@ -7,13 +7,11 @@
 #![tactic(auto)]
 
 mod event;
-mod fault;
 mod laws;
 mod plan;
 mod running;
 
 pub use event::{Cause, CoreEvent, Stamps};
-pub use fault::CoreFault;
 pub use laws::{asks_stand, claimed_once, ends_are_verdicts, never_stuck};
 pub use plan::{Numbers, Plan};
 pub use running::{Running, StampAsks};
