@@ -4,3 +4,4 @@ pub mod InOrder
 pub mod Makers
 pub mod Queue
 pub mod Ready
+pub mod Readers

@@ -6,7 +6,7 @@ ghost use Rattle.tup_clean.specs.Cleaned.{IsCleaned, build, builds_all};
 
 use crate::Cleaned;
 use crate::fault::CleanFault;
-use crate::generated::generated;
+use crate::made::generated;
 use crate::queue::Queue;
 use crate::running::run;
 use crate::tree::FileTree;

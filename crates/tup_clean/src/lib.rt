@@ -3,13 +3,14 @@
 //! `clean_build` gives just the build that `specs/Clean.antt` defines, for every list of rules, and is refused
 //! for want of memory alone. It knows nothing of graphs, flags, stamps or threads. Rules wait in a queue,
 //! so its time is that of the commands, the declared inputs and the rules, times a logarithm.
+//! `generated` and `readers` tell what rules make, and who declares it, to a scheduler too.
 //! `proofs/CleanLaws.antt` and `proofs/InOrderLaws.antt` say what the build is where the rules can be run in
 //! their order, and which trees a rule could as well be run in.
 #![tactic(auto)]
 
 mod build;
 mod fault;
-mod generated;
+mod made;
 mod makers;
 mod queue;
 mod running;
@@ -17,6 +18,8 @@ mod tree;
 
 pub use build::clean_build;
 pub use fault::CleanFault;
+pub use made::generated;
+pub use queue::readers;
 use tup_access::Verdict;
 use tup_path::{Files, Items};
 

@@ -3,6 +3,7 @@ ghost use Rattle.std.specs.Prelude.{◌≡◌, ℕ, Bool, List, false, IfOk, OnO
 ghost use Rattle.tup_rule.specs.declared.rule.Rule.{Rule as RuleValue};
 ghost use Rattle.tup_clean.specs.Clean.{is_good as is_good_verdict};
 ghost use Rattle.tup_clean.specs.Makers.{producers_in};
+ghost use Rattle.tup_clean.specs.Readers.{AreReaders};
 ghost use Rattle.tup_clean.specs.Queue.{IsQueue, IsWhole, IsNext, CanRelease, AreWaiting, IsReleased, AreBelow, IsNoted, Takes, Adds, Notes};
 
 use crate::makers::{Makers, add_makers, makers};
@@ -77,6 +78,13 @@ impl Queue {
         }
         Ok(())
     }
+}
+
+/// For each rule, the rules that declare what it makes, one as often as it declares such a path.
+pub fn readers(alloc: Global, rules: &[Rule]) -> Result<Vec<Items<usize>>, AllocError>
+    ensures { IfOk result (λ readers. AreReaders rules.now readers.items) }
+{
+    Ok(Queue::new(alloc, rules)?.readers)
 }
 
 fn is_good(verdict: &Verdict) -> bool

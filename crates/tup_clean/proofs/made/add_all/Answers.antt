@@ -1,5 +1,5 @@
 use Rattle.tup_clean.proofs.Outputs.{added}
-use Rattle.tup_clean.proofs.generated.add_all.Goals as goal
+use Rattle.tup_clean.proofs.made.add_all.Goals as goal
 
 pub loop-path-preserved : goal.loop-path-preserved
 loop-path-preserved c = λ path.

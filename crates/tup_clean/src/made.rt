@@ -12,7 +12,7 @@ use tup_path::Path;
 use tup_rule::Rule;
 
 /// The outputs of all rules.
-pub(crate) fn generated(alloc: Global, rules: &[Rule]) -> Result<BTreeSet<Path>, AllocError>
+pub fn generated(alloc: Global, rules: &[Rule]) -> Result<BTreeSet<Path>, AllocError>
     ensures { IfOk result (λ set. IsGenerated rules.now set) }
 {
     let mut set = BTreeSet::new(alloc);
