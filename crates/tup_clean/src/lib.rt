@@ -3,6 +3,7 @@
 //! `clean_build` gives just the build that `specs/Clean.antt` defines, for every list of rules, and is refused
 //! for want of memory alone. It knows nothing of graphs, flags, stamps or threads. Rules wait in a queue,
 //! so its time is that of the commands, the declared inputs and the rules, times a logarithm.
+//! `any_order` and `no_order` say that it doesn't matter which ready rule is taken first, and what is left in any order.
 //! `proofs/CleanLaws.antt` and `proofs/InOrderLaws.antt` say what the build is where the rules can be run in
 //! their order, and which trees a rule could as well be run in.
 #![tactic(auto)]
@@ -10,6 +11,7 @@
 mod build;
 mod fault;
 mod generated;
+mod laws;
 mod makers;
 mod queue;
 mod running;
@@ -17,6 +19,7 @@ mod tree;
 
 pub use build::clean_build;
 pub use fault::CleanFault;
+pub use laws::{any_order, no_order};
 use tup_access::Verdict;
 use tup_path::{Files, Items};
 
