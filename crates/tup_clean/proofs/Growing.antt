@@ -103,7 +103,7 @@ more_good rules one other more zero rule good = refl
 more_good rules one other more (suc steps) rule good =
     more_all _ _ (λ path. more_path rules one other steps more (more_good rules one other more steps) (maker path rules)) (rule.inputs ++ rule.order) good
 
-is_none_None : {A : Type 0} (o : Option A) → is_none o ≡ true → o ≡ None
+pub is_none_None : {A : Type 0} (o : Option A) → is_none o ≡ true → o ≡ None
 is_none_None None none = refl
 is_none_None (Some x) none = absurd (false≢true none)
 
@@ -117,14 +117,14 @@ next_ready-tells rules verdicts at rule ready here =
     (zip_second rules verdicts at found.0 found.1 ∙ ap Some (is_none_None found.0.1 tests.0), subst (λ (r : Rule). makers_good rules verdicts r ≡ true) same_rule tests.1)
 
 -- another verdict takes none away
-stays_good : (verdicts : List (Option Verdict)) (at : ℕ) (verdict : Verdict) → slice_get verdicts at ≡ Some None →
+pub stays_good : (verdicts : List (Option Verdict)) (at : ℕ) (verdict : Verdict) → slice_get verdicts at ≡ Some None →
     (place : ℕ) → good_at verdicts place ≡ true → good_at (slice_set verdicts at (Some verdict)) place ≡ true
 stays_good verdicts at verdict none place good =
     let apart : place ≡ at → ⊥ = λ same. true≢false (sym good ∙ rw (same, good_at, none) refl) in
     rw (good_at, set_apart verdicts at place (Some verdict) apart) good
 
 -- and gives none but its own
-was_good : (verdicts : List (Option Verdict)) (at : ℕ) (verdict : Verdict) (place : ℕ) → (place ≡ at → ⊥) →
+pub was_good : (verdicts : List (Option Verdict)) (at : ℕ) (verdict : Verdict) (place : ℕ) → (place ≡ at → ⊥) →
     good_at (slice_set verdicts at (Some verdict)) place ≡ true → good_at verdicts place ≡ true
 was_good verdicts at verdict place apart good = rw (← (set_apart verdicts at place (Some verdict) apart), good_at) good
 

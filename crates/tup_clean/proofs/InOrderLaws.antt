@@ -173,7 +173,7 @@ in_order_good count next rules sources buildable within good = record {
 
 -- ---- trees in which a rule does the same
 
-declared_since : (generated declared own : Bool) → not (generated && not declared && not own) ≡ true → generated ≡ true → own ≡ false → declared ≡ true
+pub declared_since : (generated declared own : Bool) → not (generated && not declared && not own) ≡ true → generated ≡ true → own ≡ false → declared ≡ true
 declared_since generated true own may made foreign = refl
 declared_since true false true may made foreign = cc
 declared_since true false false may made foreign = cc

@@ -13,3 +13,6 @@ pub mod Counting
 pub mod Queueing
 pub mod Taking
 pub mod Making
+pub mod MayTake
+pub mod Whole
+pub mod OneBuild

@@ -1,3 +1,4 @@
+pub mod AnyOrder
 pub mod Clean
 pub mod Cleaned
 pub mod InOrder

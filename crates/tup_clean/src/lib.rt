@@ -4,12 +4,14 @@
 //! for want of memory alone. It knows nothing of graphs, flags, stamps or threads. Rules wait in a queue,
 //! so its time is that of the commands, the declared inputs and the rules, times a logarithm.
 //! `generated` and `readers` tell what rules make, and who declares it, to a scheduler too.
+//! `any_order` and `no_order` say that it doesn't matter which ready rule is taken first, and what is left in any order.
 //! `proofs/CleanLaws.antt` and `proofs/InOrderLaws.antt` say what the build is where the rules can be run in
 //! their order, and which trees a rule could as well be run in.
 #![tactic(auto)]
 
 mod build;
 mod fault;
+mod laws;
 mod made;
 mod makers;
 mod queue;
@@ -18,6 +20,7 @@ mod tree;
 
 pub use build::clean_build;
 pub use fault::CleanFault;
+pub use laws::{any_order, no_order};
 pub use made::generated;
 pub use queue::readers;
 use tup_access::Verdict;

@@ -14,7 +14,7 @@ use Rattle.tup_core.specs.declared.event.CoreEvent.{CoreEvent}
 use Rattle.tup_core.specs.declared.event.CoreEvent.TheVariants.{Claim, Ask, Deny, Finish, Stop}
 use Rattle.tup_core.specs.declared.plan.Plan.{Plan}
 use Rattle.tup_core.specs.declared.running.Running.{Running}
-use Rattle.tup_core.specs.Step.{State, changed, opening, IsEnabled, Runs, asked, refused, emptied, ended, after}
+use Rattle.tup_core.specs.Step.{State, changed, opening, IsEnabled, asked, refused, emptied, ended, after}
 use Rattle.tup_core.specs.Run.{IsRun, end_of}
 use Rattle.tup_core.proofs.Changed.{changed_cases}
 use Rattle.tup_core.proofs.Orderly.{finished_is, seats_ended, seat_emptied}
@@ -70,7 +70,7 @@ changed_counted plan state new seat change counted is each = record {
     found None e now q = absurd (none-some now q)
     found (Some before) e now q = subst (λ (r : Running). IsCounted plan r) (same_Some _ _ q) (each before e)
 
-counted_after : (plan : Plan) (state : State) (event : CoreEvent) → AreCounted plan state → IsEnabled plan state event → AreCounted plan (after plan state event)
+pub counted_after : (plan : Plan) (state : State) (event : CoreEvent) → AreCounted plan state → IsEnabled plan state event → AreCounted plan (after plan state event)
 counted_after plan state (Claim seat at) counted enabled = record {
   each = λ other now there.
       let fresh : Running = record { rule = at; asks = []; denied = None } in

@@ -2,7 +2,11 @@ mod Changed
 mod Orderly
 mod Places
 mod Counted
+mod Acyclic
+mod Settled
+mod Opening
 pub mod ClaimedOnce
 pub mod Standing
 pub mod NeverStuck
 pub mod Verdicts
+pub mod CleanRuns

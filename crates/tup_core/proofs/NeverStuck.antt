@@ -1,28 +1,27 @@
 -- No run comes to a state in which a rule waits and nothing will ever change that.
-use Rattle.std.proofs.Common.{◌≡◌, ℕ, zero, suc, ◌+◌, ◌<◌, ◌≤◌, ◌⊎◌, Bool, true, false, List, [], ◌∷◌, length, Option, None, Some, refl, sym, ap, ◌∙◌, subst, inl, inr, arith}
-use Rattle.std.specs.Prelude.{◌==◌, nat_eq, slice_get, if◌then◌else◌, unwrap_or}
+use Rattle.std.proofs.Common.{◌≡◌, ℕ, Bool, true, false, List, [], ◌∷◌, Option, None, Some, refl, sym, ap, ◌∙◌, subst, inl, inr}
+use Rattle.std.specs.Prelude.{slice_get, if◌then◌else◌, unwrap_or}
 use Rattle.std.specs.Option.{option_map}
-use Rattle.std.specs.List.{IsDistinct, AllByRecursion, list_any}
-use Rattle.std.proofs.lemmas.Bool.{true≢false, cases_Bool, or_cases, or_left, or_right, eqb-true}
-use Rattle.std.proofs.lemmas.Option.{same_Some, none-some, slice_get-get_or}
-use Rattle.std.proofs.lemmas.Map.Steps.{length-le_from_distinct_below}
+use Rattle.std.proofs.lemmas.Bool.{true≢false, cases_Bool, false_from_ne_true}
+use Rattle.std.proofs.lemmas.Option.{same_Some, none-some}
 use Rattle.tup_path.specs.Name.{Names}
 use Rattle.tup_stamp.specs.declared.Stamp.{Stamp}
 use Rattle.tup_rule.specs.declared.rule.Rule.{Rule}
-use Rattle.tup_rule.specs.Producer.{ProducerOver, DeclaredProducer}
 use Rattle.tup_access.specs.declared.verdict.Verdict.{Verdict}
 use Rattle.tup_access.specs.declared.verdict.Verdict.TheVariants.{Good, Failed, IllegalRead, IllegalWrite, Unwritten, TooManyReads}
+use Rattle.tup_clean.proofs.Places.{some_place}
 use Rattle.tup_core.specs.declared.event.Cause.{Cause}
 use Rattle.tup_core.specs.declared.event.Cause.TheVariants.{Bad}
 use Rattle.tup_core.specs.declared.event.CoreEvent.{CoreEvent}
 use Rattle.tup_core.specs.declared.event.CoreEvent.TheVariants.{Claim, Ask, Deny, Finish, Stop}
 use Rattle.tup_core.specs.declared.plan.Plan.{Plan}
 use Rattle.tup_core.specs.declared.running.Running.{Running}
-use Rattle.tup_core.specs.Step.{State, changed, opening, is_reached, IsReady, IsEnabled, Runs, asked, refused, emptied, stopped_by, ended, after}
+use Rattle.tup_core.specs.Step.{State, changed, opening, IsEnabled, asked, refused, emptied, stopped_by, ended, after}
 use Rattle.tup_core.specs.Run.{IsRun, end_of}
 use Rattle.tup_core.specs.Sound.{IsAcyclic, IsInRange, IsStuck}
+use Rattle.tup_core.proofs.Acyclic.{by_producers}
 use Rattle.tup_core.proofs.Changed.{changed_cases, changed_here}
-use Rattle.tup_core.proofs.Orderly.{IsOrderly, orderly_after, orderly_opening, finished_is, seats_ended, pending_ended, claimed_ended}
+use Rattle.tup_core.proofs.Orderly.{IsOrderly, orderly_after, orderly_opening, finished_is}
 
 -- ---- a claimed rule that is pending is running, or bad, or everything is stopped
 
@@ -158,64 +157,7 @@ orderly_run : (plan : Plan) (events : List CoreEvent) (state : State) → IsOrde
 orderly_run plan [] state orderly run = orderly
 orderly_run plan (event ∷ events) state orderly (enabled, run) = orderly_run plan events (after plan state event) (orderly_after plan state event orderly enabled) run
 
--- ---- behind each rule that waits stands another, and there are only so many
-
--- a producer of a producer is a producer
-through : (rules : List Rule) (rule middle : Rule) (at other : ℕ) (between : ℕ) → ProducerOver between rules rule at → slice_get rules at ≡ Some middle → DeclaredProducer rules middle other →
-    DeclaredProducer rules rule other
-through rules rule middle at other zero makes here behind = (suc behind.0, (at, middle, makes, here, behind.1))
-through rules rule middle at other (suc between) (next, one, makes, there, rest) here behind =
-    let more = through rules one middle at other between rest here behind in
-    (suc more.0, (next, one, makes, there, more.1))
-
--- a number that isn't in a list is none of its
-none_of : (number : ℕ) (list : List ℕ) → (list_any (nat_eq number) list ≡ true → ⊥) → AllByRecursion (λ other. nat_eq number other ≡ false) list
-none_of number [] apart = tt
-none_of number (other ∷ list) apart = (
-  first (nat_eq number other) (λ same. apart (or_left (nat_eq number other) (list_any (nat_eq number) list) same)),
-  none_of number list (λ among. apart (or_right (nat_eq number other) (list_any (nat_eq number) list) among)),
-)
-  where
-    first : (b : Bool) → (b ≡ true → ⊥) → b ≡ false
-    first true isnt = absurd (isnt refl)
-    first false isnt = refl
-
--- the rules of a chain, each of which waits for the last
-pub record IsChain (rules : List Rule) (last : ℕ) (chain : List ℕ) : Type 0 where
-  pub distinct : IsDistinct nat_eq (last ∷ chain)
-  pub within : (at : ℕ) → list_any (nat_eq at) (last ∷ chain) ≡ true → at < length rules
-  pub behind : (at : ℕ) → list_any (nat_eq at) chain ≡ true → (rule : Rule) × (slice_get rules at ≡ Some rule) × DeclaredProducer rules rule last
-
-longer : (rules : List Rule) (last next : ℕ) (chain : List ℕ) (rule : Rule) → IsAcyclic rules → IsChain rules last chain → slice_get rules last ≡ Some rule → DeclaredProducer rules rule next → next < length rules →
-    IsChain rules next (last ∷ chain)
-unfolding IsDistinct
-longer rules last next chain rule acyclic is here produces within = record {
-  distinct = (none_of next (last ∷ chain) (λ among. apart next among refl), is.distinct);
-  within = λ at among. elim (or_cases (nat_eq at next) (list_any (nat_eq at) (last ∷ chain)) among) [
-    | inl same ↦ subst (λ (n : ℕ). n < length rules) (sym (eqb-true at next same)) within
-    | inr earlier ↦ is.within at earlier
-  ];
-  behind = λ at among. waits at among;
-}
-  where
-    waits : (at : ℕ) → list_any (nat_eq at) (last ∷ chain) ≡ true → (one : Rule) × (slice_get rules at ≡ Some one) × DeclaredProducer rules one next
-    waits at among = elim (or_cases (nat_eq at last) (list_any (nat_eq at) chain) among) [
-      | inl same ↦ (rule, ap (λ (n : ℕ). slice_get rules n) (eqb-true at last same) ∙ here, produces)
-      | inr earlier ↦
-          let had = is.behind at earlier in
-          (had.0, had.1, through rules had.0 rule last next had.2.0 had.2.1 here produces)
-    ]
-
-    apart : (at : ℕ) → list_any (nat_eq at) (last ∷ chain) ≡ true → at ≡ next → ⊥
-    apart at among same =
-        let had = waits at among in
-        acyclic next had.0 (ap (λ (n : ℕ). slice_get rules n) (sym same) ∙ had.1) had.2
-
--- a rule at each place
-some_rule : (rules : List Rule) (at : ℕ) → at < length rules → (rule : Rule) × (slice_get rules at ≡ Some rule)
-some_rule [] at within = absurd (omega arith)
-some_rule (rule ∷ rules) zero within = (rule, refl)
-some_rule (rule ∷ rules) (suc at) within = some_rule rules at (omega arith)
+-- ---- behind each rule that waits would stand another
 
 -- in a stuck state a pending rule was never claimed
 unclaimed : (plan : Plan) (state : State) (at : ℕ) → IsAccounted state → IsStuck plan state → state.pending at ≡ true → state.claimed at ≡ false
@@ -230,55 +172,24 @@ unclaimed plan state at accounted stuck pending =
     no_reason (by_bad verdict is) = none-some verdict (sym (stuck.none_bad at) ∙ is)
     no_reason (by_stop cause is) = none-some cause (sym stuck.going ∙ is)
 
--- one step down a chain: its last rule isn't ready, so it waits for another
-further : (plan : Plan) (state : State) → IsAcyclic plan.rules → IsInRange plan → IsOrderly plan state → IsAccounted state → IsStuck plan state → (last : ℕ) (chain : List ℕ) →
-    IsChain plan.rules last chain → state.pending last ≡ true → ((next : ℕ) → IsChain plan.rules next (last ∷ chain) → state.pending next ≡ true → ⊥) → ⊥
-further plan state acyclic range orderly accounted stuck last chain is pending deeper =
-    let found = some_rule plan.rules last (range last (orderly.reached last pending)) in
-    stuck.none_ready last (record {
-      pending = pending;
-      unclaimed = unclaimed plan state last accounted stuck pending;
+-- so no rule is pending
+none_pending : (plan : Plan) (state : State) → IsAcyclic plan.rules → IsAccounted state → IsStuck plan state → (at : ℕ) (rule : Rule) → slice_get plan.rules at ≡ Some rule → state.pending at ≡ true → ⊥
+none_pending plan state acyclic accounted stuck at rule here =
+    by_producers plan.rules acyclic (λ other. state.pending other ≡ true → ⊥)
+    (λ other its there behind waiting. stuck.none_ready other (record {
+      pending = waiting;
+      unclaimed = unclaimed plan state other accounted stuck waiting;
       going = stuck.going;
-      clear = (found.0, found.1, λ next produced. waits_not found.0 found.1 next produced);
-    })
-  where
-    waits_not : (rule : Rule) → slice_get plan.rules last ≡ Some rule → (next : ℕ) → DeclaredProducer plan.rules rule next → state.pending next ≡ false
-    waits_not rule here next produced =
-        elim (cases_Bool (state.pending next)) [
-          | inr down ↦ down
-          | inl waiting ↦ absurd (deeper next (longer plan.rules last next chain rule acyclic is here produced (range next (orderly.reached next waiting))) waiting)
-        ]
-
-descend : (plan : Plan) (state : State) → IsAcyclic plan.rules → IsInRange plan → IsOrderly plan state → IsAccounted state → IsStuck plan state → (fuel : ℕ) (last : ℕ) (chain : List ℕ) →
-    length plan.rules ≤ fuel + length chain → IsChain plan.rules last chain → state.pending last ≡ true → ⊥
-descend plan state acyclic range orderly accounted stuck zero last chain enough is pending =
-    no_room (length plan.rules) (length chain) enough (length-le_from_distinct_below (last ∷ chain) (length plan.rules) is.distinct is.within)
-  where
-    no_room : (n m : ℕ) → n ≤ 0 + m → suc m ≤ n → ⊥
-    no_room n m enough short = omega arith
-descend plan state acyclic range orderly accounted stuck (suc fuel) last chain enough is pending =
-    further plan state acyclic range orderly accounted stuck last chain is pending
-    (λ next more waiting. descend plan state acyclic range orderly accounted stuck fuel next (last ∷ chain) (room (length plan.rules) fuel (length chain) enough) more waiting)
-  where
-    room : (n f m : ℕ) → n ≤ suc f + m → n ≤ f + suc m
-    room n f m enough = omega arith
+      clear = (its, there, λ next produced. false_from_ne_true (state.pending next) (behind next produced));
+    }))
+    at rule here
 
 pub never_stuck : (plan : Plan) (files : List (Names × Stamp)) (events : List CoreEvent) → IsAcyclic plan.rules → IsInRange plan → IsRun plan (opening plan files) events →
     IsStuck plan (end_of plan (opening plan files) events) → ⊥
-unfolding IsDistinct
 never_stuck plan files events acyclic range run stuck =
     let state = end_of plan (opening plan files) events in
     let orderly = orderly_run plan events (opening plan files) (orderly_opening plan files) run in
     let accounted = accounted_run plan events (opening plan files) (record { reason = λ at claimed pending. absurd (true≢false (sym claimed)) }) run in
     let at = stuck.pending.0 in
-    let within = range at (orderly.reached at stuck.pending.1) in
-    descend plan state acyclic range orderly accounted stuck (length plan.rules) at [] (omega arith)
-    (record {
-      distinct = (tt, tt);
-      within = λ other among. elim (or_cases (nat_eq other at) false among) [
-        | inl same ↦ subst (λ (n : ℕ). n < length plan.rules) (sym (eqb-true other at same)) within
-        | inr none ↦ absurd (true≢false (sym none))
-      ];
-      behind = λ other among. absurd (true≢false (sym among));
-    })
-    stuck.pending.1
+    let found = some_place plan.rules at (range at (orderly.reached at stuck.pending.1)) in
+    none_pending plan state acyclic accounted stuck at found.0 found.1 stuck.pending.1

@@ -1,13 +1,11 @@
 -- In a run the answer of each ask stands until the seat's command ends or is stopped.
-use Rattle.std.proofs.Common.{◌≡◌, ◌≢◌, ℕ, zero, suc, ◌<◌, ◌⊎◌, Bool, true, false, not, ◌&&◌, ◌||◌, List, [], ◌∷◌, ◌++◌, length, Option, None, Some, Ok, refl, sym, ap, ◌∙◌, subst, inl, inr, arith}
-use Rattle.std.specs.Prelude.{if◌then◌else◌, map, All, slice_get}
+use Rattle.std.proofs.Common.{◌≡◌, ℕ, zero, ◌<◌, Bool, true, false, not, ◌&&◌, List, [], ◌∷◌, ◌++◌, length, Option, None, Some, refl, sym, ap, ◌∙◌, subst, inl, inr, arith}
+use Rattle.std.specs.Prelude.{map, All, slice_get}
 use Rattle.std.specs.Option.{option_map}
-use Rattle.std.specs.List.{position, list_any}
 use Rattle.std.proofs.lemmas.Bool.{true≢false, cases_Bool}
 use Rattle.std.proofs.lemmas.Option.{same_Some, none-some}
 use Rattle.std.proofs.lemmas.List.Elements.{All-push}
 use Rattle.tup_path.specs.Name.{Names}
-use Rattle.tup_path.specs.Resolve.{resolve}
 use Rattle.tup_stamp.specs.declared.Stamp.{Stamp}
 use Rattle.tup_rule.specs.declared.rule.Rule.{Rule}
 use Rattle.tup_rule.specs.Rule.{among, declares, writes, maker, is_generated}
@@ -19,7 +17,7 @@ use Rattle.tup_core.specs.declared.event.CoreEvent.{CoreEvent}
 use Rattle.tup_core.specs.declared.event.CoreEvent.TheVariants.{Claim, Ask, Deny, Finish, Stop}
 use Rattle.tup_core.specs.declared.plan.Plan.{Plan}
 use Rattle.tup_core.specs.declared.running.Running.{Running}
-use Rattle.tup_core.specs.Step.{State, changed, with_stamps, opening, is_reached, IsClear, IsEnabled, FitsEnd, Runs, told, asked, refused, emptied, ended, after}
+use Rattle.tup_core.specs.Step.{State, changed, opening, is_reached, IsClear, IsEnabled, FitsEnd, Runs, told, asked, refused, emptied, ended, after}
 use Rattle.tup_core.specs.Run.{IsRun, end_of}
 use Rattle.tup_core.specs.Sound.{HasOneMaker, Stands}
 use Rattle.tup_core.proofs.Changed.{changed_cases, with_stamps_apart}
@@ -76,7 +74,7 @@ stand_on plan old new rule asks stand same = λ k d below.
 -- ---- the end of a command
 
 -- whatever a command writes, it writes outputs of its rule
-writes_own : (rule : Rule) (denied : Option (List ℕ × Verdict)) (verdict : Verdict) (written : List (Names × Stamp)) → FitsEnd rule denied verdict written → (path : Names) → writes rule path ≡ false →
+pub writes_own : (rule : Rule) (denied : Option (List ℕ × Verdict)) (verdict : Verdict) (written : List (Names × Stamp)) → FitsEnd rule denied verdict written → (path : Names) → writes rule path ≡ false →
     among path (map (λ (w : Names × Stamp). w.0) written) ≡ false
 writes_own rule (Some denied) verdict written (same, none) path foreign = ap (λ (ws : List (Names × Stamp)). among path (map (λ (w : Names × Stamp). w.0) ws)) none
 writes_own rule None Good written outputs path foreign = ap (among path) outputs ∙ foreign
@@ -87,7 +85,7 @@ writes_own rule None (IllegalRead text) written fits path foreign = absurd fits
 writes_own rule None TooManyReads written fits path foreign = absurd fits
 
 -- a file changes only where it was written
-files_ended : (plan : Plan) (state : State) (at : ℕ) (verdict : Verdict) (written : List (Names × Stamp)) (path : Names) →
+pub files_ended : (plan : Plan) (state : State) (at : ℕ) (verdict : Verdict) (written : List (Names × Stamp)) (path : Names) →
     among path (map (λ (w : Names × Stamp). w.0) written) ≡ false → (ended plan state at verdict written).files path ≡ state.files path
 files_ended plan state at Good written path apart = with_stamps_apart written state.files path apart
 files_ended plan state at (Failed status) written path apart = refl
@@ -122,7 +120,7 @@ stand_ask plan state seat text answer stand (running, rule, path, runs, going, m
       ];
 }
 
-stand_after : (plan : Plan) (state : State) (event : CoreEvent) → HasOneMaker plan → IsOrderly plan state → AllStand plan state → IsEnabled plan state event → AllStand plan (after plan state event)
+pub stand_after : (plan : Plan) (state : State) (event : CoreEvent) → HasOneMaker plan → IsOrderly plan state → AllStand plan state → IsEnabled plan state event → AllStand plan (after plan state event)
 stand_after plan state (Claim seat at) one orderly stand enabled = record {
   asks = λ other now rule is here.
       let new = after plan state (Claim seat at) in

@@ -1,6 +1,6 @@
 -- An honest end over asks that stand is the verdict over every tree with the files of that moment.
-use Rattle.std.proofs.Common.{◌≡◌, ℕ, zero, suc, ◌+◌, ◌<◌, ◌≤◌, Bool, true, false, List, [], ◌∷◌, ◌++◌, length, map, Option, None, Some, Ok, refl, sym, ap, ◌∙◌, subst, inl, inr, length-append, append_assoc, arith}
-use Rattle.std.specs.Prelude.{nat_le, if◌then◌else◌, slice_get, All, Contains}
+use Rattle.std.proofs.Common.{◌≡◌, ℕ, suc, ◌+◌, ◌<◌, ◌≤◌, true, false, List, [], ◌∷◌, ◌++◌, length, map, Option, None, Some, Ok, refl, sym, ap, ◌∙◌, subst, inl, inr, length-append, append_assoc, arith}
+use Rattle.std.specs.Prelude.{if◌then◌else◌, slice_get, All, Contains}
 use Rattle.std.specs.FinMap as finite
 use Rattle.std.specs.Option.{option_map}
 use Rattle.std.proofs.lemmas.Bool.{cases_Bool, lt-leb}
@@ -16,8 +16,6 @@ use Rattle.tup_rule.specs.Rule.{writes}
 use Rattle.tup_runner.specs.Next.{Next, Asks}
 use Rattle.tup_runner.specs.declared.step.Answer.{Answer}
 use Rattle.tup_runner.specs.declared.step.Answer.TheVariants.{Content as Holds, Absent}
-use Rattle.tup_runner.specs.declared.step.Ended.{Ended}
-use Rattle.tup_runner.specs.declared.step.Step.TheVariants.{Ask as AsksFor, End}
 use Rattle.tup_access.specs.declared.verdict.Verdict.{Verdict}
 use Rattle.tup_access.specs.declared.verdict.Access.TheVariants.{Yes, No}
 use Rattle.tup_access.specs.Access.{access, may_read}
@@ -27,12 +25,12 @@ use Rattle.tup_access.proofs.Steps.{verdict_after-none, verdict_after-End, verdi
 use Rattle.tup_core.specs.declared.event.CoreEvent.{CoreEvent}
 use Rattle.tup_core.specs.declared.plan.Plan.{Plan}
 use Rattle.tup_core.specs.declared.running.Running.{Running}
-use Rattle.tup_core.specs.Step.{State, opening, Runs, FitsEnd, told}
+use Rattle.tup_core.specs.Step.{State, opening, Runs, FitsEnd}
 use Rattle.tup_core.specs.Run.{IsRun, end_of}
 use Rattle.tup_core.specs.Sound.{HasOneMaker, Stands}
 use Rattle.tup_core.specs.Honest.{IsKnown, StandsFor, AreAnswered, AsksJust, Answered, stamped, EndsHonestly, IsTreeOf, IsVerdictOver}
 use Rattle.tup_core.proofs.Standing.{asks_stand}
-use Rattle.tup_core.proofs.Counted.{all_counted}
+use Rattle.tup_core.proofs.Counted.{IsCounted, all_counted}
 
 -- a text that names a path that may be read may be asked for
 may_ask : (rules : List Rule) (rule : Rule) (before : ℕ) (text : List ℕ) (path : Names) → before < 4095 → resolve rule.dir text ≡ Ok path → may_read rules rule path ≡ true → access rules rule before text ≡ Yes path
@@ -55,13 +53,21 @@ content_of known tree path seen given is_known contents is stands = by (finite.g
     by (Some content) has (Some seen_stamp) (Holds read) e s =
         ap Holds (is_known read content s.0 (has content refl) (sym s.1 ∙ same_Some _ _ e))
 
+-- an ask as a tree would answer it: its text names a path that may be read, and it was told the stamp of what the tree has there
+pub record IsAsOver (known : List Content) (rules : List Rule) (rule : Rule) (tree : Tree) (ask : List ℕ × Option Stamp) : Type 0 where
+  pub path : Names
+  pub named : resolve rule.dir ask.0 ≡ Ok path
+  pub readable : may_read rules rule path ≡ true
+  pub same : ask.1 ≡ (if writes rule path then None else option_map stamp (finite.get tree path))
+  pub contents : writes rule path ≡ false → (content : Content) → finite.get tree path ≡ Some content → Contains known content
+
 -- an answer that stands is the tree's
-answer_of : (known : List Content) (rule : Rule) (state : State) (tree : Tree) (path : Names) (seen : Option Stamp) (given : Answer) → IsKnown known → IsTreeOf known state.files tree →
-    seen ≡ told rule state path → StandsFor known seen given → given ≡ answer rule tree path
-answer_of known rule state tree path seen given is_known is_tree is stands =
-    elim (cases_Bool (writes rule path)) [
-      | inl own ↦ rw own (absent seen given (is ∙ rw own refl) stands)
-      | inr foreign ↦ rw foreign (content_of known tree path seen given is_known (is_tree.contents path) (is ∙ rw foreign (sym (is_tree.stamps path))) stands)
+answer_of : (known : List Content) (rules : List Rule) (rule : Rule) (tree : Tree) (ask : List ℕ × Option Stamp) (given : Answer) → IsKnown known → (over : IsAsOver known rules rule tree ask) →
+    StandsFor known ask.1 given → given ≡ answer rule tree over.path
+answer_of known rules rule tree ask given is_known over stands =
+    elim (cases_Bool (writes rule over.path)) [
+      | inl own ↦ rw own (absent ask.1 given (over.same ∙ rw own refl) stands)
+      | inr foreign ↦ rw foreign (content_of known tree over.path ask.1 given is_known (over.contents foreign) (over.same ∙ rw foreign refl) stands)
     ]
   where
     absent : (one : Option Stamp) (other : Answer) → one ≡ None → StandsFor known one other → other ≡ Absent
@@ -71,22 +77,22 @@ answer_of known rule state tree path seen given is_known is_tree is stands =
 
 -- ---- all asks
 
-follows : (next : Next) (known : List Content) (plan : Plan) (state : State) (rule : Rule) (tree : Tree) → IsKnown known → IsTreeOf known state.files tree →
-    (seen : List (List ℕ × Option Stamp)) (given : Asks) (before : Asks) → AreAnswered known seen given → All (Stands plan state rule) seen → AsksJust next rule before given → length before + length seen ≤ 4095 →
-    verdict_after next plan.rules rule tree before ≡ verdict_after next plan.rules rule tree (before ++ given)
-follows next known plan state rule tree is_known is_tree [] [] before answered stand just few = ap (verdict_after next plan.rules rule tree) (sym (append-nil before))
-follows next known plan state rule tree is_known is_tree [] (one ∷ given) before answered stand just few = absurd answered
-follows next known plan state rule tree is_known is_tree (ask ∷ seen) [] before answered stand just few = absurd answered
-follows next known plan state rule tree is_known is_tree (ask ∷ seen) (one ∷ given) before (same, stands, answered) stand (asks_one, just) few =
-    let first : Stands plan state rule ask = stand 0 ask (here (length seen)) in
+follows : (next : Next) (known : List Content) (rules : List Rule) (rule : Rule) (tree : Tree) → IsKnown known →
+    (seen : List (List ℕ × Option Stamp)) (given : Asks) (before : Asks) → AreAnswered known seen given → All (IsAsOver known rules rule tree) seen → AsksJust next rule before given → length before + length seen ≤ 4095 →
+    verdict_after next rules rule tree before ≡ verdict_after next rules rule tree (before ++ given)
+follows next known rules rule tree is_known [] [] before answered over just few = ap (verdict_after next rules rule tree) (sym (append-nil before))
+follows next known rules rule tree is_known [] (one ∷ given) before answered over just few = absurd answered
+follows next known rules rule tree is_known (ask ∷ seen) [] before answered over just few = absurd answered
+follows next known rules rule tree is_known (ask ∷ seen) (one ∷ given) before (same, stands, answered) over (asks_one, just) few =
+    let first : IsAsOver known rules rule tree ask = over 0 ask (here (length seen)) in
     let named : resolve rule.dir one.0 ≡ Ok first.path = ap (resolve rule.dir) (sym same) ∙ first.named in
-    let may = may_ask plan.rules rule (length before) one.0 first.path (room (length before) (length seen) few) named first.readable in
-    let is : one.1 ≡ answer rule tree first.path = answer_of known rule state tree first.path ask.1 one.1 is_known is_tree first.same stands in
-    verdict_after-Yes next plan.rules rule tree before one.0 first.path asks_one may
-    ∙ ap (λ (reply : Answer). verdict_after next plan.rules rule tree (before ++ (one.0, reply) ∷ [])) (sym is)
-    ∙ follows next known plan state rule tree is_known is_tree seen given (before ++ one ∷ []) answered (λ k d below. stand (suc k) d (later k (length seen) below)) just
+    let may = may_ask rules rule (length before) one.0 first.path (room (length before) (length seen) few) named first.readable in
+    let is : one.1 ≡ answer rule tree first.path = answer_of known rules rule tree ask one.1 is_known first stands in
+    verdict_after-Yes next rules rule tree before one.0 first.path asks_one may
+    ∙ ap (λ (reply : Answer). verdict_after next rules rule tree (before ++ (one.0, reply) ∷ [])) (sym is)
+    ∙ follows next known rules rule tree is_known seen given (before ++ one ∷ []) answered (λ k d below. over (suc k) d (later k (length seen) below)) just
     (shift (length (before ++ one ∷ [])) (length before) (length seen) (length-append before (one ∷ [])) few)
-    ∙ ap (verdict_after next plan.rules rule tree) (append_assoc before (one ∷ []) given)
+    ∙ ap (verdict_after next rules rule tree) (append_assoc before (one ∷ []) given)
   where
     here : (n : ℕ) → 0 < suc n
     here n = omega arith
@@ -100,8 +106,17 @@ follows next known plan state rule tree is_known is_tree (ask ∷ seen) (one ∷
     shift : (l n m : ℕ) → l ≡ n + 1 → n + suc m ≤ 4095 → l + m ≤ 4095
     shift l n m is few = omega arith
 
+-- a command that asked this much, as a tree would answer it, is followed over the tree from there
+pub goes_to : (next : Next) (known : List Content) (rules : List Rule) (rule : Rule) (tree : Tree) → IsKnown known → (seen : List (List ℕ × Option Stamp)) (given : Asks) →
+    AreAnswered known seen given → All (IsAsOver known rules rule tree) seen → AsksJust next rule [] given → length seen ≤ 4095 → verdict next rules rule tree ≡ verdict_after next rules rule tree given
+goes_to next known rules rule tree is_known seen given answered over just few =
+    sym (verdict_after-none next rules rule tree) ∙ follows next known rules rule tree is_known seen given [] answered over just (from_none (length seen) few)
+  where
+    from_none : (n : ℕ) → n ≤ 4095 → 0 + n ≤ 4095
+    from_none n few = omega arith
+
 -- the answers are as many as the asks
-as_many : (known : List Content) (seen : List (List ℕ × Option Stamp)) (given : Asks) → AreAnswered known seen given → length given ≡ length seen
+pub as_many : (known : List Content) (seen : List (List ℕ × Option Stamp)) (given : Asks) → AreAnswered known seen given → length given ≡ length seen
 as_many known [] [] answered = refl
 as_many known [] (one ∷ given) answered = absurd answered
 as_many known (ask ∷ seen) [] answered = absurd answered
@@ -109,21 +124,51 @@ as_many known (ask ∷ seen) (one ∷ given) (same, stands, answered) = ap suc (
 
 -- ---- the end
 
-end_is : (next : Next) (known : List Content) (plan : Plan) (rule : Rule) (running : Running) (tree : Tree) (denied : Option (List ℕ × Verdict)) (given : Verdict) (written : List (Names × Stamp)) →
-    length running.asks ≤ 4095 → ((one : List ℕ × Verdict) → denied ≡ Some one → access plan.rules rule (length running.asks) one.0 ≡ No one.1) →
-    ((answered : Answered next known rule running) → verdict next plan.rules rule tree ≡ verdict_after next plan.rules rule tree answered.asks) →
-    FitsEnd rule denied given written → EndsHonestly next known rule running denied given written → IsVerdictOver next plan.rules rule tree given written
-end_is next known plan rule running tree (Some denied) given written few refusal upto (same, none) (answered, asks_it) =
+-- what is judged so, leaves files with these stamps, and all of them are known
+pub record IsEndOver (known : List Content) (judged : Judged) (given : Verdict) (written : List (Names × Stamp)) : Type 0 where
+  pub verdict : judged.verdict ≡ given
+  pub stamps : map stamped judged.files ≡ written
+  pub contents : All (λ (file : Names × Content). Contains known file.1) judged.files
+
+end_is : (next : Next) (known : List Content) (rules : List Rule) (rule : Rule) (running : Running) (tree : Tree) (denied : Option (List ℕ × Verdict)) (given : Verdict) (written : List (Names × Stamp)) →
+    length running.asks ≤ 4095 → ((one : List ℕ × Verdict) → denied ≡ Some one → access rules rule (length running.asks) one.0 ≡ No one.1) →
+    ((answered : Answered next known rule running) → verdict next rules rule tree ≡ verdict_after next rules rule tree answered.asks) →
+    FitsEnd rule denied given written → EndsHonestly next known rule running denied given written → IsEndOver known (verdict next rules rule tree) given written
+end_is next known rules rule running tree (Some denied) given written few refusal upto (same, none) (answered, asks_it) =
     let many = as_many known running.asks answered.asks answered.stamps in
-    let refused_so : access plan.rules rule (length answered.asks) denied.0 ≡ No denied.1 = ap (λ n. access plan.rules rule n denied.0) many ∙ refusal denied refl in
-    let is : verdict next plan.rules rule tree ≡ bad denied.1 =
-    upto answered ∙ verdict_after-No next plan.rules rule tree answered.asks denied.0 denied.1 (subst (λ (n : ℕ). n ≤ 4095) (sym many) few) asks_it refused_so in
-    (ap (λ (j : Judged). j.verdict) is ∙ sym same, ap (λ (j : Judged). map stamped j.files) is ∙ sym none)
-end_is next known plan rule running tree None given written few refusal upto fits (answered, ended, ends, judged, stamps, files) =
+    let refused_so : access rules rule (length answered.asks) denied.0 ≡ No denied.1 = ap (λ n. access rules rule n denied.0) many ∙ refusal denied refl in
+    let is : verdict next rules rule tree ≡ bad denied.1 =
+    upto answered ∙ verdict_after-No next rules rule tree answered.asks denied.0 denied.1 (subst (λ (n : ℕ). n ≤ 4095) (sym many) few) asks_it refused_so in
+    subst (λ (j : Judged). IsEndOver known j given written) (sym is)
+    (record { verdict = sym same; stamps = sym none; contents = λ k d below. absurd (no_place k below) })
+  where
+    no_place : (k : ℕ) → k < 0 → ⊥
+    no_place k below = omega arith
+end_is next known rules rule running tree None given written few refusal upto fits (answered, ended, ends, judged, stamps, files) =
     let many = as_many known running.asks answered.asks answered.stamps in
-    let is : verdict next plan.rules rule tree ≡ judge rule ended =
-    upto answered ∙ verdict_after-End next plan.rules rule tree answered.asks ended (subst (λ (n : ℕ). n ≤ 4095) (sym many) few) ends in
-    (ap (λ (j : Judged). j.verdict) is ∙ judged, ap (λ (j : Judged). map stamped j.files) is ∙ stamps)
+    let is : verdict next rules rule tree ≡ judge rule ended =
+    upto answered ∙ verdict_after-End next rules rule tree answered.asks ended (subst (λ (n : ℕ). n ≤ 4095) (sym many) few) ends in
+    subst (λ (j : Judged). IsEndOver known j given written) (sym is) (record { verdict = judged; stamps = stamps; contents = files })
+
+-- an honest end over asks as a tree would answer them is its rule's verdict over the tree
+pub end_over : (next : Next) (known : List Content) (plan : Plan) (rule : Rule) (running : Running) (tree : Tree) (given : Verdict) (written : List (Names × Stamp)) → IsKnown known → IsCounted plan running →
+    slice_get plan.rules running.rule ≡ Some rule → All (IsAsOver known plan.rules rule tree) running.asks → FitsEnd rule running.denied given written →
+    EndsHonestly next known rule running running.denied given written → IsEndOver known (verdict next plan.rules rule tree) given written
+end_over next known plan rule running tree given written is_known counted placed over fits honest =
+    end_is next known plan.rules rule running tree running.denied given written counted.few (λ denied is. counted.refusal rule denied placed is)
+    (λ answered. goes_to next known plan.rules rule tree is_known running.asks answered.asks answered.stamps over answered.just counted.few)
+    fits honest
+
+-- asks that stand are as a tree with the files of the moment answers them
+as_over : (known : List Content) (plan : Plan) (state : State) (rule : Rule) (tree : Tree) (ask : List ℕ × Option Stamp) → IsTreeOf known state.files tree → Stands plan state rule ask →
+    IsAsOver known plan.rules rule tree ask
+as_over known plan state rule tree ask is_tree stands = record {
+  path = stands.path;
+  named = stands.named;
+  readable = stands.readable;
+  same = stands.same ∙ ap (λ (there : Option Stamp). if writes rule stands.path then None else there) (sym (is_tree.stamps stands.path));
+  contents = λ foreign content there. is_tree.contents stands.path content there;
+}
 
 pub ends_are_verdicts : (next : Next) (known : List Content) → IsKnown known → (plan : Plan) (files : List (Names × Stamp)) (events : List CoreEvent) → HasOneMaker plan → IsRun plan (opening plan files) events →
     (seat : ℕ) (running : Running) (rule : Rule) (given : Verdict) (written : List (Names × Stamp)) (tree : Tree) → Runs plan (end_of plan (opening plan files) events) seat running rule →
@@ -133,11 +178,5 @@ ends_are_verdicts next known is_known plan files events one run seat running rul
     let state = end_of plan (opening plan files) events in
     let counted = (all_counted plan files events run).each seat running runs.here in
     let stand = asks_stand plan files events one run seat running rule runs in
-    end_is next known plan rule running tree running.denied given written counted.few (λ denied is. counted.refusal rule denied runs.placed is)
-    (λ answered.
-    sym (verdict_after-none next plan.rules rule tree)
-    ∙ follows next known plan state rule tree is_known is_tree running.asks answered.asks [] answered.stamps stand answered.just (from_none (length running.asks) counted.few))
-    fits honest
-  where
-    from_none : (n : ℕ) → n ≤ 4095 → 0 + n ≤ 4095
-    from_none n few = omega arith
+    let end = end_over next known plan rule running tree given written is_known counted runs.placed (λ k d below. as_over known plan state rule tree _ is_tree (stand k d below)) fits honest in
+    (end.verdict, end.stamps)

@@ -1,18 +1,27 @@
 -- What every run of the core keeps, whichever seats make the claims and in whichever order (own).
-use Rattle.std.specs.Prelude.{◌≡◌, ℕ, true, List, All, nat_eq}
+use Rattle.std.specs.Prelude.{◌≡◌, ℕ, true, false, List, [], ◌∷◌, Some, All, nat_eq, slice_get}
+use Rattle.std.specs.FinMap as finite
 use Rattle.std.specs.List.{IsDistinct}
+use Rattle.std.specs.Option.{option_map}
 use Rattle.tup_path.specs.Name.{Names, Content}
 use Rattle.tup_path.specs.Tree.{Tree}
 use Rattle.tup_stamp.specs.declared.Stamp.{Stamp}
+use Rattle.tup_stamp.specs.Stamp.{stamp}
 use Rattle.tup_rule.specs.declared.rule.Rule.{Rule}
+use Rattle.tup_rule.specs.Rule.{writes}
 use Rattle.tup_runner.specs.Next.{Next}
 use Rattle.tup_access.specs.declared.verdict.Verdict.{Verdict}
+use Rattle.tup_clean.specs.Clean.{Build, good_at, succeeds}
+use Rattle.tup_clean.specs.AnyOrder.{AreProducersGood}
 use Rattle.tup_core.specs.declared.event.CoreEvent.{CoreEvent}
+use Rattle.tup_core.specs.declared.event.CoreEvent.TheVariants.{Finish}
 use Rattle.tup_core.specs.declared.plan.Plan.{Plan}
 use Rattle.tup_core.specs.declared.running.Running.{Running}
-use Rattle.tup_core.specs.Step.{State, opening, is_reached, Runs, FitsEnd}
+use Rattle.tup_core.specs.Step.{State, opening, is_reached, Runs, FitsEnd, after}
 use Rattle.tup_core.specs.Run.{IsRun, end_of, claims}
-use Rattle.tup_core.specs.Honest.{IsKnown, EndsHonestly, IsTreeOf, IsVerdictOver}
+use Rattle.tup_core.specs.Honest.{IsKnown, EndsHonestly, IsHonest, IsTreeOf, IsVerdictOver}
+use Rattle.tup_core.specs.Kept.{Kept}
+use Rattle.tup_core.specs.Planned.{IsPlanned, clean_of}
 use Rattle.tup_core.specs.Sound.{HasOneMaker, IsAcyclic, IsInRange, Stands, IsStuck}
 
 -- the same of the end of each run from an opening, whose premise on the plan holds
@@ -37,6 +46,46 @@ AsksStand = AtEachEnd HasOneMaker (λ plan state. (seat : ℕ) (running : Runnin
 -- a rule never waits for nothing
 abbrev pub NeverStuck : Type 0
 NeverStuck = AtEachEnd (λ plan. IsAcyclic plan.rules × IsInRange plan) (λ plan state. IsStuck plan state → ⊥)
+
+-- in a run each command ends with the verdict that its rule has in a build
+abbrev pub EndAsIn : Build → Plan → State → List CoreEvent → Type 0
+EndAsIn build plan state [] = Unit {0}
+EndAsIn build plan state (Finish seat given writes ∷ events) =
+    ((running : Running) → state.seats seat ≡ Some running → slice_get build.verdicts running.rule ≡ Some (Some given))
+    × EndAsIn build plan (after plan state (Finish seat given writes)) events
+EndAsIn build plan state (event ∷ events) = EndAsIn build plan (after plan state event) events
+
+-- the same of each honest run from a planned opening
+abbrev pub InHonestRuns : (Next → List Content → Kept → Tree → Plan → List (Names × Stamp) → List CoreEvent → Type 0) → Type 0
+InHonestRuns Claim =
+    (next : Next) (known : List Content) (kept : Kept) (tree : Tree) (plan : Plan) (files : List (Names × Stamp)) (events : List CoreEvent)
+    → IsPlanned next known kept tree plan files → IsRun plan (opening plan files) events → IsHonest next known plan (opening plan files) events
+    → Claim next known kept tree plan files events
+
+-- a rule that isn't to be run, and whose declared producers are all Good in the clean build, is Good in it, and the
+-- opening's files are what it leaves there
+abbrev pub UnreachedStand : Type 0
+UnreachedStand =
+    (next : Next) (known : List Content) (kept : Kept) (tree : Tree) (plan : Plan) (files : List (Names × Stamp)) (at : ℕ) (rule : Rule)
+    → IsPlanned next known kept tree plan files → slice_get plan.rules at ≡ Some rule → is_reached plan at ≡ false
+    → AreProducersGood plan.rules (clean_of next kept tree plan).verdicts rule
+    → (good_at (clean_of next kept tree plan).verdicts at ≡ true)
+    × ((path : Names) → writes rule path ≡ true → (opening plan files).files path ≡ option_map stamp (finite.get (clean_of next kept tree plan).tree path))
+
+-- each command ends with the verdict that its rule has in the clean build of the sources
+abbrev pub EndsAreClean : Type 0
+EndsAreClean = InHonestRuns (λ next known kept tree plan files events. EndAsIn (clean_of next kept tree plan) plan (opening plan files) events)
+
+-- and so are the bad verdicts at the end
+abbrev pub BadsAreClean : Type 0
+BadsAreClean = InHonestRuns (λ next known kept tree plan files events. (at : ℕ) (given : Verdict)
+    → (end_of plan (opening plan files) events).bad at ≡ Some given → slice_get (clean_of next kept tree plan).verdicts at ≡ Some (Some given))
+
+-- at an end with nothing pending the clean build of the sources succeeds, and the files are its tree's
+abbrev pub EndsInClean : Type 0
+EndsInClean = InHonestRuns (λ next known kept tree plan files events. ((at : ℕ) → (end_of plan (opening plan files) events).pending at ≡ false)
+    → (succeeds (clean_of next kept tree plan) ≡ true)
+    × ((path : Names) → (end_of plan (opening plan files) events).files path ≡ option_map stamp (finite.get (clean_of next kept tree plan).tree path)))
 
 -- an honest end has the verdict, and leaves the stamps, that its rule's command has over a tree with the files of
 -- that moment

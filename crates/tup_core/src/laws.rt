@@ -1,4 +1,4 @@
-//! Laws of the core: what every run of it keeps, from every opening. Each is a function that does nothing, and
+//! Laws of the core: what every run of it keeps, from every opening, and how honest runs from planned ones end. Each is a function that does nothing, and
 //! whose contract is the law.
 ghost use Rattle.tup_core.specs.Laws as law;
 
@@ -25,4 +25,23 @@ pub fn never_stuck()
 /// files changed since it began. It holds where no output of a rule of the reach is an output of another rule.
 pub fn ends_are_verdicts()
     ensures { law.EndsAreVerdicts }
+{}
+
+/// A law: at an opening that was planned, a rule that isn't to be run is Good in the clean build of the sources as soon
+/// as all its declared producers are, and the files at its outputs are those that it leaves there.
+pub fn unreached_stand()
+    ensures { law.UnreachedStand }
+{}
+
+/// A law: in each honest run from an opening that was planned, each command ends with the verdict that its rule has in
+/// the clean build of the sources, and so do those that are noted as bad.
+pub fn ends_are_clean()
+    ensures ends { law.EndsAreClean }
+    ensures bads { law.BadsAreClean }
+{}
+
+/// A law: at the end of each honest run from an opening that was planned, if no rule is pending, the clean build of the
+/// sources succeeds, and the files are those of its tree.
+pub fn ends_in_clean()
+    ensures { law.EndsInClean }
 {}

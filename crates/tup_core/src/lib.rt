@@ -12,6 +12,9 @@ mod plan;
 mod running;
 
 pub use event::{Cause, CoreEvent, Stamps};
-pub use laws::{asks_stand, claimed_once, ends_are_verdicts, never_stuck};
+pub use laws::{
+    asks_stand, claimed_once, ends_are_clean, ends_are_verdicts, ends_in_clean, never_stuck,
+    unreached_stand,
+};
 pub use plan::{Numbers, Plan};
 pub use running::{Running, StampAsks};

@@ -1,0 +1,17 @@
+//! Laws of the clean build, whichever ready rule is taken first. Each is a function that does nothing, and whose
+//! contract is the law.
+ghost use Rattle.tup_clean.specs.AnyOrder as law;
+
+/// A law: in whatever order the ready rules are taken, until none is ready, the clean build is left. It holds where
+/// no path is an output of two rules.
+pub fn any_order()
+    ensures same { law.AnyOrder }
+    ensures one_of_them { law.SomeOrder }
+{}
+
+/// A law: in the clean build just the rules whose declared producers are all Good have a verdict, each the one over
+/// the tree that is left, and that tree has what the Good rules leave, and elsewhere the sources. It holds where no
+/// path is an output of two rules.
+pub fn no_order()
+    ensures { law.NoOrder }
+{}

@@ -1,0 +1,6 @@
+use Rattle.tup_core.proofs.CleanRuns as lemma
+use Rattle.tup_core.proofs.laws.ends_in_clean.Goals as goal
+
+pub returns : goal.returns
+returns c = λ next known kept tree plan files events planned run honest done.
+    (lemma.succeeds_clean next known kept tree plan files planned events run honest done, λ path. lemma.files_clean next known kept tree plan files planned events run honest done path)
