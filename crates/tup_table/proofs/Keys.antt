@@ -117,11 +117,11 @@ deleted_ascending (e ∷ es) k up =
       | false ↦ (all_deleted (λ later. by_bytes e.0 later ≡ Less) es k up.0, deleted_ascending es k up.1)
     ]
 
-changed_ascending : (origin : ℕ) (es : Standing) (change : Change) → IsAscending es → IsAscending (changed origin es change)
+pub changed_ascending : (origin : ℕ) (es : Standing) (change : Change) → IsAscending es → IsAscending (changed origin es change)
 changed_ascending origin es (Put k v) up = put_ascending es k (record { value = v; origin = origin }) up
 changed_ascending origin es (Delete k) up = deleted_ascending es k up
 
-committed_ascending : (origin : ℕ) (es : Standing) (changes : List Change) → IsAscending es → IsAscending (committed origin es changes)
+pub committed_ascending : (origin : ℕ) (es : Standing) (changes : List Change) → IsAscending es → IsAscending (committed origin es changes)
 committed_ascending origin es [] up = up
 committed_ascending origin es (c ∷ changes) up = committed_ascending origin (changed origin es c) changes (changed_ascending origin es c up)
 

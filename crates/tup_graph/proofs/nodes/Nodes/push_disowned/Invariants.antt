@@ -1,0 +1,6 @@
+use Rattle.std.proofs.Common.{◌≡◌, ◌++◌, filter_map, drop}
+use Rattle.tup_graph.specs.Transactions.{disowned}
+use Rattle.tup_graph.proofs.nodes.Nodes.push_disowned.Given as goal
+
+abbrev pub invariant-loop-path : goal.invariant-loop-path
+invariant-loop-path l = l.edits ++ filter_map (disowned l.self) (drop l.path-index l.paths) ≡ l.fn.edits ++ filter_map (disowned l.self) l.paths

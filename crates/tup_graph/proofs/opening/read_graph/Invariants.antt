@@ -1,0 +1,5 @@
+use Rattle.tup_graph.proofs.Opened.{IsSoFar}
+use Rattle.tup_graph.proofs.opening.read_graph.Given as goal
+
+abbrev pub invariant-loop-key : goal.invariant-loop-key
+invariant-loop-key l = IsSoFar l.entries l.key-iterator l.graph

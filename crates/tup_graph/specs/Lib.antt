@@ -1,0 +1,12 @@
+pub mod Graph
+pub mod Opening
+pub mod Edits
+pub mod Changes
+pub mod Transactions
+pub mod Records
+pub mod Answers
+pub mod Kept
+pub mod Above
+pub mod Scan
+pub mod Swap
+pub mod Reach
