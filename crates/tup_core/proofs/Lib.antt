@@ -6,3 +6,10 @@ pub mod ClaimedOnce
 pub mod Standing
 pub mod NeverStuck
 pub mod Verdicts
+mod ItemLaws
+mod WalkLaws
+mod WaitingLaws
+mod FilesLaws
+mod MachineLaws
+mod StepLaws
+mod SameLaws

@@ -4,3 +4,8 @@ pub mod Sound
 pub mod Honest
 pub mod Planned
 pub mod Laws
+pub mod Files
+pub mod Waiting
+pub mod Walk
+pub mod Ending
+pub mod Machine
