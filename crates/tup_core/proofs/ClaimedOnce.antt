@@ -8,7 +8,7 @@ use Rattle.tup_stamp.specs.declared.Stamp.{Stamp}
 use Rattle.tup_core.specs.declared.event.CoreEvent.{CoreEvent}
 use Rattle.tup_core.specs.declared.event.CoreEvent.TheVariants.{Claim, Ask, Deny, Finish, Stop}
 use Rattle.tup_core.specs.declared.plan.Plan.{Plan}
-use Rattle.tup_core.specs.Step.{State, opening, is_reached, after}
+use Rattle.tup_core.specs.Step.{State, changed, opening, is_reached, after}
 use Rattle.tup_core.specs.Run.{IsRun, claims}
 use Rattle.tup_core.proofs.Changed.{changed_here}
 use Rattle.tup_core.proofs.Orderly.{pending_shrinks, claimed_stays}

@@ -1,10 +1,10 @@
 -- No run comes to a state in which a rule waits and nothing will ever change that.
-use Rattle.std.proofs.Common.{◌≡◌, ℕ, zero, suc, ◌+◌, ◌<◌, ◌≤◌, Bool, true, false, List, [], ◌∷◌, length, Option, None, Some, refl, sym, ap, ◌∙◌, subst, inl, inr, arith}
-use Rattle.std.specs.Prelude.{nat_eq, slice_get, if◌then◌else◌, unwrap_or}
+use Rattle.std.proofs.Common.{◌≡◌, ℕ, zero, suc, ◌+◌, ◌<◌, ◌≤◌, ◌⊎◌, Bool, true, false, List, [], ◌∷◌, length, Option, None, Some, refl, sym, ap, ◌∙◌, subst, inl, inr, arith}
+use Rattle.std.specs.Prelude.{◌==◌, nat_eq, slice_get, if◌then◌else◌, unwrap_or}
 use Rattle.std.specs.Option.{option_map}
 use Rattle.std.specs.List.{IsDistinct, AllByRecursion, list_any}
 use Rattle.std.proofs.lemmas.Bool.{true≢false, cases_Bool, or_cases, or_left, or_right, eqb-true}
-use Rattle.std.proofs.lemmas.Option.{same_Some, none-some}
+use Rattle.std.proofs.lemmas.Option.{same_Some, none-some, slice_get-get_or}
 use Rattle.std.proofs.lemmas.Map.Steps.{length-le_from_distinct_below}
 use Rattle.tup_path.specs.Name.{Names}
 use Rattle.tup_stamp.specs.declared.Stamp.{Stamp}
@@ -18,11 +18,11 @@ use Rattle.tup_core.specs.declared.event.CoreEvent.{CoreEvent}
 use Rattle.tup_core.specs.declared.event.CoreEvent.TheVariants.{Claim, Ask, Deny, Finish, Stop}
 use Rattle.tup_core.specs.declared.plan.Plan.{Plan}
 use Rattle.tup_core.specs.declared.running.Running.{Running}
-use Rattle.tup_core.specs.Step.{State, changed, opening, IsEnabled, asked, refused, emptied, stopped_by, ended, after}
+use Rattle.tup_core.specs.Step.{State, changed, opening, is_reached, IsReady, IsEnabled, Runs, asked, refused, emptied, stopped_by, ended, after}
 use Rattle.tup_core.specs.Run.{IsRun, end_of}
 use Rattle.tup_core.specs.Sound.{IsAcyclic, IsInRange, IsStuck}
 use Rattle.tup_core.proofs.Changed.{changed_cases, changed_here}
-use Rattle.tup_core.proofs.Orderly.{IsOrderly, orderly_after, orderly_opening, finished_is}
+use Rattle.tup_core.proofs.Orderly.{IsOrderly, orderly_after, orderly_opening, finished_is, seats_ended, pending_ended, claimed_ended}
 
 -- ---- a claimed rule that is pending is running, or bad, or everything is stopped
 

@@ -1,9 +1,9 @@
 -- What holds in each state of a run: what a seat runs was claimed and is pending, no producer of it is, and no
 -- two seats run one rule.
-use Rattle.std.proofs.Common.{◌≡◌, ℕ, ◌⊎◌, Bool, true, false, List, [], Option, None, Some, refl, sym, ap, ◌∙◌, subst, inl, inr}
+use Rattle.std.proofs.Common.{◌≡◌, ℕ, ◌⊎◌, Bool, true, false, List, [], ◌∷◌, ◌++◌, Option, None, Some, refl, sym, ap, ◌∙◌, subst, inl, inr}
 use Rattle.std.specs.Prelude.{slice_get}
 use Rattle.std.specs.Option.{option_map}
-use Rattle.std.proofs.lemmas.Bool.{true≢false}
+use Rattle.std.proofs.lemmas.Bool.{true≢false, cases_Bool}
 use Rattle.std.proofs.lemmas.Option.{same_Some, none-some}
 use Rattle.tup_path.specs.Name.{Names}
 use Rattle.tup_stamp.specs.declared.Stamp.{Stamp}
@@ -14,7 +14,8 @@ use Rattle.tup_core.specs.declared.event.CoreEvent.{CoreEvent}
 use Rattle.tup_core.specs.declared.event.CoreEvent.TheVariants.{Claim, Ask, Deny, Finish, Stop}
 use Rattle.tup_core.specs.declared.plan.Plan.{Plan}
 use Rattle.tup_core.specs.declared.running.Running.{Running}
-use Rattle.tup_core.specs.Step.{State, changed, opening, is_reached, IsClear, IsEnabled, asked, refused, emptied, ended, finished, after}
+use Rattle.tup_core.specs.Step.{State, changed, opening, is_reached, IsClear, IsEnabled, IsReady, Runs, asked, refused, emptied, ended, finished, after}
+use Rattle.tup_core.specs.Run.{IsRun, end_of}
 use Rattle.tup_core.proofs.Changed.{changed_cases, changed_here, false_behind}
 
 pub record IsOrderly (plan : Plan) (state : State) : Type 0 where

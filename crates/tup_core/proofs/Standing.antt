@@ -1,11 +1,13 @@
 -- In a run the answer of each ask stands until the seat's command ends or is stopped.
-use Rattle.std.proofs.Common.{◌≡◌, ℕ, zero, ◌<◌, Bool, true, false, not, ◌&&◌, List, [], ◌∷◌, ◌++◌, length, Option, None, Some, refl, sym, ap, ◌∙◌, subst, inl, inr, arith}
-use Rattle.std.specs.Prelude.{map, All, slice_get}
+use Rattle.std.proofs.Common.{◌≡◌, ◌≢◌, ℕ, zero, suc, ◌<◌, ◌⊎◌, Bool, true, false, not, ◌&&◌, ◌||◌, List, [], ◌∷◌, ◌++◌, length, Option, None, Some, Ok, refl, sym, ap, ◌∙◌, subst, inl, inr, arith}
+use Rattle.std.specs.Prelude.{if◌then◌else◌, map, All, slice_get}
 use Rattle.std.specs.Option.{option_map}
+use Rattle.std.specs.List.{position, list_any}
 use Rattle.std.proofs.lemmas.Bool.{true≢false, cases_Bool}
 use Rattle.std.proofs.lemmas.Option.{same_Some, none-some}
 use Rattle.std.proofs.lemmas.List.Elements.{All-push}
 use Rattle.tup_path.specs.Name.{Names}
+use Rattle.tup_path.specs.Resolve.{resolve}
 use Rattle.tup_stamp.specs.declared.Stamp.{Stamp}
 use Rattle.tup_rule.specs.declared.rule.Rule.{Rule}
 use Rattle.tup_rule.specs.Rule.{among, declares, writes, maker, is_generated}
@@ -17,7 +19,7 @@ use Rattle.tup_core.specs.declared.event.CoreEvent.{CoreEvent}
 use Rattle.tup_core.specs.declared.event.CoreEvent.TheVariants.{Claim, Ask, Deny, Finish, Stop}
 use Rattle.tup_core.specs.declared.plan.Plan.{Plan}
 use Rattle.tup_core.specs.declared.running.Running.{Running}
-use Rattle.tup_core.specs.Step.{State, changed, opening, is_reached, IsClear, IsEnabled, FitsEnd, Runs, told, asked, refused, emptied, ended, after}
+use Rattle.tup_core.specs.Step.{State, changed, with_stamps, opening, is_reached, IsClear, IsEnabled, FitsEnd, Runs, told, asked, refused, emptied, ended, after}
 use Rattle.tup_core.specs.Run.{IsRun, end_of}
 use Rattle.tup_core.specs.Sound.{HasOneMaker, Stands}
 use Rattle.tup_core.proofs.Changed.{changed_cases, with_stamps_apart}

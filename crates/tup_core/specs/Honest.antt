@@ -1,6 +1,6 @@
 -- Runs in which each command did what its runner means (own). Contents are those of a list of known ones, in
 -- which no two have one stamp.
-use Rattle.std.specs.Prelude.{◌≡◌, ℕ, List, [], ◌∷◌, ◌++◌, Option, None, Some, All, Contains, map}
+use Rattle.std.specs.Prelude.{◌≡◌, ℕ, List, [], ◌∷◌, ◌++◌, Option, None, Some, All, Contains, map, slice_get}
 use Rattle.std.specs.FinMap as finite
 use Rattle.std.specs.Option.{option_map}
 use Rattle.tup_path.specs.Name.{Names, Content}

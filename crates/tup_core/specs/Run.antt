@@ -1,5 +1,5 @@
 -- Runs of the core, and what is claimed in them (own).
-use Rattle.std.specs.Prelude.{ℕ, List, [], ◌∷◌}
+use Rattle.std.specs.Prelude.{◌≡◌, ℕ, List, [], ◌∷◌}
 use Rattle.tup_core.specs.declared.event.CoreEvent.{CoreEvent}
 use Rattle.tup_core.specs.declared.event.CoreEvent.TheVariants.{Claim}
 use Rattle.tup_core.specs.declared.plan.Plan.{Plan}
