@@ -10,3 +10,10 @@ pub mod Standing
 pub mod NeverStuck
 pub mod Verdicts
 pub mod CleanRuns
+mod ItemLaws
+mod WalkLaws
+mod WaitingLaws
+mod FilesLaws
+mod MachineLaws
+mod StepLaws
+mod SameLaws

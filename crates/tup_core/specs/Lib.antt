@@ -5,3 +5,8 @@ pub mod Honest
 pub mod Kept
 pub mod Planned
 pub mod Laws
+pub mod Files
+pub mod Waiting
+pub mod Walk
+pub mod Ending
+pub mod Machine

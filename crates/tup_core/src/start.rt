@@ -1,0 +1,50 @@
+//! What stands at an opening.
+ghost use Rattle.std.specs.Prelude.{◌≡◌, ℕ, false, None, IfOk, length, replicate};
+ghost use Rattle.tup_core.specs.Step.{is_reached};
+ghost use Rattle.tup_core.specs.Sound.{IsInRange};
+ghost use Rattle.tup_core.specs.Waiting.{flag};
+
+use crate::plan::Plan;
+use std::alloc::{AllocError, Global};
+
+/// Flags that are all down.
+pub(crate) fn lowered(alloc: Global, count: usize) -> Result<Vec<bool>, AllocError>
+    ensures { IfOk result (λ flags. flags.items ≡ replicate count false) }
+{
+    let mut flags = Vec::new(alloc);
+    for _ in 0..count {
+        flags.push(false)?;
+    }
+    Ok(flags)
+}
+
+/// Nothing, so many times.
+pub(crate) fn nothing<T: Drop>(alloc: Global, count: usize) -> Result<Vec<Option<T>>, AllocError>
+    ensures { IfOk result (λ entries. entries.items ≡ replicate count None) }
+{
+    let mut entries = Vec::new(alloc);
+    for _ in 0..count {
+        entries.push(None)?;
+    }
+    Ok(entries)
+}
+
+/// A flag for each rule: whether it is in the reach.
+pub(crate) fn reached(alloc: Global, plan: &Plan) -> Result<Vec<bool>, AllocError>
+    requires { IsInRange plan.now }
+    ensures length { IfOk result (λ flags. length flags.items ≡ length plan.now.rules) }
+    ensures flags { IfOk result (λ flags. (at : ℕ) → flag flags.items at ≡ is_reached plan.now at) }
+{
+    let mut flags = lowered(alloc, plan.rules.len())?;
+    for at in plan.reach.as_slice() {
+        flags[*at as usize] = true;
+    }
+    Ok(flags)
+}
+
+/// Whether the flag at a place is up.
+pub(crate) fn is_up(flags: &[bool], at: usize) -> bool
+    ensures { result ≡ flag flags.now at }
+{
+    flags.get(at).copied().unwrap_or(false)
+}
