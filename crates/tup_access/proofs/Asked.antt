@@ -1,7 +1,6 @@
 -- What a command asked, as its runner means it and as a tree answers it, leads to its verdict.
 use Rattle.std.proofs.Common.{◌≡◌, ℕ, ◌+◌, ◌≤◌, List, [], ◌∷◌, ◌++◌, length, refl, sym, ap, ◌∙◌, subst, arith, append_assoc, length-append}
 use Rattle.std.proofs.lemmas.List.{append-nil}
-use Rattle.tup_path.specs.Name.{Names}
 use Rattle.tup_path.specs.Tree.{Tree}
 use Rattle.tup_rule.specs.declared.rule.Rule.{Rule}
 use Rattle.tup_runner.specs.Next.{Next, Asks}
@@ -12,7 +11,7 @@ use Rattle.tup_runner.proofs.Asking.{just_next}
 use Rattle.tup_access.specs.declared.verdict.Verdict.{Verdict}
 use Rattle.tup_access.specs.declared.verdict.Access.TheVariants.{No}
 use Rattle.tup_access.specs.Access.{access}
-use Rattle.tup_access.specs.Answered.{IsAnswered, AreAnswered}
+use Rattle.tup_access.specs.Answered.{AreAnswered, HasSeen}
 use Rattle.tup_access.specs.Judge.{bad, judge}
 use Rattle.tup_access.specs.Verdict.{answer, verdict, verdict_after}
 use Rattle.tup_access.proofs.Permitted.{access-Yes}
@@ -31,6 +30,16 @@ module _ (rules : List Rule) (rule : Rule) (tree : Tree) where
       let early = (access-Yes rules rule before ask.0 are.0.path are.0.may).early in
       let rest = answered_few (before + 1) asks are.1 (omega (arith, early)) in
       omega (arith, rest)
+
+  -- a view goes on answering
+  pub seen_none : (before : ℕ) → HasSeen rules rule tree before [] before
+  seen_none before = record { count = omega arith; answered = tt }
+
+  pub seen_on : (before between after : ℕ) (some more : Asks) → HasSeen rules rule tree before some between → HasSeen rules rule tree between more after → HasSeen rules rule tree before (some ++ more) after
+  seen_on before between after some more one two = record {
+    count = simp length-append (omega (arith, one.count, two.count));
+    answered = answered_on before some more one.answered (subst (λ (n : ℕ). AreAnswered rules rule tree n more) one.count two.answered);
+  }
 
   module _ (next : Next) where
     -- a command that asked this much, and then asks this too, has its verdict still to come

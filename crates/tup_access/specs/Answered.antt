@@ -1,5 +1,5 @@
 -- Asks that a rule's command may make, each answered as a tree has it (own).
-use Rattle.std.specs.Prelude.{◌≡◌, ℕ, ◌+◌, List, [], ◌∷◌}
+use Rattle.std.specs.Prelude.{◌≡◌, ℕ, ◌+◌, List, [], ◌∷◌, length}
 use Rattle.tup_path.specs.Name.{Names}
 use Rattle.tup_path.specs.Tree.{Tree}
 use Rattle.tup_rule.specs.declared.rule.Rule.{Rule}
@@ -19,3 +19,8 @@ pub record IsAnswered (rules : List Rule) (rule : Rule) (tree : Tree) (before : 
 abbrev pub AreAnswered : List Rule → Rule → Tree → ℕ → Asks → Type 0
 AreAnswered rules rule tree before [] = Unit {0}
 AreAnswered rules rule tree before (ask ∷ asks) = IsAnswered rules rule tree before ask × AreAnswered rules rule tree (before + 1) asks
+
+-- a rule's command that was answered so often was answered these, and then so often
+pub record HasSeen (rules : List Rule) (rule : Rule) (tree : Tree) (before : ℕ) (asks : Asks) (after : ℕ) : Type 0 where
+  pub count : after ≡ before + length asks
+  pub answered : AreAnswered rules rule tree before asks
