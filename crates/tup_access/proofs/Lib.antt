@@ -3,3 +3,4 @@ pub mod Steps
 pub mod Alike
 pub mod Outputs
 pub mod Writes
+pub mod Asked

@@ -4,3 +4,4 @@ pub mod Verdict
 pub mod Generated
 pub mod Written
 pub mod Refusal
+pub mod Answered
