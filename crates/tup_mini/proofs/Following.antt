@@ -1,13 +1,12 @@
 -- How parts of a command that follow one another are followed through a view.
-use Rattle.std.proofs.Common.{◌≡◌, ◌≢◌, ℕ, zero, suc, Bool, true, List, [], ◌∷◌, ◌++◌, take, Option, None, Some, Result, Ok, Err, IsTrue, refl, sym, ap, ◌∙◌, subst}
+use Rattle.std.proofs.Common.{◌≡◌, ℕ, zero, suc, true, List, [], ◌∷◌, ◌++◌, take, Option, None, Some, Result, Ok, Err, sym, ap, ◌∙◌, subst}
 use Rattle.std.proofs.lemmas.Option.{same_Some}
 use Rattle.std.specs.List.{slice_get}
 use Rattle.tup_runner.specs.Next.{Asks}
 use Rattle.tup_runner.specs.Refusal.{Refusal}
-use Rattle.tup_runner.specs.Honest.{AsksJust, AsksAfter, EndsAfter}
+use Rattle.tup_runner.specs.Honest.{AsksJust}
 use Rattle.tup_runner.specs.Run.{HasEnded, WasRefused, RunsAs, NeverFaults}
 use Rattle.tup_runner.specs.declared.step.Ended.{Ended}
-use Rattle.tup_runner.specs.declared.step.Step.{Step}
 use Rattle.tup_runner.specs.declared.step.Step.TheVariants.{Ask, End}
 use Rattle.tup_runner.specs.declared.step.Answer.{Answer}
 use Rattle.tup_runner.specs.declared.fault.ViewFailed.{ViewFailed}
@@ -17,7 +16,7 @@ use Rattle.tup_runner.proofs.Asking.{just_none}
 use Rattle.tup_mini.specs.declared.stopped.Stopped.{Stopped}
 use Rattle.tup_mini.specs.declared.stopped.Stopped.TheVariants.{Status, Failed}
 use Rattle.tup_mini.specs.Kept.{Kept}
-use Rattle.tup_mini.specs.Part.{Outcome, Next, Gives, Part, followed, ◌>>=◌, gives, stops}
+use Rattle.tup_mini.specs.Part.{Outcome, Part, followed, gives, stops}
 use Rattle.tup_mini.specs.Means.{ended}
 use Rattle.tup_mini.specs.Through.{Leads, GoesOn, Refuses, Lacks, Follows, AtOnce}
 

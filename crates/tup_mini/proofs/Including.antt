@@ -1,5 +1,5 @@
 -- The lines of a file, and what they include.
-use Rattle.std.proofs.Common.{◌≡◌, ◌≢◌, ℕ, zero, suc, ◌+◌, ◌-◌, ◌<◌, ◌≤◌, ◌==◌, Bool, true, false, not, ◌&&◌, ◌||◌, cond, if◌then◌else◌, List, [], ◌∷◌, ◌++◌, length, take, drop, get_or, ltb, lit<, Option, None, Some, refl, sym, ap, ◌∙◌, subst, inl, inr, ◌⊎◌, arith, codes, bytes_eq, add-one}
+use Rattle.std.proofs.Common.{◌≡◌, ◌≢◌, ℕ, zero, suc, ◌+◌, ◌-◌, ◌<◌, ◌≤◌, ◌==◌, Bool, true, false, not, ◌&&◌, ◌||◌, cond, if◌then◌else◌, List, [], ◌∷◌, ◌++◌, length, take, drop, get_or, ltb, lit<, Option, None, Some, refl, sym, ap, ◌∙◌, subst, arith, codes, bytes_eq}
 use Rattle.std.specs.List.{position, position_or_len, onto_first, list_any}
 use Rattle.std.specs.Option.{MatchOption}
 use Rattle.std.specs.Str.{IsUtf8, is_utf8, NoCharPasses}
@@ -49,7 +49,7 @@ first-none rest some found =
     let far : length rest ≤ position_or_len (λ b. b == 10) rest = ltb-false (position_or_len (λ b. b == 10) rest) (length rest) (past _ _ found) in
     first_line rest some
     ∙ (λ i. (take_all (position_or_len (λ b. b == 10) rest + 1) rest (omega (arith, far)) ∙ sym (take_all (length rest) rest (omega arith))) i
-      ∷ lines_of ((drop_all (position_or_len (λ b. b == 10) rest + 1) rest (omega (arith, far)) ∙ sym (drop_all (length rest) rest (omega arith))) i))
+    ∷ lines_of ((drop_all (position_or_len (λ b. b == 10) rest + 1) rest (omega (arith, far)) ∙ sym (drop_all (length rest) rest (omega arith))) i))
 
 -- a line with its line feed, and one without
 pub unended-yes : (line : List ℕ) (n : ℕ) → n + 1 ≡ length line → get_or line n 0 ≡ 10 → take n line ≡ unended line

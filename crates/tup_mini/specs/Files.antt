@@ -1,7 +1,7 @@
 -- How a command reads and writes files (own).
 use Rattle.std.specs.Prelude.{ℕ, ◌+◌, nat_lt, if◌then◌else◌, List, [], ◌∷◌, ◌++◌, length, Option, None, Some}
 use Rattle.tup_path.specs.Name.{Content}
-use Rattle.tup_mini.specs.Kept.{Kept, own_content, with_write}
+use Rattle.tup_mini.specs.Kept.{own_content, with_write}
 use Rattle.tup_mini.specs.Part.{Part, ◌>>=◌, gives, stops, ask_for}
 
 -- one more read of an own write; the 4,096th gives status 4

@@ -1,5 +1,5 @@
 -- Where each path stands among the writes of a command.
-use Rattle.std.specs.Prelude.{◌≡◌, ℕ, suc, if◌then◌else◌, List, [], ◌∷◌, Option, None, Some, option_map}
+use Rattle.std.specs.Prelude.{◌≡◌, ℕ, suc, if◌then◌else◌, [], ◌∷◌, Option, None, Some, option_map}
 use Rattle.std.specs.BTreeMap.{BTreeMap, get}
 use Rattle.tup_path.specs.Name.{Names}
 use Rattle.tup_path.specs.Order.{by_names}

@@ -1,5 +1,5 @@
 -- The steps of a small command (own).
-use Rattle.std.specs.Prelude.{Bool, if◌then◌else◌, ℕ, List, [], ◌∷◌, ◌++◌, map, Option, None, Some, codes, bytes_eq}
+use Rattle.std.specs.Prelude.{Bool, if◌then◌else◌, ℕ, List, [], ◌∷◌, ◌++◌, map, None, Some, codes, bytes_eq}
 use Rattle.std.specs.List.{slice_split}
 use Rattle.tup_path.specs.Name.{Content}
 use Rattle.tup_mini.specs.Words.{words}

@@ -10,7 +10,7 @@ use Rattle.tup_mini.specs.declared.kept.Kept.{Kept as KeptValue}
 use Rattle.tup_mini.specs.declared.stopped.Stopped.{Stopped}
 use Rattle.tup_mini.specs.declared.stopped.Stopped.TheVariants.{Status, Failed}
 use Rattle.tup_mini.specs.Kept.{Kept}
-use Rattle.tup_mini.specs.Part.{Outcome, Next, Gives, gives, stops}
+use Rattle.tup_mini.specs.Part.{Outcome, Next, gives, stops}
 
 -- what the code keeps, as the definitions see it
 abbrev pub kept_of : KeptValue → Kept

@@ -1,7 +1,7 @@
 use Rattle.std.proofs.Common.{[], Option, Some, None, sym, ◌∙◌, subst}
 use Rattle.std.proofs.lemmas.Result.{err_from_is_err_and}
 use Rattle.tup_path.specs.Name.{Content}
-use Rattle.tup_mini.specs.Part.{Part, ◌>>=◌, gives}
+use Rattle.tup_mini.specs.Part.{Part}
 use Rattle.tup_mini.specs.Files.{reads, writes_to}
 use Rattle.tup_mini.specs.Means.{copies}
 use Rattle.tup_mini.specs.Through.{kept_of, Follows, AtOnce}

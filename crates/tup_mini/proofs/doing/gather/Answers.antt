@@ -1,13 +1,11 @@
-use Rattle.std.proofs.Common.{Err, ℕ, List, [], ◌∷◌, ◌++◌, ◌+◌, drop, length, sym, ap, ◌∙◌, subst}
+use Rattle.std.proofs.Common.{Err, ℕ, List, [], ◌++◌, ◌+◌, drop, sym, ap, ◌∙◌, subst}
 use Rattle.std.proofs.lemmas.Result.{err_from_is_err_and}
 use Rattle.tup_path.specs.Name.{Content}
-use Rattle.tup_runner.specs.Next.{Asks}
-use Rattle.tup_mini.specs.Kept.{Kept}
 use Rattle.tup_mini.specs.Part.{Part, ◌>>=◌, gives}
 use Rattle.tup_mini.specs.Files.{needs, gathers}
 use Rattle.tup_mini.specs.Through.{kept_of, GoesOn}
 use Rattle.tup_mini.proofs.Following.{follows_then, on_then, on_behind, err_behind}
-use Rattle.tup_mini.proofs.Looping.{gathers-more, gathers-all}
+use Rattle.tup_mini.proofs.Looping.{gathers-more}
 use Rattle.tup_mini.proofs.doing.gather.Goals as goal
 
 pub returns-in_err-content : goal.returns-in_err-content

@@ -22,7 +22,7 @@ returns-in_err-whole g c =
     let mid = kept_of c.need.new.self in
     let empty = c.new-front.ensures ∙ c.new.ensures.items in
     let inner = subst (λ (f : Content). Follows g.V.View.came g.V.View.same g.V.View.refusal c.need.new.view c.expand.new.view (expands (includes 32) c.args.from.now f (lines_of c.in_ok-content.content) mid) (kept_of c.expand.new.kept)
-        (Err c.in_err-whole.field-0.0)) empty c.in_err-whole.ensures in
+    (Err c.in_err-whole.field-0.0)) empty c.in_err-whole.ensures in
     rw (p.1, p.2) (ok_then g.V.View.came g.V.View.same g.V.View.refusal g.met.V.View.goes_on g.met.V.View.same_on c.args.view.now c.need.new.view c.expand.new.view on (needs c.args.from.now (kept_of c.args.kept.now)) mid
     (kept_of c.expand.new.kept) c.in_ok-content.content (Err c.in_err-whole.field-0.0) c.in_ok-content.ensures
     (err_behind g.V.View.came g.V.View.same g.V.View.refusal c.need.new.view c.expand.new.view last (expands (includes 32) c.args.from.now [] (lines_of c.in_ok-content.content) mid) (kept_of c.expand.new.kept) _ inner))
@@ -34,7 +34,7 @@ returns g c =
     let mid = kept_of c.need.new.self in
     let empty = c.new-front.ensures ∙ c.new.ensures.items in
     let inner = subst (λ (f : Content). GoesOn g.V.View.came g.V.View.same g.V.View.refusal c.need.new.view c.expand.new.view (expands (includes 32) c.args.from.now f (lines_of c.in_ok-content.content) mid)
-        (gives c.in_ok-whole.whole (kept_of c.expand.new.kept))) empty c.in_ok-whole.ensures in
+    (gives c.in_ok-whole.whole (kept_of c.expand.new.kept))) empty c.in_ok-whole.ensures in
     ok_then g.V.View.came g.V.View.same g.V.View.refusal g.met.V.View.goes_on g.met.V.View.same_on c.args.view.now c.need.new.view c.expand.new.view on (needs c.args.from.now (kept_of c.args.kept.now)) mid
     (kept_of c.write.new.self) c.in_ok-content.content c.write.result c.in_ok-content.ensures
     (ok_then g.V.View.came g.V.View.same g.V.View.refusal g.met.V.View.goes_on g.met.V.View.same_on c.need.new.view c.expand.new.view c.expand.new.view last (expands (includes 32) c.args.from.now [] (lines_of c.in_ok-content.content) mid)

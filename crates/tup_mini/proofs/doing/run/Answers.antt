@@ -1,4 +1,4 @@
-use Rattle.std.proofs.Common.{Err, ℕ, List, ◌+◌, drop, subst}
+use Rattle.std.proofs.Common.{Err, ◌+◌, drop, subst}
 use Rattle.std.proofs.lemmas.Result.{err_from_is_err_and}
 use Rattle.tup_mini.specs.Part.{Part, ◌>>=◌, gives}
 use Rattle.tup_mini.specs.Means.{does, runs}

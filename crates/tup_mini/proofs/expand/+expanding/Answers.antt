@@ -17,7 +17,7 @@ expand-returns-in_err-whole-in-Some g t c =
     let from = expands inner c.args.text.now c.args.front (lines_of c.args.content.now) (kept_of c.args.kept.now) in
     let on : Content → Part Content = λ grown. expands inner c.args.text.now grown (lines_of c.first_line.result.1.now) in
     let more = line-include inner c.args.text.now c.loop-rest.whole c.loop-rest.rest.now c.first_line.result.0.now c.first_line.result.1.now c.in-Some.name c.in_ok-name-in-Some.name c.first_line.ensures.cut
-        (sym c.in-Some.is ∙ c.in_ok-name.ensures ∙ ap included c.unended.ensures) c.in_ok-name-in-Some.ensures in
+    (sym c.in-Some.is ∙ c.in_ok-name.ensures ∙ ap included c.unended.ensures) c.in_ok-name-in-Some.ensures in
     rw (p.1, p.2) (follows_then g.V.View.came g.V.View.same g.V.View.refusal g.met.V.View.goes_on g.met.V.View.same_on c.args.view.now c.loop-rest.view c.include.new.view
     from ((inner c.in_ok-name-in-Some.name c.loop-rest.whole >>= on) kept) (kept_of c.include.new.kept) (Err c.in_err-whole-in-Some.field-0.0)
     (subst (λ (q : Part Content). GoesOn g.V.View.came g.V.View.same g.V.View.refusal c.args.view.now c.loop-rest.view from (q kept)) more c.loop-rest.invariant)
@@ -30,7 +30,7 @@ expand-loop-rest-preserved-in-Some g t c =
     let from = expands inner c.args.text.now c.args.front (lines_of c.args.content.now) (kept_of c.args.kept.now) in
     let on : Content → Part Content = λ grown. expands inner c.args.text.now grown (lines_of c.first_line.result.1.now) in
     let more = line-include inner c.args.text.now c.loop-rest.whole c.loop-rest.rest.now c.first_line.result.0.now c.first_line.result.1.now c.in-Some.name c.in_ok-name-in-Some.name c.first_line.ensures.cut
-        (sym c.in-Some.is ∙ c.in_ok-name.ensures ∙ ap included c.unended.ensures) c.in_ok-name-in-Some.ensures in
+    (sym c.in-Some.is ∙ c.in_ok-name.ensures ∙ ap included c.unended.ensures) c.in_ok-name-in-Some.ensures in
     on_then g.V.View.came g.V.View.same g.V.View.refusal g.met.V.View.goes_on g.met.V.View.same_on c.args.view.now c.loop-rest.view c.include.new.view
     from ((inner c.in_ok-name-in-Some.name c.loop-rest.whole >>= on) kept) (on c.in_ok-whole-in-Some.whole (kept_of c.include.new.kept))
     (subst (λ (q : Part Content). GoesOn g.V.View.came g.V.View.same g.V.View.refusal c.args.view.now c.loop-rest.view from (q kept)) more c.loop-rest.invariant)

@@ -18,7 +18,7 @@ returns c =
     let quoted = c.in-Some.quoted.now in
     let prefix = c.as_slice.result.now in
     let front : take 10 line ≡ codes "#include " ++ 34 ∷ [] =
-        sym (ap (λ (p : List ℕ). take (length p) line) c.as_slice.ensures) ∙ (same_bytes-decides (take (length prefix) line) prefix).0 c.in-Some.ensures.cases.0 ∙ c.as_slice.ensures in
+    sym (ap (λ (p : List ℕ). take (length p) line) c.as_slice.ensures) ∙ (same_bytes-decides (take (length prefix) line) prefix).0 c.in-Some.ensures.cases.0 ∙ c.as_slice.ensures in
     let behind : quoted ≡ drop 10 line = c.in-Some.ensures.cases.1 ∙ ap (λ (p : List ℕ). drop (length p) line) c.as_slice.ensures in
     let is = quoted-some line quoted front behind c.in-34.len_at_least (search rules) in
     named line (take (length quoted - 1) quoted) c.is_empty.result c.contains.result c.new-2.result is c.is_empty.ensures c.if-is_empty.false c.contains.ensures.value c.if-contains.false

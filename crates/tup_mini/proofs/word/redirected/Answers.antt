@@ -1,4 +1,4 @@
-use Rattle.std.proofs.Common.{sym, ◌∙◌, ap, Some, rules}
+use Rattle.std.proofs.Common.{sym, ◌∙◌, rules}
 use Rattle.tup_mini.proofs.Reading.{redirected-yes, redirected-no, redirected-short}
 use Rattle.tup_mini.proofs.word.redirected.Goals as goal
 use Rattle.tup_mini.proofs.word.redirected.Goals.{in_default-via-then-words-lt2, in_default-via-in-len2-up+else-is_arrow}
