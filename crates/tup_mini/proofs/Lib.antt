@@ -1,2 +1,7 @@
 pub mod Reading
 pub mod Joining
+pub mod Following
+pub mod Writing
+pub mod Including
+pub mod Echoing
+pub mod Looping

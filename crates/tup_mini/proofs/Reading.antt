@@ -1,11 +1,14 @@
 -- What the words of a command say: an arrow before the last of them, and the number that a word names.
-use Rattle.std.proofs.Common.{◌≡◌, ℕ, suc, zero, ◌+◌, ◌-◌, ◌<◌, ◌≤◌, Bool, true, false, ◌&&◌, ltb, List, [], ◌∷◌, length, take, get_or, Option, Some, None, option_map, Result, Ok, Err, refl, ap, ◌∙◌, if◌then◌else◌, arith, rules}
+use Rattle.std.proofs.Common.{◌≡◌, ℕ, suc, zero, ◌+◌, ◌-◌, ◌<◌, ◌≤◌, Bool, true, false, ◌&&◌, ltb, List, [], ◌∷◌, length, take, get_or, Option, Some, None, option_map, Result, Ok, Err, codes, bytes_eq, refl, ap, ◌∙◌, if◌then◌else◌, arith, rules}
 use Rattle.std.proofs.lemmas.Bool.{lt-ltb, ltb-true}
 use Rattle.std.proofs.lemmas.Str.Parse.{IsNumeralModel, numerals_by_fold, parse_plain}
 use Rattle.std.specs.List.{list_all}
 use Rattle.std.specs.Result.{result_unwrap_or}
 use Rattle.std.specs.Str.Parse.{ParsesUnsigned}
-use Rattle.tup_mini.specs.Command.{is_arrow, redirected, is_digit, decimal_value, status_of, join_of}
+use Rattle.tup_path.proofs.Same.{same_bytes-decides, differs}
+use Rattle.tup_mini.specs.Steps.{step_of}
+use Rattle.tup_mini.specs.declared.step.MiniStep.TheVariants as steps
+use Rattle.tup_mini.specs.Command.{is_arrow, has_stray_arrow, redirected, is_digit, decimal_value, status_of, join_of}
 use Rattle.tup_mini.specs.declared.command.Command.TheVariants.{Join, Stop}
 use Rattle.tup_mini.specs.declared.command.Command.{Command}
 
@@ -35,6 +38,19 @@ written r = elim r [ Some p ↦ Join p.0 p.1 | None ↦ Stop 2 ]
 
 abbrev found : List (List ℕ) → List ℕ → Bool → Option (List (List ℕ) × List ℕ)
 found from to b = if b then Some (from, to) else None
+
+pub redirected-yes : (words : List (List ℕ)) (arrow to : List ℕ) → 2 ≤ length words → arrow ≡ get_or words (length words - 2) arrow → to ≡ get_or words (length words - 1) to
+    → is_arrow arrow ≡ true → redirected words ≡ Some (take (length words - 2) words, to)
+redirected-yes words arrow to long a t is = at_end words arrow to long a t ∙ ap (found (take (length words - 2) words) to) is
+
+pub redirected-no : (words : List (List ℕ)) (arrow to : List ℕ) → 2 ≤ length words → arrow ≡ get_or words (length words - 2) arrow → to ≡ get_or words (length words - 1) to
+    → is_arrow arrow ≡ false → redirected words ≡ None
+redirected-no words arrow to long a t is = at_end words arrow to long a t ∙ ap (found (take (length words - 2) words) to) is
+
+pub redirected-short : (words : List (List ℕ)) → length words < 2 → redirected words ≡ None
+redirected-short [] l = refl
+redirected-short (word ∷ []) l = refl
+redirected-short (word ∷ next ∷ rest) l = absurd (omega arith)
 
 pub joined : (words : List (List ℕ)) (arrow to : List ℕ) → 2 ≤ length words → arrow ≡ get_or words (length words - 2) arrow → to ≡ get_or words (length words - 1) to
     → is_arrow arrow ≡ true → join_of words ≡ Join (take (length words - 2) words) to
@@ -75,3 +91,13 @@ status_parsed {E = E} (first ∷ word) (Ok n) parsed some low high =
 status_parsed {E = E} (first ∷ word) (Err fault) parsed some low high =
     let p = parse_plain numeral {E = E} 8 (first ∷ word) (Err fault) parsed (omega arith) in
     fails (list_all is_digit (first ∷ word)) (ltb 48 first) (ltb (decimal_value 0 (first ∷ word)) 256) (decimal_value 0 (first ∷ word)) (λ both. p (both.0, omega arith, ltb-true _ 256 both.1))
+
+-- a first word that names no step
+pub unknown-at : (words : List (List ℕ)) (name text : List ℕ) → 1 ≤ length words → name ≡ get_or words 0 name → text ≡ name → has_stray_arrow words ≡ false → (text ≡ codes "cp" → ⊥) → (text ≡ codes "cat" → ⊥)
+    → (text ≡ codes "echo" → ⊥) → (text ≡ codes "incl" → ⊥) → (text ≡ codes "ifexists" → ⊥) → (text ≡ codes "fail" → ⊥) → steps.Stop 127 ≡ step_of words
+unknown-at [] name text some is same stray a b c d e f = absurd (omega arith)
+unknown-at (word ∷ words) name text some is same stray a b c d e f =
+    rw (stray, other (codes "cp") a, other (codes "cat") b, other (codes "echo") c, other (codes "incl") d, other (codes "ifexists") e, other (codes "fail") f) refl
+  where
+    other : (known : List ℕ) → (text ≡ known → ⊥) → bytes_eq word known ≡ false
+    other known apart = differs (bytes_eq word known) (same_bytes-decides word known) (λ q. apart (same ∙ is ∙ q))

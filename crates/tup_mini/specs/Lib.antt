@@ -2,3 +2,11 @@ pub mod Words
 pub mod Command
 pub mod Inputs
 pub mod Mini
+pub mod Kept
+pub mod Part
+pub mod Files
+pub mod Include
+pub mod Steps
+pub mod Means
+pub mod Places
+pub mod Through

@@ -3,7 +3,7 @@ ghost use Rattle.std.specs.Prelude.{◌≡◌, IfOk, Ok};
 ghost use Rattle.tup_path.specs.Gives.{GivesUnless};
 
 use crate::fault::MiniFault;
-use crate::words::{has_stray_arrow, is_arrow, status, words};
+use crate::word::{has_stray_arrow, is_arrow, status, words};
 use std::alloc::{AllocError, Global};
 use std::slice;
 use tup_path::{Items, Text};

@@ -1,6 +1,6 @@
 use Rattle.std.proofs.Common.{◌≡◌, filter, map}
 use Rattle.tup_mini.specs.Words.{is_word}
-use Rattle.tup_mini.proofs.words.words.Given as goal
+use Rattle.tup_mini.proofs.word.words.Given as goal
 
 abbrev pub invariant-loop-part : goal.invariant-loop-part
 invariant-loop-part l =

@@ -1,6 +1,6 @@
 use Rattle.std.proofs.Common.{rules, ◌∙◌}
 use Rattle.tup_mini.proofs.Reading.{status_parsed}
-use Rattle.tup_mini.proofs.words.status.Goals as goal
+use Rattle.tup_mini.proofs.word.status.Goals as goal
 
 pub returns-in-49-to-57 : goal.returns-in-49-to-57
 returns-in-49-to-57 c =

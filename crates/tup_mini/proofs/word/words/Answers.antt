@@ -2,7 +2,7 @@ use Rattle.std.proofs.Common.{lit<, ap, ◌∙◌, filter}
 use Rattle.std.proofs.lemmas.Iterator.Consumers.{YieldsList-at, YieldsList-end}
 use Rattle.std.proofs.lemmas.Iterator.Splits.{YieldsList-from_str_split}
 use Rattle.tup_mini.specs.Words.{is_word}
-use Rattle.tup_mini.proofs.words.words.Goals as goal
+use Rattle.tup_mini.proofs.word.words.Goals as goal
 
 pub returns : goal.returns
 returns c =

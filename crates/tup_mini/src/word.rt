@@ -2,13 +2,13 @@
 ghost use Rattle.std.specs.Prelude.{◌≡◌, ◌↔◌, IfOk};
 ghost use Rattle.std.specs.Bool.{IsTrue};
 ghost use Rattle.tup_mini.specs.Words.{words as words_of};
-ghost use Rattle.tup_mini.specs.Command.{is_arrow as arrow_test, has_stray_arrow as stray_arrow_test, status_of};
+ghost use Rattle.tup_mini.specs.Command.{is_arrow as arrow_test, has_stray_arrow as stray_arrow_test, redirected as redirection, status_of};
 
 use std::alloc::{AllocError, Global};
-use tup_path::Text;
+use tup_path::{Items, Text};
 
-/// The words of a text, cut at blanks.
-pub(crate) fn words(alloc: Global, text: &Text) -> Result<Vec<Text>, AllocError>
+/// The words of a command's text, which its blanks part; a tab is part of a word.
+pub fn words(alloc: Global, text: &Text) -> Result<Vec<Text>, AllocError>
     ensures { IfOk result (λ found. found.items ≡ words_of text.now) }
 {
     let mut found = Vec::new(alloc);
@@ -37,6 +37,22 @@ pub(crate) fn has_stray_arrow(words: &[Text]) -> bool
         }
     }
     false
+}
+
+/// Words, an arrow and one more word, as the words before and the one behind.
+pub(crate) fn redirected(
+    alloc: Global,
+    words: &[Text],
+) -> Result<Option<(Items<Text>, Text)>, AllocError>
+    ensures { IfOk result (λ parts. parts ≡ redirection words.now) }
+{
+    match words {
+        [front @ .., arrow, to] if is_arrow(arrow) => {
+            let front = Items::from_vec(front.to_vec(alloc)?);
+            Ok(Some((front, to.clone()?)))
+        }
+        _ => Ok(None),
+    }
 }
 
 /// The status that a word names: 1 to 255 in decimal without a leading zero, else 2.

@@ -1,0 +1,45 @@
+-- A part of a command (own), as a function of what the command keeps and of the answers that it is still given.
+use Rattle.std.specs.Prelude.{ℕ, List, [], ◌∷◌, Option, None, Some}
+use Rattle.tup_path.specs.Name.{Content}
+use Rattle.tup_runner.specs.Next.{Asks}
+use Rattle.tup_runner.specs.declared.step.Answer.TheVariants.{Content as Found, Absent}
+use Rattle.tup_runner.specs.declared.step.Step.{Step}
+use Rattle.tup_runner.specs.declared.step.Step.TheVariants.{Ask, End}
+use Rattle.tup_mini.specs.Kept.{Kept}
+
+-- what comes of a part: the command's next step, where it asks or ends within the part, or else a value, with what the
+-- command keeps then and the answers that are left
+pub data Outcome (A : Type 0) : Type 0 where
+  Next : Step → Outcome A
+  Gives : Kept → A → Asks → Outcome A
+
+abbrev pub Part : Type 0 → Type 0
+Part A = Kept → Asks → Outcome A
+
+-- what comes of a part and of what is behind it
+abbrev pub followed : {A B : Type 0} → Outcome A → (A → Part B) → Outcome B
+followed (Next step) on = Next step
+followed (Gives kept value asks) on = on value kept asks
+
+-- one part, and then another
+infixl 10 ◌>>=◌
+abbrev pub ◌>>=◌ : {A B : Type 0} → Part A → (A → Part B) → Part B
+part >>= on = λ kept asks. followed (part kept asks) on
+
+-- a value at once
+abbrev pub gives : {A : Type 0} → A → Part A
+gives value = λ kept asks. Gives kept value asks
+
+-- the command ends with this status, and with what it wrote so far
+abbrev pub stops : {A : Type 0} → ℕ → Part A
+stops status = λ kept asks. Next (End (record { status = status; writes = kept.writes }))
+
+-- what an answer says: a content, or that there is no file
+abbrev pub told : {A : Type 0} → Asks → List ℕ → Kept → (Option Content → Part A) → Outcome A
+told [] text kept on = Next (Ask text)
+told ((used, Found content) ∷ asks) text kept on = on (Some content) kept asks
+told ((used, Absent) ∷ asks) text kept on = on None kept asks
+
+-- a file is asked for
+abbrev pub ask_for : List ℕ → Part (Option Content)
+ask_for text = λ kept asks. told asks text kept gives
