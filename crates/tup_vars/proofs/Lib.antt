@@ -4,3 +4,4 @@ pub mod Settings
 pub mod Joined
 pub mod Laws
 pub mod ConfigLines
+pub mod Named

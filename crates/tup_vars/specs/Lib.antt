@@ -5,3 +5,4 @@ pub mod Branches
 pub mod Segments
 pub mod Expand
 pub mod Config
+pub mod Asked

@@ -4,6 +4,7 @@
 //! names came first, and `Branches` as the list of its levels from the outermost on.
 #![tactic(auto)]
 
+mod asked;
 mod branches;
 mod config;
 mod expand;
@@ -14,9 +15,11 @@ mod opening;
 mod table;
 mod vars;
 
+pub use asked::setting_names;
 pub use branches::{Branches, Level, MAX_OPEN};
 pub use config::{Config, config_lines, read_config};
 pub use expand::expansion_laws;
 pub use fault::{ConfigFault, VarFault};
 pub use lookup::{Lookup, Stopped};
+pub use name::{is_free, is_name};
 pub use vars::Vars;

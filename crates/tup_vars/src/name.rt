@@ -2,8 +2,8 @@
 ghost use Rattle.std.specs.Prelude.{◌≡◌};
 ghost use Rattle.tup_vars.specs.Name.{is_name_byte, is_name, is_free, is_config, is_cwd};
 
-/// Whether it is one or more ASCII letters, digits and `_`.
-pub(crate) fn is_name(name: &str) -> bool
+/// Whether it is a name: one or more ASCII letters, digits and `_`.
+pub fn is_name(name: &str) -> bool
     ensures { result ≡ is_name name.now }
 {
     !name.is_empty() && name.as_bytes().iter().all(|byte| is_name_byte(*byte))
@@ -16,7 +16,7 @@ fn is_name_byte(byte: u8) -> bool
 }
 
 /// Whether a variable may have this name: settings and `TUP_CWD` aren't set in a Tupfile.
-pub(crate) fn is_free(name: &str) -> bool
+pub fn is_free(name: &str) -> bool
     ensures { result ≡ is_free name.now }
 {
     is_name(name) && !is_config(name) && !is_cwd(name)

@@ -1,0 +1,51 @@
+-- What conditionals and assignments come to, case by case.
+use Rattle.std.proofs.Common.{◌≡◌, ◌⊎◌, inl, inr, Bool, true, false, if◌then◌else◌, ℕ, List, Option, Some, None, Result, Ok, Err, ap, sym, is_some}
+use Rattle.tup_lex.specs.declared.kind.ParseKind.TheVariants.{BadName, Unclosed}
+use Rattle.tup_vars.specs.Name.{is_name, is_free}
+use Rattle.tup_vars.specs.Table.{Entries}
+use Rattle.tup_vars.specs.declared.fault.VarFault.{VarFault}
+use Rattle.tup_vars.specs.declared.fault.VarFault.TheVariants as kept
+use Rattle.tup_reader.specs.declared.fault.ParseFault.{ParseFault}
+use Rattle.tup_reader.specs.declared.fault.ReadEnd.{ReadEnd}
+use Rattle.tup_reader.specs.declared.fault.ReadEnd.TheVariants.{Memory}
+use Rattle.tup_reader.specs.declared.state.State.{State}
+use Rattle.tup_reader.specs.Reads.{Reads, gives, and_then}
+use Rattle.tup_reader.specs.Ask.{setting_of}
+use Rattle.tup_reader.specs.Spot.{Spot, refused}
+use Rattle.tup_reader.specs.Text.{var_kind, taken}
+use Rattle.tup_reader.specs.Conditional.{agrees, looked_up, sides, compared, compares}
+use Rattle.tup_reader.specs.Setting.{put_value, with_value}
+use Rattle.tup_reader.specs.Went.{Gives, IsRefusal}
+use Rattle.tup_reader.proofs.Went.{refusal_of}
+
+pub looked_up-bad : (at : Spot) (wanted : Bool) (name : List ℕ) → is_name name ≡ false → looked_up at wanted name ≡ refused at BadName
+unfolding looked_up
+looked_up-bad at wanted name e = ap (λ b. if b then and_then (setting_of name) (λ value. gives (agrees wanted (is_some value))) else refused at BadName) e
+
+pub looked_up-name : (at : Spot) (wanted : Bool) (name : List ℕ) → is_name name ≡ true → looked_up at wanted name ≡ and_then (setting_of name) (λ value. gives (agrees wanted (is_some value)))
+unfolding looked_up
+looked_up-name at wanted name e = ap (λ b. if b then and_then (setting_of name) (λ value. gives (agrees wanted (is_some value))) else refused at BadName) e
+
+pub compares-some : (at : Spot) (variables : Entries) (alike : Bool) (text left right : List ℕ) → sides text ≡ Some (left, right) → compares at variables alike text ≡ compared at variables alike left right
+unfolding compares
+compares-some at variables alike text left right e =
+    ap (λ (found : Option (List ℕ × List ℕ)). elim found as (λ _. Reads ParseFault Bool) [ Some (left, right) ↦ compared at variables alike left right | None ↦ refused at Unclosed ]) e
+
+pub compares-none : (at : Spot) (variables : Entries) (alike : Bool) (text : List ℕ) → sides text ≡ None → compares at variables alike text ≡ refused at Unclosed
+unfolding compares
+compares-none at variables alike text e =
+    ap (λ (found : Option (List ℕ × List ℕ)). elim found as (λ _. Reads ParseFault Bool) [ Some (left, right) ↦ compared at variables alike left right | None ↦ refused at Unclosed ]) e
+
+-- a value that was taken, and one that was refused
+pub with_value-ok : (at : Spot) (state : State) (name : List ℕ) (more : Bool) (value : List ℕ) (variables : Entries) → put_value state.variables name more value ≡ Ok variables → with_value at state name more value ≡ gives (record state { variables = variables })
+unfolding with_value taken and_then
+with_value-ok at state name more value variables e = ap (λ (r : Result Entries VarFault). and_then (taken at var_kind r) (λ variables. gives (record state { variables = variables }))) e
+
+with_value-err : (at : Spot) (state : State) (name : List ℕ) (more : Bool) (value : List ℕ) (fault : VarFault) → put_value state.variables name more value ≡ Err fault → with_value at state name more value ≡ refused at (var_kind fault)
+unfolding with_value taken and_then
+with_value-err at state name more value fault e = ap (λ (r : Result Entries VarFault). and_then (taken at var_kind r) (λ variables. gives (record state { variables = variables }))) e
+
+pub with_value-refused : (at : Spot) (state : State) (name : List ℕ) (more : Bool) (value : List ℕ) (fault : VarFault) (end : ReadEnd) → IsRefusal at (var_kind fault) end → (fault ≡ kept.Memory → end ≡ Memory)
+    → (fault ≡ kept.Memory) ⊎ (put_value state.variables name more value ≡ Err fault) → Gives (with_value at state name more value) (Err end)
+with_value-refused at state name more value fault end is memory (inl e) = refusal_of (with_value at state name more value) at (var_kind fault) end is (inl (memory e))
+with_value-refused at state name more value fault end is memory (inr e) = refusal_of (with_value at state name more value) at (var_kind fault) end is (inr (with_value-err at state name more value fault e))

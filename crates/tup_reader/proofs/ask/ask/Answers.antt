@@ -1,0 +1,17 @@
+use Rattle.std.proofs.Common.{◌≡◌, Some, None, false, ap, sym, ◌∙◌, option_map}
+use Rattle.tup_reader.specs.Log.{told_before as before}
+use Rattle.tup_reader.proofs.Asking.{asked_before, asked_new}
+use Rattle.tup_reader.proofs.ask.ask.Goals as goal
+
+pub returns-in-Some : goal.returns-in-Some
+returns-in-Some g c =
+    let known : before c.args.log.now c.args.question ≡ Some c.in-Some.told.now =
+    sym (ap (λ l. before l c.args.question) c.as_slice.ensures) ∙ sym c.told_before.ensures ∙ ap (option_map (λ told. told.now)) c.in-Some.is in
+    rw c.in_ok-clone.ensures.cases (asked_before _ _ _ _ c.requires known)
+
+pub returns : goal.returns
+returns g c =
+    let unknown : before c.args.log.now c.args.question ≡ None =
+    sym (ap (λ l. before l c.args.question) c.as_slice.ensures) ∙ sym c.told_before.ensures ∙ ap (option_map (λ told. told.now)) c.in_default.is in
+    rw (c.in_ok-push.ensures.ok, c.in_ok-clone-2.ensures.cases)
+    (asked_new _ _ _ _ _ _ unknown c.in_ok-told.ensures.kind (sym {a = false} c.in_ok-told.ensures.stopped) (λ tells. c.in_ok-told.ensures.answer tells) (λ tells. c.in_ok-told.ensures.same tells))

@@ -1,0 +1,42 @@
+-- A rule line, from the manual; the order of refusals is own.
+use Rattle.std.specs.Prelude.{ℕ, List, ◌++◌, Option, Some, None}
+use Rattle.tup_lex.specs.Word.{last_name}
+use Rattle.tup_lex.specs.declared.kind.ParseKind.TheVariants.{ForeignOutput}
+use Rattle.tup_rule.specs.declared.draft.GroupRef.{GroupRef}
+use Rattle.tup_reader.specs.declared.fault.ParseFault.{ParseFault}
+use Rattle.tup_reader.specs.declared.found.Found.{Found}
+use Rattle.tup_reader.specs.declared.job.Sources.{Sources}
+use Rattle.tup_reader.specs.declared.state.State.{State}
+use Rattle.tup_reader.specs.declared.words.Words.{Words}
+use Rattle.tup_reader.specs.Reads.{Reads, gives, and_then}
+use Rattle.tup_reader.specs.Spot.{Spot}
+use Rattle.tup_reader.specs.Text.{expanded}
+use Rattle.tup_reader.specs.Folder.{led_to_folder, group_in}
+use Rattle.tup_reader.specs.Found.{paths_of, nothing_found}
+use Rattle.tup_reader.specs.Input.{from_words}
+use Rattle.tup_reader.specs.Words.{words_of}
+use Rattle.tup_reader.specs.Job.{jobs_of, with_jobs}
+
+-- the group to which a rule gives its outputs
+unfoldable pub given_to : Spot → Option (List ℕ) → Reads ParseFault (Option GroupRef)
+given_to at None = gives None
+given_to at (Some word) = and_then (led_to_folder at ForeignOutput word) (λ dir. gives (Some (group_in dir (last_name word))))
+
+-- what all commands of a rule share
+abbrev pub sources_of : Found → Found → Option GroupRef → Sources
+sources_of inputs order group = record { order = paths_of order.inputs; groups = inputs.groups ++ order.groups; gives = group }
+
+-- the state with a rule's commands, by its parts
+unfoldable pub with_words : Spot → State → Words → Reads ParseFault State
+with_words at state words =
+    and_then (from_words at state nothing_found words.inputs)
+    (λ inputs. and_then (from_words at state nothing_found words.order)
+    (λ order. and_then (given_to at words.group)
+    (λ group. with_jobs at words (sources_of inputs order group) state (jobs_of words inputs.inputs))))
+
+-- a rule line behind its colon
+unfoldable pub ruled : Spot → State → List ℕ → Reads ParseFault State
+ruled at state line =
+    and_then (expanded at state.variables line)
+    (λ text. and_then (words_of at state.macros text)
+    (λ words. with_words at state words))

@@ -1,0 +1,56 @@
+//! What conditionals test.
+ghost use Rattle.std.specs.Prelude.{◌≡◌, false, option_map};
+ghost use Rattle.tup_reader.specs.Conditional as specs;
+ghost use Rattle.tup_reader.specs.Went.{Went, asker};
+
+use crate::ask::{Log, setting_of};
+use crate::env::Env;
+use crate::fault::ReadEnd;
+use crate::last::before_last;
+use crate::spot::Spot;
+use std::alloc::Global;
+use tup_lex::ParseKind;
+use tup_path::Text;
+use tup_vars::is_name;
+
+/// Whether tup.config sets a name, or doesn't where that is wanted.
+pub(crate) fn looked_up<E: Env>(
+    alloc: Global,
+    env: &mut E,
+    log: &mut Log,
+    at: &Spot,
+    wanted: bool,
+    name: &str,
+) -> Result<bool, ReadEnd>
+    requires { E.stopped env.old ≡ false }
+    ensures { Went E.tells (asker (E.answers env.old) (E.stopped env.old) log.old)
+        (specs.looked_up at.now wanted name.now)
+        (asker (E.answers env.new) (E.stopped env.new) log.new) result }
+{
+    if !is_name(name) {
+        return Err(at.refuse(ParseKind::BadName));
+    }
+    let name = Text::from_str(alloc, name)?;
+    let value = setting_of(alloc, env, log, &name)?;
+    Ok(agrees(wanted, value.is_some()))
+}
+
+fn agrees(wanted: bool, found: bool) -> bool
+    ensures { result ≡ specs.agrees wanted found }
+{
+    if wanted { found } else { !found }
+}
+
+/// The two sides of `(LEFT,RIGHT)`.
+fn sides(text: &str) -> Option<(&str, &str)>
+    ensures { option_map (λ cut. (cut.0.now, cut.1.now)) result ≡ specs.sides text.now }
+{
+    bracketed(text)?.split_once(',')
+}
+
+/// What stands in a bracket that begins and ends a text.
+fn bracketed(text: &str) -> Option<&str>
+    ensures { option_map (λ inside. inside.now) result ≡ specs.bracketed text.now }
+{
+    before_last(text.strip_prefix("(")?, ')')
+}

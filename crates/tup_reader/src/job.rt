@@ -1,0 +1,33 @@
+//! The commands of a rule line.
+use tup_path::{Paths, Text};
+use tup_rule::{GroupRef, GroupRefs, Pieces};
+
+/// The files of one command, and what a glob matched where one gave the only file.
+#[derive(Drop)]
+pub(crate) struct Job {
+    pub(crate) inputs: Paths,
+    pub(crate) glob: Option<Text>,
+}
+
+/// What all commands of a rule line share.
+#[derive(Drop)]
+pub(crate) struct Sources {
+    pub(crate) order: Paths,
+    pub(crate) groups: GroupRefs,
+    pub(crate) gives: Option<GroupRef>,
+}
+
+/// The outputs of a command without its extra ones, and all of them.
+#[derive(Drop)]
+pub(crate) struct Outputs {
+    pub(crate) plain: Paths,
+    pub(crate) all: Paths,
+}
+
+/// What a command says, and what is shown in its place.
+#[derive(Drop)]
+pub(crate) struct Spoken {
+    pub(crate) pieces: Pieces,
+    pub(crate) display: Option<Pieces>,
+    pub(crate) compare: bool,
+}

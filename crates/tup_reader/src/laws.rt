@@ -1,0 +1,29 @@
+//! Laws of the reading of a folder's Tupfile.
+ghost use Rattle.std.specs.Prelude.{◌≡◌, List, [], Result};
+ghost use Rattle.tup_rule.specs.declared.draft.Draft.{Draft};
+ghost use Rattle.tup_rule.specs.declared.question.Question.{Question};
+ghost use Rattle.tup_rule.specs.declared.question.Told.{Told};
+ghost use Rattle.tup_reader.specs.declared.fault.ParseFault.{ParseFault};
+ghost use Rattle.tup_reader.specs.Reads.{AnswerAlike, IsLocal, outcome};
+ghost use Rattle.tup_reader.specs.Log.{Log, Ran, Says};
+ghost use Rattle.tup_reader.specs.Reading.{reading};
+
+use tup_path::Path;
+
+/// A law of locality: two who answer alike what the reading of a folder asks the one give the same reading, and are
+/// asked the same.
+pub fn reading_is_local(dir: &Path)
+    ensures { (one other : Question → Told)
+        → AnswerAlike (reading dir.now) one other → IsLocal (reading dir.now) one other }
+{
+    let _depth = dir.depth();
+}
+
+/// A law of true records: a log over which the reading of a folder came to its end tells what it comes to for everyone
+/// who says what the log says.
+pub fn logs_tell_readings(dir: &Path)
+    ensures { (log : Log) (end : Result (List Draft) ParseFault) (answers : Question → Told)
+        → Ran [] (reading dir.now) log end → Says answers log → outcome answers (reading dir.now) ≡ end }
+{
+    let _depth = dir.depth();
+}

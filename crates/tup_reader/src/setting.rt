@@ -1,0 +1,78 @@
+//! Assignments.
+ghost use Rattle.std.specs.Prelude.{◌≡◌, ◌⊎◌, Ok, Err, MatchResult};
+ghost use Rattle.tup_vars.specs.declared.fault.VarFault.{VarFault as VarFaultValue};
+ghost use Rattle.tup_reader.specs.Setting as specs;
+ghost use Rattle.tup_reader.specs.Went.{Gives};
+
+use crate::fault::ReadEnd;
+use crate::last::before_last;
+use crate::spot::Spot;
+use crate::state::State;
+use crate::text::var_end;
+use std::alloc::Global;
+use tup_lex::trimmed;
+use tup_path::Text;
+use tup_vars::{VarFault, Vars};
+
+/// The name before an `=`.
+fn set_name(left: &str) -> &str
+    ensures { result.now ≡ specs.set_name left.now }
+{
+    trimmed(unmarked(left))
+}
+
+/// A text without a `:` or a `+` at its end.
+fn unmarked(left: &str) -> &str
+    ensures { result.now ≡ specs.unmarked left.now }
+{
+    match before_last(left, ':') {
+        Some(front) => front,
+        None => match before_last(left, '+') {
+            Some(front) => front,
+            None => left,
+        },
+    }
+}
+
+/// Whether what is set goes on behind what was set before.
+fn goes_on(left: &str) -> bool
+    ensures { result ≡ specs.goes_on left.now }
+{
+    before_last(left, '+').is_some()
+}
+
+/// The state with a variable.
+fn with_value(
+    alloc: Global,
+    at: &Spot,
+    state: State,
+    name: &Text,
+    more: bool,
+    value: Text,
+) -> Result<State, ReadEnd>
+    ensures { Gives (specs.with_value at.now state name.now more value) result }
+{
+    let mut state = state;
+    match put_value(alloc, &mut state.variables, name, more, value) {
+        Ok(()) => Ok(state),
+        Err(fault) => Err(var_end(at, fault)),
+    }
+}
+
+fn put_value(
+    alloc: Global,
+    variables: &mut Vars,
+    name: &Text,
+    more: bool,
+    value: Text,
+) -> Result<(), VarFault>
+    ensures { let put = specs.put_value variables.old name.now more value in
+        MatchResult result (λ _. put ≡ Ok variables.new)
+        (λ fault. (fault ≡ VarFault.Memory) ⊎ (put ≡ Err fault)) }
+{
+    if more {
+        variables.append(alloc, name, &value)
+    } else {
+        variables.set(alloc, name, value)
+    }
+}
