@@ -3,4 +3,3 @@ pub mod Fronts
 pub mod Stores
 pub mod Appends
 pub mod Keys
-pub mod Kept
