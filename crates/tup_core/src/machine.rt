@@ -1,15 +1,14 @@
 //! The machine.
-ghost use Rattle.std.specs.Prelude.{◌≡◌, ◌≢◌, ◌↔◌, ◌+◌, ◌<◌, ℕ, true, None, Some, IsTrue, IfOk, IfErr, OnOk, OnErr, MatchOption, length, List, slice_get, slice_set, unwrap_or};
-ghost use Rattle.std.specs.Option.{option_map};
+ghost use Rattle.std.specs.Prelude.{◌≡◌, ◌≢◌, ◌↔◌, ◌<◌, true, None, Some, IsTrue, IfOk, IfErr, MatchOption, length, List, slice_get, unwrap_or};
 ghost use Rattle.tup_rule.specs.declared.rule.Rule.{Rule as RuleValue};
 ghost use Rattle.tup_core.specs.declared.running.Running.{Running as RunningValue};
 ghost use Rattle.tup_access.specs.Access.{access as access_of};
 ghost use Rattle.tup_access.specs.Generated.{IsGenerated};
 ghost use Rattle.tup_core.specs.Step as specs;
-ghost use Rattle.tup_core.specs.Step.{IsReady, opening, CanAsk, CanDeny, CanFinish, asked, refused};
+ghost use Rattle.tup_core.specs.Step.{IsReady, opening, CanAsk, CanDeny, CanFinish};
 ghost use Rattle.tup_core.specs.Sound.{IsInRange};
 ghost use Rattle.tup_core.specs.Waiting.{flag, CanRelease};
-ghost use Rattle.tup_core.specs.Machine.{entry, state_of, ready_test, IsCore, Answers, Takes, Completes, MayEnd};
+ghost use Rattle.tup_core.specs.Machine.{state_of, ready_test, IsCore, Answers, Takes, Completes, MayEnd};
 
 use crate::ending::{ended_badly, may_end};
 use crate::event::{Cause, CoreEvent, Stamps};

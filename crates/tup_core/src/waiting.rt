@@ -1,9 +1,8 @@
 //! Which rules wait for pending ones.
-ghost use Rattle.std.specs.Prelude.{◌≡◌, ◌==◌, ◌+◌, ◌^◌, ℕ, ◌<◌, ◌≤◌, IfOk, length, List, replicate};
-ghost use Rattle.tup_rule.specs.declared.rule.Rule.{Rule as RuleValue};
+ghost use Rattle.std.specs.Prelude.{◌≡◌, ◌==◌, ◌+◌, ◌^◌, ℕ, ◌<◌, ◌≤◌, IfOk, length, replicate};
 ghost use Rattle.tup_clean.specs.Queue.{count_of};
 ghost use Rattle.tup_core.specs.Waiting as specs;
-ghost use Rattle.tup_core.specs.Waiting.{number, times, flag, IsWaiting, AreWithin, AreDown, AreAllWaiters, IsShort, Releases, CanRelease};
+ghost use Rattle.tup_core.specs.Waiting.{number, flag, IsWaiting, AreWithin, AreDown, AreAllWaiters, IsShort, Releases, CanRelease};
 
 use crate::start::lowered;
 use crate::walk::waiters_of;
