@@ -30,12 +30,14 @@ impl Answers for Tables {
 /// The offset of the gate at which the next commit goes, and each key with its value and its origin.
 fn said(alloc: Global, opened: &Opened) -> Result<Words, RowFault> {
     let mut words = number(alloc, opened.gate)?;
-    for (key, entry) in opened.entries.iter() {
-        words.add(alloc, key.as_slice())?;
-        words.add(alloc, entry.value.as_slice())?;
-        words.add(alloc, format!(in alloc; "{}", entry.origin)?.as_bytes())?;
-        if opened.entries.get(key) != Some(&entry.value) {
-            words.add(alloc, b"not found")?;
+    for (key, slot) in opened.entries.iter() {
+        if let Some(entry) = slot {
+            words.add(alloc, key.as_slice())?;
+            words.add(alloc, entry.value.as_slice())?;
+            words.add(alloc, format!(in alloc; "{}", entry.origin)?.as_bytes())?;
+            if opened.entries.get(key) != Some(&entry.value) {
+                words.add(alloc, b"not found")?;
+            }
         }
     }
     Ok(words)

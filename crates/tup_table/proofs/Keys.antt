@@ -14,7 +14,7 @@ use Rattle.tup_table.specs.declared.change.Change.{Change}
 use Rattle.tup_table.specs.declared.change.Change.TheVariants.{Put, Delete}
 use Rattle.tup_table.specs.declared.entry.Entry.{Entry}
 
-antisymmetric : IsAntisymmetric by_bytes
+pub antisymmetric : IsAntisymmetric by_bytes
 antisymmetric = slice_cmp-IsAntisymmetric nat_cmp-IsAntisymmetric
 
 -- ---- tests of keys
@@ -30,7 +30,7 @@ other_key q k differs =
     ]) refl
 
 -- ---- after a put
-put_found : (es : Standing) (k : List ℕ) (v : Entry) → entry_at (insert_entry by_bytes es k v) k ≡ Some v
+put_found : {X : Type 0} (es : List (List ℕ × X)) (k : List ℕ) (v : X) → lookup (is_at (by_bytes k)) (insert_entry by_bytes es k v) ≡ Some v
 put_found [] k v = rw (same_key k) refl
 put_found (e ∷ es) k v =
     (elim (by_bytes k e.0) as (λ o. by_bytes k e.0 ≡ o → lookup (is_at (by_bytes k)) (match_ordering o ((k, v) ∷ e ∷ es) ((e.0, v) ∷ es) (e ∷ insert_entry by_bytes es k v)) ≡ Some v) [
@@ -49,7 +49,7 @@ put_others (e ∷ es) k v q differs =
     ]) refl
 
 -- ---- after a deletion
-none_behind : (k first : List ℕ) (es : Standing) → k ≡ first → AllByRecursion (λ later. by_bytes first later.0 ≡ Less) es → entry_at es k ≡ None
+pub none_behind : (k first : List ℕ) (es : Standing) → k ≡ first → AllByRecursion (λ later. by_bytes first later.0 ≡ Less) es → entry_at es k ≡ None
 none_behind k first [] same all = refl
 none_behind k first (e ∷ es) same all =
     let before : by_bytes k e.0 ≡ Less = subst (λ (x : List ℕ). by_bytes x e.0 ≡ Less) (sym same) all.0 in
@@ -96,7 +96,7 @@ module _ (P : List ℕ → Type 0) where
         | false ↦ (all.0, all_deleted es k all.1)
       ]
 
-all_after : (k first : List ℕ) (es : Standing) → by_bytes k first ≡ Less → AllByRecursion (λ later. by_bytes first later.0 ≡ Less) es → AllByRecursion (λ later. by_bytes k later.0 ≡ Less) es
+pub all_after : {X : Type 0} (k first : List ℕ) (es : List (List ℕ × X)) → by_bytes k first ≡ Less → AllByRecursion (λ later. by_bytes first later.0 ≡ Less) es → AllByRecursion (λ later. by_bytes k later.0 ≡ Less) es
 all_after k first [] less all = tt
 all_after k first (e ∷ es) less all = (nat_list_cmp_total.trans k first e.0 less all.0, all_after k first es less all.1)
 

@@ -3,3 +3,4 @@ pub mod Fronts
 pub mod Stores
 pub mod Appends
 pub mod Keys
+pub mod Kept

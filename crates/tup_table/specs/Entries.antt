@@ -25,7 +25,7 @@ key_of (Put key value) = key
 key_of (Delete key) = key
 
 -- the keys ascend in byte order, so each stands once
-abbrev pub IsAscending : Standing → Type 0
+abbrev pub IsAscending : {X : Type 0} → List (List ℕ × X) → Type 0
 IsAscending [] = Unit {0}
 IsAscending (first ∷ more) = AllByRecursion (λ later. by_bytes first.0 later.0 ≡ Less) more × IsAscending more
 

@@ -1,11 +1,12 @@
 //! The entries of a table.
-ghost use Rattle.std.specs.Prelude.{◌≡◌, ◌↔◌, [], IsTrue, length, OnOk, IfErr, option_map};
+ghost use Rattle.std.specs.Prelude.{◌≡◌, [], OnOk, IfErr, option_map};
 ghost use Rattle.std.specs.Option.{option_copied};
 ghost use Rattle.tup_table.specs.Entries.{changed, entry_at};
 
 use crate::change::Change;
 use crate::entry::Entry;
 use crate::fault::TableFault;
+use crate::slots::{Slots, apply};
 use std::alloc::Global;
 use std::collections::BTreeMap;
 use std::collections::btree_map::Iter;
@@ -15,47 +16,40 @@ use tup_path::Bytes;
 /// Keys with what stands under them, in the byte order of keys. Contracts see that list.
 #[derive(Drop)]
 pub struct Entries {
-    map: BTreeMap<Bytes, Entry>,
+    slots: Slots,
 }
 
 impl Model for Entries {
     ghost use Rattle.std.specs.Prelude.{List, ℕ};
+    ghost use Rattle.std.specs.BTreeMap.{IsOrdered};
+    ghost use Rattle.tup_path.specs.Order.{by_bytes};
+    ghost use Rattle.tup_table.specs.Slots.{standing};
     ghost use Rattle.tup_table.specs.declared.entry.Entry.{Entry};
 
     ghost Value = { List (List ℕ × Entry) };
 
-    ghost view = { λ e. e.map.entries };
+    ghost view = { λ e. standing e.slots.entries };
+
+    ghost invariant = { λ e. IsOrdered by_bytes e.slots };
 }
 
 impl Entries {
+    ghost use Rattle.tup_table.specs.Slots.{standing};
+
     /// No entries; it takes no memory.
     pub fn new(alloc: Global) -> Entries
         ensures { result ≡ [] }
     {
         Entries {
-            map: BTreeMap::new(alloc),
+            slots: BTreeMap::new(alloc),
         }
-    }
-
-    /// How many keys have a value.
-    pub fn len(&self) -> usize
-        ensures { result ≡ length self.now }
-    {
-        self.map.len()
-    }
-
-    /// Whether no key has a value.
-    pub fn is_empty(&self) -> bool
-        ensures { IsTrue result ↔ (self.now ≡ []) }
-    {
-        self.map.is_empty()
     }
 
     /// The value of a key. It takes the logarithm of the number of keys in steps.
     pub fn get(&self, key: &Bytes) -> Option<&Bytes>
         ensures { option_copied result ≡ option_map (λ e. e.value) (entry_at self.now key.now) }
     {
-        match self.map.get(key) {
+        match self.entry(key) {
             Some(entry) => Some(&entry.value),
             None => None,
         }
@@ -65,17 +59,27 @@ impl Entries {
     pub fn origin(&self, key: &Bytes) -> Option<u64>
         ensures { result ≡ option_map (λ e. e.origin) (entry_at self.now key.now) }
     {
-        match self.map.get(key) {
+        match self.entry(key) {
             Some(entry) => Some(entry.origin),
             None => None,
         }
     }
 
-    /// The keys with what stands under them, in the byte order of keys.
-    pub fn iter(&self) -> Iter<'_, Bytes, Entry>
-        ensures { result ≡ self.now }
+    /// What stands under a key.
+    fn entry(&self, key: &Bytes) -> Option<&Entry>
+        ensures { option_copied result ≡ entry_at self.now key.now }
     {
-        self.map.iter()
+        match self.slots.get(key) {
+            Some(slot) => slot.as_ref(),
+            None => None,
+        }
+    }
+
+    /// The keys in their byte order, each with what stands under it, or `None` where a key has no value any more.
+    pub fn iter(&self) -> Iter<'_, Bytes, Option<Entry>>
+        ensures { standing result ≡ self.now }
+    {
+        self.slots.iter()
     }
 
     /// Takes in a change of the commit behind the gate at an offset. After a refusal the entries are as they were.
@@ -83,15 +87,6 @@ impl Entries {
         ensures ok { OnOk result (self.new ≡ changed origin self.old change) }
         ensures err { IfErr result (λ fault. (fault ≡ TableFault.Memory) × (self.new ≡ self.old)) }
     {
-        match change {
-            Change::Put { key, value } => {
-                self.map.insert(key, Entry { value, origin })?;
-                Ok(())
-            }
-            Change::Delete { key } => {
-                self.map.remove(&key);
-                Ok(())
-            }
-        }
+        apply(&mut self.slots, change, origin)
     }
 }

@@ -16,6 +16,7 @@ mod opened;
 mod reader;
 mod reading;
 mod sized;
+mod slots;
 
 pub use appending::{appended, have_short_keys};
 pub use change::Change;

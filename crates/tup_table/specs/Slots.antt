@@ -1,0 +1,42 @@
+-- How entries are kept in memory (own): a key may have room without a value, so that a commit can be taken in without
+-- memory once it is written.
+use Rattle.std.specs.Prelude.{◌≡◌, ℕ, true, List, [], ◌∷◌, Option, Some, None, is_some}
+use Rattle.std.specs.BTreeMap.{is_at}
+use Rattle.std.specs.List.{AllByRecursion}
+use Rattle.std.specs.Map.{lookup}
+use Rattle.tup_path.specs.Order.{by_bytes}
+use Rattle.tup_table.specs.declared.change.Change.{Change}
+use Rattle.tup_table.specs.declared.change.Change.TheVariants.{Put, Delete}
+use Rattle.tup_table.specs.declared.entry.Entry.{Entry}
+use Rattle.tup_table.specs.Entries.{Standing}
+
+-- keys with room, each with what stands under it
+abbrev pub Slots : Type 0
+Slots = List (List ℕ × Option Entry)
+
+-- what stands in a slot, before other entries
+abbrev pub in_front : List ℕ → Option Entry → Standing → Standing
+in_front key None more = more
+in_front key (Some entry) more = (key, entry) ∷ more
+
+-- the entries of slots
+abbrev pub standing : Slots → Standing
+standing [] = []
+standing (slot ∷ slots) = in_front slot.0 slot.1 (standing slots)
+
+-- a key has room
+abbrev pub HasSlot : Slots → List ℕ → Type 0
+HasSlot slots key = is_some (lookup (is_at (by_bytes key)) slots) ≡ true
+
+-- the key of a change has room, if the change puts
+abbrev pub HasRoom : Slots → Change → Type 0
+HasRoom slots (Put key value) = HasSlot slots key
+HasRoom slots (Delete key) = Unit {0}
+
+-- those of all changes have
+abbrev pub HaveRoom : Slots → List Change → Type 0
+HaveRoom slots changes = AllByRecursion (HasRoom slots) changes
+
+-- no room goes
+abbrev pub RoomStays : Slots → Slots → Type 0
+RoomStays old new = (change : Change) → HasRoom old change → HasRoom new change
