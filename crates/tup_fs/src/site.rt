@@ -79,9 +79,27 @@ impl<R: Files<File = File> + Clone + Drop + Send> Site for FsSite<R> {
 
     ghost world = { λ _. record { tree = finite.empty; store = [] } };
 
+    ghost known = { λ _. [] };
+
+    ghost moment = { λ _. 0 };
+
+    ghost left_since = { λ _ _ _. ⊥ };
+
     ghost faults = { λ site. site.faults };
 
     ghost is_tree = { λ site no. Prim.cc };
+
+    ghost is_known = { λ site no. Prim.cc };
+
+    ghost knows_tree = { λ site no. Prim.cc };
+
+    ghost present = { λ site no. Prim.cc };
+
+    ghost earlier = { λ site t u w no le left. Prim.cc };
+
+    ghost leaves_tree = { λ site t w no left. Prim.cc };
+
+    ghost leaves_known = { λ site w no left. Prim.cc };
 
     fn list(&mut self, _alloc: Global) -> Result<Paths, SiteFailed> {
         self.begin()?;

@@ -1,4 +1,14 @@
-pub mod Trees
-pub mod Places
+pub mod Among
 pub mod Changes
+pub mod Counted
+pub mod Going
+pub mod Held
+pub mod Images
+pub mod Kept
+pub mod Listing
 pub mod Made
+pub mod Moments
+pub mod Places
+pub mod Sound
+pub mod Torn
+pub mod Trees

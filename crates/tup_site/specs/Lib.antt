@@ -1,5 +1,12 @@
 pub mod World
 pub mod Store
 pub mod Cause
+pub mod Known
+pub mod Crash
 pub mod Edit
+pub mod State
+pub mod History
+pub mod Sound
+pub mod Held
+pub mod Laws
 pub mod Memory

@@ -1,11 +1,17 @@
 //! The outside, which can fail: a tree of files and a store, behind one small interface.
 //!
-//! `Site` says what each call does to both and when it may be refused. `MemSite` is a site in
-//! memory, which tells everything: its clauses say exactly what each call does and which one fails.
+//! `Site` says what each call does to both, when it may be refused, and what a crash may leave at
+//! each moment. `MemSite` is a site in memory, which tells everything: its clauses say exactly what
+//! each call does and which one fails.
 #![tactic(auto)]
 
+mod bytes;
+mod change;
 mod fault;
+mod first;
+mod known;
 mod memory;
+mod memory_calls;
 mod place;
 mod refused;
 mod site;

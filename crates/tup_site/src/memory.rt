@@ -1,38 +1,62 @@
 //! A site in memory, which tells everything. Chosen calls fail.
-ghost use Rattle.std.specs.Prelude.{◌≡◌, [], ◌+◌, ◌≤◌, length, take, drop, true, IfOk, OnOk, OnErr, Err};
+ghost use Rattle.std.specs.Prelude.{◌≡◌, ◌⊎◌, [], ◌∷◌, ◌++◌, ◌↔◌, ◌≤◌, length, take, IfOk, OnOk, OnErr, Ok, Err, None, Some, IsSome, IsTrue};
 ghost use Rattle.std.specs.Option.{option_copied};
 ghost use Rattle.std.specs.FinMap as finite;
+ghost use Rattle.tup_path.specs.Name.{IsPath};
 ghost use Rattle.tup_path.specs.Tree.{IsTree, tree_of_files};
 ghost use Rattle.tup_site.specs.Store.{Holds};
-ghost use Rattle.tup_site.specs.Cause.{NeverTooLarge, OnlyLarge, NamesLength, IsSmall, IsPlace, SameBut};
-ghost use Rattle.tup_site.specs.Edit.{AreATree, MayAdd, IsTree-prop, edited};
+ghost use Rattle.tup_site.specs.Cause.{NeverTooLarge, IsPlace};
+ghost use Rattle.tup_site.specs.Edit.{AreATree, IsTree-prop, edited};
+ghost use Rattle.tup_site.specs.Known.{IsKnown, MayJoin};
+ghost use Rattle.tup_site.specs.Crash.{GoesOn, NoStep};
+ghost use Rattle.tup_site.specs.State.{with_edit};
+ghost use Rattle.tup_site.specs.History.{at_first, after_all, contents_of};
+ghost use Rattle.tup_site.specs.Sound.{IsNow, IsNow-prop};
+ghost use Rattle.tup_site.specs.Held.{IsHeld, IsHeld-prop};
 ghost use Rattle.tup_site.specs.declared.fault.SiteFailed.TheVariants.{Fault, Memory};
-ghost use Rattle.tup_site.specs.declared.refused.MemRefused.TheVariants.{NotATree};
+ghost use Rattle.tup_site.specs.declared.refused.MemRefused.TheVariants.{NotATree, SameStamp};
+ghost use Rattle.tup_site.specs.declared.change.Change.TheVariants.{Put, Removed, Settled, Written, Cut, Synced, Edited, Failed};
 
-use crate::fault::{MAX_FILE_BYTES, SiteFailed};
+use crate::bytes::overwrite;
+use crate::change::Change;
+use crate::fault::SiteFailed;
+use crate::first::{known_of, tree_of};
+use crate::known::Known;
 use crate::place::is_place;
 use crate::refused::MemRefused;
-use crate::site::Site;
-use std::alloc::{AllocFailed, Global};
+use std::alloc::{AllocError, Global};
 use std::collections::BTreeMap;
-use tup_path::{Bytes, MAX_DEPTH, Path, Paths};
+use tup_path::{Bytes, Files, MAX_DEPTH, Path};
+use tup_stamp::stamp_of;
 
-/// A tree of files and a store in memory. The calls of `Site`, but for `faults`, are numbered
-/// from 1; those whose number was listed fail and change nothing, and no other fails.
+/// A tree of files and a store in memory.
+///
+/// It keeps the list of all that happened since it was made, and of its calls that failed. So what it
+/// was at each moment, which is the list's length then, and what a crash then may leave, is known.
+/// The calls of `Site`, but for `faults`, are numbered from 1. Those fail whose number was listed,
+/// those behind the number of `stop_after`, and a `put` of a content that has the stamp of another;
+/// they change nothing, and no others fail.
 #[derive(Drop)]
 pub struct MemSite {
-    files: BTreeMap<Path, Bytes>,
-    store: Vec<u8>,
+    pub(crate) files: BTreeMap<Path, Bytes>,
+    pub(crate) store: Vec<u8>,
+    known: Known,
+    first: Files,
+    pub(crate) changes: Vec<Change>,
     fails: Vec<u64>,
     calls: u64,
-    faults: u64,
+    left: Option<u64>,
+    pub(crate) faults: u64,
     ghost is_tree: { IsTree (tree_of_files files.entries) } by { IsTree-prop (tree_of_files files.entries) },
+    ghost is_now: { IsNow first changes.items (tree_of_files files.entries) store.items faults } by { IsNow-prop first changes.items (tree_of_files files.entries) store.items faults },
+    ghost is_held: { IsHeld known.contents.entries (after_all (at_first first) changes.items).known } by { IsHeld-prop known.contents.entries (after_all (at_first first) changes.items).known },
 }
 
 impl MemSite {
-    ghost use Rattle.tup_site.specs.Memory.{tree_in, store_in, calls_of, faults_of, fails_of, world_in, IsCounted, IsSameBeside, IsSameBesideStore};
+    ghost use Rattle.tup_site.specs.Memory.{tree_in, store_in, world_in, first_of, changes_of, state_of, known_in, moment_of, left_since, calls_of, faults_of, fails_of, left_of, fails_next, one_more, one_less, IsCounted, added, HasRoom, IsSameBeside};
 
-    /// A site with these files and an empty store. The calls with these numbers will fail.
+    /// A site with these files and an empty store, all of it durable. The calls with these numbers
+    /// will fail.
     pub fn new(
         alloc: Global,
         files: Vec<(Path, Bytes)>,
@@ -40,75 +64,36 @@ impl MemSite {
     ) -> Result<MemSite, MemRefused>
         ensures files { IfOk result (λ site. tree_in site ≡ tree_of_files files.items) }
         ensures are_a_tree { OnOk result (AreATree files.items) }
+        ensures are_known { OnOk result (IsKnown (contents_of files.items)) }
         ensures store { IfOk result (λ site. store_in site ≡ []) }
+        ensures first { IfOk result (λ site. first_of site ≡ files.items) }
+        ensures changes { IfOk result (λ site. changes_of site ≡ []) }
         ensures calls { IfOk result (λ site. calls_of site ≡ 0) }
         ensures faults { IfOk result (λ site. faults_of site ≡ 0) }
         ensures fails { IfOk result (λ site. fails_of site ≡ fails.items) }
+        ensures left { IfOk result (λ site. left_of site ≡ None) }
         ensures not_a_tree { result ≡ Err NotATree → ¬ AreATree files.items }
+        ensures same_stamp { result ≡ Err SameStamp
+            → AreATree files.items × ¬ IsKnown (contents_of files.items) }
     {
-        let mut site = MemSite {
-            files: BTreeMap::new(alloc),
+        let first = Files::from_vec(files);
+        let files = tree_of(alloc, first.as_slice())?;
+        let known = known_of(alloc, first.as_slice())?;
+        Ok(MemSite {
+            files,
             store: Vec::new(alloc),
+            known,
+            first,
+            changes: Vec::new(alloc),
             fails,
             calls: 0,
+            left: None,
             faults: 0,
-        };
-        for (path, content) in files {
-            site.add(path, content)?;
-        }
-        Ok(site)
-    }
-
-    // Adds a file at a path where none is.
-    fn add(&mut self, path: Path, content: Bytes) -> Result<(), MemRefused>
-        ensures added { OnOk result
-            (tree_in self.new ≡ finite.insert (tree_in self.old) path content) }
-        ensures may { OnOk result (MayAdd (tree_in self.old) path) }
-        ensures beside { IsSameBeside self.old self.new }
-        ensures not_a_tree { result ≡ Err NotATree → ¬ MayAdd (tree_in self.old) path }
-    {
-        if self.files.contains_key(&path) {
-            return Err(MemRefused::NotATree);
-        }
-        self.set(path, content)
-    }
-
-    // Sets a file where one may be.
-    fn set(&mut self, path: Path, content: Bytes) -> Result<(), MemRefused>
-        ensures set { OnOk result
-            (tree_in self.new ≡ finite.insert (tree_in self.old) path content) }
-        ensures may { OnOk result (IsPlace (tree_in self.old) path) }
-        ensures unchanged { OnErr result (tree_in self.new ≡ tree_in self.old) }
-        ensures beside { IsSameBeside self.old self.new }
-        ensures not_a_tree { result ≡ Err NotATree → ¬ IsPlace (tree_in self.old) path }
-    {
-        if !is_place(&self.files, &path) {
-            return Err(MemRefused::NotATree);
-        }
-        Ok(self.insert(path, content)?)
-    }
-
-    fn insert(&mut self, path: Path, content: Bytes) -> Result<(), AllocFailed<(Path, Bytes)>>
-        requires { IsPlace (tree_in self.old) path }
-        ensures inserted { OnOk result
-            (tree_in self.new ≡ finite.insert (tree_in self.old) path content) }
-        ensures unchanged { OnErr result (tree_in self.new ≡ tree_in self.old) }
-        ensures beside { IsSameBeside self.old self.new }
-    {
-        prove!(path.depth() <= MAX_DEPTH);
-        self.files.insert(path, content)?;
-        Ok(())
-    }
-
-    fn erase(&mut self, path: &Path)
-        ensures erased { tree_in self.new ≡ finite.remove (tree_in self.old) path.now }
-        ensures beside { IsSameBeside self.old self.new }
-    {
-        self.files.remove(path);
+        })
     }
 
     /// Sets a file, or takes it away, as somebody else would between two calls: it counts as no
-    /// call. After a refusal all is as before.
+    /// call, and is durable at once. After a refusal all is as before.
     pub fn edit(
         &mut self,
         _alloc: Global,
@@ -117,18 +102,192 @@ impl MemSite {
     ) -> Result<(), MemRefused>
         ensures edited { OnOk result (tree_in self.new ≡ edited (tree_in self.old) path content) }
         ensures tree { OnOk result (IsTree (edited (tree_in self.old) path content)) }
+        ensures noted { OnOk result (changes_of self.new ≡ changes_of self.old ++ Edited path content ∷ []) }
         ensures unchanged { OnErr result (tree_in self.new ≡ tree_in self.old) }
+        ensures unnoted { OnErr result (changes_of self.new ≡ changes_of self.old) }
+        ensures store { store_in self.new ≡ store_in self.old }
         ensures beside { IsSameBeside self.old self.new }
         ensures not_a_tree { result ≡ Err NotATree
             → ¬ IsTree (edited (tree_in self.old) path content) }
+        ensures same_stamp { result ≡ Err SameStamp
+            → IsTree (edited (tree_in self.old) path content)
+            × ¬ IsKnown (with_edit (state_of self.old) path content).known }
     {
         match content {
-            Some(content) => self.set(path, content),
-            None => {
-                self.erase(&path);
-                Ok(())
-            }
+            Some(content) => self.edit_in(path, content),
+            None => self.edit_away(path),
         }
+    }
+
+    fn edit_in(&mut self, path: Path, content: Bytes) -> Result<(), MemRefused>
+        ensures set { OnOk result
+            (tree_in self.new ≡ finite.insert (tree_in self.old) path content) }
+        ensures may { OnOk result (IsPlace (tree_in self.old) path) }
+        ensures noted { OnOk result
+            (changes_of self.new ≡ changes_of self.old ++ Edited path (Some content) ∷ []) }
+        ensures unchanged { OnErr result (tree_in self.new ≡ tree_in self.old) }
+        ensures unnoted { OnErr result (changes_of self.new ≡ changes_of self.old) }
+        ensures store { store_in self.new ≡ store_in self.old }
+        ensures beside { IsSameBeside self.old self.new }
+        ensures not_a_tree { result ≡ Err NotATree → ¬ IsPlace (tree_in self.old) path }
+        ensures same_stamp { result ≡ Err SameStamp
+            → IsPlace (tree_in self.old) path × ¬ MayJoin (known_in self.old) content }
+        ensures path { IsPath path }
+    {
+        prove!(path.depth() <= MAX_DEPTH);
+        if !is_place(&self.files, &path) {
+            return Err(MemRefused::NotATree);
+        }
+        if !self.may_join(&content) {
+            return Err(MemRefused::SameStamp);
+        }
+        self.changes.reserve(1)?;
+        let change = Change::Edited {
+            path: path.clone()?,
+            content: Some(content.clone()?),
+        };
+        Ok(self.set(path, content, change)?)
+    }
+
+    fn edit_away(&mut self, path: Path) -> Result<(), MemRefused>
+        ensures erased { OnOk result (tree_in self.new ≡ finite.remove (tree_in self.old) path) }
+        ensures noted { OnOk result
+            (changes_of self.new ≡ changes_of self.old ++ Edited path None ∷ []) }
+        ensures unchanged { OnErr result (tree_in self.new ≡ tree_in self.old) }
+        ensures unnoted { OnErr result (changes_of self.new ≡ changes_of self.old) }
+        ensures store { store_in self.new ≡ store_in self.old }
+        ensures beside { IsSameBeside self.old self.new }
+        ensures memory { OnErr result (result ≡ Err MemRefused.Memory) }
+    {
+        self.changes.reserve(1)?;
+        let change = Change::Edited {
+            path: path.clone()?,
+            content: None,
+        };
+        self.erase(&path, change);
+        Ok(())
+    }
+
+    // Whether a content has the stamp of no other that is known.
+    pub(crate) fn may_join(&self, content: &Bytes) -> bool
+        ensures { IsTrue result ↔ MayJoin (known_in self.now) content.now }
+    {
+        self.known.may_take(stamp_of(content.as_slice()), content)
+    }
+
+    // Sets a file, and notes it. Where there is no memory for it its content isn't known either.
+    pub(crate) fn set(
+        &mut self,
+        path: Path,
+        content: Bytes,
+        change: Change,
+    ) -> Result<(), AllocError>
+        requires room { HasRoom self.old }
+        requires place { IsPlace (tree_in self.old) path }
+        requires joins { MayJoin (known_in self.old) content }
+        requires change { (change ≡ Put path content) ⊎ (change ≡ Edited path (Some content)) }
+        ensures set { OnOk result
+            (tree_in self.new ≡ finite.insert (tree_in self.old) path content) }
+        ensures noted { OnOk result (changes_of self.new ≡ changes_of self.old ++ change ∷ []) }
+        ensures unchanged { OnErr result (tree_in self.new ≡ tree_in self.old) }
+        ensures unnoted { OnErr result (changes_of self.new ≡ changes_of self.old) }
+        ensures store { store_in self.new ≡ store_in self.old }
+        ensures beside { IsSameBeside self.old self.new }
+    {
+        prove!(path.depth() <= MAX_DEPTH);
+        let stamp = stamp_of(content.as_slice());
+        let is_new = self.known.take(stamp, content.clone()?)?;
+        if self.files.insert(path, content).is_err() {
+            self.known.undo(stamp, is_new);
+            return Err(AllocError);
+        }
+        self.changes.push_reserved(change);
+        Ok(())
+    }
+
+    // Takes a file away, and notes it.
+    pub(crate) fn erase(&mut self, path: &Path, change: Change)
+        requires room { HasRoom self.old }
+        requires change { ((change ≡ Removed path.now)
+            × IsSome (finite.get (tree_in self.old) path.now)) ⊎ (change ≡ Edited path.now None) }
+        ensures erased { tree_in self.new ≡ finite.remove (tree_in self.old) path.now }
+        ensures noted { changes_of self.new ≡ changes_of self.old ++ change ∷ [] }
+        ensures store { store_in self.new ≡ store_in self.old }
+        ensures beside { IsSameBeside self.old self.new }
+    {
+        self.files.remove(path);
+        self.changes.push_reserved(change);
+    }
+
+    // Writes bytes into the store, and notes it.
+    pub(crate) fn write(
+        &mut self,
+        at: usize,
+        bytes: &[u8],
+        change: Change,
+    ) -> Result<(), AllocError>
+        requires room { HasRoom self.old }
+        requires at { at ≤ length (store_in self.old) }
+        requires change { change ≡ Written at bytes.now }
+        ensures written { OnOk result (Holds (store_in self.old) at bytes.now (store_in self.new)) }
+        ensures noted { OnOk result (changes_of self.new ≡ changes_of self.old ++ change ∷ []) }
+        ensures unchanged { OnErr result (store_in self.new ≡ store_in self.old) }
+        ensures unnoted { OnErr result (changes_of self.new ≡ changes_of self.old) }
+        ensures tree { tree_in self.new ≡ tree_in self.old }
+        ensures beside { IsSameBeside self.old self.new }
+    {
+        overwrite(&mut self.store, at, bytes)?;
+        self.changes.push_reserved(change);
+        Ok(())
+    }
+
+    // Cuts the store, and notes it.
+    pub(crate) fn cut(&mut self, len: u64)
+        requires { HasRoom self.old }
+        ensures cut { store_in self.new ≡ take len (store_in self.old) }
+        ensures noted { changes_of self.new ≡ changes_of self.old ++ Cut len ∷ [] }
+        ensures tree { tree_in self.new ≡ tree_in self.old }
+        ensures beside { IsSameBeside self.old self.new }
+    {
+        self.store.truncate(len as usize);
+        self.changes.push_reserved(Change::Cut { len });
+    }
+
+    // Notes that the tree or the store is durable now.
+    pub(crate) fn mark(&mut self, change: Change)
+        requires room { HasRoom self.old }
+        requires mark { (change ≡ Settled) ⊎ (change ≡ Synced) }
+        ensures noted { changes_of self.new ≡ changes_of self.old ++ change ∷ [] }
+        ensures same { world_in self.new ≡ world_in self.old }
+        ensures beside { IsSameBeside self.old self.new }
+    {
+        self.changes.push_reserved(change);
+    }
+
+    /// Lets so many calls pass; all later ones fail, until `run_on`.
+    pub fn stop_after(&mut self, calls: u64)
+        ensures left { left_of self.new ≡ Some calls }
+        ensures same { world_in self.new ≡ world_in self.old }
+        ensures changes { changes_of self.new ≡ changes_of self.old }
+        ensures first { first_of self.new ≡ first_of self.old }
+        ensures calls { calls_of self.new ≡ calls_of self.old }
+        ensures faults { faults_of self.new ≡ faults_of self.old }
+        ensures fails { fails_of self.new ≡ fails_of self.old }
+    {
+        self.left = Some(calls);
+    }
+
+    /// Lets all calls pass again but those whose number was listed.
+    pub fn run_on(&mut self)
+        ensures left { left_of self.new ≡ None }
+        ensures same { world_in self.new ≡ world_in self.old }
+        ensures changes { changes_of self.new ≡ changes_of self.old }
+        ensures first { first_of self.new ≡ first_of self.old }
+        ensures calls { calls_of self.new ≡ calls_of self.old }
+        ensures faults { faults_of self.new ≡ faults_of self.old }
+        ensures fails { fails_of self.new ≡ fails_of self.old }
+    {
+        self.left = None;
     }
 
     /// The content of a file, or `None` where no file is.
@@ -152,175 +311,76 @@ impl MemSite {
         self.calls
     }
 
-    // Counts a call, which may have to fail.
-    fn begin(&mut self) -> Result<(), SiteFailed>
-        ensures counted { IsCounted self.old self.new result }
+    /// How much happened so far: how long the list is.
+    pub fn moment(&self) -> u64
+        ensures { result ≡ moment_of self.now }
+    {
+        self.changes.len() as u64
+    }
+
+    // Begins a call, which may have to fail. It takes room for what it will have done.
+    pub(crate) fn begin(&mut self) -> Result<(), SiteFailed>
+        ensures counted { IsCounted self.old self.new (IsTrue (fails_next self.old)) result }
+        ensures noted { changes_of self.new ≡ changes_of self.old ++ added result [] }
         ensures same { world_in self.new ≡ world_in self.old }
-        ensures no_other { OnErr result (result ≡ Err Fault) }
+        ensures room { OnOk result (HasRoom self.new) }
+        ensures never_too_large { NeverTooLarge result }
+        ensures crash { GoesOn moment_of left_since self.old self.new NoStep }
+        ensures known { known_in self.new ≡ known_in self.old }
+    {
+        self.begin_noted()
+    }
+
+    fn begin_noted(&mut self) -> Result<(), SiteFailed>
+        ensures counted { IsCounted self.old self.new (IsTrue (fails_next self.old)) result }
+        ensures noted { changes_of self.new ≡ changes_of self.old ++ added result [] }
+        ensures same { world_in self.new ≡ world_in self.old }
+        ensures room { OnOk result (HasRoom self.new) }
+        ensures never_too_large { NeverTooLarge result }
+    {
+        let has_to_fail = self.count();
+        self.changes.reserve(1)?;
+        if has_to_fail {
+            return Err(self.fail());
+        }
+        Ok(())
+    }
+
+    // Counts a call, and answers whether it has to fail.
+    fn count(&mut self) -> bool
+        ensures fails { result ≡ fails_next self.old }
+        ensures calls { calls_of self.new ≡ one_more (calls_of self.old) }
+        ensures left { left_of self.new ≡ one_less (left_of self.old) }
+        ensures same { world_in self.new ≡ world_in self.old }
+        ensures changes { changes_of self.new ≡ changes_of self.old }
+        ensures first { first_of self.new ≡ first_of self.old }
+        ensures faults { faults_of self.new ≡ faults_of self.old }
+        ensures listed { fails_of self.new ≡ fails_of self.old }
     {
         self.calls = self.calls.saturating_add(1);
-        if self.fails.contains(&self.calls) {
-            self.faults = self.faults.saturating_add(1);
-            return Err(SiteFailed::Fault);
-        }
-        Ok(())
-    }
-
-    // Writes bytes into the store from a place on, and past its end.
-    fn overwrite(&mut self, at: usize, bytes: &[u8]) -> Result<(), SiteFailed>
-        requires { at ≤ length (store_in self.old) }
-        ensures written { OnOk result (Holds (store_in self.old) at bytes.now (store_in self.new)) }
-        ensures unchanged { OnErr result (store_in self.new ≡ store_in self.old) }
-        ensures beside { IsSameBesideStore self.old self.new }
-        ensures memory { OnErr result (result ≡ Err Memory) }
-    {
-        let inside = bytes.len().min(self.store.len() - at);
-        self.store.extend_from_slice(&bytes[inside..])?;
-        self.store[at..at + inside].copy_from_slice(&bytes[..inside]);
-        Ok(())
-    }
-}
-
-impl Site for MemSite {
-    ghost use Rattle.tup_site.specs.Memory.{tree_in, store_in, world_in, faults_of, IsCounted};
-
-    ghost tells = { true };
-
-    ghost world = { world_in };
-
-    ghost faults = { faults_of };
-
-    ghost is_tree = { λ site _. site.is_tree };
-
-    fn list(&mut self, alloc: Global) -> Result<Paths, SiteFailed>
-        ensures paths { IfOk result (λ paths. paths ≡ finite.keys (tree_in self.old)) }
-        ensures same { world_in self.new ≡ world_in self.old }
-        ensures counted { IsCounted self.old self.new result }
-        ensures never_too_large { NeverTooLarge result }
-    {
-        self.begin()?;
-        let mut paths = Paths::new(alloc);
-        for path in self.files.keys() {
-            paths.push(path.clone()?)?;
-        }
-        Ok(paths)
-    }
-
-    fn get(&mut self, _alloc: Global, path: &Path) -> Result<Option<Bytes>, SiteFailed>
-        ensures content { IfOk result
-            (λ content. content ≡ finite.get (tree_in self.old) path.now) }
-        ensures small { IfOk result IsSmall }
-        ensures too_large { OnlyLarge result }
-        ensures length { NamesLength (tree_in self.old) path.now result }
-        ensures same { world_in self.new ≡ world_in self.old }
-        ensures counted { IsCounted self.old self.new result }
-    {
-        self.begin()?;
-        let Some(content) = self.file(path) else {
-            return Ok(None);
+        let (is_used_up, left) = match self.left {
+            Some(left) => (left == 0, Some(left.saturating_sub(1))),
+            None => (false, None),
         };
-        let len = content.as_slice().len() as u64;
-        if len > MAX_FILE_BYTES {
-            return Err(SiteFailed::TooLarge(len));
-        }
-        Ok(Some(content.clone()?))
+        self.left = left;
+        let is_listed = self.fails.contains(&self.calls);
+        is_listed || is_used_up
     }
 
-    fn put(&mut self, _alloc: Global, path: &Path, content: &Bytes) -> Result<(), SiteFailed>
-        requires { IsPlace (tree_in self.old) path.now }
-        ensures put { OnOk result
-            (tree_in self.new ≡ finite.insert (tree_in self.old) path.now content.now) }
-        ensures unchanged { OnErr result (tree_in self.new ≡ tree_in self.old) }
-        ensures others { SameBut path.now (tree_in self.old) (tree_in self.new) }
-        ensures store { store_in self.new ≡ store_in self.old }
-        ensures counted { IsCounted self.old self.new result }
-        ensures never_too_large { NeverTooLarge result }
-    {
-        self.begin()?;
-        Ok(self.insert(path.clone()?, content.clone()?)?)
-    }
-
-    fn remove(&mut self, _alloc: Global, path: &Path) -> Result<(), SiteFailed>
-        ensures removed { OnOk result
-            (tree_in self.new ≡ finite.remove (tree_in self.old) path.now) }
-        ensures unchanged { OnErr result (tree_in self.new ≡ tree_in self.old) }
-        ensures others { SameBut path.now (tree_in self.old) (tree_in self.new) }
-        ensures store { store_in self.new ≡ store_in self.old }
-        ensures counted { IsCounted self.old self.new result }
-        ensures never_too_large { NeverTooLarge result }
-    {
-        self.begin()?;
-        self.erase(path);
-        Ok(())
-    }
-
-    fn settle(&mut self, _alloc: Global) -> Result<(), SiteFailed>
+    // A call that fails changes nothing but the list and the count.
+    pub(crate) fn fail(&mut self) -> SiteFailed
+        requires { HasRoom self.old }
+        ensures fault { result ≡ Fault }
+        ensures noted { changes_of self.new ≡ changes_of self.old ++ Failed ∷ [] }
         ensures same { world_in self.new ≡ world_in self.old }
-        ensures counted { IsCounted self.old self.new result }
-        ensures never_too_large { NeverTooLarge result }
+        ensures first { first_of self.new ≡ first_of self.old }
+        ensures calls { calls_of self.new ≡ calls_of self.old }
+        ensures faults { faults_of self.new ≡ one_more (faults_of self.old) }
+        ensures fails { fails_of self.new ≡ fails_of self.old }
+        ensures left { left_of self.new ≡ left_of self.old }
     {
-        self.begin()
-    }
-
-    fn db_len(&mut self, _alloc: Global) -> Result<u64, SiteFailed>
-        ensures bytes { IfOk result (λ len. len ≡ length (store_in self.old)) }
-        ensures same { world_in self.new ≡ world_in self.old }
-        ensures counted { IsCounted self.old self.new result }
-        ensures never_too_large { NeverTooLarge result }
-    {
-        self.begin()?;
-        Ok(self.store.len() as u64)
-    }
-
-    fn db_read(&mut self, _alloc: Global, at: u64, into: &mut [u8]) -> Result<(), SiteFailed>
-        requires { at + length into.old ≤ length (store_in self.old) }
-        ensures bytes { OnOk result
-            (into.new ≡ take (length into.old) (drop at (store_in self.old))) }
-        ensures same { world_in self.new ≡ world_in self.old }
-        ensures counted { IsCounted self.old self.new result }
-        ensures never_too_large { NeverTooLarge result }
-    {
-        self.begin()?;
-        let at = at as usize;
-        into.copy_from_slice(&self.store[at..at + into.len()]);
-        Ok(())
-    }
-
-    fn db_write(&mut self, _alloc: Global, at: u64, bytes: &[u8]) -> Result<(), SiteFailed>
-        requires { at ≤ length (store_in self.old) }
-        ensures written { OnOk result (Holds (store_in self.old) at bytes.now (store_in self.new)) }
-        ensures unchanged { OnErr result (store_in self.new ≡ store_in self.old) }
-        ensures tree { tree_in self.new ≡ tree_in self.old }
-        ensures counted { IsCounted self.old self.new result }
-        ensures never_too_large { NeverTooLarge result }
-    {
-        self.begin()?;
-        self.overwrite(at as usize, bytes)
-    }
-
-    fn db_sync(&mut self, _alloc: Global) -> Result<(), SiteFailed>
-        ensures same { world_in self.new ≡ world_in self.old }
-        ensures counted { IsCounted self.old self.new result }
-        ensures never_too_large { NeverTooLarge result }
-    {
-        self.begin()
-    }
-
-    fn db_cut(&mut self, _alloc: Global, len: u64) -> Result<(), SiteFailed>
-        ensures cut { OnOk result (store_in self.new ≡ take len (store_in self.old)) }
-        ensures unchanged { OnErr result (store_in self.new ≡ store_in self.old) }
-        ensures tree { tree_in self.new ≡ tree_in self.old }
-        ensures counted { IsCounted self.old self.new result }
-        ensures never_too_large { NeverTooLarge result }
-    {
-        self.begin()?;
-        self.store.truncate(len as usize);
-        Ok(())
-    }
-
-    fn faults(&self) -> u64
-        ensures { result ≡ faults_of self.now }
-    {
-        self.faults
+        self.changes.push_reserved(Change::Failed);
+        self.faults = self.faults.saturating_add(1);
+        SiteFailed::Fault
     }
 }

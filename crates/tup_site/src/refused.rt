@@ -2,12 +2,15 @@
 use std::alloc::{AllocError, AllocFailed};
 use thiserror::Error;
 
-/// Why a site in memory can't be made or edited so.
+/// Why a site in memory can't be made or edited so. What stands first comes first.
 #[derive(Clone, Copy, Debug, PartialEq, Eq, Error)]
 pub enum MemRefused {
     /// The files would be no tree: the top as a file, one path twice, or a path below another.
     #[error("the files are no tree")]
     NotATree,
+    /// A content has the stamp of another that is known.
+    #[error("two contents have one stamp")]
+    SameStamp,
     /// There was no memory.
     #[error("no memory")]
     Memory,

@@ -1,9 +1,12 @@
 //! The outside as one small interface: a tree of files and a store file.
-ghost use Rattle.std.specs.Prelude.{◌≡◌, ℕ, Bool, ◌+◌, ◌≤◌, length, take, drop, IsTrue, IfOk, OnOk, OnErr, Err};
+ghost use Rattle.std.specs.Prelude.{◌≡◌, ℕ, Bool, List, ◌+◌, ◌≤◌, length, take, drop, IsTrue, IfOk, OnOk, OnErr, Err};
 ghost use Rattle.std.specs.FinMap as finite;
+ghost use Rattle.tup_path.specs.Name.{Content};
 ghost use Rattle.tup_path.specs.Tree.{IsTree};
 ghost use Rattle.tup_site.specs.World.{World, TreeStays, StoreStays};
 ghost use Rattle.tup_site.specs.Store.{Holds, IsTorn, IsCutOrNot};
+ghost use Rattle.tup_site.specs.Known.{IsKnown, KnowsTree, Keeps, Joins};
+ghost use Rattle.tup_site.specs.Crash.{GoesOn, NoStep, FileStep, WriteStep, CutStep, PinsTree, PinsStore};
 ghost use Rattle.tup_site.specs.Cause.{CountsFaults, NeverTooLarge, OnlyLarge, NamesLength, IsSmall, SameBut, IsPlace};
 ghost use Rattle.tup_site.specs.declared.fault.SiteFailed.TheVariants.{Memory};
 
@@ -17,12 +20,25 @@ use tup_path::{Bytes, Path, Paths};
 /// contents stand where it tells. Every site counts its faults: the count rises with each answer
 /// `Fault`, and with no other. Want of memory leaves the world as it was; only a fault may leave a
 /// write half done.
+///
+/// A crash may leave another world than the present one: each call says what it adds to what a crash
+/// since an earlier moment may leave, whatever it answers, and a `settle` or `db_sync` that succeeds
+/// says what every crash from then on leaves.
 pub trait Site: Drop + Send {
     /// Whether the site tells its world.
     ghost tells: { Bool };
 
     /// The files of the tree and the bytes of the store.
     ghost world: { Self → World };
+
+    /// Every content that ever stood in the tree.
+    ghost known: { Self → List Content };
+
+    /// The moment, as a number that doesn't fall.
+    ghost moment: { Self → ℕ };
+
+    /// What a crash at some moment from that one on may leave. A crash now is one since this moment.
+    ghost left_since: { Self → ℕ → World → Type 0 };
 
     /// How often the outside has failed; it stands still at the last `u64`.
     ghost faults: { Self → ℕ };
@@ -31,6 +47,8 @@ pub trait Site: Drop + Send {
     fn list(&mut self, alloc: Global) -> Result<Paths, SiteFailed>
         ensures paths { IsTrue tells → IfOk result (λ paths. paths ≡ finite.keys (world self.old).tree) }
         ensures same { IsTrue tells → world self.new ≡ world self.old }
+        ensures crash { IsTrue tells → GoesOn moment left_since self.old self.new NoStep }
+        ensures known { IsTrue tells → known self.new ≡ known self.old }
         ensures cause { CountsFaults (faults self.old) (faults self.new) result }
         ensures never_too_large { NeverTooLarge result };
 
@@ -43,6 +61,8 @@ pub trait Site: Drop + Send {
         ensures too_large { OnlyLarge result }
         ensures length { IsTrue tells → NamesLength (world self.old).tree path.now result }
         ensures same { IsTrue tells → world self.new ≡ world self.old }
+        ensures crash { IsTrue tells → GoesOn moment left_since self.old self.new NoStep }
+        ensures known { IsTrue tells → known self.new ≡ known self.old }
         ensures cause { CountsFaults (faults self.old) (faults self.new) result };
 
     /// Makes the file with this content, in the place of the one that is there, with the folders
@@ -54,6 +74,9 @@ pub trait Site: Drop + Send {
         ensures others { IsTrue tells → SameBut path.now (world self.old).tree (world self.new).tree }
         ensures store { IsTrue tells → StoreStays (world self.old) (world self.new) }
         ensures memory { IsTrue tells → result ≡ Err Memory → world self.new ≡ world self.old }
+        ensures crash { IsTrue tells → GoesOn moment left_since self.old self.new
+            (FileStep path.now (known self.new)) }
+        ensures known { IsTrue tells → Keeps (known self.old) (known self.new) }
         ensures cause { CountsFaults (faults self.old) (faults self.new) result }
         ensures never_too_large { NeverTooLarge result };
 
@@ -65,12 +88,19 @@ pub trait Site: Drop + Send {
         ensures others { IsTrue tells → SameBut path.now (world self.old).tree (world self.new).tree }
         ensures store { IsTrue tells → StoreStays (world self.old) (world self.new) }
         ensures memory { IsTrue tells → result ≡ Err Memory → world self.new ≡ world self.old }
+        ensures crash { IsTrue tells → GoesOn moment left_since self.old self.new
+            (FileStep path.now (known self.new)) }
+        ensures known { IsTrue tells → Keeps (known self.old) (known self.new) }
         ensures cause { CountsFaults (faults self.old) (faults self.new) result }
         ensures never_too_large { NeverTooLarge result };
 
     /// Makes durable what was put and removed.
     fn settle(&mut self, alloc: Global) -> Result<(), SiteFailed>
         ensures same { IsTrue tells → world self.new ≡ world self.old }
+        ensures durable { IsTrue tells
+            → OnOk result (PinsTree (left_since self.new (moment self.new)) (world self.old)) }
+        ensures crash { IsTrue tells → GoesOn moment left_since self.old self.new NoStep }
+        ensures known { IsTrue tells → known self.new ≡ known self.old }
         ensures cause { CountsFaults (faults self.old) (faults self.new) result }
         ensures never_too_large { NeverTooLarge result };
 
@@ -78,6 +108,8 @@ pub trait Site: Drop + Send {
     fn db_len(&mut self, alloc: Global) -> Result<u64, SiteFailed>
         ensures bytes { IsTrue tells → IfOk result (λ len. len ≡ length (world self.old).store) }
         ensures same { IsTrue tells → world self.new ≡ world self.old }
+        ensures crash { IsTrue tells → GoesOn moment left_since self.old self.new NoStep }
+        ensures known { IsTrue tells → known self.new ≡ known self.old }
         ensures cause { CountsFaults (faults self.old) (faults self.new) result }
         ensures never_too_large { NeverTooLarge result };
 
@@ -88,6 +120,8 @@ pub trait Site: Drop + Send {
         ensures bytes { IsTrue tells
             → OnOk result (into.new ≡ take (length into.old) (drop at (world self.old).store)) }
         ensures same { IsTrue tells → world self.new ≡ world self.old }
+        ensures crash { IsTrue tells → GoesOn moment left_since self.old self.new NoStep }
+        ensures known { IsTrue tells → known self.new ≡ known self.old }
         ensures cause { CountsFaults (faults self.old) (faults self.new) result }
         ensures never_too_large { NeverTooLarge result };
 
@@ -101,12 +135,19 @@ pub trait Site: Drop + Send {
             → OnErr result (IsTorn at (length bytes.now) (world self.old).store (world self.new).store) }
         ensures tree { IsTrue tells → TreeStays (world self.old) (world self.new) }
         ensures memory { IsTrue tells → result ≡ Err Memory → world self.new ≡ world self.old }
+        ensures crash { IsTrue tells → GoesOn moment left_since self.old self.new
+            (WriteStep at (length bytes.now)) }
+        ensures known { IsTrue tells → known self.new ≡ known self.old }
         ensures cause { CountsFaults (faults self.old) (faults self.new) result }
         ensures never_too_large { NeverTooLarge result };
 
     /// Makes the store's bytes durable.
     fn db_sync(&mut self, alloc: Global) -> Result<(), SiteFailed>
         ensures same { IsTrue tells → world self.new ≡ world self.old }
+        ensures durable { IsTrue tells
+            → OnOk result (PinsStore (left_since self.new (moment self.new)) (world self.old)) }
+        ensures crash { IsTrue tells → GoesOn moment left_since self.old self.new NoStep }
+        ensures known { IsTrue tells → known self.new ≡ known self.old }
         ensures cause { CountsFaults (faults self.old) (faults self.new) result }
         ensures never_too_large { NeverTooLarge result };
 
@@ -117,6 +158,8 @@ pub trait Site: Drop + Send {
             → OnErr result (IsCutOrNot len (world self.old).store (world self.new).store) }
         ensures tree { IsTrue tells → TreeStays (world self.old) (world self.new) }
         ensures memory { IsTrue tells → result ≡ Err Memory → world self.new ≡ world self.old }
+        ensures crash { IsTrue tells → GoesOn moment left_since self.old self.new (CutStep len) }
+        ensures known { IsTrue tells → known self.new ≡ known self.old }
         ensures cause { CountsFaults (faults self.old) (faults self.new) result }
         ensures never_too_large { NeverTooLarge result };
 
@@ -126,4 +169,25 @@ pub trait Site: Drop + Send {
 
     /// What the site tells is a tree of files.
     ghost is_tree: { (site : Self) → IsTrue tells → IsTree (world site).tree };
+
+    /// No two contents that it knows have one stamp.
+    ghost is_known: { (site : Self) → IsTrue tells → IsKnown (known site) };
+
+    /// It knows the contents of its files.
+    ghost knows_tree: { (site : Self) → IsTrue tells → KnowsTree (known site) (world site).tree };
+
+    /// A crash now may leave all as it is.
+    ghost present: { (site : Self) → IsTrue tells → left_since site (moment site) (world site) };
+
+    /// What a crash since a moment may leave, one since an earlier moment may leave.
+    ghost earlier: { (site : Self) (t u : ℕ) (w : World) → IsTrue tells → t ≤ u → left_since site u w
+        → left_since site t w };
+
+    /// What a crash leaves is a tree of files.
+    ghost leaves_tree: { (site : Self) (t : ℕ) (w : World) → IsTrue tells → left_since site t w
+        → IsTree w.tree };
+
+    /// No content of what a crash now may leave has the stamp of another, or of one that is known.
+    ghost leaves_known: { (site : Self) (w : World) → IsTrue tells → left_since site (moment site) w
+        → Joins (known site) w.tree };
 }

@@ -1,15 +1,9 @@
-use Rattle.std.proofs.Common.{ap, sym, cond, refl, arith}
-use Rattle.tup_site.specs.Memory.{faults_of, one_more}
-use Rattle.tup_site.proofs.Changes.{passes}
+use Rattle.std.proofs.Common.{[], refl}
+use Rattle.tup_site.proofs.Going.{reads, same_known}
 use Rattle.tup_site.proofs.memory.MemSite.begin.Goals as goal
 
-pub returns-clause-counted : goal.returns-clause-counted
-returns-clause-counted c =
-    let passed = passes c.args.self.now _ _ _ c.saturating_add-self.ensures c.deref.ensures.value c.contains.ensures.value c.if-contains.false in
-    record {
-      calls = c.saturating_add-self.ensures;
-      faults = sym (ap (λ b. cond b (one_more (faults_of c.args.self.now)) (faults_of c.args.self.now)) passed);
-      fails = refl;
-      fault = (λ e. cc, λ t. cc);
-      cause = record { later = omega arith; fault = λ e. cc; steady = λ e. refl };
-    }
+pub returns-clause-crash : goal.returns-clause-crash
+returns-clause-crash c = reads c.args.self.now c.begin_noted.new.self c.begin_noted.ensures.counted.first c.begin_noted.result c.begin_noted.ensures.noted
+
+pub returns-clause-known : goal.returns-clause-known
+returns-clause-known c = same_known c.args.self.now c.begin_noted.new.self c.begin_noted.ensures.counted.first [] c.begin_noted.result refl c.begin_noted.ensures.noted

@@ -1,28 +1,20 @@
-use Rattle.std.proofs.Common.{rules, sym, subst, ap, ◌∙◌, ◌++◌, append_assoc}
-use Rattle.std.specs.FinMap as finite
-use Rattle.tup_path.specs.Tree.{Tree, IsTree, tree_of_files}
-use Rattle.tup_site.specs.Edit.{MayAdd, AreATree}
-use Rattle.tup_site.proofs.Made.{no_files, once_more, tree_more, refused}
+use Rattle.std.proofs.Common.{sym, subst, ap, ◌∙◌}
+use Rattle.tup_path.specs.Tree.{IsTree, tree_of_files}
+use Rattle.tup_site.specs.Edit.{AreATree}
+use Rattle.tup_site.specs.History.{contents_of}
+use Rattle.tup_site.specs.Known.{IsKnown}
+use Rattle.tup_site.specs.Held.{IsHeld}
+use Rattle.tup_site.proofs.Kept.{new_now, new_held}
 use Rattle.tup_site.proofs.memory.MemSite.new.Goals as goal
 
-pub invariant_of-site : goal.invariant_of-site
-invariant_of-site c = record { is_tree = subst (λ es. IsTree (tree_of_files es)) (sym c.new.ensures.empty) no_files }
-
-pub loop-path-preserved : goal.loop-path-preserved
-loop-path-preserved c =
-    let may = subst (λ (t : Tree). MayAdd t c.in-Some.path) c.loop-path.invariant.tree c.in_ok-add.ensures.may in
+pub invariant_of-result : goal.invariant_of-result
+invariant_of-result c =
+    let first = c.from_vec-first.result in
+    let are = subst AreATree c.as_slice.ensures c.in_ok-files.ensures.are_a_tree in
+    let known = subst (λ l. IsKnown (contents_of l)) c.as_slice-2.ensures c.in_ok-known.ensures.known in
+    let tree = c.in_ok-files.ensures.tree ∙ ap tree_of_files c.as_slice.ensures in
     record {
-      once = once_more c.loop-path.yielded c.in-Some.path c.in-Some.content c.loop-path.invariant.once may;
-      tree = c.in_ok-add.ensures.added ∙ ap (λ t. finite.insert t c.in-Some.path c.in-Some.content) c.loop-path.invariant.tree ∙ tree_more c.loop-path.yielded c.in-Some.path c.in-Some.content may;
-      rest = append_assoc c.loop-path.yielded _ _ ∙ ap (λ l. c.loop-path.yielded ++ l) (sym c.in-Some.ensures.steps.0) ∙ c.loop-path.invariant.rest;
-      beside = let now = c.in_ok-add.ensures.beside in let before = c.loop-path.invariant.beside in
-          record { store = now.store ∙ before.store; calls = now.calls ∙ before.calls; faults = now.faults ∙ before.faults; fails = now.fails ∙ before.fails };
+      is_tree = subst IsTree (sym tree) are.tree;
+      is_now = new_now first c.new-2.result.items (tree_of_files c.in_ok-files.files.entries) c.new.result.items c.new-2.ensures.items c.new.ensures.items tree are.tree known;
+      is_held = new_held first c.new-2.result.items c.in_ok-known.known.contents.entries c.new-2.ensures.items (subst (λ l. IsHeld c.in_ok-known.known.contents.entries (contents_of l)) c.as_slice-2.ensures c.in_ok-known.ensures.held);
     }
-
-pub returns-in_err-add-clause-not_a_tree : goal.returns-in_err-add-clause-not_a_tree
-returns-in_err-add-clause-not_a_tree c e are =
-    let split = sym (ap (λ l. c.loop-path.yielded ++ l) c.in-Some.ensures.steps.0) ∙ c.loop-path.invariant.rest in
-    let no_tree = c.in_err-add.ensures.not_a_tree (search rules) in
-    refused c.loop-path.yielded c.next.new.self.rest.items c.in-Some.path c.in-Some.content
-    (subst (λ (t : Tree). MayAdd t c.in-Some.path → ⊥) c.loop-path.invariant.tree no_tree)
-    (subst AreATree (sym split) are)

@@ -2,7 +2,7 @@ use Rattle.std.proofs.Common.{◌∙◌, ap}
 use Rattle.std.specs.FinMap as finite
 use Rattle.tup_site.specs.World.{World}
 use Rattle.tup_site.proofs.Made.{listed}
-use Rattle.tup_site.proofs.memory.MemSiteSite.list.Goals as goal
+use Rattle.tup_site.proofs.memory_calls.MemSiteSite.list.Goals as goal
 
 pub returns-clause-paths : goal.returns-clause-paths
 returns-clause-paths c =

@@ -1,5 +1,5 @@
 use Rattle.std.proofs.Common.{◌≡◌, ◌++◌}
-use Rattle.tup_site.proofs.memory.MemSiteSite.list.Given as goal
+use Rattle.tup_site.proofs.memory_calls.MemSiteSite.list.Given as goal
 
 -- the paths so far and those that are left are all
 abbrev pub invariant-loop-path : goal.invariant-loop-path
