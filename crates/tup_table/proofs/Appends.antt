@@ -55,10 +55,14 @@ module _ (cs : List Change) (short : All HasShortKey cs) (gate len : ℕ) (says 
 pub closed_store : (commits : List (List Change)) (gate : ℕ) (rest : List ℕ) → AllByRecursion CommitFits commits → gate ≢ 1 → IsStore (header ++ blocks commits ++ gate ∷ rest) commits
 closed_store commits gate rest fits other = (gate ∷ rest, record { fits = fits; whole = refl }, inl other)
 
-pub opened_store : (commits : List (List Change)) (changes : List Change) (rest : List ℕ) → AllByRecursion CommitFits commits → CommitFits changes
-    → IsStore (header ++ blocks commits ++ 1 ∷ (appending changes ++ rest)) (commits ++ changes ∷ [])
-opened_store commits changes rest fits one =
+pub opened_front : (commits : List (List Change)) (changes : List Change) (rest : List ℕ) → header ++ blocks commits ++ 1 ∷ (appending changes ++ rest) ≡ header ++ blocks (commits ++ changes ∷ []) ++ 0 ∷ rest
+opened_front commits changes rest =
     let behind : appending changes ++ rest ≡ commit changes ++ 0 ∷ rest = append_assoc (commit changes) (0 ∷ []) rest in
     let front : blocks (commits ++ changes ∷ []) ++ 0 ∷ rest ≡ blocks commits ++ 1 ∷ (appending changes ++ rest) =
     last_out block commits changes (0 ∷ rest) ∙ ap (λ (t : List ℕ). blocks commits ++ 1 ∷ t) (sym behind) in
-    (0 ∷ rest, record { fits = all_more CommitFits commits changes fits one; whole = ap (λ (t : List ℕ). header ++ t) (sym front) }, inl (λ e. omega (arith, e)))
+    ap (λ (t : List ℕ). header ++ t) (sym front)
+
+pub opened_store : (commits : List (List Change)) (changes : List Change) (rest : List ℕ) → AllByRecursion CommitFits commits → CommitFits changes
+    → IsStore (header ++ blocks commits ++ 1 ∷ (appending changes ++ rest)) (commits ++ changes ∷ [])
+opened_store commits changes rest fits one =
+    (0 ∷ rest, record { fits = all_more CommitFits commits changes fits one; whole = opened_front commits changes rest }, inl (λ e. omega (arith, e)))

@@ -4,3 +4,10 @@ pub mod Stores
 pub mod Appends
 pub mod Keys
 pub mod Kept
+pub mod Torn
+pub mod Going
+pub mod Refused
+pub mod Rested
+pub mod Ends
+pub mod Stands
+pub mod Committing

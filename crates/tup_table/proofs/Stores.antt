@@ -11,7 +11,7 @@ use Rattle.tup_table.specs.Reading.{opened_of, ReadsAs, ReadsOn}
 use Rattle.tup_table.specs.declared.opened.Opened.{Opened}
 use Rattle.tup_table.specs.declared.change.Change.{Change}
 use Rattle.tup_table.specs.declared.fault.TableFault.{TableFault}
-use Rattle.tup_table.specs.declared.fault.TableFault.TheVariants.{NotThere, BadStore, Full, Memory}
+use Rattle.tup_table.specs.declared.fault.TableFault.TheVariants.{NotThere, BadStore, Site, Full, Memory}
 use Rattle.tup_table.proofs.Apart.{all_more, last_out, many_one}
 use Rattle.tup_table.proofs.Fronts.{payload_not, blocks_apart, block, end_no_block, broken_no_block, end_not_broken}
 
@@ -47,18 +47,22 @@ reads_one bytes (Ok a) (Ok b) x y =
     ap (λ (o : Opened). Ok o) (x.2 ∙ ap opened_of same.0 ∙ sym y.2)
 reads_one bytes (Ok a) (Err NotThere) x y = absurd (follows_some x.0 x.1.0 (subst (λ (t : List ℕ). Follows t x.0 x.1.0) y x.1.1))
 reads_one bytes (Ok a) (Err (BadStore offset)) x y = absurd (store_not_damaged bytes x.0 offset x.1 y)
+reads_one bytes (Ok a) (Err Site) x y = absurd y
 reads_one bytes (Ok a) (Err Full) x y = absurd y
 reads_one bytes (Ok a) (Err Memory) x y = absurd y
 reads_one bytes (Err NotThere) (Ok b) x y = absurd (follows_some y.0 y.1.0 (subst (λ (t : List ℕ). Follows t y.0 y.1.0) x y.1.1))
 reads_one bytes (Err NotThere) (Err NotThere) x y = refl
 reads_one bytes (Err NotThere) (Err (BadStore offset)) x y = absurd (damaged_some offset (subst (λ (t : List ℕ). IsDamaged t offset) x y))
+reads_one bytes (Err NotThere) (Err Site) x y = absurd y
 reads_one bytes (Err NotThere) (Err Full) x y = absurd y
 reads_one bytes (Err NotThere) (Err Memory) x y = absurd y
 reads_one bytes (Err (BadStore offset)) (Ok b) x y = absurd (store_not_damaged bytes y.0 offset y.1 x)
 reads_one bytes (Err (BadStore offset)) (Err NotThere) x y = absurd (damaged_some offset (subst (λ (t : List ℕ). IsDamaged t offset) y x))
 reads_one bytes (Err (BadStore o)) (Err (BadStore p)) x y = ap (λ (offset : ℕ). Err (BadStore offset)) (damaged_one bytes o p x y)
+reads_one bytes (Err (BadStore offset)) (Err Site) x y = absurd y
 reads_one bytes (Err (BadStore offset)) (Err Full) x y = absurd y
 reads_one bytes (Err (BadStore offset)) (Err Memory) x y = absurd y
+reads_one bytes (Err Site) y x z = absurd x
 reads_one bytes (Err Full) y x z = absurd x
 reads_one bytes (Err Memory) y x z = absurd x
 

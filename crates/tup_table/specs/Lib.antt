@@ -4,3 +4,6 @@ pub mod Entries
 pub mod Slots
 pub mod Reading
 pub mod Appending
+pub mod Cause
+pub mod Images
+pub mod Table

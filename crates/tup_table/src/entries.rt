@@ -16,7 +16,7 @@ use tup_path::Bytes;
 /// Keys with what stands under them, in the byte order of keys. Contracts see that list.
 #[derive(Drop)]
 pub struct Entries {
-    slots: Slots,
+    pub(crate) slots: Slots,
 }
 
 impl Model for Entries {

@@ -1,6 +1,7 @@
 //! Why a table isn't read or changed.
 use std::alloc::{AllocError, AllocFailed};
 use thiserror::Error;
+use tup_site::SiteFailed;
 
 /// Why a table isn't read or changed.
 #[derive(Clone, Copy, Debug, PartialEq, Eq, Error)]
@@ -12,10 +13,14 @@ pub enum TableFault {
     /// which something stands that is no commit.
     #[error("the store is damaged at byte {offset}")]
     BadStore { offset: u64 },
+    /// The site failed, and counted it. The store holds what it held before the call, or what the call would have left; a
+    /// table that was made or changed then is opened again.
+    #[error("the store failed")]
+    Site,
     /// The store would have more than 1,073,741,824 bytes; nothing was written.
     #[error("the store is full")]
     Full,
-    /// There was no memory; nothing is known of the store.
+    /// There was no memory. A table that isn't fresh afterwards is opened again.
     #[error("no memory")]
     Memory,
 }
@@ -39,5 +44,20 @@ impl<T: Drop> From<AllocFailed<T>> for TableFault {
 
     fn from(_: AllocFailed<T>) -> TableFault {
         TableFault::Memory
+    }
+}
+
+impl From<SiteFailed> for TableFault {
+    ghost use Rattle.std.specs.Prelude.{◌≡◌};
+    ghost use Rattle.tup_table.specs.Cause.{fault_of};
+
+    ghost from_gives = { λ failed fault. fault ≡ fault_of failed };
+
+    fn from(failed: SiteFailed) -> TableFault {
+        match failed {
+            SiteFailed::Memory => TableFault::Memory,
+            // Only a file of the tree can be too large, and a table reads none.
+            SiteFailed::Fault | SiteFailed::TooLarge(_) => TableFault::Site,
+        }
     }
 }

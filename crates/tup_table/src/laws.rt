@@ -1,10 +1,13 @@
 //! What is written is read, and what changes leave.
-ghost use Rattle.std.specs.Prelude.{◌≡◌, ◌≢◌, ◌∷◌, ◌++◌, [], ℕ, List, length, Some, None};
+ghost use Rattle.std.specs.Prelude.{◌≡◌, ◌≢◌, ◌∷◌, ◌++◌, [], ℕ, List, Result, length, Some, None};
 ghost use Rattle.std.specs.List.{AllByRecursion};
 ghost use Rattle.tup_table.specs.Appending.{appending};
 ghost use Rattle.tup_table.specs.Entries.{Standing, IsAscending, key_of, changed, committed, entry_at, entries_of};
+ghost use Rattle.tup_table.specs.Reading.{ReadsAs};
 ghost use Rattle.tup_table.specs.Store.{header, blocks, CommitFits, IsStore};
 ghost use Rattle.tup_table.specs.declared.change.Change.{Change};
+ghost use Rattle.tup_table.specs.declared.fault.TableFault.{TableFault};
+ghost use Rattle.tup_table.specs.declared.opened.Opened.{Opened};
 
 /// A commit that was put behind the last gate isn't in the store before that gate is opened, whatever stands at the gate
 /// and behind it, and is in it from then on, whatever stands behind the commit. Its changes then come after those of the
@@ -32,4 +35,10 @@ pub fn last_change_stands()
     ensures others { (entries : Standing) (origin : ℕ) (change : Change) (other : List ℕ)
         → other ≢ key_of change → entry_at (changed origin entries change) other ≡ entry_at entries other }
     ensures ascending { (commits : List (List Change)) → IsAscending (entries_of commits) }
+{}
+
+/// Bytes read as one thing alone: the entries of one list of commits, nothing, or damage at one offset.
+pub fn bytes_read_in_one_way()
+    ensures { (bytes : List ℕ) (one other : Result Opened TableFault)
+        → ReadsAs bytes one → ReadsAs bytes other → one ≡ other }
 {}

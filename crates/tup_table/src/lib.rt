@@ -4,6 +4,9 @@
 //! The bytes are a header and then commits, each behind a gate: a byte that is opened only once the whole commit is
 //! durable. `read` gives the entries that they stand for, and `appended` the bytes by which a store takes a commit.
 //! Both ways are exact: what is written is read, and what is refused is no store.
+//!
+//! A `Table` stands for the store of a site. `make` begins a store, `open` reads what a crash left, and `commit` carries
+//! out changes, with two writes and two syncs.
 #![tactic(auto)]
 
 mod appending;
@@ -17,12 +20,15 @@ mod reader;
 mod reading;
 mod sized;
 mod slots;
+mod table;
+mod writing;
 
 pub use appending::{appended, have_short_keys};
 pub use change::Change;
 pub use entries::Entries;
 pub use entry::Entry;
 pub use fault::TableFault;
-pub use laws::{last_change_stands, written_is_read};
+pub use laws::{bytes_read_in_one_way, last_change_stands, written_is_read};
 pub use opened::Opened;
 pub use reading::read;
+pub use table::Table;

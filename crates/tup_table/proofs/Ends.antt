@@ -1,0 +1,108 @@
+-- How the end of a store is closed, and what a crash leaves of it.
+use Rattle.std.proofs.Common.{◌≡◌, ◌≢◌, ◌⊎◌, ℕ, ◌+◌, ◌≤◌, ◌==◌, Bool, true, false, cond, List, [], ◌∷◌, ◌++◌, length, take, drop, Result, Ok, Err, refl, sym, ap, subst, ◌∙◌, length-append, take-append-drop, length-take-le, arith, tests, inl, inr, ⊎_elim}
+use Rattle.std.specs.Prelude.{if◌then◌else◌}
+use Rattle.std.proofs.lemmas.Bool.{cases_eq}
+use Rattle.std.proofs.lemmas.List.{take_at, drop_at}
+use Rattle.tup_site.specs.Crash.{GoesOn, NoStep, WriteStep, PinsStore}
+use Rattle.tup_site.specs.Store.{Holds, IsTorn}
+use Rattle.tup_site.specs.World.{World}
+use Rattle.tup_table.specs.Entries.{entries_of}
+use Rattle.tup_table.specs.Images.{Leaves, OpenStep, EndStep, LacksGate, closed_end}
+use Rattle.tup_table.specs.Reading.{opened_of, ReadsAs}
+use Rattle.tup_table.specs.Store.{header, blocks, IsStore, IsEnd}
+use Rattle.tup_table.specs.Table.{IsAtRest}
+use Rattle.tup_table.specs.declared.change.Change.{Change}
+use Rattle.tup_table.specs.declared.fault.TableFault.{TableFault}
+use Rattle.tup_table.specs.declared.fault.TableFault.TheVariants.{Memory}
+use Rattle.tup_table.specs.declared.opened.Opened.{Opened}
+use Rattle.tup_table.proofs.Going.{IsEarlier, as_step, nothing_then}
+use Rattle.tup_table.proofs.Torn.{torn_end, torn_short, written_end}
+
+-- ---- a closed end
+closed_gate : (gate : ℕ) → gate ≢ 1 → (if gate == 1 then 0 else gate) ≡ gate
+closed_gate gate other = grind (arith, tests)
+
+closed_not : (gate : ℕ) → (if gate == 1 then 0 else gate) ≢ 1
+closed_not gate = grind (arith, tests)
+
+pub closed_already : (rest : List ℕ) → IsEnd rest → rest ≢ [] → rest ≢ 1 ∷ [] → closed_end rest ≡ rest
+closed_already [] ends some one = absurd (some refl)
+closed_already (gate ∷ rest) (inl other) some one = ap (λ (g : ℕ). g ∷ rest) (closed_gate gate other)
+closed_already (gate ∷ rest) (inr none) some one =
+    ap (λ (g : ℕ). g ∷ rest) (closed_gate gate (λ e. one (ap (λ (g : ℕ). g ∷ rest) e ∙ ap (λ (t : List ℕ). 1 ∷ t) none)))
+
+-- ---- an end that lacks one
+pub lacking_short : (rest : List ℕ) → LacksGate rest → length rest ≤ 1
+lacking_short rest (inl none) = omega (arith, ap length none)
+lacking_short rest (inr one) = omega (arith, ap length one)
+
+pub lacking_closed : (rest : List ℕ) → LacksGate rest → closed_end rest ≡ 0 ∷ []
+lacking_closed rest (inl none) = ap closed_end none
+lacking_closed rest (inr one) = ap closed_end one
+
+-- ---- the end behind a place
+module _ (gate : ℕ) (bytes : List ℕ) (inside : gate ≤ length bytes) where
+  whole : bytes ≡ take gate bytes ++ drop gate bytes
+  whole = sym (take-append-drop gate bytes)
+
+  pub as_it_was : (new : List ℕ) → IsEnd (drop gate bytes) → ¬ LacksGate (drop gate bytes) → new ≡ bytes → new ≡ take gate bytes ++ closed_end (drop gate bytes)
+  as_it_was new ends not same = same ∙ whole ∙ ap (λ (t : List ℕ). take gate bytes ++ t) (sym (closed_already (drop gate bytes) ends (λ e. not (inl e)) (λ e. not (inr e))))
+
+  module _ (short : length (drop gate bytes) ≤ 1) where
+    pub end_step : (v w : World) → v.store ≡ bytes → WriteStep gate 1 v w → EndStep gate bytes v w
+    end_step v w is step =
+        let torn : IsTorn gate 1 (take gate bytes ++ drop gate bytes) w.store = subst (λ (s : List ℕ). IsTorn gate 1 s w.store) (is ∙ whole) step.torn in
+        let ends = length-take-le gate bytes inside in
+        record {
+          tree = step.tree;
+          rest = drop gate w.store;
+          ends = torn_short (take gate bytes) gate ends (drop gate bytes) w.store short torn;
+          whole = torn_end (take gate bytes) gate ends (drop gate bytes) w.store short torn;
+        }
+
+    pub end_closed : (new : List ℕ) → closed_end (drop gate bytes) ≡ 0 ∷ [] → Holds bytes gate (0 ∷ []) new → new ≡ take gate bytes ++ closed_end (drop gate bytes)
+    end_closed new closes holds =
+        written_end (take gate bytes) gate (length-take-le gate bytes inside) (drop gate bytes) 0 new short (subst (λ (s : List ℕ). Holds s gate (0 ∷ []) new) whole holds)
+        ∙ ap (λ (t : List ℕ). take gate bytes ++ t) (sym closes)
+
+-- ---- the end of a store's commits
+module _ (commits : List (List Change)) (bytes : List ℕ) (store : IsStore bytes commits) (gate : ℕ) (is : gate ≡ (opened_of commits).gate) where
+  front_is : take gate bytes ≡ header ++ blocks commits
+  front_is = ap (take gate) store.1.whole ∙ take_at (header ++ blocks commits) store.0 gate (sym is)
+
+  rest_is : drop gate bytes ≡ store.0
+  rest_is = ap (drop gate) store.1.whole ∙ drop_at (header ++ blocks commits) store.0 gate (sym is)
+
+  pub gate_there : gate ≤ length bytes
+  gate_there = omega (arith, is, ap length store.1.whole, length-append (header ++ blocks commits) store.0)
+
+  pub end_there : IsEnd (drop gate bytes)
+  end_there = subst IsEnd (sym rest_is) store.2
+
+  pub open_step : (v w : World) → v.store ≡ bytes → EndStep gate bytes v w → OpenStep v w
+  open_step v w was step = record {
+    tree = step.tree;
+    entries = entries_of commits;
+    before = (commits, subst (λ (s : List ℕ). IsStore s commits) (sym was) store, refl);
+    after = (commits, (step.rest, record { fits = store.1.fits; whole = step.whole ∙ ap (λ (t : List ℕ). t ++ step.rest) front_is }, step.ends), refl);
+  }
+
+  at_rest_by : (new rest : List ℕ) → new ≡ (header ++ blocks commits) ++ closed_end rest → IsAtRest commits new
+  at_rest_by new [] whole = record { fits = store.1.fits; gate = 0; rest = []; closed = λ e. omega (arith, e); whole = whole }
+  at_rest_by new (g ∷ rest) whole = record { fits = store.1.fits; gate = if g == 1 then 0 else g; rest = rest; closed = closed_not g; whole = whole }
+
+  pub at_rest : (new : List ℕ) → new ≡ take gate bytes ++ closed_end (drop gate bytes) → IsAtRest commits new
+  at_rest new closed = at_rest_by new (drop gate bytes) (closed ∙ ap (λ (t : List ℕ). t ++ closed_end (drop gate bytes)) front_is)
+
+-- ---- an opening
+pub opened_ok : (bytes : List ℕ) (opened : Opened) → (Ok opened ≡ Err Memory) ⊎ ReadsAs bytes (Ok opened) → ReadsAs bytes (Ok opened)
+opened_ok bytes opened (inl memory) = absurd (cc)
+opened_ok bytes opened (inr reads) = reads
+
+module _ {S : Type 0} (world : S → World) (moment : S → ℕ) (left_since : S → ℕ → World → Type 0) (old mid new : S) where
+  pub open_goes : (bytes : List ℕ) (opened : Opened) (gate : ℕ) → ReadsAs bytes (Ok opened) → gate ≡ opened.gate → IsEarlier moment left_since mid → GoesOn moment left_since old mid NoStep → PinsStore (left_since mid (moment mid)) (world mid)
+      → (world mid).store ≡ bytes → GoesOn moment left_since mid new (EndStep gate bytes) → GoesOn moment left_since old new OpenStep
+  open_goes bytes opened gate reads is earlier first durable there last =
+      let place = is ∙ ap (λ (o : Opened). o.gate) reads.2 in
+      nothing_then moment left_since old mid new OpenStep earlier first
+      (as_step moment left_since mid new (EndStep gate bytes) OpenStep (λ v w left step. open_step reads.0 bytes reads.1 gate place v w (durable v left ∙ there) step) last)

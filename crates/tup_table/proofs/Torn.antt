@@ -1,0 +1,75 @@
+-- What a write leaves of bytes at their end, at a gate, and behind a gate: where it succeeds, and where it is torn.
+use Rattle.std.proofs.Common.{◌≡◌, ℕ, ◌+◌, ◌≤◌, List, [], ◌∷◌, ◌++◌, length, get_or, take, drop, refl, sym, ap, subst, ◌∙◌, append_assoc, length-append, length-drop, drop-drop, take-append-drop, arith, inl, inr}
+use Rattle.std.proofs.lemmas.List.{take_at, drop_at, drop_all, drop_more}
+use Rattle.tup_site.specs.Store.{Holds, IsTorn}
+use Rattle.tup_table.specs.Store.{IsEnd}
+
+-- an end of at most one byte ends a store, whatever the byte
+pub short_end : (rest : List ℕ) → length rest ≤ 1 → IsEnd rest
+short_end [] le = tt
+short_end (gate ∷ []) le = inr refl
+short_end (gate ∷ more ∷ rest) le = absurd (omega (arith, le))
+
+module _ (front : List ℕ) (at : ℕ) (ends : length front ≡ at) where
+  same_front : (rest w : List ℕ) → take at w ≡ take at (front ++ rest) → w ≡ front ++ drop at w
+  same_front rest w before =
+      sym (take-append-drop at w) ∙ ap (λ (t : List ℕ). t ++ drop at w) (before ∙ take_at front rest at ends)
+
+  length-whole : (rest : List ℕ) → length (front ++ rest) ≡ at + length rest
+  length-whole rest = omega (arith, length-append front rest, ends)
+
+  -- ---- at a gate
+  gated : (gate : ℕ) (more : List ℕ) → front ++ gate ∷ more ≡ (front ++ gate ∷ []) ++ more
+  gated gate more = sym (append_assoc front (gate ∷ []) more)
+
+  length-gated : (gate : ℕ) → length (front ++ gate ∷ []) ≡ at + 1
+  length-gated gate = length-whole (gate ∷ [])
+
+  behind_gate : (gate : ℕ) (more : List ℕ) → drop (at + 1) (front ++ gate ∷ more) ≡ more
+  behind_gate gate more = ap (drop (at + 1)) (gated gate more) ∙ drop_at (front ++ gate ∷ []) more (at + 1) (length-gated gate)
+
+  up_to_gate : (gate : ℕ) (more : List ℕ) → take (at + 1) (front ++ gate ∷ more) ≡ front ++ gate ∷ []
+  up_to_gate gate more = ap (take (at + 1)) (gated gate more) ∙ take_at (front ++ gate ∷ []) more (at + 1) (length-gated gate)
+
+  one_left : (more w : List ℕ) → at + 1 ≤ length w → drop (at + 1) w ≡ more → drop at w ≡ get_or w at 0 ∷ more
+  one_left more w long behind = drop_more w at 0 (omega (arith, long)) ∙ ap (λ (t : List ℕ). get_or w at 0 ∷ t) behind
+
+  pub torn_gate : (gate : ℕ) (more w : List ℕ) → IsTorn at 1 (front ++ gate ∷ more) w → w ≡ front ++ get_or w at 0 ∷ more
+  torn_gate gate more w torn =
+      let long : at + 1 ≤ length w = omega (arith, length-whole (gate ∷ more), torn.no_shorter) in
+      same_front (gate ∷ more) w torn.before ∙ ap (λ (t : List ℕ). front ++ t) (one_left more w long (torn.after ∙ behind_gate gate more))
+
+  pub written_gate : (gate new_gate : ℕ) (more new : List ℕ) → Holds (front ++ gate ∷ more) at (new_gate ∷ []) new → new ≡ front ++ new_gate ∷ more
+  written_gate gate new_gate more new holds =
+      holds
+      ∙ ap (λ (t : List ℕ). t ++ new_gate ∷ drop (at + 1) (front ++ gate ∷ more)) (take_at front (gate ∷ more) at ends)
+      ∙ ap (λ (t : List ℕ). front ++ new_gate ∷ t) (behind_gate gate more)
+
+  -- ---- behind a gate
+  pub torn_behind : (gate n : ℕ) (rest w : List ℕ) → IsTorn (at + 1) n (front ++ gate ∷ rest) w → w ≡ front ++ gate ∷ drop (at + 1) w
+  torn_behind gate n rest w torn =
+      sym (take-append-drop (at + 1) w)
+      ∙ ap (λ (t : List ℕ). t ++ drop (at + 1) w) (torn.before ∙ up_to_gate gate rest)
+      ∙ sym (gated gate (drop (at + 1) w))
+
+  pub written_behind : (gate : ℕ) (rest bytes new : List ℕ) → Holds (front ++ gate ∷ rest) (at + 1) bytes new → new ≡ front ++ gate ∷ (bytes ++ drop (length bytes) rest)
+  written_behind gate rest bytes new holds =
+      let old = front ++ gate ∷ rest in
+      let past : drop (at + 1 + length bytes) old ≡ drop (length bytes) rest = sym (drop-drop (length bytes) (at + 1) old) ∙ ap (drop (length bytes)) (behind_gate gate rest) in
+      holds
+      ∙ ap (λ (t : List ℕ). t ++ (bytes ++ drop (at + 1 + length bytes) old)) (up_to_gate gate rest)
+      ∙ ap (λ (t : List ℕ). (front ++ gate ∷ []) ++ (bytes ++ t)) past
+      ∙ sym (gated gate (bytes ++ drop (length bytes) rest))
+
+  -- ---- at the end
+  pub torn_end : (rest w : List ℕ) → length rest ≤ 1 → IsTorn at 1 (front ++ rest) w → w ≡ front ++ drop at w
+  torn_end rest w short torn = same_front rest w torn.before
+
+  pub torn_short : (rest w : List ℕ) → length rest ≤ 1 → IsTorn at 1 (front ++ rest) w → IsEnd (drop at w)
+  torn_short rest w short torn = short_end (drop at w) (omega (arith, length-drop at w, length-whole rest, torn.no_longer))
+
+  pub written_end : (rest : List ℕ) (gate : ℕ) (new : List ℕ) → length rest ≤ 1 → Holds (front ++ rest) at (gate ∷ []) new → new ≡ front ++ gate ∷ []
+  written_end rest gate new short holds =
+      holds
+      ∙ ap (λ (t : List ℕ). t ++ gate ∷ drop (at + 1) (front ++ rest)) (take_at front rest at ends)
+      ∙ ap (λ (t : List ℕ). front ++ gate ∷ t) (drop_all (at + 1) (front ++ rest) (omega (arith, length-whole rest)))

@@ -1,0 +1,25 @@
+use Rattle.std.proofs.Common.{Result, Ok, Err, OnOk}
+use Rattle.tup_table.proofs.Rested.{first_goes, commit_goes, rests_after}
+use Rattle.tup_table.proofs.writing.write_commit.Goals as goal
+
+both : {T E A B C : Type 0} (result : Result T E) → OnOk result A → OnOk result B → (A → B → C) → OnOk result C
+both (Ok value) a b c = c a b
+both (Err e) a b c = tt
+
+pub returns-in_err-write_through-clause-crash : goal.returns-in_err-write_through-clause-crash
+returns-in_err-write_through-clause-crash g c = λ tells commits changes rests next.
+    first_goes g.S.Site.world g.S.Site.moment g.S.Site.left_since commits changes c.args.gate c.args.bytes.now c.args.site.now rests next c.write_through.new.site (c.write_through.ensures.crash tells)
+
+pub returns-clause-rests : goal.returns-clause-rests
+returns-clause-rests g c = λ tells commits changes rests next.
+    both c.write_through-2.result (c.write_through-2.ensures.written tells) (c.write_through-2.ensures.durable tells)
+    (rests_after g.S.Site.world g.S.Site.moment g.S.Site.left_since commits changes c.args.gate c.args.bytes.now c.args.site.now rests next c.write_through.new.site
+    (c.in_ok-write_through.ensures.written tells) (c.in_ok-write_through.ensures.durable tells) c.write_through-2.new.site)
+
+pub returns-clause-crash : goal.returns-clause-crash
+returns-clause-crash g c = λ tells commits changes rests next.
+    let site_laws = g.met.S.Site g.world.𝓛 g.world.𝓜 g.world.𝓡 ((λ s x. x), (λ x. x), (λ x. x), λ x. x) in
+    let mid = c.write_through.new.site in
+    commit_goes g.S.Site.world g.S.Site.moment g.S.Site.left_since commits changes c.args.gate c.args.bytes.now c.args.site.now rests next mid
+    (c.in_ok-write_through.ensures.written tells) (c.in_ok-write_through.ensures.durable tells) c.write_through-2.new.site (λ t u w le left. site_laws.earlier mid t u w tells le left)
+    (c.write_through.ensures.crash tells) (c.write_through-2.ensures.crash tells)
