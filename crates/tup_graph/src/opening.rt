@@ -19,8 +19,10 @@ pub fn read_graph(alloc: Global, entries: &Entries) -> Result<Nodes, GraphFault>
         ⊎ ((offset : ℕ) × (fault ≡ GraphFault.BadStore offset) × IsBroken entries.now offset)) }
 {
     let mut graph = Nodes::empty(alloc);
-    for (key, entry) in entries.iter() {
-        graph.take(alloc, key, entry)?;
+    for (key, slot) in entries.iter() {
+        if let Some(entry) = slot {
+            graph.take(alloc, key, entry)?;
+        }
     }
     Ok(graph)
 }
