@@ -1,0 +1,8 @@
+use Rattle.std.proofs.Common.{◌∙◌, ap}
+use Rattle.std.specs.FinMap as finite
+use Rattle.tup_path.specs.Order.{by_names}
+use Rattle.tup_clean.proofs.Sorted.{IsSorted-insert_entry}
+use Rattle.tup_core_rows.proofs.sources.put.Goals as goal
+
+pub returns : goal.returns
+returns c = λ sorted. rw c.in_ok-insert.ensures.entries (IsSorted-insert_entry c.args.path c.args.content c.args.contents.now.entries sorted)

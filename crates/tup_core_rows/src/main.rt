@@ -1,0 +1,18 @@
+//! Answers the rows of `data/` on the core of an update.
+#![tactic(auto)]
+
+mod drive;
+mod event;
+mod machine;
+mod project;
+mod rows;
+mod sources;
+mod values;
+
+use std::io;
+use tup_rows::try_file;
+
+fn main(rt: HostRuntime) -> io::Result<()> {
+    let alloc = rt.alloc();
+    try_file(&rt, alloc, "core.rows", &mut rows::Rows::new(alloc))
+}
