@@ -10,7 +10,7 @@ pub(crate) fn is_blank(byte: u8) -> bool
     byte == b' ' || byte == b'\t'
 }
 
-// The places of the first and of the last byte that isn't blank, if there is one.
+/// The places of the first and of the last byte that isn't blank, if there is one.
 pub(crate) fn ends(bytes: &[u8]) -> Option<(usize, usize)>
     ensures { MatchOption result
         (BlankFrom bytes.now 0 (length bytes.now)) (λ ends. Ends bytes.now ends.0 ends.1) }

@@ -87,7 +87,7 @@ fn said_lines(alloc: Global, text: &str) -> Result<Lines, LexFault>
     Ok(kept)
 }
 
-// Adds a joined line to those that are kept, if it says something.
+/// Adds a joined line to those that are kept, if it says something.
 fn keep(alloc: Global, kept: &mut Lines, number: u32, joined: &str) -> Result<(), LexFault>
     ensures fits { OnOk result (is_long joined.now ≡ false) }
     ensures kept { OnOk result (kept.new ≡ kept.old ++ told (line number joined.now)) }

@@ -62,7 +62,7 @@ fn parts_in(alloc: Global, text: &[u8]) -> Result<Parts, LexFault>
     parts_of(alloc, &left, command, &right)
 }
 
-// The places of the two arrows of a rule.
+/// The places of the two arrows of a rule.
 fn arrows(text: &[u8]) -> Option<(usize, usize)>
     ensures value { result ≡ arrows text.now }
     ensures within { IfSome result (λ places.
@@ -77,7 +77,7 @@ fn arrows(text: &[u8]) -> Option<(usize, usize)>
     }
 }
 
-// A part of a text that begins at a place, without the blanks at its ends.
+/// A part of a text that begins at a place, without the blanks at its ends.
 fn trimmed_span(at: usize, part: &[u8]) -> Span
     requires { at + length part.now < 2 ^ 32 }
     ensures { result ≡ trimmed_span at part.now }
@@ -92,7 +92,7 @@ fn trimmed_span(at: usize, part: &[u8]) -> Span
     }
 }
 
-// The parts that the words of a rule's two ends and the place of its command make.
+/// The parts that the words of a rule's two ends and the place of its command make.
 fn parts_of(alloc: Global, left: &[Word], command: Span, right: &[Word]) -> Result<Parts, LexFault>
     ensures { (result ≡ Err Memory) ⊎ (result ≡ parts_of left.now command right.now) }
 {

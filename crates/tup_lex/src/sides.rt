@@ -19,7 +19,7 @@ pub(crate) fn says_foreach(words: &[Word]) -> bool
     }
 }
 
-// The words of the inputs part behind a `foreach`.
+/// The words of the inputs part behind a `foreach`.
 pub(crate) fn inputs_of<'w, 'a>(words: &'w [Word<'a>]) -> &'w [Word<'a>]
     ensures { result.now ≡ inputs_of words.now }
 {
@@ -30,7 +30,7 @@ pub(crate) fn inputs_of<'w, 'a>(words: &'w [Word<'a>]) -> &'w [Word<'a>]
     }
 }
 
-// The words before the first bar, and those behind it.
+/// The words before the first bar, and those behind it.
 pub(crate) fn around_bar<'w, 'a>(words: &'w [Word<'a>]) -> (&'w [Word<'a>], &'w [Word<'a>])
     ensures before { result.0.now ≡ before_first is_bar words.now }
     ensures after { result.1.now ≡ after_first is_bar words.now }
@@ -48,7 +48,7 @@ fn bar_place(words: &[Word]) -> Option<usize>
     words.iter().position(|word| word.is_bar())
 }
 
-// The words before the first bin or group, and the others.
+/// The words before the first bin or group, and the others.
 pub(crate) fn before_gifts<'w, 'a>(words: &'w [Word<'a>]) -> (&'w [Word<'a>], &'w [Word<'a>])
     ensures made { result.0.now ≡ made_of words.now }
     ensures gifts { result.1.now ≡ gifts_of words.now }
@@ -66,7 +66,7 @@ fn gift_place(words: &[Word]) -> Option<usize>
     words.iter().position(|word| word.is_gift())
 }
 
-// Whether the words of the inputs part may stand there.
+/// Whether the words of the inputs part may stand there.
 pub(crate) fn inputs_stand(foreach: bool, words: &[Word]) -> bool
     ensures { result ≡ inputs_stand foreach words.now }
 {
@@ -74,7 +74,7 @@ pub(crate) fn inputs_stand(foreach: bool, words: &[Word]) -> bool
     all_sound(words) && !has_bar(order) && !(foreach && has_group(inputs))
 }
 
-// Whether the words of the outputs part may.
+/// Whether the words of the outputs part may.
 pub(crate) fn outputs_stand(words: &[Word]) -> bool
     ensures { result ≡ outputs_stand words.now }
 {
@@ -83,7 +83,7 @@ pub(crate) fn outputs_stand(words: &[Word]) -> bool
     all_sound(words) && !has_bar(extra) && may_be_given(gifts)
 }
 
-// Whether these are bins and groups alone, one of each at most.
+/// Whether these are bins and groups alone, one of each at most.
 fn may_be_given(gifts: &[Word]) -> bool
     ensures { result ≡ may_be_given gifts.now }
 {
@@ -126,7 +126,7 @@ fn bins(words: &[Word]) -> usize
     words.iter().filter(|word| word.is_bin()).count()
 }
 
-// Where the group among bins and groups stands.
+/// Where the group among bins and groups stands.
 pub(crate) fn group_of(gifts: &[Word]) -> Option<Span>
     ensures { result ≡ option_map span_of (find is_group gifts.now) }
 {
@@ -136,7 +136,7 @@ pub(crate) fn group_of(gifts: &[Word]) -> Option<Span>
         .map(|word| word.span())
 }
 
-// Where the name of the bin among them stands.
+/// Where the name of the bin among them stands.
 pub(crate) fn bin_of(gifts: &[Word]) -> Option<Span>
     ensures { result ≡ option_map inner_span (find is_bin gifts.now) }
 {

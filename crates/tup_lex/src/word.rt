@@ -11,8 +11,8 @@ use bstr::ByteSlice;
 use std::alloc::Global;
 use std::marker::Model;
 
-// A word with the place in the text where it begins. It isn't empty. Contracts see the place and
-// the bytes.
+/// A word with the place in the text where it begins. It isn't empty. Contracts see the place and
+/// the bytes.
 #[derive(Drop)]
 pub(crate) struct Word<'a> {
     from: u32,
@@ -39,7 +39,7 @@ impl<'a> Word<'a> {
         }
     }
 
-    // Where the name of a bin stands.
+    /// Where the name of a bin stands.
     pub(crate) fn inner_span(&self) -> Span
         ensures { result ≡ inner_span self.now }
     {
@@ -73,14 +73,14 @@ impl<'a> Word<'a> {
         is_enclosed(b'<', b'>', last_name(self.text))
     }
 
-    // Whether it is a bin or a group, to which outputs are given.
+    /// Whether it is a bin or a group, to which outputs are given.
     pub(crate) fn is_gift(&self) -> bool
         ensures { result ≡ is_gift self.now }
     {
         self.is_bin() || self.is_group()
     }
 
-    // Whether the word may stand in a rule.
+    /// Whether the word may stand in a rule.
     pub(crate) fn is_sound(&self) -> bool
         ensures { result ≡ is_sound self.now }
     {
@@ -114,7 +114,7 @@ fn last_name(text: &[u8]) -> &[u8]
     }
 }
 
-// The words of a part of a text that begins at this place of it.
+/// The words of a part of a text that begins at this place of it.
 pub(crate) fn words<'a>(alloc: Global, at: usize, part: &'a [u8]) -> Result<Vec<Word<'a>>, LexFault>
     requires { at + length part.now < 2 ^ 32 }
     ensures ok { IfOk result (λ all. all.items ≡ words at part.now) }
@@ -132,7 +132,7 @@ pub(crate) fn words<'a>(alloc: Global, at: usize, part: &'a [u8]) -> Result<Vec<
     Ok(all)
 }
 
-// Adds a word, if it isn't empty.
+/// Adds a word, if it isn't empty.
 fn add<'a>(all: &mut Vec<Word<'a>>, from: usize, text: &'a [u8]) -> Result<(), LexFault>
     requires { from + length text.now < 2 ^ 32 }
     ensures ok { OnOk result (all.new.items

@@ -80,14 +80,14 @@ fn said(alloc: Global, text: &str) -> Result<Config, ConfigFault>
     }
 }
 
-// How many lines stand before the first that is too long.
+/// How many lines stand before the first that is too long.
 fn first_long(text: &str) -> Option<usize>
     ensures { result ≡ position is_long (cut_lines text.now) }
 {
     text.lines().position(|line| is_long(line))
 }
 
-// What lines set of which none is too long.
+/// What lines set of which none is too long.
 fn short_settings(alloc: Global, text: &str) -> Result<Config, ConfigFault>
     ensures { (result ≡ Err Memory) ⊎ (result ≡ short_settings (cut_lines text.now)) }
 {
@@ -100,7 +100,7 @@ fn short_settings(alloc: Global, text: &str) -> Result<Config, ConfigFault>
     Ok(Config { table })
 }
 
-// Takes what the line of this number sets into a table. One that may not stand there is refused.
+/// Takes what the line of this number sets into a table. One that may not stand there is refused.
 fn read_line(alloc: Global, table: &mut Table, number: u32, line: &str) -> Result<(), ConfigFault>
     ensures read { OnOk result (with_line table.old number line.now ≡ Ok table.new) }
     ensures refused { IfErr result (λ fault. (fault ≡ Memory)
@@ -117,7 +117,7 @@ fn read_line(alloc: Global, table: &mut Table, number: u32, line: &str) -> Resul
     Ok(())
 }
 
-// The name and the value that a line sets.
+/// The name and the value that a line sets.
 fn setting(line: &str) -> Option<(&str, &str)>
     ensures { option_map (λ cut. (cut.0.now, cut.1.now)) result ≡ setting line.now }
 {
@@ -125,7 +125,7 @@ fn setting(line: &str) -> Option<(&str, &str)>
     set(line).or_else(|| unset(line))
 }
 
-// Those of a line `CONFIG_NAME=value`.
+/// Those of a line `CONFIG_NAME=value`.
 fn set(line: &str) -> Option<(&str, &str)>
     ensures { option_map (λ cut. (cut.0.now, cut.1.now)) result ≡ set line.now }
 {
@@ -137,7 +137,7 @@ fn set(line: &str) -> Option<(&str, &str)>
     }
 }
 
-// Those of a line `# CONFIG_NAME is not set`.
+/// Those of a line `# CONFIG_NAME is not set`.
 fn unset(line: &str) -> Option<(&str, &str)>
     ensures { option_map (λ cut. (cut.0.now, cut.1.now)) result ≡ unset line.now }
 {

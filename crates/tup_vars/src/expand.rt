@@ -46,7 +46,7 @@ impl Vars {
         Ok(Text::from_string(expanded))
     }
 
-    // Adds a part of a text that ends at a closing bracket.
+    /// Adds a part of a text that ends at a closing bracket.
     fn add_closed<C: Lookup>(
         &self,
         alloc: Global,
@@ -75,7 +75,7 @@ impl Vars {
         }
     }
 
-    // Adds what a name in brackets behind its mark stands for.
+    /// Adds what a name in brackets behind its mark stands for.
     fn add_marked<C: Lookup>(
         &self,
         alloc: Global,
@@ -100,7 +100,7 @@ impl Vars {
         add(expanded, or_empty(value.as_ref()))
     }
 
-    // What a name in `$(` and `)` stands for.
+    /// What a name in `$(` and `)` stands for.
     fn variable<'a>(&'a self, name: &str, cwd: &'a Text) -> Result<&'a str, VarFault>
         ensures bad_name { IfErr result (λ fault. fault ≡ BadName) }
         ensures variable { let wanted = variable self.now cwd.now name.now in
@@ -116,7 +116,7 @@ impl Vars {
     }
 }
 
-// What the lookup answers to a name in `@(` and `)`.
+/// What the lookup answers to a name in `@(` and `)`.
 fn answer<C: Lookup>(alloc: Global, name: &str, config: &mut C) -> Result<Option<Text>, VarFault>
     requires { C.stopped config.old ≡ false }
     ensures answered { IsTrue C.tells → let wanted = answer (C.answers config.old) name.now in
@@ -132,7 +132,7 @@ fn answer<C: Lookup>(alloc: Global, name: &str, config: &mut C) -> Result<Option
     Ok(config.config(alloc, &name)?)
 }
 
-// Adds the part of a text behind its last closing bracket.
+/// Adds the part of a text behind its last closing bracket.
 fn add_last(expanded: &mut String, part: &str) -> Result<(), VarFault>
     ensures added { (names : Scope) →
         let all = with_segments names (string_bytes expanded.old) (last part.now) in
@@ -148,7 +148,7 @@ fn add_last(expanded: &mut String, part: &str) -> Result<(), VarFault>
     }
 }
 
-// Adds a text, if there is room for it.
+/// Adds a text, if there is room for it.
 fn add(expanded: &mut String, more: &str) -> Result<(), VarFault>
     ensures added { let all = grown (string_bytes expanded.old) more.now in
         (result ≡ Err Memory) ⊎ EndsAs result (string_bytes expanded.new) all }

@@ -11,7 +11,7 @@ pub(crate) fn opened(text: &str) -> Option<(&str, u8, &str)>
     Some((&text[..at], bytes[at], &text[at + 2..]))
 }
 
-// The place of the first `$(` or `@(`.
+/// The place of the first `$(` or `@(`.
 fn opening(text: &[u8]) -> Option<usize>
     ensures { MatchOption result
         ((k : ℕ) → k + 1 < length text.now → opens_at text.now k ≡ false)

@@ -80,7 +80,7 @@ pub(crate) fn or_empty(text: Option<&Text>) -> &str
     text.map_or("", |text| text.as_str())
 }
 
-// What comes behind a value where a text is put behind it.
+/// What comes behind a value where a text is put behind it.
 fn continuation(alloc: Global, value: &str, text: &str) -> Result<String, VarFault>
     ensures fits { OnOk result (is_too_long (length (appended value.now text.now)) ≡ false) }
     ensures ok { IfOk result (λ more. string_bytes more ≡ joint value.now ++ text.now) }
@@ -97,7 +97,7 @@ fn continuation(alloc: Global, value: &str, text: &str) -> Result<String, VarFau
     Ok(more)
 }
 
-// What stands between a value and a text that is put behind it.
+/// What stands between a value and a text that is put behind it.
 fn joint(value: &str) -> &'static str
     ensures { result.now ≡ joint value.now }
 {
