@@ -285,13 +285,17 @@ module _ (next : Next) (known : List Content) (kept : Kept) (tree : Tree) (plan 
         more.1,
       )
 
+  pub sound_at : (events : List CoreEvent) → IsRun plan (opening plan files) events → IsHonest next known plan (opening plan files) events →
+      Holds known plan (sources_of kept tree) (clean_of next kept tree plan) (opening plan files).files (end_of plan (opening plan files) events)
+  sound_at events run honest = (run_clean events (opening plan files) sound_opening run honest).1
+
   pub ends_clean : (events : List CoreEvent) → IsRun plan (opening plan files) events → IsHonest next known plan (opening plan files) events →
       EndAsIn (clean_of next kept tree plan) plan (opening plan files) events
   ends_clean events run honest = (run_clean events (opening plan files) sound_opening run honest).0
 
   pub bad_clean : (events : List CoreEvent) → IsRun plan (opening plan files) events → IsHonest next known plan (opening plan files) events →
       (at : ℕ) (given : Verdict) → (end_of plan (opening plan files) events).bad at ≡ Some given → slice_get (clean_of next kept tree plan).verdicts at ≡ Some (Some given)
-  bad_clean events run honest = (run_clean events (opening plan files) sound_opening run honest).1.faithful.bad
+  bad_clean events run honest = (sound_at events run honest).faithful.bad
 
   -- ---- an end with nothing pending
 
@@ -309,7 +313,7 @@ module _ (next : Next) (known : List Content) (kept : Kept) (tree : Tree) (plan 
       (done : (at : ℕ) → (end_of plan (opening plan files) events).pending at ≡ false) where
     all_settled : (at : ℕ) (rule : Rule) → slice_get plan.rules at ≡ Some rule → Settled (end_of plan (opening plan files) events) at rule
     all_settled at rule here =
-        settled_state (end_of plan (opening plan files) events) (run_clean events (opening plan files) sound_opening run honest).1.faithful at rule here (done at) (λ other produces. done other)
+        settled_state (end_of plan (opening plan files) events) (sound_at events run honest).faithful at rule here (done at) (λ other produces. done other)
 
     pub succeeds_clean : succeeds (clean_of next kept tree plan) ≡ true
     succeeds_clean = all_good (clean_of next kept tree plan).verdicts (λ at below.
@@ -320,7 +324,7 @@ module _ (next : Next) (known : List Content) (kept : Kept) (tree : Tree) (plan 
     files_clean path =
         elim (cases_Bool (is_generated plan.rules path)) [
           | inr plain ↦
-              (run_clean events (opening plan files) sound_opening run honest).1.faithful.elsewhere path plain
+              (sound_at events run honest).faithful.elsewhere path plain
               ∙ ap (option_map stamp) (sym (plain_at next known kept tree plan files planned path plain))
           | inl generated ↦
               let made = is_generated-maker plan.rules path generated in

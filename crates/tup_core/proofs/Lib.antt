@@ -10,6 +10,8 @@ pub mod Standing
 pub mod NeverStuck
 pub mod Verdicts
 pub mod CleanRuns
+pub mod AllClaimed
+pub mod Example
 mod ItemLaws
 mod WalkLaws
 mod WaitingLaws

@@ -149,7 +149,10 @@ accounted_after plan state (Stop seat cause) accounted enabled = record {
   reason = λ at claimed pending. by_stop _ refl;
 }
 
-accounted_run : (plan : Plan) (events : List CoreEvent) (state : State) → IsAccounted state → IsRun plan state events → IsAccounted (end_of plan state events)
+pub accounted_opening : (plan : Plan) (files : List (Names × Stamp)) → IsAccounted (opening plan files)
+accounted_opening plan files = record { reason = λ at claimed pending. absurd (true≢false (sym claimed)) }
+
+pub accounted_run : (plan : Plan) (events : List CoreEvent) (state : State) → IsAccounted state → IsRun plan state events → IsAccounted (end_of plan state events)
 accounted_run plan [] state accounted run = accounted
 accounted_run plan (event ∷ events) state accounted (enabled, run) = accounted_run plan events (after plan state event) (accounted_after plan state event accounted enabled) run
 
@@ -168,18 +171,18 @@ unclaimed plan state at accounted stuck pending =
     ]
   where
     no_reason : Reason state at → ⊥
-    no_reason (by_running (seat, running, here, is)) = none-some running (sym (stuck.none_runs seat) ∙ here)
+    no_reason (by_running (seat, running, here, is)) = none-some running (sym (stuck.quiet.none_runs seat) ∙ here)
     no_reason (by_bad verdict is) = none-some verdict (sym (stuck.none_bad at) ∙ is)
-    no_reason (by_stop cause is) = none-some cause (sym stuck.going ∙ is)
+    no_reason (by_stop cause is) = none-some cause (sym stuck.quiet.going ∙ is)
 
 -- so no rule is pending
 none_pending : (plan : Plan) (state : State) → IsAcyclic plan.rules → IsAccounted state → IsStuck plan state → (at : ℕ) (rule : Rule) → slice_get plan.rules at ≡ Some rule → state.pending at ≡ true → ⊥
 none_pending plan state acyclic accounted stuck at rule here =
     by_producers plan.rules acyclic (λ other. state.pending other ≡ true → ⊥)
-    (λ other its there behind waiting. stuck.none_ready other (record {
+    (λ other its there behind waiting. stuck.quiet.none_ready other (record {
       pending = waiting;
       unclaimed = unclaimed plan state other accounted stuck waiting;
-      going = stuck.going;
+      going = stuck.quiet.going;
       clear = (its, there, λ next produced. false_from_ne_true (state.pending next) (behind next produced));
     }))
     at rule here
@@ -189,7 +192,7 @@ pub never_stuck : (plan : Plan) (files : List (Names × Stamp)) (events : List C
 never_stuck plan files events acyclic range run stuck =
     let state = end_of plan (opening plan files) events in
     let orderly = orderly_run plan events (opening plan files) (orderly_opening plan files) run in
-    let accounted = accounted_run plan events (opening plan files) (record { reason = λ at claimed pending. absurd (true≢false (sym claimed)) }) run in
+    let accounted = accounted_run plan events (opening plan files) (accounted_opening plan files) run in
     let at = stuck.pending.0 in
     let found = some_place plan.rules at (range at (orderly.reached at stuck.pending.1)) in
     none_pending plan state acyclic accounted stuck at found.0 found.1 stuck.pending.1

@@ -1,5 +1,5 @@
 -- What every run of the core keeps, whichever seats make the claims and in whichever order (own).
-use Rattle.std.specs.Prelude.{◌≡◌, ℕ, true, false, List, [], ◌∷◌, Some, All, nat_eq, slice_get}
+use Rattle.std.specs.Prelude.{◌≡◌, ℕ, true, false, List, [], ◌∷◌, Some, All, length, nat_eq, slice_get}
 use Rattle.std.specs.FinMap as finite
 use Rattle.std.specs.List.{IsDistinct}
 use Rattle.std.specs.Option.{option_map}
@@ -22,7 +22,7 @@ use Rattle.tup_core.specs.Run.{IsRun, end_of, claims}
 use Rattle.tup_core.specs.Honest.{IsKnown, EndsHonestly, IsHonest, IsTreeOf, IsVerdictOver}
 use Rattle.tup_core.specs.Kept.{Kept}
 use Rattle.tup_core.specs.Planned.{IsPlanned, clean_of}
-use Rattle.tup_core.specs.Sound.{HasOneMaker, IsAcyclic, IsInRange, Stands, IsStuck}
+use Rattle.tup_core.specs.Sound.{HasOneMaker, IsAcyclic, IsInRange, Stands, IsQuiet, IsStuck}
 
 -- the same of the end of each run from an opening, whose premise on the plan holds
 abbrev pub AtEachEnd : (Plan → Type 0) → (Plan → State → Type 0) → Type 0
@@ -86,6 +86,20 @@ abbrev pub EndsInClean : Type 0
 EndsInClean = InHonestRuns (λ next known kept tree plan files events. ((at : ℕ) → (end_of plan (opening plan files) events).pending at ≡ false)
     → (succeeds (clean_of next kept tree plan) ≡ true)
     × ((path : Names) → (end_of plan (opening plan files) events).files path ≡ option_map stamp (finite.get (clean_of next kept tree plan).tree path)))
+
+-- there are such runs: over a project with a rule that needn't be run and one that must be, to an end with nothing pending
+abbrev pub SomeHonestRun : Type 0
+SomeHonestRun =
+    (next : Next) × (known : List Content) × (kept : Kept) × (tree : Tree) × (plan : Plan) × (files : List (Names × Stamp)) × (events : List CoreEvent)
+    × IsPlanned next known kept tree plan files × IsRun plan (opening plan files) events × IsHonest next known plan (opening plan files) events
+    × ((at : ℕ) → (end_of plan (opening plan files) events).pending at ≡ false)
+    × (is_reached plan 0 ≡ false) × (is_reached plan 1 ≡ true) × (length plan.rules ≡ 2)
+
+-- where all is quiet each rule to be run was claimed whose declared producers are all Good in the clean build
+abbrev pub AllAreClaimed : Type 0
+AllAreClaimed = InHonestRuns (λ next known kept tree plan files events. IsQuiet plan (end_of plan (opening plan files) events)
+    → (at : ℕ) (rule : Rule) → slice_get plan.rules at ≡ Some rule → is_reached plan at ≡ true
+    → AreProducersGood plan.rules (clean_of next kept tree plan).verdicts rule → (end_of plan (opening plan files) events).claimed at ≡ true)
 
 -- an honest end has the verdict, and leaves the stamps, that its rule's command has over a tree with the files of
 -- that moment

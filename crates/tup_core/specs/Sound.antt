@@ -31,10 +31,14 @@ pub record Stands (plan : Plan) (state : State) (rule : Rule) (ask : List ℕ ×
   pub readable : may_read plan.rules rule path ≡ true
   pub same : ask.1 ≡ told rule state path
 
--- a rule waits, and nothing will ever change that: none is ready, none runs, none is bad, nothing is stopped
-pub record IsStuck (plan : Plan) (state : State) : Type 0 where
-  pub pending : (at : ℕ) × (state.pending at ≡ true)
+-- nothing goes on any more, and nothing is stopped: no rule is ready, and none runs
+pub record IsQuiet (plan : Plan) (state : State) : Type 0 where
   pub none_ready : (at : ℕ) → IsReady plan state at → ⊥
   pub none_runs : (seat : ℕ) → state.seats seat ≡ None
-  pub none_bad : (at : ℕ) → state.bad at ≡ None
   pub going : state.stopped ≡ None
+
+-- a rule waits, and nothing will ever change that: all is quiet, and no rule is bad
+pub record IsStuck (plan : Plan) (state : State) : Type 0 where
+  pub pending : (at : ℕ) × (state.pending at ≡ true)
+  pub quiet : IsQuiet plan state
+  pub none_bad : (at : ℕ) → state.bad at ≡ None

@@ -41,7 +41,15 @@ pub fn ends_are_clean()
 {}
 
 /// A law: at the end of each honest run from an opening that was planned, if no rule is pending, the clean build of the
-/// sources succeeds, and the files are those of its tree.
+/// sources succeeds, and the files are those of its tree. There are such runs.
 pub fn ends_in_clean()
-    ensures { law.EndsInClean }
+    ensures end { law.EndsInClean }
+    ensures some { law.SomeHonestRun }
+{}
+
+/// A law: where an honest run from an opening that was planned has come to a state in which nothing is stopped, no rule
+/// is ready and none runs, each rule to be run was claimed whose declared producers are all Good in the clean build. So
+/// an update that keeps going runs all that it can.
+pub fn all_are_claimed()
+    ensures { law.AllAreClaimed }
 {}
