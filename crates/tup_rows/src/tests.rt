@@ -26,6 +26,7 @@ twice \"b \\x41\\n\" = \"b A\\n\" \"b A\\n\"
 twice \"\" = \"\"
 thrice a = a a a
 twice = a
+twice a b = a a
 twice a
 twice \"a = a a
 ";
@@ -34,9 +35,10 @@ const REPORT: &str = "\
 f:5: twice wants \"\", found \"\" \"\"
 f:6: no such call
 f:7: too few arguments
-f:8: the row can't be read
+f:8: too many arguments
 f:9: the row can't be read
-f: 7 rows, 5 differ
+f:10: the row can't be read
+f: 8 rows, 6 differ
 ";
 
 #[test]
