@@ -1,4 +1,4 @@
-//! The rows of the store: fields, records, lists of owned paths, and stores.
+//! The rows of the store: fields, records, lists of owned paths, stores, and tables over a site.
 //!
 //! Each file of `data/` has rows, a call with the answer that is wanted each. The head of a file says what its calls
 //! and their arguments mean.
@@ -8,12 +8,14 @@ mod field;
 mod owned;
 mod record;
 mod say;
+mod sites;
 mod table;
 mod values;
 
 use field::Fields;
 use owned::OwnedLists;
 use record::Records;
+use sites::Sites;
 use std::io;
 use table::Tables;
 use tup_rows::try_file;
@@ -23,5 +25,6 @@ fn main(rt: HostRuntime) -> io::Result<()> {
     try_file(&rt, alloc, "field.rows", &mut Fields)?;
     try_file(&rt, alloc, "record.rows", &mut Records)?;
     try_file(&rt, alloc, "owned.rows", &mut OwnedLists)?;
-    try_file(&rt, alloc, "table.rows", &mut Tables)
+    try_file(&rt, alloc, "table.rows", &mut Tables)?;
+    try_file(&rt, alloc, "site.rows", &mut Sites::new(alloc))
 }
