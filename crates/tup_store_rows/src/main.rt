@@ -1,10 +1,11 @@
-//! The rows of the store: fields, records, lists of owned paths, and stores.
+//! The rows of the store: fields, records, lists of owned paths, stores, and graphs.
 //!
 //! Each file of `data/` has rows, a call with the answer that is wanted each. The head of a file says what its calls
 //! and their arguments mean.
 #![tactic(auto)]
 
 mod field;
+mod graph;
 mod owned;
 mod record;
 mod say;
@@ -12,6 +13,7 @@ mod table;
 mod values;
 
 use field::Fields;
+use graph::Graphs;
 use owned::OwnedLists;
 use record::Records;
 use std::io;
@@ -23,5 +25,6 @@ fn main(rt: HostRuntime) -> io::Result<()> {
     try_file(&rt, alloc, "field.rows", &mut Fields)?;
     try_file(&rt, alloc, "record.rows", &mut Records)?;
     try_file(&rt, alloc, "owned.rows", &mut OwnedLists)?;
-    try_file(&rt, alloc, "table.rows", &mut Tables)
+    try_file(&rt, alloc, "table.rows", &mut Tables)?;
+    try_file(&rt, alloc, "graph.rows", &mut Graphs)
 }
