@@ -2,6 +2,7 @@
 #![tactic(auto)]
 
 mod access;
+mod broken;
 mod clean;
 mod mini;
 mod values;
