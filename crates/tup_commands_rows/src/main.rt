@@ -5,6 +5,7 @@ mod access;
 mod broken;
 mod clean;
 mod mini;
+mod script;
 mod values;
 
 use std::io;
