@@ -13,10 +13,15 @@ pub fn try_file<R: Files + Print, A: Answers>(
     name: &str,
     answers: &mut A,
 ) -> io::Result<()> {
-    let mut text = String::new(alloc);
-    File::open(rt, name)?.read_to_string(&mut text)?;
-    match report(alloc, name, text.as_str(), answers) {
+    let text = read(rt, alloc, name)?;
+    match report(alloc, name, &text, answers) {
         Ok(lines) => print!(rt; "{lines}"),
         Err(fault) => println!(rt; "{name}: {fault}"),
     }
+}
+
+fn read<R: Files>(rt: &R, alloc: Global, name: &str) -> io::Result<String> {
+    let mut text = String::new(alloc);
+    File::open(rt, name)?.read_to_string(&mut text)?;
+    Ok(text)
 }

@@ -24,6 +24,3 @@ pub use file::try_file;
 pub use reporting::report;
 pub use row::Row;
 pub use words::Words;
-
-#[cfg(test)]
-mod tests;

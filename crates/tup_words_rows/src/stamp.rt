@@ -1,5 +1,5 @@
 //! The calls of `stamp.rows`.
-use crate::said::repeated_at;
+use crate::repeated::repeated;
 use std::alloc::Global;
 use std::fs::Files;
 use std::io;
@@ -17,9 +17,9 @@ struct StampRows;
 impl Answers for StampRows {
     fn answer(&mut self, alloc: Global, call: &str, said: &Words) -> Result<Words, RowFault> {
         match call {
-            "stamp" => digits(alloc, stamp_of(said.bytes(0)?)),
-            "stamp_long" => digits(alloc, stamp_of(&repeated_at(alloc, said, 0)?)),
-            "hex" => hex_of(alloc, said.bytes(0)?),
+            "stamp" => stamp(alloc, said),
+            "stamp_long" => stamp_long(alloc, said),
+            "hex" => hex_of(alloc, said),
             _ => Err(RowFault::NoSuchCall),
         }
     }
@@ -29,9 +29,17 @@ fn digits(alloc: Global, stamp: Stamp) -> Result<Words, RowFault> {
     Words::one(alloc, &hex(&stamp))
 }
 
+fn stamp(alloc: Global, said: &Words) -> Result<Words, RowFault> {
+    digits(alloc, stamp_of(said.bytes(0)?))
+}
+
+fn stamp_long(alloc: Global, said: &Words) -> Result<Words, RowFault> {
+    digits(alloc, stamp_of(&repeated(alloc, said)?))
+}
+
 /// The digits of a stamp that is given by its bytes.
-fn hex_of(alloc: Global, bytes: &[u8]) -> Result<Words, RowFault> {
-    match bytes.try_into() {
+fn hex_of(alloc: Global, said: &Words) -> Result<Words, RowFault> {
+    match said.bytes(0)?.try_into() {
         Ok(bytes) => digits(alloc, Stamp(bytes)),
         Err(_) => Err(RowFault::OtherKind),
     }
