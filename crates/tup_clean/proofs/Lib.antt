@@ -5,7 +5,6 @@ pub mod FilesPut
 pub mod InOrderLaws
 pub mod CleanLaws
 pub mod Sorted
-pub mod Following
 pub mod Growing
 pub mod Building
 pub mod Outputs
@@ -14,5 +13,8 @@ pub mod Queueing
 pub mod Taking
 pub mod Making
 pub mod MayTake
+pub mod Deciding
 pub mod Whole
 pub mod OneBuild
+pub mod Stopping
+pub mod Denying

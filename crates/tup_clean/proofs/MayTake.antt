@@ -24,7 +24,7 @@ pub record IsClosed (rules : List Rule) (verdicts : List (Option Verdict)) : Typ
   pub behind : (at : ℕ) (rule : Rule) → slice_get rules at ≡ Some rule → good_at verdicts at ≡ true → AreProducersGood rules verdicts rule
 
 -- what passes for all paths passes for one of them
-one_of : (test : Names → Bool) (paths : List Names) → list_all test paths ≡ true → (path : Names) → among path paths ≡ true → test path ≡ true
+pub one_of : (test : Names → Bool) (paths : List Names) → list_all test paths ≡ true → (path : Names) → among path paths ≡ true → test path ≡ true
 one_of test [] all path found = absurd (false≢true found)
 one_of test (first ∷ paths) all path found =
     let parts = and_parts (test first) (list_all test paths) all in
@@ -73,7 +73,7 @@ first_may (first ∷ rest) build at rule closed ready here =
 
 -- ---- to the test
 
-good_over : (rules : List Rule) (verdicts : List (Option Verdict)) (steps : ℕ) (rule : Rule) → AreProducersGood rules verdicts rule → producers_good steps rules verdicts rule ≡ true
+pub good_over : (rules : List Rule) (verdicts : List (Option Verdict)) (steps : ℕ) (rule : Rule) → AreProducersGood rules verdicts rule → producers_good steps rules verdicts rule ≡ true
 good_over rules verdicts zero rule good = refl
 good_over rules verdicts (suc steps) rule good =
     all_among _ (rule.inputs ++ rule.order)

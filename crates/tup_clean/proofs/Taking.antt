@@ -1,5 +1,5 @@
 -- A build that takes its rules from a queue takes them in the order of the definition.
-use Rattle.std.proofs.Common.{◌≡◌, ℕ, zero, suc, ◌+◌, ◌<◌, ◌≤◌, ◌==◌, nat_lt, Bool, true, false, not, ◌&&◌, ◌||◌, List, [], ◌∷◌, ◌++◌, length, Option, None, Some, replicate, refl, sym, ap, ◌∙◌, subst, inl, inr, arith}
+use Rattle.std.proofs.Common.{◌≡◌, ℕ, zero, suc, ◌+◌, ◌-◌, ◌<◌, ◌≤◌, ◌==◌, nat_lt, Bool, IsTrue, true, false, not, ◌&&◌, ◌||◌, List, [], ◌∷◌, ◌++◌, length, Option, None, Some, replicate, refl, sym, ap, ◌∙◌, subst, inl, inr, arith}
 use Rattle.std.proofs.lemmas.Bool.{cases_eq, cases_lt, eq-eqb, ne_eqb, and_parts, lt-ltb, le-ltb, false≢true}
 use Rattle.std.proofs.lemmas.Option.{slice_get_within}
 use Rattle.std.proofs.lemmas.List.Folds.{list_all-append}
@@ -11,17 +11,18 @@ use Rattle.tup_rule.specs.Rule.{maker}
 use Rattle.tup_access.specs.declared.verdict.Verdict.{Verdict}
 use Rattle.tup_access.specs.Judge.{Judged, IsJudged}
 use Rattle.tup_access.specs.Verdict.{verdict}
-use Rattle.tup_mini.specs.Mini.{mini_next}
+use Rattle.tup_runner.specs.Next.{Next}
 use Rattle.tup_clean.specs.declared.queue.Queue.{Queue}
-use Rattle.tup_clean.specs.Clean.{Build, is_good, good_at, with_files, builds_on}
+use Rattle.tup_clean.specs.Clean.{Build, is_good, good_at, given, with_files, builds_on}
 use Rattle.tup_clean.specs.Makers.{producers}
+use Rattle.tup_clean.specs.Ran.{command_of, commands_on}
 use Rattle.tup_clean.specs.Queue.{waits_for, IsQueue, is_ready, IsNext, CanRelease, Notes}
 use Rattle.tup_clean.specs.Ready.{is_made, makers_good, next_ready}
 use Rattle.tup_clean.proofs.Places.{position_here, position_found, zip_here, zip_first, zip_second, set_here, set_apart}
 use Rattle.tup_clean.proofs.Counting.{waits_for-zero}
 use Rattle.tup_clean.proofs.Growing.{grown_start, none_good}
 use Rattle.tup_clean.proofs.Queueing.{can_release}
-use Rattle.tup_clean.proofs.Building.{IsUnderWay, under_way_start, under_way_more, under_way_none, under_way_end}
+use Rattle.tup_clean.proofs.Building.{IsUnderWay, under_way_start, under_way_more, under_way_none, under_way_end, under_way_left}
 
 -- whether the rule at a place has no verdict
 abbrev pub is_left : List (Option Verdict) → ℕ → Bool
@@ -95,8 +96,8 @@ none_is rules verdicts none = by (next_ready rules verdicts) refl
 
 -- ---- a build under way, with its queue
 
-pub record IsGoing (rules : List Rule) (begun now : Build) (count : ℕ) (queue : Queue) : Type 0 where
-  pub way : IsUnderWay rules begun now count
+pub record IsGoing (tells : Bool) (means : Next) (rules : List Rule) (begun now : Build) (count : ℕ) (ran : List (Names × List ℕ)) (queue : Queue) : Type 0 where
+  pub way : IsUnderWay tells means rules begun now count ran
   pub waiting : IsQueue rules (is_left now.verdicts) (good_at now.verdicts) queue
 
 -- what a queue knows of a rule is all that counts
@@ -113,9 +114,10 @@ left_first (suc n) (suc at) = left_first n at ∙ elim (cases_lt at n) [
   | inr above ↦ le-ltb at n above ∙ sym (le-ltb (suc at) (suc n) (omega arith))
 ]
 
-pub going_start : (rules : List Rule) (begun : Build) (queue : Queue) → begun.verdicts ≡ replicate (length rules) None → IsQueue rules (λ at. nat_lt at (length rules)) (λ at. false) queue → IsGoing rules begun begun 0 queue
-going_start rules begun queue none is = record {
-  way = under_way_start rules begun (rw none (grown_start rules (length rules)));
+pub going_start : (tells : Bool) (means : Next) (rules : List Rule) (begun : Build) (queue : Queue) → begun.verdicts ≡ replicate (length rules) None → IsQueue rules (λ at. nat_lt at (length rules)) (λ at. false) queue →
+    IsGoing tells means rules begun begun 0 [] queue
+going_start tells means rules begun queue none is = record {
+  way = under_way_start means rules tells begun (rw none (grown_start rules (length rules)));
   waiting = queue_same rules _ _ _ _ queue is
       (λ at. sym (ap (λ given. is_left given at) none ∙ left_first (length rules) at))
       (λ at. sym (ap (λ given. good_at given at) none ∙ none_good (length rules) at));
@@ -132,11 +134,11 @@ module _ (rules : List Rule) (now : Build) (at : ℕ) (taken : Queue) (next : Is
   pub can_note : CanRelease at taken
   can_note = can_release rules _ (good_at now.verdicts) taken at taken_at.rule next.2 taken_at.here not_good
 
-  pub going_more : (begun after : Build) (count : ℕ) (rule : Rule) (judged : Judged) (queue noted : Queue) → IsGoing rules begun now count queue → count < length rules → slice_get rules at ≡ Some rule →
-      IsJudged judged.verdict judged.files (verdict mini_next rules rule now.tree) → Notes at (is_good (Some judged.verdict)) taken noted →
-      after.tree ≡ with_files now.tree judged.files → after.verdicts ≡ slice_set now.verdicts at (Some judged.verdict) → IsGoing rules begun after (count + 1) noted
-  going_more begun after count rule judged queue noted going within here is notes tree verdicts = record {
-    way = under_way_more rules begun now after count at rule judged going.way within (sym (first_is rules now.verdicts at next.0 next.1)) here (λ i. record { verdict = is.0 i; files = is.1 i }) tree verdicts;
+  pub going_more : (tells : Bool) (means : Next) (begun after : Build) (count : ℕ) (rule : Rule) (judged : Judged) (ran : List (Names × List ℕ)) (queue noted : Queue) → IsGoing tells means rules begun now count ran queue →
+      count < length rules → slice_get rules at ≡ Some rule → (IsTrue tells → IsJudged judged.verdict judged.files (verdict means rules rule now.tree)) → Notes at (is_good (Some judged.verdict)) taken noted →
+      after.tree ≡ with_files now.tree judged.files → after.verdicts ≡ slice_set now.verdicts at (Some judged.verdict) → IsGoing tells means rules begun after (count + 1) (ran ++ command_of rule ∷ []) noted
+  going_more tells means begun after count rule judged ran queue noted going within here is notes tree verdicts = record {
+    way = under_way_more means rules tells begun now after count at rule judged ran going.way within (sym (first_is rules now.verdicts at next.0 next.1)) here (λ told i. record { verdict = (is told).0 i; files = (is told).1 i }) tree verdicts;
     waiting = queue_same rules _ _ _ _ noted (notes rules (λ other. is_left now.verdicts other && not (other == at)) (good_at now.verdicts) next.2 not_good) left good;
   }
     where
@@ -187,10 +189,23 @@ module _ (rules : List Rule) (now : Build) (at : ℕ) (taken : Queue) (next : Is
             before ∙ sym later
       ]
 
-pub going_none : (rules : List Rule) (begun now : Build) (count : ℕ) (queue after : Queue) → IsGoing rules begun now count queue → count < length rules → IsNext rules (is_left now.verdicts) (good_at now.verdicts) None after →
-    now ≡ builds_on (length rules) mini_next rules begun
-going_none rules begun now count queue after going within none =
-    under_way_none rules begun now count going.way within (sym (none_is rules now.verdicts none))
+pub going_none : (tells : Bool) (means : Next) (rules : List Rule) (begun now : Build) (count : ℕ) (ran : List (Names × List ℕ)) (queue after : Queue) → IsGoing tells means rules begun now count ran queue → count < length rules →
+    IsNext rules (is_left now.verdicts) (good_at now.verdicts) None after → IsTrue tells → (now ≡ builds_on (length rules) means rules begun) × (ran ≡ commands_on (length rules) means rules begun)
+going_none tells means rules begun now count ran queue after going within none =
+    under_way_none means rules tells begun now count ran going.way within (sym (none_is rules now.verdicts none))
 
-pub going_end : (rules : List Rule) (begun now : Build) (count : ℕ) (queue : Queue) → IsGoing rules begun now count queue → length rules ≤ count → now ≡ builds_on (length rules) mini_next rules begun
-going_end rules begun now count queue going all = under_way_end rules begun now count going.way all
+pub going_end : (tells : Bool) (means : Next) (rules : List Rule) (begun now : Build) (count : ℕ) (ran : List (Names × List ℕ)) (queue : Queue) → IsGoing tells means rules begun now count ran queue → length rules ≤ count → IsTrue tells →
+    (now ≡ builds_on (length rules) means rules begun) × (ran ≡ commands_on (length rules) means rules begun)
+going_end tells means rules begun now count ran queue going all = under_way_end means rules tells begun now count ran going.way all
+
+-- what is left to run
+pub going_left : (tells : Bool) (means : Next) (rules : List Rule) (begun now : Build) (count : ℕ) (ran : List (Names × List ℕ)) (queue : Queue) → IsGoing tells means rules begun now count ran queue → IsTrue tells →
+    ran ++ commands_on (length rules - count) means rules now ≡ commands_on (length rules) means rules begun
+going_left tells means rules begun now count ran queue going told = sym (going.way.runs_on told)
+
+-- and behind the next rule
+pub going_left_next : (tells : Bool) (means : Next) (rules : List Rule) (begun now : Build) (count at : ℕ) (rule : Rule) (ran : List (Names × List ℕ)) (queue taken : Queue) → IsGoing tells means rules begun now count ran queue →
+    count < length rules → IsNext rules (is_left now.verdicts) (good_at now.verdicts) (Some at) taken → slice_get rules at ≡ Some rule → IsTrue tells →
+    (ran ++ command_of rule ∷ []) ++ commands_on (length rules - (count + 1)) means rules (given means rules now at rule) ≡ commands_on (length rules) means rules begun
+going_left_next tells means rules begun now count at rule ran queue taken going within next here told =
+    under_way_left means rules tells begun now count at rule ran going.way within (sym (first_is rules now.verdicts at next.0 next.1)) here told

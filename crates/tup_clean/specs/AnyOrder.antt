@@ -1,5 +1,6 @@
 -- A clean build in whatever order its rules are taken, and what is left without an order (own).
 use Rattle.std.specs.Prelude.{◌≡◌, ℕ, true, false, List, [], ◌∷◌, length, Option, None, Some, slice_get}
+use Rattle.std.specs.Bool.{Decides}
 use Rattle.std.specs.FinMap as finite
 use Rattle.tup_path.specs.Name.{Names}
 use Rattle.tup_path.specs.Order.{by_names}
@@ -10,7 +11,7 @@ use Rattle.tup_rule.specs.Producer.{DeclaredProducer}
 use Rattle.tup_runner.specs.Next.{Next}
 use Rattle.tup_access.specs.declared.verdict.Verdict.{Verdict}
 use Rattle.tup_access.specs.Verdict.{verdict}
-use Rattle.tup_clean.specs.Clean.{Build, good_at, given, start, clean}
+use Rattle.tup_clean.specs.Clean.{Build, good_at, producers_good, given, start, clean}
 
 -- no path is an output of two rules
 abbrev pub MakeApart : List Rule → Type 0
@@ -68,3 +69,7 @@ SomeOrder =
 -- what the clean build is with no word of an order
 abbrev pub NoOrder : Type 0
 NoOrder = (next : Next) (rules : List Rule) (sources : Tree) → MakeApart rules → IsWhole next rules sources (clean next rules sources)
+
+-- the test that counts its steps decides whether all declared producers of a rule are Good
+abbrev pub CountedTest : Type 0
+CountedTest = (rules : List Rule) (verdicts : List (Option Verdict)) (rule : Rule) → Decides (producers_good (length rules) rules verdicts rule) (AreProducersGood rules verdicts rule)

@@ -1,6 +1,8 @@
 pub mod AnyOrder
 pub mod Clean
 pub mod Cleaned
+pub mod Ran
+pub mod Denial
 pub mod InOrder
 pub mod Makers
 pub mod Queue

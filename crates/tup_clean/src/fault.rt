@@ -2,11 +2,13 @@
 use std::alloc::{AllocError, AllocFailed};
 use thiserror::Error;
 use tup_access::AccessFault;
-use tup_mini::MiniFault;
 
-/// Why a clean build isn't made. Each list of rules has one, so there is but one reason.
+/// Why a clean build isn't made.
 #[derive(Clone, Copy, Debug, PartialEq, Eq, Error)]
 pub enum CleanFault {
+    /// The runner failed, and its count of faults rose.
+    #[error("a command can't be run")]
+    Run,
     /// There was no memory; nothing is known of the build.
     #[error("no memory")]
     Memory,
@@ -41,17 +43,6 @@ impl From<AccessFault> for CleanFault {
     ghost from_gives = { λ _ fault. fault ≡ Memory };
 
     fn from(_: AccessFault) -> CleanFault {
-        CleanFault::Memory
-    }
-}
-
-impl From<MiniFault> for CleanFault {
-    ghost use Rattle.std.specs.Prelude.{◌≡◌};
-    ghost use Rattle.tup_clean.specs.declared.fault.CleanFault.TheVariants.{Memory};
-
-    ghost from_gives = { λ _ fault. fault ≡ Memory };
-
-    fn from(_: MiniFault) -> CleanFault {
         CleanFault::Memory
     }
 }

@@ -15,3 +15,9 @@ pub fn any_order()
 pub fn no_order()
     ensures { law.NoOrder }
 {}
+
+/// A law: the test of the definition, which follows as many steps as there are rules, decides whether all declared
+/// producers of a rule are Good, over however many steps.
+pub fn counted_test()
+    ensures { law.CountedTest }
+{}

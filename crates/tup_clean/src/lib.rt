@@ -1,8 +1,8 @@
 //! The clean build: what a project's files are, with no history.
 //!
-//! `clean_build` gives just the build that `specs/Clean.antt` defines, for every list of rules, and is refused
-//! for want of memory alone. It knows nothing of graphs, flags, stamps or threads. Rules wait in a queue,
-//! so its time is that of the commands, the declared inputs and the rules, times a logarithm.
+//! `clean_build` gives just the build that `specs/Clean.antt` defines, for every list of rules and whatever runner,
+//! and is refused where the runner fails, and for want of memory. It knows nothing of graphs, flags, stamps or threads.
+//! Rules wait in a queue, so its time is that of the commands, the declared inputs and the rules, times a logarithm.
 //! `generated` and `readers` tell what rules make, and who declares it, to a scheduler too.
 //! `any_order` and `no_order` say that it doesn't matter which ready rule is taken first, and what is left in any order.
 //! `proofs/CleanLaws.antt` and `proofs/InOrderLaws.antt` say what the build is where the rules can be run in
@@ -17,10 +17,11 @@ mod makers;
 mod queue;
 mod running;
 mod tree;
+mod view;
 
 pub use build::clean_build;
 pub use fault::CleanFault;
-pub use laws::{any_order, no_order};
+pub use laws::{any_order, counted_test, no_order};
 pub use made::generated;
 pub use queue::readers;
 use tup_access::Verdict;

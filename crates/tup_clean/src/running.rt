@@ -1,56 +1,54 @@
 //! The run of one command over the files of a build.
-ghost use Rattle.std.specs.Prelude.{◌≡◌, IfOk};
-ghost use Rattle.tup_rule.specs.declared.rule.Rule.{Rule as RuleValue};
+ghost use Rattle.std.specs.Prelude.{◌≡◌, IsTrue, IfOk};
 ghost use Rattle.tup_access.specs.Generated.{IsGenerated};
 ghost use Rattle.tup_access.specs.Judge.{IsJudged};
-ghost use Rattle.tup_access.specs.Verdict.{verdict as verdict_of, answer as answer_of};
-ghost use Rattle.tup_mini.specs.Mini.{mini_next};
+ghost use Rattle.tup_access.specs.Verdict.{verdict as verdict_of};
+ghost use Rattle.tup_clean.specs.Ran.{RunsOne, CountsFaults, command_of};
 
 use crate::fault::CleanFault;
 use crate::tree::FileTree;
-use std::alloc::{AllocError, Global};
+use crate::view::{FileView, Sight};
+use std::alloc::Global;
 use std::collections::BTreeSet;
-use tup_access::{Access, MAX_ASKS, Verdict, allowed, judge};
-use tup_mini::Command;
+use tup_access::{Verdict, judge};
 use tup_path::{Files, Items, Path};
 use tup_rule::Rule;
-use tup_runner::{Answer, Asks, Step};
+use tup_runner::{RunFailed, Runner, perform};
 
 /// The verdict on a rule over some files, and the files that its command leaves.
-pub(crate) fn run(
+pub(crate) fn run<R: Runner>(
     alloc: Global,
+    runner: &mut R,
     rules: &[Rule],
     generated: &BTreeSet<Path>,
     rule: &Rule,
     tree: &FileTree,
 ) -> Result<(Verdict, Files), CleanFault>
     requires { IsGenerated rules.now generated.now }
-    ensures { IfOk result (λ ran. IsJudged ran.0 ran.1
-        (verdict_of mini_next rules.now rule.now tree.now)) }
+    ensures judged { IsTrue R.tells → IfOk result (λ ran. IsJudged ran.0 ran.1
+        (verdict_of R.next rules.now rule.now tree.now)) }
+    ensures ran { IsTrue R.tells_ran
+        → RunsOne (command_of rule.now) (R.ran runner.old) (R.ran runner.new) result }
+    ensures cause { CountsFaults (R.faults runner.old) (R.faults runner.new) result }
 {
-    let command = Command::read(alloc, &rule.text)?;
-    let mut asked: Asks = Items::new(alloc);
-    for before in 0..MAX_ASKS {
-        match command.next(alloc, asked.as_slice())? {
-            Step::End(ended) => return Ok(judge(alloc, rule, &ended)?),
-            Step::Ask(text) => match allowed(alloc, rule, generated, &text, before)? {
-                Access::Yes(path) => asked.push((text, answer(rule, tree, &path)?))?,
-                Access::No(verdict) => return Ok((verdict, Items::new(alloc))),
-            },
+    let mut view = FileView {
+        sight: Sight {
+            rules,
+            generated,
+            rule,
+            tree,
+        },
+        asked: 0,
+        denied: None,
+    };
+    match perform(alloc, runner, &rule.dir, &rule.text, &mut view) {
+        Ok(report) => Ok(judge(alloc, rule, report.ended())?),
+        Err(RunFailed::Denied) => {
+            let (_, verdict) = view.denied.unwrap();
+            Ok((verdict, Items::new(alloc)))
         }
-    }
-    Ok((Verdict::TooManyReads, Items::new(alloc)))
-}
-
-/// What a command is answered for a path: what stands there, but nothing of its own outputs.
-fn answer(rule: &Rule, tree: &FileTree, path: &Path) -> Result<Answer, AllocError>
-    ensures { IfOk result (λ given. given ≡ answer_of rule.now tree.now path.now) }
-{
-    if rule.writes(path) {
-        return Ok(Answer::Absent);
-    }
-    match tree.get(path) {
-        Some(content) => Ok(Answer::Content(content.clone()?)),
-        None => Ok(Answer::Absent),
+        Err(RunFailed::View) => unreachable!(), // the files are at hand
+        Err(RunFailed::Fault) => Err(CleanFault::Run),
+        Err(RunFailed::Memory) => Err(CleanFault::Memory),
     }
 }

@@ -4,14 +4,17 @@ ghost use Rattle.std.specs.FinMap as finite;
 ghost use Rattle.tup_path.specs.Order.{by_names};
 
 use crate::access::name;
-use crate::values::{add_path, content, path, paths, text};
+use crate::broken::Broken;
+use crate::values::{add_number, add_path, content, path, paths, text};
 use std::alloc::Global;
 use std::fs::Files as SystemFiles;
 use std::io;
-use tup_clean::{Cleaned, clean_build};
+use tup_clean::{CleanFault, Cleaned, clean_build};
+use tup_mini::Mini;
 use tup_path::{Files, Items, Path};
 use tup_rows::{Answers, RowFault, Words, try_file};
 use tup_rule::Rule;
+use tup_runner::Runner;
 
 pub(crate) fn try_rows<R: SystemFiles + Print>(rt: &R, alloc: Global) -> io::Result<()> {
     try_file(rt, alloc, "clean.rows", &mut Clean)
@@ -25,6 +28,7 @@ impl Answers for Clean {
     fn answer(&mut self, alloc: Global, call: &str, arguments: &Words) -> Result<Words, RowFault> {
         match call {
             "build" => build(alloc, arguments),
+            "stopped" => stopped(alloc, arguments),
             _ => Err(RowFault::NoSuchCall),
         }
     }
@@ -32,10 +36,27 @@ impl Answers for Clean {
 
 fn build(alloc: Global, arguments: &Words) -> Result<Words, RowFault> {
     let rules = rules(alloc, arguments)?;
-    match clean_build(alloc, &rules, &sources(alloc)?) {
+    match clean_build(alloc, &rules, &sources(alloc)?, &mut Mini::new(alloc)) {
         Ok(cleaned) => left(alloc, &cleaned),
         Err(_) => Err(RowFault::Memory),
     }
+}
+
+/// Why there is no build where the runner fails, and how often it did.
+fn stopped(alloc: Global, arguments: &Words) -> Result<Words, RowFault> {
+    let rules = rules(alloc, arguments)?;
+    let mut runner = Broken { faults: 0 };
+    let end = match clean_build(alloc, &rules, &sources(alloc)?, &mut runner) {
+        Ok(_) => "built",
+        Err(CleanFault::Run) => "run",
+        Err(CleanFault::Memory) => return Err(RowFault::Memory),
+    };
+    let Ok(faults) = u8::try_from(runner.faults()) else {
+        return Err(RowFault::OtherKind);
+    };
+    let mut words = Words::one(alloc, end.as_bytes())?;
+    add_number(alloc, &mut words, faults)?;
+    Ok(words)
 }
 
 /// The source that all rows begin with.

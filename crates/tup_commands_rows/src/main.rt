@@ -2,8 +2,10 @@
 #![tactic(auto)]
 
 mod access;
+mod broken;
 mod clean;
 mod mini;
+mod script;
 mod values;
 
 use std::io;

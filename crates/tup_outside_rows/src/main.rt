@@ -3,6 +3,7 @@
 
 mod answers;
 mod folder;
+mod scanned;
 mod session;
 
 use session::Session;

@@ -1,6 +1,7 @@
 //! The calls of `fs.rows`.
 use crate::answers::{done, ended, number, path_of, refused, show};
 use crate::folder::Folder;
+use crate::scanned::scanned;
 use std::alloc::{AllocError, Global};
 use tup_fs::FsSite;
 use tup_path::Bytes;
@@ -136,6 +137,7 @@ impl Answers for Session {
             "get_length" => self.get_length(alloc, arguments.text(0)?),
             "put" => self.put(alloc, arguments.text(0)?, arguments.bytes(1)?),
             "remove" => self.remove(alloc, arguments.text(0)?),
+            "scan" => scanned(alloc, &mut self.site),
             "faults" => number(alloc, self.site.faults()),
             "said" => self.said(alloc),
             _ => self.answer_of_store(alloc, call, arguments),

@@ -3,7 +3,7 @@ use crate::field::joined;
 use std::alloc::Global;
 use tup_path::Bytes;
 use tup_rows::{Answers, RowFault, Words};
-use tup_table::{Change, Opened, TableFault, appended, have_short_keys, read};
+use tup_table::{Change, Entries, Opened, TableFault, appended, have_short_keys, read};
 
 /// Reads stores, and spells commits.
 #[derive(Drop)]
@@ -30,30 +30,33 @@ impl Answers for Tables {
 /// The offset of the gate at which the next commit goes, and each key with its value and its origin.
 fn said(alloc: Global, opened: &Opened) -> Result<Words, RowFault> {
     let mut words = number(alloc, opened.gate)?;
-    for (key, slot) in opened.entries.iter() {
+    add_entries(alloc, &mut words, &opened.entries)?;
+    Ok(words)
+}
+
+/// Adds each key with its value and its origin, in byte order of keys.
+pub fn add_entries(alloc: Global, words: &mut Words, entries: &Entries) -> Result<(), RowFault> {
+    for (key, slot) in entries.iter() {
         if let Some(entry) = slot {
             words.add(alloc, key.as_slice())?;
             words.add(alloc, entry.value.as_slice())?;
             words.add(alloc, format!(in alloc; "{}", entry.origin)?.as_bytes())?;
-            if opened.entries.get(key) != Some(&entry.value) {
+            if entries.get(key) != Some(&entry.value) || entries.origin(key) != Some(entry.origin) {
                 words.add(alloc, b"not found")?;
             }
         }
     }
-    Ok(words)
+    Ok(())
 }
 
 /// A number in decimal digits.
-fn number(alloc: Global, number: u64) -> Result<Words, RowFault> {
+pub fn number(alloc: Global, number: u64) -> Result<Words, RowFault> {
     Words::one(alloc, format!(in alloc; "{number}")?.as_bytes())
 }
 
 /// What a commit of changes puts behind the gate at an offset.
 fn append(alloc: Global, gate: u64, words: &[Vec<u8>]) -> Result<Words, RowFault> {
-    let mut changes = Vec::new(alloc);
-    for words in words.chunks(3) {
-        changes.push(change(alloc, words)?)?;
-    }
+    let changes = changes_of(alloc, words)?;
     if !have_short_keys(&changes) {
         return Err(RowFault::OtherKind);
     }
@@ -61,6 +64,15 @@ fn append(alloc: Global, gate: u64, words: &[Vec<u8>]) -> Result<Words, RowFault
         Ok(bytes) => Words::one(alloc, bytes.as_slice()),
         Err(fault) => refused(alloc, fault),
     }
+}
+
+/// The changes that words name, three each.
+pub fn changes_of(alloc: Global, words: &[Vec<u8>]) -> Result<Vec<Change>, RowFault> {
+    let mut changes = Vec::new(alloc);
+    for words in words.chunks(3) {
+        changes.push(change(alloc, words)?)?;
+    }
+    Ok(changes)
 }
 
 /// The change that three words name.
@@ -80,7 +92,7 @@ fn change(alloc: Global, words: &[Vec<u8>]) -> Result<Change, RowFault> {
 }
 
 /// The words of a refusal.
-fn refused(alloc: Global, fault: TableFault) -> Result<Words, RowFault> {
+pub fn refused(alloc: Global, fault: TableFault) -> Result<Words, RowFault> {
     if fault == TableFault::Memory {
         return Err(RowFault::Memory);
     }

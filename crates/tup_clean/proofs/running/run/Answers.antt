@@ -1,30 +1,22 @@
-use Rattle.std.proofs.Common.{◌∙◌, ap, sym, arith, ◌∷◌, [], ◌++◌}
-use Rattle.tup_mini.specs.Mini.{command_next}
-use Rattle.tup_clean.proofs.Following.{given, followed_start, followed_more, followed_end, followed_no}
+use Rattle.std.proofs.Common.{◌≡◌, ◌∙◌, sym, subst}
+use Rattle.tup_access.specs.Access.{access}
+use Rattle.tup_access.specs.declared.verdict.Access.TheVariants.{No}
+use Rattle.tup_clean.specs.declared.view.Sight.{Sight}
+use Rattle.tup_clean.proofs.Denying.{denied_text, judged_ends, judged_denied}
 use Rattle.tup_clean.proofs.running.run.Goals as goal
 
-pub loop-before-init : goal.loop-before-init
-loop-before-init c = followed_start _ _ _ _ _ (given _ _ _ c.in_ok-command.ensures) c.new-asked.ensures
+pub returns-in_ok-judge-in-Ok-clause-judged : goal.returns-in_ok-judge-in-Ok-clause-judged
+returns-in_ok-judge-in-Ok-clause-judged g c = λ told.
+    let reports = c.in-Ok.ensures.reports in
+    judged_ends _ c.args.rules.now c.args.rule.now c.args.tree.now c.in-Ok.report.asks _ reports.came_by.1 c.in-Ok.report.dir c.in-Ok.report.text c.in-Ok.report.ended c.ended.result.now _ _
+    reports.dir_is reports.text_is (c.in-Ok.report.means told) c.ended.ensures c.in_ok-judge-in-Ok.ensures
 
-pub loop-before-preserved : goal.loop-before-preserved
-loop-before-preserved c =
-    followed_more _ _ _ _ _ _ c.loop-before.invariant _ c.in-Ask.text c.in-Yes.path
-    (sym c.in-Ask.is ∙ given _ _ _ c.in_ok-ended.ensures ∙ ap (command_next _) c.as_slice.ensures)
-    (sym c.in-Yes.is ∙ given _ _ _ (c.in_ok-path-in-Ask.ensures c.args.rules.now c.requires))
-    (c.in_ok-push-in-Yes.ensures.ok ∙ λ i. c.loop-before.asked ++ (c.text-in-Yes.view_is i, c.in_ok-answer-in-Yes.ensures i) ∷ [])
-
-pub returns-in-End : goal.returns-in-End
-returns-in-End c =
-    followed_end _ _ _ _ _ _ c.loop-before.invariant c.in-End.ended _ _
-    (sym c.in-End.is ∙ given _ _ _ c.in_ok-ended.ensures ∙ ap (command_next _) c.as_slice.ensures)
-    c.in_ok-judge-in-End.ensures
-
-pub returns-in-No : goal.returns-in-No
-returns-in-No c =
-    followed_no _ _ _ _ _ _ c.loop-before.invariant c.in-Ask.text c.in-No.verdict _
-    (sym c.in-Ask.is ∙ given _ _ _ c.in_ok-ended.ensures ∙ ap (command_next _) c.as_slice.ensures)
-    (sym c.in-No.is ∙ given _ _ _ (c.in_ok-path-in-Ask.ensures c.args.rules.now c.requires))
-    c.new.ensures
-
-pub returns : goal.returns
-returns c = absurd (let early = c.loop-before.invariant.early in omega arith)
+pub returns-in-Err-Denied-clause-judged : goal.returns-in-Err-Denied-clause-judged
+returns-in-Err-Denied-clause-judged g c = λ told.
+    let was = rw c.in-Err-Denied.field-0-is at c.in-Err-Denied.ensures.refuses in
+    let view = c.perform.new.view in
+    let kept = c.unwrap-verdict.ensures in
+    let denied = view.denies c.unwrap-verdict.result.0 c.unwrap-verdict.result.1 kept in
+    let here = subst (λ (s : Sight). access s.rules.now s.rule.now view.asked c.unwrap-verdict.result.0 ≡ No c.unwrap-verdict.result.1) was.came_by.0 denied in
+    judged_denied _ c.args.rules.now c.args.rule.now c.args.tree.now was.asks _ was.came_by.1 c.unwrap-verdict.result.0 was.last c.unwrap-verdict.result.1 _
+    (was.means told) (denied_text view.denied c.unwrap-verdict.result was.last _ kept was.refused) here c.new.ensures
