@@ -1,5 +1,5 @@
 -- What the reading of a number, of a line and of the next line answers.
-use Rattle.std.specs.Prelude.{◌≡◌, ◌≢◌, ℕ, ◌<◌, ◌≤◌, ◌==◌, true, false, All, List, [], ◌∷◌, ◌++◌, length, take, Option, Some, None, Result, Ok, Err}
+use Rattle.std.specs.Prelude.{◌≡◌, ◌≢◌, ℕ, ◌<◌, ◌≤◌, ◌==◌, true, false, All, List, [], ◌∷◌, ◌++◌, length, drop, Option, Some, None, Result, Ok, Err}
 use Rattle.std.specs.Fmt.{decimal}
 use Rattle.tup_stamp.specs.Hex.{hex_text}
 use Rattle.tup_stamp.specs.declared.Stamp.{Stamp}
@@ -8,9 +8,22 @@ use Rattle.tup_proc.specs.declared.fault.LogFault.{LogFault}
 use Rattle.tup_proc.specs.declared.fault.LogFault.TheVariants.{Memory}
 use Rattle.tup_proc.specs.declared.line.LogLine.{LogLine}
 
+-- a mark stands nowhere in a list
+abbrev pub Lacks : ℕ → List ℕ → Type 0
+Lacks mark bytes = All (λ byte. (byte == mark) ≡ false) bytes
+
+-- bytes are a front without the mark, the mark and a back
+pub record IsCut (mark : ℕ) (bytes front back : List ℕ) : Type 0 where
+  pub is : bytes ≡ front ++ mark ∷ back
+  pub first : Lacks mark front
+
+-- bytes are without the mark
+abbrev pub IsUncut : ℕ → List ℕ → Type 0
+IsUncut mark bytes = (front back : List ℕ) → bytes ≢ front ++ mark ∷ back
+
 -- the number that digits spell, if they spell one
 abbrev pub ReadsNumber : List ℕ → Result (Option ℕ) LogFault → Type 0
-ReadsNumber digits (Ok (Some number)) = digits ≡ decimal number
+ReadsNumber digits (Ok (Some number)) = (number < 4294967296) × (digits ≡ decimal number)
 ReadsNumber digits (Ok None) = (number : ℕ) → number < 4294967296 → digits ≢ decimal number
 ReadsNumber digits (Err fault) = fault ≡ Memory
 
@@ -28,8 +41,8 @@ ReadsLine bytes (Err fault) = fault ≡ Memory
 pub record BeginsWith (bytes : List ℕ) (line : LogLine) (size : ℕ) : Type 0 where
   pub fits : IsLine line
   pub within : size ≤ length bytes
-  pub spelled : take size bytes ≡ spelling_of line ++ 10 ∷ []
-  pub last : is_end line ≡ true → size ≡ length bytes
+  pub spelled : bytes ≡ spelling_of line ++ 10 ∷ drop size bytes
+  pub last : is_end line ≡ true → drop size bytes ≡ []
 
 -- the next line of a log, if there is one
 abbrev pub ReadsNext : List ℕ → Result (Option (LogLine × ℕ)) LogFault → Type 0
@@ -42,16 +55,3 @@ abbrev pub ReadsText : List ℕ → Result (Option (List ℕ)) LogFault → Type
 ReadsText bytes (Ok (Some text)) = IsLineText text × (bytes ≡ text)
 ReadsText bytes (Ok None) = IsLineText bytes → ⊥
 ReadsText bytes (Err fault) = fault ≡ Memory
-
--- a mark stands nowhere in a list
-abbrev pub Lacks : ℕ → List ℕ → Type 0
-Lacks mark bytes = All (λ byte. (byte == mark) ≡ false) bytes
-
--- bytes are a front without a space, a space and a back
-pub record IsCut (bytes front back : List ℕ) : Type 0 where
-  pub is : bytes ≡ front ++ 32 ∷ back
-  pub first : Lacks 32 front
-
--- bytes have no space
-abbrev pub IsUncut : List ℕ → Type 0
-IsUncut bytes = (front back : List ℕ) → bytes ≢ front ++ 32 ∷ back

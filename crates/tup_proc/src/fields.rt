@@ -1,7 +1,8 @@
 //! How one line of a log is read: its mark, and the fields behind it.
-ghost use Rattle.std.specs.Prelude.{◌≡◌, ◌∷◌, MatchOption};
-ghost use Rattle.tup_proc.specs.Reading.{ReadsLine, ReadsText, IsCut, IsUncut};
+ghost use Rattle.std.specs.Prelude.{◌≡◌, ◌↔◌, [], ◌∷◌, IsTrue};
+ghost use Rattle.tup_proc.specs.Reading.{ReadsLine, ReadsText};
 
+use crate::cut::cut;
 use crate::fault::LogFault;
 use crate::line::LogLine;
 use crate::number::{number, stamp};
@@ -12,30 +13,32 @@ use tup_path::{Bytes, Text};
 pub(crate) fn read_line(alloc: Global, bytes: &[u8]) -> Result<Option<LogLine>, LogFault>
     ensures { ReadsLine bytes.now result }
 {
-    let Some((mark, said)) = cut(bytes) else {
+    let Some((mark, said)) = cut(bytes, b' ') else {
         return Ok(None);
     };
-    match mark {
-        [b'R'] => read(alloc, said),
-        [b'A'] => absent(alloc, said),
-        [b'W'] => wrote(alloc, said),
-        [b'E'] => end(alloc, said),
-        _ => Ok(None),
+    if is_mark(mark, b'R') {
+        read(alloc, said)
+    } else if is_mark(mark, b'A') {
+        absent(alloc, said)
+    } else if is_mark(mark, b'W') {
+        wrote(alloc, said)
+    } else if is_mark(mark, b'E') {
+        end(alloc, said)
+    } else {
+        Ok(None)
     }
 }
 
-/// What stands before the first space, and what stands behind it.
-fn cut(bytes: &[u8]) -> Option<(&[u8], &[u8])>
-    ensures { MatchOption result (IsUncut bytes.now) (λ parts. IsCut bytes.now parts.0.now parts.1.now) }
+fn is_mark(front: &[u8], mark: u8) -> bool
+    ensures { IsTrue result ↔ (front.now ≡ mark ∷ []) }
 {
-    let space = bytes.iter().position(|b| *b == b' ')?;
-    Some((&bytes[..space], &bytes[space + 1..]))
+    matches!(front, [byte] if *byte == mark)
 }
 
 fn read(alloc: Global, said: &[u8]) -> Result<Option<LogLine>, LogFault>
     ensures { ReadsLine (82 ∷ 32 ∷ said.now) result }
 {
-    let Some((digits, name)) = cut(said) else {
+    let Some((digits, name)) = cut(said, b' ') else {
         return Ok(None);
     };
     let Some(stamp) = stamp(digits) else {
@@ -59,7 +62,7 @@ fn absent(alloc: Global, said: &[u8]) -> Result<Option<LogLine>, LogFault>
 fn wrote(alloc: Global, said: &[u8]) -> Result<Option<LogLine>, LogFault>
     ensures { ReadsLine (87 ∷ 32 ∷ said.now) result }
 {
-    let Some((digits, name)) = cut(said) else {
+    let Some((digits, name)) = cut(said, b' ') else {
         return Ok(None);
     };
     let Some(file) = number(alloc, digits)? else {

@@ -7,12 +7,10 @@ ghost use Rattle.tup_proc.specs.declared.line.LogLine.{LogLine as LineOfLog};
 pub fn one_spelling()
     ensures { (lines other : List LineOfLog) → IsLog lines → IsLog other
         → spelling lines ≡ spelling other → lines ≡ other }
-{
-}
+{}
 
 /// What is refused by a line is the spelling of no log.
 pub fn refused_is_no_log()
     ensures { (bytes : List ℕ) (number : ℕ) (lines : List LineOfLog) → IsBadAt bytes number
         → IsLog lines → bytes ≡ spelling lines → ⊥ }
-{
-}
+{}

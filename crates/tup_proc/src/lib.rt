@@ -4,6 +4,7 @@
 //! what is refused is no log. `BadLine` names the first line that doesn't fit. `laws` says that a log has one spelling.
 #![tactic(auto)]
 
+mod cut;
 mod fault;
 mod fields;
 mod laws;

@@ -1,4 +1,7 @@
 //! One line of a log.
+ghost use Rattle.std.specs.Prelude.{◌≡◌};
+ghost use Rattle.tup_proc.specs.Log.{is_end as end_test};
+
 use tup_path::Text;
 use tup_stamp::Stamp;
 
@@ -13,4 +16,13 @@ pub enum LogLine {
     Wrote { file: u32, text: Text },
     /// It ended with this status; no line follows.
     End { status: u8 },
+}
+
+impl LogLine {
+    /// Whether no line follows.
+    pub fn is_end(&self) -> bool
+        ensures { result ≡ end_test self.now }
+    {
+        matches!(self, LogLine::End { .. })
+    }
 }

@@ -3,6 +3,7 @@ ghost use Rattle.std.specs.Prelude.{◌≡◌, ℕ, Err, IfOk};
 ghost use Rattle.tup_proc.specs.Log.{spelling, counted, IsLog, IsBadAt};
 ghost use Rattle.tup_proc.specs.Reading.{ReadsNext};
 
+use crate::cut::cut;
 use crate::fault::LogFault;
 use crate::fields::read_line;
 use crate::line::LogLine;
@@ -18,7 +19,7 @@ pub fn read_log(alloc: Global, bytes: &[u8]) -> Result<Items<LogLine>, LogFault>
     let mut lines = Items::new(alloc);
     let mut rest = bytes;
     'lines: while let Some((line, size)) = next_line(alloc, rest)? {
-        let ends = matches!(line, LogLine::End { .. });
+        let ends = line.is_end();
         lines.push(line)?;
         if ends {
             return Ok(lines);
@@ -44,15 +45,14 @@ fn number_behind(lines: usize) -> u32
 fn next_line(alloc: Global, rest: &[u8]) -> Result<Option<(LogLine, usize)>, LogFault>
     ensures { ReadsNext rest.now result }
 {
-    let Some(end) = rest.iter().position(|b| *b == b'\n') else {
+    let Some((front, behind)) = cut(rest, b'\n') else {
         return Ok(None);
     };
-    let Some(line) = read_line(alloc, &rest[..end])? else {
+    let Some(line) = read_line(alloc, front)? else {
         return Ok(None);
     };
-    let size = end + 1;
-    if matches!(line, LogLine::End { .. }) && size < rest.len() {
+    if line.is_end() && !behind.is_empty() {
         return Ok(None);
     }
-    Ok(Some((line, size)))
+    Ok(Some((line, front.len() + 1)))
 }
