@@ -1,5 +1,5 @@
 //! The runner that starts a program for each command.
-ghost use Rattle.std.specs.Prelude.{◌≡◌, Ok, IfOk, IfErr};
+ghost use Rattle.std.specs.Prelude.{◌≡◌, None, Ok, IfOk, IfErr};
 ghost use Rattle.tup_runner.specs.Run.{CountsFaults};
 ghost use Rattle.tup_proc_runner.specs.Asked.{IsOwn};
 
@@ -28,7 +28,8 @@ impl<R: Files<File = File> + Processes + Clone + Drop> ProcRunner<R> {
     /// A runner of this program for the files below a root, with this folder as its stage. It starts nothing yet and
     /// takes no memory.
     pub fn new(rt: R, root: Text, program: Text, stage: Text) -> ProcRunner<R>
-        ensures { result.faults ≡ 0 }
+        ensures unnamed { result.last ≡ None }
+        ensures uncounted { result.faults ≡ 0 }
     {
         ProcRunner {
             root,
