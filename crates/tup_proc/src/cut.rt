@@ -13,6 +13,7 @@ pub(crate) fn cut(bytes: &[u8], mark: u8) -> Option<(&[u8], &[u8])>
     Some((&bytes[..end], &bytes[end + 1..]))
 }
 
+/// Where the first such byte stands.
 fn find(bytes: &[u8], mark: u8) -> Option<usize>
     ensures { result ≡ position (λ b. b == mark) bytes.now }
 {

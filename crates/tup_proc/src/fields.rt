@@ -29,12 +29,14 @@ pub(crate) fn read_line(alloc: Global, bytes: &[u8]) -> Result<Option<LogLine>, 
     }
 }
 
+/// Whether what stands before the first space is this mark.
 fn is_mark(front: &[u8], mark: u8) -> bool
     ensures { IsTrue result ↔ (front.now ≡ mark ∷ []) }
 {
     matches!(front, [byte] if *byte == mark)
 }
 
+/// `R HEX TEXT`, without its mark.
 fn read(alloc: Global, said: &[u8]) -> Result<Option<LogLine>, LogFault>
     ensures { ReadsLine (82 ∷ 32 ∷ said.now) result }
 {
@@ -50,6 +52,7 @@ fn read(alloc: Global, said: &[u8]) -> Result<Option<LogLine>, LogFault>
     Ok(Some(LogLine::Read { stamp, text }))
 }
 
+/// `A TEXT`, without its mark.
 fn absent(alloc: Global, said: &[u8]) -> Result<Option<LogLine>, LogFault>
     ensures { ReadsLine (65 ∷ 32 ∷ said.now) result }
 {
@@ -59,6 +62,7 @@ fn absent(alloc: Global, said: &[u8]) -> Result<Option<LogLine>, LogFault>
     Ok(Some(LogLine::Absent { text }))
 }
 
+/// `W K TEXT`, without its mark.
 fn wrote(alloc: Global, said: &[u8]) -> Result<Option<LogLine>, LogFault>
     ensures { ReadsLine (87 ∷ 32 ∷ said.now) result }
 {
@@ -74,6 +78,7 @@ fn wrote(alloc: Global, said: &[u8]) -> Result<Option<LogLine>, LogFault>
     Ok(Some(LogLine::Wrote { file, text }))
 }
 
+/// `E N`, without its mark.
 fn end(alloc: Global, said: &[u8]) -> Result<Option<LogLine>, LogFault>
     ensures { ReadsLine (69 ∷ 32 ∷ said.now) result }
 {

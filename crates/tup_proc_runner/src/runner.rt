@@ -47,7 +47,7 @@ impl<R: Files<File = File> + Processes + Clone + Drop> ProcRunner<R> {
         self.last
     }
 
-    // Runs the program, and gives the lines of its log.
+    /// Runs the program, and gives the lines of its log.
     fn start(
         &self,
         alloc: Global,
@@ -66,6 +66,7 @@ impl<R: Files<File = File> + Processes + Clone + Drop> ProcRunner<R> {
         self.stage.log(alloc)
     }
 
+    /// The program with its words.
     fn command(&self, alloc: Global, dir: &Text, text: &Text) -> Result<Command, Refused> {
         let mut command = Command::new(alloc, self.program.as_str())?;
         command.arg(self.root.as_str())?;
@@ -75,7 +76,7 @@ impl<R: Files<File = File> + Processes + Clone + Drop> ProcRunner<R> {
         Ok(command)
     }
 
-    // An answer as the runner gives it. Each fault is counted and kept.
+    /// An answer as the runner gives it. Each fault is counted and kept.
     fn told<T>(&mut self, answer: Result<T, Refused>) -> Result<T, RunFailed>
         ensures cause { CountsFaults self.old.faults self.new.faults result }
         ensures own { IfErr result IsOwn }

@@ -25,6 +25,7 @@ impl<R: Files<File = File> + Clone + Drop> Stage<R> {
         self.at(fs::write(&self.rt, place.as_str(), list.as_slice()))
     }
 
+    /// Makes the stage an empty folder.
     fn empty(&self, alloc: Global) -> Result<(), Refused> {
         let runtime = (self.rt.clone()?, alloc);
         match fs::remove_dir_all(&runtime, self.folder.as_str()) {
@@ -59,6 +60,7 @@ impl<R: Files<File = File> + Clone + Drop> Stage<R> {
         Ok(Ended { status, writes })
     }
 
+    /// Adds a write with the content of its file.
     fn take(
         &self,
         alloc: Global,
@@ -83,11 +85,13 @@ impl<R: Files<File = File> + Clone + Drop> Stage<R> {
         }
     }
 
+    /// Reads a file to its end.
     fn read_into(&self, bytes: &mut Vec<u8>, place: &str) -> io::Result<()> {
         File::open(&self.rt, place)?.read_to_end(bytes)?;
         Ok(())
     }
 
+    /// The place of a file of the stage.
     fn place(&self, alloc: Global, name: &str) -> Result<String, AllocError> {
         let mut place = String::from_str(alloc, self.folder.as_str())?;
         place.push('/')?;
@@ -95,6 +99,7 @@ impl<R: Files<File = File> + Clone + Drop> Stage<R> {
         Ok(place)
     }
 
+    /// An answer of the system about the stage.
     fn at(&self, answer: io::Result<()>) -> Result<(), Refused> {
         match answer {
             Ok(()) => Ok(()),

@@ -33,6 +33,7 @@ pub(crate) fn run<R: Files<File = File> + Clone + Drop>(job: &Job<R>) -> Result<
 }
 
 impl<R: Files<File = File> + Clone + Drop> Job<R> {
+    /// The path that a text names from the top.
     fn path(&self, text: &str) -> Result<Path, Failure> {
         match Path::from_top(self.alloc, text) {
             Ok(path) => Ok(path),
@@ -92,12 +93,14 @@ impl<R: Files<File = File> + Clone + Drop> Job<R> {
         }
     }
 
+    /// Writes a file of the stage.
     fn write(&self, name: &str, content: &[u8]) -> Result<(), Failure> {
         let place = self.place(name)?;
         fs::write(&self.rt, place.as_str(), content)?;
         Ok(())
     }
 
+    /// The place of a file of the stage.
     fn place(&self, name: &str) -> Result<String, Failure> {
         let mut place = String::from_str(self.alloc, self.words.stage.as_str())?;
         place.push('/')?;

@@ -35,6 +35,7 @@ impl<R: Files<File = File> + Clone + Drop> Project<R> {
         }
     }
 
+    /// What the file at a path holds. A link is no file.
     fn read(&self, alloc: Global, path: &Path) -> Result<Option<Bytes>, Failure> {
         let place = self.place(alloc, path)?;
         match fs::symlink_metadata(&self.rt, place.as_str()) {
@@ -49,11 +50,13 @@ impl<R: Files<File = File> + Clone + Drop> Project<R> {
         }
     }
 
+    /// Reads a file to its end.
     fn read_into(&self, bytes: &mut Vec<u8>, place: &str) -> io::Result<()> {
         File::open(&self.rt, place)?.read_to_end(bytes)?;
         Ok(())
     }
 
+    /// The place of a path below the root.
     fn place(&self, alloc: Global, path: &Path) -> Result<String, Failure> {
         let mut place = String::from_str(alloc, self.root.as_str())?;
         for name in path.names() {
@@ -81,6 +84,7 @@ impl<R: Files<File = File> + Clone + Drop> Project<R> {
     }
 }
 
+/// Whether an error says that nothing stands there.
 fn is_absence(kind: ErrorKind) -> bool {
     kind == ErrorKind::NotFound
         || kind == ErrorKind::NotADirectory
