@@ -80,11 +80,12 @@ not_asked tells before answers stopped reads end went on same = record {
   says = λ tells says other found e. ap (λ (a : Question → Told). a other) (same tells) ∙ says other found e;
 }
 
--- who answers has stopped
-pub has_stopped : {A : Type 0} (tells : Bool) (before : Asker) (answers : Question → Told) (stopped : Bool) (reads : Reads ParseFault A)
-    → stopped ≡ true → (IsTrue tells → answers ≡ before.answers) → Went tells before reads (asker answers stopped before.log) (Err Stopped)
-has_stopped tells before answers stopped reads on same = record {
-  comes = tt;
+-- who answers has stopped at a new question
+pub has_stopped : (tells : Bool) (before : Asker) (answers : Question → Told) (stopped : Bool) (question : Question) → told_before before.log question ≡ None
+    → stopped ≡ true → (IsTrue tells → answers ≡ before.answers) → Went tells before (asks question) (asker answers stopped before.log) (Err Stopped)
+unfolding asks
+has_stopped tells before answers stopped question unknown on same = record {
+  comes = (question, inl (refl, unknown, refl));
   stopped = on;
   same = same;
   says = λ tells says other found e. ap (λ (a : Question → Told). a other) (same tells) ∙ says other found e;

@@ -1,5 +1,5 @@
 -- The input words of a rule, case by case.
-use Rattle.std.proofs.Common.{◌≡◌, ◌↔◌, ℕ, ◌+◌, ◌<◌, ◌≤◌, ◌||◌, Bool, true, false, if◌then◌else◌, List, [], ◌∷◌, ◌++◌, length, get_or, drop, map, Option, Some, None, bytes_eq, sym, ap, ◌∙◌}
+use Rattle.std.proofs.Common.{◌≡◌, ◌↔◌, ℕ, ◌+◌, ◌<◌, ◌≤◌, ◌||◌, Bool, true, false, if◌then◌else◌, List, [], ◌∷◌, ◌++◌, length, get_or, drop, map, Option, Some, None, bytes_eq, refl, sym, ap, ◌∙◌}
 use Rattle.std.proofs.lemmas.List.{at_drop_more, at_drop_all}
 use Rattle.tup_path.specs.Name.{Names}
 use Rattle.tup_lex.specs.declared.kind.ParseKind.TheVariants.{MissingInput, NoSuchBin}
@@ -78,3 +78,7 @@ text-glob at drafts text e = ap (λ b. if b then globbed at drafts text else lit
 
 pub text-literal : (at : Spot) (drafts : List Draft) (text : List ℕ) → is_glob text ≡ false → of_text at drafts text ≡ literal at drafts text
 text-literal at drafts text e = ap (λ b. if b then globbed at drafts text else literal at drafts text) e
+
+pub files_by : (at : Spot) (drafts : List Draft) (word : List ℕ) → from_files at drafts word ≡ and_then (flagged_text at (bare_parts at.dir) word) (of_text at drafts)
+unfolding from_files
+files_by at drafts word = refl

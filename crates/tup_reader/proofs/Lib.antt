@@ -11,3 +11,13 @@ pub mod Pieces
 pub mod Folders
 pub mod Outputs
 pub mod Inputs
+pub mod Jobs
+pub mod Shorts
+pub mod Files
+pub mod Openings
+pub mod Lines
+pub mod Readings
+pub mod Rules
+pub mod Globs
+pub mod Cuttings
+pub mod Soundness

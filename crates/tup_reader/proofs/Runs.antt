@@ -1,5 +1,5 @@
 -- Runs of a process: one behind another, and what a log tells of every answer that agrees with it.
-use Rattle.std.proofs.Common.{◌≡◌, Bool, true, false, cond, List, [], ◌∷◌, ◌++◌, Option, Some, None, Result, Ok, Err, refl, sym, ap, ◌∙◌, subst}
+use Rattle.std.proofs.Common.{◌≡◌, ◌⊎◌, inl, inr, Bool, true, false, cond, List, [], ◌∷◌, ◌++◌, Option, Some, None, Result, Ok, Err, refl, sym, ap, ◌∙◌, subst}
 use Rattle.std.specs.Map.{lookup}
 use Rattle.std.proofs.lemmas.Slice.Eq.{bytes_eq-Decides}
 use Rattle.tup_path.proofs.Same.{same_path-decides}
@@ -7,7 +7,7 @@ use Rattle.tup_rule.specs.declared.question.Question.{Question}
 use Rattle.tup_rule.specs.declared.question.Question.TheVariants as question
 use Rattle.tup_rule.specs.declared.question.Told.{Told}
 use Rattle.tup_reader.specs.Reads.{Reads, Ends, Asks, and_then, outcome}
-use Rattle.tup_reader.specs.Log.{Log, same_question, fits, told_before, Step, Ran, Says}
+use Rattle.tup_reader.specs.Log.{Log, same_question, fits, told_before, Step, Ran, Halts, Says}
 
 -- ---- logs
 
@@ -80,6 +80,38 @@ ran_refused log after (Asks asked goes_on) next fault first =
     (λ told ran. ran_refused log after (goes_on told) next fault ran)
     (λ told ran. ran_refused (log ++ (asked, told) ∷ []) after (goes_on told) next fault ran)
     (told_before log asked) first
+
+-- ---- processes that stand at a question
+
+-- one behind a run stands there behind both
+pub halts_then : {F A B : Type 0} (log mid after : Log) (reads : Reads F A) (next : A → Reads F B) (value : A) (question : Question)
+    → Ran log reads mid (Ok value) → Halts mid (next value) after question → Halts log (and_then reads next) after question
+unfolding and_then
+halts_then log mid after (Ends (Ok given)) next value question (same, is) second =
+    let value_is : value ≡ given = cc in
+    subst (λ v. Halts log (next v) after question) value_is (subst (λ l. Halts l (next value) after question) same second)
+halts_then log mid after (Ends (Err fault)) next value question (same, is) second = absurd (cc)
+halts_then log mid after (Asks asked goes_on) next value question first second =
+    inr (step_map asked
+    (λ told. Ran log (goes_on told) mid (Ok value)) (λ told. Halts log (and_then (goes_on told) next) after question)
+    (λ told. Ran (log ++ (asked, told) ∷ []) (goes_on told) mid (Ok value)) (λ told. Halts (log ++ (asked, told) ∷ []) (and_then (goes_on told) next) after question)
+    (λ told ran. halts_then log mid after (goes_on told) next value question ran second)
+    (λ told ran. halts_then (log ++ (asked, told) ∷ []) mid after (goes_on told) next value question ran second)
+    (told_before log asked) first)
+
+-- and so does one before all that would follow
+pub halts_before : {F A B : Type 0} (log after : Log) (reads : Reads F A) (next : A → Reads F B) (question : Question)
+    → Halts log reads after question → Halts log (and_then reads next) after question
+unfolding and_then
+halts_before log after (Ends result) next question first = absurd first
+halts_before log after (Asks asked goes_on) next question (inl here) = inl here
+halts_before log after (Asks asked goes_on) next question (inr first) =
+    inr (step_map asked
+    (λ told. Halts log (goes_on told) after question) (λ told. Halts log (and_then (goes_on told) next) after question)
+    (λ told. Halts (log ++ (asked, told) ∷ []) (goes_on told) after question) (λ told. Halts (log ++ (asked, told) ∷ []) (and_then (goes_on told) next) after question)
+    (λ told halts. halts_before log after (goes_on told) next question halts)
+    (λ told halts. halts_before (log ++ (asked, told) ∷ []) after (goes_on told) next question halts)
+    (told_before log asked) first)
 
 -- what a run began with stays told
 pub ran_keeps : {F A : Type 0} (log after : Log) (reads : Reads F A) (end : Result A F) (asked : Question) (told : Told)

@@ -8,22 +8,22 @@ use Rattle.tup_reader.specs.Reads.{Reads, and_then, gives}
 use Rattle.tup_reader.specs.Log.{Log, Ran}
 use Rattle.tup_reader.specs.Spot.{Spot, refused}
 use Rattle.tup_reader.specs.Went.{Asker, Comes, Went, Gives, IsRefusal, is_stopped}
-use Rattle.tup_reader.proofs.Runs.{ran_then, ran_refused}
+use Rattle.tup_reader.proofs.Runs.{ran_then, ran_refused, halts_then, halts_before}
 
 comes_then : {A B : Type 0} (log mid after : Log) (reads : Reads ParseFault A) (next : A → Reads ParseFault B) (value : A) (end : Result B ReadEnd)
     → Comes log reads mid (Ok value) → Comes mid (next value) after end → Comes log (and_then reads next) after end
 comes_then log mid after reads next value (Ok given) first second = ran_then log mid after reads next value (Ok given) first second
 comes_then log mid after reads next value (Err (Fault fault)) first second = ran_then log mid after reads next value (Err fault) first second
-comes_then log mid after reads next value (Err Stopped) first second = tt
+comes_then log mid after reads next value (Err Stopped) first (question, halts) = (question, halts_then log mid after reads next value question first halts)
 comes_then log mid after reads next value (Err Memory) first second = tt
 
 comes_ended : {A B : Type 0} (log after : Log) (reads : Reads ParseFault A) (next : A → Reads ParseFault B) (end : ReadEnd)
     → Comes log reads after (Err end) → Comes log (and_then reads next) after (Err end)
 comes_ended log after reads next (Fault fault) first = ran_refused log after reads next fault first
-comes_ended log after reads next Stopped first = tt
+comes_ended log after reads next Stopped (question, halts) = (question, halts_before log after reads next question halts)
 comes_ended log after reads next Memory first = tt
 
-still : (A B : Type 0) (end : ReadEnd) → is_stopped {A = A} (Err end) ≡ is_stopped {A = B} (Err end)
+pub still : (A B : Type 0) (end : ReadEnd) → is_stopped {A = A} (Err end) ≡ is_stopped {A = B} (Err end)
 still A B (Fault fault) = refl
 still A B Stopped = refl
 still A B Memory = refl
@@ -60,7 +60,7 @@ went_nowhere tells before all on = record { comes = tt; stopped = on; same = λ 
 comes_given : {A : Type 0} (log : Log) (reads : Reads ParseFault A) (end : Result A ReadEnd) → Gives reads end → Comes log reads log end
 comes_given log reads (Ok value) is = subst (λ r. Ran log r log (Ok value)) (sym is) (refl, refl)
 comes_given log reads (Err (Fault fault)) is = subst (λ r. Ran log r log (Err fault)) (sym is) (refl, refl)
-comes_given log reads (Err Stopped) is = tt
+comes_given log reads (Err Stopped) is = absurd is
 comes_given log reads (Err Memory) is = tt
 
 on_given : {A : Type 0} (reads : Reads ParseFault A) (end : Result A ReadEnd) → Gives reads end → is_stopped end ≡ false
@@ -97,6 +97,16 @@ refusal_of {A} reads at kind end is (inr e) = subst (λ (r : Reads ParseFault A)
 pub went_along : {A : Type 0} {tells : Bool} {before after : Asker} {end : Result A ReadEnd} (one other : Reads ParseFault A) → one ≡ other → Went tells before other after end → Went tells before one after end
 went_along {tells = tells} {before = before} {after = after} {end = end} one other same went = subst (λ r. Went tells before r after end) (sym same) went
 
+-- what follows a call that asks nothing, in one that may ask
+pub went_ok : {A B : Type 0} {tells : Bool} {before after : Asker} {value : A} {end : Result B ReadEnd} (reads : Reads ParseFault A) (next : A → Reads ParseFault B)
+    → Gives reads (Ok value) → Went tells before (next value) after end → Went tells before (and_then reads next) after end
+unfolding and_then
+went_ok {tells = tells} {before = before} {after = after} {end = end} reads next is went = subst (λ r. Went tells before (and_then r next) after end) (sym is) went
+
+pub went_bad : {A B : Type 0} (tells : Bool) (before : Asker) (reads : Reads ParseFault A) (next : A → Reads ParseFault B) (end : ReadEnd)
+    → before.stopped ≡ false → Gives reads (Err end) → Went tells before (and_then reads next) before (Err end)
+went_bad tells before reads next end on is = went_err next (went_given tells before reads (Err end) on is)
+
 -- ---- calls that ask nothing, one behind another
 pub gives_then : {A B : Type 0} (reads : Reads ParseFault A) (next : A → Reads ParseFault B) (value : A) (end : Result B ReadEnd) → Gives reads (Ok value) → Gives (next value) end → Gives (and_then reads next) end
 unfolding and_then
@@ -112,3 +122,7 @@ gives_err reads next Memory first = tt
 pub given_then : {A B : Type 0} (value : A) (next : A → Reads ParseFault B) → and_then (gives value) next ≡ next value
 unfolding and_then
 given_then value next = refl
+
+-- the same process under another name
+pub gives_along : {A : Type 0} (one other : Reads ParseFault A) (end : Result A ReadEnd) → one ≡ other → Gives other end → Gives one end
+gives_along one other end same is = subst (λ r. Gives r end) (sym same) is

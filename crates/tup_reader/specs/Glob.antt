@@ -50,12 +50,14 @@ names_of_files drafts dir = and_then (names_at dir) (λ names. gives (in_order (
 abbrev pub bytes_at : List ℕ → Span → List ℕ
 bytes_at text span = take (span.to - span.from) (drop span.from text)
 
+-- a file as an input, with what the first operator of a glob matched in its name
+abbrev pub matched_input : List Symbol → List ℕ → Names → Input
+matched_input symbols name path = input path (option_map (bytes_at name) (matched_part symbols name))
+
 -- a file of a folder as an input, if it matches
 abbrev pub matching : Names → List Symbol → List ℕ → Option Input
 matching dir symbols name =
-    if matches symbols (chars name)
-    then option_map (λ path. input path (option_map (bytes_at name) (matched_part symbols name))) (result_ok (below dir name))
-    else None
+    if matches symbols (chars name) then option_map (matched_input symbols name) (result_ok (below dir name)) else None
 
 -- the glob of a pattern
 unfoldable pub glob_of : Spot → List ℕ → Reads ParseFault (List Symbol)

@@ -1,5 +1,5 @@
 -- The commands of a rule line, from the manual; where none is made is own.
-use Rattle.std.specs.Prelude.{ℕ, Bool, not, if◌then◌else◌, List, [], ◌∷◌, ◌++◌, map, fold, false, Option, Some, None, bytes_eq}
+use Rattle.std.specs.Prelude.{ℕ, ◌==◌, ◌&&◌, Bool, not, length, if◌then◌else◌, List, [], ◌∷◌, ◌++◌, map, fold, false, Option, Some, None, bytes_eq}
 use Rattle.std.specs.List.{list_any}
 use Rattle.tup_path.specs.Name.{Names}
 use Rattle.tup_lex.specs.declared.kind.ParseKind.TheVariants.{BadCaret}
@@ -41,8 +41,7 @@ whole_job inputs = record { inputs = paths_of inputs; glob = only_glob inputs }
 
 -- whether words are there, none of them a group, and they give no file: then no command is made
 abbrev pub gives_nothing : List (List ℕ) → List Input → Bool
-gives_nothing (word ∷ words) [] = not (list_any is_group (word ∷ words))
-gives_nothing _ _ = false
+gives_nothing words inputs = not (length words == 0) && length inputs == 0 && not (list_any is_group words)
 
 -- the commands of a rule: one for each input, or one for all
 abbrev pub jobs_of : Words → List Input → List Job

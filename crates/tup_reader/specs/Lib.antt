@@ -21,4 +21,8 @@ pub mod Words
 pub mod Job
 pub mod RuleLine
 pub mod MacroLine
+pub mod File
+pub mod Opening
 pub mod Reading
+pub mod Read
+pub mod Sound

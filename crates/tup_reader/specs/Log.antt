@@ -1,5 +1,5 @@
 -- What a reading asked and was told, each question once (own), and what it comes to by that alone.
-use Rattle.std.specs.Prelude.{◌≡◌, ℕ, Bool, true, false, List, [], ◌∷◌, ◌++◌, Option, Some, None, Result, map, bytes_eq}
+use Rattle.std.specs.Prelude.{◌≡◌, ◌⊎◌, ℕ, Bool, true, false, List, [], ◌∷◌, ◌++◌, Option, Some, None, Result, map, bytes_eq}
 use Rattle.std.specs.Map.{lookup}
 use Rattle.tup_path.specs.Order.{same_path}
 use Rattle.tup_rule.specs.declared.question.Question.{Question}
@@ -45,6 +45,14 @@ Ran log (Ends result) after end = (after ≡ log) × (end ≡ result)
 Ran log (Asks question goes_on) after end =
     Step question (λ before. Ran log (goes_on before) after end) (λ answer. Ran (log ++ (question, answer) ∷ []) (goes_on answer) after end)
     (told_before log question)
+
+-- how a process comes to a question that isn't answered: as in a run, up to one that was not asked before
+abbrev pub Halts : {F A : Type 0} → Log → Reads F A → Log → Question → Type 0
+Halts log (Ends result) after question = ⊥
+Halts log (Asks next goes_on) after question =
+    ((question ≡ next) × (told_before log next ≡ None) × (after ≡ log))
+    ⊎ Step next (λ before. Halts log (goes_on before) after question) (λ answer. Halts (log ++ (next, answer) ∷ []) (goes_on answer) after question)
+    (told_before log next)
 
 -- one who answers says what a log says
 abbrev pub Says : (Question → Told) → Log → Type 0

@@ -25,13 +25,17 @@ given_to at (Some word) = and_then (led_to_folder at ForeignOutput word) (λ dir
 abbrev pub sources_of : Found → Found → Option GroupRef → Sources
 sources_of inputs order group = record { order = paths_of order.inputs; groups = inputs.groups ++ order.groups; gives = group }
 
+-- the state with a rule's commands, by what its input words and its order-only words give
+unfoldable pub with_files : Spot → State → Words → Found → Found → Reads ParseFault State
+with_files at state words inputs order =
+    and_then (given_to at words.group) (λ group. with_jobs at words (sources_of inputs order group) state (jobs_of words inputs.inputs))
+
 -- the state with a rule's commands, by its parts
 unfoldable pub with_words : Spot → State → Words → Reads ParseFault State
 with_words at state words =
     and_then (from_words at state nothing_found words.inputs)
     (λ inputs. and_then (from_words at state nothing_found words.order)
-    (λ order. and_then (given_to at words.group)
-    (λ group. with_jobs at words (sources_of inputs order group) state (jobs_of words inputs.inputs))))
+    (λ order. with_files at state words inputs order))
 
 -- a rule line behind its colon
 unfoldable pub ruled : Spot → State → List ℕ → Reads ParseFault State

@@ -7,7 +7,7 @@ use Rattle.tup_reader.specs.declared.fault.ReadEnd.{ReadEnd}
 use Rattle.tup_reader.specs.declared.fault.ReadEnd.TheVariants.{Fault, Stopped, Memory}
 use Rattle.tup_reader.specs.declared.fault.ParseFault.{ParseFault}
 use Rattle.tup_reader.specs.Reads.{Reads, gives, refuses}
-use Rattle.tup_reader.specs.Log.{Log, Ran, Says}
+use Rattle.tup_reader.specs.Log.{Log, Ran, Halts, Says}
 use Rattle.tup_reader.specs.Spot.{Spot, fault_at}
 
 -- who answers: what it answers to each question, whether it has stopped; and what it was asked so far
@@ -20,11 +20,12 @@ pub record Asker : Type 0 where
 abbrev pub asker : (Question → Told) → Bool → Log → Asker
 asker answers stopped log = record { answers = answers; stopped = stopped; log = log }
 
--- an answer is what a process runs to from a log; where who answers stopped, or memory was wanting, it says nothing
+-- an answer is what a process runs to from a log; where who answers stopped, the process stands at a question that was
+-- not asked before; where memory was wanting, it says nothing
 abbrev pub Comes : {A : Type 0} → Log → Reads ParseFault A → Log → Result A ReadEnd → Type 0
 Comes log reads after (Ok value) = Ran log reads after (Ok value)
 Comes log reads after (Err (Fault fault)) = Ran log reads after (Err fault)
-Comes log reads after (Err Stopped) = Unit {0}
+Comes log reads after (Err Stopped) = (question : Question) × Halts log reads after question
 Comes log reads after (Err Memory) = Unit {0}
 
 -- whether a call ended because who answers stopped

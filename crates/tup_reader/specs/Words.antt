@@ -1,6 +1,6 @@
 -- The parts of a rule line as texts, from the manual.
-use Rattle.std.specs.Prelude.{ℕ, Bool, if◌then◌else◌, List, [], ◌∷◌, ◌++◌, drop, map, Some, None, option_map}
-use Rattle.tup_lex.specs.Word.{begins_with}
+use Rattle.std.specs.Prelude.{ℕ, Bool, List, [], ◌∷◌, ◌++◌, map, codes, Option, Some, None, option_map}
+use Rattle.tup_vars.specs.Config.{behind}
 use Rattle.tup_lex.specs.Parts.{rule_parts}
 use Rattle.tup_lex.specs.declared.parts.Parts.{Parts}
 use Rattle.tup_lex.specs.declared.fault.LexFault.{LexFault}
@@ -57,12 +57,19 @@ filled words body =
       extra = or_else words.extra body.extra;
     }
 
+-- the name of the macro that a command is
+abbrev pub macro_name : List ℕ → Option (List ℕ)
+macro_name command = behind (codes "!") command
+
+-- a rule with the macro of a name
+unfoldable pub with_named : Spot → Definitions → List ℕ → Words → Reads ParseFault Words
+with_named at macros name words =
+    elim (macro_of macros name) [ Some body ↦ gives (filled words body) | None ↦ refused at kind.NoSuchMacro ]
+
 -- a rule whose command may be a macro's name
 unfoldable pub with_macro : Spot → Definitions → Words → Reads ParseFault Words
 with_macro at macros words =
-    if begins_with 33 words.command
-    then elim (macro_of macros (drop 1 words.command)) [ Some body ↦ gives (filled words body) | None ↦ refused at kind.NoSuchMacro ]
-    else gives words
+    elim (macro_name words.command) [ Some name ↦ with_named at macros name words | None ↦ gives words ]
 
 -- the parts of a rule, with what its macro says
 unfoldable pub words_of : Spot → Definitions → List ℕ → Reads ParseFault Words

@@ -45,6 +45,7 @@ fn told_before<'l>(log: &'l [(Question, Told)], question: &Question) -> Option<&
     None
 }
 
+/// Whether two questions are the same.
 fn same(one: &Question, other: &Question) -> bool
     ensures { result ≡ same_question one.now other.now }
 {
@@ -125,6 +126,7 @@ pub(crate) fn kind_at<E: Env>(
     Ok(kind_in(&told))
 }
 
+/// The content in an answer about a file.
 fn content_in(told: Told) -> Option<Bytes>
     ensures { result ≡ specs.content_in told }
 {
@@ -134,6 +136,7 @@ fn content_in(told: Told) -> Option<Bytes>
     }
 }
 
+/// The value in an answer about a setting.
 fn setting_in(told: Told) -> Option<Text>
     ensures { result ≡ specs.setting_in told }
 {
@@ -143,6 +146,7 @@ fn setting_in(told: Told) -> Option<Text>
     }
 }
 
+/// The names in an answer about a folder.
 fn names_in(alloc: Global, told: Told) -> Texts
     ensures { result ≡ specs.names_in told }
 {
@@ -152,6 +156,7 @@ fn names_in(alloc: Global, told: Told) -> Texts
     }
 }
 
+/// The kind in an answer about what stands at a path.
 fn kind_in(told: &Told) -> Kind
     ensures { result ≡ specs.kind_in told.now }
 {

@@ -29,6 +29,7 @@ pub(crate) fn command_of(alloc: Global, text: &str) -> Result<Option<Command>, A
     }
 }
 
+/// A command behind its first caret, if there is a second one.
 fn behind_caret(alloc: Global, text: &str) -> Result<Option<Command>, AllocError>
     ensures { IfOk result (λ command. command ≡ specs.behind_caret text.now) }
 {
@@ -51,6 +52,7 @@ fn between_carets(text: &str) -> (&str, &str)
     }
 }
 
+/// A command with letters and what is shown in its place, if all letters are known.
 fn lettered(
     alloc: Global,
     letters: &str,
@@ -69,18 +71,21 @@ fn lettered(
     }))
 }
 
+/// Whether all of these are letters that a command may have.
 fn are_letters(letters: &[u8]) -> bool
     ensures { result ≡ list_all specs.is_letter letters.now }
 {
     letters.iter().all(|byte| is_letter(*byte))
 }
 
+/// Whether a command may have this letter.
 fn is_letter(byte: u8) -> bool
     ensures { result ≡ specs.is_letter byte }
 {
     byte == b'o' || byte == b'b' || byte == b'c' || byte == b'j' || byte == b's'
 }
 
+/// Whether one of the letters has outputs compared.
 fn has_compare(letters: &[u8]) -> bool
     ensures { result ≡ list_any (λ byte. byte == 111) letters.now }
 {

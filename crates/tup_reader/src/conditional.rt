@@ -14,7 +14,8 @@ use tup_lex::ParseKind;
 use tup_path::Text;
 use tup_vars::{Vars, is_name};
 
-/// Whether the two sides of `(LEFT,RIGHT)` stand for the same, or for different texts where that is wanted.
+/// Whether the two sides of `(LEFT,RIGHT)` stand for the same, or for different texts where that is
+/// wanted.
 pub(crate) fn compares<E: Env>(
     alloc: Global,
     env: &mut E,
@@ -35,6 +36,7 @@ pub(crate) fn compares<E: Env>(
     }
 }
 
+/// Whether two texts stand for the same, or for different ones where that is wanted.
 fn compared<E: Env>(
     alloc: Global,
     env: &mut E,
@@ -77,6 +79,7 @@ pub(crate) fn looked_up<E: Env>(
     Ok(agrees(wanted, value.is_some()))
 }
 
+/// Whether what was found is what was wanted.
 fn agrees(wanted: bool, found: bool) -> bool
     ensures { result ≡ specs.agrees wanted found }
 {

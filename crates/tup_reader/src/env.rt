@@ -10,8 +10,9 @@ use tup_vars::Stopped;
 
 /// Answers what a reading asks about the project, each question in its kind.
 ///
-/// An environment may tell what it answers to each question, which no call changes then; clauses on answers stand
-/// where it tells. It answers `Stopped` exactly where it has stopped after the call, and keeps the cause.
+/// An environment may tell what it answers to each question, which no call changes then; clauses on
+/// answers stand where it tells. It answers `Stopped` exactly where it has stopped after the call,
+/// and keeps the cause.
 pub trait Env: Drop {
     /// Whether the environment tells what it answers.
     ghost tells: { Bool };

@@ -39,6 +39,7 @@ impl From<AllocError> for ReadEnd {
 
     ghost from_gives = { λ _ end. end ≡ Memory };
 
+    /// Want of memory.
     fn from(_: AllocError) -> ReadEnd {
         ReadEnd::Memory
     }
@@ -50,6 +51,7 @@ impl<T: Drop> From<AllocFailed<T>> for ReadEnd {
 
     ghost from_gives = { λ _ end. end ≡ Memory };
 
+    /// Want of memory; the value is let go.
     fn from(_: AllocFailed<T>) -> ReadEnd {
         ReadEnd::Memory
     }
@@ -61,6 +63,7 @@ impl From<Stopped> for ReadEnd {
 
     ghost from_gives = { λ _ end. end ≡ WasStopped };
 
+    /// A stop.
     fn from(_: Stopped) -> ReadEnd {
         ReadEnd::Stopped
     }

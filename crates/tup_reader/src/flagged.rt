@@ -65,6 +65,7 @@ fn text_of(alloc: Global, pieces: &[Piece]) -> Result<Text, AllocError>
     Ok(text)
 }
 
+/// Adds the text of a piece; a group has none.
 fn add_piece(text: &mut Text, piece: &Piece) -> Result<(), AllocError>
     ensures { OnOk result (text.new ≡ text.old ++ specs.text_of (piece.now ∷ [])) }
 {

@@ -79,6 +79,7 @@ impl Found {
     }
 }
 
+/// Adds inputs, each unless its path is there.
 fn add_inputs(inputs: &mut Inputs, more: Inputs) -> Result<(), AllocError>
     ensures { OnOk result (inputs.new ≡ fold specs.with_input inputs.old more) }
 {
@@ -88,6 +89,7 @@ fn add_inputs(inputs: &mut Inputs, more: Inputs) -> Result<(), AllocError>
     Ok(())
 }
 
+/// Adds an input, unless its path is there.
 fn add_input(inputs: &mut Inputs, input: Input) -> Result<(), AllocError>
     ensures { OnOk result (inputs.new ≡ specs.with_input inputs.old input) }
 {
@@ -97,13 +99,15 @@ fn add_input(inputs: &mut Inputs, input: Input) -> Result<(), AllocError>
     Ok(())
 }
 
+/// Whether a path is among inputs.
 fn has_path(inputs: &[Input], path: &Path) -> bool
     ensures { result ≡ specs.has_path inputs.now path.now }
 {
     inputs.iter().any(|input| *path == input.path)
 }
 
-fn add_groups(groups: &mut GroupRefs, more: GroupRefs) -> Result<(), AllocError>
+/// Adds groups at the end.
+pub(crate) fn add_groups(groups: &mut GroupRefs, more: GroupRefs) -> Result<(), AllocError>
     ensures { OnOk result (groups.new ≡ groups.old ++ more) }
 {
     for group in more.into_vec() {

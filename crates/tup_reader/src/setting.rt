@@ -84,6 +84,7 @@ fn with_value(
     }
 }
 
+/// Sets a variable, or adds to what it is set to.
 fn put_value(
     alloc: Global,
     variables: &mut Vars,

@@ -31,6 +31,7 @@ impl Lookup for Settings {
 
     ghost stopped = { λ s. s.stopped };
 
+    /// What tup.config sets a name to, among what was told.
     fn config(&mut self, _alloc: Global, name: &Text) -> Result<Option<Text>, Stopped> {
         let copy = copied(value_among(self.values.as_slice(), name));
         self.stopped = copy.is_err();
@@ -53,6 +54,7 @@ fn value_among<'v>(values: &'v [(Text, Option<Text>)], name: &Text) -> Option<&'
     None
 }
 
+/// A copy of a value, if there is one.
 fn copied(value: Option<&Text>) -> Result<Option<Text>, AllocError>
     ensures { IfOk result (λ copy. copy ≡ option_map (λ value. value.now) value.entry) }
 {

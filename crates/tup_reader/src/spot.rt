@@ -26,24 +26,28 @@ impl<'s> Model for Spot<'s> {
 }
 
 impl<'s> Spot<'s> {
+    /// A line of a file that is read for a folder.
     pub(crate) fn new(dir: &'s Path, file: &'s Path, line: u32) -> Spot<'s>
         ensures { result ≡ spot dir.now file.now line }
     {
         Spot { dir, file, line }
     }
 
+    /// The folder that is read.
     pub(crate) fn dir(&self) -> &'s Path
         ensures { result.now ≡ self.now.dir }
     {
         self.dir
     }
 
+    /// The file.
     pub(crate) fn file(&self) -> &'s Path
         ensures { result.now ≡ self.now.file }
     {
         self.file
     }
 
+    /// The line, counted from 1.
     pub(crate) fn line(&self) -> u32
         ensures { result ≡ self.now.line }
     {
@@ -82,6 +86,7 @@ impl<'s> Spot<'s> {
     }
 }
 
+/// A fault here.
 fn fault_at(at: &Spot, kind: ParseKind) -> Result<ParseFault, AllocError>
     ensures { IfOk result (λ fault. fault ≡ fault_at at.now kind) }
 {

@@ -1,5 +1,5 @@
 //! What a text stands for where it stands.
-ghost use Rattle.std.specs.Prelude.{◌≡◌, false};
+ghost use Rattle.std.specs.Prelude.{◌≡◌, ◌≤◌, false, length, IfOk};
 ghost use Rattle.tup_reader.specs.Text as specs;
 ghost use Rattle.tup_reader.specs.Went.{Went, asker, IsRefusal};
 ghost use Rattle.tup_reader.specs.declared.fault.ReadEnd.TheVariants.{Memory};
@@ -24,9 +24,10 @@ pub(crate) fn expanded<E: Env>(
     text: &str,
 ) -> Result<Text, ReadEnd>
     requires { E.stopped env.old ≡ false }
-    ensures { Went E.tells (asker (E.answers env.old) (E.stopped env.old) log.old)
+    ensures went { Went E.tells (asker (E.answers env.old) (E.stopped env.old) log.old)
         (specs.expanded at.now variables.now text.now)
         (asker (E.answers env.new) (E.stopped env.new) log.new) result }
+    ensures short { IfOk result (λ text. length text ≤ 1048576) }
 {
     let text = Text::from_str(alloc, text)?;
     let cwd = at.cwd(alloc)?;

@@ -1,6 +1,7 @@
-use Rattle.std.proofs.Common.{◌≡◌, Some, None, false, ap, sym, ◌∙◌, option_map}
+use Rattle.std.proofs.Common.{◌≡◌, Some, None, true, false, ap, sym, ◌∙◌, option_map}
+use Rattle.std.proofs.lemmas.Result.{err_from_is_err_and}
 use Rattle.tup_reader.specs.Log.{told_before as before}
-use Rattle.tup_reader.proofs.Asking.{asked_before, asked_new}
+use Rattle.tup_reader.proofs.Asking.{asked_before, asked_new, has_stopped}
 use Rattle.tup_reader.proofs.ask.ask.Goals as goal
 
 pub returns-in-Some : goal.returns-in-Some
@@ -8,6 +9,13 @@ returns-in-Some g c =
     let known : before c.args.log.now c.args.question ≡ Some c.in-Some.told.now =
     sym (ap (λ l. before l c.args.question) c.as_slice.ensures) ∙ sym c.told_before.ensures ∙ ap (option_map (λ told. told.now)) c.in-Some.is in
     rw c.in_ok-clone.ensures.cases (asked_before _ _ _ _ c.requires known)
+
+pub returns-in_err-told : goal.returns-in_err-told
+returns-in_err-told g c =
+    let unknown : before c.args.log.now c.args.question ≡ None =
+    sym (ap (λ l. before l c.args.question) c.as_slice.ensures) ∙ sym c.told_before.ensures ∙ ap (option_map (λ told. told.now)) c.in_default.is in
+    let p = err_from_is_err_and c.from_residual-in_err-told.result c.from_residual-in_err-told.ensures.1 in
+    rw (p.1, p.2) (has_stopped _ _ _ _ _ unknown (sym {a = true} c.in_err-told.ensures.stopped) (λ tells. c.in_err-told.ensures.same tells))
 
 pub returns : goal.returns
 returns g c =

@@ -1,0 +1,66 @@
+-- What the whole reading leaves.
+use Rattle.std.proofs.Common.{◌≡◌, Bool, true, false, cond, List, [], ◌∷◌, ◌++◌, map, Option, Some, None, option_map, Result, Ok, Err, refl, sym, ap, ◌∙◌, subst, IsTrue}
+use Rattle.std.specs.Map.{lookup}
+use Rattle.tup_path.specs.Name.{Names}
+use Rattle.tup_rule.specs.declared.draft.Draft.{Draft}
+use Rattle.tup_rule.specs.declared.question.Question.{Question}
+use Rattle.tup_rule.specs.declared.question.Told.{Told}
+use Rattle.tup_rule.specs.declared.question.Noted.{Noted}
+use Rattle.tup_rule.specs.declared.question.Reading.{Reading}
+use Rattle.tup_rule.specs.Question.{noted}
+use Rattle.tup_reader.specs.declared.fault.ParseFault.{ParseFault}
+use Rattle.tup_reader.specs.declared.fault.ReadEnd.{ReadEnd}
+use Rattle.tup_reader.specs.declared.fault.ReadEnd.TheVariants.{Fault, Stopped, Memory}
+use Rattle.tup_reader.specs.Reads.{Reads, outcome}
+use Rattle.tup_reader.specs.Log.{Log, same_question, told_before, Ran, Says, noted_log}
+use Rattle.tup_reader.specs.Read.{IsReading, KeepsAnswers, Agrees}
+use Rattle.tup_reader.specs.Reading.{reading}
+use Rattle.tup_reader.specs.Went.{Asker, Comes, Went, is_stopped}
+use Rattle.tup_reader.proofs.Runs.{ran_outcome}
+
+-- nothing is said of what was not asked
+says_nothing : (answers : Question → Told) → Says answers []
+says_nothing answers question told e = absurd (cc)
+
+-- what the log of a reading says, who answers said before it
+pub said : {A : Type 0} {tells : Bool} {before after : Asker} {end : Result A ReadEnd} (reads : Reads ParseFault A) → Went tells before reads after end → before.log ≡ [] → IsTrue tells → Says before.answers after.log
+said {before = before} {after = after} reads went empty tells =
+    let nothing : Says before.answers before.log = subst (λ l. Says before.answers l) (sym empty) (says_nothing before.answers) in
+    subst (λ a. Says a after.log) (went.same tells) (went.says tells nothing)
+
+-- ---- the end without rules
+pub ended_reading : (dir : Names) (log : Log) (end : ReadEnd) → Comes [] (reading dir) log (Err end) → IsReading dir (Err end)
+ended_reading dir log (Fault fault) comes = (log, comes)
+ended_reading dir log Stopped (question, halts) = (log, question, halts)
+ended_reading dir log Memory comes = tt
+
+pub ended_agrees : (answers : Question → Told) (reads : Reads ParseFault (List Draft)) (log : Log) (end : ReadEnd) → Comes [] reads log (Err end) → Says answers log → Agrees answers reads (Err end)
+ended_agrees answers reads log (Fault fault) comes says = ran_outcome [] log reads (Err fault) answers comes says
+ended_agrees answers reads log Stopped (question, halts) says = (log, question, halts, says)
+ended_agrees answers reads log Memory comes says = tt
+
+-- ---- the rules
+pub kept_reading : (dir : Names) (log : Log) (kept : Reading) → Comes [] (reading dir) log (Ok kept.drafts) → kept.asked ≡ noted_log log → IsReading dir (Ok kept)
+kept_reading dir log kept comes asked = (log, comes, asked)
+
+-- what was kept is what was told, noted
+kept_told : (log : Log) (question : Question) → lookup (same_question question) (noted_log log) ≡ option_map noted (told_before log question)
+kept_told [] question = refl
+kept_told (entry ∷ log) question = by (kept_told log question) (same_question question entry.0)
+  where
+    by : lookup (same_question question) (noted_log log) ≡ option_map noted (told_before log question) → (here : Bool)
+        → cond here (Some (noted entry.1)) (lookup (same_question question) (noted_log log)) ≡ option_map noted (cond here (Some entry.1) (told_before log question))
+    by more true = refl
+    by more false = more
+
+keeps : (answers : Question → Told) (log : Log) → Says answers log → KeepsAnswers answers (noted_log log)
+keeps answers log says question told e = by (told_before log question) refl (sym (kept_told log question) ∙ e)
+  where
+    by : (before : Option Told) → told_before log question ≡ before → option_map noted before ≡ Some told → told ≡ noted (answers question)
+    by None is e = absurd (cc)
+    by (Some before) is e = let same : noted before ≡ told = cc in sym same ∙ ap noted (sym (says question before is))
+
+pub kept_agrees : (answers : Question → Told) (reads : Reads ParseFault (List Draft)) (log : Log) (kept : Reading) → Comes [] reads log (Ok kept.drafts) → kept.asked ≡ noted_log log → Says answers log
+    → Agrees answers reads (Ok kept)
+kept_agrees answers reads log kept comes asked says =
+    (ran_outcome [] log reads (Ok kept.drafts) answers comes says, subst (λ (a : List (Question × Noted)). KeepsAnswers answers a) (sym asked) (keeps answers log says))
