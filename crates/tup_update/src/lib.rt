@@ -10,6 +10,7 @@ mod project;
 mod run;
 mod stop;
 mod update;
+mod view;
 
 pub use stop::Stop;
 pub use update::{Log, Update, update_site};
