@@ -4,7 +4,9 @@
 mod access;
 mod broken;
 mod clean;
+mod made;
 mod mini;
+mod script;
 mod values;
 
 use std::io;

@@ -1,91 +1,147 @@
 //! The calls of `mini.rows`.
-use crate::values::{add_number, content, text};
+use crate::made::{asks, itself, nested, own, writes};
+use crate::script::Script;
+use crate::values::text;
 use std::alloc::Global;
 use std::fs::Files;
 use std::io;
-use tup_mini::{Command, MiniFault};
-use tup_path::{Bytes, Text};
+use tup_mini::Mini;
+use tup_path::{Bytes, Items, Path, Text};
 use tup_rows::{Answers, RowFault, Words, try_file};
-use tup_runner::{Answer, Ended, Step};
+use tup_runner::{Answer, Ended, RunFailed, Runner};
+
+/// Texts and how each is answered.
+pub(crate) type Replies = Items<(Text, Answer)>;
 
 pub(crate) fn try_rows<R: Files + Print>(rt: &R, alloc: Global) -> io::Result<()> {
-    try_file(rt, alloc, "mini.rows", &mut Mini)
+    try_file(rt, alloc, "mini.rows", &mut Commands)
 }
 
 /// Knows the calls of tup_mini.
 #[derive(Drop)]
-struct Mini;
+struct Commands;
 
-impl Answers for Mini {
-    fn answer(&mut self, alloc: Global, call: &str, arguments: &Words) -> Result<Words, RowFault> {
-        match call {
-            "next" => next(alloc, arguments),
-            "sized" => sized(alloc, arguments),
-            _ => Err(RowFault::NoSuchCall),
-        }
+impl Answers for Commands {
+    fn answer(&mut self, alloc: Global, call: &str, said: &Words) -> Result<Words, RowFault> {
+        Ok(match call {
+            "run" => run(alloc, said),
+            "words" => cut(alloc, said),
+            "sized" => sized(alloc, said),
+            "asks" => asks(alloc, said),
+            "own" => own(alloc, said),
+            "nested" => nested(alloc, said),
+            "itself" => itself(alloc, said),
+            "writes" => writes(alloc, said),
+            _ => Words::none(alloc, RowFault::NoSuchCall),
+        })
     }
 }
 
-/// What a command does next after some answers.
-fn next(alloc: Global, arguments: &Words) -> Result<Words, RowFault> {
-    let mut asked = Vec::new(alloc);
-    for word in arguments.as_slice().iter().skip(1) {
-        asked.push((text(alloc, "asked")?, answer(alloc, word)?))?;
-    }
-    step(alloc, arguments.text(0)?, &asked)
+/// A command in a folder, and then a text and its answer for each ask.
+fn run(alloc: Global, said: &Words) -> Words {
+    let dir = said.path_at(alloc, 0);
+    ran(alloc, &dir, &said.text_at(alloc, 1), replies(alloc, said))
 }
 
-fn answer(alloc: Global, word: &[u8]) -> Result<Answer, RowFault> {
-    if word == b"-".as_slice() {
-        Ok(Answer::Absent)
-    } else {
-        Ok(Answer::Content(content(alloc, word)?))
+fn replies(alloc: Global, said: &Words) -> Replies {
+    let mut replies = Items::new(alloc);
+    for pair in 1..said.len() / 2 {
+        let asked = said.text_at(alloc, 2 * pair);
+        said.list(&mut replies, (asked, answer_at(alloc, said, 2 * pair + 1)));
     }
+    replies
+}
+
+fn answer_at(alloc: Global, said: &Words, at: usize) -> Answer {
+    match said.word_at(at) {
+        b"-" => Answer::Absent,
+        _ => Answer::Content(Bytes::new(said.bytes_at(alloc, at))),
+    }
+}
+
+/// `asks` and the text that was denied, or `ends`, the status and what was written; and `unasked` where replies are left.
+fn ran(alloc: Global, dir: &Path, command: &Text, replies: Replies) -> Words {
+    let mut script = Script {
+        answers: replies.into_vec(),
+        asked: 0,
+        denied: None,
+    };
+    let mut words = match Mini::new(alloc).run(alloc, dir, command, &mut script) {
+        Ok(ended) => end(alloc, &ended),
+        Err(fault) => denied(alloc, fault, &script),
+    };
+    if script.asked < script.answers.len() {
+        words.put(alloc, b"unasked");
+    }
+    words
+}
+
+fn denied(alloc: Global, fault: RunFailed, script: &Script) -> Words {
+    if matches!(&fault, RunFailed::Memory) {
+        return Words::none(alloc, RowFault::Memory);
+    }
+    let mut words = Words::word(alloc, b"asks");
+    if let Some(denied) = &script.denied {
+        words.show(alloc, denied);
+    }
+    words
+}
+
+fn end(alloc: Global, ended: &Ended) -> Words {
+    let mut words = Words::word(alloc, b"ends");
+    words.show(alloc, &ended.status);
+    for (to, content) in ended.writes.as_slice() {
+        words.show(alloc, to);
+        words.put(alloc, content.as_slice());
+    }
+    words
+}
+
+fn cut(alloc: Global, said: &Words) -> Words {
+    match tup_mini::words(alloc, &said.text_at(alloc, 0)) {
+        Ok(found) => listed(alloc, &found),
+        Err(_) => Words::none(alloc, RowFault::Memory),
+    }
+}
+
+fn listed(alloc: Global, texts: &[Text]) -> Words {
+    let mut words = Words::new(alloc);
+    for text in texts {
+        words.show(alloc, text);
+    }
+    words
 }
 
 /// The status of a command that was answered so many bytes.
-fn sized(alloc: Global, arguments: &Words) -> Result<Words, RowFault> {
-    let size = arguments.number(1)? as usize;
-    let answer = Answer::Content(Bytes::new(vec![in alloc; 7u8; size]?));
-    let mut asked = Vec::new(alloc);
-    asked.push((text(alloc, "asked")?, answer))?;
-    let command = read(alloc, arguments.text(0)?)?;
-    let mut words = Words::new(alloc);
-    if let Step::End(ended) = done(command.next(alloc, &asked))? {
-        add_number(alloc, &mut words, ended.status)?;
+fn sized(alloc: Global, said: &Words) -> Words {
+    let mut bytes = Vec::new(alloc);
+    if bytes.resize(said.number_at(1) as usize, 7).is_err() {
+        said.fail(RowFault::Memory);
     }
-    Ok(words)
+    let mut replies = Items::new(alloc);
+    match text(alloc, "a") {
+        Ok(name) => said.list(&mut replies, (name, Answer::Content(Bytes::new(bytes)))),
+        Err(fault) => said.fail(fault),
+    }
+    counted(alloc, &said.text_at(alloc, 0), replies)
 }
 
-fn step(alloc: Global, command: &str, asked: &[(Text, Answer)]) -> Result<Words, RowFault> {
-    let command = read(alloc, command)?;
-    match done(command.next(alloc, asked))? {
-        Step::Ask(input) => {
-            let mut words = Words::one(alloc, b"asks")?;
-            words.add(alloc, input.as_str().as_bytes())?;
-            Ok(words)
-        }
-        Step::End(ended) => end(alloc, &ended),
+/// The status of a command at the top, how often it asked and how much it wrote.
+pub(crate) fn counted(alloc: Global, command: &Text, replies: Replies) -> Words {
+    let mut script = Script {
+        answers: replies.into_vec(),
+        asked: 0,
+        denied: None,
+    };
+    match Mini::new(alloc).run(alloc, &Path::top(alloc), command, &mut script) {
+        Ok(ended) => counts(alloc, &ended, script.asked),
+        Err(fault) => denied(alloc, fault, &script),
     }
 }
 
-fn end(alloc: Global, ended: &Ended) -> Result<Words, RowFault> {
-    let mut words = Words::one(alloc, b"ends")?;
-    add_number(alloc, &mut words, ended.status)?;
-    for (to, content) in ended.writes.as_slice() {
-        words.add(alloc, to.as_str().as_bytes())?;
-        words.add(alloc, content.as_slice())?;
-    }
-    Ok(words)
-}
-
-fn read(alloc: Global, command: &str) -> Result<Command, RowFault> {
-    done(Command::read(alloc, &text(alloc, command)?))
-}
-
-fn done<T>(given: Result<T, MiniFault>) -> Result<T, RowFault> {
-    match given {
-        Ok(value) => Ok(value),
-        Err(MiniFault::Memory) => Err(RowFault::Memory),
-    }
+fn counts(alloc: Global, ended: &Ended, asked: usize) -> Words {
+    let mut words = Words::shown(alloc, &ended.status);
+    words.show(alloc, &asked);
+    words.show(alloc, &ended.writes.len());
+    words
 }

@@ -6,3 +6,7 @@ pub mod Opened
 pub mod Rows
 pub mod Needed
 pub mod Lasts
+pub mod Committing
+pub mod Keeping
+pub mod OneWay
+pub mod Finishing

@@ -1,9 +1,11 @@
 -- What every update and every crash leaves of a project: a kept graph, and a kept site (own). It doesn't speak of the tree,
 -- so edits of it keep it.
-use Rattle.std.specs.Prelude.{◌≡◌, ◌⊎◌, ℕ, true, false, List, Option, None, Some, All, Contains, IsSome, slice_get}
+use Rattle.std.specs.Prelude.{◌≡◌, ◌≢◌, ◌⊎◌, ℕ, true, false, List, Option, None, Some, All, Contains, IsSome, slice_get}
 use Rattle.std.specs.FinMap as finite
+use Rattle.std.specs.List.{IsDistinct}
 use Rattle.std.specs.Option.{option_map}
 use Rattle.tup_path.specs.Name.{Names, Content}
+use Rattle.tup_path.specs.Order.{same_path}
 use Rattle.tup_stamp.specs.declared.Stamp.{Stamp}
 use Rattle.tup_stamp.specs.Stamp.{stamp}
 use Rattle.tup_rule.specs.Rule.{declares, writes}
@@ -66,10 +68,23 @@ pub record IsKept (next : Next) (language : Language) (known : List Content) (g 
   pub makers : (path : Names) (owned : Owned) (number : ℕ) → finite.get g.owned path ≡ Some owned → owned.maker ≡ Some number
       → (rule : Rule) × IsRuleAt g number rule × (writes rule path ≡ true)
   -- the rules are those that linking gives
-  pub linked : language.Links (finite.entries g.readings) g.rules
+  pub linked : language.linked (finite.entries g.readings) ≡ Some g.rules
   -- what a rule that isn't flagged wrote is written so
   pub written : (number : ℕ) (rule : Rule) (run : RunRecord) → IsUnflagged g number rule → finite.get g.runs number ≡ Some run
       → All (λ (file : Names × Stamp). (owned : Owned) × (finite.get g.owned file.0 ≡ Some owned) × (owned.state ≡ Written file.1)) run.writes
+
+-- the good end of the run of a flagged rule, which keeps a kept graph: no output is named twice; the record is true; what
+-- it asked, own outputs aside, is seen so; owned paths among that are declared; and what it asked is made by no other rule
+-- that is flagged
+pub record EndsWell (next : Next) (known : List Content) (g : GraphState) (number : ℕ) (rule : Rule) (run : RunRecord) : Type 0 where
+  pub here : IsRuleAt g number rule
+  pub flagged : is_flagged g number ≡ true
+  pub once : IsDistinct same_path rule.outputs
+  pub honest : IsTrueRun next known rule run
+  pub seen : (path : Names) (given : Option Stamp) → Asked rule run path given → given ≡ finite.get g.seen path
+  pub declared : (path : Names) (given : Option Stamp) → Asked rule run path given → is_owned g path ≡ true → declares rule path ≡ true
+  pub unflagged : (path : Names) (given : Option Stamp) (other : ℕ) (maker : Rule) → Contains run.asks (path, given) → IsRuleAt g other maker → writes maker path ≡ true
+      → other ≢ number → is_flagged g other ≡ false
 
 -- the graph in the bytes of a store
 pub record IsGraphIn (store : List ℕ) (g : GraphState) : Type 0 where

@@ -1,6 +1,7 @@
 -- True records: what is kept of a run or a reading is what the runner or the language does over known contents. No tree
 -- occurs in it, so no edit and no crash makes it false (own).
-use Rattle.std.specs.Prelude.{◌≡◌, true, ◌≤◌, List, [], ◌∷◌, ◌++◌, length, Option, None, Some, Ok, All, Contains, map}
+use Rattle.std.specs.Prelude.{◌≡◌, ◌⊎◌, true, ◌≤◌, List, [], ◌∷◌, ◌++◌, length, Option, None, Some, Ok, All, Contains, map}
+use Rattle.std.proofs.Common.{inl, inr}
 use Rattle.tup_path.specs.Name.{Names, Content}
 use Rattle.tup_path.specs.Resolve.{resolve}
 use Rattle.tup_stamp.specs.declared.Stamp.{Stamp}
@@ -60,11 +61,17 @@ pub record IsTrueRun (next : Next) (known : List Content) (rule : Rule) (run : R
   pub files : map stamped (judge rule ended).files ≡ run.writes
   pub known_files : All (λ (file : Names × Content). Contains known file.1) (judge rule ended).files
 
--- what the language of Tupfiles means to the store: what the reading of a folder's Tupfile asks, is told, and leaves; and
--- which rules are linked of the readings of a project, in the order of folders
-pub record Language : Type 1 where
-  pub Reads : Names → List (Question × Told) → List Draft → Type 0
-  pub Links : List (Names × Reading) → List Rule → Type 0
+-- what the language of Tupfiles means to the store. The reading of a folder's Tupfile is a process, as a command is: with what
+-- it was told so far it asks one more question, or is over and leaves drafts; None where it has a fault. And the rules that
+-- are linked of the readings of a project, in the order of folders; None where they can't be
+pub record Language : Type 0 where
+  pub next : Names → List (Question × Told) → Option (Question ⊎ List Draft)
+  pub linked : List (Names × Reading) → Option (List Rule)
+
+-- behind what it was told first, a reading asks just the others, in their order
+abbrev pub GoesOnReading : Language → Names → List (Question × Told) → List (Question × Told) → Type 0
+GoesOnReading language dir before [] = Unit {0}
+GoesOnReading language dir before (one ∷ more) = (language.next dir before ≡ Some (inl one.0)) × GoesOnReading language dir (before ++ one ∷ []) more
 
 -- a content that was told is known
 abbrev pub IsToldKnown : List Content → Told → Type 0
@@ -80,4 +87,5 @@ pub record IsTrueReading (language : Language) (known : List Content) (dir : Nam
   pub told_so : List (Question × Told)
   pub recorded : map (λ (one : Question × Told). (one.0, noted one.1)) told_so ≡ reading.asked
   pub contents : All (λ (one : Question × Told). IsToldKnown known one.1) told_so
-  pub reads : language.Reads dir told_so reading.drafts
+  pub just : GoesOnReading language dir [] told_so
+  pub leaves : language.next dir told_so ≡ Some (inr reading.drafts)

@@ -1,6 +1,6 @@
 -- What new readings and new rules do to the graph (own): a rule that is the same keeps its record and its flag, and what
 -- read an output of a new rule is flagged.
-use Rattle.std.specs.Prelude.{◌≡◌, ◌⊎◌, ◌↔◌, ℕ, true, false, List, Option, None, Some, slice_get, count_by, take, unwrap_or, option_map}
+use Rattle.std.specs.Prelude.{◌≡◌, ◌<◌, ◌⊎◌, ◌↔◌, ℕ, true, false, List, Option, None, Some, slice_get, count_by, take, unwrap_or, option_map}
 use Rattle.std.specs.FinMap as finite
 use Rattle.tup_path.specs.Name.{Names}
 use Rattle.tup_path.specs.Order.{same_path, by_names}
@@ -13,13 +13,13 @@ use Rattle.tup_graph.specs.Above.{IsAbove, HasReadOf}
 use Rattle.tup_graph.specs.Graph.{GraphState, is_flagged}
 use Rattle.tup_graph.specs.Kept.{IsRuleAt}
 
--- the same rule stood under another number before
+-- a rule that is the same stood under this number before, and under none that is smaller
 abbrev pub WasAt : GraphState → Rule → ℕ → Type 0
-WasAt old rule before = IsRuleAt old before rule
+WasAt old rule before = IsRuleAt old before rule × ((earlier : ℕ) → earlier < before → IsRuleAt old earlier rule → ⊥)
 
 -- a rule is new
 abbrev pub IsNew : GraphState → Rule → Type 0
-IsNew old rule = (before : ℕ) → WasAt old rule before → ⊥
+IsNew old rule = (before : ℕ) → IsRuleAt old before rule → ⊥
 
 -- the readings of folders: the fresh ones, and the others that weren't lost
 abbrev pub reading_now : GraphState → List (Names × Reading) → List Names → Names → Option Reading

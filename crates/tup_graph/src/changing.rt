@@ -19,7 +19,8 @@ use tup_table::{Change, Entries};
 /// and none that changes nothing. `Full` where a record has no spelling, since a list or a text in it is too long.
 pub fn changes(alloc: Global, entries: &Entries, edits: &Edits) -> Result<Vec<Change>, GraphFault>
     ensures { MatchResult result
-        (λ changes. (changes.items ≡ needed entries.now (map change_of_edit edits.now)) × All HasSpelling edits.now)
+        (λ changes. (changes.items ≡ needed entries.now (map change_of_edit edits.now))
+        × All HasSpelling edits.now)
         (λ fault. (fault ≡ GraphFault.Memory)
         ⊎ ((fault ≡ GraphFault.Full) × (¬ All HasSpelling edits.now))) }
 {
@@ -51,7 +52,8 @@ fn last_changes(alloc: Global, edits: &Edits) -> Result<BTreeMap<Bytes, Change>,
 /// The change that an edit is, with its key.
 fn keyed(alloc: Global, edit: &Edit) -> Result<(Bytes, Change), GraphFault>
     ensures { MatchResult result
-        (λ found. (found.0 ≡ key_of found.1) × (found.1 ≡ change_of_edit edit.now) × HasSpelling edit.now)
+        (λ found. (found.0 ≡ key_of found.1) × (found.1 ≡ change_of_edit edit.now)
+        × HasSpelling edit.now)
         (λ fault. (fault ≡ GraphFault.Memory)
         ⊎ ((fault ≡ GraphFault.Full) × (¬ HasSpelling edit.now))) }
 {

@@ -27,7 +27,8 @@ impl Nodes {
 
     /// Outputs of a rule are written with their stamps.
     fn push_written(&self, edits: &mut Edits, rule: u32, writes: &Writes) -> Result<(), GraphFault>
-        ensures ok { OnOk result (edits.new ≡ edits.old ++ map (written_of self.now rule) writes.now) }
+        ensures ok { OnOk result (edits.new
+            ≡ edits.old ++ map (written_of self.now rule) writes.now) }
         ensures err { IfErr result (λ fault. fault ≡ GraphFault.Memory) }
     {
         for (path, stamp) in writes.as_slice() {

@@ -24,7 +24,8 @@ impl Nodes {
 
     /// Paths are owned no longer.
     fn push_disowned(&self, edits: &mut Edits, paths: &[Path]) -> Result<(), GraphFault>
-        ensures ok { OnOk result (edits.new ≡ edits.old ++ filter_map (disowned_of self.now) paths.now) }
+        ensures ok { OnOk result (edits.new
+            ≡ edits.old ++ filter_map (disowned_of self.now) paths.now) }
         ensures err { IfErr result (λ fault. fault ≡ GraphFault.Memory) }
     {
         for path in paths {
@@ -37,7 +38,8 @@ impl Nodes {
 
     /// Paths are seen no longer.
     fn push_unseen(&self, edits: &mut Edits, paths: &[Path]) -> Result<(), GraphFault>
-        ensures ok { OnOk result (edits.new ≡ edits.old ++ filter_map (unseen_of self.now) paths.now) }
+        ensures ok { OnOk result (edits.new
+            ≡ edits.old ++ filter_map (unseen_of self.now) paths.now) }
         ensures err { IfErr result (λ fault. fault ≡ GraphFault.Memory) }
     {
         for path in paths {

@@ -26,7 +26,10 @@ pub use by_path::ByPath;
 pub use changing::changes;
 pub use edit::{Edit, Edits};
 pub use fault::GraphFault;
-pub use laws::{edits_are_read, needed_changes_are_enough, transactions_leave};
+pub use laws::{
+    edits_are_read, needed_changes_are_enough, reads_one_way, stays_kept, transactions_are_read,
+    transactions_leave,
+};
 pub use nodes::Nodes;
 pub use opening::read_graph;
 pub use owned::Owned;

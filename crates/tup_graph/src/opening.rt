@@ -31,7 +31,8 @@ impl Nodes {
     /// Takes the record of an entry in, if it is one that fits. After a refusal the graph is of no use.
     fn take(&mut self, alloc: Global, key: &Bytes, entry: &Entry) -> Result<(), GraphFault>
         ensures { MatchResult result
-            (λ _. (r : RecordValue) × Takes self.old (key.now, entry.now) r × (self.new ≡ put_of self.old r))
+            (λ _. (r : RecordValue) × Takes self.old (key.now, entry.now) r × (self.new
+            ≡ put_of self.old r))
             (λ fault. (fault ≡ GraphFault.Memory)
             ⊎ ((fault ≡ GraphFault.BadStore entry.now.origin)
             × ((r : RecordValue) → Takes self.old (key.now, entry.now) r → ⊥))) }

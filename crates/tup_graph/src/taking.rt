@@ -34,7 +34,8 @@ impl Nodes {
 
     /// Whether a rule with this place comes behind the last one.
     fn is_behind(&self, rule: &Rule, place: u32) -> bool
-        ensures { result ≡ comes_behind (last_of self.now.rules) (last_of self.now.places) rule.now place }
+        ensures { result
+            ≡ comes_behind (last_of self.now.rules) (last_of self.now.places) rule.now place }
     {
         let Some(last) = self.rules.as_slice().last() else {
             return true;

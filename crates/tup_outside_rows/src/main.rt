@@ -8,10 +8,10 @@ mod session;
 
 use session::Session;
 use std::io;
-use tup_rows::try_file;
+use tup_rows::try_file_by;
 
 fn main(rt: HostRuntime) -> io::Result<()> {
     let alloc = rt.alloc();
-    let mut session = Session::new(rt, alloc, ".")?;
-    try_file(&rt, alloc, "fs.rows", &mut session)
+    let session = Session::new(rt, alloc, ".")?;
+    try_file_by(&rt, alloc, "fs.rows", session)
 }

@@ -6,3 +6,8 @@ pub mod Went
 pub mod Conditions
 pub mod Ends
 pub mod Steps
+pub mod Texts
+pub mod Pieces
+pub mod Folders
+pub mod Outputs
+pub mod Inputs

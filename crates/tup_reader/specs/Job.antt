@@ -2,7 +2,6 @@
 use Rattle.std.specs.Prelude.{ℕ, Bool, not, if◌then◌else◌, List, [], ◌∷◌, ◌++◌, map, fold, false, Option, Some, None, bytes_eq}
 use Rattle.std.specs.List.{list_any}
 use Rattle.tup_path.specs.Name.{Names}
-use Rattle.tup_lex.specs.Word.{is_group}
 use Rattle.tup_lex.specs.declared.kind.ParseKind.TheVariants.{BadCaret}
 use Rattle.tup_rule.specs.declared.draft.Draft.{Draft}
 use Rattle.tup_rule.specs.declared.draft.Piece.{Piece}
@@ -21,6 +20,7 @@ use Rattle.tup_reader.specs.declared.state.State.{State}
 use Rattle.tup_reader.specs.declared.words.Words.{Words}
 use Rattle.tup_reader.specs.Reads.{Reads, gives, and_then}
 use Rattle.tup_reader.specs.Spot.{Spot, refused}
+use Rattle.tup_reader.specs.Folder.{is_group}
 use Rattle.tup_reader.specs.Found.{paths_of}
 use Rattle.tup_reader.specs.Flagged.{flagged}
 use Rattle.tup_reader.specs.Output.{from_outputs}
@@ -41,7 +41,7 @@ whole_job inputs = record { inputs = paths_of inputs; glob = only_glob inputs }
 
 -- whether words are there, none of them a group, and they give no file: then no command is made
 abbrev pub gives_nothing : List (List ℕ) → List Input → Bool
-gives_nothing (word ∷ words) [] = not (list_any (λ word. is_group (0, word)) (word ∷ words))
+gives_nothing (word ∷ words) [] = not (list_any is_group (word ∷ words))
 gives_nothing _ _ = false
 
 -- the commands of a rule: one for each input, or one for all

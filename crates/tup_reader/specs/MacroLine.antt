@@ -2,7 +2,6 @@
 use Rattle.std.specs.Prelude.{ℕ, ◌&&◌, ◌||◌, Bool, true, false, not, if◌then◌else◌, List, [], ◌∷◌, ◌++◌, length, ◌==◌, is_some, is_none}
 use Rattle.std.specs.List.{list_any}
 use Rattle.tup_lex.specs.Blank.{trim}
-use Rattle.tup_lex.specs.Word.{is_gift}
 use Rattle.tup_lex.specs.declared.kind.ParseKind.TheVariants.{BadName, BadBrace, DefinedTwice}
 use Rattle.tup_vars.specs.Name.{is_name}
 use Rattle.tup_macro.specs.Macros.{macro_of}
@@ -13,12 +12,17 @@ use Rattle.tup_reader.specs.declared.words.Words.{Words}
 use Rattle.tup_reader.specs.Reads.{Reads, gives, and_then}
 use Rattle.tup_reader.specs.Spot.{Spot, refused}
 use Rattle.tup_reader.specs.Text.{expanded}
+use Rattle.tup_reader.specs.Folder.{bin_name, is_group}
 use Rattle.tup_reader.specs.Words.{cut}
+
+-- whether a word is a bin or a group
+abbrev pub is_gift : List ℕ → Bool
+is_gift word = is_some (bin_name word) || is_group word
 
 -- whether words are those of a macro: order-only inputs that are files, and outputs that go nowhere else
 abbrev pub is_body : Words → Bool
 is_body words =
-    not words.foreach && length words.inputs == 0 && not (list_any (λ word. is_gift (0, word)) words.order)
+    not words.foreach && length words.inputs == 0 && not (list_any is_gift words.order)
     && is_none words.group && is_none words.bin
 
 -- what a macro says

@@ -11,7 +11,7 @@ use Rattle.tup_reader.specs.declared.fault.ParseFault.{ParseFault}
 use Rattle.tup_reader.specs.Reads.{Reads, gives, and_then}
 use Rattle.tup_reader.specs.Ask.{kind_at}
 use Rattle.tup_reader.specs.Spot.{Spot, refused}
-use Rattle.tup_reader.specs.State.{made_by}
+use Rattle.tup_reader.specs.State.{is_made}
 use Rattle.tup_reader.specs.Flagged.{flagged_text}
 use Rattle.tup_reader.specs.Folder.{led, name_in}
 
@@ -27,7 +27,7 @@ may_make dir path = elim (name_in dir path) [ Some name ↦ not (is_reserved dir
 -- an output by what stands at its path: no output before it, no source and no folder
 abbrev pub new_output : Spot → List Draft → List Names → Names → Kind → Reads ParseFault Names
 new_output at drafts outputs path kind =
-    if among path (made_by drafts) || among path outputs then refused at DuplicateOutput
+    if is_made drafts path || among path outputs then refused at DuplicateOutput
     else elim kind [ File ↦ refused at OutputIsSource | Dir ↦ refused at OutputIsDir | Nothing ↦ gives path ]
 
 -- a path as an output, behind those before it in its rule and those of earlier rules

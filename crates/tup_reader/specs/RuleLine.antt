@@ -1,6 +1,5 @@
 -- A rule line, from the manual; the order of refusals is own.
 use Rattle.std.specs.Prelude.{ℕ, List, ◌++◌, Option, Some, None}
-use Rattle.tup_lex.specs.Word.{last_name}
 use Rattle.tup_lex.specs.declared.kind.ParseKind.TheVariants.{ForeignOutput}
 use Rattle.tup_rule.specs.declared.draft.GroupRef.{GroupRef}
 use Rattle.tup_reader.specs.declared.fault.ParseFault.{ParseFault}
@@ -20,7 +19,7 @@ use Rattle.tup_reader.specs.Job.{jobs_of, with_jobs}
 -- the group to which a rule gives its outputs
 unfoldable pub given_to : Spot → Option (List ℕ) → Reads ParseFault (Option GroupRef)
 given_to at None = gives None
-given_to at (Some word) = and_then (led_to_folder at ForeignOutput word) (λ dir. gives (Some (group_in dir (last_name word))))
+given_to at (Some word) = and_then (led_to_folder at ForeignOutput word) (λ dir. gives (Some (group_in dir word)))
 
 -- what all commands of a rule share
 abbrev pub sources_of : Found → Found → Option GroupRef → Sources

@@ -1,7 +1,8 @@
 -- What the lines of a Tupfile before a line have set (own).
-use Rattle.std.specs.Prelude.{List, []}
-use Rattle.std.specs.List.{flat_map}
+use Rattle.std.specs.Prelude.{Bool, List, []}
+use Rattle.std.specs.List.{flat_map, list_any}
 use Rattle.tup_path.specs.Name.{Names}
+use Rattle.tup_rule.specs.Rule.{among}
 use Rattle.tup_rule.specs.declared.draft.Draft.{Draft}
 use Rattle.tup_reader.specs.declared.state.State.{State}
 
@@ -13,6 +14,6 @@ fresh = record { variables = []; macros = []; bins = []; drafts = [] }
 abbrev pub made_by : List Draft → List Names
 made_by drafts = flat_map (λ (draft : Draft). draft.outputs) drafts
 
--- the outputs of the rules so far
-abbrev pub made : State → List Names
-made state = made_by state.drafts
+-- whether a path is an output of one of these rules
+abbrev pub is_made : List Draft → Names → Bool
+is_made drafts path = list_any (λ (draft : Draft). among path draft.outputs) drafts

@@ -8,10 +8,52 @@ use crate::env::Env;
 use crate::fault::ReadEnd;
 use crate::last::before_last;
 use crate::spot::Spot;
+use crate::text::expanded;
 use std::alloc::Global;
 use tup_lex::ParseKind;
 use tup_path::Text;
-use tup_vars::is_name;
+use tup_vars::{Vars, is_name};
+
+/// Whether the two sides of `(LEFT,RIGHT)` stand for the same, or for different texts where that is wanted.
+pub(crate) fn compares<E: Env>(
+    alloc: Global,
+    env: &mut E,
+    log: &mut Log,
+    at: &Spot,
+    variables: &Vars,
+    alike: bool,
+    text: &str,
+) -> Result<bool, ReadEnd>
+    requires { E.stopped env.old ≡ false }
+    ensures { Went E.tells (asker (E.answers env.old) (E.stopped env.old) log.old)
+        (specs.compares at.now variables.now alike text.now)
+        (asker (E.answers env.new) (E.stopped env.new) log.new) result }
+{
+    match sides(text) {
+        Some((left, right)) => compared(alloc, env, log, at, variables, alike, left, right),
+        None => Err(at.refuse(ParseKind::Unclosed)),
+    }
+}
+
+fn compared<E: Env>(
+    alloc: Global,
+    env: &mut E,
+    log: &mut Log,
+    at: &Spot,
+    variables: &Vars,
+    alike: bool,
+    left: &str,
+    right: &str,
+) -> Result<bool, ReadEnd>
+    requires { E.stopped env.old ≡ false }
+    ensures { Went E.tells (asker (E.answers env.old) (E.stopped env.old) log.old)
+        (specs.compared at.now variables.now alike left.now right.now)
+        (asker (E.answers env.new) (E.stopped env.new) log.new) result }
+{
+    let one = expanded(alloc, env, log, at, variables, left)?;
+    let other = expanded(alloc, env, log, at, variables, right)?;
+    Ok(agrees(alike, one == other))
+}
 
 /// Whether tup.config sets a name, or doesn't where that is wanted.
 pub(crate) fn looked_up<E: Env>(

@@ -1,18 +1,43 @@
 //! Assignments.
-ghost use Rattle.std.specs.Prelude.{◌≡◌, ◌⊎◌, Ok, Err, MatchResult};
-ghost use Rattle.tup_vars.specs.declared.fault.VarFault.{VarFault as VarFaultValue};
+ghost use Rattle.std.specs.Prelude.{◌≡◌, ◌⊎◌, false, Ok, Err, MatchResult};
 ghost use Rattle.tup_reader.specs.Setting as specs;
-ghost use Rattle.tup_reader.specs.Went.{Gives};
+ghost use Rattle.tup_reader.specs.Went.{Went, asker, Gives};
 
+use crate::ask::Log;
+use crate::env::Env;
 use crate::fault::ReadEnd;
 use crate::last::before_last;
 use crate::spot::Spot;
 use crate::state::State;
-use crate::text::var_end;
+use crate::text::{expanded, var_end};
 use std::alloc::Global;
-use tup_lex::trimmed;
+use tup_lex::{ParseKind, trimmed};
 use tup_path::Text;
-use tup_vars::{VarFault, Vars};
+use tup_vars::{VarFault, Vars, is_free};
+
+/// An assignment, by what stands before its `=` and behind it.
+pub(crate) fn assigned<E: Env>(
+    alloc: Global,
+    env: &mut E,
+    log: &mut Log,
+    at: &Spot,
+    state: State,
+    left: &str,
+    right: &str,
+) -> Result<State, ReadEnd>
+    requires { E.stopped env.old ≡ false }
+    ensures { Went E.tells (asker (E.answers env.old) (E.stopped env.old) log.old)
+        (specs.assigned at.now state left.now right.now)
+        (asker (E.answers env.new) (E.stopped env.new) log.new) result }
+{
+    let name = set_name(left);
+    if !is_free(name) {
+        return Err(at.refuse(ParseKind::BadName));
+    }
+    let name = Text::from_str(alloc, name)?;
+    let value = expanded(alloc, env, log, at, &state.variables, trimmed(right))?;
+    with_value(alloc, at, state, &name, goes_on(left), value)
+}
 
 /// The name before an `=`.
 fn set_name(left: &str) -> &str

@@ -1,13 +1,46 @@
-//! What refusals of variables are called.
-ghost use Rattle.std.specs.Prelude.{◌≡◌};
+//! What a text stands for where it stands.
+ghost use Rattle.std.specs.Prelude.{◌≡◌, false};
 ghost use Rattle.tup_reader.specs.Text as specs;
-ghost use Rattle.tup_reader.specs.Went.{IsRefusal};
+ghost use Rattle.tup_reader.specs.Went.{Went, asker, IsRefusal};
 ghost use Rattle.tup_reader.specs.declared.fault.ReadEnd.TheVariants.{Memory};
 
+use crate::ask::Log;
+use crate::env::Env;
 use crate::fault::ReadEnd;
+use crate::settings::{Settings, settings_of};
 use crate::spot::Spot;
+use std::alloc::Global;
 use tup_lex::ParseKind;
-use tup_vars::VarFault;
+use tup_path::Text;
+use tup_vars::{VarFault, Vars, setting_names};
+
+/// A text with what its names stand for, given the variables. Settings are asked in order first.
+pub(crate) fn expanded<E: Env>(
+    alloc: Global,
+    env: &mut E,
+    log: &mut Log,
+    at: &Spot,
+    variables: &Vars,
+    text: &str,
+) -> Result<Text, ReadEnd>
+    requires { E.stopped env.old ≡ false }
+    ensures { Went E.tells (asker (E.answers env.old) (E.stopped env.old) log.old)
+        (specs.expanded at.now variables.now text.now)
+        (asker (E.answers env.new) (E.stopped env.new) log.new) result }
+{
+    let text = Text::from_str(alloc, text)?;
+    let cwd = at.cwd(alloc)?;
+    let names = setting_names(alloc, &text)?;
+    let values = settings_of(alloc, env, log, names.as_slice())?;
+    let mut settings = Settings {
+        values,
+        stopped: false,
+    };
+    match variables.expand(alloc, &text, &cwd, &mut settings) {
+        Ok(text) => Ok(text),
+        Err(fault) => Err(var_end(at, fault)),
+    }
+}
 
 /// The end with a refusal of variables or conditionals.
 pub(crate) fn var_end(at: &Spot, fault: VarFault) -> ReadEnd

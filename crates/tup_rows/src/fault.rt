@@ -14,6 +14,9 @@ pub enum RowFault {
     /// The call has more arguments than the row.
     #[error("too few arguments")]
     TooFew,
+    /// The row has an argument that the call doesn't ask for.
+    #[error("too many arguments")]
+    TooMany,
     /// An argument isn't of the kind that the call takes.
     #[error("an argument of another kind")]
     OtherKind,

@@ -13,28 +13,68 @@ pub fn report<A: Answers>(
     file: &str,
     answers: &mut A,
 ) -> Result<String, RowFault> {
-    let mut lines = String::new(alloc);
-    let mut rows: u64 = 0;
-    let mut differ: u64 = 0;
-    let mut number: u64 = 0;
+    let mut lines = Lines::new(alloc);
     for line in file.lines() {
-        number = number.saturating_add(1);
-        let complaint = match tried(alloc, line, answers)? {
-            Outcome::NoRow => continue,
-            Outcome::Same => None,
-            Outcome::Differs(complaint) => Some(complaint),
-        };
-        rows = rows.saturating_add(1);
-        if let Some(complaint) = complaint {
-            differ = differ.saturating_add(1);
-            lines.push_str(format!(in alloc; "{name}:{number}: {complaint}\n")?.as_str())?;
+        lines.take(alloc, name, tried(alloc, line, answers)?)?;
+    }
+    lines.ended(alloc, name)
+}
+
+/// What is to be printed, and what was counted.
+#[derive(Drop)]
+struct Lines {
+    text: String,
+    /// The number of the last line.
+    number: u64,
+    rows: u64,
+    differ: u64,
+}
+
+impl Lines {
+    fn new(alloc: Global) -> Lines {
+        Lines {
+            text: String::new(alloc),
+            number: 0,
+            rows: 0,
+            differ: 0,
         }
     }
-    lines.push_str(format!(in alloc; "{name}: {rows} rows, {differ} differ\n")?.as_str())?;
-    Ok(lines)
+
+    /// Takes in what came of the next line.
+    fn take(&mut self, alloc: Global, name: &str, outcome: Outcome) -> Result<(), RowFault> {
+        self.number = self.number.saturating_add(1);
+        match outcome {
+            Outcome::NoRow => Ok(()),
+            Outcome::Same => {
+                self.rows = self.rows.saturating_add(1);
+                Ok(())
+            }
+            Outcome::Differs(complaint) => self.complain(alloc, name, &complaint),
+        }
+    }
+
+    fn complain(&mut self, alloc: Global, name: &str, complaint: &str) -> Result<(), RowFault> {
+        self.rows = self.rows.saturating_add(1);
+        self.differ = self.differ.saturating_add(1);
+        let number = self.number;
+        self.add(format!(in alloc; "{name}:{number}: {complaint}\n")?)
+    }
+
+    /// All lines, with the counts behind them.
+    fn ended(mut self, alloc: Global, name: &str) -> Result<String, RowFault> {
+        let (rows, differ) = (self.rows, self.differ);
+        self.add(format!(in alloc; "{name}: {rows} rows, {differ} differ\n")?)?;
+        Ok(self.text)
+    }
+
+    fn add(&mut self, line: String) -> Result<(), RowFault> {
+        self.text.push_str(&line)?;
+        Ok(())
+    }
 }
 
 /// What came of a line.
+#[derive(Drop)]
 enum Outcome {
     NoRow,
     Same,
@@ -46,11 +86,15 @@ enum Outcome {
 fn tried<A: Answers>(alloc: Global, line: &str, answers: &mut A) -> Result<Outcome, RowFault> {
     match Row::read(alloc, line) {
         Ok(None) => Ok(Outcome::NoRow),
-        Ok(Some(row)) => match answers.answer(alloc, row.call.as_str(), &row.arguments) {
-            Ok(found) if found == row.wanted => Ok(Outcome::Same),
-            Ok(found) => Ok(Outcome::Differs(difference(alloc, &row, &found)?)),
-            Err(fault) => complaint(alloc, fault),
-        },
+        Ok(Some(row)) => answered(alloc, &row, answers),
+        Err(fault) => complaint(alloc, fault),
+    }
+}
+
+/// Answers a row.
+fn answered<A: Answers>(alloc: Global, row: &Row, answers: &mut A) -> Result<Outcome, RowFault> {
+    match answers.answer(alloc, row.call.as_str(), &row.arguments) {
+        Ok(found) => compared(alloc, row, &found),
         Err(fault) => complaint(alloc, fault),
     }
 }
@@ -63,11 +107,32 @@ fn complaint(alloc: Global, fault: RowFault) -> Result<Outcome, RowFault> {
     }
 }
 
+/// Whether a row wants what was found.
+fn compared(alloc: Global, row: &Row, found: &Words) -> Result<Outcome, RowFault> {
+    match fault(row, found) {
+        Some(fault) => complaint(alloc, fault),
+        None if row.wanted.same(found) => Ok(Outcome::Same),
+        None => Ok(Outcome::Differs(difference(alloc, row, found)?)),
+    }
+}
+
+/// What was noted of the row's words, or else of the answer's, or else that an argument is too many.
+fn fault(row: &Row, found: &Words) -> Option<RowFault> {
+    let noted = row
+        .arguments
+        .fault()
+        .or(row.wanted.fault())
+        .or(found.fault());
+    if noted.is_none() && !row.arguments.are_taken() {
+        return Some(RowFault::TooMany);
+    }
+    noted
+}
+
 /// What a row wants and what was found, as words of a row.
 fn difference(alloc: Global, row: &Row, found: &Words) -> Result<String, RowFault> {
-    let mut text = String::new(alloc);
-    text.push_str(row.call.as_str())?;
-    text.push_str(" wants")?;
+    let call = row.call.as_str();
+    let mut text = format!(in alloc; "{call} wants")?;
     show(&mut text, alloc, &row.wanted)?;
     text.push_str(", found")?;
     show(&mut text, alloc, found)?;
@@ -76,24 +141,34 @@ fn difference(alloc: Global, row: &Row, found: &Words) -> Result<String, RowFaul
 
 fn show(text: &mut String, alloc: Global, words: &Words) -> Result<(), RowFault> {
     for word in words.as_slice() {
-        text.push_str(" \"")?;
-        for byte in word {
-            show_byte(text, alloc, *byte)?;
-        }
-        text.push('"')?;
+        show_word(text, alloc, word)?;
     }
+    Ok(())
+}
+
+/// A word in quotes, with a blank before it.
+fn show_word(text: &mut String, alloc: Global, word: &[u8]) -> Result<(), RowFault> {
+    text.push_str(" \"")?;
+    for byte in word {
+        show_byte(text, alloc, *byte)?;
+    }
+    text.push('"')?;
     Ok(())
 }
 
 /// A byte as it stands in quotes.
 fn show_byte(text: &mut String, alloc: Global, byte: u8) -> Result<(), RowFault> {
     match byte {
-        b'\n' => text.push_str("\\n")?,
-        b'\t' => text.push_str("\\t")?,
-        b'"' => text.push_str("\\\"")?,
-        b'\\' => text.push_str("\\\\")?,
-        0x20..=0x7e => text.push(char::from(byte))?,
-        _ => text.push_str(format!(in alloc; "\\x{byte:02x}")?.as_str())?,
+        b'\n' => show_str(text, "\\n"),
+        b'\t' => show_str(text, "\\t"),
+        b'"' => show_str(text, "\\\""),
+        b'\\' => show_str(text, "\\\\"),
+        0x20..=0x7e => show_str(text, char::from(byte).encode_utf8(&mut [0; 4])),
+        _ => show_str(text, format!(in alloc; "\\x{byte:02x}")?.as_str()),
     }
+}
+
+fn show_str(text: &mut String, shown: &str) -> Result<(), RowFault> {
+    text.push_str(shown)?;
     Ok(())
 }

@@ -1,15 +1,22 @@
 //! One row.
 use crate::fault::RowFault;
-use crate::token::tokens;
+use crate::token::{Token, tokens};
 use crate::words::Words;
 use std::alloc::Global;
 
 /// One row: a call with its arguments, and the answer that is wanted.
-#[derive(Debug, Drop)]
+#[derive(Drop)]
 pub struct Row {
     pub call: String,
     pub arguments: Words,
     pub wanted: Words,
+}
+
+/// The part of a row to which its next word belongs.
+enum Part {
+    Call,
+    Arguments,
+    Wanted,
 }
 
 impl Row {
@@ -19,29 +26,54 @@ impl Row {
         if line.is_empty() || line.starts_with('#') {
             return Ok(None);
         }
-        let mut call = None;
-        let mut arguments = Words::new(alloc);
-        let mut wanted = Words::new(alloc);
-        let mut divided = false;
-        for token in tokens(alloc, line.as_bytes())? {
-            if divided {
-                wanted.push(token.word)?;
-            } else if token.divides() {
-                divided = true;
-            } else if call.is_none() {
-                call = Some(text(alloc, &token.word)?);
-            } else {
-                arguments.push(token.word)?;
+        let mut row = Row::new(alloc);
+        row.fill(alloc, tokens(alloc, line.as_bytes())?)?;
+        Ok(Some(row))
+    }
+
+    fn new(alloc: Global) -> Row {
+        Row {
+            call: String::new(alloc),
+            arguments: Words::new(alloc),
+            wanted: Words::new(alloc),
+        }
+    }
+
+    /// Takes in the words of a line.
+    fn fill(&mut self, alloc: Global, tokens: Vec<Token>) -> Result<(), RowFault> {
+        let mut part = Part::Call;
+        for token in tokens {
+            part = self.take(alloc, part, token)?;
+        }
+        match part {
+            Part::Wanted => Ok(()),
+            Part::Call | Part::Arguments => Err(RowFault::Unreadable),
+        }
+    }
+
+    /// Takes in one word, and tells the part of the one behind it.
+    fn take(&mut self, alloc: Global, part: Part, token: Token) -> Result<Part, RowFault> {
+        match part {
+            Part::Call => self.name(alloc, token),
+            Part::Arguments if token.divides() => Ok(Part::Wanted),
+            Part::Arguments => {
+                self.arguments.push(token.word);
+                Ok(Part::Arguments)
+            }
+            Part::Wanted => {
+                self.wanted.push(token.word);
+                Ok(Part::Wanted)
             }
         }
-        match call {
-            Some(call) if divided => Ok(Some(Row {
-                call,
-                arguments,
-                wanted,
-            })),
-            _ => Err(RowFault::Unreadable),
+    }
+
+    /// Takes in the first word, the call's name.
+    fn name(&mut self, alloc: Global, token: Token) -> Result<Part, RowFault> {
+        if token.divides() {
+            return Err(RowFault::Unreadable);
         }
+        self.call = text(alloc, &token.word)?;
+        Ok(Part::Arguments)
     }
 }
 

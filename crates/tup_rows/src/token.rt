@@ -3,7 +3,7 @@ use crate::fault::RowFault;
 use std::alloc::Global;
 
 /// A word of a line, and whether it stood in quotes.
-#[derive(Debug, Drop)]
+#[derive(Drop)]
 pub(crate) struct Token {
     pub(crate) word: Vec<u8>,
     pub(crate) quoted: bool,

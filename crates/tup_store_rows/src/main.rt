@@ -1,27 +1,35 @@
-//! The rows of the store: fields, records, lists of owned paths, and stores.
+//! The rows of the store: fields, records, lists of owned paths, stores, tables over a site, and graphs.
 //!
 //! Each file of `data/` has rows, a call with the answer that is wanted each. The head of a file says what its calls
 //! and their arguments mean.
 #![tactic(auto)]
 
+mod changes;
 mod field;
+mod graph;
 mod owned;
 mod record;
 mod say;
+mod sites;
 mod table;
+mod transaction;
 mod values;
 
 use field::Fields;
+use graph::Graphs;
 use owned::OwnedLists;
 use record::Records;
+use sites::Sites;
 use std::io;
 use table::Tables;
-use tup_rows::try_file;
+use tup_rows::{try_file, try_file_by};
 
 fn main(rt: HostRuntime) -> io::Result<()> {
     let alloc = rt.alloc();
     try_file(&rt, alloc, "field.rows", &mut Fields)?;
     try_file(&rt, alloc, "record.rows", &mut Records)?;
     try_file(&rt, alloc, "owned.rows", &mut OwnedLists)?;
-    try_file(&rt, alloc, "table.rows", &mut Tables)
+    try_file(&rt, alloc, "table.rows", &mut Tables)?;
+    try_file_by(&rt, alloc, "site.rows", Sites::new(alloc))?;
+    try_file(&rt, alloc, "graph.rows", &mut Graphs)
 }

@@ -1,18 +1,16 @@
 -- How the end of a store is closed, and what a crash leaves of it.
-use Rattle.std.proofs.Common.{◌≡◌, ◌≢◌, ◌⊎◌, ℕ, ◌+◌, ◌≤◌, ◌==◌, Bool, true, false, cond, List, [], ◌∷◌, ◌++◌, length, take, drop, Result, Ok, Err, refl, sym, ap, subst, ◌∙◌, length-append, take-append-drop, length-take-le, arith, tests, inl, inr, ⊎_elim}
+use Rattle.std.proofs.Common.{◌≡◌, ◌≢◌, ◌⊎◌, ℕ, ◌≤◌, ◌==◌, List, [], ◌∷◌, ◌++◌, length, take, drop, Ok, Err, refl, sym, ap, subst, ◌∙◌, take-append-drop, length-take-le, arith, tests, inl, inr}
 use Rattle.std.specs.Prelude.{if◌then◌else◌}
-use Rattle.std.proofs.lemmas.Bool.{cases_eq}
 use Rattle.std.proofs.lemmas.List.{take_at, drop_at}
 use Rattle.tup_site.specs.Crash.{GoesOn, NoStep, WriteStep, PinsStore}
 use Rattle.tup_site.specs.Store.{Holds, IsTorn}
 use Rattle.tup_site.specs.World.{World}
 use Rattle.tup_table.specs.Entries.{entries_of}
-use Rattle.tup_table.specs.Images.{Leaves, OpenStep, EndStep, LacksGate, closed_end}
+use Rattle.tup_table.specs.Images.{OpenStep, EndStep, LacksGate, closed_end}
 use Rattle.tup_table.specs.Reading.{opened_of, ReadsAs}
 use Rattle.tup_table.specs.Store.{header, blocks, IsStore, IsEnd}
 use Rattle.tup_table.specs.Table.{IsAtRest}
 use Rattle.tup_table.specs.declared.change.Change.{Change}
-use Rattle.tup_table.specs.declared.fault.TableFault.{TableFault}
 use Rattle.tup_table.specs.declared.fault.TableFault.TheVariants.{Memory}
 use Rattle.tup_table.specs.declared.opened.Opened.{Opened}
 use Rattle.tup_table.proofs.Going.{IsEarlier, as_step, nothing_then}
@@ -72,12 +70,6 @@ module _ (commits : List (List Change)) (bytes : List ℕ) (store : IsStore byte
 
   rest_is : drop gate bytes ≡ store.0
   rest_is = ap (drop gate) store.1.whole ∙ drop_at (header ++ blocks commits) store.0 gate (sym is)
-
-  pub gate_there : gate ≤ length bytes
-  gate_there = omega (arith, is, ap length store.1.whole, length-append (header ++ blocks commits) store.0)
-
-  pub end_there : IsEnd (drop gate bytes)
-  end_there = subst IsEnd (sym rest_is) store.2
 
   pub open_step : (v w : World) → v.store ≡ bytes → EndStep gate bytes v w → OpenStep v w
   open_step v w was step = record {

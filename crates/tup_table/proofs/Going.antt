@@ -1,15 +1,12 @@
 -- How calls of a site go on, one behind another.
-use Rattle.std.proofs.Common.{◌≡◌, ℕ, ◌≤◌, ◌⊎◌, inl, inr, ⊎_elim, sym, ◌∙◌, arith}
+use Rattle.std.proofs.Common.{ℕ, ◌≤◌, inl, inr, ⊎_elim, sym, ◌∙◌, arith}
 use Rattle.tup_site.specs.World.{World, StoreStays}
-use Rattle.tup_site.specs.Crash.{GoesOn, Follows, NoStep, PinsStore}
+use Rattle.tup_site.specs.Crash.{GoesOn, NoStep, PinsStore}
 
 module _ {S : Type 0} (moment : S → ℕ) (left_since : S → ℕ → World → Type 0) where
   -- what a crash since a moment may leave, one since an earlier moment may leave
   abbrev pub IsEarlier : S → Type 0
   IsEarlier site = (t u : ℕ) (w : World) → t ≤ u → left_since site u w → left_since site t w
-
-  pub no_call : (site : S) (step : World → World → Type 0) → GoesOn moment left_since site site step
-  no_call site step = record { later = omega arith; kept = λ t w le left. left; since = λ t w le left. inl left }
 
   -- another step, where each that was made is one of it
   pub as_step : (old new : S) (step other : World → World → Type 0) → ((v w : World) → left_since old (moment old) v → step v w → other v w) → GoesOn moment left_since old new step → GoesOn moment left_since old new other
@@ -17,17 +14,6 @@ module _ {S : Type 0} (moment : S → ℕ) (left_since : S → ℕ → World →
     later = on.later;
     kept = on.kept;
     since = λ t w le left. ⊎_elim inl (λ from. inr (from.0, from.1, is from.0 w from.1 from.2)) (on.since t w le left);
-  }
-
-  pub as_any : (old new : S) (step : World → World → Type 0) → GoesOn moment left_since old new NoStep → GoesOn moment left_since old new step
-  as_any old new step = as_step old new NoStep step (λ v w left none. absurd none)
-
-  -- a call that adds nothing comes last
-  pub then_nothing : (old mid new : S) (step : World → World → Type 0) → GoesOn moment left_since old mid step → GoesOn moment left_since mid new NoStep → GoesOn moment left_since old new step
-  then_nothing old mid new step first last = record {
-    later = omega (arith, first.later, last.later);
-    kept = λ t w le left. last.kept t w (omega (arith, le, first.later)) (first.kept t w le left);
-    since = λ t w le left. ⊎_elim (first.since t w le) (λ from. absurd from.2) (last.since t w (omega (arith, le, first.later)) left);
   }
 
   -- two calls, whose steps together are one

@@ -6,7 +6,6 @@ pub mod Keys
 pub mod Kept
 pub mod Torn
 pub mod Going
-pub mod Refused
 pub mod Rested
 pub mod Ends
 pub mod Stands

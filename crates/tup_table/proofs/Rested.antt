@@ -1,5 +1,5 @@
 -- What the writes of a table leave of a store at rest, and of what a crash leaves of it.
-use Rattle.std.proofs.Common.{◌≡◌, ◌≢◌, ◌⊎◌, ℕ, ◌+◌, ◌<◌, ◌≤◌, List, [], ◌∷◌, ◌++◌, length, get_or, drop, refl, sym, ap, subst, ◌∙◌, length-append, arith, inl, inr, ⊎_elim}
+use Rattle.std.proofs.Common.{◌≡◌, ◌≢◌, ◌⊎◌, ℕ, ◌+◌, List, [], ◌∷◌, ◌++◌, length, get_or, drop, refl, sym, ap, subst, ◌∙◌, arith, inl, inr, ⊎_elim}
 use Rattle.std.specs.List.{AllByRecursion}
 use Rattle.std.proofs.lemmas.Bool.{cases_eq}
 use Rattle.tup_site.specs.Crash.{GoesOn, WriteStep, PinsStore}
@@ -61,9 +61,6 @@ module _ {S : Type 0} (world : S → World) (moment : S → ℕ) (left_since : S
   abbrev after : Standing
   after = entries_of (more commits changes)
 
-  pub gate_inside : gate < length (world old).store
-  gate_inside = omega (arith, next.place, ap length rests.bytes.whole, length-append (header ++ blocks commits) (rests.bytes.gate ∷ rests.bytes.rest))
-
   first_crash : (v w : World) → left_since old (moment old) v → WriteStep (gate + 1) (length bytes) v w → CommitStep before after v w
   first_crash v w left step =
       let r = rests.bytes in
@@ -84,9 +81,6 @@ module _ {S : Type 0} (world : S → World) (moment : S → ℕ) (left_since : S
         let r = rests.bytes in
         written_behind (header ++ blocks commits) gate (sym next.place) r.gate r.rest bytes (world mid).store (subst (λ (s : List ℕ). Holds s (gate + 1) bytes (world mid).store) r.whole written)
         ∙ ap (λ (b : List ℕ). (header ++ blocks commits) ++ r.gate ∷ (b ++ behind)) next.spelling
-
-    pub mid_inside : gate ≤ length (world mid).store
-    mid_inside = omega (arith, next.place, ap length mid_is, length-append (header ++ blocks commits) (rests.bytes.gate ∷ (appending changes ++ behind)))
 
     second_crash : (v w : World) → left_since mid (moment mid) v → WriteStep gate 1 v w → CommitStep before after v w
     second_crash v w left step =

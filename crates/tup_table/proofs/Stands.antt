@@ -1,5 +1,5 @@
 -- How a table stands for its store while files of the tree are changed.
-use Rattle.std.proofs.Common.{◌≡◌, ℕ, ⊎_elim, sym, subst, ◌∙◌, arith}
+use Rattle.std.proofs.Common.{ℕ, ⊎_elim, sym, subst, ◌∙◌, arith}
 use Rattle.tup_site.specs.Crash.{GoesOn}
 use Rattle.tup_site.specs.World.{World, StoreStays}
 use Rattle.tup_table.specs.Table.{IsAtRest, StandsFor}

@@ -1,5 +1,5 @@
 -- What a write leaves of bytes at their end, at a gate, and behind a gate: where it succeeds, and where it is torn.
-use Rattle.std.proofs.Common.{◌≡◌, ℕ, ◌+◌, ◌≤◌, List, [], ◌∷◌, ◌++◌, length, get_or, take, drop, refl, sym, ap, subst, ◌∙◌, append_assoc, length-append, length-drop, drop-drop, take-append-drop, arith, inl, inr}
+use Rattle.std.proofs.Common.{◌≡◌, ℕ, ◌+◌, ◌≤◌, List, [], ◌∷◌, ◌++◌, length, get_or, take, drop, refl, sym, ap, ◌∙◌, append_assoc, length-append, length-drop, drop-drop, take-append-drop, arith, inr}
 use Rattle.std.proofs.lemmas.List.{take_at, drop_at, drop_all, drop_more}
 use Rattle.tup_site.specs.Store.{Holds, IsTorn}
 use Rattle.tup_table.specs.Store.{IsEnd}

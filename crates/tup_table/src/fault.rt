@@ -13,14 +13,13 @@ pub enum TableFault {
     /// which something stands that is no commit.
     #[error("the store is damaged at byte {offset}")]
     BadStore { offset: u64 },
-    /// The site failed, and counted it. The store holds what it held before the call, or what the call would have left; a
-    /// table that was made or changed then is opened again.
+    /// The site failed, and counted it. The store is opened again.
     #[error("the store failed")]
     Site,
     /// The store would have more than 1,073,741,824 bytes; nothing was written.
     #[error("the store is full")]
     Full,
-    /// There was no memory. A table that isn't fresh afterwards is opened again.
+    /// There was no memory. The store is opened again where its table isn't fresh.
     #[error("no memory")]
     Memory,
 }

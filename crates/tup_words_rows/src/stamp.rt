@@ -1,5 +1,5 @@
 //! The calls of `stamp.rows`.
-use crate::said::repeated_at;
+use crate::repeated::repeated;
 use std::alloc::Global;
 use std::fs::Files;
 use std::io;
@@ -16,23 +16,23 @@ struct StampRows;
 
 impl Answers for StampRows {
     fn answer(&mut self, alloc: Global, call: &str, said: &Words) -> Result<Words, RowFault> {
-        match call {
-            "stamp" => digits(alloc, stamp_of(said.bytes(0)?)),
-            "stamp_long" => digits(alloc, stamp_of(&repeated_at(alloc, said, 0)?)),
-            "hex" => hex_of(alloc, said.bytes(0)?),
-            _ => Err(RowFault::NoSuchCall),
-        }
+        Ok(match call {
+            "stamp" => digits(alloc, stamp_of(said.word_at(0))),
+            "stamp_long" => digits(alloc, stamp_of(&repeated(alloc, said))),
+            "hex" => hex_of(alloc, said),
+            _ => Words::none(alloc, RowFault::NoSuchCall),
+        })
     }
 }
 
-fn digits(alloc: Global, stamp: Stamp) -> Result<Words, RowFault> {
-    Words::one(alloc, &hex(&stamp))
+fn digits(alloc: Global, stamp: Stamp) -> Words {
+    Words::word(alloc, &hex(&stamp))
 }
 
 /// The digits of a stamp that is given by its bytes.
-fn hex_of(alloc: Global, bytes: &[u8]) -> Result<Words, RowFault> {
-    match bytes.try_into() {
+fn hex_of(alloc: Global, said: &Words) -> Words {
+    match said.word_at(0).try_into() {
         Ok(bytes) => digits(alloc, Stamp(bytes)),
-        Err(_) => Err(RowFault::OtherKind),
+        Err(_) => Words::none(alloc, RowFault::OtherKind),
     }
 }

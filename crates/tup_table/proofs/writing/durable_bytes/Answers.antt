@@ -1,6 +1,6 @@
-use Rattle.std.proofs.Common.{◌∙◌, ap, ℕ, ◌≤◌}
+use Rattle.std.proofs.Common.{◌∙◌, ap}
 use Rattle.tup_site.specs.World.{World}
-use Rattle.tup_table.proofs.Going.{IsEarlier, still_durable}
+use Rattle.tup_table.proofs.Going.{still_durable}
 use Rattle.tup_table.proofs.writing.durable_bytes.Goals as goal
 
 pub returns-clause-durable : goal.returns-clause-durable

@@ -1,0 +1,159 @@
+//! The calls of `graph.rows`: they read graphs, and say what transactions change and leave.
+use crate::changes::put;
+use crate::field::joined;
+use crate::say::{Say, named};
+use crate::transaction::transaction;
+use std::alloc::Global;
+use std::fmt::Display;
+use tup_graph::{GraphFault, Nodes, read_graph};
+use tup_path::Items;
+use tup_rows::{Answers, RowFault, Words};
+use tup_table::{Change, Entries, TableFault, appended, have_short_keys, read};
+
+/// How a store begins, and the open gate of its first commit.
+const BEGIN: [u8; 9] = *b"tup-db\n\x01\x01";
+
+/// Reads graphs, and tries transactions on them.
+#[derive(Drop)]
+pub struct Graphs;
+
+impl Answers for Graphs {
+    fn answer(&mut self, alloc: Global, call: &str, said: &Words) -> Result<Words, RowFault> {
+        Ok(match call {
+            "store" => graph_of(alloc, &joined(alloc, said, said.as_slice())),
+            "graph" => graph_of(alloc, &store(alloc, said, said.as_slice())),
+            _ => transaction(alloc, call, said),
+        })
+    }
+}
+
+/// The bytes of a store with one commit, which puts these keys and values.
+pub fn store(alloc: Global, said: &Words, pairs: &[Vec<u8>]) -> Vec<u8> {
+    let mut puts = Items::new(alloc);
+    for pair in pairs.chunks(2) {
+        match put_of(alloc, pair) {
+            Ok(change) => said.list(&mut puts, change),
+            Err(fault) => said.fail(fault),
+        }
+    }
+    let mut bytes = Vec::new(alloc);
+    add_bytes(said, &mut bytes, &BEGIN);
+    add_commit(alloc, said, &mut bytes, puts.as_slice());
+    bytes
+}
+
+fn put_of(alloc: Global, pair: &[Vec<u8>]) -> Result<Change, RowFault> {
+    match pair {
+        [key, value] => put(alloc, key, value),
+        _ => Err(RowFault::TooFew),
+    }
+}
+
+/// Adds a commit and the gate behind it to a store, which ends with an open gate.
+pub fn add_commit(alloc: Global, said: &Words, bytes: &mut Vec<u8>, changes: &[Change]) {
+    if !have_short_keys(changes) {
+        return said.fail(RowFault::OtherKind);
+    }
+    match appended(alloc, 8, changes) {
+        Ok(more) => add_bytes(said, bytes, more.as_slice()),
+        Err(_) => said.fail(RowFault::Memory),
+    }
+}
+
+fn add_bytes(said: &Words, bytes: &mut Vec<u8>, more: &[u8]) {
+    if bytes.extend_from_slice(more).is_err() {
+        said.fail(RowFault::Memory);
+    }
+}
+
+/// The graph that a store holds, in words.
+fn graph_of(alloc: Global, bytes: &[u8]) -> Words {
+    let mut words = Words::new(alloc);
+    add_graph(alloc, &mut words, bytes);
+    words
+}
+
+/// Adds the graph that a store holds, or why it holds none.
+pub fn add_graph(alloc: Global, words: &mut Words, bytes: &[u8]) {
+    match read(alloc, bytes) {
+        Ok(opened) => add_graph_in(alloc, words, &opened.entries),
+        Err(TableFault::Memory) => words.fail(RowFault::Memory),
+        Err(fault) => add_refusal(alloc, words, &fault),
+    }
+}
+
+fn add_graph_in(alloc: Global, words: &mut Words, entries: &Entries) {
+    match read_graph(alloc, entries) {
+        Ok(graph) => graph.say(alloc, words),
+        Err(GraphFault::Memory) => words.fail(RowFault::Memory),
+        Err(fault) => add_refusal(alloc, words, &fault),
+    }
+}
+
+fn add_refusal<D: Display>(alloc: Global, words: &mut Words, fault: &D) {
+    words.put(alloc, b"refused");
+    words.show(alloc, fault);
+}
+
+impl Say for Nodes {
+    fn say(&self, alloc: Global, words: &mut Words) {
+        say_files(alloc, words, self);
+        say_readings(alloc, words, self);
+        say_rules(alloc, words, self);
+        say_owned(alloc, words, self);
+    }
+}
+
+/// The files that were seen, each with its stamp.
+fn say_files(alloc: Global, words: &mut Words, graph: &Nodes) {
+    words.put(alloc, b"seen");
+    for (path, stamp) in graph.files() {
+        path.say(alloc, words);
+        if graph.seen(path) == Some(*stamp) {
+            stamp.say(alloc, words);
+        }
+    }
+}
+
+/// The readings of folders, and the folders that are to be read.
+fn say_readings(alloc: Global, words: &mut Words, graph: &Nodes) {
+    words.put(alloc, b"readings");
+    for (dir, reading) in graph.readings() {
+        dir.say(alloc, words);
+        if graph.reading(dir) == Some(reading) {
+            reading.say(alloc, words);
+        }
+    }
+    words.put(alloc, b"created");
+    for (dir, ()) in graph.created() {
+        if graph.is_created(dir) {
+            dir.say(alloc, words);
+        }
+    }
+}
+
+/// The commands of the rules, each with its run and whether it is flagged.
+fn say_rules(alloc: Global, words: &mut Words, graph: &Nodes) {
+    words.put(alloc, b"rules");
+    for (rule, number) in graph.rules().iter().zip(0..u32::MAX) {
+        rule.text.say(alloc, words);
+        if graph.flagged(number) {
+            words.put(alloc, b"flagged");
+        }
+        if let Some(run) = graph.run_of(number) {
+            named(alloc, words, "ran", run);
+        }
+    }
+}
+
+/// The owned paths, each with its maker and its state.
+fn say_owned(alloc: Global, words: &mut Words, graph: &Nodes) {
+    words.put(alloc, b"owned");
+    for (path, owned) in graph.owned() {
+        path.say(alloc, words);
+        if graph.owner(path) == Some(*owned) {
+            owned.maker.say(alloc, words);
+            owned.state.say(alloc, words);
+        }
+    }
+}
