@@ -35,14 +35,14 @@ pub(crate) fn run<S: Site>(
     ensures cause { CountsFaults (S.faults site.old) (S.faults site.new) result }
 {
     let mut mini = Mini::new(alloc);
+    let mut refused = None;
     let mut view = SiteView {
         sight: Sight { rules, made, rule },
         site,
         asked: 0,
-        refused: None,
+        refused: &mut refused,
     };
     let performed = perform(alloc, &mut mini, &rule.dir, &rule.text, &mut view);
-    let refused = view.refused;
     match performed {
         Ok(report) => match judge(alloc, rule, report.ended()) {
             Ok(judged) => Ok(judged),
@@ -54,7 +54,8 @@ pub(crate) fn run<S: Site>(
     }
 }
 
-/// What a command comes to whose text got no answer: the verdict by which it was denied, or the site's refusal.
+/// What a command comes to whose text got no answer: the verdict by which it was denied, or the
+/// site's refusal.
 fn came_to(alloc: Global, refused: Option<(Text, Refused)>) -> Result<(Verdict, Files), SiteFailed>
     requires { IsSome refused }
     ensures { ComesTo refused result }

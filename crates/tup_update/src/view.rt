@@ -35,19 +35,19 @@ pub(crate) enum Refused {
 
 /// The view of the rule's command.
 #[derive(Drop)]
-pub(crate) struct SiteView<'a, 's, S: Site> {
+pub(crate) struct SiteView<'a, 's, 'r, S: Site> {
     pub sight: Sight<'a>,
     pub site: &'s mut S,
     /// How many asks were answered.
     pub asked: u32,
-    /// The text that got no answer, and why.
-    pub refused: Option<(Text, Refused)>,
+    /// The text that got no answer, and why. The caller keeps it.
+    pub refused: &'r mut Option<(Text, Refused)>,
     ghost knows: { IsGenerated sight.rules.now sight.made.now },
-    ghost denies: { (text : List ℕ) (verdict : VerdictValue) → refused ≡ Some (text, Denied verdict)
+    ghost denies: { (text : List ℕ) (verdict : VerdictValue) → refused.now ≡ Some (text, Denied verdict)
         → access_of sight.rules.now sight.rule.now asked text ≡ No verdict },
 }
 
-impl<S: Site> View for SiteView<'_, '_, S> {
+impl<S: Site> View for SiteView<'_, '_, '_, S> {
     ghost use Rattle.std.specs.Prelude.{◌≡◌, [], false, IsTrue, refl};
     ghost use Rattle.std.proofs.Common.{◌∙◌, ap};
     ghost use Rattle.std.proofs.lemmas.Bool.{false≢true};
@@ -65,21 +65,22 @@ impl<S: Site> View for SiteView<'_, '_, S> {
         × (IsTrue S.tells → HasSeen first.sight.rules.now first.sight.rule.now
         (S.world first.site.now).tree first.asked some last.asked) };
 
-    ghost refusal = { λ view. refusal_of view.refused };
+    ghost refusal = { λ view. refusal_of view.refused.now };
 
     ghost outputs = { λ view. view.sight.rule.now.outputs };
 
     ghost same = { λ first last. (last.sight ≡ first.sight)
         × (last.site.ghost_name ≡ first.site.ghost_name)
+        × (last.refused.ghost_name ≡ first.refused.ghost_name)
         × (IsTrue S.tells → S.world last.site.now ≡ S.world first.site.now)
-        × KeepsCount S.tells (S.world last.site.now)
-        (S.faults first.site.now) (S.faults last.site.now) first.refused last.refused };
+        × KeepsCount S.tells (S.world last.site.now) (S.faults first.site.now)
+        (S.faults last.site.now) first.refused.now last.refused.now };
 
     fn ask(&mut self, alloc: Global, text: &Text) -> Result<Answer, ViewFailed> {
         let path = match allowed(alloc, self.sight.rule, self.sight.made, text, self.asked)? {
             Access::Yes(path) => path,
             Access::No(verdict) => {
-                self.refused = Some((text.clone()?, Refused::Denied(verdict)));
+                *self.refused = Some((text.clone()?, Refused::Denied(verdict)));
                 return Err(ViewFailed::Denied);
             }
         };
@@ -96,7 +97,7 @@ impl<S: Site> View for SiteView<'_, '_, S> {
             }
             Err(SiteFailed::Memory) => Err(ViewFailed::Memory),
             Err(failed) => {
-                self.refused = Some((kept, Refused::Failed(failed)));
+                *self.refused = Some((kept, Refused::Failed(failed)));
                 Err(ViewFailed::Fault)
             }
         }
@@ -116,16 +117,23 @@ impl<S: Site> View for SiteView<'_, '_, S> {
           first.asked next.asked last.asked some more one.0 (one.1 tells) (one.2 tells) (two.2 tells)),
     ) };
 
-    ghost same_itself = { λ view. (refl, refl, (λ tells. refl), keeps_itself S.tells _ _ view.refused) };
+    ghost same_itself = { λ view. (
+      refl,
+      refl,
+      refl,
+      (λ tells. refl),
+      keeps_itself S.tells _ _ view.refused.now,
+    ) };
 
     ghost same_on = { λ first next last one two. (
       two.0 ∙ one.0,
       two.1 ∙ one.1,
-      (λ tells. two.2 tells ∙ one.2 tells),
+      two.2 ∙ one.2,
+      (λ tells. two.3 tells ∙ one.3 tells),
       keeps_on
-          S.tells (S.world next.site.now) (S.world last.site.now) (λ tells. two.2 tells)
+          S.tells (S.world next.site.now) (S.world last.site.now) (λ tells. two.3 tells)
           (S.faults first.site.now) (S.faults next.site.now) (S.faults last.site.now)
-          first.refused next.refused last.refused one.3 two.3,
+          first.refused.now next.refused.now last.refused.now one.4 two.4,
     ) };
 
     ghost same_outputs = { λ first last one. ap (λ (s : SightValue). s.rule.now.outputs) one.0 };

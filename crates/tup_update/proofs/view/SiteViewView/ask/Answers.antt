@@ -14,12 +14,13 @@ returns g c = record {
   same = (
     refl,
     refl,
+    refl,
     (λ tells. c.get.ensures.same tells),
     record {
       first = λ none.
           cause_of g.S.Site.tells (g.S.Site.world c.args.self.now.site.now) (g.S.Site.world c.get.new.self) c.in-Yes.path _ _ c.get.result c.in-Err.failed c.in-Err.is c.get.ensures.cause c.get.ensures.too_large
           (λ tells. c.get.ensures.length tells) (λ tells. c.get.ensures.same tells);
-      stays = λ kept was. nothing_kept c.args.self.now.refused kept c.requires was;
+      stays = λ kept was. nothing_kept c.args.self.now.refused.now kept c.requires was;
     },
   );
 }
