@@ -1,5 +1,6 @@
 -- Why a site gave no file, as its refusal tells it, and what becomes of a command then.
 use Rattle.std.proofs.Common.{◌≡◌, ℕ, Bool, true, IsTrue, IsSome, IfOk, List, [], Result, Err, Option, None, Some, refl, sym, ◌∙◌, ap, subst}
+use Rattle.std.proofs.lemmas.Bool.{false≢true}
 use Rattle.std.proofs.lemmas.Option.{same_Some}
 use Rattle.tup_path.specs.Name.{Names, Content}
 use Rattle.tup_path.specs.Tree.{Tree}
@@ -58,7 +59,7 @@ module _ (rules : List Rule) (rule : Rule) (tree : Tree) (after : ℕ) (came : A
       RunsAs true (mini_next rule.dir rule.text) came (refusal_of kept) (Err failed) → ((asks : Asks) → came asks → HasSeen rules rule tree 0 asks after) → IsSome kept →
       ((text : List ℕ) (given : Verdict) → kept ≡ Some (text, Denied given) → access rules rule after text ≡ No given) → ComesTo kept result →
       IfOk result (λ judged. IsJudged judged.0 judged.1 (verdict mini_next rules rule tree))
-  judged_refused None failed result ran seen some denies comes = absurd some
+  judged_refused None failed result ran seen some denies comes = absurd (false≢true some)
   judged_refused (Some (text, Failed kept)) failed result ran seen some denies comes = rw comes tt
   judged_refused (Some (text, Denied given)) RunDenied result ran seen some denies comes = rw comes (at_denial text given ViewDenied ran seen (denies text given refl))
   judged_refused (Some (text, Denied given)) RunView result ran seen some denies comes = rw comes (at_denial text given ViewFault ran seen (denies text given refl))
