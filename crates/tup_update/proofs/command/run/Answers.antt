@@ -1,10 +1,9 @@
-use Rattle.std.proofs.Common.{rules, ◌≡◌, ℕ, List, Option, IsSome, refl, subst}
+use Rattle.std.proofs.Common.{rules, ◌≡◌, IsSome, refl, subst}
 use Rattle.tup_mini.specs.Means.{mini_next}
 use Rattle.tup_clean.proofs.Denying.{judged_ends}
 use Rattle.tup_access.specs.Access.{access}
 use Rattle.tup_access.specs.declared.verdict.Access.TheVariants.{No}
 use Rattle.tup_update.specs.declared.view.Sight.{Sight}
-use Rattle.tup_update.specs.declared.view.Refused.{Refused}
 use Rattle.tup_update.specs.Seeing.{ComesTo}
 use Rattle.tup_update.proofs.Failing.{judged_refused}
 use Rattle.tup_update.proofs.command.run.Goals as goal
@@ -19,9 +18,8 @@ pub returns-in-Err-Denied-clause-judged : goal.returns-in-Err-Denied-clause-judg
 returns-in-Err-Denied-clause-judged g c = λ told.
     let view = c.perform-performed.new.view in
     let some : IsSome view.refused.now = search rules in
-    let same : c.refused-2-1.given.0 ≡ view.refused.now = search rules in
+    let comes : ComesTo view.refused.now c.came_to.result = search rules in
     let ran = rw c.in-Err-Denied.is at c.perform-performed.ensures.refuses in
     let sight = (c.perform-performed.ensures.same).0 in
     judged_refused c.args.rules.now c.args.rule.now (g.S.Site.world c.args.site.now).tree view.asked _ view.refused.now c.in-Err-Denied.field-0 c.came_to.result ran (λ asks came. came.2 told) some
-    (λ text given kept. subst (λ (s : Sight). access s.rules.now s.rule.now view.asked text ≡ No given) sight (view.denies text given kept))
-    (subst (λ (kept : Option (List ℕ × Refused)). ComesTo kept c.came_to.result) same c.came_to.ensures)
+    (λ text given kept. subst (λ (s : Sight). access s.rules.now s.rule.now view.asked text ≡ No given) sight (view.denies text given kept)) comes
