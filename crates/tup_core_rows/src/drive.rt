@@ -8,8 +8,8 @@ use tup_mini::Mini;
 use tup_path::Files;
 use tup_rows::{RowFault, Words};
 
-/// Runs the rules of a reach from so many seats in so many orders. The answer is `same` where each end has the files of
-/// the clean build.
+/// Runs the rules of a reach from so many seats in so many orders. The answer is `same` where each
+/// end has the files of the clean build, and else `other`.
 pub(crate) fn drive(alloc: Global, project: &Project, said: &Words) -> Words {
     match clean_tree(alloc, project) {
         Ok(tree) if all_end_with(alloc, project, said, &tree) => Words::word(alloc, b"same"),

@@ -14,6 +14,7 @@ pub(crate) fn event(alloc: Global, words: &[Vec<u8>]) -> Result<CoreEvent, RowFa
     }
 }
 
+/// An event of this kind, at this seat.
 fn of_kind(alloc: Global, kind: &[u8], seat: u32, more: &[Vec<u8>]) -> Result<CoreEvent, RowFault> {
     match kind {
         b"claim" => claim(seat, more),
@@ -25,6 +26,7 @@ fn of_kind(alloc: Global, kind: &[u8], seat: u32, more: &[Vec<u8>]) -> Result<Co
     }
 }
 
+/// A claim of a rule.
 fn claim(seat: u32, more: &[Vec<u8>]) -> Result<CoreEvent, RowFault> {
     match more {
         [rule] => Ok(CoreEvent::Claim {
@@ -35,6 +37,7 @@ fn claim(seat: u32, more: &[Vec<u8>]) -> Result<CoreEvent, RowFault> {
     }
 }
 
+/// An ask, and the content that it is answered.
 fn ask(alloc: Global, seat: u32, more: &[Vec<u8>]) -> Result<CoreEvent, RowFault> {
     match more {
         [asked, content] => Ok(CoreEvent::Ask {
@@ -46,6 +49,7 @@ fn ask(alloc: Global, seat: u32, more: &[Vec<u8>]) -> Result<CoreEvent, RowFault
     }
 }
 
+/// An ask that is refused, and what becomes of it.
 fn deny(alloc: Global, seat: u32, more: &[Vec<u8>]) -> Result<CoreEvent, RowFault> {
     match more {
         [asked, kind, of] => Ok(CoreEvent::Deny {
@@ -57,6 +61,7 @@ fn deny(alloc: Global, seat: u32, more: &[Vec<u8>]) -> Result<CoreEvent, RowFaul
     }
 }
 
+/// The end of a command, and what it wrote.
 fn finish(alloc: Global, seat: u32, more: &[Vec<u8>]) -> Result<CoreEvent, RowFault> {
     match more {
         [kind, of, writes @ ..] => Ok(CoreEvent::Finish {
@@ -68,6 +73,7 @@ fn finish(alloc: Global, seat: u32, more: &[Vec<u8>]) -> Result<CoreEvent, RowFa
     }
 }
 
+/// A stop, and why.
 fn stop(seat: u32, more: &[Vec<u8>]) -> Result<CoreEvent, RowFault> {
     match more {
         [why] => Ok(CoreEvent::Stop {
@@ -108,6 +114,7 @@ fn stamps(alloc: Global, words: &[Vec<u8>]) -> Result<Stamps, RowFault> {
     Ok(stamps)
 }
 
+/// A file with the stamp of its content.
 fn stamp(alloc: Global, file: &[Vec<u8>]) -> Result<(Path, Stamp), RowFault> {
     match file {
         [to, content] => Ok((path(alloc, to)?, stamp_of(content))),
@@ -115,6 +122,7 @@ fn stamp(alloc: Global, file: &[Vec<u8>]) -> Result<(Path, Stamp), RowFault> {
     }
 }
 
+/// Why an update stops.
 fn cause(word: &[u8]) -> Result<Cause, RowFault> {
     match word {
         b"bad" => Ok(Cause::Bad),
@@ -127,6 +135,7 @@ fn cause(word: &[u8]) -> Result<Cause, RowFault> {
     }
 }
 
+/// A word as text.
 fn str(word: &[u8]) -> Result<&str, RowFault> {
     match str::from_utf8(word) {
         Ok(text) => Ok(text),
@@ -134,6 +143,7 @@ fn str(word: &[u8]) -> Result<&str, RowFault> {
     }
 }
 
+/// A word as a number.
 fn number(word: &[u8]) -> Result<u32, RowFault> {
     match str(word)?.parse() {
         Ok(number) => Ok(number),
@@ -141,6 +151,7 @@ fn number(word: &[u8]) -> Result<u32, RowFault> {
     }
 }
 
+/// A word as an exit status.
 fn status(word: &[u8]) -> Result<u8, RowFault> {
     match u8::try_from(number(word)?) {
         Ok(status) => Ok(status),
@@ -148,6 +159,7 @@ fn status(word: &[u8]) -> Result<u8, RowFault> {
     }
 }
 
+/// A word as a text to keep.
 fn text(alloc: Global, word: &[u8]) -> Result<Text, RowFault> {
     Ok(Text::from_str(alloc, str(word)?)?)
 }

@@ -16,6 +16,7 @@ pub(crate) struct Job {
 }
 
 impl Job {
+    /// A rule whose command was answered nothing yet.
     pub(crate) fn new(alloc: Global, rule: Rule) -> Job {
         Job {
             rule,
@@ -23,7 +24,8 @@ impl Job {
         }
     }
 
-    /// What the command does next: it runs anew on what it was answered, and what it then asks is its step.
+    /// What the command does next: it runs anew on what it was answered, and what it then asks is
+    /// its step.
     pub(crate) fn next(&mut self, alloc: Global) -> Result<Step, RowFault> {
         self.replies.rewind();
         match Mini::new(alloc).run(alloc, &self.rule.dir, &self.rule.text, &mut self.replies) {
@@ -45,6 +47,7 @@ pub(crate) struct Replies {
 }
 
 impl Replies {
+    /// No replies yet.
     fn new(alloc: Global) -> Replies {
         Replies {
             given: Items::new(alloc),
@@ -64,6 +67,7 @@ impl Replies {
         Ok(())
     }
 
+    /// Begins anew with the first answer.
     fn rewind(&mut self)
         ensures { self.new.refused ≡ None }
     {
@@ -71,7 +75,7 @@ impl Replies {
         self.refused = None;
     }
 
-    /// The ask that was refused.
+    /// The ask that was refused, as the command's step.
     fn asks_next(&mut self) -> Result<Step, RowFault> {
         match self.refused.take() {
             Some(text) => Ok(Step::Ask(text)),
@@ -80,6 +84,7 @@ impl Replies {
     }
 }
 
+/// The answer that a content is, or that there is none.
 fn answer(content: Option<&Bytes>) -> Result<Answer, AllocError> {
     match content {
         Some(content) => Ok(Answer::Content(content.clone()?)),

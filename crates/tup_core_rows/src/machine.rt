@@ -17,7 +17,8 @@ pub(crate) struct Machine {
 }
 
 impl Machine {
-    /// The opening of a plan over files with these stamps. `OtherKind` where a number of the reach is none of a rule.
+    /// The opening of a plan over files with these stamps. `OtherKind` where a number of the reach
+    /// is none of a rule.
     pub(crate) fn new(alloc: Global, plan: Plan, files: Stamps) -> Result<Machine, RowFault> {
         if !is_in_range(&plan) {
             return Err(RowFault::OtherKind);
@@ -56,6 +57,7 @@ impl Machine {
         }
     }
 
+    /// The rules of the plan.
     pub(crate) fn rules(&self) -> &[Rule] {
         self.plan.rules.as_slice()
     }

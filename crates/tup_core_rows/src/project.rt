@@ -15,6 +15,7 @@ pub(crate) struct Project {
 }
 
 impl Project {
+    /// Nothing yet.
     pub(crate) fn new(alloc: Global) -> Project {
         Project {
             sources: Items::new(alloc),
@@ -36,7 +37,8 @@ impl Project {
         Words::new(alloc)
     }
 
-    /// A core where the rules of a reach are to be run. `OtherKind` where a number of the reach is none of a rule.
+    /// A core where the rules of a reach are to be run. `OtherKind` where a number of the reach is
+    /// none of a rule.
     pub(crate) fn opening(
         &self,
         alloc: Global,

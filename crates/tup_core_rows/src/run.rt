@@ -5,8 +5,8 @@ use crate::project::{Project, reach_at};
 use std::alloc::Global;
 use tup_rows::{RowFault, Words};
 
-/// Takes the events of a row, each behind a `;`, up to the first that isn't enabled. The answer is its number, or `all`,
-/// and then the rules that are ready.
+/// Takes the events of a row, each behind a `;`, up to the first that isn't enabled. The answer is
+/// its number, or `all`, and then the rules that are ready.
 pub(crate) fn run(alloc: Global, project: &Project, said: &Words) -> Words {
     let keep_going = said.word_at(1) == b"keep".as_slice();
     match project.opening(alloc, reach_at(alloc, said, 0), keep_going) {
@@ -15,6 +15,7 @@ pub(crate) fn run(alloc: Global, project: &Project, said: &Words) -> Words {
     }
 }
 
+/// The answer of a row whose events a core takes.
 fn taken(alloc: Global, machine: &mut Machine, said: &Words) -> Words {
     match first_refused(alloc, machine, said.as_slice()) {
         Ok(Some(number)) => ready(alloc, machine, Words::shown(alloc, &number)),
@@ -23,6 +24,7 @@ fn taken(alloc: Global, machine: &mut Machine, said: &Words) -> Words {
     }
 }
 
+/// These words, and then the rules that are ready.
 fn ready(alloc: Global, machine: &Machine, mut words: Words) -> Words {
     machine.add_ready(alloc, &mut words);
     words
@@ -46,6 +48,7 @@ fn first_refused(
     Ok(None)
 }
 
+/// Whether a core takes the event that some words spell.
 fn takes(alloc: Global, machine: &mut Machine, spelled: &[Vec<u8>]) -> Result<bool, RowFault> {
     match event(alloc, spelled) {
         Ok(event) => machine.takes(alloc, &event),

@@ -21,6 +21,7 @@ pub(crate) fn contents(alloc: Global, files: &Files) -> Result<Contents, AllocEr
     Ok(contents)
 }
 
+/// Puts a file in the place of what stands there.
 pub(crate) fn put(contents: &mut Contents, path: Path, content: Bytes) -> Result<(), AllocError>
     ensures { OnOk result (finite.is_sorted by_names contents.old.entries ≡ true
         → finite.is_sorted by_names contents.new.entries ≡ true) }

@@ -78,16 +78,19 @@ impl Update {
         are_those_of(&self.files, tree)
     }
 
+    /// The update is worth nothing, for this reason.
     fn fail(&mut self, fault: RowFault) {
         self.fault = Some(fault);
     }
 
+    /// The same where there was no memory.
     fn note(&mut self, done: Result<(), AllocError>) {
         if done.is_err() {
             self.fail(RowFault::Memory);
         }
     }
 
+    /// The turn of a seat of this number.
     fn turn(&mut self, alloc: Global, seat: u64) {
         match u32::try_from(seat) {
             Ok(seat) => self.turn_of(alloc, seat),
@@ -106,6 +109,7 @@ impl Update {
         }
     }
 
+    /// Claims the first rule that is ready, if there is one.
     fn claim(&mut self, alloc: Global, seat: u32) -> Option<Job> {
         let rule = self.machine.first_ready()?;
         self.must_take(alloc, Ok(CoreEvent::Claim { seat, rule }));
@@ -133,6 +137,7 @@ impl Update {
         }
     }
 
+    /// A command asks, and is answered, or ends by that.
     fn ask(&mut self, alloc: Global, seat: u32, job: Job, text: Text) -> Option<Job> {
         match allowed(alloc, &job.rule, &self.made, &text, job.replies.len()) {
             Ok(Access::Yes(path)) => Some(self.answer(alloc, seat, job, text, &path)),
@@ -147,6 +152,7 @@ impl Update {
         }
     }
 
+    /// A command asks for a file that it may read.
     fn answer(&mut self, alloc: Global, seat: u32, mut job: Job, text: Text, path: &Path) -> Job {
         let content = told(&job.rule, &self.files, path);
         let event = asking(seat, &text, content);
@@ -162,6 +168,7 @@ impl Update {
         self.finish(alloc, seat, verdict, Items::new(alloc));
     }
 
+    /// A command ends, and is judged.
     fn end(&mut self, alloc: Global, seat: u32, rule: &Rule, ended: &Ended) {
         match judge(alloc, rule, ended) {
             Ok((verdict, written)) => self.finish(alloc, seat, verdict, written),
@@ -169,13 +176,14 @@ impl Update {
         }
     }
 
+    /// A command's rule is done, and its files stand.
     fn finish(&mut self, alloc: Global, seat: u32, verdict: Verdict, written: Files) {
         self.must_take(alloc, finishing(alloc, seat, verdict, &written));
         let put = put_all(&mut self.files, written);
         self.note(put);
     }
 
-    /// An event that has to be enabled.
+    /// The core has to take an event that there was memory for.
     fn must_take(&mut self, alloc: Global, event: Result<CoreEvent, AllocError>) {
         match event {
             Ok(event) => self.take(alloc, &event),
@@ -183,6 +191,7 @@ impl Update {
         }
     }
 
+    /// The core has to take an event.
     fn take(&mut self, alloc: Global, event: &CoreEvent) {
         match self.machine.takes(alloc, event) {
             Ok(true) => {}
@@ -203,6 +212,7 @@ fn taken(seats: &mut [Option<Job>], seat: u32) -> Option<Job> {
     seats.get_mut(seat as usize)?.take()
 }
 
+/// The rule of this number.
 fn rule_at(rules: &[Rule], number: u32) -> Result<Rule, RowFault> {
     match rules.get(number as usize) {
         Some(rule) => Ok(rule.clone()?),
@@ -218,6 +228,7 @@ fn told<'a>(rule: &Rule, files: &'a Contents, path: &Path) -> Option<&'a Bytes> 
     files.get(path)
 }
 
+/// The ask of a text that is answered so.
 fn asking(seat: u32, text: &Text, content: Option<&Bytes>) -> Result<CoreEvent, AllocError> {
     Ok(CoreEvent::Ask {
         seat,
@@ -226,6 +237,7 @@ fn asking(seat: u32, text: &Text, content: Option<&Bytes>) -> Result<CoreEvent, 
     })
 }
 
+/// The ask of a text that is refused so.
 fn denial(seat: u32, text: &Text, verdict: &Verdict) -> Result<CoreEvent, AllocError> {
     Ok(CoreEvent::Deny {
         seat,
@@ -234,6 +246,7 @@ fn denial(seat: u32, text: &Text, verdict: &Verdict) -> Result<CoreEvent, AllocE
     })
 }
 
+/// The end of a command with these files.
 fn finishing(
     alloc: Global,
     seat: u32,
@@ -247,6 +260,7 @@ fn finishing(
     })
 }
 
+/// Puts files one after another.
 fn put_all(files: &mut Contents, written: Files) -> Result<(), AllocError> {
     for (path, content) in written.into_vec() {
         put(files, path, content)?;
