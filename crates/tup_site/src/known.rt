@@ -3,7 +3,7 @@ ghost use Rattle.std.specs.Prelude.{◌≡◌, [], None, Some, cond, is_some, no
 ghost use Rattle.std.specs.BTreeMap.{is_at};
 ghost use Rattle.tup_site.specs.Held.{by_stamp, under, may_take};
 
-use std::alloc::{AllocFailed, Global};
+use std::alloc::{AllocError, AllocFailed, Global};
 use std::collections::BTreeMap;
 use tup_path::Bytes;
 use tup_stamp::Stamp;
@@ -21,6 +21,15 @@ impl Known {
         Known {
             contents: BTreeMap::new(alloc),
         }
+    }
+
+    /// The same contents once more.
+    pub fn copy(&self) -> Result<Known, AllocError>
+        ensures { IfOk result (λ copy. copy.contents.entries ≡ self.now.contents.entries) }
+    {
+        Ok(Known {
+            contents: self.contents.clone()?,
+        })
     }
 
     /// Whether no other content has this stamp.
