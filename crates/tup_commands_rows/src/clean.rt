@@ -3,9 +3,9 @@ ghost use Rattle.std.specs.Prelude.{◌<◌, ◌+◌, ◌^◌, IsTrue, IfOk};
 ghost use Rattle.std.specs.FinMap as finite;
 ghost use Rattle.tup_path.specs.Order.{by_names};
 
-use crate::access::name;
+use crate::access::{add_files, name};
 use crate::broken::Broken;
-use crate::values::{add_number, add_path, content, path, paths, text};
+use crate::values::{content, path};
 use std::alloc::Global;
 use std::fs::Files as SystemFiles;
 use std::io;
@@ -13,7 +13,7 @@ use tup_clean::{CleanFault, Cleaned, clean_build};
 use tup_mini::Mini;
 use tup_path::{Files, Items, Path};
 use tup_rows::{Answers, RowFault, Words, try_file};
-use tup_rule::Rule;
+use tup_rule::{Rule, Rules};
 use tup_runner::Runner;
 
 pub(crate) fn try_rows<R: SystemFiles + Print>(rt: &R, alloc: Global) -> io::Result<()> {
@@ -25,37 +25,32 @@ pub(crate) fn try_rows<R: SystemFiles + Print>(rt: &R, alloc: Global) -> io::Res
 struct Clean;
 
 impl Answers for Clean {
-    fn answer(&mut self, alloc: Global, call: &str, arguments: &Words) -> Result<Words, RowFault> {
+    fn answer(&mut self, alloc: Global, call: &str, said: &Words) -> Result<Words, RowFault> {
         match call {
-            "build" => build(alloc, arguments),
-            "stopped" => stopped(alloc, arguments),
+            "build" => build(alloc, rules(alloc, said).as_slice()),
+            "stopped" => stopped(alloc, rules(alloc, said).as_slice()),
             _ => Err(RowFault::NoSuchCall),
         }
     }
 }
 
-fn build(alloc: Global, arguments: &Words) -> Result<Words, RowFault> {
-    let rules = rules(alloc, arguments)?;
-    match clean_build(alloc, &rules, &sources(alloc)?, &mut Mini::new(alloc)) {
-        Ok(cleaned) => left(alloc, &cleaned),
+fn build(alloc: Global, rules: &[Rule]) -> Result<Words, RowFault> {
+    match clean_build(alloc, rules, &sources(alloc)?, &mut Mini::new(alloc)) {
+        Ok(cleaned) => Ok(left(alloc, &cleaned)),
         Err(_) => Err(RowFault::Memory),
     }
 }
 
 /// Why there is no build where the runner fails, and how often it did.
-fn stopped(alloc: Global, arguments: &Words) -> Result<Words, RowFault> {
-    let rules = rules(alloc, arguments)?;
+fn stopped(alloc: Global, rules: &[Rule]) -> Result<Words, RowFault> {
     let mut runner = Broken { faults: 0 };
-    let end = match clean_build(alloc, &rules, &sources(alloc)?, &mut runner) {
-        Ok(_) => "built",
-        Err(CleanFault::Run) => "run",
+    let end: &[u8] = match clean_build(alloc, rules, &sources(alloc)?, &mut runner) {
+        Ok(_) => b"built",
+        Err(CleanFault::Run) => b"run",
         Err(CleanFault::Memory) => return Err(RowFault::Memory),
     };
-    let Ok(faults) = u8::try_from(runner.faults()) else {
-        return Err(RowFault::OtherKind);
-    };
-    let mut words = Words::one(alloc, end.as_bytes())?;
-    add_number(alloc, &mut words, faults)?;
+    let mut words = Words::word(alloc, end);
+    words.show(alloc, &runner.faults());
     Ok(words)
 }
 
@@ -69,44 +64,41 @@ fn sources(alloc: Global) -> Result<Files, RowFault>
 }
 
 /// Four words for each rule.
-fn rules(alloc: Global, arguments: &Words) -> Result<Vec<Rule>, RowFault> {
-    let mut rules = Vec::new(alloc);
-    for at in 0..arguments.len() / 4 {
-        rules.push(rule(alloc, arguments, 4 * at)?)?;
+fn rules(alloc: Global, said: &Words) -> Rules {
+    let mut rules = Items::new(alloc);
+    for at in 0..said.len() / 4 {
+        said.list(&mut rules, rule(alloc, said, 4 * at));
     }
-    Ok(rules)
+    rules
 }
 
 /// The rule whose words begin at a place.
-fn rule(alloc: Global, arguments: &Words, at: usize) -> Result<Rule, RowFault>
+fn rule(alloc: Global, said: &Words, at: usize) -> Rule
     requires { at + 3 < 2 ^ 64 }
 {
-    Ok(Rule {
+    Rule {
         dir: Path::top(alloc),
-        text: text(alloc, arguments.text(at)?)?,
+        text: said.text_at(alloc, at),
         display: None,
         compare: false,
-        inputs: paths(alloc, arguments.text(at + 1)?)?,
-        order: paths(alloc, arguments.text(at + 2)?)?,
-        outputs: paths(alloc, arguments.text(at + 3)?)?,
-    })
+        inputs: said.paths_at(alloc, at + 1),
+        order: said.paths_at(alloc, at + 2),
+        outputs: said.paths_at(alloc, at + 3),
+    }
 }
 
 /// The verdict of each rule, and each file with its content.
-fn left(alloc: Global, cleaned: &Cleaned) -> Result<Words, RowFault> {
+fn left(alloc: Global, cleaned: &Cleaned) -> Words {
     let mut words = Words::new(alloc);
     for verdict in cleaned.verdicts.as_slice() {
-        words.add(
+        words.put(
             alloc,
-            verdict
-                .as_ref()
-                .map_or("-", |verdict| name(verdict))
-                .as_bytes(),
-        )?;
+            match verdict {
+                Some(verdict) => name(verdict).as_bytes(),
+                None => b"-",
+            },
+        );
     }
-    for (path, content) in cleaned.tree.as_slice() {
-        add_path(alloc, &mut words, path)?;
-        words.add(alloc, content.as_slice())?;
-    }
-    Ok(words)
+    add_files(alloc, &mut words, cleaned.tree.as_slice());
+    words
 }

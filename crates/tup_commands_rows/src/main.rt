@@ -4,6 +4,7 @@
 mod access;
 mod broken;
 mod clean;
+mod made;
 mod mini;
 mod script;
 mod values;

@@ -1,13 +1,17 @@
 //! The calls of `mini.rows`.
+use crate::made::{asks, itself, nested, own, writes};
 use crate::script::Script;
-use crate::values::{add_number, content, path, text};
+use crate::values::text;
 use std::alloc::Global;
 use std::fs::Files;
 use std::io;
 use tup_mini::Mini;
-use tup_path::{Bytes, Text};
+use tup_path::{Bytes, Items, Path, Text};
 use tup_rows::{Answers, RowFault, Words, try_file};
 use tup_runner::{Answer, Ended, RunFailed, Runner};
+
+/// Texts and how each is answered.
+pub(crate) type Replies = Items<(Text, Answer)>;
 
 pub(crate) fn try_rows<R: Files + Print>(rt: &R, alloc: Global) -> io::Result<()> {
     try_file(rt, alloc, "mini.rows", &mut Commands)
@@ -18,182 +22,126 @@ pub(crate) fn try_rows<R: Files + Print>(rt: &R, alloc: Global) -> io::Result<()
 struct Commands;
 
 impl Answers for Commands {
-    fn answer(&mut self, alloc: Global, call: &str, arguments: &Words) -> Result<Words, RowFault> {
-        match call {
-            "run" => run(alloc, arguments),
-            "words" => cut(alloc, arguments),
-            "sized" => sized(alloc, arguments),
-            "asks" => asks(alloc, arguments.number(0)?),
-            "own" => own(alloc, arguments.number(0)?),
-            "nested" => nested(alloc, arguments.number(0)?),
-            "itself" => itself(alloc, arguments.number(0)?),
-            "writes" => writes(alloc, arguments.number(0)?),
-            _ => Err(RowFault::NoSuchCall),
-        }
+    fn answer(&mut self, alloc: Global, call: &str, said: &Words) -> Result<Words, RowFault> {
+        Ok(match call {
+            "run" => run(alloc, said),
+            "words" => cut(alloc, said),
+            "sized" => sized(alloc, said),
+            "asks" => asks(alloc, said),
+            "own" => own(alloc, said),
+            "nested" => nested(alloc, said),
+            "itself" => itself(alloc, said),
+            "writes" => writes(alloc, said),
+            _ => Words::none(alloc, RowFault::NoSuchCall),
+        })
     }
 }
 
 /// A command in a folder, and then a text and its answer for each ask.
-fn run(alloc: Global, arguments: &Words) -> Result<Words, RowFault> {
-    let mut answers = Vec::new(alloc);
-    for pair in 1..arguments.len() / 2 {
-        let asked = text(alloc, arguments.text(2 * pair)?)?;
-        answers.push((asked, answer(alloc, arguments.bytes(2 * pair + 1)?)?))?;
-    }
-    let (outcome, script) = outcome(alloc, arguments.text(0)?, arguments.text(1)?, answers)?;
-    let mut words = said(alloc, &outcome, &script)?;
-    if script.asked < script.answers.len() {
-        words.add(alloc, b"unasked")?;
-    }
-    Ok(words)
+fn run(alloc: Global, said: &Words) -> Words {
+    let dir = said.path_at(alloc, 0);
+    ran(alloc, &dir, &said.text_at(alloc, 1), replies(alloc, said))
 }
 
-fn answer(alloc: Global, word: &[u8]) -> Result<Answer, RowFault> {
-    if word == b"-".as_slice() {
-        Ok(Answer::Absent)
-    } else {
-        Ok(Answer::Content(content(alloc, word)?))
+fn replies(alloc: Global, said: &Words) -> Replies {
+    let mut replies = Items::new(alloc);
+    for pair in 1..said.len() / 2 {
+        let asked = said.text_at(alloc, 2 * pair);
+        said.list(&mut replies, (asked, answer_at(alloc, said, 2 * pair + 1)));
+    }
+    replies
+}
+
+fn answer_at(alloc: Global, said: &Words, at: usize) -> Answer {
+    match said.word_at(at) {
+        b"-" => Answer::Absent,
+        _ => Answer::Content(Bytes::new(said.bytes_at(alloc, at))),
     }
 }
 
-/// What a command comes to over a script.
-fn outcome(
-    alloc: Global,
-    dir: &str,
-    command: &str,
-    answers: Vec<(Text, Answer)>,
-) -> Result<(Result<Ended, RunFailed>, Script), RowFault> {
+/// `asks` and the text that was denied, or `ends`, the status and what was written; and `unasked` where replies are left.
+fn ran(alloc: Global, dir: &Path, command: &Text, replies: Replies) -> Words {
     let mut script = Script {
-        answers,
+        answers: replies.into_vec(),
         asked: 0,
         denied: None,
     };
-    let mut mini = Mini::new(alloc);
-    let outcome = mini.run(
-        alloc,
-        &path(alloc, dir)?,
-        &text(alloc, command)?,
-        &mut script,
-    );
-    Ok((outcome, script))
-}
-
-/// `asks` and the text that was denied, or `ends`, the status and what was written.
-fn said(
-    alloc: Global,
-    outcome: &Result<Ended, RunFailed>,
-    script: &Script,
-) -> Result<Words, RowFault> {
-    match outcome {
-        Ok(ended) => end(alloc, ended),
-        Err(RunFailed::Memory) => Err(RowFault::Memory),
-        Err(_) => {
-            let mut words = Words::one(alloc, b"asks")?;
-            if let Some(denied) = &script.denied {
-                words.add(alloc, denied.as_str().as_bytes())?;
-            }
-            Ok(words)
-        }
+    let mut words = match Mini::new(alloc).run(alloc, dir, command, &mut script) {
+        Ok(ended) => end(alloc, &ended),
+        Err(fault) => denied(alloc, fault, &script),
+    };
+    if script.asked < script.answers.len() {
+        words.put(alloc, b"unasked");
     }
+    words
 }
 
-fn end(alloc: Global, ended: &Ended) -> Result<Words, RowFault> {
-    let mut words = Words::one(alloc, b"ends")?;
-    add_number(alloc, &mut words, ended.status)?;
+fn denied(alloc: Global, fault: RunFailed, script: &Script) -> Words {
+    if matches!(&fault, RunFailed::Memory) {
+        return Words::none(alloc, RowFault::Memory);
+    }
+    let mut words = Words::word(alloc, b"asks");
+    if let Some(denied) = &script.denied {
+        words.show(alloc, denied);
+    }
+    words
+}
+
+fn end(alloc: Global, ended: &Ended) -> Words {
+    let mut words = Words::word(alloc, b"ends");
+    words.show(alloc, &ended.status);
     for (to, content) in ended.writes.as_slice() {
-        words.add(alloc, to.as_str().as_bytes())?;
-        words.add(alloc, content.as_slice())?;
+        words.show(alloc, to);
+        words.put(alloc, content.as_slice());
     }
-    Ok(words)
+    words
 }
 
-fn cut(alloc: Global, arguments: &Words) -> Result<Words, RowFault> {
-    let mut found = Words::new(alloc);
-    for word in tup_mini::words(alloc, &text(alloc, arguments.text(0)?)?)? {
-        found.add(alloc, word.as_str().as_bytes())?;
+fn cut(alloc: Global, said: &Words) -> Words {
+    match tup_mini::words(alloc, &said.text_at(alloc, 0)) {
+        Ok(found) => listed(alloc, &found),
+        Err(_) => Words::none(alloc, RowFault::Memory),
     }
-    Ok(found)
+}
+
+fn listed(alloc: Global, texts: &[Text]) -> Words {
+    let mut words = Words::new(alloc);
+    for text in texts {
+        words.show(alloc, text);
+    }
+    words
 }
 
 /// The status of a command that was answered so many bytes.
-fn sized(alloc: Global, arguments: &Words) -> Result<Words, RowFault> {
-    let size = arguments.number(1)? as usize;
-    let bytes = Bytes::new(vec![in alloc; 7u8; size]?);
-    let mut answers = Vec::new(alloc);
-    answers.push((text(alloc, "a")?, Answer::Content(bytes)))?;
-    counted(alloc, arguments.text(0)?, answers)
+fn sized(alloc: Global, said: &Words) -> Words {
+    let mut bytes = Vec::new(alloc);
+    if bytes.resize(said.number_at(1) as usize, 7).is_err() {
+        said.fail(RowFault::Memory);
+    }
+    let mut replies = Items::new(alloc);
+    match text(alloc, "a") {
+        Ok(name) => said.list(&mut replies, (name, Answer::Content(Bytes::new(bytes)))),
+        Err(fault) => said.fail(fault),
+    }
+    counted(alloc, &said.text_at(alloc, 0), replies)
 }
 
-/// The status of a command, how often it asked and how much it wrote.
-fn counted(alloc: Global, command: &str, answers: Vec<(Text, Answer)>) -> Result<Words, RowFault> {
-    let (outcome, script) = outcome(alloc, ".", command, answers)?;
-    let Ok(ended) = &outcome else {
-        return said(alloc, &outcome, &script);
+/// The status of a command at the top, how often it asked and how much it wrote.
+pub(crate) fn counted(alloc: Global, command: &Text, replies: Replies) -> Words {
+    let mut script = Script {
+        answers: replies.into_vec(),
+        asked: 0,
+        denied: None,
     };
-    let mut words = Words::new(alloc);
-    add_number(alloc, &mut words, ended.status)?;
-    let asked = script.asked;
-    words.add(alloc, format!(in alloc; "{asked}")?.as_bytes())?;
-    let written = ended.writes.len();
-    words.add(alloc, format!(in alloc; "{written}")?.as_bytes())?;
-    Ok(words)
-}
-
-/// `cat` of so many files.
-fn asks(alloc: Global, count: u64) -> Result<Words, RowFault> {
-    let mut command = String::from_str(alloc, "cat")?;
-    let mut answers = Vec::new(alloc);
-    for _ in 0..count {
-        command.push_str(" a")?;
-        answers.push((text(alloc, "a")?, answer(alloc, b"x")?))?;
-    }
-    command.push_str(" > b")?;
-    counted(alloc, command.as_str(), answers)
-}
-
-/// So many reads of an own write.
-fn own(alloc: Global, count: u64) -> Result<Words, RowFault> {
-    let mut command = String::from_str(alloc, "echo x > t && cat")?;
-    for _ in 0..count {
-        command.push_str(" t")?;
-    }
-    command.push_str(" > u")?;
-    counted(alloc, command.as_str(), Vec::new(alloc))
-}
-
-/// Files that include one another down to a depth.
-fn nested(alloc: Global, depth: u64) -> Result<Words, RowFault> {
-    let mut answers = Vec::new(alloc);
-    for at in 0..depth {
-        let line = format!(in alloc; "#include \"{at}\"\n")?;
-        answers.push((file(alloc, at)?, answer(alloc, line.as_bytes())?))?;
-    }
-    answers.push((file(alloc, depth)?, answer(alloc, b"x\n")?))?;
-    counted(alloc, "incl a b", answers)
-}
-
-/// The first file, or one that is numbered.
-fn file(alloc: Global, depth: u64) -> Result<Text, RowFault> {
-    match depth.checked_sub(1) {
-        None => text(alloc, "a"),
-        Some(number) => text(alloc, format!(in alloc; "{number}")?.as_str()),
+    match Mini::new(alloc).run(alloc, &Path::top(alloc), command, &mut script) {
+        Ok(ended) => counts(alloc, &ended, script.asked),
+        Err(fault) => denied(alloc, fault, &script),
     }
 }
 
-/// A file that includes itself, which is answered so often.
-fn itself(alloc: Global, count: u64) -> Result<Words, RowFault> {
-    let mut answers = Vec::new(alloc);
-    for _ in 0..count {
-        answers.push((text(alloc, "a")?, answer(alloc, b"#include \"a\"\n")?))?;
-    }
-    counted(alloc, "incl a b", answers)
-}
-
-/// So many files that are written twice.
-fn writes(alloc: Global, count: u64) -> Result<Words, RowFault> {
-    let mut command = String::from_str(alloc, "echo > f")?;
-    for at in 0..count {
-        command.push_str(format!(in alloc; " && echo x > f{at} && echo y > ./f{at}")?.as_str())?;
-    }
-    counted(alloc, command.as_str(), Vec::new(alloc))
+fn counts(alloc: Global, ended: &Ended, asked: usize) -> Words {
+    let mut words = Words::shown(alloc, &ended.status);
+    words.show(alloc, &asked);
+    words.show(alloc, &ended.writes.len());
+    words
 }

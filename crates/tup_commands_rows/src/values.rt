@@ -1,7 +1,7 @@
-//! What rows are made of: paths, lists of paths, contents and numbers.
+//! What rows are made of: paths, lists of paths, texts and contents.
 use std::alloc::Global;
 use tup_path::{Bytes, Items, Path, PathFault, Paths, Text};
-use tup_rows::{RowFault, Words};
+use tup_rows::RowFault;
 
 pub(crate) fn text(alloc: Global, word: &str) -> Result<Text, RowFault> {
     Ok(Text::from_str(alloc, word)?)
@@ -27,14 +27,4 @@ pub(crate) fn paths(alloc: Global, word: &str) -> Result<Paths, RowFault> {
         paths.push(path(alloc, name)?)?;
     }
     Ok(paths)
-}
-
-/// Adds a path as it is shown.
-pub(crate) fn add_path(alloc: Global, words: &mut Words, path: &Path) -> Result<(), RowFault> {
-    words.add(alloc, format!(in alloc; "{path}")?.as_bytes())
-}
-
-/// Adds a number in decimal digits.
-pub(crate) fn add_number(alloc: Global, words: &mut Words, number: u8) -> Result<(), RowFault> {
-    words.add(alloc, format!(in alloc; "{number}")?.as_bytes())
 }

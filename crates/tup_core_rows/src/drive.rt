@@ -9,7 +9,7 @@ use std::alloc::Global;
 use tup_access::judge;
 use tup_clean::clean_build;
 use tup_core::{Core, CoreEvent, Plan};
-use tup_mini::Command;
+use tup_mini::{Command, Mini};
 use tup_path::{Bytes, Files, Items, Path, Text};
 use tup_rows::{RowFault, Words};
 use tup_rule::Rule;
@@ -33,7 +33,13 @@ pub(crate) fn drive(alloc: Global, project: &Project, words: &Words) -> Result<W
     let seats = words.number(0)?;
     let plan = plan(alloc, project, words.text(2)?, false)?;
     let sources = sorted(alloc, &project.sources)?;
-    let Ok(clean) = clean_build(alloc, project.rules.as_slice(), &sources) else {
+    let built = clean_build(
+        alloc,
+        project.rules.as_slice(),
+        &sources,
+        &mut Mini::new(alloc),
+    );
+    let Ok(clean) = built else {
         return Err(RowFault::Memory);
     };
     for order in 0..words.number(1)? {

@@ -1,15 +1,15 @@
 //! The calls of `flags.rows`.
-use crate::values::{add_number, path, paths, repeated};
+use crate::repeated;
 use std::alloc::Global;
 use std::fs::Files;
 use std::io;
 use tup_flags::{FlagFault, FlagParts, Place, expand};
 use tup_path::{Items, Path, Text};
-use tup_rows::{Answers, RowFault, Words, try_file};
+use tup_rows::{Answers, RowFault, Words, try_file_by};
 use tup_rule::{GroupRef, GroupRefs, Piece, Pieces};
 
 pub(crate) fn try_rows<R: Files + Print>(rt: &R, alloc: Global) -> io::Result<()> {
-    try_file(rt, alloc, "flags.rows", &mut Flags::new(alloc))
+    try_file_by(rt, alloc, "flags.rows", Flags::new(alloc))
 }
 
 /// Knows the calls of tup_flags, and keeps the parts of a rule from row to row.
@@ -18,131 +18,137 @@ struct Flags {
     parts: FlagParts,
 }
 
+impl Answers for Flags {
+    fn answer(&mut self, alloc: Global, call: &str, said: &Words) -> Result<Words, RowFault> {
+        Ok(match call {
+            "expand" => self.expanded(alloc, said),
+            "expand_long" => self.measured(alloc, said),
+            _ => self.changed(alloc, call, said),
+        })
+    }
+}
+
 impl Flags {
+    /// A rule of the top directory that has no files.
     fn new(alloc: Global) -> Flags {
         Flags {
-            parts: no_parts(alloc),
+            parts: FlagParts {
+                dir: Path::top(alloc),
+                inputs: Items::new(alloc),
+                order: Items::new(alloc),
+                outputs: Items::new(alloc),
+                foreach: false,
+                glob: None,
+                groups: Items::new(alloc),
+                place: Place::Command,
+            },
         }
     }
 
     /// Sets a part of the rule, whose answer has no words.
-    fn set(&mut self, alloc: Global, part: &str, words: &str) -> Result<Words, RowFault> {
+    fn changed(&mut self, alloc: Global, part: &str, said: &Words) -> Words {
+        let parts = &mut self.parts;
         match part {
-            "dir" => self.parts.dir = path(alloc, words)?,
-            "inputs" => self.parts.inputs = paths(alloc, words)?,
-            "order" => self.parts.order = paths(alloc, words)?,
-            "outputs" => self.parts.outputs = paths(alloc, words)?,
-            "foreach" => self.parts.foreach = words == "yes",
-            "glob" => self.parts.glob = some_text(alloc, words)?,
-            "groups" => self.parts.groups = groups(alloc, words)?,
-            _ => return Err(RowFault::NoSuchCall),
+            "dir" => parts.dir = said.path_at(alloc, 0),
+            "inputs" => parts.inputs = said.paths_at(alloc, 0),
+            "order" => parts.order = said.paths_at(alloc, 0),
+            "outputs" => parts.outputs = said.paths_at(alloc, 0),
+            "foreach" => parts.foreach = said.str_at(0) == "yes",
+            "glob" => parts.glob = some_text(alloc, said),
+            "groups" => parts.groups = groups(alloc, said),
+            _ => return Words::none(alloc, RowFault::NoSuchCall),
         }
-        Ok(Words::new(alloc))
+        Words::new(alloc)
     }
 
-    /// The text expanded at each place of the rule line that is named.
-    fn expanded(&mut self, alloc: Global, at: &str, text: &Text) -> Result<Words, RowFault> {
-        self.parts.place = place(at)?;
-        match expand(alloc, text, &self.parts) {
+    /// The text expanded at the place of the rule line that is named.
+    fn expanded(&mut self, alloc: Global, said: &Words) -> Words {
+        self.parts.place = place(said);
+        match expand(alloc, &said.text_at(alloc, 1), &self.parts) {
             Ok(pieces) => listed(alloc, &pieces),
-            Err(FlagFault::Memory) => Err(RowFault::Memory),
-            Err(fault) => Words::refused(alloc, format!(in alloc; "{fault}")?.as_str()),
+            Err(fault) => refused(alloc, fault),
         }
     }
 
     /// How many bytes the first piece has of so many letters with a text behind them.
-    fn measured(&mut self, alloc: Global, text: &Text) -> Result<Words, RowFault> {
+    fn measured(&mut self, alloc: Global, said: &Words) -> Words {
         self.parts.place = Place::Command;
-        match expand(alloc, text, &self.parts) {
+        let (count, back) = (said.number_at(0), said.str_at(1));
+        match expand(
+            alloc,
+            &repeated::text(alloc, said, ("", "a", count, back)),
+            &self.parts,
+        ) {
             Ok(pieces) => first_length(alloc, &pieces),
-            Err(FlagFault::Memory) => Err(RowFault::Memory),
-            Err(fault) => Words::refused(alloc, format!(in alloc; "{fault}")?.as_str()),
+            Err(fault) => refused(alloc, fault),
         }
     }
 }
 
-impl Answers for Flags {
-    fn answer(&mut self, alloc: Global, call: &str, arguments: &Words) -> Result<Words, RowFault> {
-        match call {
-            "expand" => {
-                let text = Text::from_str(alloc, arguments.text(1)?)?;
-                self.expanded(alloc, arguments.text(0)?, &text)
-            }
-            "expand_long" => {
-                let text = repeated(alloc, "a", arguments.number(0)?, arguments.text(1)?)?;
-                self.measured(alloc, &text)
-            }
-            part => self.set(alloc, part, arguments.text(0)?),
+/// Want of memory is no answer.
+fn refused(alloc: Global, fault: FlagFault) -> Words {
+    match fault {
+        FlagFault::Memory => Words::none(alloc, RowFault::Memory),
+        fault => Words::refusal(alloc, &fault),
+    }
+}
+
+fn place(said: &Words) -> Place {
+    match said.str_at(0) {
+        "inputs" => Place::Inputs,
+        "command" => Place::Command,
+        "outputs" => Place::Outputs,
+        "extra" => Place::Extra,
+        _ => {
+            said.fail(RowFault::OtherKind);
+            Place::Command
         }
-    }
-}
-
-/// A rule of the top directory that has no files.
-fn no_parts(alloc: Global) -> FlagParts {
-    FlagParts {
-        dir: Path::top(alloc),
-        inputs: Items::new(alloc),
-        order: Items::new(alloc),
-        outputs: Items::new(alloc),
-        foreach: false,
-        glob: None,
-        groups: Items::new(alloc),
-        place: Place::Command,
-    }
-}
-
-fn place(word: &str) -> Result<Place, RowFault> {
-    match word {
-        "inputs" => Ok(Place::Inputs),
-        "command" => Ok(Place::Command),
-        "outputs" => Ok(Place::Outputs),
-        "extra" => Ok(Place::Extra),
-        _ => Err(RowFault::OtherKind),
     }
 }
 
 /// A text, or `None` for the empty word.
-fn some_text(alloc: Global, word: &str) -> Result<Option<Text>, RowFault> {
-    if word.is_empty() {
-        return Ok(None);
+fn some_text(alloc: Global, said: &Words) -> Option<Text> {
+    if said.str_at(0).is_empty() {
+        return None;
     }
-    Ok(Some(Text::from_str(alloc, word)?))
+    Some(said.text_at(alloc, 0))
 }
 
 /// Groups of the top directory with these names.
-fn groups(alloc: Global, names: &str) -> Result<GroupRefs, RowFault> {
+fn groups(alloc: Global, said: &Words) -> GroupRefs {
     let mut groups = Items::new(alloc);
-    for name in names.split_ascii_whitespace() {
-        groups.push(GroupRef {
-            dir: Path::top(alloc),
-            name: Text::from_str(alloc, name)?,
-        })?;
+    for name in said.texts_at(alloc, 0).into_vec() {
+        let dir = Path::top(alloc);
+        said.list(&mut groups, GroupRef { dir, name });
     }
-    Ok(groups)
+    groups
 }
 
 /// Each piece as two words: `text` and the text, or `group` and its place.
-fn listed(alloc: Global, pieces: &Pieces) -> Result<Words, RowFault> {
+fn listed(alloc: Global, pieces: &Pieces) -> Words {
     let mut words = Words::new(alloc);
     for piece in pieces.as_slice() {
-        match piece {
-            Piece::Text(text) => {
-                words.add(alloc, b"text")?;
-                words.add(alloc, text.as_str().as_bytes())?;
-            }
-            Piece::Group(at) => {
-                words.add(alloc, b"group")?;
-                add_number(alloc, &mut words, *at)?;
-            }
-        }
+        add_piece(alloc, &mut words, piece);
     }
-    Ok(words)
+    words
 }
 
-fn first_length(alloc: Global, pieces: &Pieces) -> Result<Words, RowFault> {
-    let length = match pieces.as_slice() {
-        [Piece::Text(text), ..] => text.as_str().len(),
-        _ => 0,
-    };
-    Words::one(alloc, format!(in alloc; "{length}")?.as_bytes())
+fn add_piece(alloc: Global, words: &mut Words, piece: &Piece) {
+    match piece {
+        Piece::Text(text) => {
+            words.put(alloc, b"text");
+            words.show(alloc, text);
+        }
+        Piece::Group(at) => {
+            words.put(alloc, b"group");
+            words.show(alloc, at);
+        }
+    }
+}
+
+fn first_length(alloc: Global, pieces: &Pieces) -> Words {
+    match pieces.as_slice() {
+        [Piece::Text(text), ..] => Words::shown(alloc, &text.as_str().len()),
+        _ => Words::word(alloc, b"0"),
+    }
 }

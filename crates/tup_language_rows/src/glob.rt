@@ -1,5 +1,5 @@
 //! The calls of `glob.rows`.
-use crate::values::{add_number, repeated, yes_or_no};
+use crate::repeated;
 use std::alloc::Global;
 use std::fs::Files;
 use std::io;
@@ -17,51 +17,74 @@ pub(crate) fn try_rows<R: Files + Print>(rt: &R, alloc: Global) -> io::Result<()
 struct Globs;
 
 impl Answers for Globs {
-    fn answer(&mut self, alloc: Global, call: &str, arguments: &Words) -> Result<Words, RowFault> {
-        let pattern = Text::from_str(alloc, arguments.text(0)?)?;
-        match Glob::read(alloc, &pattern) {
-            Ok(glob) => told(alloc, &glob, call, arguments),
-            Err(GlobFault::Memory) => Err(RowFault::Memory),
-            Err(fault) => Words::refused(alloc, format!(in alloc; "{fault}")?.as_str()),
-        }
+    fn answer(&mut self, alloc: Global, call: &str, said: &Words) -> Result<Words, RowFault> {
+        Ok(match call {
+            "matches" => matches(alloc, said, &said.text_at(alloc, 1)),
+            "matches_many" => matches(alloc, said, &many(alloc, said)),
+            "part" => part(alloc, said),
+            "plain" => plain(alloc, said),
+            _ => Words::none(alloc, RowFault::NoSuchCall),
+        })
     }
 }
 
-/// What is told of a pattern that is read.
-fn told(alloc: Global, glob: &Glob, call: &str, arguments: &Words) -> Result<Words, RowFault> {
-    match call {
-        "matches" => {
-            let name = Text::from_str(alloc, arguments.text(1)?)?;
-            yes_or_no(alloc, glob.matches(&name))
-        }
-        "matches_many" => {
-            let name = repeated(alloc, arguments.text(1)?, arguments.number(2)?, "")?;
-            yes_or_no(alloc, glob.matches(&name))
-        }
-        "part" => part(alloc, glob, arguments.text(1)?),
-        "plain" => yes_or_no(alloc, glob.is_plain()),
-        _ => Err(RowFault::NoSuchCall),
+/// The pattern that the first argument is.
+fn read(alloc: Global, said: &Words) -> Result<Glob, GlobFault> {
+    Glob::read(alloc, &said.text_at(alloc, 0))
+}
+
+fn many(alloc: Global, said: &Words) -> Text {
+    let (letter, count) = (said.str_at(1), said.number_at(2));
+    repeated::text(alloc, said, ("", letter, count, ""))
+}
+
+fn matches(alloc: Global, said: &Words, name: &Text) -> Words {
+    match read(alloc, said) {
+        Ok(glob) => Words::yes_or_no(alloc, glob.matches(name)),
+        Err(fault) => refused(alloc, fault),
+    }
+}
+
+fn plain(alloc: Global, said: &Words) -> Words {
+    match read(alloc, said) {
+        Ok(glob) => Words::yes_or_no(alloc, glob.is_plain()),
+        Err(fault) => refused(alloc, fault),
     }
 }
 
 /// The bytes at which the part of the first operator begins and ends, and the part.
-fn part(alloc: Global, glob: &Glob, name: &str) -> Result<Words, RowFault> {
-    if name.len() > 65535 {
-        return Err(RowFault::OtherKind);
-    }
-    match glob.matched_part(&Text::from_str(alloc, name)?) {
-        Some(span) => placed(alloc, name.as_bytes(), span),
-        None => Words::one(alloc, b"none"),
+fn part(alloc: Global, said: &Words) -> Words {
+    let name = said.text_at(alloc, 1);
+    match read(alloc, said) {
+        Ok(glob) => part_of(alloc, &glob, &name),
+        Err(fault) => refused(alloc, fault),
     }
 }
 
-fn placed(alloc: Global, name: &[u8], span: Span) -> Result<Words, RowFault> {
-    let Some(part) = name.get(span.from as usize..span.to as usize) else {
-        return Err(RowFault::OtherKind);
-    };
-    let mut words = Words::new(alloc);
-    add_number(alloc, &mut words, span.from)?;
-    add_number(alloc, &mut words, span.to)?;
-    words.add(alloc, part)?;
-    Ok(words)
+fn part_of(alloc: Global, glob: &Glob, name: &Text) -> Words {
+    if name.as_str().len() > 65535 {
+        return Words::none(alloc, RowFault::OtherKind);
+    }
+    match glob.matched_part(name) {
+        Some(span) => placed(alloc, name.as_str(), span),
+        None => Words::word(alloc, b"none"),
+    }
+}
+
+fn placed(alloc: Global, name: &str, span: Span) -> Words {
+    let mut words = Words::shown(alloc, &span.from);
+    words.show(alloc, &span.to);
+    match name.as_bytes().get(span.from as usize..span.to as usize) {
+        Some(part) => words.put(alloc, part),
+        None => words.fail(RowFault::OtherKind),
+    }
+    words
+}
+
+/// Want of memory is no answer.
+fn refused(alloc: Global, fault: GlobFault) -> Words {
+    match fault {
+        GlobFault::Memory => Words::none(alloc, RowFault::Memory),
+        fault => Words::refusal(alloc, &fault),
+    }
 }

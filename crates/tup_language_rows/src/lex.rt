@@ -1,9 +1,10 @@
 //! The calls of `lex.rows`.
+use crate::repeated;
 use std::alloc::Global;
 use std::fs::Files;
 use std::io;
 use tup_lex::{
-    LexFault, Lines, Parts, Span, last_line, line_number, lines, rule_parts, says_something,
+    LexFault, Line, Lines, Parts, Span, last_line, line_number, lines, rule_parts, says_something,
     trimmed,
 };
 use tup_path::{Bytes, Text};
@@ -18,118 +19,88 @@ pub(crate) fn try_rows<R: Files + Print>(rt: &R, alloc: Global) -> io::Result<()
 struct Lex;
 
 impl Answers for Lex {
-    fn answer(&mut self, alloc: Global, call: &str, arguments: &Words) -> Result<Words, RowFault> {
-        match call {
-            "lines" => cut(alloc, Vec::from_slice(alloc, arguments.bytes(0)?)?, false),
-            "long" => cut(alloc, repeated(alloc, arguments)?, true),
-            "parts" => parts(alloc, arguments.text(0)?),
-            "trimmed" => Words::one(alloc, trimmed(arguments.text(0)?).as_bytes()),
-            "says" => yes_or_no(alloc, says_something(arguments.text(0)?)),
-            "last_line" => number(alloc, last_line(arguments.bytes(0)?)),
-            "line_number" => number(alloc, line_number(arguments.number(0)? as usize)),
-            _ => Err(RowFault::NoSuchCall),
-        }
+    fn answer(&mut self, alloc: Global, call: &str, said: &Words) -> Result<Words, RowFault> {
+        Ok(match call {
+            "lines" => cut(alloc, said.bytes_at(alloc, 0), false),
+            "long" => cut(alloc, repeated::file(alloc, said), true),
+            "parts" => parts(alloc, &said.text_at(alloc, 0)),
+            "trimmed" => Words::word(alloc, trimmed(said.str_at(0)).as_bytes()),
+            "says" => Words::yes_or_no(alloc, says_something(said.str_at(0))),
+            "last_line" => Words::shown(alloc, &last_line(said.word_at(0))),
+            "line_number" => Words::shown(alloc, &line_number(said.number_at(0) as usize)),
+            _ => Words::none(alloc, RowFault::NoSuchCall),
+        })
     }
 }
 
-/// A file that is a front, a text so many times, and a back.
-pub(crate) fn repeated(alloc: Global, arguments: &Words) -> Result<Vec<u8>, RowFault> {
-    let mut file = Vec::from_slice(alloc, arguments.bytes(0)?)?;
-    for _ in 0..arguments.number(2)? {
-        file.extend_from_slice(arguments.bytes(1)?)?;
-    }
-    file.extend_from_slice(arguments.bytes(3)?)?;
-    Ok(file)
-}
-
-fn cut(alloc: Global, file: Vec<u8>, counted: bool) -> Result<Words, RowFault> {
+fn cut(alloc: Global, file: Vec<u8>, counted: bool) -> Words {
     match lines(alloc, &Bytes::new(file)) {
         Ok(all) => listed(alloc, &all, counted),
-        Err(fault) => refused(alloc, &fault),
+        Err(fault) => Words::refusal(alloc, &fault),
     }
 }
 
 /// Each line as its number and its text, or the count of its bytes.
-fn listed(alloc: Global, all: &Lines, counted: bool) -> Result<Words, RowFault> {
+fn listed(alloc: Global, all: &Lines, counted: bool) -> Words {
     let mut words = Words::new(alloc);
     for line in all.as_slice() {
-        words.add(alloc, format!(in alloc; "{}", line.number)?.as_bytes())?;
-        let text = line.text.as_str();
-        if counted {
-            words.add(alloc, format!(in alloc; "{}", text.len())?.as_bytes())?;
-        } else {
-            words.add(alloc, text.as_bytes())?;
-        }
+        add_line(alloc, &mut words, line, counted);
     }
-    Ok(words)
+    words
 }
 
-fn parts(alloc: Global, rule: &str) -> Result<Words, RowFault> {
-    if rule.len() > 65535 {
-        return Err(RowFault::OtherKind);
+fn add_line(alloc: Global, words: &mut Words, line: &Line, counted: bool) {
+    words.show(alloc, &line.number);
+    if counted {
+        words.show(alloc, &line.text.as_str().len());
+    } else {
+        words.show(alloc, &line.text);
     }
-    match rule_parts(alloc, &Text::from_str(alloc, rule)?) {
-        Ok(parts) => named(alloc, rule.as_bytes(), &parts),
-        Err(fault) => refused(alloc, &fault),
+}
+
+fn parts(alloc: Global, rule: &Text) -> Words {
+    if rule.as_str().len() > 65535 {
+        return Words::none(alloc, RowFault::OtherKind);
+    }
+    match rule_parts(alloc, rule) {
+        Ok(parts) => named(alloc, rule.as_str(), &parts),
+        Err(fault) => Words::refusal(alloc, &fault),
     }
 }
 
 /// Each part of a rule as its kind, its place and its text.
-fn named(alloc: Global, rule: &[u8], parts: &Parts) -> Result<Words, RowFault> {
+fn named(alloc: Global, rule: &str, parts: &Parts) -> Words {
     let mut words = Words::new(alloc);
     if parts.foreach {
-        words.add(alloc, b"foreach")?;
+        words.put(alloc, b"foreach");
     }
-    each(alloc, &mut words, "input", rule, parts.inputs.as_slice())?;
-    each(alloc, &mut words, "order", rule, parts.order.as_slice())?;
-    one(alloc, &mut words, "command", rule, parts.command)?;
-    each(alloc, &mut words, "output", rule, parts.outputs.as_slice())?;
-    each(alloc, &mut words, "extra", rule, parts.extra.as_slice())?;
-    if let Some(group) = parts.group {
-        one(alloc, &mut words, "group", rule, group)?;
-    }
-    if let Some(bin) = parts.bin {
-        one(alloc, &mut words, "bin", rule, bin)?;
-    }
-    Ok(words)
+    each(alloc, &mut words, "input", rule, parts.inputs.as_slice());
+    each(alloc, &mut words, "order", rule, parts.order.as_slice());
+    one(alloc, &mut words, "command", rule, &parts.command);
+    each(alloc, &mut words, "output", rule, parts.outputs.as_slice());
+    each(alloc, &mut words, "extra", rule, parts.extra.as_slice());
+    maybe(alloc, &mut words, "group", rule, &parts.group);
+    maybe(alloc, &mut words, "bin", rule, &parts.bin);
+    words
 }
 
-fn each(
-    alloc: Global,
-    words: &mut Words,
-    kind: &str,
-    rule: &[u8],
-    spans: &[Span],
-) -> Result<(), RowFault> {
+fn each(alloc: Global, words: &mut Words, kind: &str, rule: &str, spans: &[Span]) {
     for span in spans {
-        one(alloc, words, kind, rule, *span)?;
+        one(alloc, words, kind, rule, span);
     }
-    Ok(())
 }
 
-fn one(
-    alloc: Global,
-    words: &mut Words,
-    kind: &str,
-    rule: &[u8],
-    span: Span,
-) -> Result<(), RowFault> {
-    let Some(text) = rule.get(span.from as usize..span.to as usize) else {
-        return Err(RowFault::OtherKind);
-    };
-    words.add(alloc, kind.as_bytes())?;
-    words.add(alloc, format!(in alloc; "{}", span.from)?.as_bytes())?;
-    words.add(alloc, text)
+fn maybe(alloc: Global, words: &mut Words, kind: &str, rule: &str, span: &Option<Span>) {
+    if let Some(span) = span {
+        one(alloc, words, kind, rule, span);
+    }
 }
 
-fn refused(alloc: Global, fault: &LexFault) -> Result<Words, RowFault> {
-    Words::refused(alloc, format!(in alloc; "{fault}")?.as_str())
-}
-
-fn number(alloc: Global, number: u32) -> Result<Words, RowFault> {
-    Words::one(alloc, format!(in alloc; "{number}")?.as_bytes())
-}
-
-fn yes_or_no(alloc: Global, yes: bool) -> Result<Words, RowFault> {
-    Words::one(alloc, if yes { b"yes" } else { b"no" })
+fn one(alloc: Global, words: &mut Words, kind: &str, rule: &str, span: &Span) {
+    words.put(alloc, kind.as_bytes());
+    words.show(alloc, &span.from);
+    match rule.as_bytes().get(span.from as usize..span.to as usize) {
+        Some(text) => words.put(alloc, text),
+        None => words.fail(RowFault::OtherKind),
+    }
 }

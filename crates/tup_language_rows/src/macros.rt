@@ -1,16 +1,15 @@
 //! The calls of `macros.rows`.
-use crate::values::{path, shown, texts};
 use std::alloc::Global;
 use std::fs::Files;
 use std::io;
 use tup_macro::{Bins, Groups, Macro, MacroFault, Macros};
-use tup_path::{Text, Texts};
-use tup_rows::{Answers, RowFault, Words, try_file};
+use tup_path::{Paths, Texts};
+use tup_rows::{Answers, RowFault, Words, try_file_by};
 use tup_rule::GroupRef;
 
 pub(crate) fn try_rows<R: Files + Print>(rt: &R, alloc: Global) -> io::Result<()> {
     match Tables::new(alloc) {
-        Ok(mut tables) => try_file(rt, alloc, "macros.rows", &mut tables),
+        Ok(tables) => try_file_by(rt, alloc, "macros.rows", tables),
         Err(fault) => println!(rt; "macros.rows: {fault}"),
     }
 }
@@ -23,6 +22,20 @@ struct Tables {
     groups: Groups,
 }
 
+impl Answers for Tables {
+    fn answer(&mut self, alloc: Global, call: &str, said: &Words) -> Result<Words, RowFault> {
+        Ok(match call {
+            "define" => self.define(alloc, said),
+            "macro" => self.defined(alloc, said),
+            "give_bin" => self.give_bin(alloc, said),
+            "bin" => self.bin(alloc, said),
+            "give_group" => self.give_group(alloc, said),
+            "group" => self.group(alloc, said),
+            _ => Words::none(alloc, RowFault::NoSuchCall),
+        })
+    }
+}
+
 impl Tables {
     fn new(alloc: Global) -> Result<Tables, MacroFault> {
         Ok(Tables {
@@ -32,109 +45,95 @@ impl Tables {
         })
     }
 
-    fn define(&mut self, alloc: Global, arguments: &Words) -> Result<Words, RowFault> {
-        let name = Text::from_str(alloc, arguments.text(0)?)?;
+    fn define(&mut self, alloc: Global, said: &Words) -> Words {
         let body = Macro {
-            order: texts(alloc, arguments.text(1)?)?,
-            command: Text::from_str(alloc, arguments.text(2)?)?,
-            outputs: texts(alloc, arguments.text(3)?)?,
-            extra: texts(alloc, arguments.text(4)?)?,
+            order: said.texts_at(alloc, 1),
+            command: said.text_at(alloc, 2),
+            outputs: said.texts_at(alloc, 3),
+            extra: said.texts_at(alloc, 4),
         };
-        done(alloc, self.macros.define(&name, body))
+        done(alloc, self.macros.define(&said.text_at(alloc, 0), body))
     }
 
-    fn defined(&self, alloc: Global, name: &str) -> Result<Words, RowFault> {
-        match self.macros.get(&Text::from_str(alloc, name)?) {
+    fn defined(&self, alloc: Global, said: &Words) -> Words {
+        match self.macros.get(&said.text_at(alloc, 0)) {
             Ok(body) => named(alloc, body),
             Err(fault) => refused(alloc, fault),
         }
     }
 
-    fn give_bin(&mut self, alloc: Global, name: &str, given: &str) -> Result<Words, RowFault> {
-        let name = Text::from_str(alloc, name)?;
-        done(alloc, self.bins.add(&name, &path(alloc, given)?))
+    fn give_bin(&mut self, alloc: Global, said: &Words) -> Words {
+        let name = said.text_at(alloc, 0);
+        done(alloc, self.bins.add(&name, &said.path_at(alloc, 1)))
     }
 
-    fn bin(&self, alloc: Global, name: &str) -> Result<Words, RowFault> {
-        match self.bins.members(alloc, &Text::from_str(alloc, name)?) {
-            Ok(members) => shown(alloc, &members),
+    fn bin(&self, alloc: Global, said: &Words) -> Words {
+        match self.bins.members(alloc, &said.text_at(alloc, 0)) {
+            Ok(members) => listed(alloc, &members),
             Err(fault) => refused(alloc, fault),
         }
     }
 
-    fn give_group(
-        &mut self,
-        alloc: Global,
-        group: &GroupRef,
-        given: &str,
-    ) -> Result<Words, RowFault> {
-        done(alloc, self.groups.add(group, &path(alloc, given)?))
+    fn give_group(&mut self, alloc: Global, said: &Words) -> Words {
+        let group = group_at(alloc, said);
+        done(alloc, self.groups.add(&group, &said.path_at(alloc, 2)))
     }
 
-    fn group(&self, alloc: Global, group: &GroupRef) -> Result<Words, RowFault> {
-        match self.groups.members(alloc, group) {
-            Ok(Some(members)) => shown(alloc, &members),
-            Ok(None) => Words::one(alloc, b"none"),
+    fn group(&self, alloc: Global, said: &Words) -> Words {
+        match self.groups.members(alloc, &group_at(alloc, said)) {
+            Ok(Some(members)) => listed(alloc, &members),
+            Ok(None) => Words::word(alloc, b"none"),
             Err(fault) => refused(alloc, fault),
-        }
-    }
-}
-
-impl Answers for Tables {
-    fn answer(&mut self, alloc: Global, call: &str, arguments: &Words) -> Result<Words, RowFault> {
-        match call {
-            "define" => self.define(alloc, arguments),
-            "macro" => self.defined(alloc, arguments.text(0)?),
-            "give_bin" => self.give_bin(alloc, arguments.text(0)?, arguments.text(1)?),
-            "bin" => self.bin(alloc, arguments.text(0)?),
-            "give_group" => {
-                self.give_group(alloc, &group(alloc, arguments)?, arguments.text(2)?)
-            }
-            "group" => self.group(alloc, &group(alloc, arguments)?),
-            _ => Err(RowFault::NoSuchCall),
         }
     }
 }
 
 /// The group that a folder and a name are.
-fn group(alloc: Global, arguments: &Words) -> Result<GroupRef, RowFault> {
-    Ok(GroupRef {
-        dir: path(alloc, arguments.text(0)?)?,
-        name: Text::from_str(alloc, arguments.text(1)?)?,
-    })
+fn group_at(alloc: Global, said: &Words) -> GroupRef {
+    GroupRef {
+        dir: said.path_at(alloc, 0),
+        name: said.text_at(alloc, 1),
+    }
 }
 
 /// No words, or the refusal.
-fn done(alloc: Global, outcome: Result<(), MacroFault>) -> Result<Words, RowFault> {
+fn done(alloc: Global, outcome: Result<(), MacroFault>) -> Words {
     match outcome {
-        Ok(()) => Ok(Words::new(alloc)),
+        Ok(()) => Words::new(alloc),
         Err(fault) => refused(alloc, fault),
     }
 }
 
-/// The words of a refusal; want of memory ends the report.
-fn refused(alloc: Global, fault: MacroFault) -> Result<Words, RowFault> {
+/// The words of a refusal; want of memory is no answer.
+fn refused(alloc: Global, fault: MacroFault) -> Words {
     match fault {
-        MacroFault::Memory => Err(RowFault::Memory),
-        fault => Words::refused(alloc, format!(in alloc; "{fault}")?.as_str()),
+        MacroFault::Memory => Words::none(alloc, RowFault::Memory),
+        fault => Words::refusal(alloc, &fault),
     }
 }
 
 /// What a macro says, each part behind its name.
-fn named(alloc: Global, body: &Macro) -> Result<Words, RowFault> {
+fn named(alloc: Global, body: &Macro) -> Words {
     let mut words = Words::new(alloc);
-    each(alloc, &mut words, "order", &body.order)?;
-    words.add(alloc, b"command")?;
-    words.add(alloc, body.command.as_str().as_bytes())?;
-    each(alloc, &mut words, "outputs", &body.outputs)?;
-    each(alloc, &mut words, "extra", &body.extra)?;
-    Ok(words)
+    each(alloc, &mut words, "order", &body.order);
+    words.put(alloc, b"command");
+    words.show(alloc, &body.command);
+    each(alloc, &mut words, "outputs", &body.outputs);
+    each(alloc, &mut words, "extra", &body.extra);
+    words
 }
 
-fn each(alloc: Global, words: &mut Words, name: &str, texts: &Texts) -> Result<(), RowFault> {
-    words.add(alloc, name.as_bytes())?;
+fn each(alloc: Global, words: &mut Words, name: &str, texts: &Texts) {
+    words.put(alloc, name.as_bytes());
     for text in texts.as_slice() {
-        words.add(alloc, text.as_str().as_bytes())?;
+        words.show(alloc, text);
     }
-    Ok(())
+}
+
+fn listed(alloc: Global, paths: &Paths) -> Words {
+    let mut words = Words::new(alloc);
+    for path in paths.as_slice() {
+        words.show(alloc, path);
+    }
+    words
 }

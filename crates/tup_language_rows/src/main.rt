@@ -1,12 +1,13 @@
 //! Answers the rows of `data/` on the language of a Tupfile: a file of rows, and a module, for each crate.
 #![tactic(auto)]
 
+mod branches;
 mod flags;
 mod glob;
 mod lex;
 mod macros;
 mod parse;
-mod values;
+mod repeated;
 mod vars;
 
 use std::io;

@@ -2,100 +2,99 @@
 use std::alloc::Global;
 use std::fs::Files;
 use std::io;
-use tup_parse::{PlacedRules, ReadEnd, placed_rules};
-use tup_path::{Bytes, Items, Path, Paths};
+use tup_parse::{Placed, PlacedRules, ReadEnd, placed_rules};
+use tup_path::{Bytes, Paths};
 use tup_project::read_rules;
 use tup_rows::{Answers, RowFault, Words, try_file};
 use tup_rule::{Rule, Rules};
 
 pub(crate) fn try_rows<R: Files + Print>(rt: &R, alloc: Global) -> io::Result<()> {
-    try_file(rt, alloc, "parse.rows", &mut Parse)
+    try_file(rt, alloc, "parse.rows", &mut ParseRows)
 }
 
 /// Knows the calls of tup_parse and tup_project.
 #[derive(Drop)]
-struct Parse;
+struct ParseRows;
 
-impl Answers for Parse {
-    fn answer(&mut self, alloc: Global, call: &str, arguments: &Words) -> Result<Words, RowFault> {
-        let sources = sources(alloc, arguments.text(0)?)?;
-        match call {
-            "parse" => lines_of(alloc, &sources, arguments.bytes(1)?),
-            "project" => project(alloc, &sources, arguments.bytes(1)?),
-            "bare" => told(alloc, &read_rules(alloc, &sources, None)),
-            _ => Err(RowFault::NoSuchCall),
-        }
+impl Answers for ParseRows {
+    fn answer(&mut self, alloc: Global, call: &str, said: &Words) -> Result<Words, RowFault> {
+        Ok(match call {
+            "parse" => parse(alloc, said),
+            "project" => project(alloc, said),
+            "bare" => told(alloc, &read_rules(alloc, &said.paths_at(alloc, 0), None)),
+            _ => Words::none(alloc, RowFault::NoSuchCall),
+        })
     }
 }
 
-/// The paths that the words of a text name from the top directory.
-fn sources(alloc: Global, texts: &str) -> Result<Paths, RowFault> {
-    let mut paths = Items::new(alloc);
-    for text in texts.split_ascii_whitespace() {
-        match Path::from_top(alloc, text) {
-            Ok(path) => paths.push(path)?,
-            Err(_) => return Err(RowFault::OtherKind),
-        }
+fn parse(alloc: Global, said: &Words) -> Words {
+    let tupfile = Bytes::new(said.bytes_at(alloc, 1));
+    if tupfile.as_slice().len() > 65535 {
+        return Words::none(alloc, RowFault::OtherKind);
     }
-    Ok(paths)
-}
-
-fn lines_of(alloc: Global, sources: &Paths, tupfile: &[u8]) -> Result<Words, RowFault> {
-    if tupfile.len() > 65535 {
-        return Err(RowFault::OtherKind);
-    }
-    let tupfile = Bytes::new(Vec::from_slice(alloc, tupfile)?);
-    match placed_rules(alloc, sources, Some(&tupfile)) {
+    match placed_rules(alloc, &said.paths_at(alloc, 0), Some(&tupfile)) {
         Ok(placed) => with_lines(alloc, &placed),
-        Err(end) => refused(alloc, &end),
+        Err(end) => Words::refusal(alloc, &end),
     }
 }
 
-fn project(alloc: Global, sources: &Paths, tupfile: &[u8]) -> Result<Words, RowFault> {
-    if tupfile.len() > 65535 {
-        return Err(RowFault::OtherKind);
+fn project(alloc: Global, said: &Words) -> Words {
+    let tupfile = Bytes::new(said.bytes_at(alloc, 1));
+    if tupfile.as_slice().len() > 65535 {
+        return Words::none(alloc, RowFault::OtherKind);
     }
-    let tupfile = Bytes::new(Vec::from_slice(alloc, tupfile)?);
-    told(alloc, &read_rules(alloc, sources, Some(&tupfile)))
+    let read = read_rules(alloc, &said.paths_at(alloc, 0), Some(&tupfile));
+    told(alloc, &read)
 }
 
-fn with_lines(alloc: Global, placed: &PlacedRules) -> Result<Words, RowFault> {
+fn with_lines(alloc: Global, placed: &PlacedRules) -> Words {
     let mut words = Words::new(alloc);
     for one in placed.as_slice() {
-        let rule = shown(alloc, &one.rule)?;
-        words.add(alloc, format!(in alloc; "{} {rule}", one.line)?.as_bytes())?;
+        put(alloc, &mut words, numbered(alloc, one));
     }
-    Ok(words)
+    words
 }
 
-fn told(alloc: Global, read: &Result<Rules, ReadEnd>) -> Result<Words, RowFault> {
-    let rules = match read {
-        Ok(rules) => rules,
-        Err(end) => return refused(alloc, end),
-    };
+fn told(alloc: Global, read: &Result<Rules, ReadEnd>) -> Words {
+    match read {
+        Ok(rules) => listed(alloc, rules),
+        Err(end) => Words::refusal(alloc, end),
+    }
+}
+
+fn listed(alloc: Global, rules: &Rules) -> Words {
     let mut words = Words::new(alloc);
     for rule in rules.as_slice() {
-        words.add(alloc, shown(alloc, rule)?.as_bytes())?;
+        put(alloc, &mut words, shown(alloc, rule));
     }
-    Ok(words)
+    words
+}
+
+fn put(alloc: Global, words: &mut Words, text: Result<String, RowFault>) {
+    match text {
+        Ok(text) => words.put(alloc, text.as_bytes()),
+        Err(fault) => words.fail(fault),
+    }
+}
+
+/// A rule behind the number of its line.
+fn numbered(alloc: Global, placed: &Placed) -> Result<String, RowFault> {
+    let rule = shown(alloc, &placed.rule)?;
+    Ok(format!(in alloc; "{} {rule}", placed.line)?)
 }
 
 /// A rule as `DIR: COMMAND < INPUTS > OUTPUTS`.
 fn shown(alloc: Global, rule: &Rule) -> Result<String, RowFault> {
-    let mut text = format!(in alloc; "{}: {} <", rule.dir, rule.text)?;
-    add_paths(&mut text, alloc, &rule.inputs)?;
-    text.push_str(" >")?;
-    add_paths(&mut text, alloc, &rule.outputs)?;
-    Ok(text)
+    let inputs = joined(alloc, &rule.inputs)?;
+    let outputs = joined(alloc, &rule.outputs)?;
+    Ok(format!(in alloc; "{}: {} <{inputs} >{outputs}", rule.dir, rule.text)?)
 }
 
-fn add_paths(text: &mut String, alloc: Global, paths: &Paths) -> Result<(), RowFault> {
+/// Each path behind a blank.
+fn joined(alloc: Global, paths: &Paths) -> Result<String, RowFault> {
+    let mut text = String::new(alloc);
     for path in paths.as_slice() {
         text.push_str(format!(in alloc; " {path}")?.as_str())?;
     }
-    Ok(())
-}
-
-fn refused(alloc: Global, end: &ReadEnd) -> Result<Words, RowFault> {
-    Words::refused(alloc, format!(in alloc; "{end}")?.as_str())
+    Ok(text)
 }

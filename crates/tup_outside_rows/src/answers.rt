@@ -1,62 +1,53 @@
 //! Answers in words.
 use std::alloc::Global;
-use tup_path::{Path, PathFault};
+use tup_path::Paths;
 use tup_rows::{RowFault, Words};
 use tup_site::SiteFailed;
 
-pub(crate) fn done(alloc: Global) -> Result<Words, RowFault> {
-    Words::one(alloc, b"ok")
-}
-
-pub(crate) fn yes_or_no(alloc: Global, yes: bool) -> Result<Words, RowFault> {
-    Words::one(
-        alloc,
-        if yes {
-            b"yes".as_slice()
-        } else {
-            b"no".as_slice()
-        },
-    )
-}
-
-pub(crate) fn number(alloc: Global, number: u64) -> Result<Words, RowFault> {
-    Words::one(alloc, format!(in alloc; "{number}")?.as_bytes())
-}
-
-/// The words of a refusal. Want of memory is none: it ends the report.
-pub(crate) fn refused(alloc: Global, failed: SiteFailed) -> Result<Words, RowFault> {
+/// The words of a refusal; want of memory is no answer.
+pub(crate) fn refused(alloc: Global, failed: SiteFailed) -> Words {
     match failed {
-        SiteFailed::Fault => Words::one(alloc, b"fault"),
-        SiteFailed::TooLarge(len) => {
-            let mut words = Words::one(alloc, b"large")?;
-            words.add(alloc, format!(in alloc; "{len}")?.as_bytes())?;
-            Ok(words)
-        }
-        SiteFailed::Memory => Err(RowFault::Memory),
+        SiteFailed::Fault => Words::word(alloc, b"fault"),
+        SiteFailed::TooLarge(len) => counted(alloc, b"large", len),
+        SiteFailed::Memory => Words::none(alloc, RowFault::Memory),
     }
 }
 
+/// A word and a number.
+pub(crate) fn counted(alloc: Global, word: &[u8], number: u64) -> Words {
+    let mut words = Words::word(alloc, word);
+    words.show(alloc, &number);
+    words
+}
+
 /// The answer of a call that gives nothing.
-pub(crate) fn ended(alloc: Global, answer: Result<(), SiteFailed>) -> Result<Words, RowFault> {
+pub(crate) fn ended(alloc: Global, answer: Result<(), SiteFailed>) -> Words {
     match answer {
-        Ok(()) => done(alloc),
+        Ok(()) => Words::done(alloc),
         Err(failed) => refused(alloc, failed),
     }
 }
 
-/// The path that a text names from the top.
-pub(crate) fn path_of(alloc: Global, text: &str) -> Result<Path, RowFault> {
-    match Path::from_top(alloc, text) {
-        Ok(path) => Ok(path),
-        Err(PathFault::Memory) => Err(RowFault::Memory),
-        Err(_) => Err(RowFault::OtherKind),
+/// The answer of a call that gives a number.
+pub(crate) fn number(alloc: Global, answer: Result<u64, SiteFailed>) -> Words {
+    match answer {
+        Ok(number) => Words::shown(alloc, &number),
+        Err(failed) => refused(alloc, failed),
     }
 }
 
-/// The way of a path from the top.
-pub(crate) fn show(alloc: Global, words: &mut Words, path: &Path) -> Result<(), RowFault> {
-    match path.show(alloc) {
-        Ok(text) => words.add(alloc, text.as_str().as_bytes()),
-        Err(_) => Err(RowFault::Memory),
+/// The answer of a call that gives paths.
+pub(crate) fn listed(alloc: Global, answer: Result<Paths, SiteFailed>) -> Words {
+    match answer {
+        Ok(paths) => said(alloc, &paths),
+        Err(failed) => refused(alloc, failed),
     }
+}
+
+fn said(alloc: Global, paths: &Paths) -> Words {
+    let mut words = Words::new(alloc);
+    for path in paths.as_slice() {
+        words.show(alloc, path);
+    }
+    words
 }

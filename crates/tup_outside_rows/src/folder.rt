@@ -1,5 +1,4 @@
 //! A real folder in which rows make and look at files without the site.
-use crate::answers::{done, yes_or_no};
 use std::alloc::{AllocError, Global};
 use std::fs::File;
 use std::io::ErrorKind;
@@ -16,13 +15,21 @@ pub(crate) struct Folder {
 }
 
 impl Folder {
-    /// Makes the folder itself.
-    pub(crate) fn begin(rt: HostRuntime, alloc: Global, name: &str) -> Result<Folder, RowFault> {
-        made(fs::create_dir(&rt, name))?;
-        Ok(Folder {
-            rt,
-            place: String::from_str(alloc, name)?,
-        })
+    pub(crate) fn answer(&self, alloc: Global, call: &str, said: &Words) -> Words {
+        match call {
+            "make" => made(alloc, self.make(alloc, said.str_at(0))),
+            "write" => made(alloc, self.write(alloc, said.str_at(0), said.word_at(1))),
+            "link" => made(alloc, self.link(alloc, said.str_at(0), said.str_at(1))),
+            "lengthen" => made(
+                alloc,
+                self.lengthen(alloc, said.str_at(0), said.number_at(1)),
+            ),
+            "shell" => made(alloc, self.shell(alloc, said.str_at(0))),
+            "file" => holds(alloc, self.read(alloc, said.str_at(0))),
+            "stands" => self.stands(alloc, said.str_at(0)),
+            "end" => made(alloc, self.end()),
+            _ => Words::none(alloc, RowFault::NoSuchCall),
+        }
     }
 
     fn at(&self, alloc: Global, rest: &str) -> Result<String, AllocError> {
@@ -30,44 +37,31 @@ impl Folder {
         format!(in alloc; "{place}/{rest}")
     }
 
-    pub(crate) fn make(&self, alloc: Global, rest: &str) -> Result<Words, RowFault> {
-        made(fs::create_dir_all(&self.rt, self.at(alloc, rest)?))?;
-        done(alloc)
+    fn make(&self, alloc: Global, rest: &str) -> io::Result<()> {
+        fs::create_dir_all(&self.rt, self.at(alloc, rest)?)
     }
 
-    pub(crate) fn write(
-        &self,
-        alloc: Global,
-        rest: &str,
-        content: &[u8],
-    ) -> Result<Words, RowFault> {
-        made(fs::write(&self.rt, self.at(alloc, rest)?, content))?;
-        done(alloc)
+    fn write(&self, alloc: Global, rest: &str, content: &[u8]) -> io::Result<()> {
+        fs::write(&self.rt, self.at(alloc, rest)?, content)
     }
 
-    pub(crate) fn link(&self, alloc: Global, rest: &str, to: &str) -> Result<Words, RowFault> {
-        made(symlink(&self.rt, to, self.at(alloc, rest)?))?;
-        done(alloc)
+    fn link(&self, alloc: Global, rest: &str, to: &str) -> io::Result<()> {
+        symlink(&self.rt, to, self.at(alloc, rest)?)
     }
 
     /// Gives a file a length, with zeros behind what it holds.
-    pub(crate) fn lengthen(&self, alloc: Global, rest: &str, len: u64) -> Result<Words, RowFault> {
-        made(self.set_len(alloc, rest, len))?;
-        done(alloc)
-    }
-
-    fn set_len(&self, alloc: Global, rest: &str, len: u64) -> io::Result<()> {
+    fn lengthen(&self, alloc: Global, rest: &str, len: u64) -> io::Result<()> {
         File::create(&self.rt, self.at(alloc, rest)?)?.set_len(len)
     }
 
     /// Runs a line of shell in the folder, for what std can't make.
-    pub(crate) fn shell(&self, alloc: Global, line: &str) -> Result<Words, RowFault> {
+    fn shell(&self, alloc: Global, line: &str) -> io::Result<()> {
         let place = &self.place;
         let line = format!(in alloc; "cd '{place}' && {line}")?;
-        match self.succeeds(alloc, line.as_str()) {
-            Ok(true) => done(alloc),
-            _ => Err(RowFault::OtherKind),
+        if self.succeeds(alloc, &line)? {
+            return Ok(());
         }
+        Err(ErrorKind::Other.into())
     }
 
     fn succeeds(&self, alloc: Global, line: &str) -> io::Result<bool> {
@@ -75,32 +69,42 @@ impl Folder {
         Ok(shell.arg("-c")?.arg(line)?.status(&self.rt)?.success())
     }
 
-    /// What a file holds.
-    pub(crate) fn holds(&self, alloc: Global, rest: &str) -> Result<Words, RowFault> {
-        let text = made(fs::read_to_string(&self.rt, self.at(alloc, rest)?))?;
-        Words::one(alloc, text.as_bytes())
+    fn read(&self, alloc: Global, rest: &str) -> io::Result<String> {
+        fs::read_to_string(&self.rt, self.at(alloc, rest)?)
     }
 
     /// Whether anything stands there, a link too.
-    pub(crate) fn stands(&self, alloc: Global, rest: &str) -> Result<Words, RowFault> {
-        match fs::symlink_metadata(&self.rt, self.at(alloc, rest)?) {
-            Ok(_) => yes_or_no(alloc, true),
-            Err(e) if e.kind() == ErrorKind::NotFound => yes_or_no(alloc, false),
-            Err(_) => Err(RowFault::OtherKind),
+    fn stands(&self, alloc: Global, rest: &str) -> Words {
+        match self.look(alloc, rest) {
+            Ok(()) => Words::yes_or_no(alloc, true),
+            Err(e) if e.kind() == ErrorKind::NotFound => Words::yes_or_no(alloc, false),
+            Err(_) => Words::none(alloc, RowFault::OtherKind),
         }
     }
 
+    fn look(&self, alloc: Global, rest: &str) -> io::Result<()> {
+        fs::symlink_metadata(&self.rt, self.at(alloc, rest)?)?;
+        Ok(())
+    }
+
     /// Takes the folder away with all that is in it.
-    pub(crate) fn end(&self, alloc: Global) -> Result<Words, RowFault> {
-        made(fs::remove_dir_all(&self.rt, self.place.as_str()))?;
-        done(alloc)
+    fn end(&self) -> io::Result<()> {
+        fs::remove_dir_all(&self.rt, self.place.as_str())
     }
 }
 
 /// What the row made, or that it can't be made here.
-fn made<T: Drop>(answer: io::Result<T>) -> Result<T, RowFault> {
+pub(crate) fn made(alloc: Global, answer: io::Result<()>) -> Words {
     match answer {
-        Ok(value) => Ok(value),
-        Err(_) => Err(RowFault::OtherKind),
+        Ok(()) => Words::done(alloc),
+        Err(_) => Words::none(alloc, RowFault::OtherKind),
+    }
+}
+
+/// What a file holds.
+fn holds(alloc: Global, content: io::Result<String>) -> Words {
+    match content {
+        Ok(text) => Words::word(alloc, text.as_bytes()),
+        Err(_) => Words::none(alloc, RowFault::OtherKind),
     }
 }

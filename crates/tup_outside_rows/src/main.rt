@@ -10,14 +10,14 @@ mod session;
 use memory::Memory;
 use session::Session;
 use std::io;
-use tup_rows::try_file;
+use tup_rows::try_file_by;
 
 fn main(rt: HostRuntime) -> io::Result<()> {
     let alloc = rt.alloc();
-    let mut session = Session::new(rt, alloc, ".")?;
-    try_file(&rt, alloc, "fs.rows", &mut session)?;
+    let session = Session::new(rt, alloc, ".")?;
+    try_file_by(&rt, alloc, "fs.rows", session)?;
     match Memory::new(alloc, 0) {
-        Ok(mut memory) => try_file(&rt, alloc, "memory.rows", &mut memory),
+        Ok(memory) => try_file_by(&rt, alloc, "memory.rows", memory),
         Err(_) => Ok(()),
     }
 }

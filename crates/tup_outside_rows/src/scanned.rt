@@ -1,5 +1,5 @@
 //! The call `scan`.
-use crate::answers::show;
+use crate::answers::counted;
 use std::alloc::Global;
 use tup_rows::{RowFault, Words};
 use tup_scan::{ScanFault, Seen, Still, scan};
@@ -7,7 +7,7 @@ use tup_site::Site;
 use tup_stamp::hex;
 
 /// What a scan of a site sees.
-pub(crate) fn scanned<S: Site>(alloc: Global, site: &mut S) -> Result<Words, RowFault> {
+pub(crate) fn scanned<S: Site>(alloc: Global, site: &mut S) -> Words {
     match scan(alloc, site, 1, &Still) {
         Ok(seen) => shown(alloc, &seen),
         Err(fault) => refused(alloc, fault),
@@ -15,32 +15,25 @@ pub(crate) fn scanned<S: Site>(alloc: Global, site: &mut S) -> Result<Words, Row
 }
 
 /// Each path with its stamp, and then the content of tup.config.
-fn shown(alloc: Global, seen: &Seen) -> Result<Words, RowFault> {
+fn shown(alloc: Global, seen: &Seen) -> Words {
     let mut words = Words::new(alloc);
     for (path, stamp) in seen.files.as_slice() {
-        show(alloc, &mut words, path)?;
-        words.add(alloc, &hex(stamp))?;
+        words.show(alloc, path);
+        words.put(alloc, &hex(stamp));
     }
     if let Some(config) = &seen.config {
-        words.add(alloc, b"config")?;
-        words.add(alloc, config.as_slice())?;
+        words.put(alloc, b"config");
+        words.put(alloc, config.as_slice());
     }
-    Ok(words)
+    words
 }
 
-/// The words of a refusal. Want of memory is none: it ends the report.
-fn refused(alloc: Global, fault: ScanFault) -> Result<Words, RowFault> {
+/// The words of a refusal; want of memory is no answer.
+fn refused(alloc: Global, fault: ScanFault) -> Words {
     match fault {
-        ScanFault::Site => Words::one(alloc, b"fault"),
-        ScanFault::TooLarge(bytes) => told(alloc, b"large", bytes),
-        ScanFault::TooManyFiles(files) => told(alloc, b"many", files),
-        ScanFault::Memory => Err(RowFault::Memory),
+        ScanFault::Site => Words::word(alloc, b"fault"),
+        ScanFault::TooLarge(bytes) => counted(alloc, b"large", bytes),
+        ScanFault::TooManyFiles(files) => counted(alloc, b"many", files),
+        ScanFault::Memory => Words::none(alloc, RowFault::Memory),
     }
-}
-
-/// A word and a number.
-fn told(alloc: Global, word: &[u8], number: u64) -> Result<Words, RowFault> {
-    let mut words = Words::one(alloc, word)?;
-    words.add(alloc, format!(in alloc; "{number}")?.as_bytes())?;
-    Ok(words)
 }

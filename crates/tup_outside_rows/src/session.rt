@@ -1,8 +1,9 @@
 //! The calls of `fs.rows`.
-use crate::answers::{done, ended, number, path_of, refused, show};
+use crate::answers::{ended, listed, number, refused};
 use crate::folder::Folder;
 use crate::scanned::scanned;
 use std::alloc::{AllocError, Global};
+use std::fs;
 use tup_fs::FsSite;
 use tup_path::Bytes;
 use tup_rows::{Answers, RowFault, Words};
@@ -15,185 +16,150 @@ pub(crate) struct Session {
     site: FsSite<HostRuntime>,
 }
 
+impl Answers for Session {
+    fn answer(&mut self, alloc: Global, call: &str, said: &Words) -> Result<Words, RowFault> {
+        Ok(match call {
+            "begin" => self.begin(alloc, said.str_at(0)),
+            "again" => self.again(alloc),
+            "over" => self.over(alloc, said.str_at(0)),
+            "beside" => self.beside(alloc),
+            "list" => listed(alloc, self.site.list(alloc)),
+            "scan" => scanned(alloc, &mut self.site),
+            "faults" => Words::shown(alloc, &self.site.faults()),
+            "said" => self.last(alloc),
+            _ => self.answer_of_files(alloc, call, said),
+        })
+    }
+}
+
 impl Session {
     /// A site over a folder that is there.
     pub(crate) fn new(rt: HostRuntime, alloc: Global, place: &str) -> Result<Session, AllocError> {
+        let site = FsSite::new(rt, alloc, place)?;
+        let place = String::from_str(alloc, place)?;
         Ok(Session {
-            folder: Folder {
-                rt,
-                place: String::from_str(alloc, place)?,
-            },
-            site: FsSite::new(rt, alloc, place)?,
+            folder: Folder { rt, place },
+            site,
         })
     }
 
-    /// Makes a folder, and begins a site over it.
-    fn begin(&mut self, alloc: Global, name: &str) -> Result<Words, RowFault> {
-        let rt = self.folder.rt;
-        self.folder = Folder::begin(rt, alloc, name)?;
-        self.site = FsSite::new(rt, alloc, name)?;
-        done(alloc)
-    }
-
-    /// Begins another site over the same folder, as the next run of the program does.
-    fn again(&mut self, alloc: Global) -> Result<Words, RowFault> {
-        self.site = FsSite::new(self.folder.rt, alloc, self.folder.place.as_str())?;
-        done(alloc)
-    }
-
-    /// Asks another site over the same folder for the store's length, while this one is at work.
-    fn beside(&mut self, alloc: Global) -> Result<Words, RowFault> {
-        let rt = self.folder.rt;
-        let mut other = FsSite::new(rt, alloc, self.folder.place.as_str())?;
-        match other.db_len(alloc) {
-            Ok(len) => number(alloc, len),
-            Err(failed) => refused(alloc, failed),
+    fn answer_of_files(&mut self, alloc: Global, call: &str, said: &Words) -> Words {
+        match call {
+            "get" => self.get(alloc, said),
+            "get_length" => self.get_length(alloc, said),
+            "put" => self.put(alloc, said),
+            "remove" => self.remove(alloc, said),
+            "settle" => ended(alloc, self.site.settle(alloc)),
+            "store_length" => number(alloc, self.site.db_len(alloc)),
+            "store_read" => self.store_read(alloc, said),
+            "store_write" => self.store_write(alloc, said),
+            "store_cut" => ended(alloc, self.site.db_cut(alloc, said.number_at(0))),
+            "store_sync" => ended(alloc, self.site.db_sync(alloc)),
+            _ => self.folder.answer(alloc, call, said),
         }
     }
 
-    /// What the site says of its last failure.
-    fn said(&self, alloc: Global) -> Result<Words, RowFault> {
-        match self.site.last() {
-            Some(failure) => Words::one(alloc, format!(in alloc; "{failure}")?.as_bytes()),
-            None => Ok(Words::new(alloc)),
+    /// Makes a folder, and begins a site over it.
+    fn begin(&mut self, alloc: Global, name: &str) -> Words {
+        match fs::create_dir(&self.folder.rt, name) {
+            Ok(()) => self.over(alloc, name),
+            Err(_) => Words::none(alloc, RowFault::OtherKind),
         }
     }
 
     /// Begins a site over a folder that is there.
-    fn over(&mut self, alloc: Global, place: &str) -> Result<Words, RowFault> {
-        *self = Session::new(self.folder.rt, alloc, place)?;
-        done(alloc)
-    }
-
-    fn list(&mut self, alloc: Global) -> Result<Words, RowFault> {
-        let paths = match self.site.list(alloc) {
-            Ok(paths) => paths,
-            Err(failed) => return refused(alloc, failed),
-        };
-        let mut words = Words::new(alloc);
-        for path in paths.as_slice() {
-            show(alloc, &mut words, path)?;
-        }
-        Ok(words)
-    }
-
-    fn get(&mut self, alloc: Global, path: &str) -> Result<Words, RowFault> {
-        match self.site.get(alloc, &path_of(alloc, path)?) {
-            Ok(Some(content)) => {
-                let mut words = Words::one(alloc, b"holds")?;
-                words.add(alloc, content.as_slice())?;
-                Ok(words)
+    fn over(&mut self, alloc: Global, place: &str) -> Words {
+        match Session::new(self.folder.rt, alloc, place) {
+            Ok(session) => {
+                *self = session;
+                Words::done(alloc)
             }
-            Ok(None) => Words::one(alloc, b"none"),
+            Err(_) => Words::none(alloc, RowFault::Memory),
+        }
+    }
+
+    fn another(&self, alloc: Global) -> Result<FsSite<HostRuntime>, AllocError> {
+        FsSite::new(self.folder.rt, alloc, self.folder.place.as_str())
+    }
+
+    /// Begins another site over the same folder, as the next run of the program does.
+    fn again(&mut self, alloc: Global) -> Words {
+        match self.another(alloc) {
+            Ok(site) => {
+                self.site = site;
+                Words::done(alloc)
+            }
+            Err(_) => Words::none(alloc, RowFault::Memory),
+        }
+    }
+
+    /// Asks another site over the same folder for the store's length, while this one is at work.
+    fn beside(&mut self, alloc: Global) -> Words {
+        match self.another(alloc) {
+            Ok(mut other) => number(alloc, other.db_len(alloc)),
+            Err(_) => Words::none(alloc, RowFault::Memory),
+        }
+    }
+
+    /// What the site says of its last failure.
+    fn last(&self, alloc: Global) -> Words {
+        match self.site.last() {
+            Some(failure) => Words::shown(alloc, failure),
+            None => Words::new(alloc),
+        }
+    }
+
+    fn get(&mut self, alloc: Global, said: &Words) -> Words {
+        match self.site.get(alloc, &said.path_at(alloc, 0)) {
+            Ok(Some(content)) => holds(alloc, &content),
+            Ok(None) => Words::word(alloc, b"none"),
             Err(failed) => refused(alloc, failed),
         }
     }
 
     /// How long the content of a file is, for files that no row could hold.
-    fn get_length(&mut self, alloc: Global, path: &str) -> Result<Words, RowFault> {
-        match self.site.get(alloc, &path_of(alloc, path)?) {
-            Ok(Some(content)) => number(alloc, content.as_slice().len() as u64),
-            Ok(None) => Words::one(alloc, b"none"),
+    fn get_length(&mut self, alloc: Global, said: &Words) -> Words {
+        match self.site.get(alloc, &said.path_at(alloc, 0)) {
+            Ok(Some(content)) => Words::shown(alloc, &content.as_slice().len()),
+            Ok(None) => Words::word(alloc, b"none"),
             Err(failed) => refused(alloc, failed),
         }
     }
 
-    fn put(&mut self, alloc: Global, path: &str, content: &[u8]) -> Result<Words, RowFault> {
-        let content = Bytes::new(Vec::from_slice(alloc, content)?);
-        let put = self.site.put(alloc, &path_of(alloc, path)?, &content);
-        ended(alloc, put)
+    fn put(&mut self, alloc: Global, said: &Words) -> Words {
+        let content = Bytes::new(said.bytes_at(alloc, 1));
+        ended(
+            alloc,
+            self.site.put(alloc, &said.path_at(alloc, 0), &content),
+        )
     }
 
-    fn remove(&mut self, alloc: Global, path: &str) -> Result<Words, RowFault> {
-        let removed = self.site.remove(alloc, &path_of(alloc, path)?);
-        ended(alloc, removed)
+    fn remove(&mut self, alloc: Global, said: &Words) -> Words {
+        ended(alloc, self.site.remove(alloc, &said.path_at(alloc, 0)))
     }
 
-    fn store_length(&mut self, alloc: Global) -> Result<Words, RowFault> {
-        match self.site.db_len(alloc) {
-            Ok(len) => number(alloc, len),
+    fn store_read(&mut self, alloc: Global, said: &Words) -> Words {
+        match vec![in alloc; 0u8; (said.number_at(1) & 0xff) as usize] {
+            Ok(mut bytes) => self.store_read_to(alloc, said, &mut bytes),
+            Err(_) => Words::none(alloc, RowFault::Memory),
+        }
+    }
+
+    fn store_read_to(&mut self, alloc: Global, said: &Words, bytes: &mut Vec<u8>) -> Words {
+        match self.site.db_read(alloc, said.number_at(0), bytes) {
+            Ok(()) => Words::word(alloc, bytes),
             Err(failed) => refused(alloc, failed),
         }
     }
 
-    fn store_read(&mut self, alloc: Global, at: u64, len: u64) -> Result<Words, RowFault> {
-        let mut bytes = vec![in alloc; 0u8; (len & 0xff) as usize]?;
-        match self.site.db_read(alloc, at, &mut bytes) {
-            Ok(()) => Words::one(alloc, &bytes),
-            Err(failed) => refused(alloc, failed),
-        }
+    fn store_write(&mut self, alloc: Global, said: &Words) -> Words {
+        let (at, bytes) = (said.number_at(0), said.word_at(1));
+        ended(alloc, self.site.db_write(alloc, at, bytes))
     }
 }
 
-impl Answers for Session {
-    fn answer(&mut self, alloc: Global, call: &str, arguments: &Words) -> Result<Words, RowFault> {
-        match call {
-            "begin" => self.begin(alloc, arguments.text(0)?),
-            "again" => self.again(alloc),
-            "beside" => self.beside(alloc),
-            "over" => self.over(alloc, arguments.text(0)?),
-            "list" => self.list(alloc),
-            "get" => self.get(alloc, arguments.text(0)?),
-            "get_length" => self.get_length(alloc, arguments.text(0)?),
-            "put" => self.put(alloc, arguments.text(0)?, arguments.bytes(1)?),
-            "remove" => self.remove(alloc, arguments.text(0)?),
-            "scan" => scanned(alloc, &mut self.site),
-            "faults" => number(alloc, self.site.faults()),
-            "said" => self.said(alloc),
-            _ => self.answer_of_store(alloc, call, arguments),
-        }
-    }
-}
-
-impl Session {
-    fn answer_of_store(
-        &mut self,
-        alloc: Global,
-        call: &str,
-        arguments: &Words,
-    ) -> Result<Words, RowFault> {
-        match call {
-            "settle" => {
-                let settled = self.site.settle(alloc);
-                ended(alloc, settled)
-            }
-            "store_length" => self.store_length(alloc),
-            "store_read" => self.store_read(alloc, arguments.number(0)?, arguments.number(1)?),
-            "store_write" => {
-                let written = self
-                    .site
-                    .db_write(alloc, arguments.number(0)?, arguments.bytes(1)?);
-                ended(alloc, written)
-            }
-            "store_cut" => {
-                let cut = self.site.db_cut(alloc, arguments.number(0)?);
-                ended(alloc, cut)
-            }
-            "store_sync" => {
-                let synced = self.site.db_sync(alloc);
-                ended(alloc, synced)
-            }
-            _ => self.answer_of_folder(alloc, call, arguments),
-        }
-    }
-
-    fn answer_of_folder(
-        &self,
-        alloc: Global,
-        call: &str,
-        arguments: &Words,
-    ) -> Result<Words, RowFault> {
-        let first = arguments.text(0);
-        match call {
-            "make" => self.folder.make(alloc, first?),
-            "write" => self.folder.write(alloc, first?, arguments.bytes(1)?),
-            "link" => self.folder.link(alloc, first?, arguments.text(1)?),
-            "lengthen" => self.folder.lengthen(alloc, first?, arguments.number(1)?),
-            "shell" => self.folder.shell(alloc, first?),
-            "file" => self.folder.holds(alloc, first?),
-            "stands" => self.folder.stands(alloc, first?),
-            "end" => self.folder.end(alloc),
-            _ => Err(RowFault::NoSuchCall),
-        }
-    }
+fn holds(alloc: Global, content: &Bytes) -> Words {
+    let mut words = Words::word(alloc, b"holds");
+    words.put(alloc, content.as_slice());
+    words
 }

@@ -6,6 +6,16 @@ use std::fs::{File, Files};
 use std::io;
 use std::io::Read;
 
+/// As `try_file`, for answers that keep something from row to row.
+pub fn try_file_by<R: Files + Print, A: Answers + Drop>(
+    rt: &R,
+    alloc: Global,
+    name: &str,
+    mut answers: A,
+) -> io::Result<()> {
+    try_file(rt, alloc, name, &mut answers)
+}
+
 /// Answers the rows of a file in the working folder, and prints the report.
 pub fn try_file<R: Files + Print, A: Answers>(
     rt: &R,

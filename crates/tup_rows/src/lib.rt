@@ -20,7 +20,7 @@ mod words;
 
 pub use answers::Answers;
 pub use fault::RowFault;
-pub use file::try_file;
+pub use file::{try_file, try_file_by};
 pub use reporting::report;
 pub use row::Row;
 pub use words::Words;

@@ -91,10 +91,9 @@ fn tried<A: Answers>(alloc: Global, line: &str, answers: &mut A) -> Result<Outco
     }
 }
 
-/// Answers a row. One with more arguments than its call asks for differs, whatever the answer is.
+/// Answers a row.
 fn answered<A: Answers>(alloc: Global, row: &Row, answers: &mut A) -> Result<Outcome, RowFault> {
     match answers.answer(alloc, row.call.as_str(), &row.arguments) {
-        Ok(_) if !row.arguments.are_taken() => complaint(alloc, RowFault::TooMany),
         Ok(found) => compared(alloc, row, &found),
         Err(fault) => complaint(alloc, fault),
     }
@@ -110,10 +109,24 @@ fn complaint(alloc: Global, fault: RowFault) -> Result<Outcome, RowFault> {
 
 /// Whether a row wants what was found.
 fn compared(alloc: Global, row: &Row, found: &Words) -> Result<Outcome, RowFault> {
-    if row.wanted.same(found) {
-        return Ok(Outcome::Same);
+    match fault(row, found) {
+        Some(fault) => complaint(alloc, fault),
+        None if row.wanted.same(found) => Ok(Outcome::Same),
+        None => Ok(Outcome::Differs(difference(alloc, row, found)?)),
     }
-    Ok(Outcome::Differs(difference(alloc, row, found)?))
+}
+
+/// What was noted of the row's words, or else of the answer's, or else that an argument is too many.
+fn fault(row: &Row, found: &Words) -> Option<RowFault> {
+    let noted = row
+        .arguments
+        .fault()
+        .or(row.wanted.fault())
+        .or(found.fault());
+    if noted.is_none() && !row.arguments.are_taken() {
+        return Some(RowFault::TooMany);
+    }
+    noted
 }
 
 /// What a row wants and what was found, as words of a row.

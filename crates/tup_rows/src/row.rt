@@ -57,11 +57,11 @@ impl Row {
             Part::Call => self.name(alloc, token),
             Part::Arguments if token.divides() => Ok(Part::Wanted),
             Part::Arguments => {
-                self.arguments.push(token.word)?;
+                self.arguments.push(token.word);
                 Ok(Part::Arguments)
             }
             Part::Wanted => {
-                self.wanted.push(token.word)?;
+                self.wanted.push(token.word);
                 Ok(Part::Wanted)
             }
         }

@@ -1,4 +1,7 @@
 //! The words of a row, each a list of bytes.
+//!
+//! What an argument isn't, and what there is no memory for, is noted in the words that were asked or added to: the
+//! row then differs, and a call is written as if all went well.
 use crate::fault::RowFault;
 use std::alloc::Global;
 use std::cell::Cell;
@@ -11,6 +14,8 @@ pub struct Words {
     words: Vec<Vec<u8>>,
     /// How many of them, from the first on, a call asked for.
     taken: Cell<usize>,
+    /// Why the row differs, whatever its answer is.
+    fault: Cell<Option<RowFault>>,
 }
 
 impl Words {
@@ -19,62 +24,78 @@ impl Words {
         Words {
             words: Vec::new(alloc),
             taken: Cell::new(0),
+            fault: Cell::new(None),
         }
     }
 
     /// One word.
-    pub fn one(alloc: Global, word: &[u8]) -> Result<Words, RowFault> {
+    pub fn word(alloc: Global, word: &[u8]) -> Words {
         let mut words = Words::new(alloc);
-        words.add(alloc, word)?;
-        Ok(words)
+        words.put(alloc, word);
+        words
     }
 
     /// One word: a value as it is displayed.
-    pub fn shown<D: Display>(alloc: Global, value: &D) -> Result<Words, RowFault> {
+    pub fn shown<D: Display>(alloc: Global, value: &D) -> Words {
         let mut words = Words::new(alloc);
-        words.add_shown(alloc, value)?;
-        Ok(words)
+        words.show(alloc, value);
+        words
     }
 
     /// `ok`, the answer of a call that gives nothing.
-    pub fn done(alloc: Global) -> Result<Words, RowFault> {
-        Words::one(alloc, b"ok")
+    pub fn done(alloc: Global) -> Words {
+        Words::word(alloc, b"ok")
     }
 
     /// `yes` or `no`.
-    pub fn yes_or_no(alloc: Global, yes: bool) -> Result<Words, RowFault> {
-        Words::one(alloc, if yes { b"yes" } else { b"no" })
-    }
-
-    /// The words of a refusal: `refused`, and what its text says.
-    pub fn refused(alloc: Global, why: &str) -> Result<Words, RowFault> {
-        let mut words = Words::one(alloc, b"refused")?;
-        words.add(alloc, why.as_bytes())?;
-        Ok(words)
+    pub fn yes_or_no(alloc: Global, yes: bool) -> Words {
+        Words::word(alloc, if yes { b"yes" } else { b"no" })
     }
 
     /// The words of a refusal: `refused`, and the fault as it is displayed.
-    pub fn refusal<D: Display>(alloc: Global, fault: &D) -> Result<Words, RowFault> {
-        let mut words = Words::one(alloc, b"refused")?;
-        words.add_shown(alloc, fault)?;
-        Ok(words)
+    pub fn refusal<D: Display>(alloc: Global, fault: &D) -> Words {
+        let mut words = Words::word(alloc, b"refused");
+        words.show(alloc, fault);
+        words
+    }
+
+    /// No answer, for this reason.
+    pub fn none(alloc: Global, fault: RowFault) -> Words {
+        let words = Words::new(alloc);
+        words.fail(fault);
+        words
     }
 
     /// Adds a word at the end.
-    pub fn add(&mut self, alloc: Global, word: &[u8]) -> Result<(), RowFault> {
-        self.push(Vec::from_slice(alloc, word)?)
+    pub fn put(&mut self, alloc: Global, word: &[u8]) {
+        match Vec::from_slice(alloc, word) {
+            Ok(word) => self.push(word),
+            Err(_) => self.fail(RowFault::Memory),
+        }
     }
 
     /// Adds a value as it is displayed.
-    pub fn add_shown<D: Display>(&mut self, alloc: Global, value: &D) -> Result<(), RowFault> {
-        self.push(format!(in alloc; "{value}")?.into_bytes())
+    pub fn show<D: Display>(&mut self, alloc: Global, value: &D) {
+        match format!(in alloc; "{value}") {
+            Ok(text) => self.push(text.into_bytes()),
+            Err(_) => self.fail(RowFault::Memory),
+        }
     }
 
-    pub(crate) fn push(&mut self, word: Vec<u8>) -> Result<(), RowFault> {
-        match self.words.push(word) {
-            Ok(()) => Ok(()),
-            Err(_) => Err(RowFault::Memory),
+    pub(crate) fn push(&mut self, word: Vec<u8>) {
+        if self.words.push(word).is_err() {
+            self.fail(RowFault::Memory);
         }
+    }
+
+    /// Has the row differ for this reason, whatever its answer is.
+    pub fn fail(&self, fault: RowFault) {
+        self.fault.set(Some(fault));
+    }
+
+    /// Why the row differs: the last reason that was noted.
+    pub(crate) fn fault(&self) -> Option<RowFault> {
+        self.fault.get()
     }
 
     /// How many there are; who counts the arguments of a row takes them all.
@@ -109,6 +130,134 @@ impl Words {
         }
     }
 
+    /// The word at a place, from 0 on. Where there is none the row differs, and this is the empty word.
+    pub fn word_at(&self, at: usize) -> &[u8] {
+        match self.words.get(at) {
+            Some(word) => {
+                self.take(at.saturating_add(1));
+                word.as_slice()
+            }
+            None => {
+                self.fail(RowFault::TooFew);
+                b""
+            }
+        }
+    }
+
+    /// The word at a place as text. Where it is none the row differs, and this is the empty text.
+    pub fn str_at(&self, at: usize) -> &str {
+        match str::from_utf8(self.word_at(at)) {
+            Ok(text) => text,
+            Err(_) => {
+                self.fail(RowFault::OtherKind);
+                ""
+            }
+        }
+    }
+
+    /// The word at a place as a number in decimal digits. Where it is none the row differs, and this is 0.
+    pub fn number_at(&self, at: usize) -> u64 {
+        match self.str_at(at).parse() {
+            Ok(number) => number,
+            Err(_) => {
+                self.fail(RowFault::OtherKind);
+                0
+            }
+        }
+    }
+
+    /// The word at a place, to be kept.
+    pub fn bytes_at(&self, alloc: Global, at: usize) -> Vec<u8> {
+        match Vec::from_slice(alloc, self.word_at(at)) {
+            Ok(bytes) => bytes,
+            Err(_) => {
+                self.fail(RowFault::Memory);
+                Vec::new(alloc)
+            }
+        }
+    }
+
+    /// The word at a place as text, to be kept.
+    pub fn text_at(&self, alloc: Global, at: usize) -> Text {
+        self.text_of(alloc, self.str_at(at))
+    }
+
+    /// The texts that the word at a place is, parted by blanks.
+    pub fn texts_at(&self, alloc: Global, at: usize) -> Texts {
+        let mut texts = Items::new(alloc);
+        for word in self.str_at(at).split_ascii_whitespace() {
+            self.list(&mut texts, self.text_of(alloc, word));
+        }
+        texts
+    }
+
+    fn text_of(&self, alloc: Global, word: &str) -> Text {
+        match Text::from_str(alloc, word) {
+            Ok(text) => text,
+            Err(_) => {
+                self.fail(RowFault::Memory);
+                Text::from_string(String::new(alloc))
+            }
+        }
+    }
+
+    /// The path that the word at a place names from the top. Where it names none the row differs, and this is the top.
+    pub fn path_at(&self, alloc: Global, at: usize) -> Path {
+        self.path_of(alloc, self.str_at(at))
+    }
+
+    /// The paths that the word at a place names from the top, parted by blanks.
+    pub fn paths_at(&self, alloc: Global, at: usize) -> Paths {
+        let mut paths = Items::new(alloc);
+        for word in self.str_at(at).split_ascii_whitespace() {
+            self.list(&mut paths, self.path_of(alloc, word));
+        }
+        paths
+    }
+
+    fn path_of(&self, alloc: Global, word: &str) -> Path {
+        match Path::from_top(alloc, word) {
+            Ok(path) => path,
+            Err(fault) => {
+                self.fail(match fault {
+                    PathFault::Memory => RowFault::Memory,
+                    _ => RowFault::OtherKind,
+                });
+                Path::top(alloc)
+            }
+        }
+    }
+
+    /// Adds an item to a list.
+    pub fn list<T: Drop>(&self, items: &mut Items<T>, item: T) {
+        if items.push(item).is_err() {
+            self.fail(RowFault::Memory);
+        }
+    }
+}
+
+/// The same for calls that end at what an argument isn't.
+impl Words {
+    /// One word.
+    pub fn one(alloc: Global, word: &[u8]) -> Result<Words, RowFault> {
+        let mut words = Words::new(alloc);
+        words.add(alloc, word)?;
+        Ok(words)
+    }
+
+    /// The words of a refusal: `refused`, and what its text says.
+    pub fn refused(alloc: Global, why: &str) -> Result<Words, RowFault> {
+        let mut words = Words::one(alloc, b"refused")?;
+        words.add(alloc, why.as_bytes())?;
+        Ok(words)
+    }
+
+    /// Adds a word at the end.
+    pub fn add(&mut self, alloc: Global, word: &[u8]) -> Result<(), RowFault> {
+        self.words.push(Vec::from_slice(alloc, word)?)?;
+        Ok(())
+    }
+
     /// The word at a place, from 0 on. `TooFew` where there is none.
     pub fn bytes(&self, at: usize) -> Result<&[u8], RowFault> {
         match self.words.get(at) {
@@ -135,63 +284,4 @@ impl Words {
             Err(_) => Err(RowFault::OtherKind),
         }
     }
-
-    /// The word at a place, to be kept.
-    pub fn bytes_at(&self, alloc: Global, at: usize) -> Result<Vec<u8>, RowFault> {
-        Ok(Vec::from_slice(alloc, self.bytes(at)?)?)
-    }
-
-    /// The word at a place as text, to be kept.
-    pub fn text_at(&self, alloc: Global, at: usize) -> Result<Text, RowFault> {
-        Ok(Text::from_str(alloc, self.text(at)?)?)
-    }
-
-    /// The path that the word at a place names from the top. `OtherKind` where it names none.
-    pub fn path_at(&self, alloc: Global, at: usize) -> Result<Path, RowFault> {
-        path(alloc, self.text(at)?)
-    }
-
-    /// The texts that the word at a place is, parted by blanks.
-    pub fn texts_at(&self, alloc: Global, at: usize) -> Result<Texts, RowFault> {
-        texts(alloc, self.text(at)?)
-    }
-
-    /// The paths that the word at a place names from the top, parted by blanks.
-    pub fn paths_at(&self, alloc: Global, at: usize) -> Result<Paths, RowFault> {
-        paths(alloc, self.text(at)?)
-    }
-}
-
-fn path(alloc: Global, word: &str) -> Result<Path, RowFault> {
-    match Path::from_top(alloc, word) {
-        Ok(path) => Ok(path),
-        Err(PathFault::Memory) => Err(RowFault::Memory),
-        Err(_) => Err(RowFault::OtherKind),
-    }
-}
-
-fn texts(alloc: Global, words: &str) -> Result<Texts, RowFault> {
-    let mut texts = Items::new(alloc);
-    for word in words.split_ascii_whitespace() {
-        add_text(alloc, &mut texts, word)?;
-    }
-    Ok(texts)
-}
-
-fn add_text(alloc: Global, texts: &mut Texts, word: &str) -> Result<(), RowFault> {
-    texts.push(Text::from_str(alloc, word)?)?;
-    Ok(())
-}
-
-fn paths(alloc: Global, words: &str) -> Result<Paths, RowFault> {
-    let mut paths = Items::new(alloc);
-    for word in words.split_ascii_whitespace() {
-        add_path(alloc, &mut paths, word)?;
-    }
-    Ok(paths)
-}
-
-fn add_path(alloc: Global, paths: &mut Paths, word: &str) -> Result<(), RowFault> {
-    paths.push(path(alloc, word)?)?;
-    Ok(())
 }

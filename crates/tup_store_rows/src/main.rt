@@ -4,6 +4,7 @@
 //! and their arguments mean.
 #![tactic(auto)]
 
+mod changes;
 mod field;
 mod graph;
 mod owned;
@@ -11,6 +12,7 @@ mod record;
 mod say;
 mod sites;
 mod table;
+mod transaction;
 mod values;
 
 use field::Fields;
@@ -20,7 +22,7 @@ use record::Records;
 use sites::Sites;
 use std::io;
 use table::Tables;
-use tup_rows::try_file;
+use tup_rows::{try_file, try_file_by};
 
 fn main(rt: HostRuntime) -> io::Result<()> {
     let alloc = rt.alloc();
@@ -28,6 +30,6 @@ fn main(rt: HostRuntime) -> io::Result<()> {
     try_file(&rt, alloc, "record.rows", &mut Records)?;
     try_file(&rt, alloc, "owned.rows", &mut OwnedLists)?;
     try_file(&rt, alloc, "table.rows", &mut Tables)?;
-    try_file(&rt, alloc, "site.rows", &mut Sites::new(alloc))?;
+    try_file_by(&rt, alloc, "site.rows", Sites::new(alloc))?;
     try_file(&rt, alloc, "graph.rows", &mut Graphs)
 }

@@ -11,34 +11,59 @@ use tup_rows::{Answers, RowFault, Words};
 pub struct Records;
 
 impl Answers for Records {
-    fn answer(&mut self, alloc: Global, call: &str, arguments: &Words) -> Result<Words, RowFault> {
-        if call != "record" {
-            return Err(RowFault::NoSuchCall);
-        }
-        let Some((key, value)) = arguments.as_slice().split_first() else {
-            return Err(RowFault::TooFew);
-        };
-        let key = Bytes::new(Vec::from_slice(alloc, key)?);
-        let value = Bytes::new(joined(alloc, value)?);
-        match decode(alloc, &key, &value) {
-            Ok(record) => spelled(alloc, &record, &key, &value),
-            Err(fault) => refused(alloc, fault),
-        }
+    fn answer(&mut self, alloc: Global, call: &str, said: &Words) -> Result<Words, RowFault> {
+        Ok(match call {
+            "record" => record(alloc, said),
+            _ => Words::none(alloc, RowFault::NoSuchCall),
+        })
+    }
+}
+
+fn record(alloc: Global, said: &Words) -> Words {
+    let key = Bytes::new(said.bytes_at(alloc, 0));
+    let value = value(alloc, said);
+    match decode(alloc, &key, &value) {
+        Ok(record) => spelled(alloc, &record, &key, &value),
+        Err(fault) => refused(alloc, fault),
+    }
+}
+
+/// The words behind the first, joined.
+fn value(alloc: Global, said: &Words) -> Bytes {
+    match said.as_slice().split_first() {
+        Some((_, value)) => Bytes::new(joined(alloc, said, value)),
+        None => Bytes::new(Vec::new(alloc)),
     }
 }
 
 /// The record in words. A key and a value that aren't what it was read from come after `spelled`.
-fn spelled(alloc: Global, record: &Record, key: &Bytes, value: &Bytes) -> Result<Words, RowFault> {
+fn spelled(alloc: Global, record: &Record, key: &Bytes, value: &Bytes) -> Words {
     let mut words = Words::new(alloc);
-    record.say(alloc, &mut words)?;
+    record.say(alloc, &mut words);
+    match again(alloc, record) {
+        Ok(again) => compare(alloc, &mut words, (key, value), &again),
+        Err(fault) => words.fail(fault),
+    }
+    words
+}
+
+/// What a copy of a record is spelled as.
+fn again(alloc: Global, record: &Record) -> Result<(Bytes, Bytes), RowFault> {
     match encode(alloc, &record.clone()?) {
-        Ok(again) if again.0 == *key && again.1 == *value => Ok(words),
-        Ok(again) => {
-            words.add(alloc, b"spelled")?;
-            words.add(alloc, again.0.as_slice())?;
-            words.add(alloc, again.1.as_slice())?;
-            Ok(words)
-        }
-        Err(fault) => refused(alloc, fault),
+        Ok(spelled) => Ok(spelled),
+        Err(_) => Err(RowFault::Memory),
+    }
+}
+
+fn compare(
+    alloc: Global,
+    words: &mut Words,
+    (key, value): (&Bytes, &Bytes),
+    again: &(Bytes, Bytes),
+) {
+    if again.0 != *key || again.1 != *value {
+        words.put(alloc, b"spelled");
+        words.put(alloc, again.0.as_slice());
+        words.put(alloc, again.1.as_slice());
     }
 }

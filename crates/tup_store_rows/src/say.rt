@@ -1,87 +1,76 @@
 //! Values in words.
 use std::alloc::Global;
 use tup_path::{Items, Path, Text};
-use tup_rows::{RowFault, Words};
+use tup_rows::Words;
 use tup_stamp::{Stamp, hex};
 
 /// A value that answers name in words.
 pub trait Say: Drop {
     /// Adds the words of the value.
-    fn say(&self, alloc: Global, words: &mut Words) -> Result<(), RowFault>;
+    fn say(&self, alloc: Global, words: &mut Words);
 }
 
 /// Adds a name, and the words of the value that it names.
-pub fn named<T: Say>(
-    alloc: Global,
-    words: &mut Words,
-    name: &str,
-    value: &T,
-) -> Result<(), RowFault> {
-    words.add(alloc, name.as_bytes())?;
+pub fn named<T: Say>(alloc: Global, words: &mut Words, name: &str, value: &T) {
+    words.put(alloc, name.as_bytes());
     value.say(alloc, words)
 }
 
 impl Say for u32 {
-    fn say(&self, alloc: Global, words: &mut Words) -> Result<(), RowFault> {
-        words.add(alloc, format!(in alloc; "{self}")?.as_bytes())
+    fn say(&self, alloc: Global, words: &mut Words) {
+        words.show(alloc, self);
     }
 }
 
 impl Say for bool {
-    fn say(&self, alloc: Global, words: &mut Words) -> Result<(), RowFault> {
-        words.add(alloc, if *self { b"true" } else { b"false" })
+    fn say(&self, alloc: Global, words: &mut Words) {
+        words.put(alloc, if *self { b"true" } else { b"false" })
     }
 }
 
 impl Say for () {
-    fn say(&self, _alloc: Global, _words: &mut Words) -> Result<(), RowFault> {
-        Ok(())
-    }
+    fn say(&self, _alloc: Global, _words: &mut Words) {}
 }
 
 impl Say for Text {
-    fn say(&self, alloc: Global, words: &mut Words) -> Result<(), RowFault> {
-        words.add(alloc, self.bytes().as_slice())
+    fn say(&self, alloc: Global, words: &mut Words) {
+        words.put(alloc, self.bytes().as_slice())
     }
 }
 
 impl Say for Path {
-    fn say(&self, alloc: Global, words: &mut Words) -> Result<(), RowFault> {
-        match self.show(alloc) {
-            Ok(shown) => shown.say(alloc, words),
-            Err(_) => Err(RowFault::Memory),
-        }
+    fn say(&self, alloc: Global, words: &mut Words) {
+        words.show(alloc, self);
     }
 }
 
 impl Say for Stamp {
-    fn say(&self, alloc: Global, words: &mut Words) -> Result<(), RowFault> {
-        words.add(alloc, &hex(self))
+    fn say(&self, alloc: Global, words: &mut Words) {
+        words.put(alloc, &hex(self))
     }
 }
 
 impl<T: Say> Say for Option<T> {
-    fn say(&self, alloc: Global, words: &mut Words) -> Result<(), RowFault> {
+    fn say(&self, alloc: Global, words: &mut Words) {
         match self {
-            None => words.add(alloc, b"none"),
+            None => words.put(alloc, b"none"),
             Some(value) => named(alloc, words, "some", value),
         }
     }
 }
 
 impl<T: Say> Say for Items<T> {
-    fn say(&self, alloc: Global, words: &mut Words) -> Result<(), RowFault> {
-        words.add(alloc, format!(in alloc; "{}", self.len())?.as_bytes())?;
+    fn say(&self, alloc: Global, words: &mut Words) {
+        words.show(alloc, &self.len());
         for item in self.as_slice() {
-            item.say(alloc, words)?;
+            item.say(alloc, words);
         }
-        Ok(())
     }
 }
 
 impl<A: Say, B: Say> Say for (A, B) {
-    fn say(&self, alloc: Global, words: &mut Words) -> Result<(), RowFault> {
-        self.0.say(alloc, words)?;
+    fn say(&self, alloc: Global, words: &mut Words) {
+        self.0.say(alloc, words);
         self.1.say(alloc, words)
     }
 }

@@ -1,15 +1,30 @@
 //! The calls of `site.rows`.
+use crate::changes::{add_entries, changes_of, refused};
 use crate::field::joined;
-use crate::table::{add_entries, changes_of, number, refused};
 use std::alloc::Global;
 use tup_rows::{Answers, RowFault, Words};
 use tup_site::{MemSite, Site};
-use tup_table::{Table, TableFault, have_short_keys};
+use tup_table::{Change, Table, TableFault, have_short_keys};
 
 /// Tables over sites in memory, whose store is set by a row.
 #[derive(Drop)]
 pub struct Sites {
     store: Vec<u8>,
+}
+
+impl Answers for Sites {
+    fn answer(&mut self, alloc: Global, call: &str, said: &Words) -> Result<Words, RowFault> {
+        Ok(match call {
+            "store" => self.set_store(alloc, said),
+            "make" => make(alloc),
+            "open" => open(alloc, &self.store),
+            "cut" => self.cut(alloc, said),
+            "set" => self.set(alloc, said),
+            "commit" => commit(alloc, said, &self.store, Vec::new(alloc), said.as_slice()),
+            "failing" => self.failing(alloc, said),
+            _ => Words::none(alloc, RowFault::NoSuchCall),
+        })
+    }
 }
 
 impl Sites {
@@ -19,46 +34,58 @@ impl Sites {
         }
     }
 
-    /// The store with another byte at a place.
+    fn set_store(&mut self, alloc: Global, said: &Words) -> Words {
+        self.store = joined(alloc, said, said.as_slice());
+        Words::shown(alloc, &self.store.len())
+    }
+
+    /// Opens the front of the store.
+    fn cut(&self, alloc: Global, said: &Words) -> Words {
+        match self.store.get(..said.number_at(0) as usize) {
+            Some(front) => open(alloc, front),
+            None => Words::none(alloc, RowFault::OtherKind),
+        }
+    }
+
+    /// Opens the store with another byte at a place.
+    fn set(&self, alloc: Global, said: &Words) -> Words {
+        match self.with_byte(alloc, said.number_at(0), said.word_at(1)) {
+            Ok(store) => open(alloc, &store),
+            Err(fault) => Words::none(alloc, fault),
+        }
+    }
+
     fn with_byte(&self, alloc: Global, at: u64, byte: &[u8]) -> Result<Vec<u8>, RowFault> {
         let mut store = Vec::from_slice(alloc, &self.store)?;
-        let (Some(place), [byte]) = (store.get_mut(at as usize), byte) else {
-            return Err(RowFault::OtherKind);
-        };
-        *place = *byte;
+        match (store.get_mut(at as usize), byte) {
+            (Some(place), [byte]) => *place = *byte,
+            _ => return Err(RowFault::OtherKind),
+        }
         Ok(store)
+    }
+
+    /// Commits to a site whose call with the first argument's number fails, counted from where the commit begins.
+    fn failing(&self, alloc: Global, said: &Words) -> Words {
+        match said.as_slice().split_first() {
+            Some((_, changes)) => {
+                let fails = one(
+                    alloc,
+                    said,
+                    said.number_at(0).saturating_add(BEFORE_A_COMMIT),
+                );
+                commit(alloc, said, &self.store, fails, changes)
+            }
+            None => Words::none(alloc, RowFault::TooFew),
+        }
     }
 }
 
-impl Answers for Sites {
-    fn answer(&mut self, alloc: Global, call: &str, arguments: &Words) -> Result<Words, RowFault> {
-        match call {
-            "store" => {
-                self.store = joined(alloc, arguments.as_slice())?;
-                number(alloc, self.store.len() as u64)
-            }
-            "make" => make(alloc),
-            "open" => open(alloc, &self.store),
-            "cut" => match self.store.get(..arguments.number(0)? as usize) {
-                Some(front) => open(alloc, front),
-                None => Err(RowFault::OtherKind),
-            },
-            "set" => {
-                let store = self.with_byte(alloc, arguments.number(0)?, arguments.bytes(1)?)?;
-                open(alloc, &store)
-            }
-            "commit" => commit(alloc, &self.store, Vec::new(alloc), arguments.as_slice()),
-            "failing" => {
-                let Some((_, changes)) = arguments.as_slice().split_first() else {
-                    return Err(RowFault::TooFew);
-                };
-                let mut fails = Vec::new(alloc);
-                fails.push(arguments.number(0)?.saturating_add(BEFORE_A_COMMIT))?;
-                commit(alloc, &self.store, fails, changes)
-            }
-            _ => Err(RowFault::NoSuchCall),
-        }
+fn one(alloc: Global, said: &Words, number: u64) -> Vec<u64> {
+    let mut numbers = Vec::new(alloc);
+    if numbers.push(number).is_err() {
+        said.fail(RowFault::Memory);
     }
+    numbers
 }
 
 /// How many calls a site has answered when a table of it commits: the store is written and synced, and then synced, measured
@@ -77,93 +104,97 @@ fn site_with(alloc: Global, store: &[u8], fails: Vec<u64>) -> Result<MemSite, Ro
 }
 
 /// The bytes of a store that was made.
-fn make(alloc: Global) -> Result<Words, RowFault> {
-    let Ok(mut site) = MemSite::new(alloc, Vec::new(alloc), Vec::new(alloc)) else {
-        return Err(RowFault::Memory);
-    };
-    match Table::make(alloc, &mut site) {
-        Ok(table) => {
-            let mut words = Words::new(alloc);
-            add_written(alloc, &mut words, &[], site.store())?;
-            add_entries(alloc, &mut words, table.entries())?;
-            Ok(words)
-        }
-        Err(fault) => refused(alloc, fault),
+fn make(alloc: Global) -> Words {
+    match MemSite::new(alloc, Vec::new(alloc), Vec::new(alloc)) {
+        Ok(mut site) => match Table::make(alloc, &mut site) {
+            Ok(table) => left(alloc, &[], &site, &table),
+            Err(fault) => refused(alloc, fault),
+        },
+        Err(_) => Words::none(alloc, RowFault::Memory),
     }
 }
 
 /// What the opening of a store changes in it, and the entries.
-fn open(alloc: Global, store: &[u8]) -> Result<Words, RowFault> {
-    let mut site = site_with(alloc, store, Vec::new(alloc))?;
-    match Table::open(alloc, &mut site) {
-        Ok(table) => {
-            let mut words = Words::new(alloc);
-            add_written(alloc, &mut words, store, site.store())?;
-            add_entries(alloc, &mut words, table.entries())?;
-            Ok(words)
-        }
+fn open(alloc: Global, store: &[u8]) -> Words {
+    match site_with(alloc, store, Vec::new(alloc)) {
+        Ok(mut site) => open_in(alloc, store, &mut site),
+        Err(fault) => Words::none(alloc, fault),
+    }
+}
+
+fn open_in(alloc: Global, store: &[u8], site: &mut MemSite) -> Words {
+    match Table::open(alloc, site) {
+        Ok(table) => left(alloc, store, site, &table),
         Err(fault) => refused(alloc, fault),
     }
+}
+
+/// What was changed in the store of a site, and the entries of a table.
+fn left(alloc: Global, store: &[u8], site: &MemSite, table: &Table) -> Words {
+    let mut words = Words::new(alloc);
+    add_written(alloc, &mut words, store, site.store());
+    add_entries(alloc, &mut words, table.entries());
+    words
 }
 
 /// How a commit of changes to a store ends after how many calls of the site, what it changes in the store, and the entries
 /// then: those of the table, or where it isn't fresh those that are read from the store.
-fn commit(
-    alloc: Global,
-    store: &[u8],
-    fails: Vec<u64>,
-    words: &[Vec<u8>],
-) -> Result<Words, RowFault> {
-    let changes = changes_of(alloc, words)?;
-    if !have_short_keys(&changes) {
-        return Err(RowFault::OtherKind);
+fn commit(alloc: Global, said: &Words, store: &[u8], fails: Vec<u64>, words: &[Vec<u8>]) -> Words {
+    let changes = changes_of(alloc, said, words);
+    match site_with(alloc, store, fails) {
+        Ok(mut site) => commit_in(alloc, store, &mut site, changes.as_slice()),
+        Err(fault) => Words::none(alloc, fault),
     }
-    let mut site = site_with(alloc, store, fails)?;
-    let mut table = match Table::open(alloc, &mut site) {
-        Ok(table) => table,
-        Err(fault) => return refused(alloc, fault),
-    };
-    let before = site.calls();
-    let ended = table.commit(alloc, &mut site, &changes);
-    let mut words = number(alloc, site.calls().saturating_sub(before))?;
-    add_end(alloc, &mut words, ended)?;
-    add_written(alloc, &mut words, store, site.store())?;
-    if table.fresh() {
-        add_entries(alloc, &mut words, table.entries())?;
-        return Ok(words);
+}
+
+fn commit_in(alloc: Global, store: &[u8], site: &mut MemSite, changes: &[Change]) -> Words {
+    if !have_short_keys(changes) {
+        return Words::none(alloc, RowFault::OtherKind);
     }
-    words.add(alloc, b"stale")?;
-    match Table::open(alloc, &mut site) {
-        Ok(table) => {
-            add_entries(alloc, &mut words, table.entries())?;
-            Ok(words)
+    match Table::open(alloc, site) {
+        Ok(mut table) => {
+            let opened = site.calls();
+            let ended = table.commit(alloc, site, changes);
+            let mut words = Words::shown(alloc, &site.calls().saturating_sub(opened));
+            add_end(alloc, &mut words, ended);
+            add_written(alloc, &mut words, store, site.store());
+            with_entries(alloc, words, site, &table)
         }
         Err(fault) => refused(alloc, fault),
     }
 }
 
+/// The words, and the entries of a table behind them.
+fn with_entries(alloc: Global, mut words: Words, site: &mut MemSite, table: &Table) -> Words {
+    if table.fresh() {
+        add_entries(alloc, &mut words, table.entries());
+        return words;
+    }
+    words.put(alloc, b"stale");
+    match Table::open(alloc, site) {
+        Ok(table) => add_entries(alloc, &mut words, table.entries()),
+        Err(fault) => return refused(alloc, fault),
+    }
+    words
+}
+
 /// Adds how a commit ended.
-fn add_end(
-    alloc: Global,
-    words: &mut Words,
-    ended: Result<(), TableFault>,
-) -> Result<(), RowFault> {
+fn add_end(alloc: Global, words: &mut Words, ended: Result<(), TableFault>) {
     match ended {
-        Ok(()) => words.add(alloc, b"done"),
-        Err(TableFault::Memory) => Err(RowFault::Memory),
-        Err(fault) => words.add(alloc, format!(in alloc; "{fault}")?.as_bytes()),
+        Ok(()) => words.put(alloc, b"done"),
+        Err(TableFault::Memory) => words.fail(RowFault::Memory),
+        Err(fault) => words.show(alloc, &fault),
     }
 }
 
 /// Adds from which place on the bytes of a store are others than before, and the bytes from there on.
-fn add_written(alloc: Global, words: &mut Words, old: &[u8], new: &[u8]) -> Result<(), RowFault> {
+fn add_written(alloc: Global, words: &mut Words, old: &[u8], new: &[u8]) {
     if old == new {
-        return words.add(alloc, b"same");
+        return words.put(alloc, b"same");
     }
     let at = old.iter().zip(new).take_while(|(a, b)| a == b).count();
-    words.add(alloc, format!(in alloc; "{at}")?.as_bytes())?;
-    match new.get(at..) {
-        Some(bytes) => words.add(alloc, bytes),
-        None => Ok(()),
+    words.show(alloc, &at);
+    if let Some(bytes) = new.get(at..) {
+        words.put(alloc, bytes);
     }
 }

@@ -2,18 +2,18 @@
 use crate::say::{Say, named};
 use std::alloc::Global;
 use tup_record::{OwnedState, Record, RunRecord};
-use tup_rows::{RowFault, Words};
+use tup_rows::Words;
 use tup_rule::{Draft, GroupRef, Kind, Noted, Piece, Question, Reading, Rule};
 
 impl Say for GroupRef {
-    fn say(&self, alloc: Global, words: &mut Words) -> Result<(), RowFault> {
-        self.dir.say(alloc, words)?;
+    fn say(&self, alloc: Global, words: &mut Words) {
+        self.dir.say(alloc, words);
         self.name.say(alloc, words)
     }
 }
 
 impl Say for Piece {
-    fn say(&self, alloc: Global, words: &mut Words) -> Result<(), RowFault> {
+    fn say(&self, alloc: Global, words: &mut Words) {
         match self {
             Piece::Text(text) => named(alloc, words, "text", text),
             Piece::Group(place) => named(alloc, words, "group", place),
@@ -22,18 +22,18 @@ impl Say for Piece {
 }
 
 impl Say for Kind {
-    fn say(&self, alloc: Global, words: &mut Words) -> Result<(), RowFault> {
+    fn say(&self, alloc: Global, words: &mut Words) {
         let name = match self {
             Kind::Nothing => b"nothing".as_slice(),
             Kind::File => b"file",
             Kind::Dir => b"dir",
         };
-        words.add(alloc, name)
+        words.put(alloc, name)
     }
 }
 
 impl Say for Question {
-    fn say(&self, alloc: Global, words: &mut Words) -> Result<(), RowFault> {
+    fn say(&self, alloc: Global, words: &mut Words) {
         match self {
             Question::Content(path) => named(alloc, words, "content", path),
             Question::Config(name) => named(alloc, words, "config", name),
@@ -44,7 +44,7 @@ impl Say for Question {
 }
 
 impl Say for Noted {
-    fn say(&self, alloc: Global, words: &mut Words) -> Result<(), RowFault> {
+    fn say(&self, alloc: Global, words: &mut Words) {
         match self {
             Noted::Content(stamp) => named(alloc, words, "told", stamp),
             Noted::Config(value) => named(alloc, words, "told", value),
@@ -55,65 +55,65 @@ impl Say for Noted {
 }
 
 impl Say for Rule {
-    fn say(&self, alloc: Global, words: &mut Words) -> Result<(), RowFault> {
-        named(alloc, words, "dir", &self.dir)?;
-        named(alloc, words, "text", &self.text)?;
-        named(alloc, words, "display", &self.display)?;
-        named(alloc, words, "compare", &self.compare)?;
-        named(alloc, words, "inputs", &self.inputs)?;
-        named(alloc, words, "order", &self.order)?;
+    fn say(&self, alloc: Global, words: &mut Words) {
+        named(alloc, words, "dir", &self.dir);
+        named(alloc, words, "text", &self.text);
+        named(alloc, words, "display", &self.display);
+        named(alloc, words, "compare", &self.compare);
+        named(alloc, words, "inputs", &self.inputs);
+        named(alloc, words, "order", &self.order);
         named(alloc, words, "outputs", &self.outputs)
     }
 }
 
 impl Say for Draft {
-    fn say(&self, alloc: Global, words: &mut Words) -> Result<(), RowFault> {
-        named(alloc, words, "file", &self.file)?;
-        named(alloc, words, "line", &self.line)?;
-        named(alloc, words, "pieces", &self.pieces)?;
-        named(alloc, words, "display", &self.display)?;
-        named(alloc, words, "compare", &self.compare)?;
-        named(alloc, words, "inputs", &self.inputs)?;
-        named(alloc, words, "order", &self.order)?;
-        named(alloc, words, "outputs", &self.outputs)?;
-        named(alloc, words, "groups", &self.groups)?;
+    fn say(&self, alloc: Global, words: &mut Words) {
+        named(alloc, words, "file", &self.file);
+        named(alloc, words, "line", &self.line);
+        named(alloc, words, "pieces", &self.pieces);
+        named(alloc, words, "display", &self.display);
+        named(alloc, words, "compare", &self.compare);
+        named(alloc, words, "inputs", &self.inputs);
+        named(alloc, words, "order", &self.order);
+        named(alloc, words, "outputs", &self.outputs);
+        named(alloc, words, "groups", &self.groups);
         named(alloc, words, "gives", &self.gives)
     }
 }
 
 impl Say for Reading {
-    fn say(&self, alloc: Global, words: &mut Words) -> Result<(), RowFault> {
-        named(alloc, words, "asked", &self.asked)?;
+    fn say(&self, alloc: Global, words: &mut Words) {
+        named(alloc, words, "asked", &self.asked);
         named(alloc, words, "drafts", &self.drafts)
     }
 }
 
 impl Say for RunRecord {
-    fn say(&self, alloc: Global, words: &mut Words) -> Result<(), RowFault> {
-        named(alloc, words, "asks", &self.asks)?;
+    fn say(&self, alloc: Global, words: &mut Words) {
+        named(alloc, words, "asks", &self.asks);
         named(alloc, words, "writes", &self.writes)
     }
 }
 
 impl Say for OwnedState {
-    fn say(&self, alloc: Global, words: &mut Words) -> Result<(), RowFault> {
+    fn say(&self, alloc: Global, words: &mut Words) {
         match self {
-            OwnedState::Never => words.add(alloc, b"never"),
-            OwnedState::Unsure => words.add(alloc, b"unsure"),
+            OwnedState::Never => words.put(alloc, b"never"),
+            OwnedState::Unsure => words.put(alloc, b"unsure"),
             OwnedState::Written(stamp) => named(alloc, words, "written", stamp),
         }
     }
 }
 
 impl Say for Record {
-    fn say(&self, alloc: Global, words: &mut Words) -> Result<(), RowFault> {
+    fn say(&self, alloc: Global, words: &mut Words) {
         match self {
             Record::Seen { path, stamp } => {
-                named(alloc, words, "seen", path)?;
+                named(alloc, words, "seen", path);
                 stamp.say(alloc, words)
             }
             Record::Reading { dir, reading } => {
-                named(alloc, words, "reading", dir)?;
+                named(alloc, words, "reading", dir);
                 reading.say(alloc, words)
             }
             Record::Rule {
@@ -121,17 +121,17 @@ impl Say for Record {
                 place,
                 rule,
             } => {
-                named(alloc, words, "rule", number)?;
-                named(alloc, words, "place", place)?;
+                named(alloc, words, "rule", number);
+                named(alloc, words, "place", place);
                 rule.say(alloc, words)
             }
             Record::Run { number, run } => {
-                named(alloc, words, "run", number)?;
+                named(alloc, words, "run", number);
                 run.say(alloc, words)
             }
             Record::Owned { path, maker, state } => {
-                named(alloc, words, "owned", path)?;
-                named(alloc, words, "maker", maker)?;
+                named(alloc, words, "owned", path);
+                named(alloc, words, "maker", maker);
                 state.say(alloc, words)
             }
             Record::Create { dir } => named(alloc, words, "create", dir),

@@ -5,12 +5,12 @@ mod session;
 
 use session::Session;
 use std::io;
-use tup_rows::try_file;
+use tup_rows::try_file_by;
 
 fn main(rt: HostRuntime) -> io::Result<()> {
     let alloc = rt.alloc();
     match Session::new(alloc, 0) {
-        Ok(mut session) => try_file(&rt, alloc, "tup.rows", &mut session),
+        Ok(session) => try_file_by(&rt, alloc, "tup.rows", session),
         Err(fault) => println!(rt; "tup.rows: {fault}"),
     }
 }

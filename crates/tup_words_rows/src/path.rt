@@ -17,21 +17,21 @@ struct PathRows;
 
 impl Answers for PathRows {
     fn answer(&mut self, alloc: Global, call: &str, said: &Words) -> Result<Words, RowFault> {
-        match call {
-            "from_top" => from_top(alloc, said),
+        Ok(match call {
+            "from_top" => place(alloc, &Path::from_top(alloc, said.str_at(0))),
             "resolve" => resolve(alloc, said),
             "join" => join(alloc, said),
             "long" => long(alloc, said),
             "join_long" => join_long(alloc, said),
             "show" => show(alloc, said),
-            "display" => display(alloc, said),
+            "display" => Words::shown(alloc, &said.path_at(alloc, 0)),
             "show_from" => show_from(alloc, said),
             _ => more(alloc, call, said),
-        }
+        })
     }
 }
 
-fn more(alloc: Global, call: &str, said: &Words) -> Result<Words, RowFault> {
+fn more(alloc: Global, call: &str, said: &Words) -> Words {
     match call {
         "parent" => parent(alloc, said),
         "below" => below(alloc, said),
@@ -41,12 +41,12 @@ fn more(alloc: Global, call: &str, said: &Words) -> Result<Words, RowFault> {
         "list" => list(alloc, said),
         "text" => text(alloc, said),
         "push_str" => push_str(alloc, said),
-        _ => Err(RowFault::NoSuchCall),
+        _ => Words::none(alloc, RowFault::NoSuchCall),
     }
 }
 
 /// A path that was found, as it is written, or why it wasn't.
-fn place(alloc: Global, found: &Result<Path, PathFault>) -> Result<Words, RowFault> {
+fn place(alloc: Global, found: &Result<Path, PathFault>) -> Words {
     match found {
         Ok(path) => Words::shown(alloc, path),
         Err(fault) => Words::refusal(alloc, fault),
@@ -54,7 +54,7 @@ fn place(alloc: Global, found: &Result<Path, PathFault>) -> Result<Words, RowFau
 }
 
 /// How many names a path has that was found.
-fn depth(alloc: Global, found: &Result<Path, PathFault>) -> Result<Words, RowFault> {
+fn depth(alloc: Global, found: &Result<Path, PathFault>) -> Words {
     match found {
         Ok(path) => Words::shown(alloc, &path.depth()),
         Err(fault) => Words::refusal(alloc, fault),
@@ -62,144 +62,124 @@ fn depth(alloc: Global, found: &Result<Path, PathFault>) -> Result<Words, RowFau
 }
 
 /// How a path is written, or why it isn't.
-fn way(alloc: Global, text: &Result<Text, PathFault>) -> Result<Words, RowFault> {
+fn way(alloc: Global, text: &Result<Text, PathFault>) -> Words {
     match text {
         Ok(text) => Words::shown(alloc, text),
         Err(fault) => Words::refusal(alloc, fault),
     }
 }
 
-fn from_top(alloc: Global, said: &Words) -> Result<Words, RowFault> {
-    place(alloc, &Path::from_top(alloc, said.text(0)?))
+fn resolve(alloc: Global, said: &Words) -> Words {
+    let folder = said.path_at(alloc, 0);
+    place(
+        alloc,
+        &Path::resolve(alloc, &folder, &said.text_at(alloc, 1)),
+    )
 }
 
-fn resolve(alloc: Global, said: &Words) -> Result<Words, RowFault> {
-    let folder = said.path_at(alloc, 0)?;
-    let text = said.text_at(alloc, 1)?;
-    place(alloc, &Path::resolve(alloc, &folder, &text))
+fn join(alloc: Global, said: &Words) -> Words {
+    let folder = said.path_at(alloc, 0);
+    place(alloc, &folder.join(alloc, &said.text_at(alloc, 1)))
 }
 
-fn join(alloc: Global, said: &Words) -> Result<Words, RowFault> {
-    let folder = said.path_at(alloc, 0)?;
-    let name = said.text_at(alloc, 1)?;
-    place(alloc, &folder.join(alloc, &name))
-}
-
-fn long(alloc: Global, said: &Words) -> Result<Words, RowFault> {
-    match str::from_utf8(&repeated(alloc, said)?) {
+fn long(alloc: Global, said: &Words) -> Words {
+    match str::from_utf8(&repeated(alloc, said)) {
         Ok(text) => depth(alloc, &Path::from_top(alloc, text)),
-        Err(_) => Err(RowFault::OtherKind),
+        Err(_) => Words::none(alloc, RowFault::OtherKind),
     }
 }
 
-fn join_long(alloc: Global, said: &Words) -> Result<Words, RowFault> {
-    match Text::new(Bytes::new(repeated(alloc, said)?)) {
+fn join_long(alloc: Global, said: &Words) -> Words {
+    match Text::new(Bytes::new(repeated(alloc, said))) {
         Some(name) => depth(alloc, &Path::top(alloc).join(alloc, &name)),
-        None => Err(RowFault::OtherKind),
+        None => Words::none(alloc, RowFault::OtherKind),
     }
 }
 
-fn show(alloc: Global, said: &Words) -> Result<Words, RowFault> {
-    let path = said.path_at(alloc, 0)?;
-    way(alloc, &path.show(alloc))
+fn show(alloc: Global, said: &Words) -> Words {
+    way(alloc, &said.path_at(alloc, 0).show(alloc))
 }
 
-fn display(alloc: Global, said: &Words) -> Result<Words, RowFault> {
-    Words::shown(alloc, &said.path_at(alloc, 0)?)
+fn show_from(alloc: Global, said: &Words) -> Words {
+    let folder = said.path_at(alloc, 0);
+    way(alloc, &said.path_at(alloc, 1).show_from(alloc, &folder))
 }
 
-fn show_from(alloc: Global, said: &Words) -> Result<Words, RowFault> {
-    let folder = said.path_at(alloc, 0)?;
-    let path = said.path_at(alloc, 1)?;
-    way(alloc, &path.show_from(alloc, &folder))
-}
-
-fn parent(alloc: Global, said: &Words) -> Result<Words, RowFault> {
-    match said.path_at(alloc, 0)?.parent(alloc) {
+fn parent(alloc: Global, said: &Words) -> Words {
+    match said.path_at(alloc, 0).parent(alloc) {
         Ok(Some(folder)) => Words::shown(alloc, &folder),
-        Ok(None) => Words::one(alloc, b"none"),
+        Ok(None) => Words::word(alloc, b"none"),
         Err(fault) => Words::refusal(alloc, &fault),
     }
 }
 
-fn below(alloc: Global, said: &Words) -> Result<Words, RowFault> {
-    let folder = said.path_at(alloc, 0)?;
-    let path = said.path_at(alloc, 1)?;
-    Words::yes_or_no(alloc, path.is_below(&folder))
+fn below(alloc: Global, said: &Words) -> Words {
+    let folder = said.path_at(alloc, 0);
+    Words::yes_or_no(alloc, said.path_at(alloc, 1).is_below(&folder))
 }
 
 /// The count of a path's names, and the names.
-fn names(alloc: Global, said: &Words) -> Result<Words, RowFault> {
-    let path = said.path_at(alloc, 0)?;
-    let mut words = Words::shown(alloc, &path.depth())?;
-    add_names(alloc, &mut words, &path)?;
-    Ok(words)
-}
-
-fn add_names(alloc: Global, words: &mut Words, path: &Path) -> Result<(), RowFault> {
+fn names(alloc: Global, said: &Words) -> Words {
+    let path = said.path_at(alloc, 0);
+    let mut words = Words::shown(alloc, &path.depth());
     for at in 0..path.depth() {
-        words.add(alloc, path.name(at).as_str().as_bytes())?;
+        words.show(alloc, path.name(at));
     }
-    Ok(())
+    words
 }
 
-fn copy(alloc: Global, said: &Words) -> Result<Words, RowFault> {
-    let path = said.path_at(alloc, 0)?;
-    place(alloc, &path.copy(alloc))
+fn copy(alloc: Global, said: &Words) -> Words {
+    place(alloc, &said.path_at(alloc, 0).copy(alloc))
 }
 
-fn compare(alloc: Global, said: &Words) -> Result<Words, RowFault> {
-    let first = said.path_at(alloc, 0)?;
-    let second = said.path_at(alloc, 1)?;
-    match first.cmp(&second) {
-        Ordering::Less => Words::one(alloc, b"before"),
-        Ordering::Equal => Words::one(alloc, b"same"),
-        Ordering::Greater => Words::one(alloc, b"behind"),
+fn compare(alloc: Global, said: &Words) -> Words {
+    let first = said.path_at(alloc, 0);
+    match first.cmp(&said.path_at(alloc, 1)) {
+        Ordering::Less => Words::word(alloc, b"before"),
+        Ordering::Equal => Words::word(alloc, b"same"),
+        Ordering::Greater => Words::word(alloc, b"behind"),
     }
 }
 
 /// The paths of a list that was filled, copied and found to be the same.
-fn list(alloc: Global, said: &Words) -> Result<Words, RowFault> {
-    let paths = filled(alloc, said)?;
-    let copy = paths.clone()?;
-    if copy == paths && copy.len() == said.len() {
-        return listed(alloc, &copy);
+fn list(alloc: Global, said: &Words) -> Words {
+    let paths = filled(alloc, said);
+    match paths.clone() {
+        Ok(copy) => same_paths(alloc, &paths, &copy),
+        Err(_) => Words::none(alloc, RowFault::Memory),
     }
-    Words::one(alloc, b"differs")
 }
 
-fn filled(alloc: Global, said: &Words) -> Result<Paths, RowFault> {
+fn filled(alloc: Global, said: &Words) -> Paths {
     let mut paths = Items::new(alloc);
     for at in 0..said.len() {
-        push(&mut paths, said.path_at(alloc, at)?)?;
+        said.list(&mut paths, said.path_at(alloc, at));
     }
-    Ok(paths)
+    paths
 }
 
-fn push(paths: &mut Paths, path: Path) -> Result<(), RowFault> {
-    match paths.push(path) {
-        Ok(()) => Ok(()),
-        Err(_) => Err(RowFault::Memory),
+fn same_paths(alloc: Global, paths: &Paths, copy: &Paths) -> Words {
+    if copy != paths || copy.len() != paths.len() {
+        return Words::word(alloc, b"differs");
     }
-}
-
-fn listed(alloc: Global, paths: &Paths) -> Result<Words, RowFault> {
     let mut words = Words::new(alloc);
-    for path in paths.as_slice() {
-        words.add_shown(alloc, path)?;
+    for path in copy.as_slice() {
+        words.show(alloc, path);
     }
-    Ok(words)
+    words
 }
 
-fn text(alloc: Global, said: &Words) -> Result<Words, RowFault> {
-    match Text::new(Bytes::new(said.bytes_at(alloc, 0)?)) {
+fn text(alloc: Global, said: &Words) -> Words {
+    match Text::new(Bytes::new(said.bytes_at(alloc, 0))) {
         Some(text) => Words::shown(alloc, &text),
-        None => Words::one(alloc, b"none"),
+        None => Words::word(alloc, b"none"),
     }
 }
 
-fn push_str(alloc: Global, said: &Words) -> Result<Words, RowFault> {
-    let mut text = said.text_at(alloc, 0)?;
-    text.push_str(said.text(1)?)?;
-    Words::shown(alloc, &text)
+fn push_str(alloc: Global, said: &Words) -> Words {
+    let mut text = said.text_at(alloc, 0);
+    match text.push_str(said.str_at(1)) {
+        Ok(()) => Words::shown(alloc, &text),
+        Err(_) => Words::none(alloc, RowFault::Memory),
+    }
 }

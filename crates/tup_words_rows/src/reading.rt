@@ -2,127 +2,133 @@
 use std::alloc::Global;
 use tup_path::{Bytes, Items, Path, Text};
 use tup_rows::{RowFault, Words};
-use tup_rule::{Draft, GroupRef, Kind, Noted, Piece, Pieces, Question, Reading, Told};
+use tup_rule::{Draft, GroupRef, Kind, Noted, Piece, Question, Reading, Told};
 use tup_stamp::hex;
 
-pub(crate) fn answer(alloc: Global, call: &str, said: &Words) -> Result<Words, RowFault> {
+pub(crate) fn answer(alloc: Global, call: &str, said: &Words) -> Words {
     match call {
         "content" => content(alloc, said),
         "config" => config(alloc, said),
         "kind" => kind(alloc, said),
         "files" => files(alloc, said),
         "copied" => copied(alloc, said),
-        _ => Err(RowFault::NoSuchCall),
+        _ => Words::none(alloc, RowFault::NoSuchCall),
     }
 }
 
 /// The content that the first argument is, or `None` where there is no argument.
-fn content(alloc: Global, said: &Words) -> Result<Words, RowFault> {
+fn content(alloc: Global, said: &Words) -> Words {
     if said.is_empty() {
         return kept(alloc, &Told::Content(None));
     }
     kept(
         alloc,
-        &Told::Content(Some(Bytes::new(said.bytes_at(alloc, 0)?))),
+        &Told::Content(Some(Bytes::new(said.bytes_at(alloc, 0)))),
     )
 }
 
 /// The value that the first argument is, or `None` where there is no argument.
-fn config(alloc: Global, said: &Words) -> Result<Words, RowFault> {
+fn config(alloc: Global, said: &Words) -> Words {
     if said.is_empty() {
         return kept(alloc, &Told::Config(None));
     }
-    kept(alloc, &Told::Config(Some(said.text_at(alloc, 0)?)))
+    kept(alloc, &Told::Config(Some(said.text_at(alloc, 0))))
 }
 
-fn kind(alloc: Global, said: &Words) -> Result<Words, RowFault> {
-    match said.text(0)? {
+fn kind(alloc: Global, said: &Words) -> Words {
+    match said.str_at(0) {
         "nothing" => kept(alloc, &Told::Kind(Kind::Nothing)),
         "file" => kept(alloc, &Told::Kind(Kind::File)),
         "dir" => kept(alloc, &Told::Kind(Kind::Dir)),
-        _ => Err(RowFault::OtherKind),
+        _ => Words::none(alloc, RowFault::OtherKind),
     }
 }
 
-fn files(alloc: Global, said: &Words) -> Result<Words, RowFault> {
+fn files(alloc: Global, said: &Words) -> Words {
     let mut texts = Items::new(alloc);
     for at in 0..said.len() {
-        push(&mut texts, said.text_at(alloc, at)?)?;
+        said.list(&mut texts, said.text_at(alloc, at));
     }
     kept(alloc, &Told::Names(texts))
 }
 
-fn push<T: Drop>(items: &mut Items<T>, item: T) -> Result<(), RowFault> {
-    match items.push(item) {
-        Ok(()) => Ok(()),
-        Err(_) => Err(RowFault::Memory),
+/// A copy of an answer, as it is kept.
+fn kept(alloc: Global, told: &Told) -> Words {
+    match told.clone() {
+        Ok(copy) => copied_note(alloc, &copy.noted()),
+        Err(_) => Words::none(alloc, RowFault::Memory),
     }
 }
 
-/// A copy of an answer as a copy of it is kept, in words.
-fn kept(alloc: Global, told: &Told) -> Result<Words, RowFault> {
-    let noted = told.clone()?.noted();
-    told_again(alloc, &noted.clone()?)
+/// A copy of what is kept, in words.
+fn copied_note(alloc: Global, noted: &Noted) -> Words {
+    match noted.clone() {
+        Ok(copy) => note(alloc, &copy),
+        Err(_) => Words::none(alloc, RowFault::Memory),
+    }
 }
 
-fn told_again(alloc: Global, noted: &Noted) -> Result<Words, RowFault> {
+fn note(alloc: Global, noted: &Noted) -> Words {
     match noted {
-        Noted::Content(Some(stamp)) => Words::one(alloc, &hex(stamp)),
+        Noted::Content(Some(stamp)) => Words::word(alloc, &hex(stamp)),
         Noted::Config(Some(value)) => Words::shown(alloc, value),
-        Noted::Content(None) | Noted::Config(None) => Words::one(alloc, b"none"),
+        Noted::Content(None) | Noted::Config(None) => Words::word(alloc, b"none"),
         Noted::Names(names) => listed(alloc, names),
-        Noted::Kind(Kind::Nothing) => Words::one(alloc, b"nothing"),
-        Noted::Kind(Kind::File) => Words::one(alloc, b"file"),
-        Noted::Kind(Kind::Dir) => Words::one(alloc, b"dir"),
+        Noted::Kind(Kind::Nothing) => Words::word(alloc, b"nothing"),
+        Noted::Kind(Kind::File) => Words::word(alloc, b"file"),
+        Noted::Kind(Kind::Dir) => Words::word(alloc, b"dir"),
     }
 }
 
-fn listed(alloc: Global, texts: &Items<Text>) -> Result<Words, RowFault> {
+fn listed(alloc: Global, texts: &Items<Text>) -> Words {
     let mut words = Words::new(alloc);
     for text in texts.as_slice() {
-        words.add_shown(alloc, text)?;
+        words.show(alloc, text);
     }
-    Ok(words)
+    words
 }
 
 /// A copy of the reading that left a draft with these pieces, and asked whether its file stands.
-fn copied(alloc: Global, said: &Words) -> Result<Words, RowFault> {
+fn copied(alloc: Global, said: &Words) -> Words {
     let mut reading = Reading {
         drafts: Items::new(alloc),
         asked: Items::new(alloc),
     };
-    fill(alloc, &mut reading, said)?;
-    compared(alloc, &reading)
+    fill(alloc, &mut reading, said);
+    copied_reading(alloc, &reading)
 }
 
-fn fill(alloc: Global, reading: &mut Reading, said: &Words) -> Result<(), RowFault> {
-    push(&mut reading.drafts, draft(alloc, said)?)?;
-    let question = Question::Kind(said.path_at(alloc, 0)?);
-    push(&mut reading.asked, (question, Noted::Kind(Kind::File)))
+fn fill(alloc: Global, reading: &mut Reading, said: &Words) {
+    said.list(&mut reading.drafts, draft(alloc, said));
+    let question = Question::Kind(said.path_at(alloc, 0));
+    said.list(&mut reading.asked, (question, Noted::Kind(Kind::File)));
 }
 
-fn compared(alloc: Global, reading: &Reading) -> Result<Words, RowFault> {
-    let copy = reading.clone()?;
-    if copy == *reading {
-        return first(alloc, &copy);
+fn copied_reading(alloc: Global, reading: &Reading) -> Words {
+    match reading.clone() {
+        Ok(copy) => same_reading(alloc, reading, &copy),
+        Err(_) => Words::none(alloc, RowFault::Memory),
     }
-    Words::one(alloc, b"differs")
 }
 
-fn first(alloc: Global, reading: &Reading) -> Result<Words, RowFault> {
-    match reading.drafts.as_slice().first() {
+fn same_reading(alloc: Global, reading: &Reading, copy: &Reading) -> Words {
+    if copy != reading {
+        return Words::word(alloc, b"differs");
+    }
+    match copy.drafts.as_slice().first() {
         Some(draft) => summary(alloc, draft),
-        None => Words::one(alloc, b"none"),
+        None => Words::word(alloc, b"none"),
     }
 }
 
 /// A draft of a file, at a line, whose command is a text and then the members of a group.
-fn draft(alloc: Global, said: &Words) -> Result<Draft, RowFault> {
-    let mut draft = empty(alloc, said.path_at(alloc, 0)?);
-    match describe(alloc, &mut draft, said) {
-        Ok(()) => Ok(draft),
-        Err(fault) => Err(fault),
-    }
+fn draft(alloc: Global, said: &Words) -> Draft {
+    let mut draft = empty(alloc, said.path_at(alloc, 0));
+    draft.line = line(said);
+    said.list(&mut draft.pieces, Piece::Text(said.text_at(alloc, 2)));
+    said.list(&mut draft.pieces, Piece::Group(0));
+    give(alloc, &mut draft, said);
+    draft
 }
 
 fn empty(alloc: Global, file: Path) -> Draft {
@@ -140,62 +146,45 @@ fn empty(alloc: Global, file: Path) -> Draft {
     }
 }
 
-fn describe(alloc: Global, draft: &mut Draft, said: &Words) -> Result<(), RowFault> {
-    draft.line = line(said.number(1)?)?;
-    add_pieces(&mut draft.pieces, said.text_at(alloc, 2)?)?;
-    draft.display = Some(draft.pieces.clone()?);
-    give(draft, group(alloc, said)?)
-}
-
-fn line(number: u64) -> Result<u32, RowFault> {
-    match u32::try_from(number) {
-        Ok(line) => Ok(line),
-        Err(_) => Err(RowFault::OtherKind),
+fn line(said: &Words) -> u32 {
+    match u32::try_from(said.number_at(1)) {
+        Ok(line) => line,
+        Err(_) => {
+            said.fail(RowFault::OtherKind);
+            0
+        }
     }
 }
 
-fn add_pieces(pieces: &mut Pieces, text: Text) -> Result<(), RowFault> {
-    push(pieces, Piece::Text(text))?;
-    push(pieces, Piece::Group(0))
-}
-
-fn group(alloc: Global, said: &Words) -> Result<GroupRef, RowFault> {
-    let dir = said.path_at(alloc, 3)?;
-    match said.text_at(alloc, 4) {
-        Ok(name) => Ok(GroupRef { dir, name }),
-        Err(fault) => Err(fault),
+/// Has a draft show what it runs, take from a group and give to it.
+fn give(alloc: Global, draft: &mut Draft, said: &Words) {
+    match draft.pieces.clone() {
+        Ok(pieces) => draft.display = Some(pieces),
+        Err(_) => said.fail(RowFault::Memory),
     }
+    said.list(&mut draft.groups, group(alloc, said));
+    draft.gives = Some(group(alloc, said));
 }
 
-/// Has a draft take from a group, and give to it.
-fn give(draft: &mut Draft, group: GroupRef) -> Result<(), RowFault> {
-    push(&mut draft.groups, group.clone()?)?;
-    draft.gives = Some(group);
-    Ok(())
+fn group(alloc: Global, said: &Words) -> GroupRef {
+    GroupRef {
+        dir: said.path_at(alloc, 3),
+        name: said.text_at(alloc, 4),
+    }
 }
 
 /// What a draft says, in the order of the row's arguments.
-fn summary(alloc: Global, draft: &Draft) -> Result<Words, RowFault> {
-    let mut words = Words::shown(alloc, &draft.file)?;
-    words.add_shown(alloc, &draft.line)?;
-    add_texts(alloc, &mut words, &draft.pieces)?;
-    add_groups(alloc, &mut words, &draft.groups)?;
-    Ok(words)
-}
-
-fn add_texts(alloc: Global, words: &mut Words, pieces: &Pieces) -> Result<(), RowFault> {
-    for piece in pieces.as_slice() {
+fn summary(alloc: Global, draft: &Draft) -> Words {
+    let mut words = Words::shown(alloc, &draft.file);
+    words.show(alloc, &draft.line);
+    for piece in draft.pieces.as_slice() {
         if let Piece::Text(text) = piece {
-            words.add_shown(alloc, text)?;
+            words.show(alloc, text);
         }
     }
-    Ok(())
-}
-
-fn add_groups(alloc: Global, words: &mut Words, groups: &Items<GroupRef>) -> Result<(), RowFault> {
-    for group in groups.as_slice() {
-        words.add_shown(alloc, &group.dir)?;
-        words.add_shown(alloc, &group.name)?;
+    for group in draft.groups.as_slice() {
+        words.show(alloc, &group.dir);
+        words.show(alloc, &group.name);
     }
-    Ok(())
+    words
 }

@@ -3,14 +3,12 @@ use std::alloc::Global;
 use tup_rows::{RowFault, Words};
 
 /// What the first argument says, as often as the second one says.
-pub(crate) fn repeated(alloc: Global, said: &Words) -> Result<Vec<u8>, RowFault> {
-    many(alloc, said.bytes(0)?, said.number(1)?)
-}
-
-fn many(alloc: Global, bytes: &[u8], count: u64) -> Result<Vec<u8>, RowFault> {
+pub(crate) fn repeated(alloc: Global, said: &Words) -> Vec<u8> {
     let mut all = Vec::new(alloc);
-    for _ in 0..count {
-        all.extend_from_slice(bytes)?;
+    for _ in 0..said.number_at(1) {
+        if all.extend_from_slice(said.word_at(0)).is_err() {
+            said.fail(RowFault::Memory);
+        }
     }
-    Ok(all)
+    all
 }

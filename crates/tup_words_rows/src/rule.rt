@@ -22,18 +22,19 @@ struct RuleRows {
 
 impl Answers for RuleRows {
     fn answer(&mut self, alloc: Global, call: &str, said: &Words) -> Result<Words, RowFault> {
-        match call {
+        Ok(match call {
             "declares" => self.declares(alloc, said),
             "writes" => self.writes(alloc, said),
             "name" => self.name(alloc),
             "label" => self.label(alloc),
             "keep" => self.keep(alloc),
             "same" => Words::yes_or_no(alloc, self.rule.same(&self.other)),
-            "content" | "config" | "kind" | "files" | "copied" => {
-                reading::answer(alloc, call, said)
+            "rule" | "dir" | "command" | "display" | "compare" | "input" | "order" | "output" => {
+                self.change(alloc, call, said);
+                Words::done(alloc)
             }
-            _ => self.changed(alloc, call, said),
-        }
+            _ => reading::answer(alloc, call, said),
+        })
     }
 }
 
@@ -45,78 +46,54 @@ impl RuleRows {
         }
     }
 
-    fn changed(&mut self, alloc: Global, call: &str, said: &Words) -> Result<Words, RowFault> {
-        match self.change(alloc, call, said) {
-            Ok(()) => Words::done(alloc),
-            Err(fault) => Err(fault),
-        }
-    }
-
-    fn change(&mut self, alloc: Global, call: &str, said: &Words) -> Result<(), RowFault> {
+    fn change(&mut self, alloc: Global, call: &str, said: &Words) {
         match call {
             "rule" => self.begin(alloc, said),
-            "dir" => self.set_dir(alloc, said),
-            "command" => self.set_command(alloc, said),
-            "display" => self.set_display(alloc, said),
-            "compare" => self.set_compare(),
-            "input" => add(alloc, &mut self.rule.inputs, said),
-            "order" => add(alloc, &mut self.rule.order, said),
-            "output" => add(alloc, &mut self.rule.outputs, said),
-            _ => Err(RowFault::NoSuchCall),
+            "dir" => self.rule.dir = said.path_at(alloc, 0),
+            "command" => self.rule.text = said.text_at(alloc, 0),
+            "display" => self.rule.display = Some(said.text_at(alloc, 0)),
+            "compare" => self.rule.compare = true,
+            "input" => said.list(&mut self.rule.inputs, said.path_at(alloc, 0)),
+            "order" => said.list(&mut self.rule.order, said.path_at(alloc, 0)),
+            _ => said.list(&mut self.rule.outputs, said.path_at(alloc, 0)),
         }
     }
 
-    fn begin(&mut self, alloc: Global, said: &Words) -> Result<(), RowFault> {
+    fn begin(&mut self, alloc: Global, said: &Words) {
         self.rule = empty(alloc);
-        self.set_dir(alloc, said)?;
-        self.rule.text = said.text_at(alloc, 1)?;
-        Ok(())
+        self.rule.dir = said.path_at(alloc, 0);
+        self.rule.text = said.text_at(alloc, 1);
     }
 
-    fn set_dir(&mut self, alloc: Global, said: &Words) -> Result<(), RowFault> {
-        self.rule.dir = said.path_at(alloc, 0)?;
-        Ok(())
+    fn declares(&self, alloc: Global, said: &Words) -> Words {
+        Words::yes_or_no(alloc, self.rule.declares(&said.path_at(alloc, 0)))
     }
 
-    fn set_command(&mut self, alloc: Global, said: &Words) -> Result<(), RowFault> {
-        self.rule.text = said.text_at(alloc, 0)?;
-        Ok(())
+    fn writes(&self, alloc: Global, said: &Words) -> Words {
+        Words::yes_or_no(alloc, self.rule.writes(&said.path_at(alloc, 0)))
     }
 
-    fn set_display(&mut self, alloc: Global, said: &Words) -> Result<(), RowFault> {
-        self.rule.display = Some(said.text_at(alloc, 0)?);
-        Ok(())
+    fn keep(&mut self, alloc: Global) -> Words {
+        match self.rule.clone() {
+            Ok(rule) => {
+                self.other = rule;
+                Words::done(alloc)
+            }
+            Err(_) => Words::none(alloc, RowFault::Memory),
+        }
     }
 
-    fn set_compare(&mut self) -> Result<(), RowFault> {
-        self.rule.compare = true;
-        Ok(())
-    }
-
-    fn declares(&self, alloc: Global, said: &Words) -> Result<Words, RowFault> {
-        Words::yes_or_no(alloc, self.rule.declares(&said.path_at(alloc, 0)?))
-    }
-
-    fn writes(&self, alloc: Global, said: &Words) -> Result<Words, RowFault> {
-        Words::yes_or_no(alloc, self.rule.writes(&said.path_at(alloc, 0)?))
-    }
-
-    fn keep(&mut self, alloc: Global) -> Result<Words, RowFault> {
-        self.other = self.rule.clone()?;
-        Words::done(alloc)
-    }
-
-    fn name(&self, alloc: Global) -> Result<Words, RowFault> {
+    fn name(&self, alloc: Global) -> Words {
         match self.rule.name(alloc) {
             Ok(name) => named(alloc, &name.dir, &name.text),
-            Err(_) => Err(RowFault::Memory),
+            Err(_) => Words::none(alloc, RowFault::Memory),
         }
     }
 
-    fn label(&self, alloc: Global) -> Result<Words, RowFault> {
+    fn label(&self, alloc: Global) -> Words {
         match self.rule.label(alloc) {
             Ok(label) => Words::shown(alloc, &label),
-            Err(_) => Err(RowFault::Memory),
+            Err(_) => Words::none(alloc, RowFault::Memory),
         }
     }
 }
@@ -134,14 +111,8 @@ fn empty(alloc: Global) -> Rule {
     }
 }
 
-/// Adds the path that the first argument names.
-fn add(alloc: Global, paths: &mut Items<Path>, said: &Words) -> Result<(), RowFault> {
-    paths.push(said.path_at(alloc, 0)?)?;
-    Ok(())
-}
-
-fn named(alloc: Global, dir: &Path, text: &Text) -> Result<Words, RowFault> {
-    let mut words = Words::shown(alloc, dir)?;
-    words.add_shown(alloc, text)?;
-    Ok(words)
+fn named(alloc: Global, dir: &Path, text: &Text) -> Words {
+    let mut words = Words::shown(alloc, dir);
+    words.show(alloc, text);
+    words
 }

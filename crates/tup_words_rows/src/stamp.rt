@@ -16,31 +16,23 @@ struct StampRows;
 
 impl Answers for StampRows {
     fn answer(&mut self, alloc: Global, call: &str, said: &Words) -> Result<Words, RowFault> {
-        match call {
-            "stamp" => stamp(alloc, said),
-            "stamp_long" => stamp_long(alloc, said),
+        Ok(match call {
+            "stamp" => digits(alloc, stamp_of(said.word_at(0))),
+            "stamp_long" => digits(alloc, stamp_of(&repeated(alloc, said))),
             "hex" => hex_of(alloc, said),
-            _ => Err(RowFault::NoSuchCall),
-        }
+            _ => Words::none(alloc, RowFault::NoSuchCall),
+        })
     }
 }
 
-fn digits(alloc: Global, stamp: Stamp) -> Result<Words, RowFault> {
-    Words::one(alloc, &hex(&stamp))
-}
-
-fn stamp(alloc: Global, said: &Words) -> Result<Words, RowFault> {
-    digits(alloc, stamp_of(said.bytes(0)?))
-}
-
-fn stamp_long(alloc: Global, said: &Words) -> Result<Words, RowFault> {
-    digits(alloc, stamp_of(&repeated(alloc, said)?))
+fn digits(alloc: Global, stamp: Stamp) -> Words {
+    Words::word(alloc, &hex(&stamp))
 }
 
 /// The digits of a stamp that is given by its bytes.
-fn hex_of(alloc: Global, said: &Words) -> Result<Words, RowFault> {
-    match said.bytes(0)?.try_into() {
+fn hex_of(alloc: Global, said: &Words) -> Words {
+    match said.word_at(0).try_into() {
         Ok(bytes) => digits(alloc, Stamp(bytes)),
-        Err(_) => Err(RowFault::OtherKind),
+        Err(_) => Words::none(alloc, RowFault::OtherKind),
     }
 }

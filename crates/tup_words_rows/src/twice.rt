@@ -14,15 +14,15 @@ struct Twice;
 
 impl Answers for Twice {
     fn answer(&mut self, alloc: Global, call: &str, said: &Words) -> Result<Words, RowFault> {
-        match call {
+        Ok(match call {
             "twice" => two(alloc, said),
-            _ => Err(RowFault::NoSuchCall),
-        }
+            _ => Words::none(alloc, RowFault::NoSuchCall),
+        })
     }
 }
 
-fn two(alloc: Global, said: &Words) -> Result<Words, RowFault> {
-    let mut found = Words::one(alloc, said.bytes(0)?)?;
-    found.add(alloc, said.bytes(0)?)?;
-    Ok(found)
+fn two(alloc: Global, said: &Words) -> Words {
+    let mut words = Words::word(alloc, said.word_at(0));
+    words.put(alloc, said.word_at(0));
+    words
 }

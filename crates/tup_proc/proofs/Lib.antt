@@ -1,0 +1,5 @@
+pub mod Marks
+pub mod Numbers
+pub mod Lines
+pub mod Unread
+pub mod Logs

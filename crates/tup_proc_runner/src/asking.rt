@@ -1,0 +1,64 @@
+//! The asks of a log, put to the view.
+ghost use Rattle.std.specs.Prelude.{◌≡◌, None};
+ghost use Rattle.tup_proc_runner.specs.Asked.{AsksAs};
+
+use std::alloc::Global;
+use tup_path::Text;
+use tup_proc::LogLine;
+use tup_runner::{Answer, RunFailed, View};
+use tup_stamp::{Stamp, stamp_of};
+
+/// Asks the view for what a log says that its program asked, in order. Whether each answer is what the log says; after
+/// the first that differs nothing is asked.
+pub(crate) fn ask_all<V: View>(
+    alloc: Global,
+    lines: &[LogLine],
+    view: &mut V,
+) -> Result<bool, RunFailed>
+    requires { V.refusal view.old ≡ None }
+    ensures asked { AsksAs (λ asks. V.came view.old asks view.new) (V.refusal view.new) result }
+    ensures same { V.same view.old view.new }
+{
+    for line in lines {
+        if !ask(alloc, line, view)? {
+            return Ok(false);
+        }
+    }
+    Ok(true)
+}
+
+/// Asks the view for what one line says that was asked.
+fn ask<V: View>(alloc: Global, line: &LogLine, view: &mut V) -> Result<bool, RunFailed>
+    requires { V.refusal view.old ≡ None }
+    ensures asked { AsksAs (λ asks. V.came view.old asks view.new) (V.refusal view.new) result }
+    ensures same { V.same view.old view.new }
+{
+    match line {
+        LogLine::Read { stamp, text } => answered(alloc, text, Some(*stamp), view),
+        LogLine::Absent { text } => answered(alloc, text, None, view),
+        LogLine::Wrote { .. } | LogLine::End { .. } => Ok(true),
+    }
+}
+
+/// Whether the view answers with a content of this stamp, or that nothing is there.
+fn answered<V: View>(
+    alloc: Global,
+    text: &Text,
+    stamp: Option<Stamp>,
+    view: &mut V,
+) -> Result<bool, RunFailed>
+    requires { V.refusal view.old ≡ None }
+    ensures asked { AsksAs (λ asks. V.came view.old asks view.new) (V.refusal view.new) result }
+    ensures same { V.same view.old view.new }
+{
+    let answer = view.ask(alloc, text)?;
+    Ok(found(&answer) == stamp)
+}
+
+/// The stamp of what was found, if anything was.
+fn found(answer: &Answer) -> Option<Stamp> {
+    match answer {
+        Answer::Content(bytes) => Some(stamp_of(bytes.as_slice())),
+        Answer::Absent => None,
+    }
+}

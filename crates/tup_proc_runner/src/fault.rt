@@ -1,0 +1,59 @@
+//! Why a started program gave no run.
+use std::alloc::{AllocError, AllocFailed};
+use std::io;
+use std::io::ErrorKind;
+use thiserror::Error;
+
+/// Why a started program gave no run.
+#[derive(Clone, Copy, Debug, PartialEq, Eq, Error)]
+pub enum ProcFault {
+    /// The program couldn't be started or waited for.
+    #[error("the program couldn't be started")]
+    NotStarted,
+    /// There is no log, it doesn't read, it names a file that isn't there, or the files have other contents than it says.
+    #[error("the program's log is bad")]
+    BadLog,
+    /// A file of the stage couldn't be made or read.
+    #[error("the stage couldn't be made or read")]
+    NoStage,
+}
+
+/// Why something of a run wasn't done.
+#[derive(Clone, Copy)]
+pub(crate) enum Refused {
+    Memory,
+    Fault(ProcFault),
+}
+
+impl Refused {
+    /// An error of the system, as this fault unless it is want of memory.
+    pub(crate) fn of(error: &io::Error, fault: ProcFault) -> Refused {
+        if error.kind() == ErrorKind::OutOfMemory {
+            Refused::Memory
+        } else {
+            Refused::Fault(fault)
+        }
+    }
+}
+
+impl From<AllocError> for Refused {
+    ghost use Rattle.std.specs.Prelude.{◌≡◌};
+    ghost use Rattle.tup_proc_runner.specs.declared.fault.Refused.TheVariants.{Memory};
+
+    ghost from_gives = { λ _ refused. refused ≡ Memory };
+
+    fn from(_: AllocError) -> Refused {
+        Refused::Memory
+    }
+}
+
+impl<T: Drop> From<AllocFailed<T>> for Refused {
+    ghost use Rattle.std.specs.Prelude.{◌≡◌};
+    ghost use Rattle.tup_proc_runner.specs.declared.fault.Refused.TheVariants.{Memory};
+
+    ghost from_gives = { λ _ refused. refused ≡ Memory };
+
+    fn from(_: AllocFailed<T>) -> Refused {
+        Refused::Memory
+    }
+}

@@ -1,0 +1,130 @@
+//! The runner that starts a program for each command.
+ghost use Rattle.std.specs.Prelude.{◌≡◌, None, Ok, IfOk, IfErr};
+ghost use Rattle.tup_runner.specs.Run.{CountsFaults};
+ghost use Rattle.tup_proc_runner.specs.Asked.{IsOwn};
+
+use crate::asking::ask_all;
+use crate::fault::{ProcFault, Refused};
+use crate::stage::Stage;
+use std::alloc::Global;
+use std::fs::File;
+use std::process::{Command, Processes};
+use std::rt::Files;
+use tup_path::{Items, Path, Text};
+use tup_proc::LogLine;
+use tup_runner::{Ended, RunFailed, Runner, View};
+
+/// Starts a program for each command, with the words ROOT DIR STAGE TEXT, and reads its log. Each fault is counted.
+#[derive(Drop)]
+pub struct ProcRunner<R: Files<File = File> + Processes + Clone + Drop> {
+    root: Text,
+    program: Text,
+    stage: Stage<R>,
+    last: Option<ProcFault>,
+    faults: u64,
+}
+
+impl<R: Files<File = File> + Processes + Clone + Drop> ProcRunner<R> {
+    /// A runner of this program for the files below a root, with this folder as its stage. It starts nothing yet and
+    /// takes no memory.
+    pub fn new(rt: R, root: Text, program: Text, stage: Text) -> ProcRunner<R>
+        ensures unnamed { result.last ≡ None }
+        ensures uncounted { result.faults ≡ 0 }
+    {
+        ProcRunner {
+            root,
+            program,
+            stage: Stage { rt, folder: stage },
+            last: None,
+            faults: 0,
+        }
+    }
+
+    /// The last fault. `None` where there was none yet.
+    pub fn last(&self) -> Option<ProcFault>
+        ensures { result ≡ self.now.last }
+    {
+        self.last
+    }
+
+    /// Runs the program, and gives the lines of its log.
+    fn start(
+        &self,
+        alloc: Global,
+        dir: &Path,
+        text: &Text,
+        own: &[Path],
+    ) -> Result<Items<LogLine>, Refused> {
+        self.stage.prepare(alloc, own)?;
+        let Ok(dir) = dir.show(alloc) else {
+            return Err(Refused::Memory);
+        };
+        let mut command = self.command(alloc, &dir, text)?;
+        if let Err(e) = command.status(&self.stage.rt) {
+            return Err(Refused::of(&e, ProcFault::NotStarted));
+        }
+        self.stage.log(alloc)
+    }
+
+    /// The program with its words.
+    fn command(&self, alloc: Global, dir: &Text, text: &Text) -> Result<Command, Refused> {
+        let mut command = Command::new(alloc, self.program.as_str())?;
+        command.arg(self.root.as_str())?;
+        command.arg(dir.as_str())?;
+        command.arg(self.stage.folder.as_str())?;
+        command.arg(text.as_str())?;
+        Ok(command)
+    }
+
+    /// An answer as the runner gives it. Each fault is counted and kept.
+    fn told<T>(&mut self, answer: Result<T, Refused>) -> Result<T, RunFailed>
+        ensures cause { CountsFaults self.old.faults self.new.faults result }
+        ensures own { IfErr result IsOwn }
+        ensures value { IfOk result (λ value. answer ≡ Ok value) }
+    {
+        match answer {
+            Ok(value) => Ok(value),
+            Err(Refused::Memory) => Err(RunFailed::Memory),
+            Err(Refused::Fault(fault)) => {
+                self.last = Some(fault);
+                self.faults = self.faults.saturating_add(1);
+                Err(RunFailed::Fault)
+            }
+        }
+    }
+}
+
+impl<R: Files<File = File> + Processes + Clone + Drop + Send> Runner for ProcRunner<R> {
+    ghost use Rattle.std.specs.Prelude.{[], false};
+    ghost use Rattle.tup_proc_runner.specs.Asked.{untold};
+
+    ghost tells = { false };
+
+    ghost next = { untold };
+
+    ghost tells_ran = { false };
+
+    ghost ran = { λ _. [] };
+
+    ghost faults = { λ runner. runner.faults };
+
+    fn run<V: View>(
+        &mut self,
+        alloc: Global,
+        dir: &Path,
+        text: &Text,
+        view: &mut V,
+    ) -> Result<Ended, RunFailed> {
+        let started = self.start(alloc, dir, text, view.own());
+        let lines = self.told(started)?;
+        if !ask_all(alloc, lines.as_slice(), view)? {
+            return self.told(Err(Refused::Fault(ProcFault::BadLog)));
+        }
+        let ended = self.stage.ended(alloc, lines.as_slice());
+        self.told(ended)
+    }
+
+    fn faults(&self) -> u64 {
+        self.faults
+    }
+}

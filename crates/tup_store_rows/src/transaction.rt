@@ -1,0 +1,172 @@
+//! The calls of `graph.rows` that are transactions.
+use crate::changes::add_changes;
+use crate::field::joined;
+use crate::graph::{add_commit, add_graph, store};
+use std::alloc::Global;
+use tup_field::{Field, Reader};
+use tup_graph::{Edits, GraphFault, Nodes, changes, read_graph};
+use tup_path::Path;
+use tup_record::RunRecord;
+use tup_rows::{RowFault, Words};
+use tup_table::{Change, Entries, read};
+
+/// The changes that a transaction makes to the graph of a store with the keys and values behind `in`, and behind `leaves`
+/// the graph that the store then holds.
+pub fn transaction(alloc: Global, call: &str, said: &Words) -> Words {
+    match parts(said) {
+        Some((arguments, pairs)) => {
+            let bytes = store(alloc, said, pairs);
+            tried(alloc, said, bytes, (call, arguments))
+        }
+        None => Words::none(alloc, RowFault::TooFew),
+    }
+}
+
+/// The words before and behind `in`.
+fn parts(said: &Words) -> Option<(&[Vec<u8>], &[Vec<u8>])> {
+    let words = said.as_slice();
+    let at = words.iter().position(|word| is_in(word))?;
+    match words.split_at_checked(at) {
+        Some((front, [_, pairs @ ..])) => Some((front, pairs)),
+        _ => None,
+    }
+}
+
+/// Whether a word is the one between the arguments of a transaction and the graph.
+fn is_in(word: &[u8]) -> bool {
+    matches!(word, b"in")
+}
+
+fn tried(
+    alloc: Global,
+    said: &Words,
+    mut bytes: Vec<u8>,
+    (call, arguments): (&str, &[Vec<u8>]),
+) -> Words {
+    match made(alloc, said, &bytes, (call, arguments)) {
+        Ok(made) => {
+            let mut words = Words::new(alloc);
+            add_changes(alloc, &mut words, &made);
+            close(alloc, said, &mut bytes, &made);
+            words.put(alloc, b"leaves");
+            add_graph(alloc, &mut words, &bytes);
+            words
+        }
+        Err(fault) => Words::none(alloc, fault),
+    }
+}
+
+/// Closes a store's last gate, and commits changes behind it.
+fn close(alloc: Global, said: &Words, bytes: &mut Vec<u8>, changes: &[Change]) {
+    if let Some(gate) = bytes.last_mut() {
+        *gate = 1;
+    }
+    add_commit(alloc, said, bytes, changes);
+}
+
+/// The changes that a transaction makes to a store.
+fn made(
+    alloc: Global,
+    said: &Words,
+    bytes: &[u8],
+    transaction: (&str, &[Vec<u8>]),
+) -> Result<Vec<Change>, RowFault> {
+    match read(alloc, bytes) {
+        Ok(opened) => made_of(alloc, said, &opened.entries, transaction),
+        Err(_) => Err(RowFault::OtherKind),
+    }
+}
+
+fn made_of(
+    alloc: Global,
+    said: &Words,
+    entries: &Entries,
+    transaction: (&str, &[Vec<u8>]),
+) -> Result<Vec<Change>, RowFault> {
+    match read_graph(alloc, entries) {
+        Ok(graph) => needed(alloc, entries, edits(alloc, said, &graph, transaction)?),
+        Err(_) => Err(RowFault::OtherKind),
+    }
+}
+
+fn needed(
+    alloc: Global,
+    entries: &Entries,
+    edits: Result<Edits, GraphFault>,
+) -> Result<Vec<Change>, RowFault> {
+    match edits {
+        Ok(edits) => match changes(alloc, entries, &edits) {
+            Ok(changes) => Ok(changes),
+            Err(_) => Err(RowFault::Memory),
+        },
+        Err(_) => Err(RowFault::Memory),
+    }
+}
+
+/// The edits of a transaction.
+fn edits(
+    alloc: Global,
+    said: &Words,
+    graph: &Nodes,
+    (call, arguments): (&str, &[Vec<u8>]),
+) -> Result<Result<Edits, GraphFault>, RowFault> {
+    Ok(match call {
+        "begin" => graph.begin(alloc, number(said)),
+        "finish" => graph.finish(alloc, number(said), run(alloc, said, arguments)?),
+        "doom" => graph.doom(alloc, &paths(alloc, said, arguments.len())),
+        "forget" => graph.forget(alloc, &paths(alloc, said, arguments.len())),
+        "flag" => graph.flag(alloc, &numbers(alloc, said, arguments.len())),
+        _ => return Err(RowFault::NoSuchCall),
+    })
+}
+
+/// The number that the first word is.
+fn number(said: &Words) -> u32 {
+    number_at(said, 0)
+}
+
+/// The number that a word is, from 0 to 2.
+fn number_at(said: &Words, at: usize) -> u32 {
+    match said.word_at(at) {
+        b"0" => 0,
+        b"1" => 1,
+        b"2" => 2,
+        _ => {
+            said.fail(RowFault::OtherKind);
+            0
+        }
+    }
+}
+
+/// The numbers that so many words are.
+fn numbers(alloc: Global, said: &Words, count: usize) -> Vec<u32> {
+    let mut numbers = Vec::new(alloc);
+    for at in 0..count {
+        if numbers.push(number_at(said, at)).is_err() {
+            said.fail(RowFault::Memory);
+        }
+    }
+    numbers
+}
+
+/// The paths that so many words name from the top directory.
+fn paths(alloc: Global, said: &Words, count: usize) -> Vec<Path> {
+    let mut paths = Vec::new(alloc);
+    for at in 0..count {
+        if paths.push(said.path_at(alloc, at)).is_err() {
+            said.fail(RowFault::Memory);
+        }
+    }
+    paths
+}
+
+/// The run that the words behind the first spell.
+fn run(alloc: Global, said: &Words, words: &[Vec<u8>]) -> Result<RunRecord, RowFault> {
+    let Some((_, spelled)) = words.split_first() else {
+        return Err(RowFault::TooFew);
+    };
+    match RunRecord::read(alloc, &mut Reader::new(&joined(alloc, said, spelled))) {
+        Ok(run) => Ok(run),
+        Err(_) => Err(RowFault::OtherKind),
+    }
+}
