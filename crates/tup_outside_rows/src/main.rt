@@ -16,7 +16,7 @@ fn main(rt: HostRuntime) -> io::Result<()> {
     let alloc = rt.alloc();
     let session = Session::new(rt, alloc, ".")?;
     try_file_by(&rt, alloc, "fs.rows", session)?;
-    match Memory::new(alloc, 0) {
+    match Memory::new(alloc) {
         Ok(memory) => try_file_by(&rt, alloc, "memory.rows", memory),
         Err(_) => Ok(()),
     }

@@ -1,9 +1,9 @@
 //! The calls of `memory.rows`.
-use crate::answers::{done, ended, number, path_of, refused, show};
-use std::alloc::Global;
-use tup_path::{Bytes, Items};
+use crate::answers::{ended, got, listed, number};
+use std::alloc::{AllocError, Global};
+use tup_path::{Bytes, Path};
 use tup_rows::{Answers, RowFault, Words};
-use tup_site::{Choice, MemRefused, MemSite, Site};
+use tup_site::{Changed, Choice, MemRefused, MemSite, Site};
 
 /// A site in memory.
 #[derive(Drop)]
@@ -11,198 +11,170 @@ pub(crate) struct Memory {
     site: MemSite,
 }
 
+impl Answers for Memory {
+    fn answer(&mut self, alloc: Global, call: &str, said: &Words) -> Result<Words, RowFault> {
+        Ok(match call {
+            "begin" => self.begin(alloc, said),
+            "make" => self.make(alloc, said),
+            "edit" => self.edit(alloc, said),
+            "edit_away" => self.edit_away(alloc, said),
+            "crash" => self.crash(alloc, said),
+            "stop_after" => self.stop_after(alloc, said),
+            "run_on" => self.run_on(alloc),
+            "calls" => Words::shown(alloc, &self.site.calls()),
+            "moment" => Words::shown(alloc, &self.site.moment()),
+            "faults" => Words::shown(alloc, &self.site.faults()),
+            "store" => Words::word(alloc, self.site.store()),
+            _ => self.answer_of_site(alloc, call, said),
+        })
+    }
+}
+
 impl Memory {
-    /// An empty site whose call of this number fails, counted from 1.
-    pub(crate) fn new(alloc: Global, fails: u64) -> Result<Memory, RowFault> {
-        match MemSite::new(alloc, Vec::new(alloc), vec![in alloc; fails]?) {
-            Ok(site) => Ok(Memory { site }),
-            Err(_) => Err(RowFault::Memory),
+    /// An empty site.
+    pub(crate) fn new(alloc: Global) -> Result<Memory, MemRefused> {
+        let site = MemSite::new(alloc, Vec::new(alloc), Vec::new(alloc))?;
+        Ok(Memory { site })
+    }
+
+    fn answer_of_site(&mut self, alloc: Global, call: &str, said: &Words) -> Words {
+        match call {
+            "list" => listed(alloc, self.site.list(alloc)),
+            "get" => got(alloc, self.site.get(alloc, &said.path_at(alloc, 0))),
+            "put" => self.put(alloc, said),
+            "remove" => ended(alloc, self.site.remove(alloc, &said.path_at(alloc, 0))),
+            "settle" => ended(alloc, self.site.settle(alloc)),
+            "length" => number(alloc, self.site.db_len(alloc)),
+            "write" => self.write(alloc, said),
+            "sync" => ended(alloc, self.site.db_sync(alloc)),
+            "cut" => ended(alloc, self.site.db_cut(alloc, said.number_at(0))),
+            _ => Words::none(alloc, RowFault::NoSuchCall),
         }
     }
 
-    /// Makes a site with two files, or with the same one twice.
-    fn make(&mut self, alloc: Global, first: &str, second: &str) -> Result<Words, RowFault> {
-        let files = vec![in alloc;
-            (
-                path_of(alloc, first)?,
-                Bytes::new(Vec::from_slice(alloc, b"1")?)
-            ),
-            (
-                path_of(alloc, second)?,
-                Bytes::new(Vec::from_slice(alloc, b"2")?)
-            ),
-        ]?;
-        match MemSite::new(alloc, files, Vec::new(alloc)) {
+    /// Goes on with another site, where it could be made.
+    fn begun(&mut self, alloc: Global, site: Result<MemSite, MemRefused>) -> Words {
+        match site {
             Ok(site) => {
                 self.site = site;
-                done(alloc)
+                Words::done(alloc)
             }
-            Err(refused) => said(alloc, refused),
+            Err(fault) => said_of(alloc, fault),
         }
     }
 
-    /// Sets a file, or takes it away.
-    fn edit(
-        &mut self,
-        alloc: Global,
-        path: &str,
-        content: Option<Bytes>,
-    ) -> Result<Words, RowFault> {
-        match self.site.edit(alloc, path_of(alloc, path)?, content) {
-            Ok(()) => done(alloc),
-            Err(refused) => said(alloc, refused),
+    /// An empty site whose call of this number fails, counted from 1.
+    fn begin(&mut self, alloc: Global, said: &Words) -> Words {
+        match vec![in alloc; said.number_at(0)] {
+            Ok(fails) => self.begun(alloc, MemSite::new(alloc, Vec::new(alloc), fails)),
+            Err(_) => Words::none(alloc, RowFault::Memory),
         }
     }
 
-    fn list(&mut self, alloc: Global) -> Result<Words, RowFault> {
-        let paths = match self.site.list(alloc) {
-            Ok(paths) => paths,
-            Err(failed) => return refused(alloc, failed),
-        };
-        let mut words = Words::new(alloc);
-        for path in paths.as_slice() {
-            show(alloc, &mut words, path)?;
-        }
-        Ok(words)
-    }
-
-    fn get(&mut self, alloc: Global, path: &str) -> Result<Words, RowFault> {
-        match self.site.get(alloc, &path_of(alloc, path)?) {
-            Ok(Some(content)) => {
-                let mut words = Words::one(alloc, b"holds")?;
-                words.add(alloc, content.as_slice())?;
-                Ok(words)
-            }
-            Ok(None) => Words::one(alloc, b"none"),
-            Err(failed) => refused(alloc, failed),
+    /// A site with the files that the words name, each with its content.
+    fn make(&mut self, alloc: Global, said: &Words) -> Words {
+        match files(alloc, said) {
+            Ok(files) => self.begun(alloc, MemSite::new(alloc, files, Vec::new(alloc))),
+            Err(_) => Words::none(alloc, RowFault::Memory),
         }
     }
 
-    /// Puts a file in the place of one that is there, where one may be put.
-    fn put(&mut self, alloc: Global, path: &str, content: &[u8]) -> Result<Words, RowFault> {
-        let path = path_of(alloc, path)?;
-        let content = Bytes::new(Vec::from_slice(alloc, content)?);
-        let Some(_) = self.site.file(&path) else {
-            return Err(RowFault::OtherKind);
-        };
-        let put = self.site.put(alloc, &path, &content);
-        ended(alloc, put)
+    fn edit(&mut self, alloc: Global, said: &Words) -> Words {
+        let content = Bytes::new(said.bytes_at(alloc, 1));
+        changed(
+            alloc,
+            self.site.edit(alloc, said.path_at(alloc, 0), Some(content)),
+        )
     }
 
-    fn remove(&mut self, alloc: Global, path: &str) -> Result<Words, RowFault> {
-        let removed = self.site.remove(alloc, &path_of(alloc, path)?);
-        ended(alloc, removed)
+    fn edit_away(&mut self, alloc: Global, said: &Words) -> Words {
+        changed(alloc, self.site.edit(alloc, said.path_at(alloc, 0), None))
     }
 
-    fn settle(&mut self, alloc: Global) -> Result<Words, RowFault> {
-        let settled = self.site.settle(alloc);
-        ended(alloc, settled)
+    /// A crash that leaves these bytes of the store, and of the tree what the words behind them name.
+    fn crash(&mut self, alloc: Global, said: &Words) -> Words {
+        let db = Bytes::new(said.bytes_at(alloc, 0));
+        match chosen(alloc, said) {
+            Ok(tree) => changed(alloc, self.site.crash(alloc, Choice { db, tree })),
+            Err(_) => Words::none(alloc, RowFault::Memory),
+        }
     }
 
-    /// The calls of the store that have a condition are made where it holds.
-    fn write(&mut self, alloc: Global, at: u64, bytes: &[u8]) -> Result<Words, RowFault> {
+    fn stop_after(&mut self, alloc: Global, said: &Words) -> Words {
+        self.site.stop_after(said.number_at(0));
+        Words::done(alloc)
+    }
+
+    fn run_on(&mut self, alloc: Global) -> Words {
+        self.site.run_on();
+        Words::done(alloc)
+    }
+
+    /// Puts a file in the place of one that is there: there one may be put.
+    fn put(&mut self, alloc: Global, said: &Words) -> Words {
+        let content = Bytes::new(said.bytes_at(alloc, 1));
+        self.put_at(alloc, &said.path_at(alloc, 0), &content)
+    }
+
+    fn put_at(&mut self, alloc: Global, path: &Path, content: &Bytes) -> Words {
+        if self.site.file(path).is_none() {
+            return Words::none(alloc, RowFault::OtherKind);
+        }
+        ended(alloc, self.site.put(alloc, path, content))
+    }
+
+    /// Writes from a place in the store on.
+    fn write(&mut self, alloc: Global, said: &Words) -> Words {
+        let (at, bytes) = (said.number_at(0), said.word_at(1));
         if at > self.site.store().len() as u64 {
-            return Err(RowFault::OtherKind);
+            return Words::none(alloc, RowFault::OtherKind);
         }
-        let written = self.site.db_write(alloc, at, bytes);
-        ended(alloc, written)
+        ended(alloc, self.site.db_write(alloc, at, bytes))
     }
+}
 
-    fn sync(&mut self, alloc: Global) -> Result<Words, RowFault> {
-        let synced = self.site.db_sync(alloc);
-        ended(alloc, synced)
+/// The files that words name, each followed by its content.
+fn files(alloc: Global, said: &Words) -> Result<Vec<(Path, Bytes)>, AllocError> {
+    let mut files = Vec::new(alloc);
+    for pair in 0..said.len() / 2 {
+        let content = Bytes::new(said.bytes_at(alloc, 2 * pair + 1));
+        files.push((said.path_at(alloc, 2 * pair), content))?;
     }
+    Ok(files)
+}
 
-    fn cut(&mut self, alloc: Global, len: u64) -> Result<Words, RowFault> {
-        let cut = self.site.db_cut(alloc, len);
-        ended(alloc, cut)
+/// The files that the words behind the first one name, each followed by its content or by `absent`.
+fn chosen(alloc: Global, said: &Words) -> Result<Changed, AllocError> {
+    let mut tree = Changed::new(alloc);
+    for pair in 0..said.len() / 2 {
+        tree.push(named(alloc, said, 2 * pair + 1))?;
     }
+    Ok(tree)
+}
 
-    /// Stops as by a crash, which leaves these bytes of the store, and these paths with their files, or
-    /// with none where the word is `absent`.
-    fn crash(&mut self, alloc: Global, arguments: &Words) -> Result<Words, RowFault> {
-        let db = Bytes::new(Vec::from_slice(alloc, arguments.bytes(0)?)?);
-        let mut tree = Items::new(alloc);
-        let mut at: usize = 1;
-        while at < arguments.as_slice().len() && at < usize::MAX - 2 {
-            let content = match arguments.bytes(at + 1)? {
-                b"absent" => None,
-                content => Some(Bytes::new(Vec::from_slice(alloc, content)?)),
-            };
-            tree.push((path_of(alloc, arguments.text(at)?)?, content))?;
-            at += 2;
-        }
-        match self.site.crash(alloc, Choice { db, tree }) {
-            Ok(()) => done(alloc),
-            Err(refused) => said(alloc, refused),
-        }
-    }
-
-    fn length(&mut self, alloc: Global) -> Result<Words, RowFault> {
-        match self.site.db_len(alloc) {
-            Ok(len) => number(alloc, len),
-            Err(failed) => refused(alloc, failed),
+fn named(alloc: Global, said: &Words, at: usize) -> (Path, Option<Bytes>) {
+    let path = said.path_at(alloc, at);
+    match said.word_at(at.saturating_add(1)) {
+        b"absent" => (path, None),
+        _ => {
+            let content = Bytes::new(said.bytes_at(alloc, at.saturating_add(1)));
+            (path, Some(content))
         }
     }
 }
 
-/// The words of a refusal. Want of memory is none: it ends the report.
-fn said(alloc: Global, refused: MemRefused) -> Result<Words, RowFault> {
-    match refused {
-        MemRefused::Memory => Err(RowFault::Memory),
-        _ => Words::refused(alloc, format!(in alloc; "{refused}")?.as_str()),
+/// The answer of an edit or a crash.
+fn changed(alloc: Global, answer: Result<(), MemRefused>) -> Words {
+    match answer {
+        Ok(()) => Words::done(alloc),
+        Err(fault) => said_of(alloc, fault),
     }
 }
 
-impl Answers for Memory {
-    fn answer(&mut self, alloc: Global, call: &str, arguments: &Words) -> Result<Words, RowFault> {
-        match call {
-            "begin" => {
-                *self = Memory::new(alloc, arguments.number(0)?)?;
-                done(alloc)
-            }
-            "make" => self.make(alloc, arguments.text(0)?, arguments.text(1)?),
-            "edit" => {
-                let content = Bytes::new(Vec::from_slice(alloc, arguments.bytes(1)?)?);
-                self.edit(alloc, arguments.text(0)?, Some(content))
-            }
-            "edit_away" => self.edit(alloc, arguments.text(0)?, None),
-            "stop_after" => {
-                self.site.stop_after(arguments.number(0)?);
-                done(alloc)
-            }
-            "run_on" => {
-                self.site.run_on();
-                done(alloc)
-            }
-            "calls" => number(alloc, self.site.calls()),
-            "moment" => number(alloc, self.site.moment()),
-            "faults" => number(alloc, self.site.faults()),
-            "store" => Words::one(alloc, self.site.store()),
-            _ => self.answer_of_site(alloc, call, arguments),
-        }
-    }
-}
-
-impl Memory {
-    fn answer_of_site(
-        &mut self,
-        alloc: Global,
-        call: &str,
-        arguments: &Words,
-    ) -> Result<Words, RowFault> {
-        match call {
-            "list" => self.list(alloc),
-            "get" => self.get(alloc, arguments.text(0)?),
-            "put" => self.put(alloc, arguments.text(0)?, arguments.bytes(1)?),
-            "remove" => self.remove(alloc, arguments.text(0)?),
-            "settle" => self.settle(alloc),
-            "crash" => self.crash(alloc, arguments),
-            "length" => self.length(alloc),
-            "write" => self.write(alloc, arguments.number(0)?, arguments.bytes(1)?),
-            "sync" => self.sync(alloc),
-            "cut" => self.cut(alloc, arguments.number(0)?),
-            _ => Err(RowFault::NoSuchCall),
-        }
+/// The words of a refusal; want of memory is no answer.
+fn said_of(alloc: Global, fault: MemRefused) -> Words {
+    match fault {
+        MemRefused::Memory => Words::none(alloc, RowFault::Memory),
+        _ => Words::refusal(alloc, &fault),
     }
 }

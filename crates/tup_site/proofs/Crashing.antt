@@ -1,17 +1,20 @@
 -- What a crash may leave, as it is worked out: which paths are loose and which places were written after a list of changes, and
 -- when a choice is what a crash now may leave.
-use Rattle.std.proofs.Common.{◌≡◌, ◌≢◌, ◌⊎◌, inl, inr, ⊎_elim, ℕ, ◌+◌, ◌<◌, ◌≤◌, ◌-◌, ◌^◌, min, Bool, true, false, not, ◌&&◌, ◌||◌, List, [], ◌∷◌, ◌++◌, Option, None, Some, IsTrue, ◌↔◌, length, take, drop, get_or, filter, refl, sym, ap, subst, ◌∙◌, arith}
-use Rattle.std.proofs.lemmas.Bool.{cases_Bool, and_parts, and_from, both_ways, or_parts, not-true, not-false, not_from_false}
+use Rattle.std.proofs.Common.{◌≡◌, ◌≢◌, ◌⊎◌, inl, inr, ⊎_elim, ℕ, ◌+◌, ◌<◌, ◌≤◌, ◌-◌, ◌^◌, min, Bool, true, false, not, ◌&&◌, ◌||◌, List, [], ◌∷◌, ◌++◌, Option, None, Some, IsTrue, ◌↔◌, length, take, drop, get_or, filter, is_some, bytes_eq, refl, sym, ap, subst, ◌∙◌, arith}
+use Rattle.std.proofs.lemmas.Bool.{cases_Bool, and_parts, and_from, both_ways, or_cases, or_parts, not-true, not-false, not_from_false}
 use Rattle.std.proofs.lemmas.List.{take_more, drop_more, take-append-drop}
+use Rattle.std.proofs.lemmas.List.Folds.{list_any-append}
 use Rattle.std.specs.FinMap as finite
 use Rattle.tup_path.specs.Name.{Names, Content}
 use Rattle.tup_path.specs.Order.{same_path}
 use Rattle.tup_path.specs.Tree.{Tree, IsTree, IsBelow}
-use Rattle.tup_path.proofs.Same.{same_path-decides, get_inserted_elsewhere, get_removed_elsewhere}
+use Rattle.tup_path.proofs.Same.{same_path-decides, same_bytes-decides, get_inserted_elsewhere, get_removed_elsewhere}
+use Rattle.tup_stamp.specs.declared.Stamp.{Stamp}
+use Rattle.tup_site.specs.Held.{under, IsHeld}
 use Rattle.tup_site.specs.World.{World}
 use Rattle.tup_site.specs.Edit.{edited}
 use Rattle.tup_site.specs.Known.{knows, IsKnown, KnowsTree, IsHere, Joins}
-use Rattle.tup_site.specs.State.{State, IsImage, is_among, is_written, is_in_line}
+use Rattle.tup_site.specs.State.{State, IsImage, is_among, is_written, is_in_line, with_edit}
 use Rattle.tup_site.specs.History.{at_first, after, after_all, LeftSince}
 use Rattle.tup_site.specs.Choice.{Changed, names, chosen, with_content, known_after, chosen_world}
 use Rattle.tup_site.specs.Memory.{tree_in, store_in, first_of, changes_of, state_of, known_in}
@@ -40,6 +43,18 @@ among_filtered test paths path = elim (cases_Bool (is_among (filter test paths) 
   ]
 ]
 
+-- after an edit that takes a file away
+pub loose_without : (state : State) (path edited : Names) (content : Option Content) (was answer : Bool) → content ≡ None → answer ≡ (was && not (same_path path edited)) → was ≡ is_among state.loose path → answer ≡ is_among (with_edit state edited content).loose path
+loose_without state path edited content was answer is e so =
+    e ∙ ap (λ b. b && not (same_path path edited)) so ∙ sym (among_filtered (λ other. not (same_path other edited)) state.loose path)
+    ∙ ap (λ (c : Option Content). is_among (with_edit state edited c).loose path) (sym is)
+
+-- after an edit that sets one
+pub loose_beside : (state : State) (path edited : Names) (content : Option Content) (newest : Content) (was answer : Bool) → content ≡ Some newest → answer ≡ (was && not (is_in_line path edited)) → was ≡ is_among state.loose path → answer ≡ is_among (with_edit state edited content).loose path
+loose_beside state path edited content newest was answer is e so =
+    e ∙ ap (λ b. b && not (is_in_line path edited)) so ∙ sym (among_filtered (λ other. not (is_in_line other edited)) state.loose path)
+    ∙ ap (λ (c : Option Content). is_among (with_edit state edited c).loose path) (sym is)
+
 -- the test by which two paths are in line
 pub line_test : (a b : Names) (result : Bool) → IsTrue result ↔ ((a ≡ b) ⊎ (IsBelow b a ⊎ IsBelow a b)) → result ≡ is_in_line a b
 line_test a b result tells = elim (cases_Bool (is_in_line a b)) [
@@ -50,7 +65,38 @@ line_test a b result tells = elim (cases_Bool (is_in_line a b)) [
   ]
 ]
 
+-- ---- what two maps have at a path
+
+pub same_found : (a b : Option Content) (left right : Content) (answer : Bool) → Some left ≡ a → Some right ≡ b → answer ≡ bytes_eq left right → IsTrue answer ↔ (a ≡ b)
+same_found a b left right answer is_a is_b e = (
+  λ so. sym is_a ∙ ap Some ((same_bytes-decides left right).0 (sym e ∙ so)) ∙ is_b,
+  λ same. let both : Some left ≡ Some right = is_a ∙ same ∙ sym is_b in e ∙ (same_bytes-decides left right).1 (inside left right both),
+)
+  where
+    inside : (x y : Content) → Some x ≡ Some y → x ≡ y
+    inside x y both = cc both
+
+pub none_found : (a b : Option Content) → None ≡ a → None ≡ b → IsTrue true ↔ (a ≡ b)
+none_found a b is_a is_b = (λ so. sym is_a ∙ is_b, λ same. refl)
+
+pub left_found : (a b : Option Content) (left : Content) → Some left ≡ a → None ≡ b → IsTrue false ↔ (a ≡ b)
+left_found a b left is_a is_b = (λ so. absurd (both_ways false refl so), λ same. ap is_some (is_b ∙ sym same ∙ sym is_a))
+
+pub right_found : (a b : Option Content) (right : Content) → None ≡ a → Some right ≡ b → IsTrue false ↔ (a ≡ b)
+right_found a b right is_a is_b = (λ so. absurd (both_ways false refl so), λ same. ap is_some (is_a ∙ same ∙ sym is_b))
+
 -- ---- a choice
+
+-- the paths so far with one more
+pub named_next : (files : Changed) (i : ℕ) (file : Names × Option Content) → i < length files → file ≡ get_or files i file → (path : Names) → names (take (i + 1) files) path ≡ true → (names (take i files) path ≡ true) ⊎ (path ≡ file.0)
+named_next files i file below is path named =
+    let more : take (i + 1) files ≡ take i files ++ file ∷ [] = take_more files i file below ∙ ap (λ (f : Names × Option Content). take i files ++ f ∷ []) (sym is) in
+    let both : (names (take i files) path || names (file ∷ []) path) ≡ true =
+      sym (list_any-append (λ (f : Names × Option Content). same_path path f.0) (take i files) (file ∷ [])) ∙ ap (λ (l : Changed). names l path) (sym more) ∙ named in
+    ⊎_elim (λ old. inl old) (λ new. inr (newest new)) (or_cases _ _ both)
+  where
+    newest : names (file ∷ []) path ≡ true → path ≡ file.0
+    newest new = ⊎_elim (λ so. (same_path-decides path file.0).0 so) (λ nay. absurd (both_ways false refl nay)) (or_cases (same_path path file.0) false new)
 
 -- a path that isn't named holds what it held
 pub not_named : (tree : Tree) (files : Changed) (path : Names) → names files path ≡ false → finite.get (chosen tree files) path ≡ finite.get tree path
@@ -72,7 +118,21 @@ joins_chosen contents tree files is known a b ha hb e = known a b (up a ha) (up 
     up c (inl k) = keeps_after contents files c k
     up c (inr file) = knows_after contents tree files is file.0 c file.1
 
+-- what is kept at each path that is named is kept at all
+pub kept_all : (tree files_tree : Tree) (files : Changed) (loose : List Names) → files_tree ≡ chosen tree files → ((path : Names) → names files path ≡ true → is_among loose path ≡ false → finite.get files_tree path ≡ finite.get tree path) → (path : Names) → is_among loose path ≡ false → finite.get files_tree path ≡ finite.get tree path
+kept_all tree files_tree files loose is named path firm = elim (cases_Bool (names files path)) [
+  | inl so ↦ named path so firm
+  | inr nay ↦ ap (λ (t : Tree). finite.get t path) is ∙ not_named tree files path nay
+]
+
 -- ---- the contents of a choice, one by one
+
+-- known contents under their stamps are such that no two different ones have one stamp
+pub held_known : (entries : List (Stamp × Content)) (contents : List Content) → IsHeld entries contents → IsKnown contents
+held_known entries contents is a b ka kb e = inside a b (sym (is.held a ka) ∙ ap (under entries) e ∙ is.held b kb)
+  where
+    inside : (x y : Content) → Some x ≡ Some y → x ≡ y
+    inside x y both = cc both
 
 known_fewer : (small big : List Content) → ((c : Content) → knows small c ≡ true → knows big c ≡ true) → IsKnown big → IsKnown small
 known_fewer small big up known a b ka kb e = known a b (up a ka) (up b kb) e

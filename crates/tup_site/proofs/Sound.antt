@@ -13,7 +13,7 @@ use Rattle.tup_site.specs.Choice.{Changed, chosen, with_content, known_after, ch
 use Rattle.tup_site.specs.Edit.{edited}
 use Rattle.tup_site.specs.declared.choice.Choice.{Choice}
 use Rattle.tup_site.specs.Known.{knows, IsKnown, MayJoin, KnowsTree}
-use Rattle.tup_site.specs.State.{State, is_among, is_in_line, overwritten, with_put, without_file, with_edit, with_write, with_cut, settled, synced}
+use Rattle.tup_site.specs.State.{State, is_among, is_in_line, overwritten, with_put, without_file, with_edit, with_write, with_cut, settled, synced, at_rest}
 use Rattle.tup_site.specs.History.{after, at_first, contents_of}
 use Rattle.tup_site.specs.Sound.{IsSound}
 use Rattle.tup_site.specs.declared.change.Change.{Change}

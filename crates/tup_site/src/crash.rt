@@ -20,10 +20,9 @@ use crate::unsettled::{Bounds, is_loose, is_written_at};
 use std::alloc::{AllocError, Global};
 use std::collections::BTreeMap;
 use tup_path::{Bytes, Path};
-use tup_stamp::stamp_of;
 
 impl MemSite {
-    ghost use Rattle.tup_site.specs.Memory.{tree_in, store_in, world_in, first_of, changes_of, state_of, known_in, moment_of, left_since, calls_of, faults_of, fails_of, left_of};
+    ghost use Rattle.tup_site.specs.Memory.{tree_in, store_in, world_in, first_of, changes_of, state_of, known_in, moment_of, left_since, calls_of, faults_of, fails_of, left_of, HasRoom};
 
     /// Stops as by a crash now, which leaves the choice: all of it is durable then, and no call has to
     /// fail for `stop_after` any more. It counts as no call. After a refusal all is as before.
@@ -32,6 +31,8 @@ impl MemSite {
     /// different contents, known or chosen, have one stamp; else `NotAnImage` where a crash can't leave
     /// it.
     pub fn crash(&mut self, alloc: Global, choice: Choice) -> Result<(), MemRefused>
+        ensures is_choice { OnOk result (IsChoice (tree_in self.old) choice.tree) }
+        ensures are_known { OnOk result (IsKnown (known_after (known_in self.old) choice.tree)) }
         ensures leaves { OnOk result
             (left_since self.old (moment_of self.old) (chosen_world (tree_in self.old) choice)) }
         ensures world { OnOk result (world_in self.new ≡ chosen_world (tree_in self.old) choice) }
@@ -39,6 +40,7 @@ impl MemSite {
         ensures left { OnOk result (left_of self.new ≡ None) }
         ensures unchanged { OnErr result (world_in self.new ≡ world_in self.old) }
         ensures unnoted { OnErr result (changes_of self.new ≡ changes_of self.old) }
+        ensures still_left { OnErr result (left_of self.new ≡ left_of self.old) }
         ensures first { first_of self.new ≡ first_of self.old }
         ensures calls { calls_of self.new ≡ calls_of self.old }
         ensures faults { faults_of self.new ≡ faults_of self.old }
@@ -50,24 +52,94 @@ impl MemSite {
             × IsKnown (known_after (known_in self.old) choice.tree)
             × ¬ left_since self.old (moment_of self.old) (chosen_world (tree_in self.old) choice) }
     {
-        if !is_named_once(choice.tree.as_slice()) {
-            return Err(MemRefused::NotATree);
-        }
-        let files = self.chosen_files(choice.tree.as_slice())?;
-        if !is_tree(&files) {
-            return Err(MemRefused::NotATree);
-        }
+        let files = self.chosen_tree(choice.tree.as_slice())?;
         let known = self.chosen_known(choice.tree.as_slice())?;
         if !self.may_leave(&files, &choice) {
             return Err(MemRefused::NotAnImage);
         }
+        self.leave(alloc, files, known, choice)?;
+        Ok(())
+    }
+
+    // Changes all to what a crash left, and notes it.
+    fn leave(
+        &mut self,
+        alloc: Global,
+        files: BTreeMap<Path, Bytes>,
+        known: Known,
+        choice: Choice,
+    ) -> Result<(), AllocError>
+        requires files { tree_of_files files.entries ≡ chosen (tree_in self.old) choice.tree }
+        requires tree { IsTree (tree_of_files files.entries) }
+        requires known { IsKnown (known_after (known_in self.old) choice.tree) }
+        requires held { IsHeld known.contents.entries (known_after (known_in self.old) choice.tree) }
+        ensures world { OnOk result (world_in self.new ≡ chosen_world (tree_in self.old) choice) }
+        ensures noted { OnOk result (changes_of self.new ≡ changes_of self.old ++ Crashed choice ∷ []) }
+        ensures left { OnOk result (left_of self.new ≡ None) }
+        ensures unchanged { OnErr result (world_in self.new ≡ world_in self.old) }
+        ensures unnoted { OnErr result (changes_of self.new ≡ changes_of self.old) }
+        ensures still_left { OnErr result (left_of self.new ≡ left_of self.old) }
+        ensures first { first_of self.new ≡ first_of self.old }
+        ensures calls { calls_of self.new ≡ calls_of self.old }
+        ensures faults { faults_of self.new ≡ faults_of self.old }
+        ensures fails { fails_of self.new ≡ fails_of self.old }
+    {
         self.changes.reserve(1)?;
-        self.store = Vec::from_slice(alloc, choice.db.as_slice())?;
+        let store = Vec::from_slice(alloc, choice.db.as_slice())?;
+        self.go_on(files, store, known, choice);
+        Ok(())
+    }
+
+    // Goes on with the files, the store and the known contents that a crash left, and notes it.
+    fn go_on(
+        &mut self,
+        files: BTreeMap<Path, Bytes>,
+        store: Vec<u8>,
+        known: Known,
+        choice: Choice,
+    )
+        requires room { HasRoom self.old }
+        requires files { tree_of_files files.entries ≡ chosen (tree_in self.old) choice.tree }
+        requires tree { IsTree (tree_of_files files.entries) }
+        requires store { store.items ≡ choice.db }
+        requires known { IsKnown (known_after (known_in self.old) choice.tree) }
+        requires held { IsHeld known.contents.entries (known_after (known_in self.old) choice.tree) }
+        ensures tree { tree_in self.new ≡ chosen (tree_in self.old) choice.tree }
+        ensures store { store_in self.new ≡ choice.db }
+        ensures noted { changes_of self.new ≡ changes_of self.old ++ Crashed choice ∷ [] }
+        ensures left { left_of self.new ≡ None }
+        ensures first { first_of self.new ≡ first_of self.old }
+        ensures calls { calls_of self.new ≡ calls_of self.old }
+        ensures faults { faults_of self.new ≡ faults_of self.old }
+        ensures fails { fails_of self.new ≡ fails_of self.old }
+    {
         self.files = files;
+        self.store = store;
         self.known = known;
         self.left = None;
         self.changes.push_reserved(Change::Crashed { choice });
-        Ok(())
+    }
+
+    // The files with those of a choice, where they are a tree and it names no path twice.
+    fn chosen_tree(
+        &self,
+        choice: &[(Path, Option<Bytes>)],
+    ) -> Result<BTreeMap<Path, Bytes>, MemRefused>
+        ensures files { IfOk result
+            (λ files. tree_of_files files.entries ≡ chosen (tree_in self.now) choice.now) }
+        ensures is_choice { OnOk result (IsChoice (tree_in self.now) choice.now) }
+        ensures not_a_tree { result ≡ Err NotATree → ¬ IsChoice (tree_in self.now) choice.now }
+        ensures no_stamp { result ≢ Err SameStamp }
+        ensures no_image { result ≢ Err NotAnImage }
+    {
+        if !is_named_once(choice) {
+            return Err(MemRefused::NotATree);
+        }
+        let files = self.chosen_files(choice)?;
+        if !is_tree(&files) {
+            return Err(MemRefused::NotATree);
+        }
+        Ok(files)
     }
 
     // The files with those of a choice.
@@ -144,11 +216,20 @@ impl MemSite {
             → finite.get (tree_of_files files.now.entries) path ≡ finite.get (tree_in self.now) path) }
     {
         for (path, _) in choice {
-            if !have_same(files, &self.files, path) && !is_loose(&self.changes, path) {
+            if !self.keeps_file(files, path) {
                 return false;
             }
         }
         true
+    }
+
+    // Whether these files have what the site has at a path, unless it was put or removed.
+    fn keeps_file(&self, files: &BTreeMap<Path, Bytes>, path: &Path) -> bool
+        ensures { IsTrue result ↔ (is_among (state_of self.now).loose path.now ≡ false
+            → finite.get (tree_of_files files.now.entries) path.now
+            ≡ finite.get (tree_in self.now) path.now) }
+    {
+        have_same(files, &self.files, path) || is_loose(&self.changes, path)
     }
 
     /// Carries out a deed, as `edit` or `crash`.
@@ -164,22 +245,15 @@ impl MemSite {
 fn take_up(known: &mut Known, content: &Option<Bytes>) -> Result<(), MemRefused>
     ensures held { OnOk result ((contents : _) → IsHeld known.old.contents.entries contents
         → IsHeld known.new.contents.entries (with_content contents content.now)) }
-    ensures known { OnOk result ((contents : _) → IsHeld known.old.contents.entries contents
-        → IsKnown contents → IsKnown (with_content contents content.now)) }
     ensures same_stamp { result ≡ Err SameStamp → (contents : _)
         → IsHeld known.old.contents.entries contents → ¬ IsKnown (with_content contents content.now) }
     ensures no_tree { result ≢ Err NotATree }
     ensures no_image { result ≢ Err NotAnImage }
 {
-    let Some(content) = content else {
-        return Ok(());
-    };
-    let stamp = stamp_of(content.as_slice());
-    if !known.may_take(stamp, content) {
-        return Err(MemRefused::SameStamp);
+    match content {
+        Some(content) => known.take_up(content),
+        None => Ok(()),
     }
-    known.take(stamp, content.clone()?)?;
-    Ok(())
 }
 
 // Whether no path stands twice.

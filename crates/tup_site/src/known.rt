@@ -1,12 +1,15 @@
 //! The contents that a site in memory knows, by their stamps.
-ghost use Rattle.std.specs.Prelude.{◌≡◌, [], None, Some, cond, is_some, not, IsTrue, IfOk, OnOk, OnErr};
+ghost use Rattle.std.specs.Prelude.{◌≡◌, ◌≢◌, [], ◌∷◌, None, Some, cond, is_some, not, IsTrue, IfOk, OnOk, OnErr, Err};
 ghost use Rattle.std.specs.BTreeMap.{is_at};
-ghost use Rattle.tup_site.specs.Held.{by_stamp, under, may_take};
+ghost use Rattle.tup_site.specs.Known.{MayJoin};
+ghost use Rattle.tup_site.specs.Held.{by_stamp, under, may_take, IsHeld};
+ghost use Rattle.tup_site.specs.declared.refused.MemRefused.TheVariants.{NotATree, SameStamp, NotAnImage};
 
+use crate::refused::MemRefused;
 use std::alloc::{AllocError, AllocFailed, Global};
 use std::collections::BTreeMap;
 use tup_path::Bytes;
-use tup_stamp::Stamp;
+use tup_stamp::{Stamp, stamp_of};
 
 /// Every content that ever stood in the tree, by its stamp.
 #[derive(Drop)]
@@ -30,6 +33,23 @@ impl Known {
         Ok(Known {
             contents: self.contents.clone()?,
         })
+    }
+
+    /// Takes up a content, which may have the stamp of no other.
+    pub fn take_up(&mut self, content: &Bytes) -> Result<(), MemRefused>
+        ensures held { OnOk result ((contents : _) → IsHeld self.old.contents.entries contents
+            → IsHeld self.new.contents.entries (content.now ∷ contents)) }
+        ensures same_stamp { result ≡ Err SameStamp → (contents : _)
+            → IsHeld self.old.contents.entries contents → ¬ MayJoin contents content.now }
+        ensures no_tree { result ≢ Err NotATree }
+        ensures no_image { result ≢ Err NotAnImage }
+    {
+        let stamp = stamp_of(content.as_slice());
+        if !self.may_take(stamp, content) {
+            return Err(MemRefused::SameStamp);
+        }
+        self.take(stamp, content.clone()?)?;
+        Ok(())
     }
 
     /// Whether no other content has this stamp.

@@ -19,7 +19,7 @@ mod refused;
 mod site;
 mod unsettled;
 
-pub use choice::{Choice, Deed};
+pub use choice::{Changed, Choice, Deed};
 pub use fault::{MAX_FILE_BYTES, SiteFailed};
 pub use memory::MemSite;
 pub use refused::MemRefused;

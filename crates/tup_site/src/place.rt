@@ -57,7 +57,7 @@ pub(crate) fn is_tree(files: &BTreeMap<Path, Bytes>) -> bool
 
 // Whether a path isn't the top, and no file is below it.
 fn may_stand(files: &BTreeMap<Path, Bytes>, path: &Path) -> bool
-    ensures stands { IsTrue result ↔ Stands (tree_of_files files.now.entries) path.now }
+    ensures { IsTrue result ↔ Stands (tree_of_files files.now.entries) path.now }
 {
     path.depth() > 0 && is_none_below(files, path)
 }

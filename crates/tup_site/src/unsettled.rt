@@ -1,10 +1,10 @@
 //! What isn't durable after a list of changes.
 ghost use Rattle.std.specs.Prelude.{◌≡◌, ◌≤◌, ◌<◌, ◌↔◌, false, ◌+◌, ◌&&◌, nat_le, nat_lt, length, get_or, IsTrue};
-ghost use Rattle.tup_site.specs.State.{is_among, is_written, is_in_line, with_write, with_cut};
+ghost use Rattle.tup_site.specs.State.{is_among, is_written, is_in_line, with_edit, with_write, with_cut};
 ghost use Rattle.tup_site.specs.History.{after, after_all, at_first};
 
 use crate::change::Change;
-use tup_path::Path;
+use tup_path::{Bytes, Path};
 
 /// Whether a path was put or removed since the last settle, and not edited since.
 pub(crate) fn is_loose(changes: &[Change], path: &Path) -> bool
@@ -30,17 +30,24 @@ fn is_loose_after(change: &Change, path: &Path, was: bool) -> bool
         Change::Removed { path: removed } => path == removed || was,
         Change::Edited {
             path: edited,
-            content: None,
-        } => was && path != edited,
-        Change::Edited {
-            path: edited,
-            content: Some(_),
-        } => was && !are_in_line(path, edited),
+            content,
+        } => is_loose_after_edit(path, edited, content, was),
         Change::Settled | Change::Crashed { choice: _ } => false,
         Change::Written { at: _, bytes: _ }
         | Change::Cut { len: _ }
         | Change::Synced
         | Change::Failed => was,
+    }
+}
+
+// An edit makes its path durable; where it sets a file, also that none stands above and below it.
+fn is_loose_after_edit(path: &Path, edited: &Path, content: &Option<Bytes>, was: bool) -> bool
+    ensures { (state : _) → was ≡ is_among state.loose path.now
+        → result ≡ is_among (with_edit state edited.now content.now).loose path.now }
+{
+    match content {
+        None => was && path != edited,
+        Some(_) => was && !are_in_line(path, edited),
     }
 }
 

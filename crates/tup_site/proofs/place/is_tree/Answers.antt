@@ -16,7 +16,7 @@ loop-path-preserved c =
     let is : c.may_stand.result ≡ true = search (rules, not-false) in
     let before = c.loop-path.invariant in (
       before.0 ++ c.in-Some.path.now ∷ [],
-      append_assoc before.0 _ _ ∙ ap (λ l. before.0 ++ l) (sym c.in-Some.ensures.steps.0) ∙ before.1,
+      append_assoc before.0 _ _ ∙ ap (λ l. before.0 ++ l) (sym c.in-Some.ensures.steps) ∙ before.1,
       All-push (Stands (tree_of_files c.args.files.now.entries)) before.0 c.in-Some.path.now before.2 (c.may_stand.ensures.0 is),
     )
 
@@ -24,7 +24,7 @@ pub returns-then-not-may_stand : goal.returns-then-not-may_stand
 returns-then-not-may_stand c =
     let is : c.may_stand.result ≡ false = search (rules, not-true) in
     let before = c.loop-path.invariant in
-    let there = key_is_there c.args.files.now before.0 _ c.in-Some.path.now (ap (λ l. before.0 ++ l) (sym c.in-Some.ensures.steps.0) ∙ before.1 ∙ c.into_iter-path-iterator.ensures.into_iter_gives ∙ c.keys-path-items.ensures.rest) c.keys-path-items.ensures.ordered in
+    let there = key_is_there c.args.files.now before.0 _ c.in-Some.path.now (ap (λ l. before.0 ++ l) (sym c.in-Some.ensures.steps) ∙ before.1 ∙ c.into_iter-path-iterator.ensures.into_iter_gives ∙ c.keys-path-items.ensures.rest) c.keys-path-items.ensures.ordered in
     (λ so. absurd (both_ways true (sym so) refl), λ tree. absurd (both_ways _ is (c.may_stand.ensures.1 (stands_in_tree (tree_of_files c.args.files.now.entries) c.in-Some.path.now tree there))))
 
 pub returns : goal.returns

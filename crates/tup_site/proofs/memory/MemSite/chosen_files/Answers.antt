@@ -1,4 +1,4 @@
-use Rattle.std.proofs.Common.{◌+◌, ◌∷◌, drop, sym, ap, arith, ◌∙◌}
+use Rattle.std.proofs.Common.{rules, ◌+◌, ◌∷◌, drop, sym, ap, arith, ◌∙◌}
 use Rattle.std.proofs.lemmas.List.{at_drop_more, at_drop_all}
 use Rattle.tup_path.specs.Tree.{Tree, tree_of_files}
 use Rattle.tup_site.specs.Choice.{chosen}
@@ -12,3 +12,9 @@ loop-path-preserved c =
     let tree = tree_of_files c.loop-path.files.entries in
     ap (λ (t : Tree). chosen t (drop (i + 1) list)) c.in_ok-change_file.ensures ∙ ap (λ f. chosen tree (f ∷ drop (i + 1) list)) c.loop-path-item.is
     ∙ sym (at_drop_more (chosen tree) list i file (omega arith)) ∙ c.loop-path.invariant
+
+pub returns : goal.returns
+returns c =
+    let list = c.args.choice.now in
+    sym (at_drop_all (chosen (tree_of_files c.loop-path.files.entries)) list c.loop-path.path-index (omega arith)) ∙ c.loop-path.invariant
+    ∙ ap (λ es. chosen (tree_of_files es) list) (search rules)
