@@ -4,6 +4,8 @@ use Rattle.std.proofs.Common.{◌≡◌, ◌≢◌, ◌⊎◌, inl, inr, ⊎_eli
 use Rattle.std.proofs.lemmas.Bool.{cases_Bool, and_parts, and_from, both_ways, or_cases, or_parts, not-true, not-false, not_from_false}
 use Rattle.std.proofs.lemmas.List.{take_more, drop_more, take-append-drop}
 use Rattle.std.proofs.lemmas.List.Folds.{list_any-append}
+use Rattle.std.proofs.lemmas.List.Elements.{same_from_all_zip}
+use Rattle.std.specs.BTreeMap.{BTreeMap, IsClone}
 use Rattle.std.specs.FinMap as finite
 use Rattle.tup_path.specs.Name.{Names, Content}
 use Rattle.tup_path.specs.Order.{same_path}
@@ -66,6 +68,10 @@ line_test a b result tells = elim (cases_Bool (is_in_line a b)) [
 ]
 
 -- ---- what two maps have at a path
+
+-- a copy of a map of files has the same entries
+pub same_copy : (m n : BTreeMap Names Content) → IsClone (λ path copy. copy ≡ path) (λ bytes copy. copy ≡ bytes) m n → n.entries ≡ m.entries
+same_copy m n copies = same_from_all_zip _ m.entries n.entries copies (λ x y same. λ i. (same.0 i, same.1 i))
 
 pub same_found : (a b : Option Content) (left right : Content) (answer : Bool) → Some left ≡ a → Some right ≡ b → answer ≡ bytes_eq left right → IsTrue answer ↔ (a ≡ b)
 same_found a b left right answer is_a is_b e = (

@@ -11,7 +11,7 @@ returns-then-is_below c =
     let a = c.args.a.now in
     let b = c.args.b.now in
     elim c.if-eq.branch [
-      | then-eq w ↦ c.if-is_below.true ∙ sym (in_line_itself a b ((same_path-decides a b).0 (sym c.eq.ensures ∙ w.if-eq)))
+      | then-eq w ↦ c.if-is_below.true ∙ sym (in_line_itself a b ((same_path-decides a b).0 (sym (w.value-is ∙ c.eq.ensures) ∙ c.if-is_below.true)))
       | else-eq w ↦ c.if-is_below.true ∙ sym (in_line_below a b (inr (w.is_below.ensures.0 (sym w.value-is ∙ c.if-is_below.true))))
     ]
 
@@ -21,10 +21,10 @@ returns-else-is_below c =
     let b = c.args.b.now in
     let below = c.is_below-else-is_below in
     elim c.if-eq.branch [
-      | then-eq w ↦ absurd (both_ways _ c.if-is_below.false w.value-is)
+      | then-eq w ↦ absurd (both_ways _ c.if-is_below.false (w.value-is ∙ w.if-eq.true))
       | else-eq w ↦ line_test a b below.result (
-        λ so. inr (inl (below.ensures.0 so)),
-        λ line. ⊎_elim (λ e. absurd (both_ways _ w.if-eq (c.eq.ensures ∙ (same_path-decides a b).1 e)))
-            (⊎_elim (λ below_a. below.ensures.1 below_a) (λ below_b. absurd (both_ways _ c.if-is_below.false (w.value-is ∙ w.is_below.ensures.1 below_b)))) line,
+        λ so. inr (inr (below.ensures.0 so)),
+        λ line. ⊎_elim (λ e. absurd (both_ways _ w.if-eq.false (c.eq.ensures ∙ (same_path-decides a b).1 e)))
+            (⊎_elim (λ below_b. absurd (both_ways _ c.if-is_below.false (w.value-is ∙ w.is_below.ensures.1 below_b))) (λ below_a. below.ensures.1 below_a)) line,
       )
     ]

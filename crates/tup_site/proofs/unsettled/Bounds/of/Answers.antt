@@ -8,5 +8,5 @@ use Rattle.tup_site.proofs.unsettled.Bounds.of.Goals as goal
 pub loop-change-preserved : goal.loop-change-preserved
 loop-change-preserved c files =
     subst (λ (s : State). IsBounds s c.after-bounds.result)
-    (sym (after_next (at_first files) c.args.changes.now c.loop-change.change-index c.loop-change-item.result (omega arith) c.loop-change-item.is))
+    (sym (after_next (at_first files) c.args.changes.now c.loop-change.change-index c.change-item.result (omega arith) c.change-item.is))
     (c.after-bounds.ensures (after_all (at_first files) (take c.loop-change.change-index c.args.changes.now)) (c.loop-change.invariant files))
