@@ -98,7 +98,7 @@ pub named_next : (files : Changed) (i : ℕ) (file : Names × Option Content) �
 named_next files i file below is path named =
     let more : take (i + 1) files ≡ take i files ++ file ∷ [] = take_more files i file below ∙ ap (λ (f : Names × Option Content). take i files ++ f ∷ []) (sym is) in
     let both : (names (take i files) path || names (file ∷ []) path) ≡ true =
-      sym (list_any-append (λ (f : Names × Option Content). same_path path f.0) (take i files) (file ∷ [])) ∙ ap (λ (l : Changed). names l path) (sym more) ∙ named in
+    sym (list_any-append (λ (f : Names × Option Content). same_path path f.0) (take i files) (file ∷ [])) ∙ ap (λ (l : Changed). names l path) (sym more) ∙ named in
     ⊎_elim (λ old. inl old) (λ new. inr (newest new)) (or_cases _ _ both)
   where
     newest : names (file ∷ []) path ≡ true → path ≡ file.0

@@ -11,7 +11,7 @@ ghost use Rattle.tup_site.specs.declared.refused.MemRefused.TheVariants.{NotATre
 ghost use Rattle.tup_site.specs.declared.change.Change.TheVariants.{Crashed};
 
 use crate::change::Change;
-use crate::choice::{Choice, Deed};
+use crate::choice::Choice;
 use crate::known::Known;
 use crate::memory::MemSite;
 use crate::place::is_tree;
@@ -22,21 +22,21 @@ use std::collections::BTreeMap;
 use tup_path::{Bytes, Path};
 
 impl MemSite {
-    ghost use Rattle.tup_site.specs.Memory.{tree_in, store_in, world_in, first_of, changes_of, state_of, known_in, moment_of, left_since, calls_of, faults_of, fails_of, left_of, HasRoom};
+    ghost use Rattle.tup_site.specs.Memory.{tree_in, store_in, world_in, first_of, changes_of, state_of, known_in, known_with, calls_of, faults_of, fails_of, left_of, HasRoom, MayLeave};
 
-    /// Stops as by a crash now, which leaves the choice: all of it is durable then, and no call has to
-    /// fail for `stop_after` any more. It counts as no call. After a refusal all is as before.
+    /// Stops as by a crash now, which leaves the choice: all of it is durable then, and no call has
+    /// to fail for `stop_after` any more. It counts as no call. After a refusal all is as before.
     ///
     /// `NotATree` where the choice names a path twice or leaves no tree; else `SameStamp` where two
-    /// different contents, known or chosen, have one stamp; else `NotAnImage` where a crash can't leave
-    /// it.
+    /// different contents, known or chosen, have one stamp; else `NotAnImage` where a crash can't
+    /// leave it.
     pub fn crash(&mut self, alloc: Global, choice: Choice) -> Result<(), MemRefused>
         ensures is_choice { OnOk result (IsChoice (tree_in self.old) choice.tree) }
-        ensures are_known { OnOk result (IsKnown (known_after (known_in self.old) choice.tree)) }
-        ensures leaves { OnOk result
-            (left_since self.old (moment_of self.old) (chosen_world (tree_in self.old) choice)) }
+        ensures are_known { OnOk result (IsKnown (known_with self.old choice)) }
+        ensures leaves { OnOk result (MayLeave self.old choice) }
         ensures world { OnOk result (world_in self.new ≡ chosen_world (tree_in self.old) choice) }
-        ensures noted { OnOk result (changes_of self.new ≡ changes_of self.old ++ Crashed choice ∷ []) }
+        ensures noted { OnOk result
+            (changes_of self.new ≡ changes_of self.old ++ Crashed choice ∷ []) }
         ensures left { OnOk result (left_of self.new ≡ None) }
         ensures unchanged { OnErr result (world_in self.new ≡ world_in self.old) }
         ensures unnoted { OnErr result (changes_of self.new ≡ changes_of self.old) }
@@ -47,10 +47,9 @@ impl MemSite {
         ensures fails { fails_of self.new ≡ fails_of self.old }
         ensures not_a_tree { result ≡ Err NotATree → ¬ IsChoice (tree_in self.old) choice.tree }
         ensures same_stamp { result ≡ Err SameStamp → IsChoice (tree_in self.old) choice.tree
-            × ¬ IsKnown (known_after (known_in self.old) choice.tree) }
+            × ¬ IsKnown (known_with self.old choice) }
         ensures not_an_image { result ≡ Err NotAnImage → IsChoice (tree_in self.old) choice.tree
-            × IsKnown (known_after (known_in self.old) choice.tree)
-            × ¬ left_since self.old (moment_of self.old) (chosen_world (tree_in self.old) choice) }
+            × IsKnown (known_with self.old choice) × ¬ MayLeave self.old choice }
     {
         let files = self.chosen_tree(choice.tree.as_slice())?;
         let known = self.chosen_known(choice.tree.as_slice())?;
@@ -71,10 +70,11 @@ impl MemSite {
     ) -> Result<(), AllocError>
         requires files { tree_of_files files.entries ≡ chosen (tree_in self.old) choice.tree }
         requires tree { IsTree (tree_of_files files.entries) }
-        requires known { IsKnown (known_after (known_in self.old) choice.tree) }
-        requires held { IsHeld known.contents.entries (known_after (known_in self.old) choice.tree) }
+        requires known { IsKnown (known_with self.old choice) }
+        requires held { IsHeld known.contents.entries (known_with self.old choice) }
         ensures world { OnOk result (world_in self.new ≡ chosen_world (tree_in self.old) choice) }
-        ensures noted { OnOk result (changes_of self.new ≡ changes_of self.old ++ Crashed choice ∷ []) }
+        ensures noted { OnOk result
+            (changes_of self.new ≡ changes_of self.old ++ Crashed choice ∷ []) }
         ensures left { OnOk result (left_of self.new ≡ None) }
         ensures unchanged { OnErr result (world_in self.new ≡ world_in self.old) }
         ensures unnoted { OnErr result (changes_of self.new ≡ changes_of self.old) }
@@ -91,19 +91,13 @@ impl MemSite {
     }
 
     // Goes on with the files, the store and the known contents that a crash left, and notes it.
-    fn go_on(
-        &mut self,
-        files: BTreeMap<Path, Bytes>,
-        store: Vec<u8>,
-        known: Known,
-        choice: Choice,
-    )
+    fn go_on(&mut self, files: BTreeMap<Path, Bytes>, store: Vec<u8>, known: Known, choice: Choice)
         requires room { HasRoom self.old }
         requires files { tree_of_files files.entries ≡ chosen (tree_in self.old) choice.tree }
         requires tree { IsTree (tree_of_files files.entries) }
         requires store { store.items ≡ choice.db }
-        requires known { IsKnown (known_after (known_in self.old) choice.tree) }
-        requires held { IsHeld known.contents.entries (known_after (known_in self.old) choice.tree) }
+        requires known { IsKnown (known_with self.old choice) }
+        requires held { IsHeld known.contents.entries (known_with self.old choice) }
         ensures tree { tree_in self.new ≡ chosen (tree_in self.old) choice.tree }
         ensures store { store_in self.new ≡ choice.db }
         ensures noted { changes_of self.new ≡ changes_of self.old ++ Crashed choice ∷ [] }
@@ -176,7 +170,8 @@ impl MemSite {
 
     // Whether a crash now may leave a choice, and with it these files.
     fn may_leave(&self, files: &BTreeMap<Path, Bytes>, choice: &Choice) -> bool
-        requires files { tree_of_files files.now.entries ≡ chosen (tree_in self.now) choice.now.tree }
+        requires files { tree_of_files files.now.entries
+            ≡ chosen (tree_in self.now) choice.now.tree }
         requires tree { IsTree (tree_of_files files.now.entries) }
         requires joins { Joins (known_in self.now) (tree_of_files files.now.entries) }
         ensures { IsTrue result
@@ -213,7 +208,8 @@ impl MemSite {
     fn keeps_settled(&self, files: &BTreeMap<Path, Bytes>, choice: &[(Path, Option<Bytes>)]) -> bool
         requires { tree_of_files files.now.entries ≡ chosen (tree_in self.now) choice.now }
         ensures { IsTrue result ↔ ((path : _) → is_among (state_of self.now).loose path ≡ false
-            → finite.get (tree_of_files files.now.entries) path ≡ finite.get (tree_in self.now) path) }
+            → finite.get (tree_of_files files.now.entries) path
+            ≡ finite.get (tree_in self.now) path) }
     {
         for (path, _) in choice {
             if !self.keeps_file(files, path) {
@@ -231,14 +227,6 @@ impl MemSite {
     {
         have_same(files, &self.files, path) || is_loose(&self.changes, path)
     }
-
-    /// Carries out a deed, as `edit` or `crash`.
-    pub fn carry_out(&mut self, alloc: Global, deed: Deed) -> Result<(), MemRefused> {
-        match deed {
-            Deed::Edit { path, content } => self.edit(alloc, path, content),
-            Deed::Crash { choice } => self.crash(alloc, choice),
-        }
-    }
 }
 
 // Takes up a content, where there is one; it may have the stamp of no other.
@@ -246,7 +234,8 @@ fn take_up(known: &mut Known, content: &Option<Bytes>) -> Result<(), MemRefused>
     ensures held { OnOk result ((contents : _) → IsHeld known.old.contents.entries contents
         → IsHeld known.new.contents.entries (with_content contents content.now)) }
     ensures same_stamp { result ≡ Err SameStamp → (contents : _)
-        → IsHeld known.old.contents.entries contents → ¬ IsKnown (with_content contents content.now) }
+        → IsHeld known.old.contents.entries contents
+        → ¬ IsKnown (with_content contents content.now) }
     ensures no_tree { result ≢ Err NotATree }
     ensures no_image { result ≢ Err NotAnImage }
 {

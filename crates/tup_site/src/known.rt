@@ -69,8 +69,10 @@ impl Known {
         content: Bytes,
     ) -> Result<bool, AllocFailed<(Stamp, Bytes)>>
         ensures taken { OnOk result ((key : _) → under self.new.contents.entries key
-            ≡ cond (is_at (by_stamp stamp) key) (Some content) (under self.old.contents.entries key)) }
-        ensures is_new { IfOk result (λ is_new. is_new ≡ not (is_some (under self.old.contents.entries stamp))) }
+            ≡ cond (is_at (by_stamp stamp) key) (Some content)
+            (under self.old.contents.entries key)) }
+        ensures is_new { IfOk result
+            (λ is_new. is_new ≡ not (is_some (under self.old.contents.entries stamp))) }
         ensures unchanged { OnErr result (self.new.contents.entries ≡ self.old.contents.entries) }
     {
         Ok(self.contents.insert(stamp, content)?.is_none())
@@ -79,7 +81,8 @@ impl Known {
     /// Undoes a `take` that answered so.
     pub fn undo(&mut self, stamp: Stamp, is_new: bool)
         ensures { (key : _) → under self.new.contents.entries key
-            ≡ cond is_new (cond (is_at (by_stamp stamp) key) None (under self.old.contents.entries key))
+            ≡ cond is_new
+            (cond (is_at (by_stamp stamp) key) None (under self.old.contents.entries key))
             (under self.old.contents.entries key) }
     {
         if is_new {

@@ -98,9 +98,9 @@ fn is_in_range(at: usize, len: usize, place: usize) -> bool
     at <= place && place - at < len
 }
 
-/// The lengths that a store may have after a crash: not less than the floor, the least of its length
-/// at the last sync and the places of the cuts since then, and not more than the height, its greatest
-/// length since then; and the length that it has.
+/// The lengths that a store may have after a crash: not less than the floor, the least of its
+/// length at the last sync and the places of the cuts since then, and not more than the height, its
+/// greatest length since then; and the length that it has.
 #[derive(Clone, Copy)]
 pub(crate) struct Bounds {
     pub floor: usize,

@@ -23,7 +23,7 @@ returns c =
     let low : (state_of site).floor ≤ length choice.db = omega (arith, floor, len) in
     let high : length choice.db ≤ (state_of site).height = let highest = is.highest in omega (arith, highest, len) in
     let bytes : KeepsSynced site choice (state_of site).floor =
-      λ place d below none. ap (λ (l : List ℕ). get_or l place d) (sym c.as_slice-left.ensures) ∙ c.keeps_synced.ensures.0 synced place d (omega (arith, below, floor)) none in (
+    λ place d below none. ap (λ (l : List ℕ). get_or l place d) (sym c.as_slice-left.ensures) ∙ c.keeps_synced.ensures.0 synced place d (omega (arith, below, floor)) none in (
       λ so. image_from site choice files c.requires.files c.requires.tree c.requires.joins low high bytes (settled.0 so),
       λ image. settled.1 (settled_of site choice files c.requires.files image),
     )
