@@ -1,7 +1,7 @@
 -- What a crash may leave, as it is worked out: which paths are loose and which places were written after a list of changes, and
 -- when a choice is what a crash now may leave.
 use Rattle.std.proofs.Common.{◌≡◌, ◌≢◌, ◌⊎◌, inl, inr, ⊎_elim, ℕ, ◌+◌, ◌<◌, ◌≤◌, ◌-◌, ◌^◌, min, Bool, true, false, not, ◌&&◌, ◌||◌, List, [], ◌∷◌, ◌++◌, Option, None, Some, IsTrue, ◌↔◌, length, take, drop, get_or, filter, is_some, bytes_eq, refl, sym, ap, subst, ◌∙◌, arith}
-use Rattle.std.proofs.lemmas.Bool.{cases_Bool, and_parts, and_from, both_ways, or_cases, or_parts, not-true, not-false, not_from_false}
+use Rattle.std.proofs.lemmas.Bool.{cases_Bool, and_parts, and_from, both_ways, or_cases, or_parts}
 use Rattle.std.proofs.lemmas.List.{take_more, drop_more, take-append-drop}
 use Rattle.std.proofs.lemmas.List.Folds.{list_any-append}
 use Rattle.std.proofs.lemmas.List.Elements.{same_from_all_zip}
@@ -13,13 +13,12 @@ use Rattle.tup_path.specs.Tree.{Tree, IsTree, IsBelow}
 use Rattle.tup_path.proofs.Same.{same_path-decides, same_bytes-decides, get_inserted_elsewhere, get_removed_elsewhere}
 use Rattle.tup_stamp.specs.declared.Stamp.{Stamp}
 use Rattle.tup_site.specs.Held.{under, IsHeld}
-use Rattle.tup_site.specs.World.{World}
 use Rattle.tup_site.specs.Edit.{edited}
 use Rattle.tup_site.specs.Known.{knows, IsKnown, KnowsTree, IsHere, Joins}
 use Rattle.tup_site.specs.State.{State, IsImage, is_among, is_written, is_in_line, with_edit}
-use Rattle.tup_site.specs.History.{at_first, after, after_all, LeftSince}
+use Rattle.tup_site.specs.History.{after, after_all}
 use Rattle.tup_site.specs.Choice.{Changed, names, chosen, with_content, known_after, chosen_world}
-use Rattle.tup_site.specs.Memory.{tree_in, store_in, first_of, changes_of, state_of, known_in}
+use Rattle.tup_site.specs.Memory.{tree_in, store_in, state_of, known_in}
 use Rattle.tup_site.specs.declared.change.Change.{Change}
 use Rattle.tup_site.specs.declared.choice.Choice.{Choice}
 use Rattle.tup_site.specs.declared.memory.MemSite.{MemSite}

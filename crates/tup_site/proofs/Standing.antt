@@ -1,5 +1,5 @@
 -- Files of which none is at the top or below another are a tree.
-use Rattle.std.proofs.Common.{◌≡◌, ◌≢◌, Bool, true, false, List, [], ◌∷◌, ◌++◌, Option, None, Some, IsSome, is_some, refl, sym, ap, subst, ◌∙◌, arith}
+use Rattle.std.proofs.Common.{◌≡◌, true, List, [], ◌∷◌, ◌++◌, Option, None, Some, IsSome, is_some, refl, sym, ap, ◌∙◌}
 use Rattle.std.specs.Ordering.{eq_by_cmp}
 use Rattle.std.specs.BTreeMap.{BTreeMap, IsOrdered}
 use Rattle.std.specs.List.{All, list_any}
@@ -10,9 +10,9 @@ use Rattle.std.proofs.lemmas.List.Elements.{All-weaker}
 use Rattle.std.proofs.lemmas.List.Folds.{list_any-append}
 use Rattle.tup_path.specs.Name.{Names, Content, IsPath}
 use Rattle.tup_path.specs.Order.{by_names, by_names-total}
-use Rattle.tup_path.specs.Tree.{Tree, IsTree, IsBelow, tree_of_files}
+use Rattle.tup_path.specs.Tree.{Tree, IsTree, tree_of_files}
 use Rattle.tup_path.proofs.Same.{by_names-decides}
-use Rattle.tup_site.specs.Edit.{NoneBelow, Stands}
+use Rattle.tup_site.specs.Edit.{Stands}
 use Rattle.tup_site.proofs.Trees.{some-from_all_keys, keys-of_sorted}
 
 no_file : (found : Option Content) → (IsSome found → ⊥) → found ≡ None

@@ -1,5 +1,5 @@
 -- The lengths that a store may have after a crash, as they are worked out from the list of changes. Own.
-use Rattle.std.specs.Prelude.{◌≡◌, ℕ, ◌-◌, ◌^◌, min, length}
+use Rattle.std.specs.Prelude.{◌≡◌, ◌-◌, ◌^◌, min, length}
 use Rattle.tup_site.specs.State.{State}
 use Rattle.tup_site.specs.declared.unsettled.Bounds.{Bounds}
 

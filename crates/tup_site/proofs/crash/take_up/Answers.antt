@@ -1,4 +1,4 @@
-use Rattle.std.proofs.Common.{List, Option, Some, OnOk, sym, subst}
+use Rattle.std.proofs.Common.{List, Option, OnOk, sym, subst}
 use Rattle.tup_path.specs.Name.{Content}
 use Rattle.tup_site.specs.Known.{IsKnown}
 use Rattle.tup_site.specs.Held.{IsHeld}

@@ -1,4 +1,4 @@
-use Rattle.std.proofs.Common.{◌≡◌, inl, inr, ⊎_elim, true, sym, ◌∙◌}
+use Rattle.std.proofs.Common.{inr, ⊎_elim, sym, ◌∙◌}
 use Rattle.std.proofs.lemmas.Bool.{both_ways}
 use Rattle.tup_path.proofs.Same.{same_path-decides}
 use Rattle.tup_site.proofs.Among.{in_line_below, in_line_itself}
