@@ -1,5 +1,9 @@
 //! Standard output as a sink.
-ghost use Rattle.std.specs.Prelude.{[], false};
+//!
+//! It stands at the edge: what it holds, it doesn't tell; each write that failed is counted.
+#![tactic(auto)]
+
+ghost use Rattle.std.specs.Prelude.{◌≡◌, [], false};
 
 use std::alloc::Global;
 use std::io;
@@ -9,13 +13,16 @@ use tup_tell::{Sink, SinkFailed};
 
 /// Standard output. It tells nothing but its count of failed writes.
 #[derive(Drop)]
-pub(crate) struct Output<'a, P: Print> {
+pub struct Output<'a, P: Print> {
     to: &'a P,
     faults: u64,
 }
 
 impl<'a, P: Print> Output<'a, P> {
-    pub(crate) fn new(to: &'a P) -> Output<'a, P> {
+    /// The sink of a program's standard output. No write has failed yet.
+    pub fn new(to: &'a P) -> Output<'a, P>
+        ensures { result.faults ≡ 0 }
+    {
         Output { to, faults: 0 }
     }
 }
