@@ -31,8 +31,9 @@ use tup_stamp::stamp_of;
 
 /// A tree of files and a store in memory.
 ///
-/// It keeps the list of all that happened since it was made, and of its calls that failed. So what it
-/// was at each moment, which is the list's length then, and what a crash then may leave, is known.
+/// It keeps the list of all that happened since it was made, and of its calls that failed. So what
+/// it was at each moment, which is the list's length then, and what a crash then may leave, is
+/// known.
 /// The calls of `Site`, but for `faults`, are numbered from 1. Those fail whose number was listed,
 /// those behind the number of `stop_after`, and a `put` of a content that has the stamp of another;
 /// they change nothing, and no others fail.
@@ -40,16 +41,17 @@ use tup_stamp::stamp_of;
 pub struct MemSite {
     pub(crate) files: BTreeMap<Path, Bytes>,
     pub(crate) store: Vec<u8>,
-    known: Known,
+    pub(crate) known: Known,
     first: Files,
     pub(crate) changes: Vec<Change>,
     fails: Vec<u64>,
     calls: u64,
-    left: Option<u64>,
+    pub(crate) left: Option<u64>,
     pub(crate) faults: u64,
     ghost is_tree: { IsTree (tree_of_files files.entries) } by { IsTree-prop (tree_of_files files.entries) },
     ghost is_now: { IsNow first changes.items (tree_of_files files.entries) store.items faults } by { IsNow-prop first changes.items (tree_of_files files.entries) store.items faults },
-    ghost is_held: { IsHeld known.contents.entries (after_all (at_first first) changes.items).known } by { IsHeld-prop known.contents.entries (after_all (at_first first) changes.items).known },
+    ghost is_held: { IsHeld known.contents.entries
+        (after_all (at_first first) changes.items).known } by { IsHeld-prop known.contents.entries (after_all (at_first first) changes.items).known },
 }
 
 impl MemSite {
@@ -102,7 +104,8 @@ impl MemSite {
     ) -> Result<(), MemRefused>
         ensures edited { OnOk result (tree_in self.new ≡ edited (tree_in self.old) path content) }
         ensures tree { OnOk result (IsTree (edited (tree_in self.old) path content)) }
-        ensures noted { OnOk result (changes_of self.new ≡ changes_of self.old ++ Edited path content ∷ []) }
+        ensures noted { OnOk result
+            (changes_of self.new ≡ changes_of self.old ++ Edited path content ∷ []) }
         ensures unchanged { OnErr result (tree_in self.new ≡ tree_in self.old) }
         ensures unnoted { OnErr result (changes_of self.new ≡ changes_of self.old) }
         ensures store { store_in self.new ≡ store_in self.old }
