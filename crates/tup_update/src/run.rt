@@ -25,7 +25,8 @@ use tup_site::{Site, SiteFailed};
 pub(crate) type BadRule = (RuleName, Verdict);
 
 impl Project {
-    /// Runs all rules in their order up to the first that is bad, which it names, and notes their verdicts.
+    /// Runs all rules in their order up to the first that is bad, which it names, and notes their
+    /// verdicts.
     pub(crate) fn run<S: Site>(
         &self,
         alloc: Global,

@@ -43,7 +43,8 @@ pub(crate) struct SiteView<'a, 's, 'r, S: Site> {
     /// The text that got no answer, and why. The caller keeps it.
     pub refused: &'r mut Option<(Text, Refused)>,
     ghost knows: { IsGenerated sight.rules.now sight.made.now },
-    ghost denies: { (text : List ℕ) (verdict : VerdictValue) → refused.now ≡ Some (text, Denied verdict)
+    ghost denies: { (text : List ℕ) (verdict : VerdictValue)
+        → refused.now ≡ Some (text, Denied verdict)
         → access_of sight.rules.now sight.rule.now asked text ≡ No verdict },
 }
 
