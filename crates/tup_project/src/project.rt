@@ -29,7 +29,7 @@ pub fn read_rules(alloc: Global, sources: &Paths, tupfile: Option<&Bytes>) -> Re
     checked(alloc, placed_rules(alloc, sources, tupfile)?)
 }
 
-/// Rules without their lines, if no command stands twice.
+/// The rules of some lines, if no command stands twice.
 fn checked(alloc: Global, placed: PlacedRules) -> Result<Rules, ReadEnd>
     ensures { GivesUnless result ReadEnd.Memory (specs.checked placed) }
 {
@@ -52,6 +52,7 @@ fn repeated_at(alloc: Global, placed: &[Placed]) -> Result<Option<u32>, AllocErr
     Ok(None)
 }
 
+/// Rules without their lines.
 fn rules_in(alloc: Global, placed: PlacedRules) -> Result<Rules, AllocError>
     ensures { IfOk result (λ rules. rules ≡ rules_of_placed placed) }
 {

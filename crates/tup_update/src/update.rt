@@ -24,6 +24,7 @@ pub struct Log {
 }
 
 impl Log {
+    /// The log of an update that did nothing.
     fn new(alloc: Global) -> Log
         ensures { IsEmptyLog result }
     {
