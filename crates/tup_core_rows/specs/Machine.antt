@@ -3,5 +3,5 @@ use Rattle.tup_core.specs.Machine.{IsCore}
 use Rattle.tup_core_rows.specs.declared.machine.Machine.{Machine}
 
 -- the core is one of the plan
-abbrev pub IsWhole : Machine → Type 0
-IsWhole machine = IsCore machine.plan machine.core
+abbrev pub IsOfPlan : Machine → Type 0
+IsOfPlan machine = IsCore machine.plan machine.core

@@ -1,5 +1,5 @@
 //! Updates in many orders, compared with the clean build.
-ghost use Rattle.tup_core_rows.specs.Machine.{IsWhole};
+ghost use Rattle.tup_core_rows.specs.Machine.{IsOfPlan};
 
 use crate::machine::Machine;
 use crate::project::{Project, reach_at};
@@ -67,8 +67,8 @@ fn run(
     update: &mut Update,
     order: u64,
 ) -> Result<(), RowFault>
-    requires { IsWhole machine.old }
-    ensures { IsWhole machine.new }
+    requires { IsOfPlan machine.old }
+    ensures { IsOfPlan machine.new }
 {
     let mut lot = order;
     for _ in 0..TURNS {
@@ -87,8 +87,8 @@ fn next_lot(lot: u64) -> u64 {
 
 /// Has the core take some events. `OtherKind` where it refuses one.
 fn take_all(alloc: Global, machine: &mut Machine, events: Vec<CoreEvent>) -> Result<(), RowFault>
-    requires { IsWhole machine.old }
-    ensures { IsWhole machine.new }
+    requires { IsOfPlan machine.old }
+    ensures { IsOfPlan machine.new }
 {
     for event in events {
         if !machine.takes(alloc, &event)? {

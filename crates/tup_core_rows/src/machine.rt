@@ -1,7 +1,7 @@
 //! A core with its plan.
 ghost use Rattle.std.specs.Prelude.{◌≡◌, true, IfOk};
 ghost use Rattle.tup_core.specs.Sound.{IsInRange};
-ghost use Rattle.tup_core_rows.specs.Machine.{IsWhole};
+ghost use Rattle.tup_core_rows.specs.Machine.{IsOfPlan};
 
 use std::alloc::Global;
 use tup_core::{Core, CoreEvent, CoreFault, Plan, Stamps};
@@ -18,7 +18,7 @@ impl Machine {
     /// The opening of a plan over files with these stamps. `OtherKind` where a number of the reach
     /// is none of a rule.
     pub(crate) fn new(alloc: Global, plan: Plan, files: Stamps) -> Result<Machine, RowFault>
-        ensures { IfOk result IsWhole }
+        ensures { IfOk result IsOfPlan }
     {
         if !is_in_range(&plan) {
             return Err(RowFault::OtherKind);
@@ -31,8 +31,8 @@ impl Machine {
 
     /// Whether the core takes an event.
     pub(crate) fn takes(&mut self, alloc: Global, event: &CoreEvent) -> Result<bool, RowFault>
-        requires { IsWhole self.old }
-        ensures { IsWhole self.new }
+        requires { IsOfPlan self.old }
+        ensures { IsOfPlan self.new }
     {
         match self.core.step(alloc, &self.plan, event) {
             Ok(()) => Ok(true),
@@ -43,7 +43,7 @@ impl Machine {
 
     /// The first rule that is ready.
     pub(crate) fn first_ready(&self) -> Option<u32>
-        requires { IsWhole self.now }
+        requires { IsOfPlan self.now }
     {
         for number in self.plan.reach.as_slice() {
             if self.core.ready(&self.plan, *number) {
@@ -55,7 +55,7 @@ impl Machine {
 
     /// Adds the number of each rule that is ready.
     pub(crate) fn add_ready(&self, alloc: Global, words: &mut Words)
-        requires { IsWhole self.now }
+        requires { IsOfPlan self.now }
     {
         for number in self.plan.reach.as_slice() {
             if self.core.ready(&self.plan, *number) {

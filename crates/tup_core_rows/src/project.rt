@@ -1,6 +1,6 @@
 //! The sources and the rules that rows give.
 ghost use Rattle.std.specs.Prelude.{IfOk};
-ghost use Rattle.tup_core_rows.specs.Machine.{IsWhole};
+ghost use Rattle.tup_core_rows.specs.Machine.{IsOfPlan};
 
 use crate::machine::Machine;
 use std::alloc::{AllocError, Global};
@@ -48,7 +48,7 @@ impl Project {
         reach: Numbers,
         keep_going: bool,
     ) -> Result<Machine, RowFault>
-        ensures { IfOk result IsWhole }
+        ensures { IfOk result IsOfPlan }
     {
         let stamps = stamps_of(alloc, &self.sources)?;
         let plan = Plan {

@@ -1,5 +1,5 @@
 //! The events of a row, taken one after another.
-ghost use Rattle.tup_core_rows.specs.Machine.{IsWhole};
+ghost use Rattle.tup_core_rows.specs.Machine.{IsOfPlan};
 
 use crate::event::event;
 use crate::machine::Machine;
@@ -19,7 +19,7 @@ pub(crate) fn run(alloc: Global, project: &Project, said: &Words) -> Words {
 
 /// The answer of a row whose events a core takes.
 fn taken(alloc: Global, machine: &mut Machine, said: &Words) -> Words
-    requires { IsWhole machine.old }
+    requires { IsOfPlan machine.old }
 {
     match first_refused(alloc, machine, said.as_slice()) {
         Ok(Some(number)) => ready(alloc, machine, Words::shown(alloc, &number)),
@@ -30,7 +30,7 @@ fn taken(alloc: Global, machine: &mut Machine, said: &Words) -> Words
 
 /// These words, and then the rules that are ready.
 fn ready(alloc: Global, machine: &Machine, mut words: Words) -> Words
-    requires { IsWhole machine.now }
+    requires { IsOfPlan machine.now }
 {
     machine.add_ready(alloc, &mut words);
     words
@@ -42,8 +42,8 @@ fn first_refused(
     machine: &mut Machine,
     words: &[Vec<u8>],
 ) -> Result<Option<usize>, RowFault>
-    requires { IsWhole machine.old }
-    ensures { IsWhole machine.new }
+    requires { IsOfPlan machine.old }
+    ensures { IsOfPlan machine.new }
 {
     for (number, spelled) in words
         .split(|word| word.as_slice() == b";".as_slice())
@@ -59,8 +59,8 @@ fn first_refused(
 
 /// Whether a core takes the event that some words spell.
 fn takes(alloc: Global, machine: &mut Machine, spelled: &[Vec<u8>]) -> Result<bool, RowFault>
-    requires { IsWhole machine.old }
-    ensures { IsWhole machine.new }
+    requires { IsOfPlan machine.old }
+    ensures { IsOfPlan machine.new }
 {
     match event(alloc, spelled) {
         Ok(event) => machine.takes(alloc, &event),
