@@ -1,12 +1,19 @@
 //! Updates in many orders, compared with the clean build.
+ghost use Rattle.tup_core_rows.specs.Machine.{IsOfPlan};
+
+use crate::machine::Machine;
 use crate::project::{Project, reach_at};
 use crate::sources::sorted;
 use crate::update::Update;
 use std::alloc::Global;
 use tup_clean::clean_build;
+use tup_core::CoreEvent;
 use tup_mini::Mini;
 use tup_path::Files;
 use tup_rows::{RowFault, Words};
+
+/// How many turns of seats an order has.
+const TURNS: usize = 1000;
 
 /// Runs the rules of a reach from so many seats in so many orders. The answer is `same` where each
 /// end has the files of the clean build, and else `other`.
@@ -46,9 +53,47 @@ fn all_end_with(alloc: Global, project: &Project, said: &Words, tree: &Files) ->
 
 /// The end of an order.
 fn driven(alloc: Global, project: &Project, said: &Words, order: u64) -> Result<Update, RowFault> {
-    let machine = project.opening(alloc, reach_at(alloc, said, 2), true)?;
-    let mut update = Update::new(alloc, machine, project)?;
+    let mut machine = project.opening(alloc, reach_at(alloc, said, 2), true)?;
+    let mut update = Update::new(alloc, project)?;
     update.add_seats(said.number_at(0));
-    update.run(alloc, order);
+    run(alloc, &mut machine, &mut update, order)?;
     update.ended()
+}
+
+/// Seats take turns by the lots of an order, and the core has to take what happens in each.
+fn run(
+    alloc: Global,
+    machine: &mut Machine,
+    update: &mut Update,
+    order: u64,
+) -> Result<(), RowFault>
+    requires { IsOfPlan machine.old }
+    ensures { IsOfPlan machine.new }
+{
+    let mut lot = order;
+    for _ in 0..TURNS {
+        lot = next_lot(lot);
+        update.turn(alloc, lot >> 33, machine.first_ready());
+        take_all(alloc, machine, update.tell(alloc))?;
+    }
+    Ok(())
+}
+
+/// The next number that a lot gives.
+fn next_lot(lot: u64) -> u64 {
+    lot.wrapping_mul(6_364_136_223_846_793_005)
+        .wrapping_add(1_442_695_040_888_963_407)
+}
+
+/// Has the core take some events. `OtherKind` where it refuses one.
+fn take_all(alloc: Global, machine: &mut Machine, events: Vec<CoreEvent>) -> Result<(), RowFault>
+    requires { IsOfPlan machine.old }
+    ensures { IsOfPlan machine.new }
+{
+    for event in events {
+        if !machine.takes(alloc, &event)? {
+            return Err(RowFault::OtherKind);
+        }
+    }
+    Ok(())
 }

@@ -1,25 +1,25 @@
 //! A core with its plan.
-ghost use Rattle.std.specs.Prelude.{◌≡◌, true};
+ghost use Rattle.std.specs.Prelude.{◌≡◌, true, IfOk};
 ghost use Rattle.tup_core.specs.Sound.{IsInRange};
-ghost use Rattle.tup_core.specs.Machine.{IsCore};
+ghost use Rattle.tup_core_rows.specs.Machine.{IsOfPlan};
 
 use std::alloc::Global;
 use tup_core::{Core, CoreEvent, CoreFault, Plan, Stamps};
 use tup_rows::{RowFault, Words};
-use tup_rule::Rule;
 
 /// A core, and the plan that it is told at each call.
 #[derive(Drop)]
 pub(crate) struct Machine {
     plan: Plan,
     core: Core,
-    ghost is_of_plan: { IsCore plan core },
 }
 
 impl Machine {
     /// The opening of a plan over files with these stamps. `OtherKind` where a number of the reach
     /// is none of a rule.
-    pub(crate) fn new(alloc: Global, plan: Plan, files: Stamps) -> Result<Machine, RowFault> {
+    pub(crate) fn new(alloc: Global, plan: Plan, files: Stamps) -> Result<Machine, RowFault>
+        ensures { IfOk result IsOfPlan }
+    {
         if !is_in_range(&plan) {
             return Err(RowFault::OtherKind);
         }
@@ -30,7 +30,10 @@ impl Machine {
     }
 
     /// Whether the core takes an event.
-    pub(crate) fn takes(&mut self, alloc: Global, event: &CoreEvent) -> Result<bool, RowFault> {
+    pub(crate) fn takes(&mut self, alloc: Global, event: &CoreEvent) -> Result<bool, RowFault>
+        requires { IsOfPlan self.old }
+        ensures { IsOfPlan self.new }
+    {
         match self.core.step(alloc, &self.plan, event) {
             Ok(()) => Ok(true),
             Err(CoreFault::NotEnabled) => Ok(false),
@@ -39,7 +42,9 @@ impl Machine {
     }
 
     /// The first rule that is ready.
-    pub(crate) fn first_ready(&self) -> Option<u32> {
+    pub(crate) fn first_ready(&self) -> Option<u32>
+        requires { IsOfPlan self.now }
+    {
         for number in self.plan.reach.as_slice() {
             if self.core.ready(&self.plan, *number) {
                 return Some(*number);
@@ -49,17 +54,14 @@ impl Machine {
     }
 
     /// Adds the number of each rule that is ready.
-    pub(crate) fn add_ready(&self, alloc: Global, words: &mut Words) {
+    pub(crate) fn add_ready(&self, alloc: Global, words: &mut Words)
+        requires { IsOfPlan self.now }
+    {
         for number in self.plan.reach.as_slice() {
             if self.core.ready(&self.plan, *number) {
                 words.show(alloc, number);
             }
         }
-    }
-
-    /// The rules of the plan.
-    pub(crate) fn rules(&self) -> &[Rule] {
-        self.plan.rules.as_slice()
     }
 }
 

@@ -1,4 +1,7 @@
 //! The sources and the rules that rows give.
+ghost use Rattle.std.specs.Prelude.{IfOk};
+ghost use Rattle.tup_core_rows.specs.Machine.{IsOfPlan};
+
 use crate::machine::Machine;
 use std::alloc::{AllocError, Global};
 use tup_core::{Numbers, Plan, Stamps};
@@ -44,7 +47,9 @@ impl Project {
         alloc: Global,
         reach: Numbers,
         keep_going: bool,
-    ) -> Result<Machine, RowFault> {
+    ) -> Result<Machine, RowFault>
+        ensures { IfOk result IsOfPlan }
+    {
         let stamps = stamps_of(alloc, &self.sources)?;
         let plan = Plan {
             rules: self.rules.clone()?,

@@ -1,4 +1,6 @@
 //! The events of a row, taken one after another.
+ghost use Rattle.tup_core_rows.specs.Machine.{IsOfPlan};
+
 use crate::event::event;
 use crate::machine::Machine;
 use crate::project::{Project, reach_at};
@@ -16,7 +18,9 @@ pub(crate) fn run(alloc: Global, project: &Project, said: &Words) -> Words {
 }
 
 /// The answer of a row whose events a core takes.
-fn taken(alloc: Global, machine: &mut Machine, said: &Words) -> Words {
+fn taken(alloc: Global, machine: &mut Machine, said: &Words) -> Words
+    requires { IsOfPlan machine.old }
+{
     match first_refused(alloc, machine, said.as_slice()) {
         Ok(Some(number)) => ready(alloc, machine, Words::shown(alloc, &number)),
         Ok(None) => ready(alloc, machine, Words::word(alloc, b"all")),
@@ -25,7 +29,9 @@ fn taken(alloc: Global, machine: &mut Machine, said: &Words) -> Words {
 }
 
 /// These words, and then the rules that are ready.
-fn ready(alloc: Global, machine: &Machine, mut words: Words) -> Words {
+fn ready(alloc: Global, machine: &Machine, mut words: Words) -> Words
+    requires { IsOfPlan machine.now }
+{
     machine.add_ready(alloc, &mut words);
     words
 }
@@ -35,7 +41,10 @@ fn first_refused(
     alloc: Global,
     machine: &mut Machine,
     words: &[Vec<u8>],
-) -> Result<Option<usize>, RowFault> {
+) -> Result<Option<usize>, RowFault>
+    requires { IsOfPlan machine.old }
+    ensures { IsOfPlan machine.new }
+{
     for (number, spelled) in words
         .split(|word| word.as_slice() == b";".as_slice())
         .enumerate()
@@ -49,7 +58,10 @@ fn first_refused(
 }
 
 /// Whether a core takes the event that some words spell.
-fn takes(alloc: Global, machine: &mut Machine, spelled: &[Vec<u8>]) -> Result<bool, RowFault> {
+fn takes(alloc: Global, machine: &mut Machine, spelled: &[Vec<u8>]) -> Result<bool, RowFault>
+    requires { IsOfPlan machine.old }
+    ensures { IsOfPlan machine.new }
+{
     match event(alloc, spelled) {
         Ok(event) => machine.takes(alloc, &event),
         Err(fault) => Err(fault),

@@ -1,47 +1,46 @@
-//! An update whose seats take turns by lot.
+//! An update whose seats take turns: what each runs, and what happens then.
 use crate::job::Job;
-use crate::machine::Machine;
 use crate::project::{Project, stamps_of};
 use crate::sources::{Contents, are_those_of, contents, put};
 use std::alloc::{AllocError, Global};
 use std::collections::BTreeSet;
+use std::mem;
 use tup_access::{Access, Verdict, allowed, judge};
 use tup_clean::generated;
 use tup_core::CoreEvent;
 use tup_path::{Bytes, Files, Items, Path, Text};
 use tup_rows::RowFault;
-use tup_rule::Rule;
+use tup_rule::{Rule, Rules};
 use tup_runner::{Ended, Step};
 use tup_stamp::stamp_of;
-
-/// How many turns of seats an order has.
-const TURNS: usize = 1000;
 
 /// An update under way.
 #[derive(Drop)]
 pub(crate) struct Update {
-    machine: Machine,
+    rules: Rules,
     /// What the rules make.
     made: BTreeSet<Path>,
     files: Contents,
     /// What each seat runs.
     seats: Vec<Option<Job>>,
-    /// Why the update is worth nothing: the core refused what is right, or there was no memory.
+    /// What happened since it was last told.
+    events: Vec<CoreEvent>,
+    /// Why the update is worth nothing.
     fault: Option<RowFault>,
 }
 
 impl Update {
     /// An update of a project that has no seat yet.
-    pub(crate) fn new(
-        alloc: Global,
-        machine: Machine,
-        project: &Project,
-    ) -> Result<Update, AllocError> {
+    pub(crate) fn new(alloc: Global, project: &Project) -> Result<Update, AllocError> {
+        let rules = project.rules.clone()?;
+        let made = generated(alloc, rules.as_slice())?;
+        let files = contents(alloc, &project.sources)?;
         Ok(Update {
-            machine,
-            made: generated(alloc, project.rules.as_slice())?,
-            files: contents(alloc, &project.sources)?,
+            rules,
+            made,
+            files,
             seats: Vec::new(alloc),
+            events: Vec::new(alloc),
             fault: None,
         })
     }
@@ -55,14 +54,17 @@ impl Update {
         }
     }
 
-    /// A thousand turns of seats by the lots of an order.
-    pub(crate) fn run(&mut self, alloc: Global, order: u64) {
-        let seats = self.seats.len().max(1) as u64;
-        let mut lot = order;
-        for _ in 0..TURNS {
-            lot = next_lot(lot);
-            self.turn(alloc, (lot >> 33) % seats);
+    /// The turn that a lot gives to a seat, while this rule is the first that is ready.
+    pub(crate) fn turn(&mut self, alloc: Global, lot: u64, ready: Option<u32>) {
+        match u32::try_from(lot % (self.seats.len().max(1) as u64)) {
+            Ok(seat) => self.turn_of(alloc, seat, ready),
+            Err(_) => self.fail(RowFault::OtherKind),
         }
+    }
+
+    /// What happened since it was last told.
+    pub(crate) fn tell(&mut self, alloc: Global) -> Vec<CoreEvent> {
+        mem::replace(&mut self.events, Vec::new(alloc))
     }
 
     /// The update, unless it is worth nothing.
@@ -78,42 +80,22 @@ impl Update {
         are_those_of(&self.files, tree)
     }
 
-    /// The update is worth nothing, for this reason.
-    fn fail(&mut self, fault: RowFault) {
-        self.fault = Some(fault);
-    }
-
-    /// The same where there was no memory.
-    fn note(&mut self, done: Result<(), AllocError>) {
-        if done.is_err() {
-            self.fail(RowFault::Memory);
-        }
-    }
-
-    /// The turn of a seat of this number.
-    fn turn(&mut self, alloc: Global, seat: u64) {
-        match u32::try_from(seat) {
-            Ok(seat) => self.turn_of(alloc, seat),
-            Err(_) => self.fail(RowFault::OtherKind),
-        }
-    }
-
-    /// A seat goes on with its command, or claims the first rule that is ready.
-    fn turn_of(&mut self, alloc: Global, seat: u32) {
+    /// A seat goes on with its command, or claims the rule that is ready.
+    fn turn_of(&mut self, alloc: Global, seat: u32, ready: Option<u32>) {
         let next = match taken(&mut self.seats, seat) {
             Some(job) => self.work(alloc, seat, job),
-            None => self.claim(alloc, seat),
+            None => self.claim(alloc, seat, ready),
         };
         if let Some(slot) = self.seats.get_mut(seat as usize) {
             *slot = next;
         }
     }
 
-    /// Claims the first rule that is ready, if there is one.
-    fn claim(&mut self, alloc: Global, seat: u32) -> Option<Job> {
-        let rule = self.machine.first_ready()?;
-        self.must_take(alloc, Ok(CoreEvent::Claim { seat, rule }));
-        match rule_at(self.machine.rules(), rule) {
+    /// Claims a rule, if there is one.
+    fn claim(&mut self, alloc: Global, seat: u32, ready: Option<u32>) -> Option<Job> {
+        let rule = ready?;
+        self.happens(Ok(CoreEvent::Claim { seat, rule }));
+        match rule_at(self.rules.as_slice(), rule) {
             Ok(rule) => Some(Job::new(alloc, rule)),
             Err(fault) => {
                 self.fail(fault);
@@ -140,7 +122,7 @@ impl Update {
     /// A command asks, and is answered, or ends by that.
     fn ask(&mut self, alloc: Global, seat: u32, job: Job, text: Text) -> Option<Job> {
         match allowed(alloc, &job.rule, &self.made, &text, job.replies.len()) {
-            Ok(Access::Yes(path)) => Some(self.answer(alloc, seat, job, text, &path)),
+            Ok(Access::Yes(path)) => Some(self.answer(seat, job, text, &path)),
             Ok(Access::No(verdict)) => {
                 self.deny(alloc, seat, &text, verdict);
                 None
@@ -153,18 +135,18 @@ impl Update {
     }
 
     /// A command asks for a file that it may read.
-    fn answer(&mut self, alloc: Global, seat: u32, mut job: Job, text: Text, path: &Path) -> Job {
+    fn answer(&mut self, seat: u32, mut job: Job, text: Text, path: &Path) -> Job {
         let content = told(&job.rule, &self.files, path);
         let event = asking(seat, &text, content);
         let added = job.replies.add(text, content);
-        self.must_take(alloc, event);
+        self.happens(event);
         self.note(added);
         job
     }
 
     /// A command may not ask for a text, and this becomes of it.
     fn deny(&mut self, alloc: Global, seat: u32, text: &Text, verdict: Verdict) {
-        self.must_take(alloc, denial(seat, text, &verdict));
+        self.happens(denial(seat, text, &verdict));
         self.finish(alloc, seat, verdict, Items::new(alloc));
     }
 
@@ -178,33 +160,37 @@ impl Update {
 
     /// A command's rule is done, and its files stand.
     fn finish(&mut self, alloc: Global, seat: u32, verdict: Verdict, written: Files) {
-        self.must_take(alloc, finishing(alloc, seat, verdict, &written));
+        self.happens(finishing(alloc, seat, verdict, &written));
         let put = put_all(&mut self.files, written);
         self.note(put);
     }
 
-    /// The core has to take an event that there was memory for.
-    fn must_take(&mut self, alloc: Global, event: Result<CoreEvent, AllocError>) {
+    /// Notes what happens, if there was memory for it.
+    fn happens(&mut self, event: Result<CoreEvent, AllocError>) {
         match event {
-            Ok(event) => self.take(alloc, &event),
+            Ok(event) => self.add_event(event),
             Err(_) => self.fail(RowFault::Memory),
         }
     }
 
-    /// The core has to take an event.
-    fn take(&mut self, alloc: Global, event: &CoreEvent) {
-        match self.machine.takes(alloc, event) {
-            Ok(true) => {}
-            Ok(false) => self.fail(RowFault::OtherKind),
-            Err(fault) => self.fail(fault),
+    /// Adds what happens.
+    fn add_event(&mut self, event: CoreEvent) {
+        if self.events.push(event).is_err() {
+            self.fail(RowFault::Memory);
         }
     }
-}
 
-/// The next number that a lot gives.
-fn next_lot(lot: u64) -> u64 {
-    lot.wrapping_mul(6_364_136_223_846_793_005)
-        .wrapping_add(1_442_695_040_888_963_407)
+    /// Notes want of memory.
+    fn note(&mut self, done: Result<(), AllocError>) {
+        if done.is_err() {
+            self.fail(RowFault::Memory);
+        }
+    }
+
+    /// The update is worth nothing, for this reason.
+    fn fail(&mut self, fault: RowFault) {
+        self.fault = Some(fault);
+    }
 }
 
 /// What a seat runs, which it then runs no more.
