@@ -117,9 +117,9 @@ impl Memory {
     }
 
     fn put_at(&mut self, alloc: Global, path: &Path, content: &Bytes) -> Words {
-        if self.site.file(path).is_none() {
+        let Some(_) = self.site.file(path) else {
             return Words::none(alloc, RowFault::OtherKind);
-        }
+        };
         ended(alloc, self.site.put(alloc, path, content))
     }
 
