@@ -1,15 +1,15 @@
 -- What a commit of edits leaves of a graph.
-use Rattle.std.proofs.Common.{◌≡◌, ◌≢◌, ◌⊎◌, ℕ, ◌&&◌, Bool, true, false, List, [], ◌∷◌, Result, Ok, Err, IsTrue, All, refl, sym, ap, subst, ◌∙◌, inl, inr, ⊎_elim}
+use Rattle.std.proofs.Common.{◌≡◌, ◌≢◌, ◌⊎◌, ℕ, ◌&&◌, Bool, true, false, List, [], ◌∷◌, map, Result, Ok, Err, IsTrue, All, refl, sym, ap, subst, ◌∙◌, inl, inr, ⊎_elim}
 use Rattle.tup_path.specs.Gives.{GivesUnless}
 use Rattle.tup_table.specs.Cause.{CountsFaults as TableCounts}
-use Rattle.tup_table.specs.Entries.{Standing, committed}
+use Rattle.tup_table.specs.Entries.{Standing, IsAscending, committed}
 use Rattle.tup_table.specs.Table.{entries_in, gate_of, is_fresh as is_fresh_table, after_commit, IsOver, CommitLeaves}
 use Rattle.tup_table.specs.declared.change.Change.{Change}
 use Rattle.tup_table.specs.declared.fault.TableFault.{TableFault}
 use Rattle.tup_table.specs.declared.fault.TableFault.TheVariants as table
 use Rattle.tup_table.specs.declared.table.Table.{Table}
-use Rattle.tup_graph.specs.Changes.{once_made}
-use Rattle.tup_graph.specs.Edits.{edited_by, HasSpelling}
+use Rattle.tup_graph.specs.Changes.{needed, once_made}
+use Rattle.tup_graph.specs.Edits.{change_of, edited_by, HasSpelling}
 use Rattle.tup_graph.specs.Fault.{fault_of}
 use Rattle.tup_graph.specs.Graph.{GraphState}
 use Rattle.tup_graph.specs.Opening.{IsGraphOf}
@@ -18,16 +18,16 @@ use Rattle.tup_graph.specs.declared.fault.GraphFault.{GraphFault}
 use Rattle.tup_graph.specs.declared.fault.GraphFault.TheVariants.{Site, Full, Memory}
 use Rattle.tup_graph.proofs.OneWay.{one_graph}
 use Rattle.tup_kept.specs.Cause.{CountsFaults}
-use Rattle.tup_kept.specs.Held.{Held, is_fresh}
+use Rattle.tup_kept.specs.Held.{Held, IsSound, is_fresh}
 use Rattle.tup_kept.specs.Transaction.{to_write, with_changes, after, IsFull, Leaves}
 
 first_true : (a b : Bool) → IsTrue (a && b) → a ≡ true
 first_true true b is = refl
-first_true false b is = absurd is
+first_true false b is = is
 
 second_true : (a b : Bool) → IsTrue (a && b) → IsTrue b
 second_true true b is = is
-second_true false b is = absurd is
+second_true false b is = absurd (cc)
 
 pub whole_if_fresh : (graph : Held) → IsTrue (is_fresh graph) → graph.whole ≡ true
 whole_if_fresh graph fresh = first_true graph.whole (is_fresh_table graph.table) fresh
@@ -131,3 +131,17 @@ same_entries cs t u before now table.Site left = ap entries_in left
 same_entries cs t u before now table.Memory left = ⊎_elim (λ stale. ap entries_in stale) (λ same. ap entries_in same.0) left
 same_entries cs t u before now table.NotThere left = absurd left
 same_entries cs t u before now (table.BadStore offset) left = absurd left
+
+-- ---- what is known of a graph that was opened by its fields
+module _ (old inside : Held) (view : inside ≡ old) where
+  pub sound_now : IsSound inside → IsTrue (is_fresh old) → IsGraphOf (entries_in old.table) old.nodes
+  sound_now sound fresh = subst IsSound view sound (whole_if_fresh old fresh)
+
+  pub entries_now : (es : Standing) → es ≡ entries_in inside.table → es ≡ entries_in old.table
+  entries_now es is = is ∙ ap (λ (h : Held). entries_in h.table) view
+
+  pub ascending_now : (es : Standing) → es ≡ entries_in inside.table → IsAscending es → IsAscending (entries_in old.table)
+  ascending_now es is up = subst (λ (es : Standing). IsAscending es) (entries_now es is) up
+
+  pub written_now : (edits : List Edit) (es : Standing) (cs : List Change) → es ≡ entries_in inside.table → cs ≡ needed es (map change_of edits) → cs ≡ to_write old edits
+  written_now edits es cs is cs_are = cs_are ∙ ap (λ (es : Standing). needed es (map change_of edits)) (entries_now es is)

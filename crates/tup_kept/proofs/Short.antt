@@ -1,10 +1,12 @@
 -- The keys of records are short.
-use Rattle.std.proofs.Common.{◌≡◌, ℕ, ◌+◌, ◌*◌, ◌≤◌, Bool, true, false, cond, List, [], ◌∷◌, ◌++◌, length, map, fold, filter, All, refl, sym, subst, length-append, arith}
+use Rattle.std.proofs.Common.{◌≡◌, ℕ, ◌+◌, ◌*◌, ◌≤◌, Bool, true, false, cond, List, [], ◌∷◌, ◌++◌, length, map, fold, filter, All, refl, sym, ap, subst, ◌∙◌, length-append, arith}
 use Rattle.std.specs.FinMap as finite
 use Rattle.std.specs.FinMap.{FinMap, insert, empty, entries}
 use Rattle.std.specs.FinMap.Entries.{by_order}
 use Rattle.std.specs.Cmp.Lexicographic.{nat_list_cmp_total}
+use Rattle.std.specs.Int.{w32, to_be_bytes}
 use Rattle.std.specs.List.{flat_map, AllByRecursion}
+use Rattle.std.specs.List.Sorted.{IsStrictlySortedBy}
 use Rattle.std.specs.declared.cmp.Ordering.TheVariants.{Less, Equal, Greater}
 use Rattle.std.proofs.lemmas.List.Concat.{flat_map-cons}
 use Rattle.std.proofs.lemmas.List.Elements.{recursion_from_All, All-from_recursion}
@@ -26,24 +28,25 @@ use Rattle.tup_graph.specs.declared.edit.Edit.TheVariants.{Put, Remove}
 names_short : (p : Names) → AllByRecursion IsVisibleName p → length (flat_map name.spelling p) ≤ 256 * length p
 names_short [] all = omega arith
 names_short (n ∷ p) all =
-    let more = names_short p all.1 in
     let short = all.0.not_long in
-    rw (flat_map-cons name.spelling n p, length-append (name.spelling n) (flat_map name.spelling p)) (omega arith)
+    omega (arith, ap length (flat_map-cons name.spelling n p) ∙ length-append (name.spelling n) (flat_map name.spelling p), length-append (length n ∷ []) n, names_short p all.1)
 
 path_short : (p : Names) → IsPath p → length (path.spelling p) ≤ 8193
 path_short p is =
-    let names = names_short p (recursion_from_All IsVisibleName p is.names) in
     let depth = is.depth in
-    omega arith
+    omega (arith, names_short p (recursion_from_All IsVisibleName p is.names))
+
+number_short : (mark n : ℕ) → length (mark ∷ to_be_bytes w32 n) ≤ 65535
+number_short mark n = let four : length (to_be_bytes w32 n) ≡ 4 = refl in omega arith
 
 short_key : (r : Record) → Fits r → length (record_key r) ≤ 65535
-short_key (Seen p s) fits = let short = path_short p fits.0 in omega arith
-short_key (Reading dir r) fits = let short = path_short dir fits.0 in omega arith
-short_key (Rule n place r) fits = omega arith
-short_key (Run n r) fits = omega arith
-short_key (Owned p maker s) fits = let short = path_short p fits.0 in omega arith
-short_key (Create dir) fits = let short = path_short dir fits.0 in omega arith
-short_key (Modify n) fits = omega arith
+short_key (Seen p s) fits = omega (arith, path_short p fits.0)
+short_key (Reading dir r) fits = omega (arith, path_short dir fits.0)
+short_key (Rule n place r) fits = number_short 3 n
+short_key (Run n r) fits = number_short 4 n
+short_key (Owned p maker s) fits = omega (arith, path_short p fits.0)
+short_key (Create dir) fits = omega (arith, path_short dir fits.0)
+short_key (Modify n) fits = number_short 7 n
 
 short_change : (e : Edit) → HasSpelling e → HasShortKey (change_of e)
 short_change (Put r) fits = short_key r fits
@@ -84,6 +87,7 @@ short_kept test (e ∷ es) all =
     ]
 
 pub needed_short : (es : Standing) (edits : List Edit) → All HasSpelling edits → All HasShortKey (needed es (map change_of edits))
+unfolding IsStrictlySortedBy
 needed_short es edits spelled =
     All-from_recursion HasShortKey (needed es (map change_of edits))
     (short_kept (changes_it es) (entries (last_changes (map change_of edits)))

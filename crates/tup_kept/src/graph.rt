@@ -36,9 +36,11 @@ pub struct Graph {
 }
 
 impl Model for Graph {
-    ghost use Rattle.tup_kept.specs.Held.{Held, IsSound};
+    ghost use Rattle.tup_kept.specs.Held.{Held, IsSound, held_code};
 
     ghost Value = { Held };
+
+    ghost coded = { held_code };
 
     ghost view = { λ g. record { table = g.table; nodes = g.nodes; whole = g.whole } };
 
