@@ -22,8 +22,9 @@ pub record GraphStep (before after : GraphState) (v w : World) : Type 0 where
   pub tree : TreeStays v w
   pub store : HasEither before after w
 
--- Each world that a crash since the call began may leave has the graph before or the one after. For calls that began
--- earlier: all that this one adds to what a crash may leave is such a store beside a tree that a crash could leave before.
+-- Each world that a crash since the call began may leave has the graph before or the one after. For
+-- calls that began earlier: all that this one adds to what a crash may leave is such a store beside
+-- a tree that a crash could leave before.
 pub record LeavesEither {S : Type 0} (moment : S → ℕ) (left_since : S → ℕ → World → Type 0) (old new : S) (before after : GraphState) : Type 0 where
   pub only : LeavesOnly moment left_since old new (HasEither before after)
   pub on : GoesOn moment left_since old new (GraphStep before after)

@@ -9,7 +9,8 @@ use Rattle.tup_graph.specs.Graph.{GraphState}
 use Rattle.tup_graph.specs.contracts.nodes.Nodes as of_nodes
 use Rattle.tup_graph.specs.Opening.{IsGraphOf}
 
--- a table, the nodes, and whether these are whole; they aren't where memory was wanting while they took what the store had
+-- a table, the nodes, and whether these are whole; they aren't where memory was wanting while they
+-- took what the store had
 pub record Held : Type 0 where
   pub table : Table
   pub nodes : GraphState

@@ -19,15 +19,16 @@ closed gate bytes = take gate bytes ++ closed_end (drop gate bytes)
 abbrev pub opened_in : Held → Opened
 opened_in graph = record { entries = entries_in graph.table; gate = gate_of graph.table }
 
--- the bytes are a store, and among what its commits leave the first that is no record, or doesn't fit, is of this offset
+-- the bytes are a store, and among what its commits leave the first that is no record, or doesn't
+-- fit, is of this offset
 pub record HasBrokenRecord (bytes : List ℕ) (offset : ℕ) (left : List ℕ) : Type 0 where
   pub opened : Opened
   pub reads : ReadsAs bytes (Ok opened)
   pub broken : IsBroken opened.entries offset
   pub closes : left ≡ closed opened.gate bytes
 
--- What opening a store of these bytes answers, and the bytes that it leaves; a failure of the site and want of memory say
--- nothing of them. Only the end of a store whose commits read is written.
+-- What opening a store of these bytes answers, and the bytes that it leaves; a failure of the site
+-- and want of memory say nothing of them. Only the end of a store whose commits read is written.
 abbrev pub OpensAs : List ℕ → List ℕ → Result Held GraphFault → Type 0
 OpensAs bytes left (Ok graph) = ReadsAs bytes (Ok (opened_in graph)) × (left ≡ closed (gate_of graph.table) bytes)
 OpensAs bytes left (Err NotThere) = (bytes ≡ []) × (left ≡ bytes)

@@ -29,8 +29,9 @@ after graph edits nodes = record { table = with_changes graph.table (to_write gr
 abbrev pub IsFull : Held → List Edit → Type 0
 IsFull graph edits = (¬ All HasSpelling edits) ⊎ ((to_write graph edits ≢ []) × IsOver graph.table (to_write graph edits))
 
--- What a transaction with these edits, which leave these nodes, does to the graph and the site, by its answer. It writes
--- nothing where it changes nothing, where the store has no room, or where memory is wanting and the graph stays fresh.
+-- What a transaction with these edits, which leave these nodes, does to the graph and the site, by
+-- its answer. It writes nothing where it changes nothing, where the store has no room, or where
+-- memory is wanting and the graph stays fresh.
 abbrev pub Leaves : {S : Type 0} → List Edit → GraphState → Held → Held → S → S → Result (Unit {0}) GraphFault → Type 0
 Leaves edits nodes old new before now (Ok done) = (new ≡ after old edits nodes) × (to_write old edits ≡ [] → now ≡ before)
 Leaves edits nodes old new before now (Err Full) = IsFull old edits × (new ≡ old) × (now ≡ before)

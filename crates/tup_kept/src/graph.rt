@@ -1,5 +1,5 @@
 //! A graph over the store of a site.
-ghost use Rattle.std.specs.Prelude.{◌≡◌, ◌≢◌, ◌⊎◌, ◌++◌, ◌∷◌, ℕ, [], All, IsTrue, IfOk, IfErr, OnOk, Err};
+ghost use Rattle.std.specs.Prelude.{◌≡◌, ◌≢◌, ◌++◌, ◌∷◌, ℕ, [], All, IsTrue, IfOk, OnOk, Err};
 ghost use Rattle.tup_path.specs.Gives.{GivesUnless};
 ghost use Rattle.tup_site.specs.Crash.{GoesOn, WriteStep};
 ghost use Rattle.tup_site.specs.World.{TreeStays};
@@ -23,10 +23,12 @@ use tup_graph::{Edits, GraphFault, Nodes, changes, read_graph};
 use tup_site::Site;
 use tup_table::Table;
 
-/// What a store keeps of a project, in memory. Contracts see the table, the nodes, and whether these are whole.
+/// What a store keeps of a project, in memory. Contracts see the table, the nodes, and whether
+/// these are whole.
 ///
-/// A fresh graph stands for the bytes of its store, and a crash leaves just these. After a failure of the site, and after
-/// want of memory once something was written, it isn't fresh: its store is opened again.
+/// A fresh graph stands for the bytes of its store, and a crash leaves just these. After a failure
+/// of the site, and after want of memory once something was written, it isn't fresh: its store is
+/// opened again.
 #[derive(Drop)]
 pub struct Graph {
     pub(crate) table: Table,
@@ -48,8 +50,8 @@ impl Model for Graph {
 }
 
 impl Graph {
-    /// Makes a store of the empty graph where there is none, durably. A refusal, or a crash before the end, may leave any
-    /// bytes.
+    /// Makes a store of the empty graph where there is none, durably. A refusal, or a crash before
+    /// the end, may leave any bytes.
     pub fn make<S: Site>(alloc: Global, site: &mut S) -> Result<Graph, GraphFault>
         requires { IsTrue S.tells → (S.world site.old).store ≡ [] }
 
@@ -76,11 +78,12 @@ impl Graph {
         })
     }
 
-    /// Opens the store of a site: the graph that it stands for is what a crash leaves from then on. A gate that is missing
-    /// at the end of the store, or stands open there with nothing behind it, is written closed, and nothing else is.
+    /// Opens the store of a site: the graph that it stands for is what a crash leaves from then on.
+    /// A gate that is missing at the end of the store, or stands open there with nothing behind it,
+    /// is written closed, and nothing else is.
     ///
-    /// `BadStore` names the first commit that doesn't read, or else the one that put the first record, in the byte order of
-    /// keys, which isn't one or doesn't fit.
+    /// `BadStore` names the first commit that doesn't read, or else the one that put the first
+    /// record, in the byte order of keys, which isn't one or doesn't fit.
     pub fn open<S: Site>(alloc: Global, site: &mut S) -> Result<Graph, GraphFault>
         // The graph, `NotThere` and `BadStore` are by the bytes alone.
         ensures opens { IsTrue S.tells
@@ -123,8 +126,8 @@ impl Graph {
         self.whole && self.table.fresh()
     }
 
-    /// Makes edits that the store can take, in one commit of what they change; where they change nothing, nothing is
-    /// written.
+    /// Makes edits that the store can take, in one commit of what they change; where they change
+    /// nothing, nothing is written.
     pub(crate) fn commit_edits<S: Site>(
         &mut self,
         alloc: Global,

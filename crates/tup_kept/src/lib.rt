@@ -1,7 +1,7 @@
 //! The graph of a project over the store of a site.
 //!
-//! A `Graph` has the nodes that the store stands for, and each transaction commits what it changes: all of it or nothing,
-//! whenever a crash comes.
+//! A `Graph` has the nodes that the store stands for, and each transaction commits what it changes:
+//! all of it or nothing, whenever a crash comes.
 #![tactic(auto)]
 
 mod graph;

@@ -3,7 +3,8 @@ ghost use Rattle.std.specs.Prelude.{◌≡◌, true, All, IsTrue, Err};
 ghost use Rattle.tup_path.specs.Gives.{GivesUnless};
 ghost use Rattle.tup_site.specs.World.{TreeStays};
 ghost use Rattle.tup_graph.specs.Graph.{is_rule};
-ghost use Rattle.tup_graph.specs.Transactions.{begin_edits, begun, finish_edits, finished, doom_edits, with_doomed, forget_edits, with_forgotten, flag_edits, with_flagged};
+ghost use Rattle.tup_graph.specs.Transactions.{begin_edits, finish_edits, doom_edits, forget_edits, flag_edits};
+ghost use Rattle.tup_graph.specs.Transactions.{begun, finished, with_doomed, with_forgotten, with_flagged};
 ghost use Rattle.tup_kept.specs.Cause.{CountsFaults};
 ghost use Rattle.tup_kept.specs.Crash.{LeavesEither};
 ghost use Rattle.tup_kept.specs.Held.{is_fresh, StandsFor};
@@ -45,8 +46,8 @@ impl Graph {
         self.commit_edits(alloc, site, edits)
     }
 
-    /// A run of a rule ended well: what it wrote is written with these stamps and seen with them, the rule has this
-    /// record, and isn't flagged any more.
+    /// A run of a rule ended well: what it wrote is written with these stamps and seen with them,
+    /// the rule has this record, and isn't flagged any more.
     pub fn finish<S: Site>(
         &mut self,
         alloc: Global,
@@ -59,7 +60,8 @@ impl Graph {
             → StandsFor S.world S.moment S.left_since self.old site.old }
         requires rule { is_rule self.old.nodes rule ≡ true }
 
-        ensures leaves { Leaves (finish_edits self.old.nodes rule run) (finished self.old.nodes rule run)
+        ensures leaves { Leaves (finish_edits self.old.nodes rule run)
+            (finished self.old.nodes rule run)
             self.old self.new site.old site.new result }
         ensures full { IsFull self.old (finish_edits self.old.nodes rule run)
             → GivesUnless result GraphFault.Memory (Err GraphFault.Full) }
@@ -75,7 +77,8 @@ impl Graph {
         self.commit_edits(alloc, site, edits)
     }
 
-    /// The files at some owned paths are to go: those paths are unsure. A path that isn't owned is left.
+    /// The files at some owned paths are to go: those paths are unsure. A path that isn't owned is
+    /// left.
     pub fn doom<S: Site>(
         &mut self,
         alloc: Global,
@@ -86,7 +89,8 @@ impl Graph {
         requires stands { IsTrue S.tells
             → StandsFor S.world S.moment S.left_since self.old site.old }
 
-        ensures leaves { Leaves (doom_edits self.old.nodes paths.now) (with_doomed self.old.nodes paths.now)
+        ensures leaves { Leaves (doom_edits self.old.nodes paths.now)
+            (with_doomed self.old.nodes paths.now)
             self.old self.new site.old site.new result }
         ensures full { IsFull self.old (doom_edits self.old.nodes paths.now)
             → GivesUnless result GraphFault.Memory (Err GraphFault.Full) }
@@ -113,7 +117,8 @@ impl Graph {
         requires stands { IsTrue S.tells
             → StandsFor S.world S.moment S.left_since self.old site.old }
 
-        ensures leaves { Leaves (forget_edits self.old.nodes paths.now) (with_forgotten self.old.nodes paths.now)
+        ensures leaves { Leaves (forget_edits self.old.nodes paths.now)
+            (with_forgotten self.old.nodes paths.now)
             self.old self.new site.old site.new result }
         ensures full { IsFull self.old (forget_edits self.old.nodes paths.now)
             → GivesUnless result GraphFault.Memory (Err GraphFault.Full) }

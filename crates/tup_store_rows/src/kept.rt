@@ -13,8 +13,8 @@ use tup_kept::Graph;
 use tup_rows::{Answers, RowFault, Words};
 use tup_site::{MemSite, Site};
 
-/// How many calls a site has answered when a graph of it makes a transaction: the store is written and synced, and then
-/// synced, measured and read.
+/// How many calls a site has answered when a graph of it makes a transaction: the store is written
+/// and synced, and then synced, measured and read.
 const BEFORE_A_TRANSACTION: u64 = 5;
 
 /// Transactions on graphs over sites in memory, whose store and failures are set by rows.
@@ -36,6 +36,7 @@ impl Answers for KeptGraphs {
 }
 
 impl KeptGraphs {
+    /// No store, and no call fails.
     pub fn new(alloc: Global) -> KeptGraphs {
         KeptGraphs {
             store: Vec::new(alloc),
@@ -43,11 +44,13 @@ impl KeptGraphs {
         }
     }
 
+    /// The store of the rows below: one commit, which puts keys and values.
     fn set_store(&mut self, alloc: Global, said: &Words) -> Words {
         self.store = store(alloc, said, said.as_slice());
         Words::shown(alloc, &self.store.len())
     }
 
+    /// The calls that fail in the rows below.
     fn set_fails(&mut self, alloc: Global, said: &Words) -> Words {
         let mut fails = Vec::new(alloc);
         for at in 0..said.len() {
@@ -82,11 +85,7 @@ fn behind(alloc: Global, said: &Words, numbers: &[u64], calls: u64) -> Vec<u64> 
 
 /// The graph of a store that was made.
 fn make(alloc: Global, said: &Words, fails: &[u64]) -> Words {
-    match MemSite::new(
-        alloc,
-        Vec::new(alloc),
-        behind(alloc, said, fails, 0),
-    ) {
+    match MemSite::new(alloc, Vec::new(alloc), behind(alloc, said, fails, 0)) {
         Ok(mut site) => match Graph::make(alloc, &mut site) {
             Ok(graph) => with_graph(alloc, Words::new(alloc), &graph, &mut site),
             Err(fault) => refused(alloc, fault),
@@ -130,6 +129,7 @@ fn made<S: Site>(
     }
 }
 
+/// Begins the run of a rule.
 fn begin<S: Site>(
     alloc: Global,
     said: &Words,
@@ -147,6 +147,7 @@ fn begin<S: Site>(
     Ok(graph.begin(alloc, site, rule))
 }
 
+/// Ends the run of a rule well.
 fn finish<S: Site>(
     alloc: Global,
     said: &Words,
@@ -167,6 +168,7 @@ fn finish<S: Site>(
     }
 }
 
+/// Flags rules.
 fn flag<S: Site>(
     alloc: Global,
     said: &Words,
@@ -208,7 +210,8 @@ fn add_end(alloc: Global, words: &mut Words, ended: Result<Result<(), GraphFault
     }
 }
 
-/// The words, whether a graph stands for the store of its site, and the graph that another opening reads there.
+/// The words, whether a graph stands for the store of its site, and the graph that another opening
+/// reads there.
 fn with_graph(alloc: Global, mut words: Words, graph: &Graph, site: &mut MemSite) -> Words {
     match Graph::open(alloc, site) {
         Ok(again) => {
@@ -231,6 +234,7 @@ fn standing(alloc: Global, graph: &Graph, again: &Graph) -> &'static str {
     }
 }
 
+/// The words of a graph.
 fn said_of(alloc: Global, graph: &Graph) -> Words {
     let mut words = Words::new(alloc);
     graph.nodes().say(alloc, &mut words);
