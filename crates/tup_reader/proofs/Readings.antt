@@ -29,19 +29,19 @@ said {before = before} {after = after} reads went empty tells =
     subst (λ a. Says a after.log) (went.same tells) (went.says tells nothing)
 
 -- ---- the end without rules
-pub ended_reading : (dir : Names) (log : Log) (end : ReadEnd) → Comes [] (reading dir) log (Err end) → IsReading dir (Err end)
-ended_reading dir log (Fault fault) comes = (log, comes)
-ended_reading dir log Stopped (question, halts) = (log, question, halts)
-ended_reading dir log Memory comes = tt
+pub ended_reading : (IsTold : Log → Type 0) (dir : Names) (after : Asker) (end : ReadEnd) → IsTold after.log → Comes [] (reading dir) after (Err end) → IsReading IsTold dir after.stopped (Err end)
+ended_reading IsTold dir after (Fault fault) told comes = (after.log, told, comes)
+ended_reading IsTold dir after Stopped told (question, at, halts) = (after.log, told, question, at, halts)
+ended_reading IsTold dir after Memory told comes = tt
 
-pub ended_agrees : (answers : Question → Told) (reads : Reads ParseFault (List Draft)) (log : Log) (end : ReadEnd) → Comes [] reads log (Err end) → Says answers log → Agrees answers reads (Err end)
-ended_agrees answers reads log (Fault fault) comes says = ran_outcome [] log reads (Err fault) answers comes says
-ended_agrees answers reads log Stopped (question, halts) says = (log, question, halts, says)
-ended_agrees answers reads log Memory comes says = tt
+pub ended_agrees : (answers : Question → Told) (reads : Reads ParseFault (List Draft)) (after : Asker) (end : ReadEnd) → Comes [] reads after (Err end) → Says answers after.log → Agrees answers reads (Err end)
+ended_agrees answers reads after (Fault fault) comes says = ran_outcome [] after.log reads (Err fault) answers comes says
+ended_agrees answers reads after Stopped (question, at, halts) says = (after.log, question, halts, says)
+ended_agrees answers reads after Memory comes says = tt
 
 -- ---- the rules
-pub kept_reading : (dir : Names) (log : Log) (kept : Reading) → Comes [] (reading dir) log (Ok kept.drafts) → kept.asked ≡ noted_log log → IsReading dir (Ok kept)
-kept_reading dir log kept comes asked = (log, comes, asked)
+pub kept_reading : (IsTold : Log → Type 0) (dir : Names) (after : Asker) (kept : Reading) → IsTold after.log → Comes [] (reading dir) after (Ok kept.drafts) → kept.asked ≡ noted_log after.log → IsReading IsTold dir after.stopped (Ok kept)
+kept_reading IsTold dir after kept told comes asked = (after.log, told, comes, asked)
 
 -- what was kept is what was told, noted
 kept_told : (log : Log) (question : Question) → lookup (same_question question) (noted_log log) ≡ option_map noted (told_before log question)
@@ -60,7 +60,7 @@ keeps answers log says question told e = by (told_before log question) refl (sym
     by None is e = absurd (cc)
     by (Some before) is e = let same : noted before ≡ told = cc in sym same ∙ ap noted (sym (says question before is))
 
-pub kept_agrees : (answers : Question → Told) (reads : Reads ParseFault (List Draft)) (log : Log) (kept : Reading) → Comes [] reads log (Ok kept.drafts) → kept.asked ≡ noted_log log → Says answers log
+pub kept_agrees : (answers : Question → Told) (reads : Reads ParseFault (List Draft)) (log : Log) (kept : Reading) → Ran [] reads log (Ok kept.drafts) → kept.asked ≡ noted_log log → Says answers log
     → Agrees answers reads (Ok kept)
 kept_agrees answers reads log kept comes asked says =
     (ran_outcome [] log reads (Ok kept.drafts) answers comes says, subst (λ (a : List (Question × Noted)). KeepsAnswers answers a) (sym asked) (keeps answers log says))

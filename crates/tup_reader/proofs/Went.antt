@@ -1,5 +1,5 @@
 -- Calls of the reader, one behind another.
-use Rattle.std.proofs.Common.{◌≡◌, ◌⊎◌, inl, inr, Bool, false, IsTrue, Result, Ok, Err, refl, sym, ap, ◌∙◌, subst}
+use Rattle.std.proofs.Common.{◌≡◌, ◌⊎◌, inl, inr, Bool, false, IsTrue, is_some, Result, Ok, Err, refl, sym, ap, ◌∙◌, subst}
 use Rattle.tup_lex.specs.declared.kind.ParseKind.{ParseKind}
 use Rattle.tup_reader.specs.declared.fault.ReadEnd.{ReadEnd}
 use Rattle.tup_reader.specs.declared.fault.ReadEnd.TheVariants.{Fault, Stopped, Memory}
@@ -10,17 +10,17 @@ use Rattle.tup_reader.specs.Spot.{Spot, refused}
 use Rattle.tup_reader.specs.Went.{Asker, Comes, Went, Gives, IsRefusal, is_stopped}
 use Rattle.tup_reader.proofs.Runs.{ran_then, ran_refused, halts_then, halts_before}
 
-comes_then : {A B : Type 0} (log mid after : Log) (reads : Reads ParseFault A) (next : A → Reads ParseFault B) (value : A) (end : Result B ReadEnd)
-    → Comes log reads mid (Ok value) → Comes mid (next value) after end → Comes log (and_then reads next) after end
-comes_then log mid after reads next value (Ok given) first second = ran_then log mid after reads next value (Ok given) first second
-comes_then log mid after reads next value (Err (Fault fault)) first second = ran_then log mid after reads next value (Err fault) first second
-comes_then log mid after reads next value (Err Stopped) first (question, halts) = (question, halts_then log mid after reads next value question first halts)
+comes_then : {A B : Type 0} (log mid : Log) (after : Asker) (reads : Reads ParseFault A) (next : A → Reads ParseFault B) (value : A) (end : Result B ReadEnd)
+    → Ran log reads mid (Ok value) → Comes mid (next value) after end → Comes log (and_then reads next) after end
+comes_then log mid after reads next value (Ok given) first second = ran_then log mid after.log reads next value (Ok given) first second
+comes_then log mid after reads next value (Err (Fault fault)) first second = ran_then log mid after.log reads next value (Err fault) first second
+comes_then log mid after reads next value (Err Stopped) first (question, at, halts) = (question, at, halts_then log mid after.log reads next value question first halts)
 comes_then log mid after reads next value (Err Memory) first second = tt
 
-comes_ended : {A B : Type 0} (log after : Log) (reads : Reads ParseFault A) (next : A → Reads ParseFault B) (end : ReadEnd)
+comes_ended : {A B : Type 0} (log : Log) (after : Asker) (reads : Reads ParseFault A) (next : A → Reads ParseFault B) (end : ReadEnd)
     → Comes log reads after (Err end) → Comes log (and_then reads next) after (Err end)
-comes_ended log after reads next (Fault fault) first = ran_refused log after reads next fault first
-comes_ended log after reads next Stopped (question, halts) = (question, halts_before log after reads next question halts)
+comes_ended log after reads next (Fault fault) first = ran_refused log after.log reads next fault first
+comes_ended log after reads next Stopped (question, at, halts) = (question, at, halts_before log after.log reads next question halts)
 comes_ended log after reads next Memory first = tt
 
 pub still : (A B : Type 0) (end : ReadEnd) → is_stopped {A = A} (Err end) ≡ is_stopped {A = B} (Err end)
@@ -32,7 +32,7 @@ still A B Memory = refl
 pub went_then : {A B : Type 0} {tells : Bool} {before mid after : Asker} {reads : Reads ParseFault A} {value : A} {end : Result B ReadEnd} (next : A → Reads ParseFault B)
     → Went tells before reads mid (Ok value) → Went tells mid (next value) after end → Went tells before (and_then reads next) after end
 went_then {before = before} {mid = mid} {after = after} {reads = reads} {value = value} {end = end} next first second = record {
-  comes = comes_then before.log mid.log after.log reads next value end first.comes second.comes;
+  comes = comes_then before.log mid.log after reads next value end first.comes second.comes;
   stopped = second.stopped;
   same = λ tells. second.same tells ∙ first.same tells;
   says = λ tells says. second.says tells (first.says tells says);
@@ -42,7 +42,7 @@ went_then {before = before} {mid = mid} {after = after} {reads = reads} {value =
 pub went_err : {A B : Type 0} {tells : Bool} {before after : Asker} {reads : Reads ParseFault A} {end : ReadEnd} (next : A → Reads ParseFault B)
     → Went tells before reads after (Err end) → Went tells before (and_then reads next) after (Err end)
 went_err {A} {B} {before = before} {after = after} {reads = reads} {end = end} next first = record {
-  comes = comes_ended before.log after.log reads next end first.comes;
+  comes = comes_ended before.log after reads next end first.comes;
   stopped = first.stopped ∙ still A B end;
   same = first.same;
   says = first.says;
@@ -53,15 +53,15 @@ pub went_memory : {A B : Type 0} {tells : Bool} {before after : Asker} {reads : 
     → Went tells before reads after (Ok value) → Went tells before all after (Err Memory)
 went_memory all first = record { comes = tt; stopped = first.stopped; same = first.same; says = first.says }
 
-pub went_nowhere : {B : Type 0} (tells : Bool) (before : Asker) (all : Reads ParseFault B) → before.stopped ≡ false → Went tells before all before (Err Memory)
+pub went_nowhere : {B : Type 0} (tells : Bool) (before : Asker) (all : Reads ParseFault B) → is_some before.stopped ≡ false → Went tells before all before (Err Memory)
 went_nowhere tells before all on = record { comes = tt; stopped = on; same = λ tells. refl; says = λ tells says. says }
 
 -- a call that asks nothing
-comes_given : {A : Type 0} (log : Log) (reads : Reads ParseFault A) (end : Result A ReadEnd) → Gives reads end → Comes log reads log end
-comes_given log reads (Ok value) is = subst (λ r. Ran log r log (Ok value)) (sym is) (refl, refl)
-comes_given log reads (Err (Fault fault)) is = subst (λ r. Ran log r log (Err fault)) (sym is) (refl, refl)
-comes_given log reads (Err Stopped) is = absurd is
-comes_given log reads (Err Memory) is = tt
+comes_given : {A : Type 0} (before : Asker) (reads : Reads ParseFault A) (end : Result A ReadEnd) → Gives reads end → Comes before.log reads before end
+comes_given before reads (Ok value) is = subst (λ r. Ran before.log r before.log (Ok value)) (sym is) (refl, refl)
+comes_given before reads (Err (Fault fault)) is = subst (λ r. Ran before.log r before.log (Err fault)) (sym is) (refl, refl)
+comes_given before reads (Err Stopped) is = absurd is
+comes_given before reads (Err Memory) is = tt
 
 on_given : {A : Type 0} (reads : Reads ParseFault A) (end : Result A ReadEnd) → Gives reads end → is_stopped end ≡ false
 on_given reads (Ok value) is = refl
@@ -69,15 +69,15 @@ on_given reads (Err (Fault fault)) is = refl
 on_given reads (Err Stopped) is = absurd is
 on_given reads (Err Memory) is = refl
 
-pub went_given : {A : Type 0} (tells : Bool) (before : Asker) (reads : Reads ParseFault A) (end : Result A ReadEnd) → before.stopped ≡ false → Gives reads end → Went tells before reads before end
+pub went_given : {A : Type 0} (tells : Bool) (before : Asker) (reads : Reads ParseFault A) (end : Result A ReadEnd) → is_some before.stopped ≡ false → Gives reads end → Went tells before reads before end
 went_given tells before reads end on is = record {
-  comes = comes_given before.log reads end is;
+  comes = comes_given before reads end is;
   stopped = on ∙ sym (on_given reads end is);
   same = λ tells. refl;
   says = λ tells says. says;
 }
 
-pub went_gives : {A : Type 0} (tells : Bool) (before : Asker) (value : A) → before.stopped ≡ false → Went tells before (gives value) before (Ok value)
+pub went_gives : {A : Type 0} (tells : Bool) (before : Asker) (value : A) → is_some before.stopped ≡ false → Went tells before (gives value) before (Ok value)
 went_gives tells before value on = went_given tells before (gives value) (Ok value) on refl
 
 -- refusals
@@ -85,7 +85,7 @@ pub gives_refusal : (A : Type 0) (at : Spot) (kind : ParseKind) (end : ReadEnd) 
 gives_refusal A at kind end (inl e) = subst (λ (r : ReadEnd). Gives {A = A} (refused at kind) (Err r)) (sym e) tt
 gives_refusal A at kind end (inr e) = subst (λ (r : ReadEnd). Gives {A = A} (refused at kind) (Err r)) (sym e) refl
 
-pub went_refuses : {A : Type 0} (tells : Bool) (before : Asker) (at : Spot) (kind : ParseKind) (end : ReadEnd) → before.stopped ≡ false → IsRefusal at kind end → Went {A = A} tells before (refused at kind) before (Err end)
+pub went_refuses : {A : Type 0} (tells : Bool) (before : Asker) (at : Spot) (kind : ParseKind) (end : ReadEnd) → is_some before.stopped ≡ false → IsRefusal at kind end → Went {A = A} tells before (refused at kind) before (Err end)
 went_refuses {A} tells before at kind end on is = went_given tells before (refused at kind) (Err end) on (gives_refusal A at kind end is)
 
 -- one that stands where a process ends with a fault, or memory is wanting
@@ -104,7 +104,7 @@ unfolding and_then
 went_ok {tells = tells} {before = before} {after = after} {end = end} reads next is went = subst (λ r. Went tells before (and_then r next) after end) (sym is) went
 
 pub went_bad : {A B : Type 0} (tells : Bool) (before : Asker) (reads : Reads ParseFault A) (next : A → Reads ParseFault B) (end : ReadEnd)
-    → before.stopped ≡ false → Gives reads (Err end) → Went tells before (and_then reads next) before (Err end)
+    → is_some before.stopped ≡ false → Gives reads (Err end) → Went tells before (and_then reads next) before (Err end)
 went_bad tells before reads next end on is = went_err next (went_given tells before reads (Err end) on is)
 
 -- ---- calls that ask nothing, one behind another

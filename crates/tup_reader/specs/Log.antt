@@ -1,5 +1,5 @@
 -- What a reading asked and was told, each question once (own), and what it comes to by that alone.
-use Rattle.std.specs.Prelude.{◌≡◌, ◌⊎◌, ℕ, Bool, true, false, List, [], ◌∷◌, ◌++◌, Option, Some, None, Result, map, bytes_eq}
+use Rattle.std.specs.Prelude.{◌≡◌, ◌⊎◌, ℕ, Bool, true, false, List, [], ◌∷◌, ◌++◌, IsTrue, Option, Some, None, Result, Ok, Err, map, bytes_eq}
 use Rattle.std.specs.Map.{lookup}
 use Rattle.tup_path.specs.Order.{same_path}
 use Rattle.tup_rule.specs.declared.question.Question.{Question}
@@ -29,6 +29,16 @@ fits (question.Config name) (told.Config value) = true
 fits (question.Names dir) (told.Names names) = true
 fits (question.Kind path) (told.Kind kind) = true
 fits _ _ = false
+
+-- one who answers has stopped at this question
+abbrev pub StopsAt : Option (Question → Bool) → Question → Type 0
+StopsAt None question = ⊥
+StopsAt (Some at) question = IsTrue (at question)
+
+-- one who answers has stopped just where a question isn't answered, and at this one
+abbrev pub IsStop : {A F : Type 0} → Question → Option (Question → Bool) → Result A F → Type 0
+IsStop question stopped (Ok told) = stopped ≡ None
+IsStop question stopped (Err stop) = StopsAt stopped question
 
 -- what was told to a question before
 abbrev pub told_before : Log → Question → Option Told

@@ -1,5 +1,5 @@
 -- What the reading of a folder's Tupfile leaves (own).
-use Rattle.std.specs.Prelude.{◌≡◌, List, [], Some, Result, Ok, Err}
+use Rattle.std.specs.Prelude.{◌≡◌, Bool, IsTrue, List, [], Option, Some, Result, Ok, Err}
 use Rattle.std.specs.Map.{lookup}
 use Rattle.tup_path.specs.Name.{Names}
 use Rattle.tup_rule.specs.declared.draft.Draft.{Draft}
@@ -12,16 +12,21 @@ use Rattle.tup_reader.specs.declared.fault.ParseFault.{ParseFault}
 use Rattle.tup_reader.specs.declared.fault.ReadEnd.{ReadEnd}
 use Rattle.tup_reader.specs.declared.fault.ReadEnd.TheVariants.{Fault, Stopped, Memory}
 use Rattle.tup_reader.specs.Reads.{Reads, outcome}
-use Rattle.tup_reader.specs.Log.{Log, same_question, Ran, Halts, Says, noted_log}
+use Rattle.tup_reader.specs.Log.{Log, same_question, Ran, Halts, StopsAt, Says, noted_log}
 use Rattle.tup_reader.specs.Reading.{reading}
 
--- from the empty log the reading runs to these rules, or to this fault, and the log with its contents by their stamps is
--- what is kept; or it stands at a question that isn't answered
-abbrev pub IsReading : Names → Result Reading ReadEnd → Type 0
-IsReading dir (Ok left) = (log : Log) × Ran [] (reading dir) log (Ok left.drafts) × (left.asked ≡ noted_log log)
-IsReading dir (Err (Fault fault)) = (log : Log) × Ran [] (reading dir) log (Err fault)
-IsReading dir (Err Stopped) = (log : Log) × (question : Question) × Halts [] (reading dir) log question
-IsReading dir (Err Memory) = Unit {0}
+-- what was told is what this one answers, where it tells
+abbrev pub IsToldBy : Bool → (Question → Told) → Log → Type 0
+IsToldBy tells answers log = IsTrue tells → Says answers log
+
+-- from the empty log, with what was told so, the reading runs to these rules, and the log with its contents by their
+-- stamps is what is kept; or it runs to this fault; or it stands at the question at which who answers has stopped
+abbrev pub IsReading : (Log → Type 0) → Names → Option (Question → Bool) → Result Reading ReadEnd → Type 0
+IsReading IsTold dir stopped (Ok left) = (log : Log) × IsTold log × Ran [] (reading dir) log (Ok left.drafts) × (left.asked ≡ noted_log log)
+IsReading IsTold dir stopped (Err (Fault fault)) = (log : Log) × IsTold log × Ran [] (reading dir) log (Err fault)
+IsReading IsTold dir stopped (Err Stopped) =
+    (log : Log) × IsTold log × (question : Question) × StopsAt stopped question × Halts [] (reading dir) log question
+IsReading IsTold dir stopped (Err Memory) = Unit {0}
 
 -- each question is kept with what is answered to it
 abbrev pub KeepsAnswers : (Question → Told) → List (Question × Noted) → Type 0

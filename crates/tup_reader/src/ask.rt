@@ -1,5 +1,5 @@
 //! Questions, each asked once.
-ghost use Rattle.std.specs.Prelude.{◌≡◌, false, option_map};
+ghost use Rattle.std.specs.Prelude.{◌≡◌, false, option_map, is_some};
 ghost use Rattle.tup_reader.specs.Ask as specs;
 ghost use Rattle.tup_reader.specs.Log.{same_question, told_before as before};
 ghost use Rattle.tup_reader.specs.Went.{Went, asker};
@@ -20,7 +20,7 @@ pub(crate) fn ask<E: Env>(
     log: &mut Log,
     question: Question,
 ) -> Result<Told, ReadEnd>
-    requires { E.stopped env.old ≡ false }
+    requires { is_some (E.stopped env.old) ≡ false }
     ensures { Went E.tells (asker (E.answers env.old) (E.stopped env.old) log.old)
         (specs.asks question)
         (asker (E.answers env.new) (E.stopped env.new) log.new) result }
@@ -65,7 +65,7 @@ pub(crate) fn content_at<E: Env>(
     log: &mut Log,
     path: &Path,
 ) -> Result<Option<Bytes>, ReadEnd>
-    requires { E.stopped env.old ≡ false }
+    requires { is_some (E.stopped env.old) ≡ false }
     ensures { Went E.tells (asker (E.answers env.old) (E.stopped env.old) log.old)
         (specs.content_at path.now)
         (asker (E.answers env.new) (E.stopped env.new) log.new) result }
@@ -82,7 +82,7 @@ pub(crate) fn setting_of<E: Env>(
     log: &mut Log,
     name: &Text,
 ) -> Result<Option<Text>, ReadEnd>
-    requires { E.stopped env.old ≡ false }
+    requires { is_some (E.stopped env.old) ≡ false }
     ensures { Went E.tells (asker (E.answers env.old) (E.stopped env.old) log.old)
         (specs.setting_of name.now)
         (asker (E.answers env.new) (E.stopped env.new) log.new) result }
@@ -99,7 +99,7 @@ pub(crate) fn names_at<E: Env>(
     log: &mut Log,
     dir: &Path,
 ) -> Result<Texts, ReadEnd>
-    requires { E.stopped env.old ≡ false }
+    requires { is_some (E.stopped env.old) ≡ false }
     ensures { Went E.tells (asker (E.answers env.old) (E.stopped env.old) log.old)
         (specs.names_at dir.now)
         (asker (E.answers env.new) (E.stopped env.new) log.new) result }
@@ -116,7 +116,7 @@ pub(crate) fn kind_at<E: Env>(
     log: &mut Log,
     path: &Path,
 ) -> Result<Kind, ReadEnd>
-    requires { E.stopped env.old ≡ false }
+    requires { is_some (E.stopped env.old) ≡ false }
     ensures { Went E.tells (asker (E.answers env.old) (E.stopped env.old) log.old)
         (specs.kind_at path.now)
         (asker (E.answers env.new) (E.stopped env.new) log.new) result }

@@ -1,5 +1,5 @@
 //! The commands of a rule line, one after another.
-ghost use Rattle.std.specs.Prelude.{◌≡◌, false, IfOk, OnOk, fold, bytes_eq};
+ghost use Rattle.std.specs.Prelude.{◌≡◌, false, IfOk, OnOk, fold, bytes_eq, is_some};
 ghost use Rattle.tup_macro.specs.Gifts.{with_gift};
 ghost use Rattle.tup_reader.specs.Job as specs;
 ghost use Rattle.tup_reader.specs.Output.{from_outputs};
@@ -33,7 +33,7 @@ pub(crate) fn with_jobs<E: Env>(
     state: State,
     jobs: &[Job],
 ) -> Result<State, ReadEnd>
-    requires { E.stopped env.old ≡ false }
+    requires { is_some (E.stopped env.old) ≡ false }
     ensures { Went E.tells (asker (E.answers env.old) (E.stopped env.old) log.old)
         (specs.with_jobs at.now words.now sources.now state jobs.now)
         (asker (E.answers env.new) (E.stopped env.new) log.new) result }
@@ -56,7 +56,7 @@ fn with_job<E: Env>(
     state: State,
     job: &Job,
 ) -> Result<State, ReadEnd>
-    requires { E.stopped env.old ≡ false }
+    requires { is_some (E.stopped env.old) ≡ false }
     ensures { Went E.tells (asker (E.answers env.old) (E.stopped env.old) log.old)
         (specs.with_job at.now words.now sources.now state job.now)
         (asker (E.answers env.new) (E.stopped env.new) log.new) result }
@@ -89,7 +89,7 @@ fn outputs_of<E: Env>(
     drafts: &[Draft],
     job: &Job,
 ) -> Result<Outputs, ReadEnd>
-    requires { E.stopped env.old ≡ false }
+    requires { is_some (E.stopped env.old) ≡ false }
     ensures { Went E.tells (asker (E.answers env.old) (E.stopped env.old) log.old)
         (specs.outputs_of at.now words.now sources.now drafts.now job.now)
         (asker (E.answers env.new) (E.stopped env.new) log.new) result }
@@ -122,7 +122,7 @@ fn named_outputs<E: Env>(
     known: &Paths,
     named: &[Text],
 ) -> Result<Paths, ReadEnd>
-    requires { E.stopped env.old ≡ false }
+    requires { is_some (E.stopped env.old) ≡ false }
     ensures { Went E.tells (asker (E.answers env.old) (E.stopped env.old) log.old)
         (from_outputs at.now
         (specs.flag_parts at.now words.now.foreach sources.now job.now known.now place)

@@ -1,5 +1,5 @@
 //! What conditionals test.
-ghost use Rattle.std.specs.Prelude.{◌≡◌, false, option_map};
+ghost use Rattle.std.specs.Prelude.{◌≡◌, false, option_map, is_some};
 ghost use Rattle.tup_reader.specs.Conditional as specs;
 ghost use Rattle.tup_reader.specs.Went.{Went, asker};
 
@@ -25,7 +25,7 @@ pub(crate) fn compares<E: Env>(
     alike: bool,
     text: &str,
 ) -> Result<bool, ReadEnd>
-    requires { E.stopped env.old ≡ false }
+    requires { is_some (E.stopped env.old) ≡ false }
     ensures { Went E.tells (asker (E.answers env.old) (E.stopped env.old) log.old)
         (specs.compares at.now variables.now alike text.now)
         (asker (E.answers env.new) (E.stopped env.new) log.new) result }
@@ -47,7 +47,7 @@ fn compared<E: Env>(
     left: &str,
     right: &str,
 ) -> Result<bool, ReadEnd>
-    requires { E.stopped env.old ≡ false }
+    requires { is_some (E.stopped env.old) ≡ false }
     ensures { Went E.tells (asker (E.answers env.old) (E.stopped env.old) log.old)
         (specs.compared at.now variables.now alike left.now right.now)
         (asker (E.answers env.new) (E.stopped env.new) log.new) result }
@@ -66,7 +66,7 @@ pub(crate) fn looked_up<E: Env>(
     wanted: bool,
     name: &str,
 ) -> Result<bool, ReadEnd>
-    requires { E.stopped env.old ≡ false }
+    requires { is_some (E.stopped env.old) ≡ false }
     ensures { Went E.tells (asker (E.answers env.old) (E.stopped env.old) log.old)
         (specs.looked_up at.now wanted name.now)
         (asker (E.answers env.new) (E.stopped env.new) log.new) result }

@@ -1,5 +1,5 @@
 //! The files that a reading opens.
-ghost use Rattle.std.specs.Prelude.{◌≡◌, ◌++◌, ◌∷◌, [], false, IfOk, option_map};
+ghost use Rattle.std.specs.Prelude.{◌≡◌, ◌++◌, ◌∷◌, [], false, IfOk, option_map, is_some};
 ghost use Rattle.tup_reader.specs.File as specs;
 ghost use Rattle.tup_reader.specs.Went.{Went, asker, Gives};
 
@@ -30,7 +30,7 @@ fn held_at<E: Env>(
     log: &mut Log,
     path: Path,
 ) -> Result<Option<Held>, ReadEnd>
-    requires { E.stopped env.old ≡ false }
+    requires { is_some (E.stopped env.old) ≡ false }
     ensures { Went E.tells (asker (E.answers env.old) (E.stopped env.old) log.old)
         (specs.held_at path)
         (asker (E.answers env.new) (E.stopped env.new) log.new) result }
@@ -57,7 +57,7 @@ pub(crate) fn held_in<E: Env>(
     dir: &Path,
     name: &str,
 ) -> Result<Option<Held>, ReadEnd>
-    requires { E.stopped env.old ≡ false }
+    requires { is_some (E.stopped env.old) ≡ false }
     ensures { Went E.tells (asker (E.answers env.old) (E.stopped env.old) log.old)
         (specs.held_in dir.now name.now)
         (asker (E.answers env.new) (E.stopped env.new) log.new) result }
@@ -90,7 +90,7 @@ pub(crate) fn included_file<E: Env>(
     variables: &Vars,
     text: &str,
 ) -> Result<Held, ReadEnd>
-    requires { E.stopped env.old ≡ false }
+    requires { is_some (E.stopped env.old) ≡ false }
     ensures { Went E.tells (asker (E.answers env.old) (E.stopped env.old) log.old)
         (specs.included_file at.now variables.now text.now)
         (asker (E.answers env.new) (E.stopped env.new) log.new) result }
@@ -116,7 +116,7 @@ fn named_file<E: Env>(
     at: &Spot,
     path: Path,
 ) -> Result<Held, ReadEnd>
-    requires { E.stopped env.old ≡ false }
+    requires { is_some (E.stopped env.old) ≡ false }
     ensures { Went E.tells (asker (E.answers env.old) (E.stopped env.old) log.old)
         (specs.named_file at.now path)
         (asker (E.answers env.new) (E.stopped env.new) log.new) result }

@@ -1,5 +1,5 @@
 //! The files that a glob gives.
-ghost use Rattle.std.specs.Prelude.{◌≡◌, ◌≤◌, ◌++◌, ◌∷◌, [], false, IfOk, IfSome, OnOk, fold, length, option_map};
+ghost use Rattle.std.specs.Prelude.{◌≡◌, ◌≤◌, ◌++◌, ◌∷◌, [], false, IfOk, IfSome, OnOk, fold, length, option_map, is_some};
 ghost use Rattle.std.specs.BTreeSet.{insert_key};
 ghost use Rattle.std.specs.List.{filter_map};
 ghost use Rattle.std.specs.Result.{result_ok};
@@ -52,7 +52,7 @@ pub(crate) fn globbed<E: Env>(
     drafts: &[Draft],
     word: &Text,
 ) -> Result<Found, ReadEnd>
-    requires { E.stopped env.old ≡ false }
+    requires { is_some (E.stopped env.old) ≡ false }
     ensures { Went E.tells (asker (E.answers env.old) (E.stopped env.old) log.old)
         (specs.globbed at.now drafts.now word.now)
         (asker (E.answers env.new) (E.stopped env.new) log.new) result }
@@ -93,7 +93,7 @@ fn matched_in<E: Env>(
     glob: &Glob,
     dir: &Path,
 ) -> Result<Found, ReadEnd>
-    requires { E.stopped env.old ≡ false }
+    requires { is_some (E.stopped env.old) ≡ false }
     ensures { Went E.tells (asker (E.answers env.old) (E.stopped env.old) log.old)
         (specs.matched_in drafts.now glob.now dir.now)
         (asker (E.answers env.new) (E.stopped env.new) log.new) result }

@@ -1,5 +1,5 @@
 //! The input words of a rule.
-ghost use Rattle.std.specs.Prelude.{◌≡◌, ◌||◌, false, None, IfOk, map as map_list};
+ghost use Rattle.std.specs.Prelude.{◌≡◌, ◌||◌, false, None, IfOk, map as map_list, is_some};
 ghost use Rattle.tup_reader.specs.State as made;
 ghost use Rattle.tup_reader.specs.Found.{input, nothing_found};
 ghost use Rattle.tup_reader.specs.Input as specs;
@@ -31,7 +31,7 @@ pub(crate) fn from_words<E: Env>(
     state: &State,
     words: &[Text],
 ) -> Result<Found, ReadEnd>
-    requires { E.stopped env.old ≡ false }
+    requires { is_some (E.stopped env.old) ≡ false }
     ensures { Went E.tells (asker (E.answers env.old) (E.stopped env.old) log.old)
         (specs.from_words at.now state.now nothing_found words.now)
         (asker (E.answers env.new) (E.stopped env.new) log.new) result }
@@ -53,7 +53,7 @@ fn from_word<E: Env>(
     state: &State,
     word: &Text,
 ) -> Result<Found, ReadEnd>
-    requires { E.stopped env.old ≡ false }
+    requires { is_some (E.stopped env.old) ≡ false }
     ensures { Went E.tells (asker (E.answers env.old) (E.stopped env.old) log.old)
         (specs.from_word at.now state.now word.now)
         (asker (E.answers env.new) (E.stopped env.new) log.new) result }
@@ -73,7 +73,7 @@ fn from_other<E: Env>(
     drafts: &[Draft],
     word: &Text,
 ) -> Result<Found, ReadEnd>
-    requires { E.stopped env.old ≡ false }
+    requires { is_some (E.stopped env.old) ≡ false }
     ensures { Went E.tells (asker (E.answers env.old) (E.stopped env.old) log.old)
         (specs.from_other at.now drafts.now word.now)
         (asker (E.answers env.new) (E.stopped env.new) log.new) result }
@@ -138,7 +138,7 @@ fn from_files<E: Env>(
     drafts: &[Draft],
     word: &Text,
 ) -> Result<Found, ReadEnd>
-    requires { E.stopped env.old ≡ false }
+    requires { is_some (E.stopped env.old) ≡ false }
     ensures { Went E.tells (asker (E.answers env.old) (E.stopped env.old) log.old)
         (specs.from_files at.now drafts.now word.now)
         (asker (E.answers env.new) (E.stopped env.new) log.new) result }
@@ -161,7 +161,7 @@ fn literal<E: Env>(
     drafts: &[Draft],
     word: &Text,
 ) -> Result<Found, ReadEnd>
-    requires { E.stopped env.old ≡ false }
+    requires { is_some (E.stopped env.old) ≡ false }
     ensures { Went E.tells (asker (E.answers env.old) (E.stopped env.old) log.old)
         (specs.literal at.now drafts.now word.now)
         (asker (E.answers env.new) (E.stopped env.new) log.new) result }

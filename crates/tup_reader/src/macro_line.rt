@@ -1,5 +1,5 @@
 //! Macro lines.
-ghost use Rattle.std.specs.Prelude.{◌≡◌, ◌<◌, ◌^◌, false, length};
+ghost use Rattle.std.specs.Prelude.{◌≡◌, ◌<◌, ◌^◌, false, length, is_some};
 ghost use Rattle.std.specs.List.{list_any};
 ghost use Rattle.tup_reader.specs.MacroLine as specs;
 ghost use Rattle.tup_reader.specs.Went.{Went, asker, Gives};
@@ -29,7 +29,7 @@ pub(crate) fn defined<E: Env>(
     left: &str,
     right: &str,
 ) -> Result<State, ReadEnd>
-    requires { E.stopped env.old ≡ false }
+    requires { is_some (E.stopped env.old) ≡ false }
     ensures { Went E.tells (asker (E.answers env.old) (E.stopped env.old) log.old)
         (specs.defined at.now state left.now right.now)
         (asker (E.answers env.new) (E.stopped env.new) log.new) result }

@@ -1,5 +1,5 @@
 //! The conditional lines of a file.
-ghost use Rattle.std.specs.Prelude.{◌≡◌, false};
+ghost use Rattle.std.specs.Prelude.{◌≡◌, false, is_some};
 ghost use Rattle.tup_vars.specs.Branches as branches;
 ghost use Rattle.tup_reader.specs.Conditional.{compares, looked_up};
 ghost use Rattle.tup_reader.specs.Opening as specs;
@@ -24,7 +24,7 @@ pub(crate) fn comparing<E: Env>(
     alike: bool,
     text: &str,
 ) -> Result<Along, ReadEnd>
-    requires { E.stopped env.old ≡ false }
+    requires { is_some (E.stopped env.old) ≡ false }
     ensures { Went E.tells (asker (E.answers env.old) (E.stopped env.old) log.old)
         (specs.opening at.now before (compares at.now before.state.variables alike text.now))
         (asker (E.answers env.new) (E.stopped env.new) log.new) result }
@@ -46,7 +46,7 @@ pub(crate) fn looking<E: Env>(
     wanted: bool,
     name: &str,
 ) -> Result<Along, ReadEnd>
-    requires { E.stopped env.old ≡ false }
+    requires { is_some (E.stopped env.old) ≡ false }
     ensures { Went E.tells (asker (E.answers env.old) (E.stopped env.old) log.old)
         (specs.opening at.now before (looked_up at.now wanted name.now))
         (asker (E.answers env.new) (E.stopped env.new) log.new) result }

@@ -1,5 +1,5 @@
 //! The output words of a rule.
-ghost use Rattle.std.specs.Prelude.{◌≡◌, ◌||◌, false};
+ghost use Rattle.std.specs.Prelude.{◌≡◌, ◌||◌, false, is_some};
 ghost use Rattle.tup_rule.specs.Rule.{among};
 ghost use Rattle.tup_reader.specs.State as made;
 ghost use Rattle.tup_reader.specs.Output as specs;
@@ -29,7 +29,7 @@ pub(crate) fn from_outputs<E: Env>(
     before: Paths,
     words: &[Text],
 ) -> Result<Paths, ReadEnd>
-    requires { E.stopped env.old ≡ false }
+    requires { is_some (E.stopped env.old) ≡ false }
     ensures { Went E.tells (asker (E.answers env.old) (E.stopped env.old) log.old)
         (specs.from_outputs at.now parts.now drafts.now before words.now)
         (asker (E.answers env.new) (E.stopped env.new) log.new) result }
@@ -53,7 +53,7 @@ fn from_output<E: Env>(
     outputs: &[Path],
     word: &Text,
 ) -> Result<Path, ReadEnd>
-    requires { E.stopped env.old ≡ false }
+    requires { is_some (E.stopped env.old) ≡ false }
     ensures { Went E.tells (asker (E.answers env.old) (E.stopped env.old) log.old)
         (specs.from_output at.now parts.now drafts.now outputs.now word.now)
         (asker (E.answers env.new) (E.stopped env.new) log.new) result }
@@ -73,7 +73,7 @@ fn known_output<E: Env>(
     outputs: &[Path],
     path: Path,
 ) -> Result<Path, ReadEnd>
-    requires { E.stopped env.old ≡ false }
+    requires { is_some (E.stopped env.old) ≡ false }
     ensures { Went E.tells (asker (E.answers env.old) (E.stopped env.old) log.old)
         (specs.known_output at.now drafts.now outputs.now path)
         (asker (E.answers env.new) (E.stopped env.new) log.new) result }

@@ -1,7 +1,7 @@
 //! The call that reads a folder's Tupfile.
-ghost use Rattle.std.specs.Prelude.{◌≡◌, false, IfOk, IsTrue};
+ghost use Rattle.std.specs.Prelude.{◌≡◌, false, IfOk, IsTrue, is_some};
 ghost use Rattle.tup_reader.specs.Log.{noted_log};
-ghost use Rattle.tup_reader.specs.Read.{IsReading, Agrees};
+ghost use Rattle.tup_reader.specs.Read.{IsReading, IsToldBy, Agrees};
 ghost use Rattle.tup_reader.specs.Reading.{reading};
 ghost use Rattle.tup_reader.specs.Went.{is_stopped};
 
@@ -20,10 +20,10 @@ use tup_rule::{Questions, Reading};
 /// just where the environment has stopped in this call, at a question that was not asked before.
 /// Where memory was wanting nothing is known of the rules.
 pub fn read_tupfile<E: Env>(alloc: Global, dir: &Path, env: &mut E) -> Result<Reading, ReadEnd>
-    requires { E.stopped env.old ≡ false }
-    ensures reading { IsReading dir.now result }
+    requires { is_some (E.stopped env.old) ≡ false }
+    ensures reading { IsReading (IsToldBy E.tells (E.answers env.old)) dir.now (E.stopped env.new) result }
     ensures answers { IsTrue E.tells → Agrees (E.answers env.old) (reading dir.now) result }
-    ensures stopped { E.stopped env.new ≡ is_stopped result }
+    ensures stopped { is_some (E.stopped env.new) ≡ is_stopped result }
     ensures same { IsTrue E.tells → E.answers env.new ≡ E.answers env.old }
 {
     let mut log = Log::new(alloc);

@@ -1,5 +1,5 @@
 //! The reading of a folder's Tupfile, line by line.
-ghost use Rattle.std.specs.Prelude.{◌≡◌, [], false};
+ghost use Rattle.std.specs.Prelude.{◌≡◌, [], false, is_some};
 ghost use Rattle.tup_reader.specs.Reading as specs;
 ghost use Rattle.tup_reader.specs.Kind as kind;
 ghost use Rattle.tup_reader.specs.Went.{Went, asker};
@@ -32,7 +32,7 @@ pub(crate) fn drafts_of<E: Env>(
     log: &mut Log,
     dir: &Path,
 ) -> Result<Drafts, ReadEnd>
-    requires { E.stopped env.old ≡ false }
+    requires { is_some (E.stopped env.old) ≡ false }
     ensures { Went E.tells (asker (E.answers env.old) (E.stopped env.old) log.old)
         (specs.reading dir.now)
         (asker (E.answers env.new) (E.stopped env.new) log.new) result }
@@ -52,7 +52,7 @@ fn drafts_in<E: Env>(
     dir: &Path,
     held: &Held,
 ) -> Result<Drafts, ReadEnd>
-    requires { E.stopped env.old ≡ false }
+    requires { is_some (E.stopped env.old) ≡ false }
     ensures { Went E.tells (asker (E.answers env.old) (E.stopped env.old) log.old)
         (specs.drafts_in dir.now held.now)
         (asker (E.answers env.new) (E.stopped env.new) log.new) result }
@@ -74,7 +74,7 @@ fn with_file<E: Env>(
     state: State,
     content: &Bytes,
 ) -> Result<State, ReadEnd>
-    requires { E.stopped env.old ≡ false }
+    requires { is_some (E.stopped env.old) ≡ false }
     ensures { Went E.tells (asker (E.answers env.old) (E.stopped env.old) log.old)
         (specs.with_room room dir.now file.now state content.now)
         (asker (E.answers env.new) (E.stopped env.new) log.new) result }
@@ -102,7 +102,7 @@ fn with_line<E: Env>(
     before: Along,
     line: &str,
 ) -> Result<Along, ReadEnd>
-    requires { E.stopped env.old ≡ false }
+    requires { is_some (E.stopped env.old) ≡ false }
     ensures { Went E.tells (asker (E.answers env.old) (E.stopped env.old) log.old)
         (specs.with_kind (specs.opener_of room at.now.dir) at.now before (kind.kind_of line.now))
         (asker (E.answers env.new) (E.stopped env.new) log.new) result }
@@ -127,7 +127,7 @@ fn plain_line<E: Env>(
     before: Along,
     line: LineKind,
 ) -> Result<Along, ReadEnd>
-    requires { E.stopped env.old ≡ false }
+    requires { is_some (E.stopped env.old) ≡ false }
     ensures { Went E.tells (asker (E.answers env.old) (E.stopped env.old) log.old)
         (specs.plain_line (specs.opener_of room at.now.dir) at.now before
         (kind.in_bytes line.entry))
@@ -152,7 +152,7 @@ fn stated<E: Env>(
     state: State,
     line: LineKind,
 ) -> Result<State, ReadEnd>
-    requires { E.stopped env.old ≡ false }
+    requires { is_some (E.stopped env.old) ≡ false }
     ensures { Went E.tells (asker (E.answers env.old) (E.stopped env.old) log.old)
         (specs.stated (specs.opener_of room at.now.dir) at.now state (kind.in_bytes line.entry))
         (asker (E.answers env.new) (E.stopped env.new) log.new) result }
@@ -177,7 +177,7 @@ fn complained<E: Env>(
     state: State,
     text: &str,
 ) -> Result<State, ReadEnd>
-    requires { E.stopped env.old ≡ false }
+    requires { is_some (E.stopped env.old) ≡ false }
     ensures { Went E.tells (asker (E.answers env.old) (E.stopped env.old) log.old)
         (specs.complained at.now state text.now)
         (asker (E.answers env.new) (E.stopped env.new) log.new) result }
@@ -197,7 +197,7 @@ fn included<E: Env>(
     state: State,
     text: &str,
 ) -> Result<State, ReadEnd>
-    requires { E.stopped env.old ≡ false }
+    requires { is_some (E.stopped env.old) ≡ false }
     ensures { Went E.tells (asker (E.answers env.old) (E.stopped env.old) log.old)
         (specs.included (specs.opener_of room at.now.dir) at.now state text.now)
         (asker (E.answers env.new) (E.stopped env.new) log.new) result }
@@ -217,7 +217,7 @@ fn ruled_down<E: Env>(
     at: &Spot,
     state: State,
 ) -> Result<State, ReadEnd>
-    requires { E.stopped env.old ≡ false }
+    requires { is_some (E.stopped env.old) ≡ false }
     ensures { Went E.tells (asker (E.answers env.old) (E.stopped env.old) log.old)
         (specs.ruled_down (specs.opener_of room at.now.dir) at.now state)
         (asker (E.answers env.new) (E.stopped env.new) log.new) result }
@@ -242,7 +242,7 @@ fn ruled_by<E: Env>(
     state: State,
     folder: &Path,
 ) -> Result<State, ReadEnd>
-    requires { E.stopped env.old ≡ false }
+    requires { is_some (E.stopped env.old) ≡ false }
     ensures { Went E.tells (asker (E.answers env.old) (E.stopped env.old) log.old)
         (specs.ruled_by (specs.opener_of room at.now.dir) at.now state folder.now)
         (asker (E.answers env.new) (E.stopped env.new) log.new) result }
@@ -265,7 +265,7 @@ fn opened<E: Env>(
     state: State,
     held: &Held,
 ) -> Result<State, ReadEnd>
-    requires { E.stopped env.old ≡ false }
+    requires { is_some (E.stopped env.old) ≡ false }
     ensures { Went E.tells (asker (E.answers env.old) (E.stopped env.old) log.old)
         (specs.opened (specs.opener_of room at.now.dir) at.now state held.now)
         (asker (E.answers env.new) (E.stopped env.new) log.new) result }

@@ -1,5 +1,5 @@
 //! Rule lines.
-ghost use Rattle.std.specs.Prelude.{◌≡◌, false, IfOk, ◌++◌, map};
+ghost use Rattle.std.specs.Prelude.{◌≡◌, false, IfOk, ◌++◌, map, is_some};
 ghost use Rattle.std.specs.List.{list_any};
 ghost use Rattle.tup_reader.specs.Folder.{is_group as group_test};
 ghost use Rattle.tup_reader.specs.Found.{paths_of};
@@ -34,7 +34,7 @@ pub(crate) fn ruled<E: Env>(
     state: State,
     line: &str,
 ) -> Result<State, ReadEnd>
-    requires { E.stopped env.old ≡ false }
+    requires { is_some (E.stopped env.old) ≡ false }
     ensures { Went E.tells (asker (E.answers env.old) (E.stopped env.old) log.old)
         (specs.ruled at.now state line.now)
         (asker (E.answers env.new) (E.stopped env.new) log.new) result }
@@ -53,7 +53,7 @@ fn with_words<E: Env>(
     state: State,
     words: &Words,
 ) -> Result<State, ReadEnd>
-    requires { E.stopped env.old ≡ false }
+    requires { is_some (E.stopped env.old) ≡ false }
     ensures { Went E.tells (asker (E.answers env.old) (E.stopped env.old) log.old)
         (specs.with_words at.now state words.now)
         (asker (E.answers env.new) (E.stopped env.new) log.new) result }
@@ -74,7 +74,7 @@ fn with_files<E: Env>(
     inputs: Found,
     order: Found,
 ) -> Result<State, ReadEnd>
-    requires { E.stopped env.old ≡ false }
+    requires { is_some (E.stopped env.old) ≡ false }
     ensures { Went E.tells (asker (E.answers env.old) (E.stopped env.old) log.old)
         (specs.with_files at.now state words.now inputs order)
         (asker (E.answers env.new) (E.stopped env.new) log.new) result }

@@ -1,5 +1,5 @@
 //! Assignments.
-ghost use Rattle.std.specs.Prelude.{◌≡◌, ◌⊎◌, false, Ok, Err, MatchResult};
+ghost use Rattle.std.specs.Prelude.{◌≡◌, ◌⊎◌, false, Ok, Err, MatchResult, is_some};
 ghost use Rattle.tup_reader.specs.Setting as specs;
 ghost use Rattle.tup_reader.specs.Went.{Went, asker, Gives};
 
@@ -25,7 +25,7 @@ pub(crate) fn assigned<E: Env>(
     left: &str,
     right: &str,
 ) -> Result<State, ReadEnd>
-    requires { E.stopped env.old ≡ false }
+    requires { is_some (E.stopped env.old) ≡ false }
     ensures { Went E.tells (asker (E.answers env.old) (E.stopped env.old) log.old)
         (specs.assigned at.now state left.now right.now)
         (asker (E.answers env.new) (E.stopped env.new) log.new) result }

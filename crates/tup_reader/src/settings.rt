@@ -1,5 +1,5 @@
 //! Settings that were asked.
-ghost use Rattle.std.specs.Prelude.{◌≡◌, [], false, IfOk, option_map};
+ghost use Rattle.std.specs.Prelude.{◌≡◌, [], false, IfOk, option_map, is_some};
 ghost use Rattle.tup_reader.specs.Ask as specs;
 ghost use Rattle.tup_reader.specs.Text.{value_among};
 ghost use Rattle.tup_reader.specs.Went.{Went, asker};
@@ -71,7 +71,7 @@ pub(crate) fn settings_of<E: Env>(
     log: &mut Log,
     names: &[Text],
 ) -> Result<Values, ReadEnd>
-    requires { E.stopped env.old ≡ false }
+    requires { is_some (E.stopped env.old) ≡ false }
     ensures { Went E.tells (asker (E.answers env.old) (E.stopped env.old) log.old)
         (specs.settings_of [] names.now)
         (asker (E.answers env.new) (E.stopped env.new) log.new) result }

@@ -1,5 +1,5 @@
 //! What a text stands for where it stands.
-ghost use Rattle.std.specs.Prelude.{◌≡◌, ◌≤◌, false, length, IfOk};
+ghost use Rattle.std.specs.Prelude.{◌≡◌, ◌≤◌, false, length, IfOk, is_some};
 ghost use Rattle.tup_reader.specs.Text as specs;
 ghost use Rattle.tup_reader.specs.Went.{Went, asker, IsRefusal};
 ghost use Rattle.tup_reader.specs.declared.fault.ReadEnd.TheVariants.{Memory};
@@ -23,7 +23,7 @@ pub(crate) fn expanded<E: Env>(
     variables: &Vars,
     text: &str,
 ) -> Result<Text, ReadEnd>
-    requires { E.stopped env.old ≡ false }
+    requires { is_some (E.stopped env.old) ≡ false }
     ensures went { Went E.tells (asker (E.answers env.old) (E.stopped env.old) log.old)
         (specs.expanded at.now variables.now text.now)
         (asker (E.answers env.new) (E.stopped env.new) log.new) result }

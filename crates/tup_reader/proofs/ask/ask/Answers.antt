@@ -1,4 +1,4 @@
-use Rattle.std.proofs.Common.{◌≡◌, Some, None, true, false, ap, sym, ◌∙◌, option_map}
+use Rattle.std.proofs.Common.{◌≡◌, Some, None, is_some, ap, sym, ◌∙◌, option_map}
 use Rattle.std.proofs.lemmas.Result.{err_from_is_err_and}
 use Rattle.tup_reader.specs.Log.{told_before as before}
 use Rattle.tup_reader.proofs.Asking.{asked_before, asked_new, has_stopped}
@@ -15,11 +15,11 @@ returns-in_err-told g c =
     let unknown : before c.args.log.now c.args.question ≡ None =
     sym (ap (λ l. before l c.args.question) c.as_slice.ensures) ∙ sym c.told_before.ensures ∙ ap (option_map (λ told. told.now)) c.in_default.is in
     let p = err_from_is_err_and c.from_residual-in_err-told.result c.from_residual-in_err-told.ensures.1 in
-    rw (p.1, p.2) (has_stopped _ _ _ _ _ unknown (sym {a = true} c.in_err-told.ensures.stopped) (λ tells. c.in_err-told.ensures.same tells))
+    rw (p.1, p.2) (has_stopped _ _ _ _ _ unknown c.in_err-told.ensures.stopped (λ tells. c.in_err-told.ensures.same tells))
 
 pub returns : goal.returns
 returns g c =
     let unknown : before c.args.log.now c.args.question ≡ None =
     sym (ap (λ l. before l c.args.question) c.as_slice.ensures) ∙ sym c.told_before.ensures ∙ ap (option_map (λ told. told.now)) c.in_default.is in
     rw (c.in_ok-push.ensures.ok, c.in_ok-clone-2.ensures.cases)
-    (asked_new _ _ _ _ _ _ unknown c.in_ok-told.ensures.kind (sym {a = false} c.in_ok-told.ensures.stopped) (λ tells. c.in_ok-told.ensures.answer tells) (λ tells. c.in_ok-told.ensures.same tells))
+    (asked_new _ _ _ _ _ _ unknown c.in_ok-told.ensures.kind (ap is_some c.in_ok-told.ensures.stopped) (λ tells. c.in_ok-told.ensures.answer tells) (λ tells. c.in_ok-told.ensures.same tells))

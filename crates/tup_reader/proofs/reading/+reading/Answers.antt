@@ -1,4 +1,4 @@
-use Rattle.std.proofs.Common.{◌≡◌, ℕ, List, ◌+◌, ◌-◌, ◌∷◌, ◌++◌, [], suc, true, false, codes, drop, Some, None, Ok, Err, refl, ap, sym, ◌∙◌, arith, rules}
+use Rattle.std.proofs.Common.{◌≡◌, ℕ, List, ◌+◌, ◌-◌, ◌∷◌, ◌++◌, [], suc, true, false, codes, drop, Some, None, Ok, Err, refl, ap, sym, ◌∙◌, arith, rules, is_some}
 use Rattle.std.proofs.lemmas.Result.{err_from_is_err_and}
 use Rattle.tup_lex.specs.declared.kind.ParseKind.TheVariants as fault
 use Rattle.tup_vars.specs.Branches.{turned, left, all_on}
@@ -213,7 +213,7 @@ pub with_line-returns-in-Else : goal.with_line-returns-in-Else
 with_line-returns-in-Else g t c =
     let a = c.args in
     let is : kind_of a.line.now ≡ Else = sym c.kind_of.ensures ∙ ap in_bytes c.in-Else.is in
-    let on : g.E.Env.stopped a.env.now ≡ false = cc in
+    let on : is_some (g.E.Env.stopped a.env.now) ≡ false = cc in
     went_along _ _ (lines.kind-else (opener_of a.room a.at.now.dir) a.at.now a.before (kind_of a.line.now) is)
     (went_given _ _ (at_levels a.at.now a.before.state (turned a.before.levels)) c.turned.result on c.turned.ensures)
 
@@ -221,7 +221,7 @@ pub with_line-returns-in-Endif : goal.with_line-returns-in-Endif
 with_line-returns-in-Endif g t c =
     let a = c.args in
     let is : kind_of a.line.now ≡ Endif = sym c.kind_of.ensures ∙ ap in_bytes c.in-Endif.is in
-    let on : g.E.Env.stopped a.env.now ≡ false = cc in
+    let on : is_some (g.E.Env.stopped a.env.now) ≡ false = cc in
     went_along _ _ (lines.kind-endif (opener_of a.room a.at.now.dir) a.at.now a.before (kind_of a.line.now) is)
     (went_given _ _ (at_levels a.at.now a.before.state (left a.before.levels)) c.left.result on c.left.ensures)
 

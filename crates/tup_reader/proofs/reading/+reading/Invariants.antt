@@ -1,4 +1,4 @@
-use Rattle.std.proofs.Common.{◌≡◌, ◌*◌, ◌+◌, false, drop, Result}
+use Rattle.std.proofs.Common.{◌≡◌, ◌*◌, ◌+◌, false, drop, Result, is_some}
 use Rattle.tup_reader.specs.declared.fault.ReadEnd.{ReadEnd}
 use Rattle.tup_reader.specs.declared.state.State.{State}
 use Rattle.tup_reader.specs.Reading.{with_lines, with_room, opener_of, ruled_below, ruled_down}
@@ -31,7 +31,7 @@ decreases-opened g l = l.room * 8 + 1
 
 abbrev pub invariant-with_file-loop-line : goal.invariant-with_file-loop-line
 invariant-with_file-loop-line g l = record {
-  on : g.E.Env.stopped l.env ≡ false;
+  on : is_some (g.E.Env.stopped l.env) ≡ false;
   so_far : (after : Asker) (end : Result State ReadEnd)
       → Went g.E.Env.tells (asker (g.E.Env.answers l.env) (g.E.Env.stopped l.env) l.log) (with_lines (opener_of l.room l.dir) l.dir l.file l.along (drop l.line-index l.line-items)) after end
       → Went g.E.Env.tells (asker (g.E.Env.answers l.fn.env) (g.E.Env.stopped l.fn.env) l.fn.log) (with_room l.room l.dir l.file l.fn.state l.content) after end;
@@ -39,7 +39,7 @@ invariant-with_file-loop-line g l = record {
 
 abbrev pub invariant-ruled_down-loop-name : goal.invariant-ruled_down-loop-name
 invariant-ruled_down-loop-name g l = record {
-  on : g.E.Env.stopped l.env ≡ false;
+  on : is_some (g.E.Env.stopped l.env) ≡ false;
   so_far : (after : Asker) (end : Result State ReadEnd)
       → Went g.E.Env.tells (asker (g.E.Env.answers l.env) (g.E.Env.stopped l.env) l.log) (ruled_below (opener_of l.room l.at.dir) l.at l.reached l.folder (drop l.name-index l.name-items)) after end
       → Went g.E.Env.tells (asker (g.E.Env.answers l.fn.env) (g.E.Env.stopped l.fn.env) l.fn.log) (ruled_down (opener_of l.room l.at.dir) l.at l.fn.state) after end;
