@@ -13,20 +13,20 @@ use Rattle.tup_vars.specs.declared.branches.Level.{Level}
 use Rattle.tup_vars.specs.declared.fault.VarFault.TheVariants as var
 use Rattle.tup_vars.specs.Branches.{ended as levels_end}
 use Rattle.tup_vars.specs.Table.{Entries}
-use Rattle.tup_reader.specs.declared.fault.ParseFault.{ParseFault}
-use Rattle.tup_reader.specs.declared.fault.ReadEnd.{ReadEnd}
-use Rattle.tup_reader.specs.declared.fault.ReadEnd.TheVariants.{Memory}
+use Rattle.tup_ask.specs.declared.fault.ParseFault.{ParseFault}
+use Rattle.tup_ask.specs.declared.fault.ReadEnd.{ReadEnd}
+use Rattle.tup_ask.specs.declared.fault.ReadEnd.TheVariants.{Memory}
 use Rattle.tup_reader.specs.declared.file.Held.{Held}
-use Rattle.tup_reader.specs.declared.state.Along.{Along}
-use Rattle.tup_reader.specs.declared.state.State.{State}
-use Rattle.tup_reader.specs.Reads.{Reads, gives, and_then}
-use Rattle.tup_reader.specs.Ask.{content_at}
-use Rattle.tup_reader.specs.Spot.{Spot, spot, refused}
-use Rattle.tup_reader.specs.Text.{expanded}
-use Rattle.tup_reader.specs.Words.{lex_kind}
+use Rattle.tup_reader.specs.declared.opening.Along.{Along}
+use Rattle.tup_draft.specs.declared.state.State.{State}
+use Rattle.tup_ask.specs.Reads.{Reads, gives, and_then}
+use Rattle.tup_ask.specs.Ask.{content_at}
+use Rattle.tup_ask.specs.Spot.{Spot, spot, refused}
+use Rattle.tup_ask.specs.Text.{expanded}
+use Rattle.tup_draft.specs.Words.{lex_kind}
 use Rattle.tup_reader.specs.File.{held, held_at, file_in, held_in, named_file, included_path, included_file, fault_line, lines_of, ended}
-use Rattle.tup_reader.specs.Went.{Gives, IsRefusal}
-use Rattle.tup_reader.proofs.Went.{refusal_of}
+use Rattle.tup_ask.specs.Went.{Gives, IsRefusal}
+use Rattle.tup_ask.proofs.Went.{refusal_of}
 
 pub held-some : (dir : Names) (name : List ℕ) (path : Names) → file_in dir name ≡ Some path → held_in {F = ParseFault} dir name ≡ held_at path
 unfolding held_in

@@ -4,17 +4,17 @@ use Rattle.tup_vars.specs.declared.branches.Level.{Level}
 use Rattle.tup_vars.specs.declared.fault.VarFault.{VarFault}
 use Rattle.tup_vars.specs.declared.fault.VarFault.TheVariants as kept
 use Rattle.tup_vars.specs.Branches.{entered, all_on}
-use Rattle.tup_reader.specs.declared.fault.ParseFault.{ParseFault}
-use Rattle.tup_reader.specs.declared.fault.ReadEnd.{ReadEnd}
-use Rattle.tup_reader.specs.declared.fault.ReadEnd.TheVariants.{Memory}
-use Rattle.tup_reader.specs.declared.state.Along.{Along}
-use Rattle.tup_reader.specs.declared.state.State.{State}
-use Rattle.tup_reader.specs.Reads.{Reads, gives, and_then}
-use Rattle.tup_reader.specs.Spot.{Spot, refused}
-use Rattle.tup_reader.specs.Text.{var_kind, taken}
+use Rattle.tup_ask.specs.declared.fault.ParseFault.{ParseFault}
+use Rattle.tup_ask.specs.declared.fault.ReadEnd.{ReadEnd}
+use Rattle.tup_ask.specs.declared.fault.ReadEnd.TheVariants.{Memory}
+use Rattle.tup_reader.specs.declared.opening.Along.{Along}
+use Rattle.tup_draft.specs.declared.state.State.{State}
+use Rattle.tup_ask.specs.Reads.{Reads, gives, and_then}
+use Rattle.tup_ask.specs.Spot.{Spot, refused}
+use Rattle.tup_ask.specs.Text.{var_kind, taken}
 use Rattle.tup_reader.specs.Opening.{along, at_levels, opening}
-use Rattle.tup_reader.specs.Went.{Gives, IsRefusal}
-use Rattle.tup_reader.proofs.Went.{refusal_of}
+use Rattle.tup_ask.specs.Went.{Gives, IsRefusal}
+use Rattle.tup_ask.proofs.Went.{refusal_of}
 
 pub levels-ok : (at : Spot) (state : State) (levels : Result (List Level) VarFault) (next : List Level) → levels ≡ Ok next → at_levels at state levels ≡ gives (along next state)
 unfolding at_levels taken and_then

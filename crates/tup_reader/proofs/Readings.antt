@@ -8,15 +8,15 @@ use Rattle.tup_rule.specs.declared.question.Told.{Told}
 use Rattle.tup_rule.specs.declared.question.Noted.{Noted}
 use Rattle.tup_rule.specs.declared.question.Reading.{Reading}
 use Rattle.tup_rule.specs.Question.{noted}
-use Rattle.tup_reader.specs.declared.fault.ParseFault.{ParseFault}
-use Rattle.tup_reader.specs.declared.fault.ReadEnd.{ReadEnd}
-use Rattle.tup_reader.specs.declared.fault.ReadEnd.TheVariants.{Fault, Stopped, Memory}
-use Rattle.tup_reader.specs.Reads.{Reads, outcome}
-use Rattle.tup_reader.specs.Log.{Log, same_question, told_before, Ran, Says, noted_log}
+use Rattle.tup_ask.specs.declared.fault.ParseFault.{ParseFault}
+use Rattle.tup_ask.specs.declared.fault.ReadEnd.{ReadEnd}
+use Rattle.tup_ask.specs.declared.fault.ReadEnd.TheVariants.{Fault, Stopped, Memory}
+use Rattle.tup_ask.specs.Reads.{Reads, outcome}
+use Rattle.tup_ask.specs.Log.{Log, same_question, told_before, Ran, Says, noted_log}
 use Rattle.tup_reader.specs.Read.{IsReading, KeepsAnswers, Agrees}
 use Rattle.tup_reader.specs.Reading.{reading}
-use Rattle.tup_reader.specs.Went.{Asker, Comes, Went, is_stopped}
-use Rattle.tup_reader.proofs.Runs.{ran_outcome}
+use Rattle.tup_ask.specs.Went.{Asker, Comes, Went, is_stopped}
+use Rattle.tup_ask.proofs.Runs.{ran_outcome}
 
 -- nothing is said of what was not asked
 says_nothing : (answers : Question → Told) → Says answers []

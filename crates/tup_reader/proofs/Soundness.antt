@@ -38,36 +38,36 @@ use Rattle.tup_vars.specs.Name.{is_free, is_name}
 use Rattle.tup_vars.specs.declared.branches.Level.{Level}
 use Rattle.tup_vars.specs.Branches.{entered, turned, left, all_on}
 use Rattle.tup_macro.specs.Macros.{macro_of}
-use Rattle.tup_reader.specs.declared.fault.ParseFault.{ParseFault}
+use Rattle.tup_ask.specs.declared.fault.ParseFault.{ParseFault}
 use Rattle.tup_reader.specs.declared.file.Held.{Held}
-use Rattle.tup_reader.specs.declared.found.Found.{Found}
-use Rattle.tup_reader.specs.declared.found.Input.{Input}
-use Rattle.tup_reader.specs.declared.job.Job.{Job}
-use Rattle.tup_reader.specs.declared.job.Outputs.{Outputs}
-use Rattle.tup_reader.specs.declared.job.Sources.{Sources}
-use Rattle.tup_reader.specs.declared.job.Spoken.{Spoken}
-use Rattle.tup_reader.specs.declared.state.Along.{Along}
-use Rattle.tup_reader.specs.declared.state.State.{State}
-use Rattle.tup_reader.specs.declared.words.Words.{Words}
-use Rattle.tup_reader.specs.Reads.{Reads, Ends, Asks, gives, and_then, outcome}
-use Rattle.tup_reader.specs.Ask.{asks, kind_in, names_in, kind_at, names_at}
-use Rattle.tup_reader.specs.Spot.{Spot, refused}
-use Rattle.tup_reader.specs.State.{made_by, is_made}
-use Rattle.tup_reader.specs.Text.{taken}
-use Rattle.tup_reader.specs.Folder.{name_in, led, led_to_folder, bin_name, is_group, group_in}
-use Rattle.tup_reader.specs.Flagged.{flagged_text, bare_parts}
-use Rattle.tup_reader.specs.Output.{may_make, is_reserved, new_output, known_output, from_output, from_outputs}
-use Rattle.tup_reader.specs.Found.{input, inputs_alone, one_input, one_group, nothing_found, paths_of, with_input, has_path, with_found}
-use Rattle.tup_reader.specs.Glob.{is_glob, in_order, names_among, names_of_files, matched_input, matching, glob_of, matched_in, globbed}
-use Rattle.tup_reader.specs.Input.{is_file, known_input, literal, from_bin, from_group, from_files, from_other, from_word, from_words}
-use Rattle.tup_reader.specs.Job.{one_job, whole_job, gives_nothing, jobs_of, flag_parts, outputs_of, spoken, draft_of, with_gifts, with_draft, with_job, with_jobs}
-use Rattle.tup_reader.specs.RuleLine.{given_to, sources_of, with_files, with_words, ruled}
-use Rattle.tup_reader.specs.State.{fresh}
-use Rattle.tup_reader.specs.Spot.{spot}
-use Rattle.tup_reader.specs.Text.{var_kind, expanded}
-use Rattle.tup_reader.specs.Words.{cut, words_of}
+use Rattle.tup_draft.specs.declared.found.Found.{Found}
+use Rattle.tup_draft.specs.declared.found.Input.{Input}
+use Rattle.tup_draft.specs.declared.job.Job.{Job}
+use Rattle.tup_draft.specs.declared.job.Outputs.{Outputs}
+use Rattle.tup_draft.specs.declared.job.Sources.{Sources}
+use Rattle.tup_draft.specs.declared.job.Spoken.{Spoken}
+use Rattle.tup_reader.specs.declared.opening.Along.{Along}
+use Rattle.tup_draft.specs.declared.state.State.{State}
+use Rattle.tup_draft.specs.declared.words.Words.{Words}
+use Rattle.tup_ask.specs.Reads.{Reads, Ends, Asks, gives, and_then, outcome}
+use Rattle.tup_ask.specs.Ask.{asks, kind_in, names_in, kind_at, names_at}
+use Rattle.tup_ask.specs.Spot.{Spot, refused}
+use Rattle.tup_draft.specs.State.{made_by, is_made}
+use Rattle.tup_ask.specs.Text.{taken}
+use Rattle.tup_draft.specs.Folder.{name_in, led, led_to_folder, bin_name, is_group, group_in}
+use Rattle.tup_draft.specs.Flagged.{flagged_text, bare_parts}
+use Rattle.tup_draft.specs.Output.{may_make, is_reserved, new_output, known_output, from_output, from_outputs}
+use Rattle.tup_draft.specs.Found.{input, inputs_alone, one_input, one_group, nothing_found, paths_of, with_input, has_path, with_found}
+use Rattle.tup_draft.specs.Glob.{is_glob, in_order, names_among, names_of_files, matched_input, matching, glob_of, matched_in, globbed}
+use Rattle.tup_draft.specs.Input.{is_file, known_input, literal, from_bin, from_group, from_files, from_other, from_word, from_words}
+use Rattle.tup_draft.specs.Job.{one_job, whole_job, gives_nothing, jobs_of, flag_parts, outputs_of, spoken, draft_of, with_gifts, with_draft, with_job, with_jobs}
+use Rattle.tup_draft.specs.RuleLine.{given_to, sources_of, with_files, with_words, ruled}
+use Rattle.tup_draft.specs.State.{fresh}
+use Rattle.tup_ask.specs.Spot.{spot}
+use Rattle.tup_ask.specs.Text.{var_kind, expanded}
+use Rattle.tup_draft.specs.Words.{cut, words_of}
 use Rattle.tup_reader.specs.Setting.{set_name, goes_on, put_value, with_value, assigned}
-use Rattle.tup_reader.specs.MacroLine.{is_body, body_of, with_body, named_macro, defined}
+use Rattle.tup_draft.specs.MacroLine.{is_body, body_of, with_body, named_macro, defined}
 use Rattle.tup_reader.specs.Conditional.{compares, looked_up}
 use Rattle.tup_reader.specs.Opening.{along, at_levels, opening}
 use Rattle.tup_reader.specs.File.{held_in, included_file, lines_of, ended}
@@ -75,9 +75,9 @@ use Rattle.tup_reader.specs.Kind as kinds
 use Rattle.tup_reader.specs.Kind.{Compares, Looks, Else, Endif, Complains, IncludesRules, Includes, Rules, Defines, Sets, Unknown, kind_of}
 use Rattle.tup_reader.specs.Reading.{Opener, opened, included, ruled_by, ruled_below, ruled_down, complained, stated, plain_line, with_kind, with_lines, with_file, with_room, drafts_in, reading}
 use Rattle.tup_reader.specs.Sound.{told_at, NamesFiles, MayTake, MayMake, IsSound, AreSound}
-use Rattle.tup_reader.proofs.Folders.{name_in_some, name_in_none}
+use Rattle.tup_draft.proofs.Folders.{name_in_some, name_in_none}
 use Rattle.tup_reader.proofs.Files.{below-ok, by_levels}
-use Rattle.tup_reader.proofs.Rules.{behind_group, behind_order, behind_inputs, behind_words, behind_line, by_there, behind_cut, behind_body}
+use Rattle.tup_draft.proofs.Rules.{behind_group, behind_order, behind_inputs, behind_words, behind_line, by_there, behind_cut, behind_body}
 use Rattle.tup_reader.proofs.Openings.{tested}
 use Rattle.tup_reader.proofs.Lines.{behind_lines, behind_stated, behind_file, if_there, behind_top, behind_said, drafts_behind, if_found}
 
@@ -508,11 +508,12 @@ brings_job answers at words sources state job more (is, order, jobs) =
     (brings_made answers at words sources state.drafts job)
     (λ outputs makes. brings_behind answers (spoken at (flag_parts at words.foreach sources job outputs.plain place.Command) words.command) (λ said. gives (with_draft state words.bin (draft_of at sources job outputs.all said)))
     (GoesOn answers at.dir sources more)
-    (λ said. brings_gives answers (with_draft state words.bin (draft_of at sources job outputs.all said)) (GoesOn answers at.dir sources more)
-    (drafted answers at words sources state job outputs said is order (All-head (TakesJob answers state.drafts) job more jobs) makes,
-    more-taken answers state.drafts (draft_of at sources job outputs.all said) sources.order order,
-    All-weaker (TakesJob answers state.drafts) (TakesJob answers (state.drafts ++ draft_of at sources job outputs.all said ∷ []))
-    (λ j takes. more-taken answers state.drafts (draft_of at sources job outputs.all said) j.inputs takes) more (All-tail (TakesJob answers state.drafts) job more jobs))))
+    (λ said. brings_gives answers (with_draft state words.bin (draft_of at sources job outputs.all said)) (GoesOn answers at.dir sources more) (
+      drafted answers at words sources state job outputs said is order (All-head (TakesJob answers state.drafts) job more jobs) makes,
+      more-taken answers state.drafts (draft_of at sources job outputs.all said) sources.order order,
+      All-weaker (TakesJob answers state.drafts) (TakesJob answers (state.drafts ++ draft_of at sources job outputs.all said ∷ []))
+          (λ j takes. more-taken answers state.drafts (draft_of at sources job outputs.all said) j.inputs takes) more (All-tail (TakesJob answers state.drafts) job more jobs),
+    )))
 
 brings_jobs : (answers : Question → Told) (at : Spot) (words : Words) (sources : Sources) (state : State) (jobs : List Job) → GoesOn answers at.dir sources jobs state
     → Brings answers (with_jobs at words sources state jobs) (IsSoundState answers at.dir)

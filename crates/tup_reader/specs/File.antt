@@ -9,16 +9,16 @@ use Rattle.tup_lex.specs.declared.fault.LexFault.{LexFault}
 use Rattle.tup_lex.specs.declared.fault.LexFault.TheVariants as fault
 use Rattle.tup_lex.specs.declared.kind.ParseKind.TheVariants.{IncludeMissing, MissingEndif}
 use Rattle.tup_vars.specs.Table.{Entries}
-use Rattle.tup_reader.specs.declared.fault.ParseFault.{ParseFault}
+use Rattle.tup_ask.specs.declared.fault.ParseFault.{ParseFault}
 use Rattle.tup_reader.specs.declared.file.Held.{Held}
-use Rattle.tup_reader.specs.declared.state.Along.{Along}
-use Rattle.tup_reader.specs.declared.state.State.{State}
-use Rattle.tup_reader.specs.Reads.{Reads, gives, and_then}
-use Rattle.tup_reader.specs.Ask.{content_at}
-use Rattle.tup_reader.specs.Spot.{Spot, spot, refused, folder_of}
-use Rattle.tup_reader.specs.Text.{expanded}
-use Rattle.tup_reader.specs.Folder.{led}
-use Rattle.tup_reader.specs.Words.{lex_kind}
+use Rattle.tup_reader.specs.declared.opening.Along.{Along}
+use Rattle.tup_draft.specs.declared.state.State.{State}
+use Rattle.tup_ask.specs.Reads.{Reads, gives, and_then}
+use Rattle.tup_ask.specs.Ask.{content_at}
+use Rattle.tup_ask.specs.Spot.{Spot, spot, refused, folder_of}
+use Rattle.tup_ask.specs.Text.{expanded}
+use Rattle.tup_draft.specs.Folder.{led}
+use Rattle.tup_draft.specs.Words.{lex_kind}
 
 -- a file by its path and its content
 abbrev pub held : Names → Content → Held

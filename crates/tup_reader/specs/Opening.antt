@@ -3,12 +3,12 @@ use Rattle.std.specs.Prelude.{Bool, false, if◌then◌else◌, List, Result}
 use Rattle.tup_vars.specs.declared.branches.Level.{Level}
 use Rattle.tup_vars.specs.declared.fault.VarFault.{VarFault}
 use Rattle.tup_vars.specs.Branches.{entered, all_on}
-use Rattle.tup_reader.specs.declared.fault.ParseFault.{ParseFault}
-use Rattle.tup_reader.specs.declared.state.Along.{Along}
-use Rattle.tup_reader.specs.declared.state.State.{State}
-use Rattle.tup_reader.specs.Reads.{Reads, gives, and_then}
-use Rattle.tup_reader.specs.Spot.{Spot}
-use Rattle.tup_reader.specs.Text.{var_kind, taken}
+use Rattle.tup_ask.specs.declared.fault.ParseFault.{ParseFault}
+use Rattle.tup_reader.specs.declared.opening.Along.{Along}
+use Rattle.tup_draft.specs.declared.state.State.{State}
+use Rattle.tup_ask.specs.Reads.{Reads, gives, and_then}
+use Rattle.tup_ask.specs.Spot.{Spot}
+use Rattle.tup_ask.specs.Text.{var_kind, taken}
 
 -- the levels of the conditionals of a file, and the state
 abbrev pub along : List Level → State → Along

@@ -8,11 +8,11 @@ use Rattle.tup_rule.specs.declared.question.Reading.{Reading}
 use Rattle.tup_rule.specs.declared.question.Told.{Told}
 use Rattle.tup_rule.specs.declared.question.Noted.{Noted}
 use Rattle.tup_rule.specs.Question.{noted}
-use Rattle.tup_reader.specs.declared.fault.ParseFault.{ParseFault}
-use Rattle.tup_reader.specs.declared.fault.ReadEnd.{ReadEnd}
-use Rattle.tup_reader.specs.declared.fault.ReadEnd.TheVariants.{Fault, Stopped, Memory}
-use Rattle.tup_reader.specs.Reads.{Reads, outcome}
-use Rattle.tup_reader.specs.Log.{Log, same_question, Ran, Halts, StopsAt, Says, noted_log}
+use Rattle.tup_ask.specs.declared.fault.ParseFault.{ParseFault}
+use Rattle.tup_ask.specs.declared.fault.ReadEnd.{ReadEnd}
+use Rattle.tup_ask.specs.declared.fault.ReadEnd.TheVariants.{Fault, Stopped, Memory}
+use Rattle.tup_ask.specs.Reads.{Reads, outcome}
+use Rattle.tup_ask.specs.Log.{Log, same_question, Ran, Halts, StopsAt, Says, noted_log}
 use Rattle.tup_reader.specs.Reading.{reading}
 
 -- what was told is what this one answers, where it tells

@@ -6,21 +6,21 @@ use Rattle.tup_lex.specs.declared.line.Line.{Line}
 use Rattle.tup_lex.specs.declared.kind.ParseKind.TheVariants as kind
 use Rattle.tup_rule.specs.declared.draft.Draft.{Draft}
 use Rattle.tup_vars.specs.Branches.{turned, left, all_on}
-use Rattle.tup_reader.specs.declared.fault.ParseFault.{ParseFault}
+use Rattle.tup_ask.specs.declared.fault.ParseFault.{ParseFault}
 use Rattle.tup_reader.specs.declared.file.Held.{Held}
-use Rattle.tup_reader.specs.declared.state.Along.{Along}
-use Rattle.tup_reader.specs.declared.state.State.{State}
-use Rattle.tup_reader.specs.Reads.{Reads, gives, and_then}
-use Rattle.tup_reader.specs.Spot.{Spot, spot, refused}
-use Rattle.tup_reader.specs.State.{fresh}
-use Rattle.tup_reader.specs.Text.{expanded}
+use Rattle.tup_reader.specs.declared.opening.Along.{Along}
+use Rattle.tup_draft.specs.declared.state.State.{State}
+use Rattle.tup_ask.specs.Reads.{Reads, gives, and_then}
+use Rattle.tup_ask.specs.Spot.{Spot, spot, refused}
+use Rattle.tup_draft.specs.State.{fresh}
+use Rattle.tup_ask.specs.Text.{expanded}
 use Rattle.tup_reader.specs.Kind.{Kind, Compares, Looks, Else, Endif, Complains, IncludesRules, Includes, Rules, Defines, Sets, Unknown, kind_of}
 use Rattle.tup_reader.specs.Setting.{assigned}
 use Rattle.tup_reader.specs.Conditional.{compares, looked_up}
 use Rattle.tup_reader.specs.Opening.{along, at_levels, opening}
 use Rattle.tup_reader.specs.File.{held_in, included_file, lines_of, ended}
-use Rattle.tup_reader.specs.RuleLine.{ruled}
-use Rattle.tup_reader.specs.MacroLine.{defined}
+use Rattle.tup_draft.specs.RuleLine.{ruled}
+use Rattle.tup_draft.specs.MacroLine.{defined}
 
 -- how a file is read that another one includes, given its path and its content; none where too many are open
 abbrev pub Opener : Type 0

@@ -7,8 +7,8 @@ use Rattle.tup_rule.specs.declared.question.Kind.TheVariants.{File, Nothing}
 use Rattle.tup_rule.specs.declared.question.Question.{Question}
 use Rattle.tup_rule.specs.declared.question.Question.TheVariants as question
 use Rattle.tup_rule.specs.declared.question.Told.{Told}
-use Rattle.tup_reader.specs.Ask.{kind_in, names_in}
-use Rattle.tup_reader.specs.State.{is_made}
+use Rattle.tup_ask.specs.Ask.{kind_in, names_in}
+use Rattle.tup_draft.specs.State.{is_made}
 
 -- what is told to stand at a path
 abbrev pub told_at : (Question → Told) → Names → Kind

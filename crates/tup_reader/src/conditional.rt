@@ -1,15 +1,11 @@
 //! What conditionals test.
 ghost use Rattle.std.specs.Prelude.{◌≡◌, false, option_map, is_some};
 ghost use Rattle.tup_reader.specs.Conditional as specs;
-ghost use Rattle.tup_reader.specs.Went.{Went, asker};
+ghost use Rattle.tup_ask.specs.Went.{Went, asker};
 
-use crate::ask::{Log, setting_of};
-use crate::env::Env;
-use crate::fault::ReadEnd;
-use crate::last::before_last;
-use crate::spot::Spot;
-use crate::text::expanded;
 use std::alloc::Global;
+use tup_ask::{Env, Log, ReadEnd, Spot, expanded, setting_of};
+use tup_draft::before_last;
 use tup_lex::ParseKind;
 use tup_path::Text;
 use tup_vars::{Vars, is_name};

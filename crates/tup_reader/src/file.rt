@@ -1,17 +1,12 @@
 //! The files that a reading opens.
 ghost use Rattle.std.specs.Prelude.{◌≡◌, ◌++◌, ◌∷◌, [], false, IfOk, option_map, is_some};
 ghost use Rattle.tup_reader.specs.File as specs;
-ghost use Rattle.tup_reader.specs.Went.{Went, asker, Gives};
+ghost use Rattle.tup_ask.specs.Went.{Went, asker, Gives};
 
-use crate::ask::{Log, content_at};
-use crate::cut::lex_end;
-use crate::env::Env;
-use crate::fault::ReadEnd;
-use crate::folder::led;
-use crate::spot::Spot;
-use crate::state::{Along, State};
-use crate::text::expanded;
+use crate::opening::Along;
 use std::alloc::{AllocError, Global};
+use tup_ask::{Env, Log, ReadEnd, Spot, content_at, expanded};
+use tup_draft::{State, led, lex_end};
 use tup_lex::{LexFault, Lines, ParseKind, lines};
 use tup_path::{Bytes, Path, PathFault, Text};
 use tup_vars::{VarFault, Vars};

@@ -3,9 +3,9 @@ ghost use Rattle.std.specs.Prelude.{◌≡◌, List, [], Ok, Result};
 ghost use Rattle.tup_rule.specs.declared.draft.Draft.{Draft};
 ghost use Rattle.tup_rule.specs.declared.question.Question.{Question};
 ghost use Rattle.tup_rule.specs.declared.question.Told.{Told};
-ghost use Rattle.tup_reader.specs.declared.fault.ParseFault.{ParseFault};
-ghost use Rattle.tup_reader.specs.Reads.{AnswerAlike, IsLocal, outcome};
-ghost use Rattle.tup_reader.specs.Log.{Log, Ran, Says};
+ghost use Rattle.tup_ask.specs.declared.fault.ParseFault.{ParseFault};
+ghost use Rattle.tup_ask.specs.Reads.{AnswerAlike, IsLocal, outcome};
+ghost use Rattle.tup_ask.specs.Log.{Log, Ran, Says};
 ghost use Rattle.tup_reader.specs.Reading.{reading};
 ghost use Rattle.tup_reader.specs.Sound.{AreSound, NamesFiles};
 

@@ -4,42 +4,18 @@
 //! `specs/Reading.antt` says what a Tupfile reads as: a process that asks and goes on, which names
 //! nobody who answers. So a reading depends on the answers to its own questions alone, and on
 //! nothing else (`reading_is_local`), and the list of its questions with what was told tells what
-//! it came to (`logs_tell_readings`).
+//! it came to (`logs_tell_readings`). Who answers, `Env`, and the ends of a reading, `ReadEnd` and
+//! `ParseFault`, stand in `tup_ask`; what a rule line comes to stands in `tup_draft`.
 #![tactic(auto)]
 
-mod ask;
-mod caret;
-mod command;
 mod conditional;
-mod cut;
-mod env;
-mod fault;
 mod file;
-mod flagged;
-mod folder;
-mod found;
-mod glob_word;
-mod input;
-mod job;
 mod kind;
-mod last;
 mod laws;
-mod macro_line;
-mod made;
 mod opening;
-mod output;
 mod read;
 mod reading;
-mod rule_line;
 mod setting;
-mod settings;
-mod span_text;
-mod spot;
-mod state;
-mod text;
-mod words;
 
-pub use env::Env;
-pub use fault::{ParseFault, ReadEnd};
 pub use laws::{logs_tell_readings, reading_is_local, readings_are_sound};
 pub use read::read_tupfile;

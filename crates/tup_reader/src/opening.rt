@@ -3,16 +3,20 @@ ghost use Rattle.std.specs.Prelude.{◌≡◌, false, is_some};
 ghost use Rattle.tup_vars.specs.Branches as branches;
 ghost use Rattle.tup_reader.specs.Conditional.{compares, looked_up};
 ghost use Rattle.tup_reader.specs.Opening as specs;
-ghost use Rattle.tup_reader.specs.Went.{Went, asker, Gives};
+ghost use Rattle.tup_ask.specs.Went.{Went, asker, Gives};
 
-use crate::ask::Log;
 use crate::conditional::{compares, looked_up};
-use crate::env::Env;
-use crate::fault::ReadEnd;
-use crate::spot::Spot;
-use crate::state::Along;
-use crate::text::var_end;
 use std::alloc::Global;
+use tup_ask::{Env, Log, ReadEnd, Spot, var_end};
+use tup_draft::State;
+use tup_vars::Branches;
+
+/// The conditionals of a file that are open, and the state.
+#[derive(Drop)]
+pub(crate) struct Along {
+    pub(crate) levels: Branches,
+    pub(crate) state: State,
+}
 
 /// `ifeq` or `ifneq`: off, and unread, where the lines around it are off.
 pub(crate) fn comparing<E: Env>(

@@ -1,15 +1,13 @@
 //! The call that reads a folder's Tupfile.
 ghost use Rattle.std.specs.Prelude.{◌≡◌, false, IfOk, IsTrue, is_some};
-ghost use Rattle.tup_reader.specs.Log.{noted_log};
+ghost use Rattle.tup_ask.specs.Log.{noted_log};
 ghost use Rattle.tup_reader.specs.Read.{IsReading, IsToldBy, Agrees};
 ghost use Rattle.tup_reader.specs.Reading.{reading};
-ghost use Rattle.tup_reader.specs.Went.{is_stopped};
+ghost use Rattle.tup_ask.specs.Went.{is_stopped};
 
-use crate::ask::Log;
-use crate::env::Env;
-use crate::fault::ReadEnd;
 use crate::reading::drafts_of;
 use std::alloc::{AllocError, Global};
+use tup_ask::{Env, Log, ReadEnd};
 use tup_path::Path;
 use tup_rule::{Questions, Reading};
 

@@ -2,21 +2,15 @@
 ghost use Rattle.std.specs.Prelude.{◌≡◌, [], false, is_some};
 ghost use Rattle.tup_reader.specs.Reading as specs;
 ghost use Rattle.tup_reader.specs.Kind as kind;
-ghost use Rattle.tup_reader.specs.Went.{Went, asker};
+ghost use Rattle.tup_ask.specs.Went.{Went, asker};
 
-use crate::ask::Log;
-use crate::env::Env;
-use crate::fault::ReadEnd;
 use crate::file::{Held, below, ended, held_in, included_file, lines_of};
 use crate::kind::{LineKind, kind_of};
-use crate::macro_line::defined;
-use crate::opening::{comparing, left, looking, turned};
-use crate::rule_line::ruled;
+use crate::opening::{Along, comparing, left, looking, turned};
 use crate::setting::assigned;
-use crate::spot::Spot;
-use crate::state::{Along, State};
-use crate::text::expanded;
 use std::alloc::Global;
+use tup_ask::{Env, Log, ReadEnd, Spot, expanded};
+use tup_draft::{State, defined, ruled};
 use tup_lex::ParseKind;
 use tup_path::{Bytes, Path};
 use tup_rule::Drafts;

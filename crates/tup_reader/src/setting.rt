@@ -1,16 +1,11 @@
 //! Assignments.
 ghost use Rattle.std.specs.Prelude.{◌≡◌, ◌⊎◌, false, Ok, Err, MatchResult, is_some};
 ghost use Rattle.tup_reader.specs.Setting as specs;
-ghost use Rattle.tup_reader.specs.Went.{Went, asker, Gives};
+ghost use Rattle.tup_ask.specs.Went.{Went, asker, Gives};
 
-use crate::ask::Log;
-use crate::env::Env;
-use crate::fault::ReadEnd;
-use crate::last::before_last;
-use crate::spot::Spot;
-use crate::state::State;
-use crate::text::{expanded, var_end};
 use std::alloc::Global;
+use tup_ask::{Env, Log, ReadEnd, Spot, expanded, var_end};
+use tup_draft::{State, before_last};
 use tup_lex::{ParseKind, trimmed};
 use tup_path::Text;
 use tup_vars::{VarFault, Vars, is_free};

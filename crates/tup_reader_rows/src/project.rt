@@ -1,11 +1,11 @@
 //! A project in memory, which answers what a reading asks.
 ghost use Rattle.std.specs.Prelude.{IfOk, IsTrue};
-ghost use Rattle.tup_reader.specs.Log.{fits};
+ghost use Rattle.tup_ask.specs.Log.{fits};
 
 use std::alloc::{AllocError, Global};
 use std::collections::BTreeMap;
+use tup_ask::Env;
 use tup_path::{Bytes, Path, Text, Texts};
-use tup_reader::Env;
 use tup_rule::{Kind, Question, Told};
 use tup_vars::Stopped;
 
@@ -128,7 +128,7 @@ fn name_in<'p>(dir: &Path, path: &'p Path) -> Option<&'p Text> {
 }
 
 impl Env for Project {
-    ghost use Rattle.std.specs.Prelude.{false};
+    ghost use Rattle.std.specs.Prelude.{Some, None, true, false, if◌then◌else◌};
     ghost use Rattle.tup_rule.specs.declared.question.Kind.TheVariants.{Nothing};
     ghost use Rattle.tup_rule.specs.declared.question.Told.TheVariants as told;
 
@@ -136,7 +136,7 @@ impl Env for Project {
 
     ghost answers = { λ project question. told.Kind Nothing };
 
-    ghost stopped = { λ project. project.stopped };
+    ghost stopped = { λ project. if project.stopped then Some (λ question. true) else None };
 
     /// Answers a question, unless it has answered all that it was to.
     fn answer(&mut self, alloc: Global, question: &Question) -> Result<Told, Stopped> {

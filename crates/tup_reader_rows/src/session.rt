@@ -2,8 +2,9 @@
 use crate::project::Project;
 use crate::shown::{drafts, questions};
 use std::alloc::{AllocError, Global};
+use tup_ask::ReadEnd;
 use tup_path::{Bytes, Path, Text};
-use tup_reader::{ReadEnd, read_tupfile};
+use tup_reader::read_tupfile;
 use tup_rows::{Answers, RowFault, Words};
 use tup_rule::Reading;
 

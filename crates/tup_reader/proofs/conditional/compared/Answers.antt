@@ -1,9 +1,9 @@
 use Rattle.std.proofs.Common.{◌≡◌, bytes_eq, rules}
 use Rattle.std.proofs.lemmas.Result.{err_from_is_err_and}
-use Rattle.tup_reader.specs.Reads.{gives, and_then}
-use Rattle.tup_reader.specs.Text.{expanded}
+use Rattle.tup_ask.specs.Reads.{gives, and_then}
+use Rattle.tup_ask.specs.Text.{expanded}
 use Rattle.tup_reader.specs.Conditional.{agrees, compared}
-use Rattle.tup_reader.proofs.Went.{went_then, went_err, went_gives}
+use Rattle.tup_ask.proofs.Went.{went_then, went_err, went_gives}
 use Rattle.tup_reader.proofs.conditional.compared.Goals as goal
 
 pub returns-in_err-one : goal.returns-in_err-one

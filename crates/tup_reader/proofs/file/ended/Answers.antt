@@ -1,8 +1,8 @@
 use Rattle.std.proofs.Common.{◌≡◌, Err, ap, sym, ◌∙◌}
 use Rattle.tup_lex.specs.declared.kind.ParseKind.TheVariants.{MissingEndif}
-use Rattle.tup_reader.specs.Spot.{spot}
-use Rattle.tup_reader.specs.declared.state.State.{State}
-use Rattle.tup_reader.proofs.Went.{gives_along, gives_refusal}
+use Rattle.tup_ask.specs.Spot.{spot}
+use Rattle.tup_draft.specs.declared.state.State.{State}
+use Rattle.tup_ask.proofs.Went.{gives_along, gives_refusal}
 use Rattle.tup_reader.proofs.Files.{ended-closed, ended-open}
 use Rattle.tup_reader.proofs.file.ended.Goals as goal
 

@@ -1,7 +1,7 @@
 use Rattle.std.proofs.Common.{◌≡◌, Err, ap, sym, ◌∙◌}
 use Rattle.std.proofs.lemmas.Result.{err_from_is_err_and}
 use Rattle.tup_reader.specs.File.{included_path}
-use Rattle.tup_reader.proofs.Went.{went_then, went_err, went_ok, went_bad, went_along}
+use Rattle.tup_ask.proofs.Went.{went_then, went_err, went_ok, went_bad, went_along}
 use Rattle.tup_reader.proofs.Files.{behind_path, behind_name, included_by}
 use Rattle.tup_reader.proofs.file.included_file.Goals as goal
 

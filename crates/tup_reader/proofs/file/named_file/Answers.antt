@@ -2,7 +2,7 @@ use Rattle.std.proofs.Common.{◌≡◌, Some, None, Err, Option, ap, sym, ◌�
 use Rattle.std.proofs.lemmas.Result.{err_from_is_err_and}
 use Rattle.tup_lex.specs.declared.kind.ParseKind.TheVariants.{IncludeMissing}
 use Rattle.tup_reader.specs.declared.file.Held.{Held}
-use Rattle.tup_reader.proofs.Went.{went_then, went_err, went_gives, went_refuses, went_along}
+use Rattle.tup_ask.proofs.Went.{went_then, went_err, went_gives, went_refuses, went_along}
 use Rattle.tup_reader.proofs.Files.{wanted, named_by}
 use Rattle.tup_reader.proofs.file.named_file.Goals as goal
 

@@ -2,7 +2,7 @@ use Rattle.std.proofs.Common.{◌≡◌, true, false, sym, ◌∙◌}
 use Rattle.std.proofs.lemmas.Result.{err_from_is_err_and}
 use Rattle.tup_vars.specs.Branches.{all_on}
 use Rattle.tup_reader.specs.Conditional.{compares}
-use Rattle.tup_reader.proofs.Went.{went_then, went_err, went_given, went_along}
+use Rattle.tup_ask.proofs.Went.{went_then, went_err, went_given, went_along}
 use Rattle.tup_reader.proofs.Openings.{tested, opening-on, opening-off}
 use Rattle.tup_reader.proofs.opening.comparing.Goals as goal
 

@@ -4,7 +4,7 @@ use Rattle.tup_rule.specs.declared.draft.Draft.{Draft}
 use Rattle.tup_rule.specs.declared.question.Reading.{Reading}
 use Rattle.tup_reader.specs.Read.{IsToldBy}
 use Rattle.tup_reader.specs.Reading.{reading}
-use Rattle.tup_reader.proofs.Went.{still}
+use Rattle.tup_ask.proofs.Went.{still}
 use Rattle.tup_reader.proofs.Readings.{said, ended_reading, ended_agrees, kept_reading, kept_agrees}
 use Rattle.tup_reader.proofs.read.read_tupfile.Goals as goal
 

@@ -1,8 +1,8 @@
 use Rattle.std.proofs.Common.{◌≡◌, ◌*◌, ◌+◌, false, drop, Result, is_some}
-use Rattle.tup_reader.specs.declared.fault.ReadEnd.{ReadEnd}
-use Rattle.tup_reader.specs.declared.state.State.{State}
+use Rattle.tup_ask.specs.declared.fault.ReadEnd.{ReadEnd}
+use Rattle.tup_draft.specs.declared.state.State.{State}
 use Rattle.tup_reader.specs.Reading.{with_lines, with_room, opener_of, ruled_below, ruled_down}
-use Rattle.tup_reader.specs.Went.{Asker, asker, Went}
+use Rattle.tup_ask.specs.Went.{Asker, asker, Went}
 use Rattle.tup_reader.proofs.reading.+reading.Given as goal
 
 abbrev pub decreases-with_file : goal.decreases-with_file

@@ -1,6 +1,6 @@
 use Rattle.std.proofs.Common.{◌≡◌, Err, ap, sym, ◌∙◌}
 use Rattle.std.proofs.lemmas.Result.{err_from_is_err_and}
-use Rattle.tup_reader.proofs.Went.{went_then, went_err, went_refuses, went_along}
+use Rattle.tup_ask.proofs.Went.{went_then, went_err, went_refuses, went_along}
 use Rattle.tup_reader.proofs.Lines.{behind_said, complained_by}
 use Rattle.tup_reader.proofs.reading.complained.Goals as goal
 

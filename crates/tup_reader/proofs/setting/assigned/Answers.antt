@@ -2,8 +2,8 @@ use Rattle.std.proofs.Common.{◌≡◌, true, false, ap, sym, ◌∙◌}
 use Rattle.std.proofs.lemmas.Result.{err_from_is_err_and}
 use Rattle.tup_vars.specs.Name.{is_free}
 use Rattle.tup_reader.specs.Setting.{set_name, goes_on, with_value}
-use Rattle.tup_reader.proofs.Went.{went_then, went_err, went_given, went_nowhere, went_along, went_refuses}
-use Rattle.tup_reader.proofs.Texts.{assigned-bad, assigned-free}
+use Rattle.tup_ask.proofs.Went.{went_then, went_err, went_given, went_nowhere, went_along, went_refuses}
+use Rattle.tup_reader.proofs.Conditions.{assigned-bad, assigned-free}
 use Rattle.tup_reader.proofs.setting.assigned.Goals as goal
 
 pub returns-then-not-is_free : goal.returns-then-not-is_free
