@@ -1,8 +1,9 @@
 -- Words that name folders and groups, from the manual; that a word without a slash stands in the folder that is read is own.
 use Rattle.std.specs.Prelude.{ℕ, ◌+◌, ◌-◌, ◌==◌, Bool, if◌then◌else◌, List, [], length, take, slice_get, codes, Option, Some, None, is_some, option_and_then, unwrap_or, Result, Ok}
+use Rattle.std.specs.Result.{result_ok}
 use Rattle.tup_path.specs.Name.{Names}
 use Rattle.tup_path.specs.Order.{same_path}
-use Rattle.tup_path.specs.Resolve.{resolve}
+use Rattle.tup_path.specs.Resolve.{below, resolve}
 use Rattle.tup_path.specs.declared.fault.PathFault.{PathFault}
 use Rattle.tup_lex.specs.Word.{last_name}
 use Rattle.tup_lex.specs.declared.kind.ParseKind.{ParseKind}
@@ -21,6 +22,10 @@ name_in dir path = let last = length path - 1 in elim (slice_get path last) [
   | Some name ↦ if same_path dir (take last path) then Some name else None
   | None ↦ None
 ]
+
+-- the path of a file in a folder, unless it has more names than a path may have
+abbrev pub file_in : Names → List ℕ → Option Names
+file_in dir name = result_ok (below dir name)
 
 -- what stands before the last slash of a word
 abbrev pub front_of : List ℕ → Option (List ℕ)

@@ -3,10 +3,8 @@ use Rattle.std.specs.Prelude.{ℕ, ◌-◌, ◌==◌, ◌||◌, Bool, if◌then�
 use Rattle.std.specs.List.{filter_map, list_any}
 use Rattle.std.specs.Str.{chars}
 use Rattle.std.specs.BTreeSet.{insert_key}
-use Rattle.std.specs.Result.{result_ok}
 use Rattle.tup_path.specs.Name.{Names}
 use Rattle.tup_path.specs.Order.{by_bytes}
-use Rattle.tup_path.specs.Resolve.{below}
 use Rattle.tup_lex.specs.Word.{last_name}
 use Rattle.tup_lex.specs.declared.span.Span.{Span}
 use Rattle.tup_lex.specs.declared.kind.ParseKind.TheVariants.{MissingInput, OpenBracket}
@@ -25,7 +23,7 @@ use Rattle.tup_ask.specs.Spot.{Spot}
 use Rattle.tup_draft.specs.State.{made_by}
 use Rattle.tup_ask.specs.Text.{taken}
 use Rattle.tup_draft.specs.Found.{input, inputs_alone}
-use Rattle.tup_draft.specs.Folder.{led_to_folder, name_in}
+use Rattle.tup_draft.specs.Folder.{file_in, led_to_folder, name_in}
 
 abbrev pub is_operator : ℕ → Bool
 is_operator byte = byte == 42 || byte == 63 || byte == 91
@@ -57,7 +55,7 @@ matched_input symbols name path = input path (option_map (bytes_at name) (matche
 -- a file of a folder as an input, if it matches
 abbrev pub matching : Names → List Symbol → List ℕ → Option Input
 matching dir symbols name =
-    if matches symbols (chars name) then option_map (matched_input symbols name) (result_ok (below dir name)) else None
+    if matches symbols (chars name) then option_map (matched_input symbols name) (file_in dir name) else None
 
 -- the glob of a pattern
 unfoldable pub glob_of : Spot → List ℕ → Reads ParseFault (List Symbol)

@@ -1,5 +1,5 @@
 //! Words that name folders and groups.
-ghost use Rattle.std.specs.Prelude.{◌≡◌, ◌<◌, ◌+◌, None, Some, IfOk, IfSome, MatchOption, codes, drop, if◌then◌else◌, length, option_and_then, option_map, slice_index};
+ghost use Rattle.std.specs.Prelude.{◌≡◌, ◌<◌, ◌≤◌, ◌+◌, None, Some, IfOk, IfSome, MatchOption, codes, drop, if◌then◌else◌, length, option_and_then, option_map, slice_index};
 ghost use Rattle.tup_lex.specs.Word.{last_name};
 ghost use Rattle.tup_path.specs.Order.{same_path};
 ghost use Rattle.tup_vars.specs.Config.{behind};
@@ -36,6 +36,19 @@ fn in_folder<'p>(dir: &Path, folder: &[Text], name: &'p Text) -> Option<&'p Text
         Some(name)
     } else {
         None
+    }
+}
+
+/// The path of a file in a folder, or `None` where its name isn't one that a file may have, or the path
+/// would have too many names.
+pub fn file_in(alloc: Global, dir: &Path, name: &Text) -> Result<Option<Path>, AllocError>
+    ensures path { IfOk result (λ path. path ≡ specs.file_in dir.now name.now) }
+    ensures short { IfOk result (λ path. IfSome path (λ _. length name.now ≤ 255)) }
+{
+    match dir.join(alloc, name) {
+        Ok(path) => Ok(Some(path)),
+        Err(PathFault::Memory) => Err(AllocError),
+        Err(_) => Ok(None),
     }
 }
 

@@ -2,17 +2,15 @@
 ghost use Rattle.std.specs.Prelude.{◌≡◌, ◌≤◌, ◌++◌, ◌∷◌, [], false, IfOk, IfSome, OnOk, fold, length, option_map, is_some};
 ghost use Rattle.std.specs.BTreeSet.{insert_key};
 ghost use Rattle.std.specs.List.{filter_map};
-ghost use Rattle.std.specs.Result.{result_ok};
 ghost use Rattle.tup_glob.specs.Part.{matched_part};
 ghost use Rattle.tup_lex.specs.declared.kind.ParseKind.TheVariants.{OpenBracket};
 ghost use Rattle.tup_path.specs.Order.{by_bytes};
-ghost use Rattle.tup_path.specs.Resolve.{below};
 ghost use Rattle.tup_draft.specs.Glob as specs;
 ghost use Rattle.tup_draft.specs.State.{made_by};
 ghost use Rattle.tup_ask.specs.Went.{Went, asker, Gives, IsRefusal};
 ghost use Rattle.tup_ask.specs.declared.fault.ReadEnd.TheVariants.{Memory};
 
-use crate::folder::{last_name, led_to_folder, name_in};
+use crate::folder::{file_in, last_name, led_to_folder, name_in};
 use crate::found::{Found, Input, Inputs};
 use crate::span_text::text_at;
 use std::alloc::{AllocError, Global};
@@ -20,7 +18,7 @@ use std::collections::BTreeSet;
 use tup_ask::{Env, Log, ReadEnd, Spot, names_at};
 use tup_glob::{Glob, GlobFault};
 use tup_lex::ParseKind;
-use tup_path::{Path, PathFault, Text, Texts};
+use tup_path::{Path, Text, Texts};
 use tup_rule::Draft;
 
 /// Whether a word is a glob: its last name has an operator.
@@ -220,18 +218,6 @@ fn matching_file(
     match path {
         Some(path) => Ok(Some(matched_input(alloc, glob, name, path)?)),
         None => Ok(None),
-    }
-}
-
-/// The path of a file in a folder, unless it has more names than a path may have.
-fn file_in(alloc: Global, dir: &Path, name: &Text) -> Result<Option<Path>, AllocError>
-    ensures path { IfOk result (λ path. path ≡ result_ok (below dir.now name.now)) }
-    ensures short { IfOk result (λ path. IfSome path (λ _. length name.now ≤ 255)) }
-{
-    match dir.join(alloc, name) {
-        Ok(path) => Ok(Some(path)),
-        Err(PathFault::Memory) => Err(AllocError),
-        Err(_) => Ok(None),
     }
 }
 

@@ -22,7 +22,7 @@ mod span_text;
 mod state;
 mod words;
 
-pub use folder::led;
+pub use folder::{file_in, led};
 pub use last::before_last;
 pub use macro_line::defined;
 pub use rule_line::ruled;

@@ -24,7 +24,8 @@ use Rattle.tup_ask.specs.Ask.{content_at}
 use Rattle.tup_ask.specs.Spot.{Spot, spot, refused}
 use Rattle.tup_ask.specs.Text.{expanded}
 use Rattle.tup_draft.specs.Words.{lex_kind}
-use Rattle.tup_reader.specs.File.{held, held_at, file_in, held_in, named_file, included_path, included_file, fault_line, lines_of, ended}
+use Rattle.tup_draft.specs.Folder.{file_in}
+use Rattle.tup_reader.specs.File.{held, held_at, held_in, named_file, included_path, included_file, fault_line, lines_of, ended}
 use Rattle.tup_ask.specs.Went.{Gives, IsRefusal}
 use Rattle.tup_ask.proofs.Went.{refusal_of}
 

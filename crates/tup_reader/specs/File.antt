@@ -1,8 +1,6 @@
 -- The files that a reading opens, and where each ends (own, but for which files an `include` names).
 use Rattle.std.specs.Prelude.{ℕ, List, [], ◌∷◌, Option, Some, None, option_map, Ok, Err}
-use Rattle.std.specs.Result.{result_ok}
 use Rattle.tup_path.specs.Name.{Names, Content}
-use Rattle.tup_path.specs.Resolve.{below}
 use Rattle.tup_lex.specs.Line.{lines}
 use Rattle.tup_lex.specs.declared.line.Line.{Line}
 use Rattle.tup_lex.specs.declared.fault.LexFault.{LexFault}
@@ -17,7 +15,7 @@ use Rattle.tup_ask.specs.Reads.{Reads, gives, and_then}
 use Rattle.tup_ask.specs.Ask.{content_at}
 use Rattle.tup_ask.specs.Spot.{Spot, spot, refused, folder_of}
 use Rattle.tup_ask.specs.Text.{expanded}
-use Rattle.tup_draft.specs.Folder.{led}
+use Rattle.tup_draft.specs.Folder.{file_in, led}
 use Rattle.tup_draft.specs.Words.{lex_kind}
 
 -- a file by its path and its content
@@ -27,10 +25,6 @@ held path content = record { path = path; content = content }
 -- the source file at a path, if there is one
 unfoldable pub held_at : {F : Type 0} → Names → Reads F (Option Held)
 held_at path = and_then (content_at path) (λ content. gives (option_map (held path) content))
-
--- the path of a file in a folder, unless it has more names than a path may have
-abbrev pub file_in : Names → List ℕ → Option Names
-file_in dir name = result_ok (below dir name)
 
 -- the source file of a name in a folder, if there is one
 unfoldable pub held_in : {F : Type 0} → Names → List ℕ → Reads F (Option Held)

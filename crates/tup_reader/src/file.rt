@@ -1,14 +1,15 @@
 //! The files that a reading opens.
 ghost use Rattle.std.specs.Prelude.{◌≡◌, ◌++◌, ◌∷◌, [], false, IfOk, option_map, is_some};
+ghost use Rattle.tup_draft.specs.Folder.{file_in};
 ghost use Rattle.tup_reader.specs.File as specs;
 ghost use Rattle.tup_ask.specs.Went.{Went, asker, Gives};
 
 use crate::opening::Along;
 use std::alloc::{AllocError, Global};
 use tup_ask::{Env, Log, ReadEnd, Spot, content_at, expanded};
-use tup_draft::{State, led, lex_end};
+use tup_draft::{State, file_in, led, lex_end};
 use tup_lex::{LexFault, Lines, ParseKind, lines};
-use tup_path::{Bytes, Path, PathFault, Text};
+use tup_path::{Bytes, Path, Text};
 use tup_vars::{VarFault, Vars};
 
 /// A source file: its path, and its content.
@@ -57,23 +58,19 @@ pub(crate) fn held_in<E: Env>(
         (specs.held_in dir.now name.now)
         (asker (E.answers env.new) (E.stopped env.new) log.new) result }
 {
-    let path = file_in(alloc, dir, name)?;
+    let path = named_in(alloc, dir, name)?;
     match path {
         Some(path) => held_at(alloc, env, log, path),
         None => Ok(None),
     }
 }
 
-/// The path of a file in a folder, unless it has more names than a path may have.
-fn file_in(alloc: Global, dir: &Path, name: &str) -> Result<Option<Path>, AllocError>
-    ensures { IfOk result (λ path. path ≡ specs.file_in dir.now name.now) }
+/// The path of a file of a name in a folder, unless it has more names than a path may have.
+fn named_in(alloc: Global, dir: &Path, name: &str) -> Result<Option<Path>, AllocError>
+    ensures { IfOk result (λ path. path ≡ file_in dir.now name.now) }
 {
     let name = Text::from_str(alloc, name)?;
-    match dir.join(alloc, &name) {
-        Ok(path) => Ok(Some(path)),
-        Err(PathFault::Memory) => Err(AllocError),
-        Err(_) => Ok(None),
-    }
+    file_in(alloc, dir, &name)
 }
 
 /// The file that an `include` names, from the folder of the file in which it stands.

@@ -1,5 +1,5 @@
 use Rattle.std.proofs.Common.{◌≡◌, Some, None, Err, ap, sym, ◌∙◌}
-use Rattle.tup_reader.specs.File.{file_in}
+use Rattle.tup_draft.specs.Folder.{file_in}
 use Rattle.tup_ask.proofs.Went.{went_gives, went_along}
 use Rattle.tup_reader.proofs.Files.{held-some, held-none}
 use Rattle.tup_reader.proofs.file.held_in.Goals as goal
