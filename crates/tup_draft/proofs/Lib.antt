@@ -6,5 +6,5 @@ pub mod Inputs
 pub mod Jobs
 pub mod Globs
 pub mod Cuttings
-pub mod Words
+pub mod Parts
 pub mod Rules

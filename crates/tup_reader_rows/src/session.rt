@@ -43,6 +43,11 @@ impl Session {
         self.put(alloc, said.path_at(alloc, 0), repeated(alloc, said))
     }
 
+    /// A file of a text with a number in it, for so many numbers from 0 on.
+    fn numbered_file(&mut self, alloc: Global, said: &Words) -> Words {
+        self.put(alloc, said.path_at(alloc, 0), numbered(alloc, said))
+    }
+
     /// Sets a name.
     fn set(&mut self, alloc: Global, said: &Words) -> Words {
         let name = said.text_at(alloc, 0);
@@ -63,6 +68,11 @@ impl Session {
     /// What the reading of a folder asks.
     fn asks_at(&mut self, alloc: Global, said: &Words) -> Words {
         self.asks(alloc, &said.path_at(alloc, 0))
+    }
+
+    /// How many rules a folder has, and how many questions its reading asks.
+    fn counts_at(&mut self, alloc: Global, said: &Words) -> Words {
+        self.counts(alloc, &said.path_at(alloc, 0))
     }
 
     /// The rules of the top folder, with this Tupfile.
@@ -93,6 +103,14 @@ impl Session {
         }
     }
 
+    /// How many rules a folder has and how many questions are asked, or why it isn't read.
+    fn counts(&mut self, alloc: Global, dir: &Path) -> Words {
+        match self.read(alloc, dir) {
+            Ok(reading) => counted(alloc, &reading),
+            Err(end) => Words::refusal(alloc, &end),
+        }
+    }
+
     /// What the reading of a folder asks, or why it isn't read.
     fn asks(&mut self, alloc: Global, dir: &Path) -> Words {
         match self.read(alloc, dir) {
@@ -115,12 +133,14 @@ impl Answers for Session {
             "fresh" => self.begin(alloc),
             "file" => self.file(alloc, said),
             "long_file" => self.long_file(alloc, said),
+            "numbered_file" => self.numbered_file(alloc, said),
             "set" => self.set(alloc, said),
             "answers" => self.answers(alloc, said),
             "top" => self.top(alloc, said),
             "top_asks" => self.top_asks(alloc, said),
             "reads" => self.reads_at(alloc, said),
             "asks" => self.asks_at(alloc, said),
+            "counts" => self.counts_at(alloc, said),
             _ => Words::none(alloc, RowFault::NoSuchCall),
         })
     }
@@ -134,6 +154,13 @@ fn noted(alloc: Global, put: Result<(), AllocError>) -> Words {
     }
 }
 
+/// The rules and the questions of a reading by their numbers.
+fn counted(alloc: Global, reading: &Reading) -> Words {
+    let mut words = Words::shown(alloc, &reading.drafts.len());
+    words.show(alloc, &reading.asked.len());
+    words
+}
+
 /// A front, a text so many times, and a back.
 fn repeated(alloc: Global, said: &Words) -> Vec<u8> {
     let mut bytes = said.bytes_at(alloc, 1);
@@ -143,6 +170,25 @@ fn repeated(alloc: Global, said: &Words) -> Vec<u8> {
     }
     add(&mut bytes, said, said.word_at(4));
     bytes
+}
+
+/// A front, a number and a back, for so many numbers from 0 on.
+fn numbered(alloc: Global, said: &Words) -> Vec<u8> {
+    let mut bytes = Vec::new(alloc);
+    for number in 0..said.number_at(2) {
+        add(&mut bytes, said, said.word_at(1));
+        add_number(alloc, &mut bytes, said, number);
+        add(&mut bytes, said, said.word_at(3));
+    }
+    bytes
+}
+
+/// Adds a number.
+fn add_number(alloc: Global, bytes: &mut Vec<u8>, said: &Words, number: u64) {
+    match format!(in alloc; "{number}") {
+        Ok(text) => add(bytes, said, text.as_bytes()),
+        Err(_) => said.fail(RowFault::Memory),
+    }
 }
 
 /// Adds bytes at the end.

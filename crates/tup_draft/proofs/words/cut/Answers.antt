@@ -2,7 +2,7 @@ use Rattle.std.proofs.Common.{◌≡◌, List, ℕ, sym, ◌∙◌, ap, subst}
 use Rattle.tup_draft.specs.Cut.{AreCut}
 use Rattle.tup_draft.specs.Words.{words_at}
 use Rattle.tup_draft.proofs.Cuttings.{given-cut}
-use Rattle.tup_draft.proofs.Words.{cut-ok, cut-err}
+use Rattle.tup_draft.proofs.Parts.{cut-ok, cut-err}
 use Rattle.tup_draft.proofs.words.cut.Goals as goal
 
 pub words_at-requires : goal.words_at-requires

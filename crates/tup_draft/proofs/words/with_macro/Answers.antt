@@ -4,7 +4,7 @@ use Rattle.tup_draft.specs.declared.words.Words.{Words}
 use Rattle.tup_ask.specs.Reads.{Reads}
 use Rattle.tup_draft.specs.Words.{macro_name}
 use Rattle.tup_ask.specs.Went.{Gives}
-use Rattle.tup_draft.proofs.Words.{macro-some, macro-none}
+use Rattle.tup_draft.proofs.Parts.{macro-some, macro-none}
 use Rattle.tup_draft.proofs.words.with_macro.Goals as goal
 
 pub returns-in-Some : goal.returns-in-Some

@@ -4,7 +4,7 @@ use Rattle.tup_draft.specs.declared.words.Words.{Words}
 use Rattle.tup_ask.specs.Reads.{gives}
 use Rattle.tup_draft.specs.Words.{with_named}
 use Rattle.tup_ask.proofs.Went.{refusal_of}
-use Rattle.tup_draft.proofs.Words.{named-some, named-none}
+use Rattle.tup_draft.proofs.Parts.{named-some, named-none}
 use Rattle.tup_draft.proofs.words.with_named.Goals as goal
 
 pub returns-in_ok-filled-in-Ok : goal.returns-in_ok-filled-in-Ok
