@@ -1,5 +1,5 @@
 -- A log with one more answer.
-use Rattle.std.proofs.Common.{◌≡◌, ◌⊎◌, inl, inr, Bool, true, false, cond, IsTrue, List, [], ◌∷◌, ◌++◌, Option, Some, None, is_some, Result, Ok, Err, refl, sym, ap, ◌∙◌, subst}
+use Rattle.std.proofs.Common.{◌≡◌, ◌⊎◌, inl, inr, Bool, true, false, cond, IsTrue, [], ◌∷◌, ◌++◌, Option, Some, None, is_some, Ok, Err, refl, sym, ap, ◌∙◌, subst}
 use Rattle.std.proofs.lemmas.Slice.Eq.{bytes_eq-Decides}
 use Rattle.tup_path.proofs.Same.{same_path-decides}
 use Rattle.tup_rule.specs.declared.question.Question.{Question}
@@ -8,7 +8,7 @@ use Rattle.tup_rule.specs.declared.question.Told.{Told}
 use Rattle.tup_ask.specs.declared.fault.ParseFault.{ParseFault}
 use Rattle.tup_ask.specs.declared.fault.ReadEnd.{ReadEnd}
 use Rattle.tup_ask.specs.declared.fault.ReadEnd.TheVariants.{Fault, Stopped, Memory}
-use Rattle.tup_ask.specs.Reads.{Reads, Asks, gives, and_then}
+use Rattle.tup_ask.specs.Reads.{Reads, gives, and_then}
 use Rattle.tup_ask.specs.Log.{Log, same_question, fits, StopsAt, told_before, Step, Ran, Says}
 use Rattle.tup_ask.specs.Ask.{asks}
 use Rattle.tup_ask.specs.Went.{Asker, asker, Comes, Went}

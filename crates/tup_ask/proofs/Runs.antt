@@ -1,13 +1,12 @@
 -- Runs of a process: one behind another, and what a log tells of every answer that agrees with it.
-use Rattle.std.proofs.Common.{◌≡◌, ◌⊎◌, inl, inr, Bool, true, false, cond, List, [], ◌∷◌, ◌++◌, Option, Some, None, Result, Ok, Err, refl, sym, ap, ◌∙◌, subst}
-use Rattle.std.specs.Map.{lookup}
+use Rattle.std.proofs.Common.{◌≡◌, inl, inr, Bool, true, false, cond, [], ◌∷◌, ◌++◌, Option, Some, None, Result, Ok, Err, refl, sym, ap, ◌∙◌, subst}
 use Rattle.std.proofs.lemmas.Slice.Eq.{bytes_eq-Decides}
 use Rattle.tup_path.proofs.Same.{same_path-decides}
 use Rattle.tup_rule.specs.declared.question.Question.{Question}
 use Rattle.tup_rule.specs.declared.question.Question.TheVariants as question
 use Rattle.tup_rule.specs.declared.question.Told.{Told}
 use Rattle.tup_ask.specs.Reads.{Reads, Ends, Asks, and_then, outcome}
-use Rattle.tup_ask.specs.Log.{Log, same_question, fits, told_before, Step, Ran, Halts, Says}
+use Rattle.tup_ask.specs.Log.{Log, same_question, told_before, Step, Ran, Halts, Says}
 
 -- ---- logs
 

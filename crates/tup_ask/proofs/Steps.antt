@@ -1,8 +1,8 @@
 -- Loops of calls that may ask: one turn, and the end.
-use Rattle.std.proofs.Common.{◌≡◌, ℕ, ◌+◌, ◌<◌, ◌≤◌, List, [], ◌∷◌, ◌++◌, length, get_or, drop, Option, sym, ap, ◌∙◌}
+use Rattle.std.proofs.Common.{◌≡◌, ℕ, ◌+◌, ◌<◌, ◌≤◌, List, [], ◌∷◌, ◌++◌, length, get_or, drop, sym, ap, ◌∙◌}
 use Rattle.std.proofs.lemmas.List.{at_drop_more, at_drop_all}
 use Rattle.tup_ask.specs.declared.fault.ParseFault.{ParseFault}
-use Rattle.tup_ask.specs.Reads.{Reads, gives, and_then}
+use Rattle.tup_ask.specs.Reads.{gives, and_then}
 use Rattle.tup_ask.specs.Ask.{Settings, setting_of, settings_of}
 
 -- what is left of the names that are asked

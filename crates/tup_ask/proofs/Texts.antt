@@ -12,7 +12,7 @@ use Rattle.tup_ask.specs.declared.fault.ReadEnd.{ReadEnd}
 use Rattle.tup_ask.specs.declared.fault.ReadEnd.TheVariants.{Memory}
 use Rattle.tup_ask.specs.Reads.{Reads, gives, and_then}
 use Rattle.tup_ask.specs.Ask.{Settings, settings_of}
-use Rattle.tup_ask.specs.Spot.{Spot, refused, cwd}
+use Rattle.tup_ask.specs.Spot.{Spot, cwd}
 use Rattle.tup_ask.specs.Text.{var_kind, value_among, taken, expanded}
 use Rattle.tup_ask.specs.Went.{Gives, IsRefusal}
 use Rattle.tup_ask.proofs.Went.{refusal_of}

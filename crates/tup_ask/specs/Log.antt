@@ -1,5 +1,5 @@
 -- What a reading asked and was told, each question once (own), and what it comes to by that alone.
-use Rattle.std.specs.Prelude.{◌≡◌, ◌⊎◌, ℕ, Bool, true, false, List, [], ◌∷◌, ◌++◌, IsTrue, Option, Some, None, Result, Ok, Err, map, bytes_eq}
+use Rattle.std.specs.Prelude.{◌≡◌, ◌⊎◌, Bool, true, false, List, [], ◌∷◌, ◌++◌, IsTrue, Option, Some, None, Result, Ok, Err, map, bytes_eq}
 use Rattle.std.specs.Map.{lookup}
 use Rattle.tup_path.specs.Order.{same_path}
 use Rattle.tup_rule.specs.declared.question.Question.{Question}

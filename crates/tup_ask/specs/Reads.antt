@@ -1,6 +1,6 @@
 -- A reading as a process (own): it ends with a value or a fault, or it asks something about the project and goes on with
 -- what it is told. So nothing that is said of a reading names who answers.
-use Rattle.std.specs.Prelude.{◌≡◌, ℕ, List, [], ◌∷◌, Result, Ok, Err, Contains}
+use Rattle.std.specs.Prelude.{◌≡◌, List, [], ◌∷◌, Result, Ok, Err, Contains}
 use Rattle.tup_rule.specs.declared.question.Question.{Question}
 use Rattle.tup_rule.specs.declared.question.Told.{Told}
 

@@ -1,6 +1,6 @@
 -- The parts of a rule begin and end between the characters of its text.
-use Rattle.std.proofs.Common.{◌≡◌, ◌⊎◌, inl, inr, ℕ, zero, suc, ◌+◌, ◌-◌, ◌<◌, ◌≤◌, Bool, true, false, cond, eqb, ltb, ◌&&◌, List, [], ◌∷◌, ◌++◌, length, take, drop, get_or, map, Option, Some, None, All, IfSome, IfOk, IsUtf8, option_map, Result, Ok, Err, refl, sym, ap, ◌∙◌, subst, arith, rules, length-drop, length-take, length-append, bytes_eq, reverse}
-use Rattle.std.specs.List.{filter, slice_split, onto_first, find, before_first, after_first, position_or_len, prefix_len, suffix_len}
+use Rattle.std.proofs.Common.{◌≡◌, ◌⊎◌, inl, inr, ℕ, zero, suc, ◌+◌, ◌-◌, ◌<◌, ◌≤◌, Bool, true, false, cond, eqb, ltb, ◌&&◌, List, [], ◌∷◌, ◌++◌, length, take, drop, get_or, map, Option, Some, None, All, IfSome, IfOk, IsUtf8, option_map, Result, Ok, Err, refl, sym, ap, ◌∙◌, subst, arith, length-drop, length-take, length-append, bytes_eq, reverse}
+use Rattle.std.specs.List.{slice_split, onto_first, find, before_first, after_first, position_or_len, prefix_len, suffix_len}
 use Rattle.std.specs.Str.{IsCharBoundary}
 use Rattle.std.proofs.lemmas.Bool.{and_parts, cases_lt}
 use Rattle.std.proofs.lemmas.Bool.Decides.{nat_tests}

@@ -1,7 +1,7 @@
 -- Words that name folders, and files in folders.
-use Rattle.std.proofs.Common.{◌≡◌, ℕ, ◌+◌, ◌-◌, ◌<◌, true, false, Bool, cond, eqb, if◌then◌else◌, List, [], ◌∷◌, ◌++◌, length, take, drop, Option, Some, None, Result, Ok, Err, slice_get, get_or, MatchOption, IfSome, refl, sym, ap, ◌∙◌, arith, eq-eqb, length-drop}
+use Rattle.std.proofs.Common.{◌≡◌, ℕ, ◌+◌, ◌-◌, ◌<◌, true, false, cond, eqb, if◌then◌else◌, List, [], ◌∷◌, ◌++◌, length, take, drop, Option, Some, None, Result, Ok, slice_get, get_or, MatchOption, IfSome, refl, sym, ap, ◌∙◌, arith, eq-eqb, length-drop}
 use Rattle.std.specs.List.{IsLastAndRest}
-use Rattle.std.proofs.lemmas.List.{take_all, take_at, length_push, nil_from_length}
+use Rattle.std.proofs.lemmas.List.{take_all, take_at, nil_from_length}
 use Rattle.std.proofs.lemmas.Bool.{ne_eqb}
 use Rattle.std.proofs.lemmas.Bool.Decides.{nat_tests}
 use Rattle.bstr.specs.Find.{NoneAfter, Nowhere, Passes, is_byte}
@@ -12,11 +12,10 @@ use Rattle.tup_lex.specs.Word.{last_name}
 use Rattle.tup_lex.proofs.Names.{last_name-after, last_name-whole}
 use Rattle.tup_lex.specs.declared.kind.ParseKind.{ParseKind}
 use Rattle.tup_path.specs.declared.fault.PathFault.{PathFault}
-use Rattle.tup_ask.specs.declared.fault.ParseFault.{ParseFault}
-use Rattle.tup_ask.specs.Reads.{Reads, gives}
+use Rattle.tup_ask.specs.Reads.{gives}
 use Rattle.tup_ask.specs.Spot.{Spot}
 use Rattle.tup_ask.specs.Text.{taken}
-use Rattle.tup_draft.specs.Folder.{name_in, front_of, folder_at, led_to_folder}
+use Rattle.tup_draft.specs.Folder.{name_in, front_of, led_to_folder}
 use Rattle.tup_ask.specs.Went.{Gives}
 
 -- ---- the last name of a word

@@ -1,5 +1,5 @@
 -- The files that a glob gives.
-use Rattle.std.proofs.Common.{◌≡◌, ℕ, ◌+◌, ◌<◌, ◌≤◌, Bool, true, false, ◌&&◌, if◌then◌else◌, List, [], ◌∷◌, ◌++◌, length, get_or, drop, fold, map, filter_map, flat_map, Option, Some, None, option_map, IsUtf8, refl, sym, ap, ◌∙◌, subst, arith, length-append, append_assoc}
+use Rattle.std.proofs.Common.{◌≡◌, ℕ, ◌+◌, ◌<◌, ◌≤◌, true, false, if◌then◌else◌, List, [], ◌∷◌, ◌++◌, length, get_or, drop, fold, map, filter_map, Option, None, option_map, IsUtf8, refl, sym, ap, ◌∙◌, subst, arith, length-append, append_assoc}
 use lib.Utf8.{scalar, scalars}
 use Rattle.std.specs.BTreeSet.{insert_key}
 use Rattle.std.specs.Result.{result_ok}

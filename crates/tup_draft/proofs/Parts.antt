@@ -1,35 +1,21 @@
 -- The parts of a rule line, case by case.
-use Rattle.std.proofs.Common.{◌≡◌, ◌⊎◌, inl, inr, ℕ, Bool, true, false, if◌then◌else◌, List, [], ◌∷◌, ◌++◌, Option, Some, None, is_some, IsSome, ◌↔◌, Result, Ok, Err, refl, sym, ap, ◌∙◌}
-use Rattle.tup_path.specs.Name.{Names}
-use Rattle.tup_lex.specs.Blank.{trim}
+use Rattle.std.proofs.Common.{◌≡◌, ◌⊎◌, inl, inr, ℕ, List, Option, Some, None, Result, Ok, Err, sym, ap, ◌∙◌}
 use Rattle.tup_path.specs.Gives.{GivesUnless}
 use Rattle.tup_lex.specs.Parts.{rule_parts}
 use Rattle.tup_lex.specs.declared.parts.Parts.{Parts}
 use Rattle.tup_lex.specs.declared.fault.LexFault.{LexFault}
 use Rattle.tup_lex.specs.declared.fault.LexFault.TheVariants as kept
 use Rattle.tup_lex.specs.declared.kind.ParseKind.TheVariants as kind
-use Rattle.tup_rule.specs.declared.draft.GroupRef.{GroupRef}
-use Rattle.tup_vars.specs.Name.{is_name}
 use Rattle.tup_macro.specs.Macros.{Definitions, macro_of}
 use Rattle.tup_macro.specs.declared.macros.Macro.{Macro}
-use Rattle.tup_macro.specs.declared.fault.MacroFault.{MacroFault}
-use Rattle.tup_macro.specs.declared.fault.MacroFault.TheVariants.{DefinedTwice}
 use Rattle.tup_ask.specs.declared.fault.ParseFault.{ParseFault}
 use Rattle.tup_ask.specs.declared.fault.ReadEnd.{ReadEnd}
 use Rattle.tup_ask.specs.declared.fault.ReadEnd.TheVariants.{Memory}
-use Rattle.tup_draft.specs.declared.found.Found.{Found}
-use Rattle.tup_draft.specs.declared.state.State.{State}
 use Rattle.tup_draft.specs.declared.words.Words.{Words}
 use Rattle.tup_ask.specs.Reads.{Reads, gives, and_then}
 use Rattle.tup_ask.specs.Spot.{Spot, refused}
-use Rattle.tup_ask.specs.Text.{taken, expanded}
-use Rattle.tup_draft.specs.Folder.{led_to_folder, group_in}
-use Rattle.tup_draft.specs.Found.{nothing_found}
-use Rattle.tup_draft.specs.Input.{from_words}
-use Rattle.tup_draft.specs.Job.{jobs_of, with_jobs}
-use Rattle.tup_draft.specs.RuleLine.{given_to, sources_of, with_files, with_words, ruled}
-use Rattle.tup_draft.specs.Words.{words_at, lex_kind, cut, filled, macro_name, with_named, with_macro, words_of}
-use Rattle.tup_draft.specs.MacroLine.{is_body, body_of, with_body, named_macro, defined}
+use Rattle.tup_ask.specs.Text.{taken}
+use Rattle.tup_draft.specs.Words.{words_at, lex_kind, cut, filled, macro_name, with_named, with_macro}
 use Rattle.tup_ask.specs.Went.{Gives, IsRefusal}
 use Rattle.tup_ask.proofs.Went.{refusal_of}
 

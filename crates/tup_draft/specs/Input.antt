@@ -1,5 +1,5 @@
 -- The input words of a rule, from the manual; what is refused, and what a word that is expanded to nothing is, is own.
-use Rattle.std.specs.Prelude.{ℕ, ◌||◌, Bool, true, false, if◌then◌else◌, List, [], ◌∷◌, map, Option, Some, None, bytes_eq}
+use Rattle.std.specs.Prelude.{ℕ, ◌||◌, Bool, true, false, if◌then◌else◌, List, [], ◌∷◌, map, Some, None, bytes_eq}
 use Rattle.tup_path.specs.Name.{Names}
 use Rattle.tup_lex.specs.declared.kind.ParseKind.TheVariants.{MissingInput, NoSuchBin}
 use Rattle.tup_rule.specs.declared.draft.Draft.{Draft}

@@ -1,5 +1,5 @@
 -- The commands of a rule line, from the manual; where none is made is own.
-use Rattle.std.specs.Prelude.{ℕ, ◌==◌, ◌&&◌, Bool, not, length, if◌then◌else◌, List, [], ◌∷◌, ◌++◌, map, fold, false, Option, Some, None, bytes_eq}
+use Rattle.std.specs.Prelude.{ℕ, ◌==◌, ◌&&◌, Bool, not, length, if◌then◌else◌, List, [], ◌∷◌, ◌++◌, map, fold, Option, Some, None, bytes_eq}
 use Rattle.std.specs.List.{list_any}
 use Rattle.tup_path.specs.Name.{Names}
 use Rattle.tup_lex.specs.declared.kind.ParseKind.TheVariants.{BadCaret}

@@ -1,5 +1,5 @@
 -- A macro line, from the manual; what is refused, and in which order, is own.
-use Rattle.std.specs.Prelude.{ℕ, ◌&&◌, ◌||◌, Bool, true, false, not, if◌then◌else◌, List, [], ◌∷◌, ◌++◌, length, ◌==◌, is_some, is_none}
+use Rattle.std.specs.Prelude.{ℕ, ◌&&◌, ◌||◌, Bool, not, if◌then◌else◌, List, [], ◌∷◌, ◌++◌, length, ◌==◌, is_some, is_none}
 use Rattle.std.specs.List.{list_any}
 use Rattle.tup_lex.specs.Blank.{trim}
 use Rattle.tup_lex.specs.declared.kind.ParseKind.TheVariants.{BadName, BadBrace, DefinedTwice}

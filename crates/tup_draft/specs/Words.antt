@@ -1,5 +1,5 @@
 -- The parts of a rule line as texts, from the manual.
-use Rattle.std.specs.Prelude.{ℕ, Bool, List, [], ◌∷◌, ◌++◌, map, codes, Option, Some, None, option_map}
+use Rattle.std.specs.Prelude.{ℕ, List, [], ◌∷◌, ◌++◌, map, codes, Option, Some, None, option_map}
 use Rattle.tup_vars.specs.Config.{behind}
 use Rattle.tup_lex.specs.Parts.{rule_parts}
 use Rattle.tup_lex.specs.declared.parts.Parts.{Parts}

@@ -1,5 +1,5 @@
 -- The files that a reading opens, case by case.
-use Rattle.std.proofs.Common.{◌≡◌, ◌⊎◌, inl, inr, ℕ, Bool, true, false, cond, leb, ltb, not, List, [], ◌∷◌, ◌++◌, length, Option, Some, None, Result, Ok, Err, option_map, refl, sym, ap, ◌∙◌}
+use Rattle.std.proofs.Common.{◌≡◌, ◌⊎◌, inl, inr, ℕ, Bool, true, false, cond, leb, ltb, not, List, [], ◌∷◌, ◌++◌, length, Option, Some, None, Result, Ok, Err, option_map, refl, sym, ap}
 use Rattle.tup_path.specs.Name.{Names, Content}
 use Rattle.tup_path.specs.Gives.{GivesUnless}
 use Rattle.tup_path.specs.Resolve.{is_visible, below}

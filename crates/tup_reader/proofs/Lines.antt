@@ -7,7 +7,6 @@ use Rattle.tup_lex.specs.declared.line.Line.{Line}
 use Rattle.tup_lex.specs.declared.kind.ParseKind.TheVariants as kind
 use Rattle.tup_rule.specs.declared.draft.Draft.{Draft}
 use Rattle.tup_vars.specs.Branches.{turned, left, all_on}
-use Rattle.tup_vars.specs.Table.{Entries}
 use Rattle.tup_ask.specs.declared.fault.ParseFault.{ParseFault}
 use Rattle.tup_ask.specs.declared.fault.ReadEnd.{ReadEnd}
 use Rattle.tup_ask.specs.declared.fault.ReadEnd.TheVariants.{Memory}

@@ -1,5 +1,5 @@
 -- Conditional lines, case by case.
-use Rattle.std.proofs.Common.{◌≡◌, ◌⊎◌, inl, inr, Bool, true, false, if◌then◌else◌, List, Result, Ok, Err, refl, sym, ap, ◌∙◌}
+use Rattle.std.proofs.Common.{◌≡◌, ◌⊎◌, inl, inr, Bool, true, false, if◌then◌else◌, List, Result, Ok, Err, ap}
 use Rattle.tup_vars.specs.declared.branches.Level.{Level}
 use Rattle.tup_vars.specs.declared.fault.VarFault.{VarFault}
 use Rattle.tup_vars.specs.declared.fault.VarFault.TheVariants as kept

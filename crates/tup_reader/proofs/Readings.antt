@@ -1,5 +1,5 @@
 -- What the whole reading leaves.
-use Rattle.std.proofs.Common.{◌≡◌, Bool, true, false, cond, List, [], ◌∷◌, ◌++◌, map, Option, Some, None, option_map, Result, Ok, Err, refl, sym, ap, ◌∙◌, subst, IsTrue}
+use Rattle.std.proofs.Common.{◌≡◌, Bool, true, false, cond, List, [], ◌∷◌, Option, Some, None, option_map, Result, Ok, Err, refl, sym, ap, ◌∙◌, subst, IsTrue}
 use Rattle.std.specs.Map.{lookup}
 use Rattle.tup_path.specs.Name.{Names}
 use Rattle.tup_rule.specs.declared.draft.Draft.{Draft}
@@ -11,11 +11,11 @@ use Rattle.tup_rule.specs.Question.{noted}
 use Rattle.tup_ask.specs.declared.fault.ParseFault.{ParseFault}
 use Rattle.tup_ask.specs.declared.fault.ReadEnd.{ReadEnd}
 use Rattle.tup_ask.specs.declared.fault.ReadEnd.TheVariants.{Fault, Stopped, Memory}
-use Rattle.tup_ask.specs.Reads.{Reads, outcome}
+use Rattle.tup_ask.specs.Reads.{Reads}
 use Rattle.tup_ask.specs.Log.{Log, same_question, told_before, Ran, Says, noted_log}
 use Rattle.tup_reader.specs.Read.{IsReading, KeepsAnswers, Agrees}
 use Rattle.tup_reader.specs.Reading.{reading}
-use Rattle.tup_ask.specs.Went.{Asker, Comes, Went, is_stopped}
+use Rattle.tup_ask.specs.Went.{Asker, Comes, Went}
 use Rattle.tup_ask.proofs.Runs.{ran_outcome}
 
 -- nothing is said of what was not asked

@@ -1,7 +1,7 @@
 -- The rules of every reading can be run in the order of their lines.
-use Rattle.std.proofs.Common.{◌≡◌, ◌⊎◌, inl, inr, ℕ, zero, suc, ◌+◌, ◌-◌, ◌<◌, Bool, true, false, ◌||◌, cond, if◌then◌else◌, List, [], ◌∷◌, ◌++◌, length, get_or, map, fold, Option, Some, None, option_map, Result, Ok, Err, All, bytes_eq, codes, refl, sym, ap, ◌∙◌, subst, append_assoc, append-nil, arith, length-append, not, is_some}
-use Rattle.std.specs.List.{list_any, filter_map, cons_option, flat_map, IsLastAndRest}
-use Rattle.std.specs.Map.{lookup, set_value}
+use Rattle.std.proofs.Common.{◌≡◌, ◌⊎◌, inl, inr, ℕ, zero, suc, ◌+◌, ◌-◌, Bool, true, false, ◌||◌, cond, if◌then◌else◌, List, [], ◌∷◌, ◌++◌, length, get_or, map, fold, Option, Some, None, option_map, Result, Ok, Err, All, bytes_eq, codes, refl, sym, ap, ◌∙◌, subst, append_assoc, append-nil, arith, length-append, not, is_some}
+use Rattle.std.specs.List.{filter_map, cons_option}
+use Rattle.std.specs.Map.{set_value}
 use Rattle.std.specs.BTreeSet.{insert_key}
 use Rattle.std.specs.Option.{option_map_or}
 use Rattle.std.specs.Result.{result_ok}
@@ -21,7 +21,6 @@ use Rattle.tup_lex.specs.declared.kind.ParseKind.{ParseKind}
 use Rattle.tup_lex.specs.declared.kind.ParseKind.TheVariants as fault
 use Rattle.tup_rule.specs.Rule.{among}
 use Rattle.tup_rule.specs.declared.draft.Draft.{Draft}
-use Rattle.tup_rule.specs.declared.draft.GroupRef.{GroupRef}
 use Rattle.tup_rule.specs.declared.question.Kind.{Kind}
 use Rattle.tup_rule.specs.declared.question.Kind.TheVariants.{File, Dir, Nothing}
 use Rattle.tup_rule.specs.declared.question.Question.{Question}
@@ -32,7 +31,6 @@ use Rattle.tup_glob.specs.declared.symbol.Symbol.{Symbol}
 use Rattle.tup_flags.specs.declared.parts.FlagParts.{FlagParts}
 use Rattle.tup_flags.specs.declared.parts.Place.TheVariants as place
 use Rattle.tup_macro.specs.Gifts.{GiftsTo, members_of, with_gift}
-use Rattle.tup_vars.specs.Table.{Entries}
 use Rattle.tup_vars.specs.declared.fault.VarFault.{VarFault}
 use Rattle.tup_vars.specs.Name.{is_free, is_name}
 use Rattle.tup_vars.specs.declared.branches.Level.{Level}
@@ -50,7 +48,7 @@ use Rattle.tup_reader.specs.declared.opening.Along.{Along}
 use Rattle.tup_draft.specs.declared.state.State.{State}
 use Rattle.tup_draft.specs.declared.words.Words.{Words}
 use Rattle.tup_ask.specs.Reads.{Reads, Ends, Asks, gives, and_then, outcome}
-use Rattle.tup_ask.specs.Ask.{asks, kind_in, names_in, kind_at, names_at}
+use Rattle.tup_ask.specs.Ask.{asks, names_in, kind_at, names_at}
 use Rattle.tup_ask.specs.Spot.{Spot, refused}
 use Rattle.tup_draft.specs.State.{made_by, is_made}
 use Rattle.tup_ask.specs.Text.{taken}

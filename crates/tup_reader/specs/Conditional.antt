@@ -1,5 +1,5 @@
 -- What conditionals test, from the manual; the bracket at the line's end and the first comma are own.
-use Rattle.std.specs.Prelude.{ℕ, Bool, true, false, if◌then◌else◌, List, Option, Some, None, option_and_then, is_some, bytes_eq, not, codes}
+use Rattle.std.specs.Prelude.{ℕ, Bool, if◌then◌else◌, List, Option, Some, None, option_and_then, is_some, bytes_eq, not, codes}
 use Rattle.tup_lex.specs.declared.kind.ParseKind.TheVariants.{Unclosed, BadName}
 use Rattle.tup_vars.specs.Name.{is_name}
 use Rattle.tup_vars.specs.Config.{around, behind}

@@ -14,7 +14,7 @@ use Rattle.tup_ask.specs.Reads.{Reads, gives, and_then}
 use Rattle.tup_ask.specs.Spot.{Spot, spot, refused}
 use Rattle.tup_draft.specs.State.{fresh}
 use Rattle.tup_ask.specs.Text.{expanded}
-use Rattle.tup_reader.specs.Kind.{Kind, Compares, Looks, Else, Endif, Complains, IncludesRules, Includes, Rules, Defines, Sets, Unknown, kind_of}
+use Rattle.tup_reader.specs.Kind.{Kind, Compares, Looks, Else, Endif, Complains, IncludesRules, Includes, Rules, Defines, Sets, kind_of}
 use Rattle.tup_reader.specs.Setting.{assigned}
 use Rattle.tup_reader.specs.Conditional.{compares, looked_up}
 use Rattle.tup_reader.specs.Opening.{along, at_levels, opening}

@@ -1,5 +1,5 @@
 -- Assignments, from the manual; what is refused, and in which order, is own.
-use Rattle.std.specs.Prelude.{ℕ, Bool, if◌then◌else◌, List, Option, Some, None, is_some, Result}
+use Rattle.std.specs.Prelude.{ℕ, Bool, if◌then◌else◌, List, Some, None, is_some, Result}
 use Rattle.tup_lex.specs.Blank.{trim}
 use Rattle.tup_lex.specs.declared.kind.ParseKind.TheVariants.{BadName}
 use Rattle.tup_vars.specs.Name.{is_free}

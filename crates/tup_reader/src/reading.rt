@@ -1,5 +1,5 @@
 //! The reading of a folder's Tupfile, line by line.
-ghost use Rattle.std.specs.Prelude.{◌≡◌, [], false, is_some};
+ghost use Rattle.std.specs.Prelude.{◌≡◌, false, is_some};
 ghost use Rattle.tup_reader.specs.Reading as specs;
 ghost use Rattle.tup_reader.specs.Kind as kind;
 ghost use Rattle.tup_ask.specs.Went.{Went, asker};

@@ -1,6 +1,4 @@
-use Rattle.std.proofs.Common.{◌≡◌, ap, ◌∙◌}
 use Rattle.std.proofs.lemmas.Result.{err_from_is_err_and}
-use Rattle.tup_draft.specs.Job.{flag_parts}
 use Rattle.tup_ask.proofs.Went.{went_nowhere}
 use Rattle.tup_draft.proofs.command.named_outputs.Goals as goal
 

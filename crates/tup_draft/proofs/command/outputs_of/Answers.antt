@@ -1,4 +1,3 @@
-use Rattle.std.proofs.Common.{◌≡◌, [], Ok, Err, ap, sym, ◌∙◌}
 use Rattle.std.proofs.lemmas.Result.{err_from_is_err_and}
 use Rattle.tup_ask.proofs.Went.{went_then, went_err, went_gives, went_along}
 use Rattle.tup_draft.proofs.Jobs.{both, behind_plain, outputs_by}

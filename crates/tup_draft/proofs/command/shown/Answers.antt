@@ -1,4 +1,4 @@
-use Rattle.std.proofs.Common.{◌≡◌, ℕ, List, Option, Some, Ok, Err, ap, sym, subst, refl}
+use Rattle.std.proofs.Common.{ℕ, List, Option, Some, Ok, Err, ap, sym, subst, refl}
 use Rattle.std.proofs.lemmas.Result.{err_from_is_err_and}
 use Rattle.tup_ask.specs.Reads.{gives}
 use Rattle.tup_draft.specs.Flagged.{flagged}

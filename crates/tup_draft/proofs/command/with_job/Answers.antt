@@ -1,8 +1,8 @@
-use Rattle.std.proofs.Common.{◌≡◌, Ok, Err, ap, sym, ◌∙◌, subst}
+use Rattle.std.proofs.Common.{Ok, Err, subst}
 use Rattle.std.proofs.lemmas.Result.{err_from_is_err_and}
 use Rattle.tup_flags.specs.declared.parts.FlagParts.{FlagParts}
 use Rattle.tup_flags.specs.declared.parts.Place.TheVariants as place
-use Rattle.tup_draft.specs.Job.{flag_parts, spoken, draft_of, with_draft}
+use Rattle.tup_draft.specs.Job.{flag_parts, spoken}
 use Rattle.tup_ask.specs.Went.{Gives}
 use Rattle.tup_ask.proofs.Went.{went_then, went_err, went_gives, went_given, went_memory, went_along}
 use Rattle.tup_draft.proofs.Jobs.{behind_text, behind_outputs, job_by}

@@ -1,4 +1,4 @@
-use Rattle.std.proofs.Common.{ap, sym, ◌∙◌, append-nil, ◌++◌, ◌≡◌, length, ◌≤◌, ◌+◌, drop, arith}
+use Rattle.std.proofs.Common.{ap, sym, ◌∙◌, append-nil, ◌++◌, ◌+◌, drop, arith}
 use Rattle.std.proofs.lemmas.List.{at_drop_all}
 use Rattle.tup_draft.specs.Flagged.{text_of}
 use Rattle.tup_draft.proofs.Pieces.{text_more}

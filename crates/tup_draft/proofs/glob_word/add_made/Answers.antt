@@ -1,4 +1,4 @@
-use Rattle.std.proofs.Common.{◌≡◌, ◌≤◌, ◌+◌, List, ℕ, length, drop, sym, ap, ◌∙◌, arith}
+use Rattle.std.proofs.Common.{◌+◌, List, ℕ, drop, sym, ap, ◌∙◌, arith}
 use Rattle.tup_path.specs.Name.{Names}
 use Rattle.tup_draft.specs.State.{made_by}
 use Rattle.tup_draft.proofs.Globs.{with_names, made_more, made_end}

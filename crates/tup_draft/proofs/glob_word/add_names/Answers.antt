@@ -1,4 +1,4 @@
-use Rattle.std.proofs.Common.{◌≡◌, ◌≤◌, ◌+◌, List, ℕ, length, drop, sym, ap, ◌∙◌, arith}
+use Rattle.std.proofs.Common.{◌+◌, List, ℕ, drop, sym, ap, ◌∙◌, arith}
 use Rattle.tup_draft.proofs.Globs.{with_names, named_more, named_end}
 use Rattle.tup_draft.proofs.glob_word.add_names.Goals as goal
 

@@ -1,4 +1,4 @@
-use Rattle.std.proofs.Common.{sym, ap, ◌∙◌, subst, List, ℕ, Ok, Err}
+use Rattle.std.proofs.Common.{subst, List, ℕ, Ok, Err}
 use Rattle.tup_lex.specs.declared.kind.ParseKind.TheVariants.{OpenBracket}
 use Rattle.tup_path.specs.Gives.{GivesUnless}
 use Rattle.tup_glob.specs.Read.{symbols_of}

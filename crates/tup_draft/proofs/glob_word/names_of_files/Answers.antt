@@ -1,4 +1,4 @@
-use Rattle.std.proofs.Common.{◌≡◌, List, ℕ, fold, sym, ap, ◌∙◌}
+use Rattle.std.proofs.Common.{List, ℕ, fold, sym, ap, ◌∙◌}
 use Rattle.std.specs.BTreeSet.{insert_key}
 use Rattle.tup_path.specs.Order.{by_bytes}
 use Rattle.tup_draft.specs.State.{made_by}

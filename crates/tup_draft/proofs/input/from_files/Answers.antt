@@ -1,6 +1,5 @@
-use Rattle.std.proofs.Common.{◌≡◌, ℕ, List, true, false, Ok, Err, subst, sym, ap, ◌∙◌}
+use Rattle.std.proofs.Common.{◌≡◌, true, false, Ok, Err, subst, sym, ap, ◌∙◌}
 use Rattle.std.proofs.lemmas.Result.{err_from_is_err_and}
-use Rattle.tup_path.specs.Name.{Names}
 use Rattle.tup_flags.specs.declared.parts.FlagParts.{FlagParts}
 use Rattle.tup_draft.specs.Flagged.{bare_parts, flagged_text}
 use Rattle.tup_draft.specs.Glob.{is_glob}

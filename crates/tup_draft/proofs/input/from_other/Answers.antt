@@ -1,4 +1,4 @@
-use Rattle.std.proofs.Common.{◌≡◌, true, false, ap, sym, ◌∙◌}
+use Rattle.std.proofs.Common.{◌≡◌, true, false}
 use Rattle.tup_draft.specs.Folder.{is_group}
 use Rattle.tup_draft.specs.Input.{from_group}
 use Rattle.tup_ask.proofs.Went.{went_along, went_given}

@@ -1,4 +1,4 @@
-use Rattle.std.proofs.Common.{◌≡◌, ◌||◌, true, false, inr, Ok, ap, sym, ◌∙◌}
+use Rattle.std.proofs.Common.{◌≡◌, ◌||◌, true, false, inr, ap, sym, ◌∙◌}
 use Rattle.tup_lex.specs.declared.kind.ParseKind.TheVariants.{MissingInput}
 use Rattle.tup_ask.specs.Reads.{gives}
 use Rattle.tup_draft.specs.State.{is_made}

@@ -1,4 +1,3 @@
-use Rattle.std.proofs.Common.{◌≡◌, Err, ap, sym, ◌∙◌}
 use Rattle.std.proofs.lemmas.Result.{err_from_is_err_and}
 use Rattle.tup_draft.specs.MacroLine.{named_macro}
 use Rattle.tup_lex.specs.Blank.{trim}

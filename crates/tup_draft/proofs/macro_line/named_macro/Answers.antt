@@ -1,10 +1,9 @@
-use Rattle.std.proofs.Common.{◌≡◌, true, false, Err, Ok, ap, sym, ◌∙◌}
+use Rattle.std.proofs.Common.{◌≡◌, true, false, Err, sym, ◌∙◌}
 use Rattle.std.proofs.lemmas.Result.{err_from_is_err_and}
 use Rattle.tup_lex.specs.declared.kind.ParseKind.TheVariants.{BadName}
 use Rattle.tup_vars.specs.Name.{is_name}
 use Rattle.tup_draft.specs.declared.state.State.{State}
 use Rattle.tup_draft.specs.Words.{cut}
-use Rattle.tup_draft.specs.MacroLine.{named_macro}
 use Rattle.tup_ask.proofs.Went.{gives_then, gives_err, gives_along, gives_refusal}
 use Rattle.tup_draft.proofs.Rules.{behind_cut, name-bad, name-good}
 use Rattle.tup_draft.proofs.macro_line.named_macro.Goals as goal

@@ -1,8 +1,8 @@
-use Rattle.std.proofs.Common.{◌≡◌, true, false, Err, Ok, refl, ap, sym, ◌∙◌, is_some}
+use Rattle.std.proofs.Common.{◌≡◌, true, false, Err, Ok, refl, ap, sym, ◌∙◌}
 use Rattle.tup_lex.specs.declared.kind.ParseKind.TheVariants.{BadBrace, DefinedTwice}
 use Rattle.tup_macro.specs.Macros.{macro_of}
 use Rattle.tup_draft.specs.declared.state.State.{State}
-use Rattle.tup_draft.specs.MacroLine.{is_body, with_body}
+use Rattle.tup_draft.specs.MacroLine.{is_body}
 use Rattle.tup_ask.proofs.Went.{gives_along, gives_refusal}
 use Rattle.tup_draft.proofs.Rules.{body-bad, body-kept, body-twice, not-there}
 use Rattle.tup_draft.proofs.macro_line.with_body.Goals as goal

@@ -1,4 +1,4 @@
-use Rattle.std.proofs.Common.{◌≡◌, ◌+◌, ◌∷◌, ◌++◌, [], drop, ap, sym, arith, rules}
+use Rattle.std.proofs.Common.{◌+◌, ◌∷◌, ◌++◌, [], drop, arith}
 use Rattle.std.proofs.lemmas.Result.{err_from_is_err_and}
 use Rattle.tup_draft.specs.Output.{from_outputs}
 use Rattle.tup_ask.proofs.Went.{went_then, went_err, went_gives, went_memory, went_along}

@@ -1,4 +1,4 @@
-use Rattle.std.proofs.Common.{◌≡◌, true, false, ap, sym, ◌∙◌}
+use Rattle.std.proofs.Common.{◌≡◌, true, false}
 use Rattle.std.proofs.lemmas.Result.{err_from_is_err_and}
 use Rattle.tup_draft.specs.Output.{may_make, new_output}
 use Rattle.tup_ask.proofs.Went.{went_then, went_err, went_given, went_along, went_refuses}

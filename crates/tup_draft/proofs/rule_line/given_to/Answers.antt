@@ -1,4 +1,4 @@
-use Rattle.std.proofs.Common.{◌≡◌, ℕ, List, subst, Option, Some, Result, Err, Ok, refl, ap, sym, ◌∙◌}
+use Rattle.std.proofs.Common.{ℕ, List, subst, Option, Some, Result, Err, Ok, refl}
 use Rattle.std.proofs.lemmas.Result.{err_from_is_err_and}
 use Rattle.tup_lex.specs.declared.kind.ParseKind.TheVariants.{ForeignOutput}
 use Rattle.tup_rule.specs.declared.draft.GroupRef.{GroupRef}

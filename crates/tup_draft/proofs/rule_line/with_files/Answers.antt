@@ -1,6 +1,5 @@
-use Rattle.std.proofs.Common.{◌≡◌, Err, ap, sym, ◌∙◌}
 use Rattle.std.proofs.lemmas.Result.{err_from_is_err_and}
-use Rattle.tup_draft.specs.RuleLine.{given_to, with_files}
+use Rattle.tup_draft.specs.RuleLine.{given_to}
 use Rattle.tup_ask.proofs.Went.{went_ok, went_bad, went_nowhere, went_along}
 use Rattle.tup_draft.proofs.Rules.{behind_group, files_by}
 use Rattle.tup_draft.proofs.rule_line.with_files.Goals as goal

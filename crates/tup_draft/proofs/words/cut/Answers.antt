@@ -1,4 +1,4 @@
-use Rattle.std.proofs.Common.{◌≡◌, List, ℕ, sym, ◌∙◌, ap, subst}
+use Rattle.std.proofs.Common.{List, ℕ, sym, ◌∙◌, ap, subst}
 use Rattle.tup_draft.specs.Cut.{AreCut}
 use Rattle.tup_draft.specs.Words.{words_at}
 use Rattle.tup_draft.proofs.Cuttings.{given-cut}

@@ -1,4 +1,4 @@
-use Rattle.std.proofs.Common.{◌≡◌, inr, ap, sym, ◌∙◌}
+use Rattle.std.proofs.Common.{inr, ap, sym, ◌∙◌}
 use Rattle.tup_lex.specs.declared.kind.ParseKind.TheVariants.{NoSuchMacro}
 use Rattle.tup_draft.specs.declared.words.Words.{Words}
 use Rattle.tup_ask.specs.Reads.{gives}

@@ -1,4 +1,4 @@
-use Rattle.std.proofs.Common.{◌≡◌, Err, ap, sym, ◌∙◌}
+use Rattle.std.proofs.Common.{Err, ap, sym, ◌∙◌}
 use Rattle.tup_lex.specs.declared.kind.ParseKind.TheVariants.{MissingEndif}
 use Rattle.tup_ask.specs.Spot.{spot}
 use Rattle.tup_draft.specs.declared.state.State.{State}

@@ -1,4 +1,4 @@
-use Rattle.std.proofs.Common.{◌≡◌, Some, None, Err, ap, sym, ◌∙◌}
+use Rattle.std.proofs.Common.{◌≡◌, Some, None, sym, ◌∙◌}
 use Rattle.tup_draft.specs.Folder.{file_in}
 use Rattle.tup_ask.proofs.Went.{went_gives, went_along}
 use Rattle.tup_reader.proofs.Files.{held-some, held-none}

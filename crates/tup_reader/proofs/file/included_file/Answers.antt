@@ -1,4 +1,3 @@
-use Rattle.std.proofs.Common.{◌≡◌, Err, ap, sym, ◌∙◌}
 use Rattle.std.proofs.lemmas.Result.{err_from_is_err_and}
 use Rattle.tup_reader.specs.File.{included_path}
 use Rattle.tup_ask.proofs.Went.{went_then, went_err, went_ok, went_bad, went_along}

@@ -1,4 +1,3 @@
-use Rattle.std.proofs.Common.{◌≡◌, ap, sym, ◌∙◌}
 use Rattle.tup_reader.proofs.Files.{lines-ok, lines-err}
 use Rattle.tup_reader.proofs.file.lines_of.Goals as goal
 

@@ -1,7 +1,5 @@
-use Rattle.std.proofs.Common.{◌≡◌, Some, None, Err, Option, ap, sym, ◌∙◌, subst, Ok, Result}
+use Rattle.std.proofs.Common.{ap}
 use Rattle.std.proofs.lemmas.Result.{err_from_is_err_and}
-use Rattle.tup_lex.specs.declared.kind.ParseKind.TheVariants.{IncludeMissing}
-use Rattle.tup_reader.specs.declared.file.Held.{Held}
 use Rattle.tup_ask.proofs.Went.{went_then, went_err, went_gives, went_refuses, went_along}
 use Rattle.tup_reader.proofs.Files.{wanted, named_by}
 use Rattle.tup_reader.proofs.file.named_file.Goals as goal

@@ -1,14 +1,13 @@
-use Rattle.std.proofs.Common.{◌≡◌, ℕ, List, ◌+◌, ◌-◌, ◌∷◌, ◌++◌, [], suc, true, false, codes, drop, Some, None, Ok, Err, refl, ap, sym, ◌∙◌, arith, rules, is_some}
+use Rattle.std.proofs.Common.{◌≡◌, ℕ, List, ◌+◌, ◌-◌, ◌∷◌, ◌++◌, [], true, false, drop, ap, sym, ◌∙◌, arith, is_some}
 use Rattle.std.proofs.lemmas.Result.{err_from_is_err_and}
 use Rattle.tup_lex.specs.declared.kind.ParseKind.TheVariants as fault
 use Rattle.tup_vars.specs.Branches.{turned, left, all_on}
-use Rattle.tup_reader.specs.declared.kind.LineKind.{LineKind}
 use Rattle.tup_ask.specs.Spot.{spot}
 use Rattle.tup_reader.specs.Opening.{along, at_levels}
 use Rattle.tup_reader.specs.File.{lines_of, ended}
 use Rattle.tup_reader.specs.Kind.{Compares, Looks, Else, Endif, kind_of, in_bytes}
 use Rattle.tup_reader.specs.Reading.{opener_of, with_kind, with_lines, plain_line, ruled_below}
-use Rattle.tup_ask.proofs.Went.{went_then, went_err, went_ok, went_bad, went_gives, went_given, went_refuses, went_memory, went_nowhere, went_along}
+use Rattle.tup_ask.proofs.Went.{went_then, went_err, went_ok, went_bad, went_gives, went_given, went_refuses, went_nowhere, went_along}
 use Rattle.tup_reader.proofs.Lines as lines
 use Rattle.tup_reader.proofs.reading.+reading.Goals as goal
 

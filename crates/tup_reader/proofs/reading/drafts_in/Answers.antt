@@ -1,6 +1,6 @@
-use Rattle.std.proofs.Common.{◌≡◌, ◌⊎◌, inl, inr, Ok, Err, refl, ap, sym, ◌∙◌}
+use Rattle.std.proofs.Common.{Ok, refl}
 use Rattle.std.proofs.lemmas.Result.{err_from_is_err_and}
-use Rattle.tup_ask.proofs.Went.{went_then, went_err, went_gives, went_nowhere, went_along}
+use Rattle.tup_ask.proofs.Went.{went_then, went_err, went_gives, went_along}
 use Rattle.tup_reader.proofs.Lines.{drafts_behind, drafts_by, new-state}
 use Rattle.tup_reader.proofs.reading.drafts_in.Goals as goal
 

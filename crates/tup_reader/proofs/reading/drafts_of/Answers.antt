@@ -1,4 +1,4 @@
-use Rattle.std.proofs.Common.{◌≡◌, Err, ap, sym, ◌∙◌}
+use Rattle.std.proofs.Common.{ap}
 use Rattle.std.proofs.lemmas.Result.{err_from_is_err_and}
 use Rattle.tup_ask.proofs.Went.{went_then, went_err, went_gives, went_along}
 use Rattle.tup_reader.proofs.Lines.{if_found, reading_by}
