@@ -1,5 +1,5 @@
 -- Words that name folders, and files in folders.
-use Rattle.std.proofs.Common.{◌≡◌, ℕ, ◌+◌, ◌-◌, ◌<◌, true, false, cond, eqb, if◌then◌else◌, List, [], ◌∷◌, ◌++◌, length, take, drop, Option, Some, None, Result, Ok, slice_get, get_or, MatchOption, IfSome, refl, sym, ap, ◌∙◌, arith, eq-eqb, length-drop}
+use Rattle.std.proofs.Common.{◌≡◌, inl, inr, ℕ, ◌+◌, ◌-◌, ◌<◌, Bool, true, false, cond, eqb, leb, ltb, not, if◌then◌else◌, List, [], ◌∷◌, ◌++◌, length, take, drop, Option, Some, None, Result, Ok, Err, slice_get, get_or, MatchOption, IfSome, refl, sym, ap, ◌∙◌, arith, eq-eqb, length-drop}
 use Rattle.std.specs.List.{IsLastAndRest}
 use Rattle.std.proofs.lemmas.List.{take_all, take_at, nil_from_length}
 use Rattle.std.proofs.lemmas.Bool.{ne_eqb}
@@ -7,11 +7,13 @@ use Rattle.std.proofs.lemmas.Bool.Decides.{nat_tests}
 use Rattle.bstr.specs.Find.{NoneAfter, Nowhere, Passes, is_byte}
 use Rattle.tup_path.specs.Name.{Names}
 use Rattle.tup_path.specs.Order.{same_path}
-use Rattle.tup_path.specs.Resolve.{resolve}
+use Rattle.tup_path.specs.Gives.{GivesUnless}
+use Rattle.tup_path.specs.Resolve.{is_visible, below, resolve}
 use Rattle.tup_lex.specs.Word.{last_name}
 use Rattle.tup_lex.proofs.Names.{last_name-after, last_name-whole}
 use Rattle.tup_lex.specs.declared.kind.ParseKind.{ParseKind}
 use Rattle.tup_path.specs.declared.fault.PathFault.{PathFault}
+use Rattle.tup_path.specs.declared.fault.PathFault.TheVariants as path_kept
 use Rattle.tup_ask.specs.Reads.{gives}
 use Rattle.tup_ask.specs.Spot.{Spot}
 use Rattle.tup_ask.specs.Text.{taken}
@@ -65,3 +67,14 @@ unfolding taken
 folder_none at kind word copy none same =
     ap (λ (front : Option (List ℕ)). taken at (λ (fault : PathFault). kind) (elim front as (λ _. Result Names PathFault) [ Some front ↦ resolve at.dir front | None ↦ Ok at.dir ])) none
     ∙ ap (λ (dir : Names). gives dir) (sym same)
+
+-- ---- paths
+pub below-ok : (dir : Names) (name : List ℕ) (path : Names) → GivesUnless (Ok path) path_kept.Memory (below dir name) → path ≡ dir ++ name ∷ []
+below-ok dir name path (inl e) = absurd (cc)
+below-ok dir name path (inr e) = by (ltb 255 (length name)) (not (is_visible name)) (leb 32 (length dir)) e
+  where
+    by : (long hidden deep : Bool) → Ok path ≡ cond long (Err path_kept.TooLong) (cond hidden (Err path_kept.Hidden) (cond deep (Err path_kept.TooLong) (Ok (dir ++ name ∷ [])))) → path ≡ dir ++ name ∷ []
+    by true hidden deep e = absurd (cc)
+    by false true deep e = absurd (cc)
+    by false false true e = absurd (cc)
+    by false false false e = cc

@@ -8,3 +8,4 @@ pub mod Globs
 pub mod Cuttings
 pub mod Parts
 pub mod Rules
+pub mod Soundness

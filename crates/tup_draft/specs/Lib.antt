@@ -12,3 +12,4 @@ pub mod Output
 pub mod Words
 pub mod RuleLine
 pub mod MacroLine
+pub mod Sound

@@ -1,9 +1,7 @@
 -- The files that a reading opens, case by case.
-use Rattle.std.proofs.Common.{◌≡◌, ◌⊎◌, inl, inr, ℕ, Bool, true, false, cond, leb, ltb, not, List, [], ◌∷◌, ◌++◌, length, Option, Some, None, Result, Ok, Err, option_map, refl, sym, ap}
+use Rattle.std.proofs.Common.{◌≡◌, ◌⊎◌, inl, inr, ℕ, List, [], ◌∷◌, Option, Some, None, Result, Ok, Err, option_map, refl, sym, ap}
 use Rattle.tup_path.specs.Name.{Names, Content}
 use Rattle.tup_path.specs.Gives.{GivesUnless}
-use Rattle.tup_path.specs.Resolve.{is_visible, below}
-use Rattle.tup_path.specs.declared.fault.PathFault.TheVariants as path_kept
 use Rattle.tup_lex.specs.Line.{lines}
 use Rattle.tup_lex.specs.declared.line.Line.{Line}
 use Rattle.tup_lex.specs.declared.fault.LexFault.{LexFault}
@@ -106,14 +104,3 @@ ended-open dir file before line e = by before.levels e
     by (outermost ∷ more) e =
         let same : outermost.line ≡ line = cc in
         ap (λ (n : ℕ). refused {A = State} (spot dir file n) MissingEndif) same
-
--- ---- paths
-pub below-ok : (dir : Names) (name : List ℕ) (path : Names) → GivesUnless (Ok path) path_kept.Memory (below dir name) → path ≡ dir ++ name ∷ []
-below-ok dir name path (inl e) = absurd (cc)
-below-ok dir name path (inr e) = by (ltb 255 (length name)) (not (is_visible name)) (leb 32 (length dir)) e
-  where
-    by : (long hidden deep : Bool) → Ok path ≡ cond long (Err path_kept.TooLong) (cond hidden (Err path_kept.Hidden) (cond deep (Err path_kept.TooLong) (Ok (dir ++ name ∷ [])))) → path ≡ dir ++ name ∷ []
-    by true hidden deep e = absurd (cc)
-    by false true deep e = absurd (cc)
-    by false false true e = absurd (cc)
-    by false false false e = cc

@@ -13,7 +13,7 @@ use Rattle.tup_ask.specs.declared.fault.ReadEnd.{ReadEnd}
 use Rattle.tup_ask.specs.declared.fault.ReadEnd.TheVariants.{Fault, Stopped, Memory}
 use Rattle.tup_ask.specs.Reads.{Reads}
 use Rattle.tup_ask.specs.Log.{Log, same_question, told_before, Ran, Says, noted_log}
-use Rattle.tup_reader.specs.Read.{IsReading, KeepsAnswers, Agrees}
+use Rattle.tup_reader.specs.Read.{IsReading, IsToldBy, KeepsAnswers, Agrees}
 use Rattle.tup_reader.specs.Reading.{reading}
 use Rattle.tup_ask.specs.Went.{Asker, Comes, Went}
 use Rattle.tup_ask.proofs.Runs.{ran_outcome}
@@ -29,19 +29,34 @@ said {before = before} {after = after} reads went empty tells =
     subst (λ a. Says a after.log) (went.same tells) (went.says tells nothing)
 
 -- ---- the end without rules
-pub ended_reading : (IsTold : Log → Type 0) (dir : Names) (after : Asker) (end : ReadEnd) → IsTold after.log → Comes [] (reading dir) after (Err end) → IsReading IsTold dir after.stopped (Err end)
-ended_reading IsTold dir after (Fault fault) told comes = (after.log, told, comes)
-ended_reading IsTold dir after Stopped told (question, at, halts) = (after.log, told, question, at, halts)
-ended_reading IsTold dir after Memory told comes = tt
+ended_comes : (IsTold : Log → Type 0) (dir : Names) (after : Asker) (end : ReadEnd) → IsTold after.log → Comes [] (reading dir) after (Err end) → IsReading IsTold dir after.stopped (Err end)
+ended_comes IsTold dir after (Fault fault) told comes = (after.log, told, comes)
+ended_comes IsTold dir after Stopped told (question, at, halts) = (after.log, told, question, at, halts)
+ended_comes IsTold dir after Memory told comes = tt
 
-pub ended_agrees : (answers : Question → Told) (reads : Reads ParseFault (List Draft)) (after : Asker) (end : ReadEnd) → Comes [] reads after (Err end) → Says answers after.log → Agrees answers reads (Err end)
-ended_agrees answers reads after (Fault fault) comes says = ran_outcome [] after.log reads (Err fault) answers comes says
-ended_agrees answers reads after Stopped (question, at, halts) says = (after.log, question, halts, says)
-ended_agrees answers reads after Memory comes says = tt
+-- what a call comes to that began with an empty log
+comes_from : {A : Type 0} {tells : Bool} {before after : Asker} {end : Result A ReadEnd} (reads : Reads ParseFault A) → Went tells before reads after end → before.log ≡ [] → Comes [] reads after end
+comes_from {after = after} {end = end} reads went empty = subst (λ l. Comes l reads after end) empty went.comes
+
+pub ended_reading : {tells : Bool} {before after : Asker} (dir : Names) (end : ReadEnd) → Went tells before (reading dir) after (Err end) → before.log ≡ []
+    → IsReading (IsToldBy tells before.answers) dir after.stopped (Err end)
+ended_reading {tells = tells} {before = before} {after = after} dir end went empty =
+    ended_comes (IsToldBy tells before.answers) dir after end (λ told. said (reading dir) went empty told) (comes_from (reading dir) went empty)
+
+ended_agreeing : (answers : Question → Told) (reads : Reads ParseFault (List Draft)) (after : Asker) (end : ReadEnd) → Comes [] reads after (Err end) → Says answers after.log → Agrees answers reads (Err end)
+ended_agreeing answers reads after (Fault fault) comes says = ran_outcome [] after.log reads (Err fault) answers comes says
+ended_agreeing answers reads after Stopped (question, at, halts) says = (after.log, question, halts, says)
+ended_agreeing answers reads after Memory comes says = tt
+
+pub ended_agrees : {tells : Bool} {before after : Asker} (dir : Names) (end : ReadEnd) → Went tells before (reading dir) after (Err end) → before.log ≡ [] → IsTrue tells
+    → Agrees before.answers (reading dir) (Err end)
+ended_agrees {before = before} {after = after} dir end went empty told =
+    ended_agreeing before.answers (reading dir) after end (comes_from (reading dir) went empty) (said (reading dir) went empty told)
 
 -- ---- the rules
-pub kept_reading : (IsTold : Log → Type 0) (dir : Names) (after : Asker) (kept : Reading) → IsTold after.log → Comes [] (reading dir) after (Ok kept.drafts) → kept.asked ≡ noted_log after.log → IsReading IsTold dir after.stopped (Ok kept)
-kept_reading IsTold dir after kept told comes asked = (after.log, told, comes, asked)
+pub kept_reading : {tells : Bool} {before after : Asker} (dir : Names) (kept : Reading) → Went tells before (reading dir) after (Ok kept.drafts) → before.log ≡ [] → kept.asked ≡ noted_log after.log
+    → IsReading (IsToldBy tells before.answers) dir after.stopped (Ok kept)
+kept_reading {after = after} dir kept went empty asked = (after.log, (λ told. said (reading dir) went empty told), comes_from (reading dir) went empty, asked)
 
 -- what was kept is what was told, noted
 kept_told : (log : Log) (question : Question) → lookup (same_question question) (noted_log log) ≡ option_map noted (told_before log question)
@@ -60,7 +75,12 @@ keeps answers log says question told e = by (told_before log question) refl (sym
     by None is e = absurd (cc)
     by (Some before) is e = let same : noted before ≡ told = cc in sym same ∙ ap noted (sym (says question before is))
 
-pub kept_agrees : (answers : Question → Told) (reads : Reads ParseFault (List Draft)) (log : Log) (kept : Reading) → Ran [] reads log (Ok kept.drafts) → kept.asked ≡ noted_log log → Says answers log
+kept_agreeing : (answers : Question → Told) (reads : Reads ParseFault (List Draft)) (log : Log) (kept : Reading) → Ran [] reads log (Ok kept.drafts) → kept.asked ≡ noted_log log → Says answers log
     → Agrees answers reads (Ok kept)
-kept_agrees answers reads log kept comes asked says =
-    (ran_outcome [] log reads (Ok kept.drafts) answers comes says, subst (λ (a : List (Question × Noted)). KeepsAnswers answers a) (sym asked) (keeps answers log says))
+kept_agreeing answers reads log kept ran asked says =
+    (ran_outcome [] log reads (Ok kept.drafts) answers ran says, subst (λ (a : List (Question × Noted)). KeepsAnswers answers a) (sym asked) (keeps answers log says))
+
+pub kept_agrees : {tells : Bool} {before after : Asker} (dir : Names) (kept : Reading) → Went tells before (reading dir) after (Ok kept.drafts) → before.log ≡ [] → kept.asked ≡ noted_log after.log → IsTrue tells
+    → Agrees before.answers (reading dir) (Ok kept)
+kept_agrees {before = before} {after = after} dir kept went empty asked told =
+    kept_agreeing before.answers (reading dir) after.log kept (comes_from (reading dir) went empty) asked (said (reading dir) went empty told)

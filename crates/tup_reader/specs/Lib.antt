@@ -5,4 +5,3 @@ pub mod Opening
 pub mod File
 pub mod Reading
 pub mod Read
-pub mod Sound

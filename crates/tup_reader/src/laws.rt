@@ -7,7 +7,7 @@ ghost use Rattle.tup_ask.specs.declared.fault.ParseFault.{ParseFault};
 ghost use Rattle.tup_ask.specs.Reads.{AnswerAlike, IsLocal, outcome};
 ghost use Rattle.tup_ask.specs.Log.{Log, Ran, Says};
 ghost use Rattle.tup_reader.specs.Reading.{reading};
-ghost use Rattle.tup_reader.specs.Sound.{AreSound, NamesFiles};
+ghost use Rattle.tup_draft.specs.Sound.{AreSound, NamesFiles};
 
 use tup_path::Path;
 

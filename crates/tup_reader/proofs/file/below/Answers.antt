@@ -1,4 +1,4 @@
-use Rattle.tup_reader.proofs.Files.{below-ok}
+use Rattle.tup_draft.proofs.Folders.{below-ok}
 use Rattle.tup_reader.proofs.file.below.Goals as goal
 
 pub returns-in-Ok : goal.returns-in-Ok

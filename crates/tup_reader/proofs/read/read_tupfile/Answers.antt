@@ -2,10 +2,8 @@ use Rattle.std.proofs.Common.{List, refl, ◌∙◌}
 use Rattle.std.proofs.lemmas.Result.{err_from_is_err_and}
 use Rattle.tup_rule.specs.declared.draft.Draft.{Draft}
 use Rattle.tup_rule.specs.declared.question.Reading.{Reading}
-use Rattle.tup_reader.specs.Read.{IsToldBy}
-use Rattle.tup_reader.specs.Reading.{reading}
 use Rattle.tup_ask.proofs.Went.{still}
-use Rattle.tup_reader.proofs.Readings.{said, ended_reading, ended_agrees, kept_reading, kept_agrees}
+use Rattle.tup_reader.proofs.Readings.{ended_reading, ended_agrees, kept_reading, kept_agrees}
 use Rattle.tup_reader.proofs.read.read_tupfile.Goals as goal
 
 pub returns-in_err-drafts : goal.returns-in_err-drafts
@@ -15,8 +13,8 @@ returns-in_err-drafts g c =
     let p = err_from_is_err_and c.from_residual.result c.from_residual.ensures.1 in
     rw (p.1, p.2)
     (record {
-      reading = ended_reading (IsToldBy g.E.Env.tells (g.E.Env.answers a.env.now)) a.dir.now _ _ (said (reading a.dir.now) went refl) went.comes;
-      answers = λ tells. ended_agrees _ (reading a.dir.now) _ _ went.comes (said (reading a.dir.now) went refl tells);
+      reading = ended_reading a.dir.now _ went refl;
+      answers = λ tells. ended_agrees a.dir.now _ went refl tells;
       stopped = went.stopped ∙ still (List Draft) Reading _;
       same = went.same;
     })
@@ -33,8 +31,8 @@ returns g c =
     let went = rw c.new-log.ensures at c.in_ok-drafts.ensures in
     let kept : Reading = record { drafts = c.in_ok-drafts.drafts; asked = c.in_ok-asked.asked } in
     record {
-      reading = kept_reading (IsToldBy g.E.Env.tells (g.E.Env.answers a.env.now)) a.dir.now _ kept (said (reading a.dir.now) went refl) went.comes c.in_ok-asked.ensures;
-      answers = λ tells. kept_agrees (g.E.Env.answers a.env.now) (reading a.dir.now) c.drafts_of.new.log kept went.comes c.in_ok-asked.ensures (said (reading a.dir.now) went refl tells);
+      reading = kept_reading a.dir.now kept went refl c.in_ok-asked.ensures;
+      answers = λ tells. kept_agrees a.dir.now kept went refl c.in_ok-asked.ensures tells;
       stopped = went.stopped;
       same = went.same;
     }
