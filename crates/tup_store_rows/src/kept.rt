@@ -99,19 +99,26 @@ fn transaction_in(alloc: Global, call: &str, said: &Words, site: &mut MemSite) -
     match Graph::open(alloc, site) {
         Ok(mut graph) => {
             let opened = site.calls();
-            let ended = made(alloc, (call, said), &mut graph, site);
+            let ended = made(alloc, call, said, &mut graph, site);
             let mut words = Words::shown(alloc, &site.calls().saturating_sub(opened));
             add_end(alloc, &mut words, ended);
             with_graph(alloc, words, &graph, site)
         }
-        Err(fault) => refused(alloc, fault),
+        Err(fault) => unopened(alloc, said, fault),
     }
+}
+
+/// The words of a store that doesn't open, whatever the arguments of a transaction are.
+fn unopened(alloc: Global, said: &Words, fault: GraphFault) -> Words {
+    said.as_slice();
+    refused(alloc, fault)
 }
 
 /// Makes a transaction.
 fn made<S: Site>(
     alloc: Global,
-    (call, said): (&str, &Words),
+    call: &str,
+    said: &Words,
     graph: &mut Graph,
     site: &mut S,
 ) -> Result<Result<(), GraphFault>, RowFault>
