@@ -26,6 +26,14 @@ say "its repair"
 sed -i 's/fail 3/cp index.html checked.html/' Tupfile
 update
 
+say "a command that reads what its rule doesn't name as an input"
+echo ': head.html |> cat head.html index.html > all.html |> all.html' >> Tupfile
+update
+
+say "its repair"
+sed -i 's/^: head.html |>/: head.html index.html |>/' Tupfile
+update
+
 say "a rule vanishes, and so does its output"
 sed -i '/site.css/d' Tupfile
 update

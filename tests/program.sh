@@ -94,6 +94,78 @@ gone "what comes behind didn't run" f
 sed -i 's/fail 3 |> e/cp a e |> e/' Tupfile
 row "its repair" 0 'read .;run .: cp a b;run .: cat b a > c;run .: cat > d;run .: cp a e;run .: cp a f;done: 1 read, 5 run, 0 removed;' upd
 
+# A rule whose command isn't good: the row's name, the command, and what is said of it.
+bad() {
+    project ": a |> $2 |> b"
+    row "$1" 1 "read .;bad .: $2;fault: .: $2: $3;" upd
+    gone "$1, nothing was made" b
+    file "$1, the source" a hi
+}
+bad "another output than the rule's" 'cp a c' 'writes c'
+gone "nor the other output" c
+bad "another output beside the rule's" 'cp a b && cp a c' 'writes c'
+bad "a source as the output" 'cp a a' 'writes a'
+bad "an output above the project" 'echo x > ../b' 'writes ../b'
+gone "nor anything above" ../b
+bad "a line in place of the output" 'echo x > c' 'writes c'
+bad "a file above the project" 'cp ../a b' 'reads ../a'
+bad "a hidden file" 'cp .a b' 'reads .a'
+bad "a file that is missing" 'cp c b' 'status 1'
+bad "a program of the system" 'gcc a -o b' 'status 127'
+bad "an arrow without a blank behind it" 'cat a >b' 'status 2'
+bad "status 0, which is none" 'fail 0' 'status 2'
+bad "status 256, which is none" 'fail 256' 'status 2'
+bad "the largest status" 'fail 255' 'status 255'
+bad "a status behind a file" 'cp a b && fail 7' 'status 7'
+
+project ': a |> cat a k > b |> b'
+echo ho > k
+row "a source that isn't declared" 0 'read .;run .: cat a k > b;done: 1 read, 1 run, 0 removed;' upd
+file "its content" b "$(printf 'hi\nho')"
+project ': a |> cp a g |> g' ': a |> cat a g > h |> h'
+row "a generated file that isn't declared" 1 'read .;run .: cp a g;bad .: cat a g > h;fault: .: cat a g > h: reads g;' upd
+file "what ran before stands" g hi
+gone "what read it isn't made" h
+project ': a |> cat a g > h |> h' ': a |> cp a g |> g'
+row "one that isn't made yet" 1 'read .;bad .: cat a g > h;fault: .: cat a g > h: reads g;' upd
+gone "and it isn't made" g
+project ': a |> ifexists cfg.h a o |> o'
+row "a header that is missing" 0 'read .;run .: ifexists cfg.h a o;done: 1 read, 1 run, 0 removed;' upd
+file "without it the output is empty" o ''
+: > cfg.h
+row "a header that comes later" 0 'read .;run .: ifexists cfg.h a o;done: 1 read, 1 run, 0 removed;' upd
+file "with it the output is made" o hi
+rm cfg.h
+echo ': a |> cp a cfg.h |> cfg.h' >> Tupfile
+row "a header that another rule makes" 1 'read .;bad .: ifexists cfg.h a o;fault: .: ifexists cfg.h a o: reads cfg.h;' upd
+gone "it isn't made" cfg.h
+project ': a |> incl a b |> b' ': |> echo one  two > c |> c' ': b |> echo y > d && cat b d > d |> d'
+printf '#include "inc/h"\nint a;\n' > a
+mkdir inc && printf '#include "k"\nint h;\n' > inc/h && echo 'int k;' > inc/k
+row "includes, a line, an own write" 0 'read .;run .: incl a b;run .: echo one  two > c;run .: echo y > d && cat b d > d;done: 1 read, 3 run, 0 removed;' upd
+file "what was included" b "$(printf 'int k;\nint h;\nint a;')"
+file "the line" c 'one two'
+file "the own write, read back" d "$(printf 'int k;\nint h;\nint a;\ny')"
+echo '#include "h"' > inc/k
+row "files that include each other" 1 'read .;bad .: incl a b;fault: .: incl a b: status 1;' upd
+
+# So many times a word.
+repeated() { awk -v n="$1" -v word="$2" 'BEGIN { for (i = 0; i < n; i++) printf "%s ", word }'; }
+project ": a |> cat $(repeated 4095 a)> b |> b"
+same "4,095 reads" "$("$tup" upd | tail -1)" 'done: 1 read, 1 run, 0 removed'
+same "all of them" "$(wc -l < b)" 4095
+project ": a |> cat $(repeated 4096 a)> b |> b"
+same "4,096 reads" "$("$tup" upd | tail -1 | sed 's/cat .* > b/../')" 'fault: .: ..: reads too often'
+gone "nothing was made" b
+project ": a |> cp a b && cat $(repeated 4095 b)> b |> b"
+same "4,095 reads of an own write" "$("$tup" upd | tail -1)" 'done: 1 read, 1 run, 0 removed'
+project ": a |> cp a b && cat $(repeated 4096 b)> b |> b"
+same "4,096 reads of an own write" "$("$tup" upd | tail -1 | sed 's/cp .* > b/../')" 'fault: .: ..: status 4'
+project ": half |> cat half half > b |> b" ': half |> cat half half a > c |> c'
+truncate -s 8388608 half
+row "a write of more than a file may hold" 1 'read .;run .: cat half half > b;bad .: cat half half a > c;fault: .: cat half half a > c: status 5;' upd
+same "one of just so much" "$(wc -c < b)" 16777216
+
 damaged() {
     project "$copy"
     mkdir .tup && printf "$3" > .tup/db
@@ -156,14 +228,10 @@ line "a rule of make" 'b: a'
 line "a tab" "$(printf ':\ta |> cp a b |> b')"
 line "line ends of another system" "$(printf ': a |> cp a b |> b\r')"
 line "a byte order mark" "$(printf '\357\273\277: a |> cp a b |> b')"
-line "a program of the system" ': a |> gcc a -o b |> b'
-line "another output than the rule's" ': a |> cp a c |> b'
-line "another input than the rule's" ': a |> cp Tupfile b |> b'
-line "an arrow without a blank behind it" ': a |> cat a >b |> b'
 line "an output in a folder" ': a |> cp a sub/b |> sub/b'
 line "an output above the project" ': a |> cp a ../b |> ../b'
 line "the Tupfile as an output" ': a |> cp a Tupfile |> Tupfile'
-line "a status that is none" ': a |> fail 256 |> b'
+line "two outputs" ': a |> echo x > b |> b c'
 project "$copy # a copy"
 row "a comment behind a rule" 5 'fault: Tupfile:1: unknown line, read for .;' upd
 project ': b |> cp b c |> c' "$copy"

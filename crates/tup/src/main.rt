@@ -5,14 +5,13 @@
 //! tested, and proved to be safe, but it makes no promise of its own.
 #![tactic(auto)]
 
-mod output;
 mod words;
 
-use output::Output;
 use std::alloc::Global;
 use std::io;
 use std::process::ExitCode;
 use tup_fs::FsSite;
+use tup_output::Output;
 use tup_top::{Status, Word, tup};
 use words::words;
 

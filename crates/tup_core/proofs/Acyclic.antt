@@ -3,7 +3,7 @@
 use Rattle.std.proofs.Common.{◌≡◌, ℕ, zero, suc, ◌+◌, ◌<◌, ◌≤◌, Bool, true, false, List, [], ◌∷◌, length, Some, refl, sym, ap, ◌∙◌, subst, inl, inr, arith}
 use Rattle.std.specs.Prelude.{nat_eq, slice_get}
 use Rattle.std.specs.List.{IsDistinct, AllByRecursion, list_any}
-use Rattle.std.proofs.lemmas.Bool.{true≢false, or_cases, or_left, or_right, eqb-true}
+use Rattle.std.proofs.lemmas.Bool.{true≢false, or_cases, or_left, or_right, eqb-true, false_from_ne_true}
 use Rattle.std.proofs.lemmas.Option.{slice_get_within}
 use Rattle.std.proofs.lemmas.Map.Steps.{length-le_from_distinct_below}
 use Rattle.tup_rule.specs.declared.rule.Rule.{Rule}
@@ -25,13 +25,9 @@ placed rules rule at behind = placed_over rules rule at behind.0 behind.1
 none_of : (number : ℕ) (list : List ℕ) → (list_any (nat_eq number) list ≡ true → ⊥) → AllByRecursion (λ other. nat_eq number other ≡ false) list
 none_of number [] apart = tt
 none_of number (other ∷ list) apart = (
-  first (nat_eq number other) (λ same. apart (or_left (nat_eq number other) (list_any (nat_eq number) list) same)),
+  false_from_ne_true (nat_eq number other) (λ same. apart (or_left (nat_eq number other) (list_any (nat_eq number) list) same)),
   none_of number list (λ among. apart (or_right (nat_eq number other) (list_any (nat_eq number) list) among)),
 )
-  where
-    first : (b : Bool) → (b ≡ true → ⊥) → b ≡ false
-    first true isnt = absurd (isnt refl)
-    first false isnt = refl
 
 -- the rules of a chain, each of which waits for the last
 pub record IsChain (rules : List Rule) (last : ℕ) (chain : List ℕ) : Type 0 where

@@ -18,6 +18,7 @@ use Rattle.tup_rule.specs.Producer.{MakesFor, ProducerOver, DeclaredProducer}
 use Rattle.tup_record.specs.declared.owned.OwnedState.TheVariants.{Never, Written}
 use Rattle.tup_record.specs.declared.run.RunRecord.{RunRecord}
 use Rattle.tup_runner.specs.Next.{Next}
+use Rattle.tup_runner.proofs.Asking.{just_none, just_more}
 use Rattle.tup_runner.specs.declared.step.Answer.TheVariants.{Content as Holds}
 use Rattle.tup_runner.specs.declared.step.Step.TheVariants.{Ask as AsksFor, End}
 use Rattle.tup_access.specs.declared.verdict.Verdict.TheVariants.{Good}
@@ -202,7 +203,7 @@ first_true : IsTrueRecord letters known first run_of_first
 first_true = record {
   asks = (97 ∷ [], Holds []) ∷ [];
   recorded = (refl, (holds_known, refl), (λ own. absurd (false≢true own)), tt);
-  just = (refl, tt);
+  just = just_more (letters [] (97 ∷ [])) [] (97 ∷ []) (Holds []) (just_none (letters [] (97 ∷ []))) refl;
   few = omega arith;
   ended = record { status = 0; writes = (98 ∷ [], []) ∷ [] };
   ends = refl;
@@ -326,7 +327,11 @@ runs = (
 
 honest_end : EndsHonestly letters known second running None Good ((file_c, seen_stamp) ∷ [])
 honest_end = (
-  record { asks = (98 ∷ [], Holds []) ∷ []; stamps = (refl, (holds_known, refl), tt); just = (refl, tt) },
+  record {
+    asks = (98 ∷ [], Holds []) ∷ [];
+    stamps = (refl, (holds_known, refl), tt);
+    just = just_more (letters [] (98 ∷ [])) [] (98 ∷ []) (Holds []) (just_none (letters [] (98 ∷ []))) refl;
+  },
   record { status = 0; writes = (99 ∷ [], []) ∷ [] },
   refl,
   refl,

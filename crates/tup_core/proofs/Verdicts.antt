@@ -14,6 +14,7 @@ use Rattle.tup_stamp.specs.Stamp.{stamp}
 use Rattle.tup_rule.specs.declared.rule.Rule.{Rule}
 use Rattle.tup_rule.specs.Rule.{writes}
 use Rattle.tup_runner.specs.Next.{Next, Asks}
+use Rattle.tup_runner.specs.Honest.{AsksJust}
 use Rattle.tup_runner.specs.declared.step.Answer.{Answer}
 use Rattle.tup_runner.specs.declared.step.Answer.TheVariants.{Content as Holds, Absent}
 use Rattle.tup_access.specs.declared.verdict.Verdict.{Verdict}
@@ -22,13 +23,14 @@ use Rattle.tup_access.specs.Access.{access, may_read}
 use Rattle.tup_access.specs.Judge.{Judged, bad, judge}
 use Rattle.tup_access.specs.Verdict.{answer, verdict, verdict_after}
 use Rattle.tup_access.proofs.Steps.{verdict_after-none, verdict_after-End, verdict_after-No, verdict_after-Yes}
+use Rattle.tup_runner.proofs.Asking.{just_next}
 use Rattle.tup_core.specs.declared.event.CoreEvent.{CoreEvent}
 use Rattle.tup_core.specs.declared.plan.Plan.{Plan}
 use Rattle.tup_core.specs.declared.running.Running.{Running}
 use Rattle.tup_core.specs.Step.{State, opening, Runs, FitsEnd}
 use Rattle.tup_core.specs.Run.{IsRun, end_of}
 use Rattle.tup_core.specs.Sound.{HasOneMaker, Stands}
-use Rattle.tup_core.specs.Honest.{IsKnown, StandsFor, AreAnswered, AsksJust, Answered, stamped, EndsHonestly, IsTreeOf, IsVerdictOver}
+use Rattle.tup_core.specs.Honest.{IsKnown, StandsFor, AreAnswered, Answered, stamped, EndsHonestly, IsTreeOf, IsVerdictOver}
 use Rattle.tup_core.proofs.Standing.{asks_stand}
 use Rattle.tup_core.proofs.Counted.{IsCounted, all_counted}
 
@@ -78,19 +80,22 @@ answer_of known rules rule tree ask given is_known over stands =
 -- ---- all asks
 
 follows : (next : Next) (known : List Content) (rules : List Rule) (rule : Rule) (tree : Tree) → IsKnown known →
-    (seen : List (List ℕ × Option Stamp)) (given : Asks) (before : Asks) → AreAnswered known seen given → All (IsAsOver known rules rule tree) seen → AsksJust next rule before given → length before + length seen ≤ 4095 →
+    (seen : List (List ℕ × Option Stamp)) (given : Asks) (before : Asks) → AreAnswered known seen given → All (IsAsOver known rules rule tree) seen → AsksJust (next rule.dir rule.text) (before ++ given) → length before + length seen ≤ 4095 →
     verdict_after next rules rule tree before ≡ verdict_after next rules rule tree (before ++ given)
 follows next known rules rule tree is_known [] [] before answered over just few = ap (verdict_after next rules rule tree) (sym (append-nil before))
 follows next known rules rule tree is_known [] (one ∷ given) before answered over just few = absurd answered
 follows next known rules rule tree is_known (ask ∷ seen) [] before answered over just few = absurd answered
-follows next known rules rule tree is_known (ask ∷ seen) (one ∷ given) before (same, stands, answered) over (asks_one, just) few =
+follows next known rules rule tree is_known (ask ∷ seen) (one ∷ given) before (same, stands, answered) over just few =
+    let does = next rule.dir rule.text in
+    let asks_one = just_next does before given one just in
     let first : IsAsOver known rules rule tree ask = over 0 ask (here (length seen)) in
     let named : resolve rule.dir one.0 ≡ Ok first.path = ap (resolve rule.dir) (sym same) ∙ first.named in
     let may = may_ask rules rule (length before) one.0 first.path (room (length before) (length seen) few) named first.readable in
     let is : one.1 ≡ answer rule tree first.path = answer_of known rules rule tree ask one.1 is_known first stands in
     verdict_after-Yes next rules rule tree before one.0 first.path asks_one may
     ∙ ap (λ (reply : Answer). verdict_after next rules rule tree (before ++ (one.0, reply) ∷ [])) (sym is)
-    ∙ follows next known rules rule tree is_known seen given (before ++ one ∷ []) answered (λ k d below. over (suc k) d (later k (length seen) below)) just
+    ∙ follows next known rules rule tree is_known seen given (before ++ one ∷ []) answered (λ k d below. over (suc k) d (later k (length seen) below))
+    (subst (AsksJust does) (sym (append_assoc before (one ∷ []) given)) just)
     (shift (length (before ++ one ∷ [])) (length before) (length seen) (length-append before (one ∷ [])) few)
     ∙ ap (verdict_after next rules rule tree) (append_assoc before (one ∷ []) given)
   where
@@ -108,7 +113,7 @@ follows next known rules rule tree is_known (ask ∷ seen) (one ∷ given) befor
 
 -- a command that asked this much, as a tree would answer it, is followed over the tree from there
 pub goes_to : (next : Next) (known : List Content) (rules : List Rule) (rule : Rule) (tree : Tree) → IsKnown known → (seen : List (List ℕ × Option Stamp)) (given : Asks) →
-    AreAnswered known seen given → All (IsAsOver known rules rule tree) seen → AsksJust next rule [] given → length seen ≤ 4095 → verdict next rules rule tree ≡ verdict_after next rules rule tree given
+    AreAnswered known seen given → All (IsAsOver known rules rule tree) seen → AsksJust (next rule.dir rule.text) given → length seen ≤ 4095 → verdict next rules rule tree ≡ verdict_after next rules rule tree given
 goes_to next known rules rule tree is_known seen given answered over just few =
     sym (verdict_after-none next rules rule tree) ∙ follows next known rules rule tree is_known seen given [] answered over just (from_none (length seen) few)
   where

@@ -1,6 +1,6 @@
 -- Runs in which each command did what its runner means (own). Contents are those of a list of known ones, in
 -- which no two have one stamp.
-use Rattle.std.specs.Prelude.{◌≡◌, ℕ, List, [], ◌∷◌, ◌++◌, Option, None, Some, All, Contains, map}
+use Rattle.std.specs.Prelude.{◌≡◌, ℕ, List, [], ◌∷◌, Option, None, Some, All, Contains, map}
 use Rattle.std.specs.FinMap as finite
 use Rattle.std.specs.Option.{option_map}
 use Rattle.tup_path.specs.Name.{Names, Content}
@@ -9,6 +9,7 @@ use Rattle.tup_stamp.specs.declared.Stamp.{Stamp}
 use Rattle.tup_stamp.specs.Stamp.{stamp}
 use Rattle.tup_rule.specs.declared.rule.Rule.{Rule}
 use Rattle.tup_runner.specs.Next.{Next, Asks}
+use Rattle.tup_runner.specs.Honest.{AsksJust}
 use Rattle.tup_runner.specs.declared.step.Answer.{Answer}
 use Rattle.tup_runner.specs.declared.step.Answer.TheVariants.{Content as Holds, Absent}
 use Rattle.tup_runner.specs.declared.step.Ended.{Ended}
@@ -40,16 +41,11 @@ AreAnswered known (ask ∷ asks) (given ∷ answers) = (ask.0 ≡ given.0) × St
 AreAnswered known [] (given ∷ answers) = ⊥
 AreAnswered known (ask ∷ asks) [] = ⊥
 
--- behind the first asks, a command asks just the others in their order
-abbrev pub AsksJust : Next → Rule → Asks → Asks → Type 0
-AsksJust next rule before [] = Unit {0}
-AsksJust next rule before (ask ∷ asks) = (next rule.dir rule.text before ≡ AsksFor ask.0) × AsksJust next rule (before ++ ask ∷ []) asks
-
 -- a command asked just what its seat asked, and was answered so
 pub record Answered (next : Next) (known : List Content) (rule : Rule) (running : Running) : Type 0 where
   pub asks : Asks
   pub stamps : AreAnswered known running.asks asks
-  pub just : AsksJust next rule [] asks
+  pub just : AsksJust (next rule.dir rule.text) asks
 
 -- a file with its content's stamp
 abbrev pub stamped : Names × Content → Names × Stamp

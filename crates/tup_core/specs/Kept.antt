@@ -10,12 +10,13 @@ use Rattle.tup_record.specs.declared.owned.OwnedState.{OwnedState}
 use Rattle.tup_record.specs.declared.owned.OwnedState.TheVariants.{Written}
 use Rattle.tup_record.specs.declared.run.RunRecord.{RunRecord}
 use Rattle.tup_runner.specs.Next.{Next, Asks}
+use Rattle.tup_runner.specs.Honest.{AsksJust}
 use Rattle.tup_runner.specs.declared.step.Ended.{Ended}
 use Rattle.tup_runner.specs.declared.step.Step.TheVariants.{End}
 use Rattle.tup_access.specs.declared.verdict.Verdict.TheVariants.{Good}
 use Rattle.tup_access.specs.Judge.{judge}
 use Rattle.tup_core.specs.Sound.{IsAcyclic}
-use Rattle.tup_core.specs.Honest.{StandsFor, AsksJust, stamped}
+use Rattle.tup_core.specs.Honest.{StandsFor, stamped}
 
 -- which rule makes an owned path, if one still does, and what is known of the file there
 pub record Owner : Type 0 where
@@ -44,7 +45,7 @@ AreRecorded known rule (noted ∷ more) [] = ⊥
 pub record IsTrueRecord (next : Next) (known : List Content) (rule : Rule) (run : RunRecord) : Type 0 where
   pub asks : Asks
   pub recorded : AreRecorded known rule run.asks asks
-  pub just : AsksJust next rule [] asks
+  pub just : AsksJust (next rule.dir rule.text) asks
   pub few : length run.asks ≤ 4095
   pub ended : Ended
   pub ends : next rule.dir rule.text asks ≡ End ended

@@ -1,125 +1,174 @@
 //! Events, as rows spell them.
-use crate::values::{number, path, text};
 use std::alloc::Global;
 use tup_access::Verdict;
 use tup_core::{Cause, CoreEvent, Stamps};
-use tup_path::Items;
-use tup_rows::{RowFault, Words};
+use tup_path::{Items, Path, PathFault, Text};
+use tup_rows::RowFault;
 use tup_stamp::{Stamp, stamp_of};
 
-/// The event that a word spells, by words of its own that blanks part.
-pub(crate) fn event(alloc: Global, word: &str) -> Result<CoreEvent, RowFault> {
-    let words = parted(alloc, word)?;
-    match words.text(0)? {
-        "claim" => claim(&words),
-        "ask" => ask(alloc, &words),
-        "deny" => deny(alloc, &words),
-        "finish" => finish(alloc, &words),
-        "stop" => stop(&words),
+/// The event that some words spell: its kind, its seat and what more it has.
+pub(crate) fn event(alloc: Global, words: &[Vec<u8>]) -> Result<CoreEvent, RowFault> {
+    match words {
+        [kind, seat, more @ ..] => of_kind(alloc, kind, number(seat)?, more),
+        _ => Err(RowFault::TooFew),
+    }
+}
+
+/// An event of this kind, at this seat.
+fn of_kind(alloc: Global, kind: &[u8], seat: u32, more: &[Vec<u8>]) -> Result<CoreEvent, RowFault> {
+    match kind {
+        b"claim" => claim(seat, more),
+        b"ask" => ask(alloc, seat, more),
+        b"deny" => deny(alloc, seat, more),
+        b"finish" => finish(alloc, seat, more),
+        b"stop" => stop(seat, more),
         _ => Err(RowFault::OtherKind),
     }
 }
 
-fn seat(words: &Words) -> Result<u32, RowFault> {
-    number(words.text(1)?)
-}
-
-fn claim(words: &Words) -> Result<CoreEvent, RowFault> {
-    let rule = number(words.text(2)?)?;
-    Ok(CoreEvent::Claim {
-        seat: seat(words)?,
-        rule,
-    })
-}
-
-fn ask(alloc: Global, words: &Words) -> Result<CoreEvent, RowFault> {
-    let seat = seat(words)?;
-    let answer = answer(words.text(3)?);
-    Ok(CoreEvent::Ask {
-        seat,
-        text: text(alloc, words.text(2)?)?,
-        answer,
-    })
-}
-
-fn deny(alloc: Global, words: &Words) -> Result<CoreEvent, RowFault> {
-    let seat = seat(words)?;
-    let text = text(alloc, words.text(2)?)?;
-    Ok(CoreEvent::Deny {
-        seat,
-        text,
-        verdict: verdict(alloc, words.text(3)?, words.text(4)?)?,
-    })
-}
-
-fn finish(alloc: Global, words: &Words) -> Result<CoreEvent, RowFault> {
-    let seat = seat(words)?;
-    let writes = writes(alloc, words)?;
-    Ok(CoreEvent::Finish {
-        seat,
-        verdict: verdict(alloc, words.text(2)?, words.text(3)?)?,
-        writes,
-    })
-}
-
-fn stop(words: &Words) -> Result<CoreEvent, RowFault> {
-    let cause = cause(words.text(2)?)?;
-    Ok(CoreEvent::Stop {
-        seat: seat(words)?,
-        cause,
-    })
-}
-
-fn parted(alloc: Global, word: &str) -> Result<Words, RowFault> {
-    let mut words = Words::new(alloc);
-    for part in word.split_ascii_whitespace() {
-        words.add(alloc, part.as_bytes())?;
+/// A claim of a rule.
+fn claim(seat: u32, more: &[Vec<u8>]) -> Result<CoreEvent, RowFault> {
+    match more {
+        [rule] => Ok(CoreEvent::Claim {
+            seat,
+            rule: number(rule)?,
+        }),
+        _ => Err(RowFault::OtherKind),
     }
-    Ok(words)
+}
+
+/// An ask, and the content that it is answered.
+fn ask(alloc: Global, seat: u32, more: &[Vec<u8>]) -> Result<CoreEvent, RowFault> {
+    match more {
+        [asked, content] => Ok(CoreEvent::Ask {
+            seat,
+            text: text(alloc, asked)?,
+            answer: answer(content),
+        }),
+        _ => Err(RowFault::OtherKind),
+    }
+}
+
+/// An ask that is refused, and what becomes of it.
+fn deny(alloc: Global, seat: u32, more: &[Vec<u8>]) -> Result<CoreEvent, RowFault> {
+    match more {
+        [asked, kind, of] => Ok(CoreEvent::Deny {
+            seat,
+            text: text(alloc, asked)?,
+            verdict: verdict(alloc, kind, of)?,
+        }),
+        _ => Err(RowFault::OtherKind),
+    }
+}
+
+/// The end of a command, and what it wrote.
+fn finish(alloc: Global, seat: u32, more: &[Vec<u8>]) -> Result<CoreEvent, RowFault> {
+    match more {
+        [kind, of, writes @ ..] => Ok(CoreEvent::Finish {
+            seat,
+            verdict: verdict(alloc, kind, of)?,
+            writes: stamps(alloc, writes)?,
+        }),
+        _ => Err(RowFault::OtherKind),
+    }
+}
+
+/// A stop, and why.
+fn stop(seat: u32, more: &[Vec<u8>]) -> Result<CoreEvent, RowFault> {
+    match more {
+        [why] => Ok(CoreEvent::Stop {
+            seat,
+            cause: cause(why)?,
+        }),
+        _ => Err(RowFault::OtherKind),
+    }
 }
 
 /// The stamp of a content; `-` stands for no file.
-fn answer(word: &str) -> Option<Stamp> {
-    match word {
-        "-" => None,
-        _ => Some(stamp_of(word.as_bytes())),
+fn answer(content: &[u8]) -> Option<Stamp> {
+    match content {
+        b"-" => None,
+        _ => Some(stamp_of(content)),
     }
 }
 
 /// A verdict, and what it speaks of, which is `-` where it speaks of nothing.
-fn verdict(alloc: Global, kind: &str, of: &str) -> Result<Verdict, RowFault> {
+fn verdict(alloc: Global, kind: &[u8], of: &[u8]) -> Result<Verdict, RowFault> {
     match kind {
-        "good" => Ok(Verdict::Good),
-        "failed" => match u8::try_from(number(of)?) {
-            Ok(status) => Ok(Verdict::Failed(status)),
-            Err(_) => Err(RowFault::OtherKind),
-        },
-        "read" => Ok(Verdict::IllegalRead(text(alloc, of)?)),
-        "write" => Ok(Verdict::IllegalWrite(text(alloc, of)?)),
-        "unwritten" => Ok(Verdict::Unwritten(path(alloc, of)?)),
-        "asks" => Ok(Verdict::TooManyReads),
+        b"good" => Ok(Verdict::Good),
+        b"failed" => Ok(Verdict::Failed(status(of)?)),
+        b"read" => Ok(Verdict::IllegalRead(text(alloc, of)?)),
+        b"write" => Ok(Verdict::IllegalWrite(text(alloc, of)?)),
+        b"unwritten" => Ok(Verdict::Unwritten(path(alloc, of)?)),
+        b"asks" => Ok(Verdict::TooManyReads),
         _ => Err(RowFault::OtherKind),
     }
 }
 
-/// The files that are written: from the fourth word on a path and a content each.
-fn writes(alloc: Global, words: &Words) -> Result<Stamps, RowFault> {
-    let mut writes = Items::new(alloc);
-    for write in 2..words.len() / 2 {
-        let to = path(alloc, words.text(2 * write)?)?;
-        writes.push((to, stamp_of(words.bytes(2 * write + 1)?)))?;
+/// Files with their stamps: a path and a content for each.
+fn stamps(alloc: Global, words: &[Vec<u8>]) -> Result<Stamps, RowFault> {
+    let mut stamps = Items::new(alloc);
+    for file in words.chunks(2) {
+        stamps.push(stamp(alloc, file)?)?;
     }
-    Ok(writes)
+    Ok(stamps)
 }
 
-fn cause(word: &str) -> Result<Cause, RowFault> {
+/// A file with the stamp of its content.
+fn stamp(alloc: Global, file: &[Vec<u8>]) -> Result<(Path, Stamp), RowFault> {
+    match file {
+        [to, content] => Ok((path(alloc, to)?, stamp_of(content))),
+        _ => Err(RowFault::TooFew),
+    }
+}
+
+/// Why an update stops.
+fn cause(word: &[u8]) -> Result<Cause, RowFault> {
     match word {
-        "bad" => Ok(Cause::Bad),
-        "site" => Ok(Cause::Site),
-        "large" => Ok(Cause::TooLarge(1)),
-        "full" => Ok(Cause::Full),
-        "run" => Ok(Cause::Run),
-        "memory" => Ok(Cause::Memory),
+        b"bad" => Ok(Cause::Bad),
+        b"site" => Ok(Cause::Site),
+        b"large" => Ok(Cause::TooLarge(1)),
+        b"full" => Ok(Cause::Full),
+        b"run" => Ok(Cause::Run),
+        b"memory" => Ok(Cause::Memory),
         _ => Err(RowFault::OtherKind),
+    }
+}
+
+/// A word as text.
+fn str(word: &[u8]) -> Result<&str, RowFault> {
+    match str::from_utf8(word) {
+        Ok(text) => Ok(text),
+        Err(_) => Err(RowFault::OtherKind),
+    }
+}
+
+/// A word as a number.
+fn number(word: &[u8]) -> Result<u32, RowFault> {
+    match str(word)?.parse() {
+        Ok(number) => Ok(number),
+        Err(_) => Err(RowFault::OtherKind),
+    }
+}
+
+/// A word as an exit status.
+fn status(word: &[u8]) -> Result<u8, RowFault> {
+    match u8::try_from(number(word)?) {
+        Ok(status) => Ok(status),
+        Err(_) => Err(RowFault::OtherKind),
+    }
+}
+
+/// A word as a text to keep.
+fn text(alloc: Global, word: &[u8]) -> Result<Text, RowFault> {
+    Ok(Text::from_str(alloc, str(word)?)?)
+}
+
+/// The path that a word names from the top.
+fn path(alloc: Global, word: &[u8]) -> Result<Path, RowFault> {
+    match Path::from_top(alloc, str(word)?) {
+        Ok(path) => Ok(path),
+        Err(PathFault::Memory) => Err(RowFault::Memory),
+        Err(_) => Err(RowFault::OtherKind),
     }
 }

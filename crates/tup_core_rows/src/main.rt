@@ -3,16 +3,19 @@
 
 mod drive;
 mod event;
+mod job;
 mod machine;
 mod project;
 mod rows;
+mod run;
 mod sources;
-mod values;
+mod update;
 
+use project::Project;
 use std::io;
 use tup_rows::try_file;
 
 fn main(rt: HostRuntime) -> io::Result<()> {
     let alloc = rt.alloc();
-    try_file(&rt, alloc, "core.rows", &mut rows::Rows::new(alloc))
+    try_file(&rt, alloc, "core.rows", &mut Project::new(alloc))
 }

@@ -1,32 +1,18 @@
 //! The calls of `core.rows`.
 use crate::drive::drive;
-use crate::machine::run;
 use crate::project::Project;
+use crate::run::run;
 use std::alloc::Global;
 use tup_rows::{Answers, RowFault, Words};
 
-/// Knows the calls of tup_core, over the project that the rows so far gave.
-#[derive(Drop)]
-pub(crate) struct Rows {
-    project: Project,
-}
-
-impl Rows {
-    pub(crate) fn new(alloc: Global) -> Rows {
-        Rows {
-            project: Project::new(alloc),
-        }
-    }
-}
-
-impl Answers for Rows {
-    fn answer(&mut self, alloc: Global, call: &str, arguments: &Words) -> Result<Words, RowFault> {
-        match call {
-            "source" => self.project.add_source(alloc, arguments),
-            "rule" => self.project.add_rule(alloc, arguments),
-            "run" => run(alloc, &self.project, arguments),
-            "drive" => drive(alloc, &self.project, arguments),
-            _ => Err(RowFault::NoSuchCall),
-        }
+impl Answers for Project {
+    fn answer(&mut self, alloc: Global, call: &str, said: &Words) -> Result<Words, RowFault> {
+        Ok(match call {
+            "source" => self.add_source(alloc, said),
+            "rule" => self.add_rule(alloc, said),
+            "run" => run(alloc, self, said),
+            "drive" => drive(alloc, self, said),
+            _ => Words::none(alloc, RowFault::NoSuchCall),
+        })
     }
 }

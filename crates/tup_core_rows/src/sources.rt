@@ -1,4 +1,4 @@
-//! Sources in the order of their paths, for the clean build.
+//! Files by their paths.
 ghost use Rattle.std.specs.Prelude.{◌≡◌, true, IsTrue, IfOk, OnOk};
 ghost use Rattle.std.specs.FinMap as finite;
 ghost use Rattle.tup_path.specs.Order.{by_names};
@@ -21,6 +21,7 @@ pub(crate) fn contents(alloc: Global, files: &Files) -> Result<Contents, AllocEr
     Ok(contents)
 }
 
+/// Puts a file in the place of what stands there.
 pub(crate) fn put(contents: &mut Contents, path: Path, content: Bytes) -> Result<(), AllocError>
     ensures { OnOk result (finite.is_sorted by_names contents.old.entries ≡ true
         → finite.is_sorted by_names contents.new.entries ≡ true) }
@@ -35,4 +36,13 @@ pub(crate) fn sorted(alloc: Global, files: &Files) -> Result<Files, AllocError>
 {
     let contents = contents(alloc, files)?;
     Ok(Items::from_vec(contents.into_iter().collect(alloc)?))
+}
+
+/// Whether these are the files of a tree.
+pub(crate) fn are_those_of(contents: &Contents, tree: &Files) -> bool {
+    contents.len() == tree.len()
+        && tree
+            .as_slice()
+            .iter()
+            .all(|(path, content)| contents.get(path) == Some(content))
 }

@@ -6,6 +6,12 @@ use std::alloc::Global;
 use tup_path::{Bytes, Path, Paths};
 use tup_rule::{Draft, GroupRef, GroupRefs, Pieces};
 
+/// The fields of a draft, in the order in which they are spelled.
+type Fields = (Path, (u32, (Pieces, (Option<Pieces>, (bool, Files)))));
+
+/// Those from its inputs on.
+type Files = (Paths, (Paths, (Paths, (GroupRefs, Option<GroupRef>))));
+
 impl Field for Draft {
     ghost use Rattle.tup_field.specs.Rules.{draft};
     ghost use Rattle.tup_field.specs.RulesLaws.{draft-exact};
@@ -28,16 +34,8 @@ impl Field for Draft {
     }
 
     fn read(alloc: Global, reader: &mut Reader<'_>) -> Result<Draft, RecordFault> {
-        let file = Path::read(alloc, reader)?;
-        let line = u32::read(alloc, reader)?;
-        let pieces = Pieces::read(alloc, reader)?;
-        let display = Option::<Pieces>::read(alloc, reader)?;
-        let compare = bool::read(alloc, reader)?;
-        let inputs = Paths::read(alloc, reader)?;
-        let order = Paths::read(alloc, reader)?;
-        let outputs = Paths::read(alloc, reader)?;
-        let groups = GroupRefs::read(alloc, reader)?;
-        let gives = Option::<GroupRef>::read(alloc, reader)?;
+        let (file, (line, (pieces, (display, (compare, others))))) = Fields::read(alloc, reader)?;
+        let (inputs, (order, (outputs, (groups, gives)))) = others;
         Ok(Draft {
             file,
             line,

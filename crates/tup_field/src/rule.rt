@@ -6,6 +6,12 @@ use std::alloc::Global;
 use tup_path::{Bytes, Path, Paths, Text};
 use tup_rule::Rule;
 
+/// The fields of a rule, in the order in which they are spelled.
+type Fields = (
+    Path,
+    (Text, (Option<Text>, (bool, (Paths, (Paths, Paths))))),
+);
+
 impl Field for Rule {
     ghost use Rattle.tup_field.specs.Rules.{rule};
     ghost use Rattle.tup_field.specs.RulesLaws.{rule-exact};
@@ -25,13 +31,9 @@ impl Field for Rule {
     }
 
     fn read(alloc: Global, reader: &mut Reader<'_>) -> Result<Rule, RecordFault> {
-        let dir = Path::read(alloc, reader)?;
-        let text = Text::read(alloc, reader)?;
-        let display = Option::<Text>::read(alloc, reader)?;
-        let compare = bool::read(alloc, reader)?;
-        let inputs = Paths::read(alloc, reader)?;
-        let order = Paths::read(alloc, reader)?;
-        let outputs = Paths::read(alloc, reader)?;
+        let (dir, (text, (display, (compare, (inputs, (order, outputs)))))) = Fields::read(
+            alloc, reader,
+        )?;
         Ok(Rule {
             dir,
             text,

@@ -1,5 +1,4 @@
 pub mod Reading
-pub mod Joining
 pub mod Following
 pub mod Writing
 pub mod Including

@@ -8,9 +8,7 @@ use Rattle.std.specs.Str.Parse.{ParsesUnsigned}
 use Rattle.tup_path.proofs.Same.{same_bytes-decides, differs}
 use Rattle.tup_mini.specs.Steps.{step_of}
 use Rattle.tup_mini.specs.declared.step.MiniStep.TheVariants as steps
-use Rattle.tup_mini.specs.Command.{is_arrow, has_stray_arrow, redirected, is_digit, decimal_value, status_of, join_of}
-use Rattle.tup_mini.specs.declared.command.Command.TheVariants.{Join, Stop}
-use Rattle.tup_mini.specs.declared.command.Command.{Command}
+use Rattle.tup_mini.specs.Words.{is_arrow, has_stray_arrow, redirected, is_digit, decimal_value, status_of}
 
 with_first : (b : Bool) (word : List ℕ) (from : List (List ℕ)) (to : List ℕ) (r : Option (List (List ℕ) × List ℕ)) → r ≡ (if b then Some (from, to) else None)
     → option_map {U = List (List ℕ) × List ℕ} (λ (p : List (List ℕ) × List ℕ). (word ∷ p.0, p.1)) r ≡ (if b then Some (word ∷ from, to) else None)
@@ -33,9 +31,6 @@ at_end words arrow to long a t =
     let last : length words - 1 ≡ suc (length words - 2) = omega arith in
     redirected_at words (length words - 2) arrow to (omega arith) a (rw (← last) t)
 
-abbrev written : Option (List (List ℕ) × List ℕ) → Command
-written r = elim r [ Some p ↦ Join p.0 p.1 | None ↦ Stop 2 ]
-
 abbrev found : List (List ℕ) → List ℕ → Bool → Option (List (List ℕ) × List ℕ)
 found from to b = if b then Some (from, to) else None
 
@@ -51,19 +46,6 @@ pub redirected-short : (words : List (List ℕ)) → length words < 2 → redire
 redirected-short [] l = refl
 redirected-short (word ∷ []) l = refl
 redirected-short (word ∷ next ∷ rest) l = absurd (omega arith)
-
-pub joined : (words : List (List ℕ)) (arrow to : List ℕ) → 2 ≤ length words → arrow ≡ get_or words (length words - 2) arrow → to ≡ get_or words (length words - 1) to
-    → is_arrow arrow ≡ true → join_of words ≡ Join (take (length words - 2) words) to
-joined words arrow to long a t is = ap written (at_end words arrow to long a t ∙ ap (found (take (length words - 2) words) to) is)
-
-pub not_joined : (words : List (List ℕ)) (arrow to : List ℕ) → 2 ≤ length words → arrow ≡ get_or words (length words - 2) arrow → to ≡ get_or words (length words - 1) to
-    → is_arrow arrow ≡ false → join_of words ≡ Stop 2
-not_joined words arrow to long a t is = ap written (at_end words arrow to long a t ∙ ap (found (take (length words - 2) words) to) is)
-
-pub too_short : (words : List (List ℕ)) → length words < 2 → join_of words ≡ Stop 2
-too_short [] l = refl
-too_short (word ∷ []) l = refl
-too_short (word ∷ next ∷ rest) l = absurd (omega arith)
 
 numeral : IsNumeralModel (λ digits. list_all is_digit digits ≡ true) (decimal_value 0)
 numeral = numerals_by_fold _ (search rules) decimal_value (search rules)

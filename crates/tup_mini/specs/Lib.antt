@@ -1,7 +1,4 @@
 pub mod Words
-pub mod Command
-pub mod Inputs
-pub mod Mini
 pub mod Kept
 pub mod Part
 pub mod Files

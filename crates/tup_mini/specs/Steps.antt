@@ -2,8 +2,7 @@
 use Rattle.std.specs.Prelude.{Bool, if◌then◌else◌, ℕ, List, [], ◌∷◌, ◌++◌, map, None, Some, codes, bytes_eq}
 use Rattle.std.specs.List.{slice_split}
 use Rattle.tup_path.specs.Name.{Content}
-use Rattle.tup_mini.specs.Words.{words}
-use Rattle.tup_mini.specs.Command.{has_stray_arrow, redirected, status_of}
+use Rattle.tup_mini.specs.Words.{words, has_stray_arrow, redirected, status_of}
 use Rattle.tup_mini.specs.declared.step.MiniStep.{MiniStep}
 use Rattle.tup_mini.specs.declared.step.MiniStep.TheVariants.{Join, Echo, Include, IfExists, Stop}
 

@@ -10,8 +10,8 @@ use std::alloc::{AllocError, Global};
 use tup_path::{Bytes, Text};
 use tup_runner::View;
 
-/// Writes the lines of a file behind a front, each include replaced. `text` is the text by which the file was read, and
-/// `left` says how many files may stand below it, one in the other.
+/// Writes the lines of a file behind a front, each include replaced. `text` is the text by which
+/// the file was read, and `left` says how many files may stand below it, one in the other.
 #[cycle(expanding)]
 pub(crate) fn expand<V: View>(
     alloc: Global,
@@ -43,8 +43,8 @@ pub(crate) fn expand<V: View>(
     Ok(whole)
 }
 
-/// Writes the expansion of an included file behind a front. `left` says how many files may stand above it still, itself
-/// counted; at 0 it gives status 1 and isn't read.
+/// Writes the expansion of an included file behind a front. `left` says how many files may stand
+/// above it still, itself counted; at 0 it gives status 1 and isn't read.
 #[cycle(expanding)]
 fn include<V: View>(
     alloc: Global,

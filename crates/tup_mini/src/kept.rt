@@ -37,7 +37,8 @@ impl Kept {
         })
     }
 
-    /// What a file holds, or `None` where it isn't there. What the command wrote is read without an ask.
+    /// What a file holds, or `None` where it isn't there. What the command wrote is read without an
+    /// ask.
     pub(crate) fn read<V: View>(
         &mut self,
         alloc: Global,

@@ -12,7 +12,8 @@ use std::alloc::Global;
 use tup_path::{Items, Path, Text};
 use tup_runner::{Ended, RunFailed, Runner, View};
 
-/// The runner that comes with the program. It keeps the list of what it ran, and never answers `Fault`.
+/// The runner that comes with the program. It keeps the list of what it ran, and never answers
+/// `Fault`.
 #[derive(Drop)]
 pub struct Mini {
     ran: Items<(Path, Text)>,

@@ -44,6 +44,7 @@ impl MiniStep {
         }
     }
 
+    /// `cp A B`
     fn copy(alloc: Global, arguments: &[Text]) -> Result<MiniStep, AllocError>
         ensures { IfOk result (λ step. step ≡ specs.copy_step arguments.now) }
     {
@@ -58,6 +59,7 @@ impl MiniStep {
         })
     }
 
+    /// `cat A.. > B`
     fn join(alloc: Global, arguments: &[Text]) -> Result<MiniStep, AllocError>
         ensures { IfOk result (λ step. step ≡ specs.join_step arguments.now) }
     {
@@ -67,6 +69,7 @@ impl MiniStep {
         }
     }
 
+    /// `echo WORD.. > B`
     fn echo(alloc: Global, arguments: &[Text]) -> Result<MiniStep, AllocError>
         ensures { IfOk result (λ step. step ≡ specs.echo_step arguments.now) }
     {
@@ -76,6 +79,7 @@ impl MiniStep {
         }
     }
 
+    /// `incl A B`
     fn include(arguments: &[Text]) -> Result<MiniStep, AllocError>
         ensures { IfOk result (λ step. step ≡ specs.include_step arguments.now) }
     {
@@ -88,6 +92,7 @@ impl MiniStep {
         }
     }
 
+    /// `ifexists P A B`
     fn if_exists(arguments: &[Text]) -> Result<MiniStep, AllocError>
         ensures { IfOk result (λ step. step ≡ specs.if_exists_step arguments.now) }
     {
@@ -101,6 +106,7 @@ impl MiniStep {
         }
     }
 
+    /// `fail N`
     fn fail(arguments: &[Text]) -> MiniStep
         ensures { result ≡ specs.fail_step arguments.now }
     {

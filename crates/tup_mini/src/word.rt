@@ -1,8 +1,7 @@
 //! The words of a small command.
 ghost use Rattle.std.specs.Prelude.{◌≡◌, ◌↔◌, IfOk};
 ghost use Rattle.std.specs.Bool.{IsTrue};
-ghost use Rattle.tup_mini.specs.Words.{words as words_of};
-ghost use Rattle.tup_mini.specs.Command.{is_arrow as arrow_test, has_stray_arrow as stray_arrow_test, redirected as redirection, status_of};
+ghost use Rattle.tup_mini.specs.Words.{words as words_of, is_arrow as arrow_test, has_stray_arrow as stray_arrow_test, redirected as redirection, status_of};
 
 use std::alloc::{AllocError, Global};
 use tup_path::{Items, Text};

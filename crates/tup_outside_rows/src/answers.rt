@@ -1,6 +1,6 @@
 //! Answers in words.
 use std::alloc::Global;
-use tup_path::Paths;
+use tup_path::{Bytes, Paths};
 use tup_rows::{RowFault, Words};
 use tup_site::SiteFailed;
 
@@ -34,6 +34,21 @@ pub(crate) fn number(alloc: Global, answer: Result<u64, SiteFailed>) -> Words {
         Ok(number) => Words::shown(alloc, &number),
         Err(failed) => refused(alloc, failed),
     }
+}
+
+/// The answer of a call that gives what a file holds.
+pub(crate) fn got(alloc: Global, answer: Result<Option<Bytes>, SiteFailed>) -> Words {
+    match answer {
+        Ok(Some(content)) => holds(alloc, &content),
+        Ok(None) => Words::word(alloc, b"none"),
+        Err(failed) => refused(alloc, failed),
+    }
+}
+
+fn holds(alloc: Global, content: &Bytes) -> Words {
+    let mut words = Words::word(alloc, b"holds");
+    words.put(alloc, content.as_slice());
+    words
 }
 
 /// The answer of a call that gives paths.

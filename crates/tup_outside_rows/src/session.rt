@@ -1,5 +1,5 @@
 //! The calls of `fs.rows`.
-use crate::answers::{ended, listed, number, refused};
+use crate::answers::{ended, got, listed, number, refused};
 use crate::folder::Folder;
 use crate::scanned::scanned;
 use std::alloc::{AllocError, Global};
@@ -45,7 +45,7 @@ impl Session {
 
     fn answer_of_files(&mut self, alloc: Global, call: &str, said: &Words) -> Words {
         match call {
-            "get" => self.get(alloc, said),
+            "get" => got(alloc, self.site.get(alloc, &said.path_at(alloc, 0))),
             "get_length" => self.get_length(alloc, said),
             "put" => self.put(alloc, said),
             "remove" => self.remove(alloc, said),
@@ -109,14 +109,6 @@ impl Session {
         }
     }
 
-    fn get(&mut self, alloc: Global, said: &Words) -> Words {
-        match self.site.get(alloc, &said.path_at(alloc, 0)) {
-            Ok(Some(content)) => holds(alloc, &content),
-            Ok(None) => Words::word(alloc, b"none"),
-            Err(failed) => refused(alloc, failed),
-        }
-    }
-
     /// How long the content of a file is, for files that no row could hold.
     fn get_length(&mut self, alloc: Global, said: &Words) -> Words {
         match self.site.get(alloc, &said.path_at(alloc, 0)) {
@@ -156,10 +148,4 @@ impl Session {
         let (at, bytes) = (said.number_at(0), said.word_at(1));
         ended(alloc, self.site.db_write(alloc, at, bytes))
     }
-}
-
-fn holds(alloc: Global, content: &Bytes) -> Words {
-    let mut words = Words::word(alloc, b"holds");
-    words.put(alloc, content.as_slice());
-    words
 }

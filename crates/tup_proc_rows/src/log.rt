@@ -2,7 +2,7 @@
 use std::alloc::Global;
 use std::fs::Files;
 use std::io;
-use tup_proc::{LogFault, LogLine, read_log, write_log};
+use tup_proc::{LogLine, read_log, write_log};
 use tup_rows::{Answers, RowFault, Words, try_file};
 
 pub(crate) fn try_rows<R: Files + Print>(rt: &R, alloc: Global) -> io::Result<()> {
@@ -14,50 +14,53 @@ pub(crate) fn try_rows<R: Files + Print>(rt: &R, alloc: Global) -> io::Result<()
 struct LogRows;
 
 impl Answers for LogRows {
+    /// Makes a call of tup_proc.
     fn answer(&mut self, alloc: Global, call: &str, said: &Words) -> Result<Words, RowFault> {
-        match call {
+        Ok(match call {
             "read" => read(alloc, said),
             "again" => again(alloc, said),
-            _ => Err(RowFault::NoSuchCall),
-        }
+            _ => Words::none(alloc, RowFault::NoSuchCall),
+        })
     }
 }
 
 /// The lines of a log, a word for each.
-fn read(alloc: Global, said: &Words) -> Result<Words, RowFault> {
-    match read_log(alloc, said.bytes(0)?) {
+fn read(alloc: Global, said: &Words) -> Words {
+    match read_log(alloc, said.word_at(0)) {
         Ok(lines) => shown(alloc, lines.as_slice()),
-        Err(fault) => refused(alloc, fault),
+        Err(fault) => Words::refusal(alloc, &fault),
     }
 }
 
 /// A log that is read and written.
-fn again(alloc: Global, said: &Words) -> Result<Words, RowFault> {
-    match read_log(alloc, said.bytes(0)?) {
+fn again(alloc: Global, said: &Words) -> Words {
+    match read_log(alloc, said.word_at(0)) {
         Ok(lines) => written(alloc, lines.as_slice()),
-        Err(fault) => refused(alloc, fault),
+        Err(fault) => Words::refusal(alloc, &fault),
     }
 }
 
-fn written(alloc: Global, lines: &[LogLine]) -> Result<Words, RowFault> {
+/// The log of some lines.
+fn written(alloc: Global, lines: &[LogLine]) -> Words {
     match write_log(alloc, lines) {
-        Ok(bytes) => Words::one(alloc, bytes.as_slice()),
-        Err(fault) => refused(alloc, fault),
+        Ok(bytes) => Words::word(alloc, bytes.as_slice()),
+        Err(fault) => Words::refusal(alloc, &fault),
     }
 }
 
-fn refused(alloc: Global, fault: LogFault) -> Result<Words, RowFault> {
-    Words::refused(alloc, format!(in alloc; "{fault}")?.as_str())
-}
-
-fn shown(alloc: Global, lines: &[LogLine]) -> Result<Words, RowFault> {
+/// Some lines, a word for each.
+fn shown(alloc: Global, lines: &[LogLine]) -> Words {
     let mut words = Words::new(alloc);
     for line in lines {
-        words.add(alloc, shown_line(alloc, line)?.as_bytes())?;
+        match shown_line(alloc, line) {
+            Ok(text) => words.put(alloc, text.as_bytes()),
+            Err(_) => words.fail(RowFault::Memory),
+        }
     }
-    Ok(words)
+    words
 }
 
+/// A line as rows spell it.
 fn shown_line(alloc: Global, line: &LogLine) -> Result<String, RowFault> {
     Ok(match line {
         LogLine::Read { stamp, text } => {

@@ -3,7 +3,7 @@ use Rattle.std.proofs.Common.{◌≡◌, ◌⊎◌, inl, inr, ℕ, List, [], Opt
 use Rattle.std.specs.FinMap as finite
 use Rattle.tup_path.specs.Name.{Names, Content}
 use Rattle.tup_path.specs.Tree.{Tree, IsTree}
-use Rattle.tup_lex.specs.declared.kind.ParseKind.TheVariants.{UnknownLine, DuplicateCommand}
+use Rattle.tup_lex.specs.declared.kind.ParseKind.TheVariants.{DuplicateCommand}
 use Rattle.tup_rule.specs.declared.rule.Rule.{Rule}
 use Rattle.tup_clean.specs.InOrder.{IsBuildable}
 use Rattle.tup_parse.specs.declared.fault.ReadEnd.{ReadEnd}
@@ -11,16 +11,11 @@ use Rattle.tup_parse.specs.declared.fault.ReadEnd.TheVariants.{Memory}
 use Rattle.tup_parse.specs.declared.placed.Placed.{Placed}
 use Rattle.tup_parse.specs.Plain.{AreReadInTurn}
 use Rattle.tup_parse.specs.Reading.{fault_at, top_tupfile, rules_in, placed_rules}
-use Rattle.tup_project.specs.Keeps.{ArePlain}
-use Rattle.tup_project.specs.Project.{stray_at, repeated_at, checked, rules_of}
-use Rattle.tup_project.proofs.Strays.{none_strays}
+use Rattle.tup_project.specs.Project.{repeated_at, checked, rules_of}
 use Rattle.tup_project.proofs.Buildable.{read-IsBuildable}
 
 abbrev by_repeated : List Placed → Option ℕ → Result (List Rule) ReadEnd
 by_repeated placed o = elim o [ Some line ↦ Err (fault_at [] top_tupfile line DuplicateCommand) | None ↦ Ok (rules_in placed) ]
-
-abbrev by_stray : List Placed → Option ℕ → Result (List Rule) ReadEnd
-by_stray placed o = elim o [ Some line ↦ Err (fault_at [] top_tupfile line UnknownLine) | None ↦ by_repeated placed (repeated_at [] placed) ]
 
 -- ---- the reading and the check
 
@@ -51,28 +46,12 @@ read_checked sources tupfile r placed answer (inr some) was (inr is) = inr (is �
 
 -- ---- what is promised of rules that pass
 
-pub record IsChecked (placed : List Placed) (rules : List Rule) : Type 0 where
-  pub same : rules_in placed ≡ rules
-  pub kept : stray_at placed ≡ None
-
-pub checked-Ok : (placed : List Placed) (rules : List Rule) → checked placed ≡ Ok rules → IsChecked placed rules
-checked-Ok placed rules e = strays (stray_at placed) refl e
+pub checked-Ok : (placed : List Placed) (rules : List Rule) → checked placed ≡ Ok rules → rules_in placed ≡ rules
+checked-Ok placed rules e = twice (repeated_at [] placed) e
   where
-    twice : stray_at placed ≡ None → (o : Option ℕ) → by_repeated placed o ≡ Ok rules → IsChecked placed rules
-    twice none (Some line) e = cc
-    twice none None e = record { same = cc; kept = none }
-
-    strays : (o : Option ℕ) → stray_at placed ≡ o → by_stray placed o ≡ Ok rules → IsChecked placed rules
-    strays (Some line) is e = cc
-    strays None is e = twice is (repeated_at [] placed) e
-
-pub answer-ArePlain : (sources : List Names) (placed : List Placed) (answer : Result (List Rule) ReadEnd) → AreReadInTurn sources (rules_in placed)
-    → (answer ≡ Err Memory) ⊎ (answer ≡ checked placed) → IfOk answer ArePlain
-answer-ArePlain sources placed (Err end) are h = tt
-answer-ArePlain sources placed (Ok rules) are (inl memory) = cc
-answer-ArePlain sources placed (Ok rules) are (inr is) =
-    let passed = checked-Ok placed rules (sym is) in
-    subst ArePlain passed.same (record { each = λ at rule e. ((are.each at rule e).plain, none_strays placed passed.kept at rule e) })
+    twice : (o : Option ℕ) → by_repeated placed o ≡ Ok rules → rules_in placed ≡ rules
+    twice (Some line) e = cc
+    twice None e = cc
 
 pub answer-IsBuildable : (sources : List Names) (placed : List Placed) (answer : Result (List Rule) ReadEnd) → AreReadInTurn sources (rules_in placed)
     → (answer ≡ Err Memory) ⊎ (answer ≡ checked placed)
@@ -80,4 +59,4 @@ pub answer-IsBuildable : (sources : List Names) (placed : List Placed) (answer :
 answer-IsBuildable sources placed (Err end) are h = tt
 answer-IsBuildable sources placed (Ok rules) are (inl memory) = cc
 answer-IsBuildable sources placed (Ok rules) are (inr is) =
-    read-IsBuildable sources rules (subst (AreReadInTurn sources) (checked-Ok placed rules (sym is)).same are)
+    read-IsBuildable sources rules (subst (AreReadInTurn sources) (checked-Ok placed rules (sym is)) are)

@@ -1,19 +1,13 @@
--- The rules of the sources, as they are built: those that are read, if each command keeps to its rule's files and none
--- stands twice. The fault of a second one is the manual's, the rest is own.
+-- The rules of the sources, as they are built: those that are read, if no command stands twice. The fault of a second one
+-- is the manual's.
 use Rattle.std.specs.Prelude.{ℕ, if◌then◌else◌, List, [], ◌∷◌, ◌++◌, Option, None, Some, Result, Ok, Err}
 use Rattle.tup_path.specs.Name.{Names, Content}
-use Rattle.tup_lex.specs.declared.kind.ParseKind.TheVariants.{UnknownLine, DuplicateCommand}
+use Rattle.tup_lex.specs.declared.kind.ParseKind.TheVariants.{DuplicateCommand}
 use Rattle.tup_rule.specs.declared.rule.Rule.{Rule}
 use Rattle.tup_parse.specs.declared.fault.ReadEnd.{ReadEnd}
 use Rattle.tup_parse.specs.declared.placed.Placed.{Placed}
 use Rattle.tup_parse.specs.Word.{has_word}
 use Rattle.tup_parse.specs.Reading.{fault_at, top_tupfile, rules_in, placed_rules}
-use Rattle.tup_project.specs.Keeps.{keeps}
-
--- the line of the first rule whose command doesn't keep to the rule's files
-abbrev pub stray_at : List Placed → Option ℕ
-stray_at [] = None
-stray_at (p ∷ placed) = if keeps p.rule then stray_at placed else Some p.line
 
 -- the line of the first rule with a command that an earlier one has, or one of these texts
 abbrev pub repeated_at : List (List ℕ) → List Placed → Option ℕ
@@ -21,15 +15,12 @@ repeated_at texts [] = None
 repeated_at texts (p ∷ placed) =
     if has_word texts p.rule.text then Some p.line else repeated_at (texts ++ p.rule.text ∷ []) placed
 
--- rules that were read, without their lines: first all commands are looked at, then whether one stands twice
+-- rules that were read, without their lines, if no command stands twice
 abbrev pub checked : List Placed → Result (List Rule) ReadEnd
 checked placed =
-    elim (stray_at placed) [
-      | Some line ↦ Err (fault_at [] top_tupfile line UnknownLine)
-      | None ↦ elim (repeated_at [] placed) [
-        | Some line ↦ Err (fault_at [] top_tupfile line DuplicateCommand)
-        | None ↦ Ok (rules_in placed)
-      ]
+    elim (repeated_at [] placed) [
+      | Some line ↦ Err (fault_at [] top_tupfile line DuplicateCommand)
+      | None ↦ Ok (rules_in placed)
     ]
 
 -- the rules of some sources, and of the content of the top's Tupfile if it is among them

@@ -5,10 +5,8 @@ ghost use Rattle.tup_path.specs.Gives.{GivesUnless};
 ghost use Rattle.tup_path.specs.Tree.{Tree, IsTree};
 ghost use Rattle.tup_clean.specs.InOrder.{IsBuildable};
 ghost use Rattle.tup_parse.specs.Reading.{fault_at, top_tupfile, rules_in as rules_of_placed};
-ghost use Rattle.tup_project.specs.Keeps.{ArePlain};
 ghost use Rattle.tup_project.specs.Project as specs;
 
-use crate::keeps::keeps;
 use std::alloc::{AllocError, Global};
 use std::collections::BTreeSet;
 use tup_lex::ParseKind;
@@ -20,42 +18,25 @@ use tup_rule::Rules;
 /// them. They stand in the order of their lines, and each can be run after those before it.
 ///
 /// `Fault` names the first fault in this order: a tup.config, a line of the Tupfile from top to bottom, a Tupfile
-/// below the top, a command that isn't one of the small ones or doesn't keep to its rule's files (`UnknownLine`), and
-/// a command that two rules have.
+/// below the top, and a command that two rules have.
 pub fn read_rules(alloc: Global, sources: &Paths, tupfile: Option<&Bytes>) -> Result<Rules, ReadEnd>
     requires { IfSome tupfile (λ content. length content.now < 2 ^ 32) }
     ensures read { GivesUnless result ReadEnd.Memory
         (specs.rules_of sources.now (option_map (λ c. c.now) tupfile.entry)) }
-    ensures plain { IfOk result ArePlain }
     ensures buildable { IfOk result (λ rules. (tree : Tree)
         → finite.keys tree ≡ sources.now → IsTree tree → IsBuildable tree rules) }
 {
     checked(alloc, placed_rules(alloc, sources, tupfile)?)
 }
 
-/// Rules without their lines, if each command keeps to its files and none stands twice.
+/// The rules of some lines, if no command stands twice.
 fn checked(alloc: Global, placed: PlacedRules) -> Result<Rules, ReadEnd>
     ensures { GivesUnless result ReadEnd.Memory (specs.checked placed) }
 {
-    if let Some(line) = stray_at(alloc, placed.as_slice())? {
-        return Err(fault(alloc, line, ParseKind::UnknownLine)?);
-    }
     if let Some(line) = repeated_at(alloc, placed.as_slice())? {
         return Err(fault(alloc, line, ParseKind::DuplicateCommand)?);
     }
     Ok(rules_in(alloc, placed)?)
-}
-
-/// The line of the first rule whose command doesn't keep to the rule's files.
-fn stray_at(alloc: Global, placed: &[Placed]) -> Result<Option<u32>, AllocError>
-    ensures { IfOk result (λ line. line ≡ specs.stray_at placed.now) }
-{
-    for Placed { line, rule } in placed {
-        if !keeps(alloc, rule)? {
-            return Ok(Some(*line));
-        }
-    }
-    Ok(None)
 }
 
 /// The line of the first rule with a command that an earlier one has.
@@ -71,6 +52,7 @@ fn repeated_at(alloc: Global, placed: &[Placed]) -> Result<Option<u32>, AllocErr
     Ok(None)
 }
 
+/// Rules without their lines.
 fn rules_in(alloc: Global, placed: PlacedRules) -> Result<Rules, AllocError>
     ensures { IfOk result (λ rules. rules ≡ rules_of_placed placed) }
 {

@@ -8,6 +8,8 @@ use Rattle.tup_stamp.specs.Stamp.{stamp}
 use Rattle.tup_stamp.specs.declared.Stamp.{Stamp}
 use Rattle.tup_site.specs.Cause.{IsPlace}
 use Rattle.tup_site.specs.Store.{Holds}
+use Rattle.tup_site.specs.Choice.{chosen, known_after}
+use Rattle.tup_site.specs.declared.choice.Choice.{Choice}
 use Rattle.tup_site.specs.Known.{IsKnown, MayJoin}
 use Rattle.tup_site.specs.State.{State}
 use Rattle.tup_site.specs.History.{at_first, contents_of, after, after_all, failures, failures_in}
@@ -15,7 +17,7 @@ use Rattle.tup_site.specs.Sound.{IsSound, IsNow}
 use Rattle.tup_site.specs.Held.{by_stamp, under, IsHeld}
 use Rattle.tup_site.specs.Memory.{tree_in, store_in, first_of, changes_of, state_of, known_in, faults_of, one_more}
 use Rattle.tup_site.specs.declared.change.Change.{Change}
-use Rattle.tup_site.specs.declared.change.Change.TheVariants.{Put, Removed, Settled, Written, Cut, Synced, Edited, Failed}
+use Rattle.tup_site.specs.declared.change.Change.TheVariants.{Put, Removed, Settled, Written, Cut, Synced, Edited, Crashed, Failed}
 use Rattle.tup_site.specs.declared.memory.MemSite.{MemSite}
 use Rattle.tup_site.proofs.Sound.{Fits, MaySet, first_sound}
 use Rattle.tup_site.proofs.Going.{after_all-append, now_after}
@@ -81,6 +83,16 @@ module _ (site : MemSite) (changes : List Change) where
 
   pub cut_held : (len : ℕ) → changes ≡ changes_of site ++ Cut len ∷ [] → IsHeld site.known.contents.entries (after_all (at_first (first_of site)) changes).known
   cut_held len noted = held_by (Cut len) refl noted
+
+  -- ---- a crash
+
+  pub crash_now : (choice : Choice) (files : Tree) (store : List ℕ) → files ≡ chosen (tree_in site) choice.tree → IsTree files → IsKnown (known_after (known_in site) choice.tree) → store ≡ choice.db → changes ≡ changes_of site ++ Crashed choice ∷ [] → IsNow (first_of site) changes files store (faults_of site)
+  crash_now choice files store is tree known bytes noted =
+      let chosen_so : files ≡ chosen (state_of site).world.tree choice.tree = is ∙ ap (λ (t : Tree). chosen t choice.tree) site.is_now.tree in
+      now_by (Crashed choice) files store (faults_of site) (subst IsTree chosen_so tree, known) noted chosen_so bytes steady
+
+  pub crash_held : (choice : Choice) (entries : List (Stamp × Content)) → IsHeld entries (known_after (known_in site) choice.tree) → changes ≡ changes_of site ++ Crashed choice ∷ [] → IsHeld entries (after_all (at_first (first_of site)) changes).known
+  crash_held choice entries held noted = subst (IsHeld entries) (sym (ap (λ (s : State). s.known) (state_by (Crashed choice) noted))) held
 
   -- ---- what is durable, and a failure
 

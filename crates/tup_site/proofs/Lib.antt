@@ -1,6 +1,7 @@
 pub mod Among
 pub mod Changes
 pub mod Counted
+pub mod Crashing
 pub mod Going
 pub mod Held
 pub mod Images
@@ -10,5 +11,6 @@ pub mod Made
 pub mod Moments
 pub mod Places
 pub mod Sound
+pub mod Standing
 pub mod Torn
 pub mod Trees

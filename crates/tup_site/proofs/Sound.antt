@@ -9,12 +9,15 @@ use Rattle.tup_path.specs.Tree.{Tree, IsTree, IsBelow, tree_of_files}
 use Rattle.tup_path.proofs.Same.{same_path-decides, by_names-decides, get_inserted, get_inserted_elsewhere, get_removed_elsewhere}
 use Rattle.tup_stamp.specs.Stamp.{stamp}
 use Rattle.tup_site.specs.Cause.{IsPlace}
+use Rattle.tup_site.specs.Choice.{Changed, chosen, with_content, known_after, chosen_world}
+use Rattle.tup_site.specs.Edit.{edited}
+use Rattle.tup_site.specs.declared.choice.Choice.{Choice}
 use Rattle.tup_site.specs.Known.{knows, IsKnown, MayJoin, KnowsTree}
-use Rattle.tup_site.specs.State.{State, is_among, is_in_line, overwritten, with_put, without_file, with_edit, with_write, with_cut, settled, synced}
+use Rattle.tup_site.specs.State.{State, is_among, is_in_line, overwritten, with_put, without_file, with_edit, with_write, with_cut, settled, synced, at_rest}
 use Rattle.tup_site.specs.History.{after, at_first, contents_of}
 use Rattle.tup_site.specs.Sound.{IsSound}
 use Rattle.tup_site.specs.declared.change.Change.{Change}
-use Rattle.tup_site.specs.declared.change.Change.TheVariants.{Put, Removed, Settled, Written, Cut, Synced, Edited, Failed}
+use Rattle.tup_site.specs.declared.change.Change.TheVariants.{Put, Removed, Settled, Written, Cut, Synced, Edited, Crashed, Failed}
 use Rattle.tup_site.proofs.Among.{knows_newest, knows_more, known_or_newest, among_first, among_more, among_cases, kept_among, among_kept, in_line_below, from_in_line}
 use Rattle.tup_site.proofs.Trees.{some_inserted, some_removed, put_tree, removed_tree}
 
@@ -34,6 +37,7 @@ Fits state (Written at bytes) = at ≤ length state.world.store
 Fits state Settled = Unit {0}
 Fits state (Cut len) = Unit {0}
 Fits state Synced = Unit {0}
+Fits state (Crashed choice) = IsTree (chosen state.world.tree choice.tree) × IsKnown (known_after state.known choice.tree)
 Fits state Failed = Unit {0}
 
 -- ---- known contents
@@ -67,7 +71,7 @@ get_unset tree path other there = elim (cases_Bool (same_path other path)) [
   | inr nay ↦ let apart : other ≢ path = λ e. both_ways _ nay ((same_path-decides other path).1 e) in (apart, get_removed_elsewhere tree path other apart)
 ]
 
-knows_set : (contents : List Content) (tree : Tree) (path : Names) (content : Content) → KnowsTree contents tree → KnowsTree (content ∷ contents) (finite.insert tree path content)
+pub knows_set : (contents : List Content) (tree : Tree) (path : Names) (content : Content) → KnowsTree contents tree → KnowsTree (content ∷ contents) (finite.insert tree path content)
 knows_set contents tree path content is other found has = elim (get_set tree path content other) [
   | inl here ↦
       let e : content ≡ found = cc (here.1, has) in
@@ -75,8 +79,26 @@ knows_set contents tree path content is other found has = elim (get_set tree pat
   | inr there ↦ knows_more content contents found (is other found (sym there.1 ∙ has))
 ]
 
-knows_unset : (contents : List Content) (tree : Tree) (path : Names) → KnowsTree contents tree → KnowsTree contents (finite.remove tree path)
+pub knows_unset : (contents : List Content) (tree : Tree) (path : Names) → KnowsTree contents tree → KnowsTree contents (finite.remove tree path)
 knows_unset contents tree path is other found has = is other found (sym (get_unset tree path other (ap is_some has)).1 ∙ has)
+
+-- ---- what a choice sets
+
+with_keeps : (contents : List Content) (more : Option Content) (content : Content) → knows contents content ≡ true → knows (with_content contents more) content ≡ true
+with_keeps contents None content k = k
+with_keeps contents (Some newest) content k = knows_more newest contents content k
+
+pub keeps_after : (contents : List Content) (files : Changed) (content : Content) → knows contents content ≡ true → knows (known_after contents files) content ≡ true
+keeps_after contents [] content k = k
+keeps_after contents (file ∷ files) content k = keeps_after (with_content contents file.1) files content (with_keeps contents file.1 content k)
+
+knows_edited : (contents : List Content) (tree : Tree) (path : Names) (more : Option Content) → KnowsTree contents tree → KnowsTree (with_content contents more) (edited tree path more)
+knows_edited contents tree path None is = knows_unset contents tree path is
+knows_edited contents tree path (Some content) is = knows_set contents tree path content is
+
+pub knows_after : (contents : List Content) (tree : Tree) (files : Changed) → KnowsTree contents tree → KnowsTree (known_after contents files) (chosen tree files)
+knows_after contents tree [] is = is
+knows_after contents tree (file ∷ files) is = knows_after (with_content contents file.1) (edited tree file.0 file.1) files (knows_edited contents tree file.0 file.1 is)
 
 -- ---- paths in line
 
@@ -214,6 +236,16 @@ synced_sound s is = record {
   no_longer = omega arith;
 }
 
+crashed_sound : (s : State) (choice : Choice) → IsSound s → IsTree (chosen s.world.tree choice.tree) → IsKnown (known_after s.known choice.tree) → IsSound (at_rest (known_after s.known choice.tree) (chosen_world s.world.tree choice))
+crashed_sound s choice is tree known = record {
+  tree = tree;
+  in_line = λ q file among there line. absurd (both_ways false refl among);
+  known = known;
+  knows = knows_after s.known s.world.tree choice.tree is.knows;
+  no_shorter = omega arith;
+  no_longer = omega arith;
+}
+
 pub sound_after : (s : State) (change : Change) → IsSound s → Fits s change → IsSound (after s change)
 sound_after s (Put path content) is fits = put_sound s path content is fits
 sound_after s (Removed path) is fits = unset_sound s path is fits
@@ -223,6 +255,7 @@ sound_after s (Cut len) is fits = cut_sound s len is
 sound_after s Synced is fits = synced_sound s is
 sound_after s (Edited path None) is fits = edited_away_sound s path is
 sound_after s (Edited path (Some content)) is fits = edited_sound s path content is fits
+sound_after s (Crashed choice) is fits = crashed_sound s choice is fits.0 fits.1
 sound_after s Failed is fits = is
 
 -- ---- the first state

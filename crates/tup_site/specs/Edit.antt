@@ -1,11 +1,11 @@
 -- Files given as a list, the place of a file among them, and one file set or taken away. Own.
-use Rattle.std.specs.Prelude.{◌≡◌, ◌≢◌, List, Option, None, Some, IsSome}
+use Rattle.std.specs.Prelude.{◌≡◌, ◌≢◌, List, [], Option, None, Some, IsSome}
 use Rattle.std.proofs.Props.{props}
 use Rattle.std.specs.Coded.{Coded-set, coded_ℕ, coded_list, coded_option}
 use Rattle.std.specs.FinMap as finite
 use Rattle.std.specs.List.{AllPairs}
 use Rattle.std.specs.Map.{keys_of}
-use Rattle.tup_path.specs.Name.{Names, Content}
+use Rattle.tup_path.specs.Name.{Names, Content, IsPath}
 use Rattle.tup_path.specs.Tree.{Tree, IsTree, IsBelow, tree_of_files}
 use Rattle.tup_site.specs.Cause.{IsPlace}
 
@@ -25,6 +25,12 @@ NoneAbove tree path = (file : Names) → IsSome (finite.get tree file) → IsBel
 -- the path isn't a folder: no file is below it
 abbrev pub NoneBelow : Tree → Names → Type 0
 NoneBelow tree path = (file : Names) → IsSome (finite.get tree file) → IsBelow path file → ⊥
+
+-- a file may stand here: it is no top, and no folder
+pub record Stands (tree : Tree) (path : Names) : Type 0 where
+  pub visible : IsPath path
+  pub not_top : path ≢ []
+  pub alone : NoneBelow tree path
 
 -- a file may be added: none is at the path, and one may be
 pub record MayAdd (tree : Tree) (path : Names) : Type 0 where

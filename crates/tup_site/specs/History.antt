@@ -5,8 +5,9 @@ use Rattle.tup_path.specs.Name.{Names, Content}
 use Rattle.tup_path.specs.Tree.{tree_of_files}
 use Rattle.tup_site.specs.World.{World}
 use Rattle.tup_site.specs.State.{State, IsImage, with_put, without_file, with_edit, with_write, with_cut, settled, synced, at_rest}
+use Rattle.tup_site.specs.Choice.{known_after, chosen_world}
 use Rattle.tup_site.specs.declared.change.Change.{Change}
-use Rattle.tup_site.specs.declared.change.Change.TheVariants.{Put, Removed, Settled, Written, Cut, Synced, Edited, Failed}
+use Rattle.tup_site.specs.declared.change.Change.TheVariants.{Put, Removed, Settled, Written, Cut, Synced, Edited, Crashed, Failed}
 
 -- the contents of a list of files
 abbrev pub contents_of : List (Names × Content) → List Content
@@ -25,6 +26,7 @@ after state (Written at bytes) = with_write state at bytes
 after state (Cut len) = with_cut state len
 after state Synced = synced state
 after state (Edited path content) = with_edit state path content
+after state (Crashed choice) = at_rest (known_after state.known choice.tree) (chosen_world state.world.tree choice)
 after state Failed = state
 
 -- the state after these changes, the first of them first

@@ -8,5 +8,7 @@ pub mod State
 pub mod History
 pub mod Sound
 pub mod Held
+pub mod Choice
+pub mod Bounds
 pub mod Laws
 pub mod Memory

@@ -7,6 +7,8 @@ use Rattle.tup_path.specs.Tree.{Tree, tree_of_files}
 use Rattle.tup_site.specs.World.{World}
 use Rattle.tup_site.specs.Cause.{CountsFaults, NeverTooLarge}
 use Rattle.tup_site.specs.State.{State}
+use Rattle.tup_site.specs.Choice.{known_after, chosen_world}
+use Rattle.tup_site.specs.declared.choice.Choice.{Choice}
 use Rattle.tup_site.specs.History.{at_first, after_all, LeftSince}
 use Rattle.tup_site.specs.declared.change.Change.{Change}
 use Rattle.tup_site.specs.declared.change.Change.TheVariants.{Removed, Failed}
@@ -49,6 +51,14 @@ moment_of site = length (changes_of site)
 -- a crash at some moment since t may leave this
 abbrev pub left_since : MemSite → ℕ → World → Type 0
 left_since site t w = LeftSince (at_first (first_of site)) (changes_of site) t w
+
+-- the known contents with those that a choice sets
+abbrev pub known_with : MemSite → Choice → List Content
+known_with site choice = known_after (known_in site) choice.tree
+
+-- a crash now may leave this choice
+abbrev pub MayLeave : MemSite → Choice → Type 0
+MayLeave site choice = left_since site (moment_of site) (chosen_world (tree_in site) choice)
 
 -- how many calls were made
 abbrev pub calls_of : MemSite → ℕ

@@ -1,4 +1,5 @@
 //! What happens to a site in memory.
+use crate::choice::Choice;
 use tup_path::{Bytes, Path};
 
 /// One change of a site, or one call of it that failed.
@@ -11,5 +12,6 @@ pub(crate) enum Change {
     Cut { len: u64 },
     Synced,
     Edited { path: Path, content: Option<Bytes> },
+    Crashed { choice: Choice },
     Failed,
 }

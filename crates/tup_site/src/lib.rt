@@ -7,6 +7,8 @@
 
 mod bytes;
 mod change;
+mod choice;
+mod crash;
 mod fault;
 mod first;
 mod known;
@@ -15,7 +17,9 @@ mod memory_calls;
 mod place;
 mod refused;
 mod site;
+mod unsettled;
 
+pub use choice::{Changed, Choice, Deed};
 pub use fault::{MAX_FILE_BYTES, SiteFailed};
 pub use memory::MemSite;
 pub use refused::MemRefused;

@@ -1,5 +1,5 @@
 //! A site in memory, which tells everything. Chosen calls fail.
-ghost use Rattle.std.specs.Prelude.{◌≡◌, ◌⊎◌, [], ◌∷◌, ◌++◌, ◌↔◌, ◌≤◌, length, take, IfOk, OnOk, OnErr, Ok, Err, None, Some, IsSome, IsTrue};
+ghost use Rattle.std.specs.Prelude.{◌≡◌, ◌≢◌, ◌⊎◌, [], ◌∷◌, ◌++◌, ◌↔◌, ◌≤◌, length, take, IfOk, OnOk, OnErr, Ok, Err, None, Some, IsSome, IsTrue};
 ghost use Rattle.std.specs.Option.{option_copied};
 ghost use Rattle.std.specs.FinMap as finite;
 ghost use Rattle.tup_path.specs.Name.{IsPath};
@@ -14,7 +14,7 @@ ghost use Rattle.tup_site.specs.History.{at_first, after_all, contents_of};
 ghost use Rattle.tup_site.specs.Sound.{IsNow, IsNow-prop};
 ghost use Rattle.tup_site.specs.Held.{IsHeld, IsHeld-prop};
 ghost use Rattle.tup_site.specs.declared.fault.SiteFailed.TheVariants.{Fault, Memory};
-ghost use Rattle.tup_site.specs.declared.refused.MemRefused.TheVariants.{NotATree, SameStamp};
+ghost use Rattle.tup_site.specs.declared.refused.MemRefused.TheVariants.{NotATree, SameStamp, NotAnImage};
 ghost use Rattle.tup_site.specs.declared.change.Change.TheVariants.{Put, Removed, Settled, Written, Cut, Synced, Edited, Failed};
 
 use crate::bytes::overwrite;
@@ -31,8 +31,9 @@ use tup_stamp::stamp_of;
 
 /// A tree of files and a store in memory.
 ///
-/// It keeps the list of all that happened since it was made, and of its calls that failed. So what it
-/// was at each moment, which is the list's length then, and what a crash then may leave, is known.
+/// It keeps the list of all that happened since it was made, and of its calls that failed. So what
+/// it was at each moment, which is the list's length then, and what a crash then may leave, is
+/// known.
 /// The calls of `Site`, but for `faults`, are numbered from 1. Those fail whose number was listed,
 /// those behind the number of `stop_after`, and a `put` of a content that has the stamp of another;
 /// they change nothing, and no others fail.
@@ -40,16 +41,17 @@ use tup_stamp::stamp_of;
 pub struct MemSite {
     pub(crate) files: BTreeMap<Path, Bytes>,
     pub(crate) store: Vec<u8>,
-    known: Known,
+    pub(crate) known: Known,
     first: Files,
     pub(crate) changes: Vec<Change>,
     fails: Vec<u64>,
     calls: u64,
-    left: Option<u64>,
+    pub(crate) left: Option<u64>,
     pub(crate) faults: u64,
     ghost is_tree: { IsTree (tree_of_files files.entries) } by { IsTree-prop (tree_of_files files.entries) },
     ghost is_now: { IsNow first changes.items (tree_of_files files.entries) store.items faults } by { IsNow-prop first changes.items (tree_of_files files.entries) store.items faults },
-    ghost is_held: { IsHeld known.contents.entries (after_all (at_first first) changes.items).known } by { IsHeld-prop known.contents.entries (after_all (at_first first) changes.items).known },
+    ghost is_held: { IsHeld known.contents.entries
+        (after_all (at_first first) changes.items).known } by { IsHeld-prop known.contents.entries (after_all (at_first first) changes.items).known },
 }
 
 impl MemSite {
@@ -75,6 +77,7 @@ impl MemSite {
         ensures not_a_tree { result ≡ Err NotATree → ¬ AreATree files.items }
         ensures same_stamp { result ≡ Err SameStamp
             → AreATree files.items × ¬ IsKnown (contents_of files.items) }
+        ensures no_image { result ≢ Err NotAnImage }
     {
         let first = Files::from_vec(files);
         let files = tree_of(alloc, first.as_slice())?;
@@ -102,7 +105,8 @@ impl MemSite {
     ) -> Result<(), MemRefused>
         ensures edited { OnOk result (tree_in self.new ≡ edited (tree_in self.old) path content) }
         ensures tree { OnOk result (IsTree (edited (tree_in self.old) path content)) }
-        ensures noted { OnOk result (changes_of self.new ≡ changes_of self.old ++ Edited path content ∷ []) }
+        ensures noted { OnOk result
+            (changes_of self.new ≡ changes_of self.old ++ Edited path content ∷ []) }
         ensures unchanged { OnErr result (tree_in self.new ≡ tree_in self.old) }
         ensures unnoted { OnErr result (changes_of self.new ≡ changes_of self.old) }
         ensures store { store_in self.new ≡ store_in self.old }
@@ -112,6 +116,7 @@ impl MemSite {
         ensures same_stamp { result ≡ Err SameStamp
             → IsTree (edited (tree_in self.old) path content)
             × ¬ IsKnown (with_edit (state_of self.old) path content).known }
+        ensures no_image { result ≢ Err NotAnImage }
     {
         match content {
             Some(content) => self.edit_in(path, content),
@@ -132,6 +137,7 @@ impl MemSite {
         ensures not_a_tree { result ≡ Err NotATree → ¬ IsPlace (tree_in self.old) path }
         ensures same_stamp { result ≡ Err SameStamp
             → IsPlace (tree_in self.old) path × ¬ MayJoin (known_in self.old) content }
+        ensures no_image { result ≢ Err NotAnImage }
         ensures path { IsPath path }
     {
         prove!(path.depth() <= MAX_DEPTH);

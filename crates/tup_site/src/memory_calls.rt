@@ -28,7 +28,8 @@ impl MemSite {
         ensures store { store_in self.new ≡ store_in self.old }
         ensures noted { changes_of self.new
             ≡ changes_of self.old ++ added result (Put path.now content.now ∷ []) }
-        ensures counted { FailsOnly (¬ MayJoin (known_in self.old) content.now) self.old self.new result }
+        ensures counted { FailsOnly (¬ MayJoin (known_in self.old) content.now)
+            self.old self.new result }
     {
         if !self.may_join(content) {
             return Err(self.fail());
@@ -191,7 +192,8 @@ impl Site for MemSite {
     fn settle(&mut self, _alloc: Global) -> Result<(), SiteFailed>
         ensures same { world_in self.new ≡ world_in self.old }
         ensures noted { changes_of self.new ≡ changes_of self.old ++ added result (Settled ∷ []) }
-        ensures durable { OnOk result (PinsTree (left_since self.new (moment_of self.new)) (world_in self.old)) }
+        ensures durable { OnOk result
+            (PinsTree (left_since self.new (moment_of self.new)) (world_in self.old)) }
         ensures crash { GoesOn moment_of left_since self.old self.new NoStep }
         ensures known { known_in self.new ≡ known_in self.old }
         ensures counted { IsCounted self.old self.new (IsTrue (fails_next self.old)) result }
@@ -252,7 +254,8 @@ impl Site for MemSite {
     fn db_sync(&mut self, _alloc: Global) -> Result<(), SiteFailed>
         ensures same { world_in self.new ≡ world_in self.old }
         ensures noted { changes_of self.new ≡ changes_of self.old ++ added result (Synced ∷ []) }
-        ensures durable { OnOk result (PinsStore (left_since self.new (moment_of self.new)) (world_in self.old)) }
+        ensures durable { OnOk result
+            (PinsStore (left_since self.new (moment_of self.new)) (world_in self.old)) }
         ensures crash { GoesOn moment_of left_since self.old self.new NoStep }
         ensures known { known_in self.new ≡ known_in self.old }
         ensures counted { IsCounted self.old self.new (IsTrue (fails_next self.old)) result }

@@ -2,7 +2,7 @@
 ghost use Rattle.std.specs.Prelude.{IsTrue, ◌↔◌};
 ghost use Rattle.tup_path.specs.Tree.{IsTree, tree_of_files};
 ghost use Rattle.tup_site.specs.Cause.{IsPlace};
-ghost use Rattle.tup_site.specs.Edit.{NoneAbove, NoneBelow};
+ghost use Rattle.tup_site.specs.Edit.{NoneAbove, NoneBelow, Stands};
 
 use std::collections::BTreeMap;
 use std::ops::Bound;
@@ -41,4 +41,23 @@ fn is_none_below(files: &BTreeMap<Path, Bytes>, path: &Path) -> bool
         Some((file, _)) => !file.is_below(path),
         None => true,
     }
+}
+
+/// Whether files are a tree: none at the top, and none below another.
+pub(crate) fn is_tree(files: &BTreeMap<Path, Bytes>) -> bool
+    ensures { IsTrue result ↔ IsTree (tree_of_files files.now.entries) }
+{
+    for path in files.keys() {
+        if !may_stand(files, path) {
+            return false;
+        }
+    }
+    true
+}
+
+// Whether a path isn't the top, and no file is below it.
+fn may_stand(files: &BTreeMap<Path, Bytes>, path: &Path) -> bool
+    ensures { IsTrue result ↔ Stands (tree_of_files files.now.entries) path.now }
+{
+    path.depth() > 0 && is_none_below(files, path)
 }

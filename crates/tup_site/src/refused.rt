@@ -1,8 +1,8 @@
-//! Why a site in memory can't be made or edited so.
+//! Why a site in memory can't be made, edited or stopped so.
 use std::alloc::{AllocError, AllocFailed};
 use thiserror::Error;
 
-/// Why a site in memory can't be made or edited so. What stands first comes first.
+/// Why a site in memory can't be made, edited or stopped so. What stands first comes first.
 #[derive(Clone, Copy, Debug, PartialEq, Eq, Error)]
 pub enum MemRefused {
     /// The files would be no tree: the top as a file, one path twice, or a path below another.
@@ -11,6 +11,9 @@ pub enum MemRefused {
     /// A content has the stamp of another that is known.
     #[error("two contents have one stamp")]
     SameStamp,
+    /// A crash now can't leave this.
+    #[error("no crash can leave this")]
+    NotAnImage,
     /// There was no memory.
     #[error("no memory")]
     Memory,

@@ -21,9 +21,9 @@ use tup_path::{Bytes, Path, Paths};
 /// `Fault`, and with no other. Want of memory leaves the world as it was; only a fault may leave a
 /// write half done.
 ///
-/// A crash may leave another world than the present one: each call says what it adds to what a crash
-/// since an earlier moment may leave, whatever it answers, and a `settle` or `db_sync` that succeeds
-/// says what every crash from then on leaves.
+/// A crash may leave another world than the present one: each call says what it adds to what a
+/// crash since an earlier moment may leave, whatever it answers, and a `settle` or `db_sync` that
+/// succeeds says what every crash from then on leaves.
 pub trait Site: Drop + Send {
     /// Whether the site tells its world.
     ghost tells: { Bool };
@@ -37,7 +37,8 @@ pub trait Site: Drop + Send {
     /// The moment, as a number that doesn't fall.
     ghost moment: { Self → ℕ };
 
-    /// What a crash at some moment from that one on may leave. A crash now is one since this moment.
+    /// What a crash at some moment from that one on may leave. A crash now is one since this
+    /// moment.
     ghost left_since: { Self → ℕ → World → Type 0 };
 
     /// How often the outside has failed; it stands still at the last `u64`.
@@ -45,7 +46,8 @@ pub trait Site: Drop + Send {
 
     /// The paths of all files, in the order of paths.
     fn list(&mut self, alloc: Global) -> Result<Paths, SiteFailed>
-        ensures paths { IsTrue tells → IfOk result (λ paths. paths ≡ finite.keys (world self.old).tree) }
+        ensures paths { IsTrue tells
+            → IfOk result (λ paths. paths ≡ finite.keys (world self.old).tree) }
         ensures same { IsTrue tells → world self.new ≡ world self.old }
         ensures crash { IsTrue tells → GoesOn moment left_since self.old self.new NoStep }
         ensures known { IsTrue tells → known self.new ≡ known self.old }
@@ -70,8 +72,10 @@ pub trait Site: Drop + Send {
     fn put(&mut self, alloc: Global, path: &Path, content: &Bytes) -> Result<(), SiteFailed>
         requires { IsTrue tells → IsPlace (world self.old).tree path.now }
         ensures put { IsTrue tells
-            → OnOk result ((world self.new).tree ≡ finite.insert (world self.old).tree path.now content.now) }
-        ensures others { IsTrue tells → SameBut path.now (world self.old).tree (world self.new).tree }
+            → OnOk result ((world self.new).tree
+            ≡ finite.insert (world self.old).tree path.now content.now) }
+        ensures others { IsTrue tells
+            → SameBut path.now (world self.old).tree (world self.new).tree }
         ensures store { IsTrue tells → StoreStays (world self.old) (world self.new) }
         ensures memory { IsTrue tells → result ≡ Err Memory → world self.new ≡ world self.old }
         ensures crash { IsTrue tells → GoesOn moment left_since self.old self.new
@@ -85,7 +89,8 @@ pub trait Site: Drop + Send {
     fn remove(&mut self, alloc: Global, path: &Path) -> Result<(), SiteFailed>
         ensures removed { IsTrue tells
             → OnOk result ((world self.new).tree ≡ finite.remove (world self.old).tree path.now) }
-        ensures others { IsTrue tells → SameBut path.now (world self.old).tree (world self.new).tree }
+        ensures others { IsTrue tells
+            → SameBut path.now (world self.old).tree (world self.new).tree }
         ensures store { IsTrue tells → StoreStays (world self.old) (world self.new) }
         ensures memory { IsTrue tells → result ≡ Err Memory → world self.new ≡ world self.old }
         ensures crash { IsTrue tells → GoesOn moment left_since self.old self.new
@@ -132,7 +137,8 @@ pub trait Site: Drop + Send {
         ensures written { IsTrue tells
             → OnOk result (Holds (world self.old).store at bytes.now (world self.new).store) }
         ensures torn { IsTrue tells
-            → OnErr result (IsTorn at (length bytes.now) (world self.old).store (world self.new).store) }
+            → OnErr result
+            (IsTorn at (length bytes.now) (world self.old).store (world self.new).store) }
         ensures tree { IsTrue tells → TreeStays (world self.old) (world self.new) }
         ensures memory { IsTrue tells → result ≡ Err Memory → world self.new ≡ world self.old }
         ensures crash { IsTrue tells → GoesOn moment left_since self.old self.new
@@ -153,7 +159,8 @@ pub trait Site: Drop + Send {
 
     /// Cuts the store to a length; one that is no longer stays. After a fault it is cut or not.
     fn db_cut(&mut self, alloc: Global, len: u64) -> Result<(), SiteFailed>
-        ensures cut { IsTrue tells → OnOk result ((world self.new).store ≡ take len (world self.old).store) }
+        ensures cut { IsTrue tells
+            → OnOk result ((world self.new).store ≡ take len (world self.old).store) }
         ensures cut_or_not { IsTrue tells
             → OnErr result (IsCutOrNot len (world self.old).store (world self.new).store) }
         ensures tree { IsTrue tells → TreeStays (world self.old) (world self.new) }
@@ -180,8 +187,8 @@ pub trait Site: Drop + Send {
     ghost present: { (site : Self) → IsTrue tells → left_since site (moment site) (world site) };
 
     /// What a crash since a moment may leave, one since an earlier moment may leave.
-    ghost earlier: { (site : Self) (t u : ℕ) (w : World) → IsTrue tells → t ≤ u → left_since site u w
-        → left_since site t w };
+    ghost earlier: { (site : Self) (t u : ℕ) (w : World) → IsTrue tells → t ≤ u
+        → left_since site u w → left_since site t w };
 
     /// What a crash leaves is a tree of files.
     ghost leaves_tree: { (site : Self) (t : ℕ) (w : World) → IsTrue tells → left_since site t w

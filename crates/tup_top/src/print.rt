@@ -38,6 +38,7 @@ pub(crate) fn last_line(alloc: Global, status: &Status) -> Result<Bytes, AllocEr
     Ok(Bytes::new(text.into_bytes()))
 }
 
+/// Adds a line for each folder that was read.
 fn add_read(text: &mut String, folders: &[Path]) -> Result<(), AllocError>
     ensures { OnOk result
         (string_bytes text.new ≡ string_bytes text.old ++ flat_map specs.read_line folders.now) }
@@ -48,6 +49,7 @@ fn add_read(text: &mut String, folders: &[Path]) -> Result<(), AllocError>
     Ok(())
 }
 
+/// Adds a line for each file that was removed.
 fn add_removed(text: &mut String, paths: &[Path]) -> Result<(), AllocError>
     ensures { OnOk result
         (string_bytes text.new ≡ string_bytes text.old ++ flat_map specs.removed_line paths.now) }
@@ -58,6 +60,7 @@ fn add_removed(text: &mut String, paths: &[Path]) -> Result<(), AllocError>
     Ok(())
 }
 
+/// Adds a line for each rule that was run.
 fn add_verdicts(text: &mut String, rules: &[Rule], verdicts: &[Verdict]) -> Result<(), AllocError>
     ensures { let told = flat_map specs.verdict_line (zip rules.now verdicts.now) in
         OnOk result (string_bytes text.new ≡ string_bytes text.old ++ told) }
@@ -68,6 +71,7 @@ fn add_verdicts(text: &mut String, rules: &[Rule], verdicts: &[Verdict]) -> Resu
     Ok(())
 }
 
+/// Adds the line of a rule that was run.
 fn add_verdict(text: &mut String, rule: &Rule, verdict: &Verdict) -> Result<(), AllocError>
     ensures { let told = specs.verdict_line (rule.now, verdict.now) in
         OnOk result (string_bytes text.new ≡ string_bytes text.old ++ told) }
@@ -80,7 +84,8 @@ fn add_verdict(text: &mut String, rule: &Rule, verdict: &Verdict) -> Result<(), 
     writeln!(text, "{what} {}: {label}", rule.dir)
 }
 
-/// Writes the text of an order that ends with this status, all of it at once, and says how the order ends then.
+/// Writes the text of an order that ends with this status, all of it at once, and says how the order
+/// ends then.
 pub(crate) fn print<K: Sink>(alloc: Global, text: &Bytes, status: Status, out: &mut K) -> Status
     ensures ends { Ends (K.faults out.old) (K.faults out.new) status result }
     ensures counted { IsDone result → K.faults out.new ≡ K.faults out.old }

@@ -7,6 +7,7 @@ use session::Session;
 use std::io;
 use tup_rows::try_file_by;
 
+/// Tries the rows.
 fn main(rt: HostRuntime) -> io::Result<()> {
     let alloc = rt.alloc();
     match Session::new(alloc, 0) {

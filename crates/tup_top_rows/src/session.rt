@@ -36,6 +36,7 @@ impl Session {
         }
     }
 
+    /// Begins an empty project whose site fails at the call of this number.
     fn begin(&mut self, alloc: Global, fails: u64) -> Words {
         match Session::new(alloc, fails) {
             Ok(session) => {
@@ -57,6 +58,7 @@ impl Session {
         }
     }
 
+    /// Runs the program, and keeps the site as it leaves it.
     fn run(&mut self, alloc: Global, words: &[Word], site: MemSite, out: &mut MemSink) -> Words {
         let ran = tup(alloc, words, site, out);
         self.site = Some(ran.site);
@@ -66,6 +68,7 @@ impl Session {
     }
 }
 
+/// Answers a call on the files or the store of the project.
 fn answer_of_site(alloc: Global, site: &mut MemSite, call: &str, said: &Words) -> Words {
     match call {
         "write" => edit(alloc, site, said, Some(Bytes::new(said.bytes_at(alloc, 1)))),
@@ -93,6 +96,7 @@ fn file(alloc: Global, site: &MemSite, said: &Words) -> Words {
     }
 }
 
+/// The words `holds` and a content.
 fn holds(alloc: Global, content: &Bytes) -> Words {
     let mut words = Words::word(alloc, b"holds");
     words.put(alloc, content.as_slice());

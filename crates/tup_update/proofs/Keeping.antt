@@ -10,7 +10,7 @@ use Rattle.tup_site.specs.declared.fault.SiteFailed.TheVariants.{Fault, TooLarge
 use Rattle.tup_rule.specs.declared.rule.Rule.{Rule}
 use Rattle.tup_rule.specs.declared.rule.RuleName.{RuleName}
 use Rattle.tup_access.specs.declared.verdict.Verdict.{Verdict}
-use Rattle.tup_mini.specs.Mini.{mini_next}
+use Rattle.tup_mini.specs.Means.{mini_next}
 use Rattle.tup_clean.specs.Clean.{Build, clean}
 use Rattle.tup_parse.specs.declared.fault.ReadEnd.{ReadEnd}
 use Rattle.tup_parse.specs.declared.fault.ReadEnd.TheVariants.{Fault as ParseFailed, Memory as NotRead}

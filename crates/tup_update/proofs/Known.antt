@@ -9,7 +9,7 @@ use Rattle.tup_path.specs.Tree.{Tree}
 use Rattle.tup_path.proofs.Same.{same_tree}
 use Rattle.tup_rule.specs.declared.rule.Rule.{Rule}
 use Rattle.tup_rule.specs.Rule.{among, is_generated}
-use Rattle.tup_mini.specs.Mini.{mini_next}
+use Rattle.tup_mini.specs.Means.{mini_next}
 use Rattle.tup_clean.proofs.Among.{among-Contains, Contains-among, is_generated-IsOutputAt}
 use Rattle.tup_clean.specs.Clean.{Build, succeeds}
 use Rattle.tup_clean.specs.InOrder.{IsBuildable}

@@ -1,5 +1,5 @@
 pub mod Handed
-pub mod Asking
+pub mod Failing
 pub mod Beside
 pub mod Fronts
 pub mod Reading

@@ -15,7 +15,7 @@ use Rattle.tup_access.specs.declared.verdict.Verdict.{Verdict}
 use Rattle.tup_access.specs.declared.verdict.Verdict.TheVariants.{Good, Failed, IllegalRead, IllegalWrite, Unwritten, TooManyReads}
 use Rattle.tup_access.specs.Judge.{Judged, IsJudged}
 use Rattle.tup_access.specs.Verdict.{verdict}
-use Rattle.tup_mini.specs.Mini.{mini_next}
+use Rattle.tup_mini.specs.Means.{mini_next}
 use Rattle.tup_clean.specs.Clean.{Build, clean, is_good, good_at, with_files}
 use Rattle.tup_clean.specs.InOrder.{IsOutputAt, IsBuildable, AllGoodBefore, AgreesBefore, judged_at}
 use Rattle.tup_clean.proofs.Among.{maker-IsOutputAt, is_generated-maker, Contains-among}

@@ -4,5 +4,6 @@ pub mod Outside
 pub mod Stopped
 pub mod Parts
 pub mod Put
-pub mod Going
+pub mod Seeing
+pub mod SeeingLaws
 pub mod Outcome

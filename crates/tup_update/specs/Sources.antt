@@ -7,7 +7,7 @@ use Rattle.tup_path.specs.Tree.{Tree}
 use Rattle.tup_site.specs.World.{World}
 use Rattle.tup_rule.specs.declared.rule.Rule.{Rule}
 use Rattle.tup_rule.specs.Rule.{among}
-use Rattle.tup_mini.specs.Mini.{mini_next}
+use Rattle.tup_mini.specs.Means.{mini_next}
 use Rattle.tup_clean.specs.Clean.{Build, clean}
 use Rattle.tup_parse.specs.declared.fault.ReadEnd.{ReadEnd}
 use Rattle.tup_parse.specs.Reading.{top_tupfile}

@@ -37,6 +37,7 @@ pub(crate) struct Plan {
 }
 
 impl Plan {
+    /// What is to be done for this project; it takes memory and touches nothing.
     fn of(alloc: Global, project: &Project) -> Result<Plan, AllocError>
         ensures made { IfOk result (λ plan. IsGenerated project.now.rules plan.made) }
         ensures claimed { IfOk result

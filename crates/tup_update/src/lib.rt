@@ -1,7 +1,8 @@
 //! One update of a project with one Tupfile, over any site.
 //!
-//! Read `update`, which reads the `project` that the site asks for and makes its files: `build` owns what may be
-//! written, removes what no rule makes any more and runs the rules (`run`), each a `command` over the site's files.
+//! Read `update`, which reads the `project` that the site asks for and makes its files: `build`
+//! owns what may be written, removes what no rule makes any more and runs the rules (`run`), each a
+//! `command` over the site's files.
 #![tactic(auto)]
 
 mod build;
@@ -10,6 +11,7 @@ mod project;
 mod run;
 mod stop;
 mod update;
+mod view;
 
 pub use stop::Stop;
 pub use update::{Log, Update, update_site};

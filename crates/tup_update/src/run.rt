@@ -5,7 +5,7 @@ ghost use Rattle.tup_site.specs.Cause.{CountsFaults, OnlyLarge, NeverTooLarge};
 ghost use Rattle.tup_rule.specs.declared.rule.Rule.{Rule as RuleValue};
 ghost use Rattle.tup_access.specs.Generated.{IsGenerated};
 ghost use Rattle.tup_access.specs.Verdict as specs;
-ghost use Rattle.tup_mini.specs.Mini.{mini_next};
+ghost use Rattle.tup_mini.specs.Means.{mini_next};
 ghost use Rattle.tup_clean.specs.Clean.{is_good, with_files};
 ghost use Rattle.tup_update.specs.Sources.{build_beside};
 ghost use Rattle.tup_update.specs.Log.{up_to_first_bad, IsGrownByFront};
@@ -25,7 +25,8 @@ use tup_site::{Site, SiteFailed};
 pub(crate) type BadRule = (RuleName, Verdict);
 
 impl Project {
-    /// Runs all rules in their order up to the first that is bad, which it names, and notes their verdicts.
+    /// Runs all rules in their order up to the first that is bad, which it names, and notes their
+    /// verdicts.
     pub(crate) fn run<S: Site>(
         &self,
         alloc: Global,
@@ -86,7 +87,7 @@ impl Project {
         ensures only_large { OnlyLarge result }
         ensures cause { CountsFaults (S.faults site.old) (S.faults site.new) result }
     {
-        let (verdict, files) = run(alloc, site, made, rule)?;
+        let (verdict, files) = run(alloc, site, &self.rules, made, rule)?;
         put_all(alloc, site, files.as_slice())?;
         Ok(verdict)
     }

@@ -24,6 +24,7 @@ pub struct Log {
 }
 
 impl Log {
+    /// The log of an update that did nothing.
     fn new(alloc: Global) -> Log
         ensures { IsEmptyLog result }
     {
@@ -44,8 +45,8 @@ pub struct Update {
     pub stopped: Option<Stop>,
 }
 
-/// Updates the files of a site: reads the store and the sources, removes the files of vanished rules, and runs
-/// every rule in order up to the first that is bad.
+/// Updates the files of a site: reads the store and the sources, removes the files of vanished
+/// rules, and runs every rule in order up to the first that is bad.
 pub fn update_site<S: Site>(alloc: Global, site: &mut S) -> Update
     ensures exactly_the_files { IsTrue S.tells
         → ExactlyTheFiles (S.world site.old) (S.world site.new) result.stopped }

@@ -1,6 +1,3 @@
-use Rattle.std.proofs.Common.{◌∙◌, ap}
-use Rattle.std.specs.FinMap as finite
-use Rattle.tup_path.specs.Order.{by_names}
 use Rattle.tup_clean.proofs.Sorted.{IsSorted-insert_entry}
 use Rattle.tup_core_rows.proofs.sources.put.Goals as goal
 

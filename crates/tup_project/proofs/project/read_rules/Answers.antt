@@ -1,5 +1,5 @@
 use Rattle.std.proofs.lemmas.Result.{err_from_is_err_and}
-use Rattle.tup_project.proofs.Whole.{read_fault, read_checked, answer-ArePlain, answer-IsBuildable}
+use Rattle.tup_project.proofs.Whole.{read_fault, read_checked, answer-IsBuildable}
 use Rattle.tup_project.proofs.project.read_rules.Goals as goal
 
 pub returns-in_err-placed_rules-clause-read : goal.returns-in_err-placed_rules-clause-read
@@ -12,10 +12,6 @@ pub returns-clause-read : goal.returns-clause-read
 returns-clause-read c =
     read_checked c.args.sources.now _ c.placed_rules.result c.in_ok-placed_rules.field-0 c.checked.result
     c.placed_rules.ensures.read c.in_ok-placed_rules.was c.checked.ensures
-
-pub returns-clause-plain : goal.returns-clause-plain
-returns-clause-plain c =
-    answer-ArePlain c.args.sources.now c.in_ok-placed_rules.field-0 c.checked.result c.in_ok-placed_rules.ensures.in_turn c.checked.ensures
 
 pub returns-clause-buildable : goal.returns-clause-buildable
 returns-clause-buildable c =

@@ -1,43 +1,25 @@
-use Rattle.std.proofs.Common.{refl, sym, ◌∙◌, ap, length, arith, length-append, ℕ, ◌+◌}
-use Rattle.tup_site.specs.World.{World}
-use Rattle.tup_access.specs.Verdict.{verdict_after}
-use Rattle.tup_access.proofs.Steps.{verdict_after-none}
-use Rattle.tup_mini.specs.declared.fault.MiniFault.TheVariants.{Memory}
-use Rattle.tup_mini.specs.Command.{command_of}
-use Rattle.tup_mini.specs.Mini.{mini_next}
-use Rattle.tup_runner.specs.Next.{Asks}
-use Rattle.tup_update.proofs.Asking.{given_by, over, on, too_often}
+use Rattle.std.proofs.Common.{rules, ◌≡◌, IsSome, refl, subst}
+use Rattle.tup_mini.specs.Means.{mini_next}
+use Rattle.tup_clean.proofs.Denying.{judged_ends}
+use Rattle.tup_access.specs.Access.{access}
+use Rattle.tup_access.specs.declared.verdict.Access.TheVariants.{No}
+use Rattle.tup_update.specs.declared.view.Sight.{Sight}
+use Rattle.tup_update.specs.Seeing.{ComesTo}
+use Rattle.tup_update.proofs.Failing.{judged_refused}
 use Rattle.tup_update.proofs.command.run.Goals as goal
 
-pub loop-turn-init : goal.loop-turn-init
-loop-turn-init g c = record {
-  command = sym (given_by Memory c.read.result (command_of c.args.rule.now.text) c.in-Ok.command c.read.ensures c.in-Ok.is);
-  asked = ap length c.new-asked.ensures;
-  judged = λ tells rules made.
-      ap (λ (asked : Asks). verdict_after mini_next rules c.args.rule.now (g.S.Site.world c.args.site.now).tree asked) c.new-asked.ensures
-      ∙ verdict_after-none mini_next rules c.args.rule.now (g.S.Site.world c.args.site.now).tree;
-  same = λ tells. refl;
-  counted = refl;
-}
+pub returns-in-Ok-judge-clause-judged : goal.returns-in-Ok-judge-clause-judged
+returns-in-Ok-judge-clause-judged g c = λ told.
+    let reports = c.in-Ok.ensures.reports in
+    judged_ends mini_next c.args.rules.now c.args.rule.now (g.S.Site.world c.args.site.now).tree c.in-Ok.report.asks c.perform-performed.new.view.asked (reports.came_by.2 told) c.in-Ok.report.dir c.in-Ok.report.text c.in-Ok.report.ended c.ended.result.now _ _
+    reports.dir_is reports.text_is (c.in-Ok.report.means refl) c.ended.ensures c.in-Ok-judge.ensures
 
-pub returns-in-Over-clause-judged : goal.returns-in-Over-clause-judged
-returns-in-Over-clause-judged g c = λ tells rules made.
-    over rules c.args.rule.now _ _ c.loop-turn.asked _ c.in-Over.verdict c.in-Over.files (ap (λ (w : World). w.tree) (c.loop-turn.invariant.same tells))
-    (c.loop-turn.invariant.judged tells rules made) c.in-Over.is
-    (c.in_ok-text.ensures.leads tells rules made c.loop-turn.invariant.command)
-
-pub loop-turn-preserved : goal.loop-turn-preserved
-loop-turn-preserved g c = record {
-  command = c.loop-turn.invariant.command;
-  asked = ap length c.in_ok-push-in-On.ensures.ok ∙ length-append c.loop-turn.asked _ ∙ ap (λ (n : ℕ). n + 1) c.loop-turn.invariant.asked;
-  judged = λ tells rules made.
-      on rules c.args.rule.now _ _ c.loop-turn.asked _ _ c.in-On.text c.in-On.answer (ap (λ (w : World). w.tree) (c.loop-turn.invariant.same tells))
-      (c.loop-turn.invariant.judged tells rules made) c.in-On.is c.in_ok-push-in-On.ensures.ok
-      (c.in_ok-text.ensures.leads tells rules made c.loop-turn.invariant.command);
-  same = λ tells. c.step.ensures.same tells ∙ c.loop-turn.invariant.same tells;
-  counted = c.step.ensures.cause.steady (λ e. cc (c.in_ok-text.was, e)) ∙ c.loop-turn.invariant.counted;
-}
-
-pub returns-clause-judged : goal.returns-clause-judged
-returns-clause-judged g c = λ tells rules made.
-    too_often rules c.args.rule.now _ c.loop-turn.asked _ (omega (arith, c.loop-turn.invariant.asked)) (c.loop-turn.invariant.judged tells rules made) c.new.ensures
+pub returns-in-Err-Denied-clause-judged : goal.returns-in-Err-Denied-clause-judged
+returns-in-Err-Denied-clause-judged g c = λ told.
+    let view = c.perform-performed.new.view in
+    let some : IsSome view.refused.now = search rules in
+    let comes : ComesTo view.refused.now c.came_to.result = search rules in
+    let ran = rw c.in-Err-Denied.is at c.perform-performed.ensures.refuses in
+    let sight = (c.perform-performed.ensures.same).0 in
+    judged_refused c.args.rules.now c.args.rule.now (g.S.Site.world c.args.site.now).tree view.asked _ view.refused.now c.in-Err-Denied.field-0 c.came_to.result ran (λ asks came. came.2 told) some
+    (λ text given kept. subst (λ (s : Sight). access s.rules.now s.rule.now view.asked text ≡ No given) sight (view.denies text given kept)) comes

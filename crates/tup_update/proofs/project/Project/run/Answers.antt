@@ -3,7 +3,7 @@ use Rattle.tup_rule.specs.declared.rule.Rule.{Rule}
 use Rattle.tup_rule.specs.Rule.{name_of}
 use Rattle.tup_access.specs.declared.verdict.Verdict.{Verdict}
 use Rattle.tup_access.specs.declared.verdict.Verdict.TheVariants.{Good}
-use Rattle.tup_mini.specs.Mini.{mini_next}
+use Rattle.tup_mini.specs.Means.{mini_next}
 use Rattle.tup_clean.proofs.InOrderLaws.{good_none}
 use Rattle.tup_clean.proofs.CleanLaws.{clean_tree_of_good, clean_succeeds}
 use Rattle.tup_update.specs.Sources.{files_beside}

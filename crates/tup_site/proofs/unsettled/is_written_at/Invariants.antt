@@ -1,0 +1,7 @@
+use Rattle.std.proofs.Common.{◌≡◌, take}
+use Rattle.tup_site.specs.State.{is_written}
+use Rattle.tup_site.specs.History.{at_first, after_all}
+use Rattle.tup_site.proofs.unsettled.is_written_at.Given as goal
+
+abbrev pub invariant-loop-change : goal.invariant-loop-change
+invariant-loop-change l = (files : _) → l.is_so ≡ is_written (after_all (at_first files) (take l.change-index l.changes)).written l.place

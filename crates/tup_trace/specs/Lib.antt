@@ -1,0 +1,3 @@
+pub mod Quoting
+pub mod Line
+pub mod Trace

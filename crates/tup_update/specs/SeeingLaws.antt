@@ -1,0 +1,62 @@
+-- How a command's view of a site goes on from ask to ask. These laws stand here, since the view itself cites them.
+use Rattle.std.proofs.Common.{◌≡◌, ℕ, Bool, IsTrue, List, [], ◌++◌, Option, None, Some, Err, refl, sym, ◌∙◌, subst}
+use Rattle.std.specs.Bool.{⊤}
+use Rattle.tup_path.specs.Tree.{Tree}
+use Rattle.tup_site.specs.World.{World}
+use Rattle.tup_rule.specs.declared.rule.Rule.{Rule}
+use Rattle.tup_runner.specs.Next.{Asks}
+use Rattle.tup_access.specs.Answered.{HasSeen}
+use Rattle.tup_access.proofs.Asked.{seen_none, seen_on}
+use Rattle.tup_update.specs.declared.view.Sight.{Sight}
+use Rattle.tup_update.specs.declared.view.Refused.{Refused}
+use Rattle.tup_site.specs.declared.fault.SiteFailed.{SiteFailed}
+use Rattle.tup_update.specs.declared.view.Refused.TheVariants.{Denied, Failed}
+use Rattle.tup_update.specs.Parts.{NamesALargeFile}
+use Rattle.tup_update.specs.Seeing.{Counts, KeepsCount}
+
+pub seen_itself : (rules : List Rule) (rule : Rule) (tree : Tree) (asked : ℕ) → HasSeen rules rule tree asked [] asked
+seen_itself rules rule tree asked = seen_none rules rule tree asked
+
+-- asks of a later state are asks of the first, whose sight and world it has
+pub seen_further : (first next : Sight) (old new : World) (before between after : ℕ) (some more : Asks) → next ≡ first → new ≡ old →
+    HasSeen first.rules.now first.rule.now old.tree before some between → HasSeen next.rules.now next.rule.now new.tree between more after →
+    HasSeen first.rules.now first.rule.now old.tree before (some ++ more) after
+seen_further first next old new before between after some more sight world one two =
+    let here = subst (λ (s : Sight). HasSeen s.rules.now s.rule.now new.tree between more after) sight two in
+    seen_on first.rules.now first.rule.now old.tree before between after some more one
+    (subst (λ (w : World). HasSeen first.rules.now first.rule.now w.tree between more after) world here)
+
+pub keeps_itself : (tells : Bool) (w : World) (count : ℕ) (refused : Option (List ℕ × Refused)) → KeepsCount tells w count count refused refused
+keeps_itself tells w count None = record { first = λ e. refl; stays = λ r e. absurd (cc e) }
+keeps_itself tells w count (Some given) = record { first = λ e. absurd (cc e); stays = λ r e. (e, refl) }
+
+-- a site that tells its world has the same one
+counts_over : (tells : Bool) (old new : World) (before now : ℕ) (refused : Option (List ℕ × Refused)) → (IsTrue tells → new ≡ old) → Counts tells old before now refused → Counts tells new before now refused
+counts_over tells old new before now None same counts = counts
+counts_over tells old new before now (Some (text, Denied verdict)) same counts = counts
+counts_over tells old new before now (Some (text, Failed failed)) same cause = record {
+  counted = cause.counted;
+  only = cause.only;
+  named = λ t. subst (λ (w : World). NamesALargeFile {T = ⊤} w.tree (Err failed)) (sym (same t)) (cause.named t);
+}
+
+module _ (tells : Bool) (old new : World) (same : IsTrue tells → new ≡ old) (before between after : ℕ) where
+  pub keeps_on : (first next last : Option (List ℕ × Refused)) → KeepsCount tells old before between first next → KeepsCount tells new between after next last → KeepsCount tells new before after first last
+  keeps_on None None last one two = record {
+    first = λ e. subst (λ (n : ℕ). Counts tells new n after last) (one.first refl) (two.first refl);
+    stays = λ r e. absurd (cc e);
+  }
+  keeps_on None (Some given) last one two =
+      let then = two.stays given refl in
+      let here = counts_over tells old new before between (Some given) same (one.first refl) in
+      record {
+        first = λ e. subst (λ (l : Option (List ℕ × Refused)). Counts tells new before after l) (sym then.0) (subst (λ (n : ℕ). Counts tells new before n (Some given)) (sym then.1) here);
+        stays = λ r e. absurd (cc e);
+      }
+  keeps_on (Some given) next last one two =
+      let at = one.stays given refl in
+      let then = two.stays given at.0 in
+      record {
+        first = λ e. absurd (cc e);
+        stays = λ r e. (then.0 ∙ e, then.1 ∙ at.1);
+      }

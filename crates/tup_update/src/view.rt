@@ -1,0 +1,153 @@
+//! The files of a site, as the command of one rule may see them.
+ghost use Rattle.std.specs.Prelude.{◌≡◌, ℕ, List, Some, IsTrue, IfOk};
+ghost use Rattle.tup_access.specs.declared.verdict.Verdict.{Verdict as VerdictValue};
+ghost use Rattle.tup_access.specs.declared.verdict.Access.TheVariants.{No};
+ghost use Rattle.tup_access.specs.Access.{access as access_of};
+ghost use Rattle.tup_access.specs.Generated.{IsGenerated};
+ghost use Rattle.tup_update.specs.declared.view.Refused.TheVariants.{Denied};
+ghost use Rattle.tup_update.specs.Seeing.{answer_of_file};
+
+use std::alloc::Global;
+use std::collections::BTreeSet;
+use tup_access::{Access, Verdict, allowed};
+use tup_path::{Bytes, Path, Text};
+use tup_rule::{Rule, Rules};
+use tup_runner::{Answer, View, ViewFailed};
+use tup_site::{Site, SiteFailed};
+
+/// A rule among those of its project.
+#[derive(Drop)]
+pub(crate) struct Sight<'a> {
+    pub rules: &'a Rules,
+    /// What the rules make.
+    pub made: &'a BTreeSet<Path>,
+    pub rule: &'a Rule,
+}
+
+/// Why a text got no answer.
+#[derive(Drop)]
+pub(crate) enum Refused {
+    /// The rule may not read it: this is its verdict.
+    Denied(Verdict),
+    /// The site gave no file.
+    Failed(SiteFailed),
+}
+
+/// The view of the rule's command.
+#[derive(Drop)]
+pub(crate) struct SiteView<'a, 's, 'r, S: Site> {
+    pub sight: Sight<'a>,
+    pub site: &'s mut S,
+    /// How many asks were answered.
+    pub asked: u32,
+    /// The text that got no answer, and why. The caller keeps it.
+    pub refused: &'r mut Option<(Text, Refused)>,
+    ghost knows: { IsGenerated sight.rules.now sight.made.now },
+    ghost denies: { (text : List ℕ) (verdict : VerdictValue)
+        → refused.now ≡ Some (text, Denied verdict)
+        → access_of sight.rules.now sight.rule.now asked text ≡ No verdict },
+}
+
+impl<S: Site> View for SiteView<'_, '_, '_, S> {
+    ghost use Rattle.std.specs.Prelude.{◌≡◌, [], false, IsTrue, refl};
+    ghost use Rattle.std.proofs.Common.{◌∙◌, ap};
+    ghost use Rattle.std.proofs.lemmas.Bool.{false≢true};
+    ghost use Rattle.tup_update.specs.declared.view.Sight.{Sight as SightValue};
+    ghost use Rattle.tup_access.specs.Answered.{HasSeen};
+    ghost use Rattle.tup_update.specs.Seeing.{refusal_of, KeepsCount};
+    ghost use Rattle.tup_update.specs.SeeingLaws.{seen_itself, seen_further, keeps_itself, keeps_on};
+
+    ghost tells = { false };
+
+    ghost asks = { λ _. [] };
+
+    ghost came = { λ first some last. (last.sight ≡ first.sight)
+        × (IsTrue S.tells → S.world last.site.now ≡ S.world first.site.now)
+        × (IsTrue S.tells → HasSeen first.sight.rules.now first.sight.rule.now
+        (S.world first.site.now).tree first.asked some last.asked) };
+
+    ghost refusal = { λ view. refusal_of view.refused.now };
+
+    ghost outputs = { λ view. view.sight.rule.now.outputs };
+
+    ghost same = { λ first last. (last.sight ≡ first.sight)
+        × (last.site.ghost_name ≡ first.site.ghost_name)
+        × (last.refused.ghost_name ≡ first.refused.ghost_name)
+        × (IsTrue S.tells → S.world last.site.now ≡ S.world first.site.now)
+        × KeepsCount S.tells (S.world last.site.now) (S.faults first.site.now)
+        (S.faults last.site.now) first.refused.now last.refused.now };
+
+    fn ask(&mut self, alloc: Global, text: &Text) -> Result<Answer, ViewFailed> {
+        let path = match allowed(alloc, self.sight.rule, self.sight.made, text, self.asked)? {
+            Access::Yes(path) => path,
+            Access::No(verdict) => {
+                *self.refused = Some((text.clone()?, Refused::Denied(verdict)));
+                return Err(ViewFailed::Denied);
+            }
+        };
+        if self.sight.rule.writes(&path) {
+            self.asked += 1;
+            return Ok(Answer::Absent);
+        }
+        // Copied first: want of memory behind a failure of the site would hide it.
+        let kept = text.clone()?;
+        match self.site.get(alloc, &path) {
+            Ok(found) => {
+                self.asked += 1;
+                Ok(answer(found))
+            }
+            Err(SiteFailed::Memory) => Err(ViewFailed::Memory),
+            Err(failed) => {
+                *self.refused = Some((kept, Refused::Failed(failed)));
+                Err(ViewFailed::Fault)
+            }
+        }
+    }
+
+    fn own(&self) -> &[Path] {
+        self.sight.rule.outputs.as_slice()
+    }
+
+    ghost stays = { λ view. (refl, (λ tells. refl), (λ tells. seen_itself _ _ _ view.asked)) };
+
+    ghost goes_on = { λ first next last some more one two. (
+      two.0 ∙ one.0,
+      (λ tells. two.1 tells ∙ one.1 tells),
+      (λ tells. seen_further
+          first.sight next.sight (S.world first.site.now) (S.world next.site.now)
+          first.asked next.asked last.asked some more one.0 (one.1 tells) (one.2 tells) (two.2 tells)),
+    ) };
+
+    ghost same_itself = { λ view. (
+      refl,
+      refl,
+      refl,
+      (λ tells. refl),
+      keeps_itself S.tells _ _ view.refused.now,
+    ) };
+
+    ghost same_on = { λ first next last one two. (
+      two.0 ∙ one.0,
+      two.1 ∙ one.1,
+      two.2 ∙ one.2,
+      (λ tells. two.3 tells ∙ one.3 tells),
+      keeps_on
+          S.tells (S.world next.site.now) (S.world last.site.now) (λ tells. two.3 tells)
+          (S.faults first.site.now) (S.faults next.site.now) (S.faults last.site.now)
+          first.refused.now next.refused.now last.refused.now one.4 two.4,
+    ) };
+
+    ghost same_outputs = { λ first last one. ap (λ (s : SightValue). s.rule.now.outputs) one.0 };
+
+    ghost told = { λ first last some tells came. absurd (false≢true tells) };
+}
+
+/// What a file that was looked for is answered as.
+fn answer(found: Option<Bytes>) -> Answer
+    ensures { result ≡ answer_of_file found }
+{
+    match found {
+        Some(content) => Answer::Content(content),
+        None => Answer::Absent,
+    }
+}
