@@ -79,8 +79,9 @@ impl Linking {
 
     /// The rule at a place, or the refusal.
     fn rule(&self, alloc: Global, said: &Words) -> Words {
+        let at = said.number_at(0);
         match link(alloc, self.project.readings()) {
-            Ok(rules) => shown_at(alloc, rules.as_slice(), said.number_at(0)),
+            Ok(rules) => shown_at(alloc, rules.as_slice(), at),
             Err(fault) => refused(alloc, &fault),
         }
     }
