@@ -1,9 +1,10 @@
 -- Rules that wait for each other, from a circle in their graph.
-use Rattle.std.proofs.Common.{◌≡◌, ℕ, ◌+◌, ◌<◌, List, [], ◌∷◌, ◌++◌, length, take, get_or, option_map, subst, sym, arith, ap, ◌∙◌}
-use Rattle.std.specs.List.{slice_get}
-use Rattle.std.proofs.lemmas.List.{take_more}
+use Rattle.std.proofs.Common.{◌≡◌, ℕ, ◌+◌, ◌<◌, List, [], ◌∷◌, ◌++◌, length, take, get_or, Option, None, option_map, subst, sym, arith, ap, ◌∙◌}
+use Rattle.std.specs.List.{slice_get, cons_option}
+use Rattle.std.proofs.lemmas.List.{take_more, append-nil}
 use Rattle.std.proofs.lemmas.List.Elements.{filter_map-append}
 use Rattle.tup_rule.specs.declared.rule.Rule.{Rule}
+use Rattle.tup_rule.specs.declared.rule.RuleName.{RuleName}
 use Rattle.tup_rule.specs.Rule.{name_of}
 use Rattle.tup_link.specs.Circle.{IsRound, IsCircle, NoneWaitsForItself, names_at}
 use Rattle.tup_link.specs.Graph.{Leads, IsWithin, HasNoCircle}
@@ -28,7 +29,11 @@ pub none_of_graph : (rules : List Rule) (graph : List (List ℕ)) → graph ≡ 
 none_of_graph rules graph is none = none_waits rules (subst (λ (g : List (List ℕ)). HasNoCircle g) is none)
 
 -- the names of one more rule
-pub names_more : (rules : List Rule) (places : List ℕ) (i at : ℕ) → i < length places → at ≡ get_or places i at → names_at rules (take (i + 1) places) ≡ names_at rules (take i places) ++ names_at rules (at ∷ [])
-names_more rules places i at less here =
-    ap (names_at rules) (take_more places i at less ∙ ap (λ (x : ℕ). take i places ++ x ∷ []) (sym here))
-    ∙ filter_map-append (λ place. option_map name_of (slice_get rules place)) (take i places) (at ∷ [])
+pub names_more : (rules : List Rule) (places : List ℕ) (i : ℕ) → i < length places → names_at rules (take (i + 1) places) ≡ names_at rules (take i places) ++ names_at rules (get_or places i 0 ∷ [])
+names_more rules places i less =
+    ap (names_at rules) (take_more places i 0 less)
+    ∙ filter_map-append (λ place. option_map name_of (slice_get rules place)) (take i places) (get_or places i 0 ∷ [])
+
+-- where there is no rule there is no name
+pub names_none : (rules : List Rule) (at : ℕ) (names : List RuleName) → slice_get rules at ≡ None → names ≡ names ++ names_at rules (at ∷ [])
+names_none rules at names none = sym (ap (λ (o : Option Rule). names ++ cons_option (option_map name_of o) []) none ∙ append-nil names)

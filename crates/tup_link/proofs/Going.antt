@@ -109,6 +109,15 @@ known_here old new at enters less e = let on : New ≡ OnWay = sym e ∙ state_s
 
 -- ---- the beginning
 
+-- all numbers of a list are zero
+no_number : (list : List ℕ) (count at : ℕ) → list ≡ replicate count 0 → get_or list at 0 ≡ 0
+no_number list count at are = elim (cases_lt at (length list)) [
+  | inl inside ↦
+      let long : length list ≡ count = ap length are ∙ length-replicate {A = ℕ} count 0 in
+      ap (λ (l : List ℕ). get_or l at 0) are ∙ get_or-replicate {A = ℕ} count at 0 0 (omega (arith, long, inside))
+  | inr beyond ↦ get_or_past list at 0 beyond
+]
+
 pub begun : (graph : List (List ℕ)) (walk : Walk) → walk.states.items ≡ replicate (length graph) New → walk.passed.items ≡ replicate (length graph) 0 → walk.way.items ≡ [] → IsWalk graph walk
 begun graph walk states passed way = record {
   all_states = ap length states ∙ length-replicate (length graph) New;
@@ -131,11 +140,7 @@ begun graph walk states passed way = record {
         by (inr beyond) = ap (λ (o : Option State). unwrap_or o New) (slice_get_past (replicate (length graph) New) at (let e = length-replicate (length graph) New in omega (arith, e, beyond)))
 
     none : (at : ℕ) → get_or walk.passed.items at 0 ≡ 0
-    none at = ap (λ (l : List ℕ). get_or l at 0) passed ∙ by (cases_lt at (length graph))
-      where
-        by : (at < length graph) ⊎ (length graph ≤ at) → get_or (replicate (length graph) 0) at 0 ≡ 0
-        by (inl inside) = get_or-replicate (length graph) at 0 0 inside
-        by (inr beyond) = get_or_past (replicate (length graph) 0) at 0 (let e = length-replicate (length graph) 0 in omega (arith, e, beyond))
+    none at = no_number walk.passed.items (length graph) at passed
 
 -- ---- the first place
 
@@ -198,3 +203,11 @@ round graph walk back at is (on, leads) within before here =
       | inl less ↦ less
       | inr all ↦ absurd (let e = count_none walk.way.items back (λ i less. before i (omega (arith, all, less))) in let s = stands in omega (arith, e, s))
     ]
+
+-- the same of a part of the way, which was read twice
+pub round_read : (graph : List (List ℕ)) (walk : Walk) (back at : ℕ) (one two : List ℕ) → one ≡ walk.way.items → two ≡ walk.way.items → IsWalk graph walk → LeadsBack graph walk back → at ≤ length one →
+    ((i : ℕ) → i < at → get_or one i 0 ≢ back) → (at < length one → get_or one at 0 ≡ back) → IsRound (Leads graph) (drop at two)
+round_read graph walk back at one two first second is leads within before here =
+    subst (λ (l : List ℕ). IsRound (Leads graph) (drop at l)) (sym second)
+    (round graph walk back at is leads (subst (λ (l : List ℕ). at ≤ length l) first within) (λ i less. subst (λ (l : List ℕ). get_or l i 0 ≢ back) first (before i less))
+    (λ less. subst (λ (l : List ℕ). get_or l at 0 ≡ back) first (here (subst (λ (l : List ℕ). at < length l) (sym first) less))))

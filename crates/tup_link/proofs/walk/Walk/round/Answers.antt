@@ -1,12 +1,12 @@
-use Rattle.std.proofs.Common.{List, ℕ, drop, subst, sym, ◌∙◌}
+use Rattle.std.proofs.Common.{List, ℕ, ◌++◌, drop, subst, sym, ap, ◌∙◌}
 use Rattle.tup_link.specs.Circle.{IsRound}
 use Rattle.tup_link.specs.Graph.{Leads}
-use Rattle.tup_link.proofs.Going.{round}
+use Rattle.tup_link.proofs.Going.{round_read}
 use Rattle.tup_link.proofs.walk.Walk.round.Goals as goal
 
 pub returns : goal.returns
 returns c = λ graph is back.
-    let way = c.args.self.now.way.items in
-    let at = c.index_of.result in
-    subst (λ (l : List ℕ). IsRound (Leads graph) l) (sym c.in_ok-add_all.ensures)
-    (round graph c.args.self.now c.args.back at is back c.index_of.ensures.within c.index_of.ensures.before c.index_of.ensures.here)
+    let at = c.index_of-at.result in
+    let here = c.index_of-at.ensures in
+    subst (λ (l : List ℕ). IsRound (Leads graph) l) (sym (c.in_ok-add_all.ensures ∙ ap (λ (l : List ℕ). l ++ drop at c.deref-2.result.now) c.new-places.ensures))
+    (round_read graph c.args.self.now c.args.back at c.deref.result.now c.deref-2.result.now c.deref.ensures.value c.deref-2.ensures.value is back here.within here.before here.here)

@@ -1,4 +1,4 @@
-use Rattle.std.proofs.Common.{◌≡◌, Some, None, sym, ◌∙◌, slice_index_or}
+use Rattle.std.proofs.Common.{◌≡◌, Some, None, sym, arith, ◌∙◌, slice_index_or}
 use Rattle.std.specs.List.{slice_get}
 use Rattle.tup_link.specs.Graph.{led_to}
 use Rattle.tup_link.proofs.Walking.{entered, left, past, at_end}
@@ -28,7 +28,9 @@ returns-in_default-clause-back c =
     (at_end c.args.graph.now c.args.self.now c.args.at c.requires.walk c.requires.at)
 
 pub index-requires : goal.index-requires
-index-requires c = next_in_states c.args.graph.now c.args.self.now c.args.at _ c.in-Some.next c.requires.within c.requires.walk (sym c.in-Some.ensures.next)
+index-requires c =
+    let less = next_in_states c.args.graph.now c.args.self.now c.args.at _ c.in-Some.next c.requires.within c.requires.walk (sym c.in-Some.ensures.next) in
+    omega (arith, less, c.args.self.now.states.ok.0)
 
 pub enter-requires : goal.enter-requires
 enter-requires c = next_in_states c.args.graph.now c.args.self.now c.args.at _ c.in-Some.next c.requires.within c.requires.walk (sym c.in-Some.ensures.next)
@@ -47,7 +49,7 @@ pub returns-in_ok-enter-in-New-clause-on : goal.returns-in_ok-enter-in-New-claus
 returns-in_ok-enter-in-New-clause-on c =
     let here = sym c.in-Some.ensures.next in
     let less = next_in_states c.args.graph.now c.args.self.now c.args.at _ c.in-Some.next c.requires.within c.requires.walk here in
-    entered c.args.graph.now c.args.self.now c.enter.new.self c.in-Some.next c.requires.walk c.in_ok-enter.ensures less
+    entered c.args.graph.now c.args.self.now c.enter.new.self c.in-Some.next c.requires.walk c.in_ok-enter-in-New.ensures less
     (read_state c.args.self.now c.in-Some.next c.index.result.now less c.index.ensures ∙ c.in-New.is)
     (led_on c.args.graph.now c.args.self.now c.args.at c.in-Some.next c.requires.at (leads_at c.args.graph.now c.args.at _ c.in-Some.next here))
 
@@ -55,7 +57,7 @@ pub returns-in_ok-enter-in-New-clause-back : goal.returns-in_ok-enter-in-New-cla
 returns-in_ok-enter-in-New-clause-back c =
     let here = sym c.in-Some.ensures.next in
     let less = next_in_states c.args.graph.now c.args.self.now c.args.at _ c.in-Some.next c.requires.within c.requires.walk here in
-    fewer-entered c.args.graph.now c.args.self.now c.enter.new.self c.in-Some.next c.in_ok-enter.ensures less
+    fewer-entered c.args.graph.now c.args.self.now c.enter.new.self c.in-Some.next c.in_ok-enter-in-New.ensures less
     (read_state c.args.self.now c.in-Some.next c.index.result.now less c.index.ensures ∙ c.in-New.is)
 
 pub returns-in-Done-clause-on : goal.returns-in-Done-clause-on
