@@ -3,7 +3,7 @@ use Rattle.std.proofs.Common.{◌≡◌, ◌≢◌, ℕ, zero, suc, ◌+◌, ◌
 use Rattle.std.specs.List.{slice_get, count_by, Contains}
 use Rattle.std.proofs.lemmas.Bool.{cases_lt, eqb-true}
 use Rattle.std.proofs.lemmas.List.Sums.{sum_by-cons}
-use Rattle.std.proofs.lemmas.List.{length-replicate, get_or-replicate, get_or_push, get_or_past, get_or_default, length-append}
+use Rattle.std.proofs.lemmas.List.{length-replicate, get_or-replicate, get_or_push, get_or_past, get_or_default, length-append, length-drop, take_all}
 use Rattle.std.proofs.lemmas.Option.{slice_get_past, slice_get-get_or, slice_get_within, unwrap_or-slice_get, none-some, same_Some}
 use Rattle.tup_link.specs.declared.walk.State.{State}
 use Rattle.tup_link.specs.declared.walk.State.TheVariants.{New, OnWay, Done}
@@ -203,6 +203,10 @@ round graph walk back at is (on, leads) within before here =
       | inl less ↦ less
       | inr all ↦ absurd (let e = count_none walk.way.items back (λ i less. before i (omega (arith, all, less))) in let s = stands in omega (arith, e, s))
     ]
+
+-- what is left of a list from a place on, read by its length
+pub rest_whole : (list : List ℕ) (at : ℕ) → take (length list - at) (drop at list) ≡ drop at list
+rest_whole list at = take_all (length list - at) (drop at list) (let e = length-drop at list in omega (arith, e))
 
 -- the same of a part of the way, which was read twice
 pub round_read : (graph : List (List ℕ)) (walk : Walk) (back at : ℕ) (one two : List ℕ) → one ≡ walk.way.items → two ≡ walk.way.items → IsWalk graph walk → LeadsBack graph walk back → at ≤ length one →

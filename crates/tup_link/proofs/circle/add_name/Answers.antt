@@ -5,5 +5,5 @@ use Rattle.tup_link.proofs.circle.add_name.Goals as goal
 
 pub returns-in-None : goal.returns-in-None
 returns-in-None c =
-    let past = MatchOption-at_none (length c.args.rules.now ≤ c.args.at) _ c.in-None.is c.get.ensures.lookup.1.1.1.0 in
+    let past = MatchOption-at_none (length c.args.rules.now ≤ c.args.at) _ c.in-None.is c.get.ensures.lookup.3 in
     names_none c.args.rules.now c.args.at c.args.names.now (slice_get_past c.args.rules.now c.args.at past)
