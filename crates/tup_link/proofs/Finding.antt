@@ -1,12 +1,11 @@
 -- Faults that are looked for from the front of a list on.
-use Rattle.std.proofs.Common.{◌≡◌, ℕ, ◌+◌, ◌<◌, ◌≤◌, nat_lt, nat_eq, Bool, true, false, cond, if◌then◌else◌, List, [], ◌∷◌, ◌++◌, length, take, drop, map, get_or, Option, Some, None, option_map, Result, Ok, Err, refl, sym, ap, ◌∙◌, inl, inr, ◌⊎◌, arith}
-use Rattle.std.specs.List.{find, flat_map, list_any, slice_get}
+use Rattle.std.proofs.Common.{◌≡◌, ℕ, ◌+◌, ◌<◌, ◌≤◌, nat_eq, true, false, List, [], ◌∷◌, ◌++◌, length, take, drop, map, get_or, Option, Some, None, option_map, refl, sym, ap, ◌∙◌, inl, inr, ◌⊎◌, arith}
+use Rattle.std.specs.List.{find, list_any, slice_get}
 use Rattle.std.specs.Option.{option_or, option_and_then}
 use Rattle.std.proofs.lemmas.Bool.{lt-ltb, le-ltb, cases_lt}
 use Rattle.std.proofs.lemmas.List.{append-nil, drop_more, take_more, length-take-le}
 use Rattle.std.proofs.lemmas.List.Concat.{flat_map-append}
 use Rattle.std.proofs.lemmas.List.Folds.{find-append}
-use Rattle.std.proofs.lemmas.Option.{same_Some}
 use Rattle.tup_path.specs.Name.{Names}
 use Rattle.tup_rule.specs.declared.draft.GroupRef.{GroupRef}
 use Rattle.tup_rule.specs.declared.question.Reading.{Reading}
@@ -16,7 +15,7 @@ use Rattle.tup_link.specs.declared.fault.LinkFault.TheVariants.{TooMany, NoSuchG
 use Rattle.tup_link.specs.declared.fault.What.{What}
 use Rattle.tup_link.specs.declared.fault.What.TheVariants.{Links}
 use Rattle.tup_link.specs.Placed.{Placed, placed, placed_in, drafts_of}
-use Rattle.tup_link.specs.Linked.{Members, rule_of}
+use Rattle.tup_link.specs.Linked.{Members}
 use Rattle.tup_link.specs.Faults.{too_many, taken, missing_group, links, too_many_links, same_command, repeated, twice, duplicate}
 
 -- ---- a list from a place on

@@ -1,6 +1,6 @@
 -- The graph of rules: a rule waits for another just where its list of producers has that one.
-use Rattle.std.proofs.Common.{◌≡◌, ℕ, zero, suc, ◌<◌, Bool, true, false, ◌||◌, List, [], ◌∷◌, ◌++◌, length, map, get_or, Option, Some, None, option_map, unwrap_or, refl, sym, ap, subst, ◌∙◌, inl, inr, ◌⊎◌, arith}
-use Rattle.std.specs.List.{slice_get, filter_map, cons_option, position, list_any, Contains}
+use Rattle.std.proofs.Common.{◌≡◌, ℕ, zero, suc, ◌<◌, true, false, List, [], ◌∷◌, ◌++◌, Option, Some, None, option_map, unwrap_or, refl, sym, ap, subst, ◌∙◌, inl, inr, ◌⊎◌, arith}
+use Rattle.std.specs.List.{slice_get, filter_map, cons_option, Contains}
 use Rattle.std.proofs.lemmas.Bool.{or_cases, or_left, or_right}
 use Rattle.std.proofs.lemmas.List.{length-map}
 use Rattle.std.proofs.lemmas.List.Folds.{list_any-append}
@@ -9,8 +9,8 @@ use Rattle.tup_path.specs.Name.{Names}
 use Rattle.tup_path.specs.Order.{same_path}
 use Rattle.tup_path.proofs.Same.{same_path-decides}
 use Rattle.tup_rule.specs.declared.rule.Rule.{Rule}
-use Rattle.tup_rule.specs.Rule.{among, declares, maker}
-use Rattle.tup_rule.specs.Producer.{MakesFor, ProducerOver, DeclaredProducer}
+use Rattle.tup_rule.specs.Rule.{among, maker}
+use Rattle.tup_rule.specs.Producer.{MakesFor, ProducerOver}
 use Rattle.tup_rule.proofs.Laws.{maker-Some}
 use Rattle.tup_link.specs.Circle.{WaitsFor, InTurn, IsRound, NoneWaitsForItself}
 use Rattle.tup_link.specs.Graph.{led_to, Leads, LeadsOver, IsWithin, HasNoCircle}

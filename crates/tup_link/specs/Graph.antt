@@ -1,5 +1,5 @@
 -- A graph: a list for each place of the places to which it leads (own).
-use Rattle.std.specs.Prelude.{◌≡◌, ℕ, zero, suc, ◌<◌, List, [], length, slice_get, unwrap_or, Contains}
+use Rattle.std.specs.Prelude.{ℕ, zero, suc, ◌<◌, List, [], length, slice_get, unwrap_or, Contains}
 
 -- the places to which a place leads
 abbrev pub led_to : List (List ℕ) → ℕ → List ℕ

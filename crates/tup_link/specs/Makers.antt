@@ -1,5 +1,5 @@
 -- The makers of paths in a map, and the makers of what a rule declares.
-use Rattle.std.specs.Prelude.{◌≡◌, ℕ, if◌then◌else◌, List, ◌++◌, map, Option, None, Some, filter_map}
+use Rattle.std.specs.Prelude.{◌≡◌, ℕ, if◌then◌else◌, List, ◌++◌, map, None, Some, filter_map}
 use Rattle.std.specs.BTreeMap.{BTreeMap, get}
 use Rattle.std.specs.Option.{option_or}
 use Rattle.tup_path.specs.Name.{Names}

@@ -1,5 +1,5 @@
 -- A depth-first walk through a graph (own).
-use Rattle.std.specs.Prelude.{◌≡◌, ◌≢◌, ℕ, ◌+◌, ◌-◌, ◌<◌, ◌≤◌, Bool, true, false, if◌then◌else◌, List, [], ◌∷◌, ◌++◌, length, take, drop, Option, None, Some, slice_get, slice_set, slice_index, unwrap_or, nat_eq, count_by}
+use Rattle.std.specs.Prelude.{◌≡◌, ◌≢◌, ℕ, ◌+◌, ◌-◌, ◌<◌, ◌≤◌, Bool, true, false, if◌then◌else◌, List, [], ◌∷◌, ◌++◌, length, take, drop, Some, slice_get, slice_set, slice_index, unwrap_or, nat_eq, count_by}
 use Rattle.std.specs.List.{sum_by}
 use Rattle.tup_link.specs.declared.walk.State.{State}
 use Rattle.tup_link.specs.declared.walk.State.TheVariants.{New, OnWay, Done}

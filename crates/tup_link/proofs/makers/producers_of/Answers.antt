@@ -1,4 +1,4 @@
-use Rattle.std.proofs.Common.{◌≡◌, List, ℕ, ◌++◌, ap, sym, ◌∙◌}
+use Rattle.std.proofs.Common.{List, ℕ, ◌++◌, ap, sym, ◌∙◌}
 use Rattle.tup_path.specs.Name.{Names}
 use Rattle.tup_link.specs.Makers.{makers_in}
 use Rattle.tup_link.proofs.Making.{makers_in-append}

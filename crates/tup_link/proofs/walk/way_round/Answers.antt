@@ -1,7 +1,6 @@
-use Rattle.std.proofs.Common.{refl, arith, inl, inr, ◌<◌, ap, sym, subst, ◌∙◌, ◌≡◌, ◌≤◌, Some, None, length}
+use Rattle.std.proofs.Common.{arith, inl, inr, ap, ◌∙◌}
 use Rattle.std.proofs.lemmas.Bool.{cases_eq}
 use Rattle.std.proofs.lemmas.Option.{MatchOption-at_none}
-use Rattle.tup_link.specs.Graph.{HasNoCircle}
 use Rattle.tup_link.specs.Walk.{state, IsOver, LeadsBack}
 use Rattle.tup_link.proofs.Going.{begun, none_left}
 use Rattle.tup_link.proofs.walk.way_round.Goals as goal

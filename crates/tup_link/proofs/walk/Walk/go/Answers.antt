@@ -1,4 +1,3 @@
-use Rattle.tup_link.proofs.Going.{goes, over}
 use Rattle.tup_link.proofs.walk.Walk.go.Goals as goal
 
 pub walk-init : goal.walk-init

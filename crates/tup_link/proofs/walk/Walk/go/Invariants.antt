@@ -1,4 +1,4 @@
-use Rattle.std.proofs.Common.{◌≡◌, ◌≢◌}
+use Rattle.std.proofs.Common.{◌≢◌}
 use Rattle.tup_link.specs.declared.walk.State.TheVariants.{New}
 use Rattle.tup_link.specs.Walk.{state, GoesOn, steps_left}
 use Rattle.tup_link.proofs.walk.Walk.go.Given as goal

@@ -1,9 +1,7 @@
-use Rattle.std.proofs.Common.{◌≡◌, Some, None, sym, arith, ◌∙◌, slice_index_or}
-use Rattle.std.specs.List.{slice_get}
-use Rattle.tup_link.specs.Graph.{led_to}
+use Rattle.std.proofs.Common.{sym, arith, ◌∙◌}
 use Rattle.tup_link.proofs.Walking.{entered, left, past, at_end}
 use Rattle.tup_link.proofs.Steps.{fewer-entered, fewer-left, fewer-past}
-use Rattle.tup_link.proofs.Going.{end_within, end_in_graph, end_in_passed, next_in_states, read_state, all_passed, leads_at, led_within, led_on, leads_back, stays}
+use Rattle.tup_link.proofs.Going.{end_within, end_in_graph, end_in_passed, next_in_states, read_state, all_passed, leads_at, led_within, led_on, leads_back}
 use Rattle.tup_link.proofs.walk.Walk.step.Goals as goal
 
 pub next-requires-clause-graph : goal.next-requires-clause-graph
