@@ -14,14 +14,25 @@ impl<R: Files<File = File> + Clone + Drop> Top<R> {
             let Some(folder) = folders.pop() else {
                 break;
             };
-            let place = self.place(folder.names())?;
-            for name in self.names_in(place.as_str())? {
-                self.sort_in(&folder, &name, &mut files, &mut folders)?;
-            }
-            self.folders.insert(place)?;
+            self.look_in(&folder, &mut files, &mut folders)?;
         }
         files.sort()?;
         Ok(files)
+    }
+
+    // Puts what stands in a folder with the files or the folders.
+    fn look_in(
+        &mut self,
+        folder: &Path,
+        files: &mut Vec<Path>,
+        folders: &mut Vec<Path>,
+    ) -> Result<(), Refused> {
+        let place = self.place(folder.names())?;
+        for name in self.names_in(place.as_str())? {
+            self.sort_in(folder, &name, files, folders)?;
+        }
+        self.folders.insert(place)?;
+        Ok(())
     }
 
     // Puts what stands in a folder under a name with the files or the folders.

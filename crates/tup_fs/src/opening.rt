@@ -1,8 +1,6 @@
 //! The first call of a process: whether it is alone, and what a run that died has left.
 use crate::failure::Refused;
-use crate::store::ASIDE;
-use crate::top::{OWN_FOLDER, Standing, Top, is_absence};
-use crate::writing::NEW_FILE;
+use crate::top::{Standing, Top, is_absence};
 use std::fs::{File, TryLockError};
 use std::rt::Files;
 use std::{fs, io};
@@ -23,14 +21,13 @@ impl<R: Files<File = File> + Clone + Drop> Top<R> {
 
     /// Removes the files that a run which died has left in the program's own folder.
     pub fn sweep(&self) -> Result<(), Refused> {
-        let own = self.own(OWN_FOLDER)?;
-        match self.standing(own.as_str())? {
+        match self.standing(self.own.folder.as_str())? {
             Standing::Nothing => Ok(()),
             Standing::Folder => {
-                self.clear(self.own(NEW_FILE)?.as_str())?;
-                self.clear(self.own(ASIDE)?.as_str())
+                self.clear(self.own.new.as_str())?;
+                self.clear(self.own.aside.as_str())
             }
-            _ => Err(self.in_the_way(own.as_str())),
+            _ => Err(self.in_the_way(self.own.folder.as_str())),
         }
     }
 

@@ -1,6 +1,7 @@
 //! The site over real files.
-ghost use Rattle.std.specs.Prelude.{◌≡◌, [], false, Ok, IfOk};
+ghost use Rattle.std.specs.Prelude.{◌≡◌, [], false, Ok, IfOk, OnOk, is_some, nat_lt};
 ghost use Rattle.std.specs.FinMap as finite;
+ghost use Rattle.tup_fs.specs.Last.{last_after};
 ghost use Rattle.tup_site.specs.Cause.{CountsFaults, NeverTooLarge};
 
 use crate::failure::{Failure, Refused};
@@ -20,6 +21,7 @@ pub struct FsSite<R: Files<File = File> + Clone + Drop> {
     lock: Option<File>,
     last: Option<Failure>,
     faults: u64,
+    ghost keeps_last: { is_some last ≡ nat_lt 0 faults },
 }
 
 impl<R: Files<File = File> + Clone + Drop> FsSite<R> {
@@ -33,8 +35,11 @@ impl<R: Files<File = File> + Clone + Drop> FsSite<R> {
         })
     }
 
-    /// The last failure: its place, and what the system said. `None` where nothing failed yet.
-    pub fn last(&self) -> Option<&Failure> {
+    /// The last failure: its place, and what the system said. There is one just where the site has
+    /// counted a fault.
+    pub fn last(&self) -> Option<&Failure>
+        ensures { is_some result ≡ nat_lt 0 self.now.faults }
+    {
         self.last.as_ref()
     }
 
@@ -42,6 +47,7 @@ impl<R: Files<File = File> + Clone + Drop> FsSite<R> {
     fn begin(&mut self) -> Result<(), SiteFailed>
         ensures cause { CountsFaults self.old.faults self.new.faults result }
         ensures never_too_large { NeverTooLarge result }
+        ensures last { OnOk result (self.new.last ≡ self.old.last) }
     {
         if self.lock.is_some() {
             return Ok(());
@@ -59,6 +65,7 @@ impl<R: Files<File = File> + Clone + Drop> FsSite<R> {
         ensures cause { CountsFaults self.old.faults self.new.faults result }
         ensures never_too_large { NeverTooLarge result }
         ensures value { IfOk result (λ value. answer ≡ Ok value) }
+        ensures last { self.new.last ≡ last_after answer self.old.last }
     {
         match answer {
             Ok(value) => Ok(value),

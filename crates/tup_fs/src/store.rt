@@ -2,16 +2,11 @@
 //! and puts into its place: so whatever stops the program, the store is the old one or the new one,
 //! whole.
 use crate::failure::Refused;
-use crate::top::{OWN_FOLDER, Standing, Top};
+use crate::top::{Standing, Top};
 use std::fs::{File, OpenOptions};
 use std::os::unix::fs::FileExt;
 use std::rt::Files;
 use std::{fs, io};
-
-const STORE: &str = "/.tup/db";
-
-/// The store with what was written and cut since the last sync.
-pub(crate) const ASIDE: &str = "/.tup/db.new";
 
 /// The store as this process sees it.
 #[derive(Drop)]
@@ -35,7 +30,7 @@ impl<R: Files<File = File> + Clone + Drop> Top<R> {
     /// The length of the store; 0 where there is none.
     pub fn db_len(&self) -> Result<u64, Refused> {
         match &self.store.aside {
-            Some(file) => Ok(self.at(self.own(ASIDE)?.as_str(), file.metadata())?.len()),
+            Some(file) => Ok(self.at(self.own.aside.as_str(), file.metadata())?.len()),
             None => Ok(self.stored_len()?.unwrap_or(0)),
         }
     }
@@ -43,18 +38,17 @@ impl<R: Files<File = File> + Clone + Drop> Top<R> {
     /// Fills the buffer from a place on.
     pub fn db_read(&self, at: u64, into: &mut [u8]) -> Result<(), Refused> {
         match &self.store.aside {
-            Some(file) => self.at(self.own(ASIDE)?.as_str(), file.read_exact_at(into, at)),
+            Some(file) => self.at(self.own.aside.as_str(), file.read_exact_at(into, at)),
             None => self.read_stored(at, into),
         }
     }
 
     /// Writes from a place on.
     pub fn db_write(&mut self, at: u64, bytes: &[u8]) -> Result<(), Refused> {
-        let place = self.own(ASIDE)?;
         let file = self.take_aside()?;
         let done = file.write_all_at(bytes, at);
         self.store.aside = Some(file);
-        self.at(place.as_str(), done)
+        self.at(self.own.aside.as_str(), done)
     }
 
     /// Cuts the store; one that is no longer stays.
@@ -62,11 +56,10 @@ impl<R: Files<File = File> + Clone + Drop> Top<R> {
         if self.db_len()? <= to {
             return Ok(());
         }
-        let place = self.own(ASIDE)?;
         let file = self.take_aside()?;
         let done = file.set_len(to);
         self.store.aside = Some(file);
-        self.at(place.as_str(), done)
+        self.at(self.own.aside.as_str(), done)
     }
 
     // The file aside, begun as a copy of the store where there is none yet.
@@ -80,21 +73,13 @@ impl<R: Files<File = File> + Clone + Drop> Top<R> {
     /// Makes durable what was written and cut. The system tells a lost write but once: so after a
     /// failure no later sync succeeds.
     pub fn db_sync(&mut self) -> Result<(), Refused> {
-        let (own, store, aside) = (self.own(OWN_FOLDER)?, self.own(STORE)?, self.own(ASIDE)?);
         if self.store.is_lost {
-            return Err(self.lost(store.as_str()));
+            return Err(self.lost(self.own.store.as_str()));
         }
         self.store.is_lost = true;
-        match &self.store.aside {
-            Some(file) => {
-                self.at(aside.as_str(), file.sync_all())?;
-                let done = fs::rename(&self.rt, aside, store.as_str());
-                self.at(store.as_str(), done)?;
-            }
-            None => self.sync(store.as_str())?,
-        }
+        self.sync_store(self.own.store.as_str(), self.own.aside.as_str())?;
         self.store.aside = None;
-        self.sync(own.as_str())?;
+        self.sync(self.own.folder.as_str())?;
         if !self.store.was_synced {
             self.sync(self.root.as_str())?;
         }
@@ -103,13 +88,24 @@ impl<R: Files<File = File> + Clone + Drop> Top<R> {
         Ok(())
     }
 
+    // Syncs the bytes of the store; those that were written aside take its place.
+    fn sync_store(&self, store: &str, aside: &str) -> Result<(), Refused> {
+        match &self.store.aside {
+            Some(file) => {
+                self.at(aside, file.sync_all())?;
+                self.at(store, fs::rename(&self.rt, aside, store))
+            }
+            None => self.sync(store),
+        }
+    }
+
     // The length of the store's file. Anything else that stands in its place is a failure.
     fn stored_len(&self) -> Result<Option<u64>, Refused> {
-        let store = self.own(STORE)?;
-        match self.standing(store.as_str())? {
+        let store = self.own.store.as_str();
+        match self.standing(store)? {
             Standing::File(len) => Ok(Some(len)),
             Standing::Nothing => Ok(None),
-            _ => Err(self.in_the_way(store.as_str())),
+            _ => Err(self.in_the_way(store)),
         }
     }
 
@@ -117,26 +113,25 @@ impl<R: Files<File = File> + Clone + Drop> Top<R> {
         if self.stored_len()?.is_none() && into.is_empty() {
             return Ok(());
         }
-        let store = self.own(STORE)?;
-        let file = self.at(store.as_str(), File::open(&self.rt, store.as_str()))?;
-        self.at(store.as_str(), file.read_exact_at(into, at))
+        let store = self.own.store.as_str();
+        let file = self.at(store, File::open(&self.rt, store))?;
+        self.at(store, file.read_exact_at(into, at))
     }
 
     fn open_aside(&mut self) -> Result<File, Refused> {
-        let (store, aside) = (self.own(STORE)?, self.own(ASIDE)?);
-        let own = self.own(OWN_FOLDER)?;
-        self.make_folder(own)?;
+        self.make_own()?;
         let is_there = self.stored_len()?.is_some();
-        let opened = self.copy_aside(is_there, store.as_str(), aside.as_str());
+        let opened = self.copy_aside(is_there);
         if opened.is_err() {
-            let _ = fs::remove_file(&self.rt, aside.as_str());
+            let _ = fs::remove_file(&self.rt, self.own.aside.as_str());
         }
-        self.at(aside.as_str(), opened)
+        self.at(self.own.aside.as_str(), opened)
     }
 
-    fn copy_aside(&self, is_there: bool, store: &str, aside: &str) -> io::Result<File> {
+    fn copy_aside(&self, is_there: bool) -> io::Result<File> {
+        let aside = self.own.aside.as_str();
         if is_there {
-            fs::copy(&self.rt, store, aside)?;
+            fs::copy(&self.rt, self.own.store.as_str(), aside)?;
         }
         OpenOptions::new()
             .read(true)

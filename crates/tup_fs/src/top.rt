@@ -4,14 +4,33 @@ use crate::store::Store;
 use crate::touched::Touched;
 use std::alloc::{AllocError, Global};
 use std::collections::BTreeSet;
-use std::fs::File;
+use std::fs::{DirEntry, File};
 use std::io::ErrorKind;
 use std::rt::Files;
 use std::{fs, io};
 use tup_path::{Path, Text};
 
-/// The folder below the top in which nothing is a file of the tree.
-pub(crate) const OWN_FOLDER: &str = "/.tup";
+/// The program's own folder, in which nothing is a file of the tree, and what stands in it.
+#[derive(Drop)]
+pub(crate) struct Own {
+    pub folder: String,
+    pub store: String,
+    /// The store with what was written and cut since the last sync.
+    pub aside: String,
+    /// Where a file is written before it comes to its place.
+    pub new: String,
+}
+
+impl Own {
+    fn new(alloc: Global, root: &str) -> Result<Own, AllocError> {
+        Ok(Own {
+            folder: format!(in alloc; "{root}/.tup")?,
+            store: format!(in alloc; "{root}/.tup/db")?,
+            aside: format!(in alloc; "{root}/.tup/db.new")?,
+            new: format!(in alloc; "{root}/.tup/new")?,
+        })
+    }
+}
 
 /// What stands at a place. A link is `Other`, wherever it leads.
 #[derive(Clone, Copy, Debug, PartialEq, Eq)]
@@ -30,6 +49,7 @@ pub(crate) struct Top<R: Files<File = File> + Clone + Drop> {
     pub rt: R,
     pub alloc: Global,
     pub root: String,
+    pub own: Own,
     pub folders: BTreeSet<String>,
     pub touched: Touched,
     pub store: Store,
@@ -42,6 +62,7 @@ impl<R: Files<File = File> + Clone + Drop> Top<R> {
             rt,
             alloc,
             root: String::from_str(alloc, root)?,
+            own: Own::new(alloc, root)?,
             folders: BTreeSet::new(alloc),
             touched: Touched::new(alloc),
             store: Store::new(),
@@ -56,13 +77,6 @@ impl<R: Files<File = File> + Clone + Drop> Top<R> {
             place.push('/')?;
             place.push_str(name.as_str())?;
         }
-        Ok(place)
-    }
-
-    /// The place of one of the program's own files; `rest` begins with a slash.
-    pub fn own(&self, rest: &str) -> Result<String, AllocError> {
-        let mut place = String::from_str(self.alloc, self.root.as_str())?;
-        place.push_str(rest)?;
         Ok(place)
     }
 
@@ -125,6 +139,12 @@ impl<R: Files<File = File> + Clone + Drop> Top<R> {
         Ok(Standing::Folder)
     }
 
+    /// Makes the program's own folder unless there is one.
+    pub fn make_own(&mut self) -> Result<(), Refused> {
+        let own = self.own.folder.clone()?;
+        self.make_folder(own)
+    }
+
     /// Makes a folder unless there is one. All else that stands there is a failure.
     pub fn make_folder(&mut self, folder: String) -> Result<(), Refused> {
         if self.folders.contains(&folder) {
@@ -147,13 +167,23 @@ impl<R: Files<File = File> + Clone + Drop> Top<R> {
         let runtime = (self.rt.clone()?, self.alloc);
         let mut names = Vec::new(self.alloc);
         for entry in self.at(folder, fs::read_dir(&runtime, folder))? {
-            match entry {
-                Ok(entry) => names.push(Text::from_str(self.alloc, entry.file_name())?)?,
-                Err(e) if e.kind() == ErrorKind::InvalidFilename => {}
-                Err(e) => return Err(self.refused(folder, e)),
-            }
+            self.add_name(folder, &mut names, entry)?;
         }
         Ok(names)
+    }
+
+    fn add_name(
+        &self,
+        folder: &str,
+        names: &mut Vec<Text>,
+        entry: io::Result<DirEntry<(R, Global)>>,
+    ) -> Result<(), Refused> {
+        match entry {
+            Ok(entry) => names.push(Text::from_str(self.alloc, entry.file_name())?)?,
+            Err(e) if e.kind() == ErrorKind::InvalidFilename => {}
+            Err(e) => return Err(self.refused(folder, e)),
+        }
+        Ok(())
     }
 }
 

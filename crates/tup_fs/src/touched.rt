@@ -1,56 +1,40 @@
 //! What was written and isn't durable yet.
 use crate::failure::Refused;
 use crate::top::{Top, is_absence};
-use std::alloc::{AllocError, Global};
+use std::alloc::Global;
 use std::collections::BTreeSet;
 use std::fs::File;
 use std::io;
 use std::rt::Files;
 
-/// The files that were written, and the folders in which names came or went, each by its place.
+/// The places of the files that were written, and of the folders in which names came or went.
 #[derive(Drop)]
 pub(crate) struct Touched {
-    files: BTreeSet<String>,
-    folders: BTreeSet<String>,
+    pub places: BTreeSet<String>,
     is_lost: bool,
 }
 
 impl Touched {
     pub fn new(alloc: Global) -> Touched {
         Touched {
-            files: BTreeSet::new(alloc),
-            folders: BTreeSet::new(alloc),
+            places: BTreeSet::new(alloc),
             is_lost: false,
         }
-    }
-
-    pub fn add_file(&mut self, place: String) -> Result<(), AllocError> {
-        self.files.insert(place)?;
-        Ok(())
-    }
-
-    pub fn add_folder(&mut self, place: String) -> Result<(), AllocError> {
-        self.folders.insert(place)?;
-        Ok(())
     }
 }
 
 impl<R: Files<File = File> + Clone + Drop> Top<R> {
-    /// Makes durable what was touched, the files first. The system tells a lost write but once: so
-    /// after a failure none of it settles any more.
+    /// Makes durable what was touched. The system tells a lost write but once: so after a failure
+    /// none of it settles any more.
     pub fn settle(&mut self) -> Result<(), Refused> {
         if self.touched.is_lost {
             return Err(self.lost(self.root.as_str()));
         }
         self.touched.is_lost = true;
-        for place in self.touched.files.iter() {
+        for place in self.touched.places.iter() {
             self.sync(place.as_str())?;
         }
-        for place in self.touched.folders.iter() {
-            self.sync(place.as_str())?;
-        }
-        self.touched.files.clear();
-        self.touched.folders.clear();
+        self.touched.places.clear();
         self.touched.is_lost = false;
         Ok(())
     }

@@ -1,16 +1,13 @@
 //! One file, written as a whole or removed. All memory is taken before the tree changes.
 use crate::failure::Refused;
-use crate::top::{OWN_FOLDER, Standing, Top};
+use crate::top::{Standing, Top};
 use std::fs::File;
 use std::io::{ErrorKind, Write};
 use std::rt::Files;
 use std::{fs, io};
 use tup_path::Path;
 
-/// Where a file is written before it comes to its place.
-pub(crate) const NEW_FILE: &str = "/.tup/new";
-
-// Its name in the folder of its place, where that is on another mount.
+// A new file's name in the folder of its place, where that is on another mount.
 const NEW_BESIDE: &str = "/.tup-new";
 
 impl<R: Files<File = File> + Clone + Drop> Top<R> {
@@ -19,15 +16,13 @@ impl<R: Files<File = File> + Clone + Drop> Top<R> {
         for folder in self.folders_above(path)? {
             self.make_folder(folder)?;
         }
-        let own = self.own(OWN_FOLDER)?;
-        self.make_folder(own)?;
+        self.make_own()?;
         let place = self.place(path.names())?;
         self.make_way(path, &place)?;
-        let new = self.own(NEW_FILE)?;
         let mut beside = self.folder_of(path)?;
         beside.push_str(NEW_BESIDE)?;
         self.touch(path)?;
-        self.bring(new.as_str(), beside.as_str(), content, place.as_str())
+        self.bring(beside.as_str(), content, place.as_str())
     }
 
     // Looks at what stands at a file's place: a file of just this name stays till it is replaced,
@@ -65,7 +60,8 @@ impl<R: Files<File = File> + Clone + Drop> Top<R> {
         if let Some(ignores) = self.ignores_case {
             return Ok(ignores);
         }
-        let other = self.own("/.TUP")?;
+        let root = self.root.as_str();
+        let other = format!(in self.alloc; "{root}/.TUP")?;
         let ignores = self.standing(other.as_str())? == Standing::Folder;
         self.ignores_case = Some(ignores);
         Ok(ignores)
@@ -79,18 +75,16 @@ impl<R: Files<File = File> + Clone + Drop> Top<R> {
 
     // Notes the file and all folders above it: also one that a run which died has made or emptied.
     fn touch(&mut self, path: &Path) -> Result<(), Refused> {
-        let mut folders = self.folders_above(path)?;
-        folders.push(self.place(&[])?)?;
-        for folder in folders {
-            self.touched.add_folder(folder)?;
+        for depth in 0..=path.depth() {
+            let place = self.place(&path.names()[..depth])?;
+            self.touched.places.insert(place)?;
         }
-        let place = self.place(path.names())?;
-        Ok(self.touched.add_file(place)?)
+        Ok(())
     }
 
     // Writes the file aside and renames it into its place; what doesn't come there is removed.
-    fn bring(&self, new: &str, beside: &str, content: &[u8], place: &str) -> Result<(), Refused> {
-        match self.write_and_rename(new, content, place) {
+    fn bring(&self, beside: &str, content: &[u8], place: &str) -> Result<(), Refused> {
+        match self.write_and_rename(self.own.new.as_str(), content, place) {
             Err(e) if e.kind() == ErrorKind::CrossesDevices => {
                 let _ = fs::remove_file(&self.rt, beside);
                 self.at(place, self.write_and_rename(beside, content, place))

@@ -1,6 +1,7 @@
 pub mod Graph
 pub mod Opening
 pub mod Edits
+pub mod Fault
 pub mod Changes
 pub mod Transactions
 pub mod Records

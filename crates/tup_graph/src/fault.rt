@@ -1,6 +1,7 @@
 //! Why a graph isn't read or changed.
 use std::alloc::{AllocError, AllocFailed};
 use thiserror::Error;
+use tup_table::TableFault;
 
 /// Why a graph isn't read or changed.
 #[derive(Clone, Copy, Debug, PartialEq, Eq, Error)]
@@ -12,6 +13,9 @@ pub enum GraphFault {
     /// has this offset.
     #[error("the store is damaged at byte {offset}")]
     BadStore { offset: u64 },
+    /// The site failed, and counted it. The store is opened again.
+    #[error("the store failed")]
+    Site,
     /// The store has no room for what is to be written; nothing was.
     #[error("the store is full")]
     Full,
@@ -39,5 +43,22 @@ impl<T: Drop> From<AllocFailed<T>> for GraphFault {
 
     fn from(_: AllocFailed<T>) -> GraphFault {
         GraphFault::Memory
+    }
+}
+
+impl From<TableFault> for GraphFault {
+    ghost use Rattle.std.specs.Prelude.{◌≡◌};
+    ghost use Rattle.tup_graph.specs.Fault.{fault_of};
+
+    ghost from_gives = { λ failed fault. fault ≡ fault_of failed };
+
+    fn from(failed: TableFault) -> GraphFault {
+        match failed {
+            TableFault::NotThere => GraphFault::NotThere,
+            TableFault::BadStore { offset } => GraphFault::BadStore { offset },
+            TableFault::Site => GraphFault::Site,
+            TableFault::Full => GraphFault::Full,
+            TableFault::Memory => GraphFault::Memory,
+        }
     }
 }

@@ -11,6 +11,7 @@ mod by_path;
 mod changing;
 mod doom;
 mod edit;
+mod editing;
 mod fault;
 mod finish;
 mod flag;

@@ -1,7 +1,7 @@
 //! `tup_shim`: one small command over real files, with the log of what it asked and wrote.
 //!
-//! It shows what a program does that a runner of started programs starts. What stands here is tested, and proved to be
-//! safe, but it makes no promise of its own: who starts it checks its log.
+//! It shows what a program does that a runner of started programs starts. What stands here is proved to be
+//! safe and was tried by hand, but it makes no promise of its own: who starts it checks its log.
 #![tactic(auto)]
 
 mod failure;

@@ -6,7 +6,7 @@ ghost use Rattle.tup_site.specs.Edit.{AreATree, MayAdd};
 ghost use Rattle.tup_site.specs.Known.{IsKnown};
 ghost use Rattle.tup_site.specs.Held.{IsHeld};
 ghost use Rattle.tup_site.specs.History.{contents_of};
-ghost use Rattle.tup_site.specs.declared.refused.MemRefused.TheVariants.{NotATree, SameStamp};
+ghost use Rattle.tup_site.specs.declared.refused.MemRefused.TheVariants.{NotATree, SameStamp, NotAnImage};
 
 use crate::known::Known;
 use crate::place::is_place;
@@ -25,6 +25,7 @@ pub(crate) fn tree_of(
     ensures are_a_tree { OnOk result (AreATree list.now) }
     ensures not_a_tree { result ≡ Err NotATree → ¬ AreATree list.now }
     ensures no_stamp { result ≢ Err SameStamp }
+    ensures no_image { result ≢ Err NotAnImage }
 {
     let mut files = BTreeMap::new(alloc);
     for (path, content) in list {
@@ -43,6 +44,7 @@ fn add(files: &mut BTreeMap<Path, Bytes>, path: &Path, content: &Bytes) -> Resul
     ensures not_a_tree { result ≡ Err NotATree
         → ¬ MayAdd (tree_of_files files.old.entries) path.now }
     ensures no_stamp { result ≢ Err SameStamp }
+    ensures no_image { result ≢ Err NotAnImage }
 {
     if files.contains_key(path) {
         return Err(MemRefused::NotATree);
@@ -61,6 +63,7 @@ pub(crate) fn known_of(alloc: Global, list: &[(Path, Bytes)]) -> Result<Known, M
     ensures known { OnOk result (IsKnown (contents_of list.now)) }
     ensures same_stamp { result ≡ Err SameStamp → ¬ IsKnown (contents_of list.now) }
     ensures no_tree { result ≢ Err NotATree }
+    ensures no_image { result ≢ Err NotAnImage }
 {
     let mut known = Known::new(alloc);
     for (_, content) in list {

@@ -1,5 +1,5 @@
 //! A site in memory, which tells everything. Chosen calls fail.
-ghost use Rattle.std.specs.Prelude.{◌≡◌, ◌⊎◌, [], ◌∷◌, ◌++◌, ◌↔◌, ◌≤◌, length, take, IfOk, OnOk, OnErr, Ok, Err, None, Some, IsSome, IsTrue};
+ghost use Rattle.std.specs.Prelude.{◌≡◌, ◌≢◌, ◌⊎◌, [], ◌∷◌, ◌++◌, ◌↔◌, ◌≤◌, length, take, IfOk, OnOk, OnErr, Ok, Err, None, Some, IsSome, IsTrue};
 ghost use Rattle.std.specs.Option.{option_copied};
 ghost use Rattle.std.specs.FinMap as finite;
 ghost use Rattle.tup_path.specs.Name.{IsPath};
@@ -14,7 +14,7 @@ ghost use Rattle.tup_site.specs.History.{at_first, after_all, contents_of};
 ghost use Rattle.tup_site.specs.Sound.{IsNow, IsNow-prop};
 ghost use Rattle.tup_site.specs.Held.{IsHeld, IsHeld-prop};
 ghost use Rattle.tup_site.specs.declared.fault.SiteFailed.TheVariants.{Fault, Memory};
-ghost use Rattle.tup_site.specs.declared.refused.MemRefused.TheVariants.{NotATree, SameStamp};
+ghost use Rattle.tup_site.specs.declared.refused.MemRefused.TheVariants.{NotATree, SameStamp, NotAnImage};
 ghost use Rattle.tup_site.specs.declared.change.Change.TheVariants.{Put, Removed, Settled, Written, Cut, Synced, Edited, Failed};
 
 use crate::bytes::overwrite;
@@ -77,6 +77,7 @@ impl MemSite {
         ensures not_a_tree { result ≡ Err NotATree → ¬ AreATree files.items }
         ensures same_stamp { result ≡ Err SameStamp
             → AreATree files.items × ¬ IsKnown (contents_of files.items) }
+        ensures no_image { result ≢ Err NotAnImage }
     {
         let first = Files::from_vec(files);
         let files = tree_of(alloc, first.as_slice())?;
@@ -115,6 +116,7 @@ impl MemSite {
         ensures same_stamp { result ≡ Err SameStamp
             → IsTree (edited (tree_in self.old) path content)
             × ¬ IsKnown (with_edit (state_of self.old) path content).known }
+        ensures no_image { result ≢ Err NotAnImage }
     {
         match content {
             Some(content) => self.edit_in(path, content),
@@ -135,6 +137,7 @@ impl MemSite {
         ensures not_a_tree { result ≡ Err NotATree → ¬ IsPlace (tree_in self.old) path }
         ensures same_stamp { result ≡ Err SameStamp
             → IsPlace (tree_in self.old) path × ¬ MayJoin (known_in self.old) content }
+        ensures no_image { result ≢ Err NotAnImage }
         ensures path { IsPath path }
     {
         prove!(path.depth() <= MAX_DEPTH);

@@ -34,6 +34,15 @@ below_standing k [] all = tt
 below_standing k ((q, None) ∷ es) all = below_standing k es all.1
 below_standing k ((q, Some w) ∷ es) all = (all.0, below_standing k es all.1)
 
+standing_ascends : (es : Slots) → IsAscending es → IsAscending (standing es)
+standing_ascends [] up = tt
+standing_ascends ((q, None) ∷ es) up = standing_ascends es up.1
+standing_ascends ((q, Some w) ∷ es) up = (below_standing q es up.0, standing_ascends es up.1)
+
+-- the entries of a map's slots
+pub entries_ascend : (es : Slots) (now : Standing) → standing es ≡ now → IsStrictlySortedBy by_bytes (keys_of es) → IsAscending now
+entries_ascend es now seen up = subst (λ (s : Standing). IsAscending s) seen (standing_ascends es (ascends es up))
+
 -- ---- a key before all others
 front_put : (es : Standing) (k : List ℕ) (v : Entry) → Below k es → insert_entry by_bytes es k v ≡ (k, v) ∷ es
 front_put [] k v all = refl

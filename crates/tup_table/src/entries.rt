@@ -1,7 +1,7 @@
 //! The entries of a table.
 ghost use Rattle.std.specs.Prelude.{◌≡◌, [], OnOk, IfErr, option_map};
 ghost use Rattle.std.specs.Option.{option_copied};
-ghost use Rattle.tup_table.specs.Entries.{changed, entry_at};
+ghost use Rattle.tup_table.specs.Entries.{IsAscending, changed, entry_at};
 
 use crate::change::Change;
 use crate::entry::Entry;
@@ -73,6 +73,13 @@ impl Entries {
             Some(slot) => slot.as_ref(),
             None => None,
         }
+    }
+
+    /// A law: the keys ascend in byte order, so each stands once.
+    pub fn keys_ascend(&self)
+        ensures { IsAscending self.now }
+    {
+        let _slots = &self.slots;
     }
 
     /// The keys in their byte order, each with what stands under it, or `None` where a key has no value any more.

@@ -1,0 +1,5 @@
+pub mod Held
+pub mod Transaction
+pub mod Crash
+pub mod Opening
+pub mod Cause
