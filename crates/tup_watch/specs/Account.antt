@@ -32,12 +32,16 @@ touched account path = record account { touched = with_path account.touched path
 abbrev pub written : Account → Names → Account
 written account path = record account { touched = with_path account.touched path; own = with_path account.own path }
 
+-- what was moved; what is moved to its own place stays there
+abbrev pub moved : Account → Names → Names → Account
+moved account from to = if same_path from to then asked account from else written (written (asked account from) to) from
+
 abbrev pub with_step : Account → Step → Account
 with_step account (Ask path) = asked account path
 with_step account (Write path) = written account path
 with_step account (Change path) = touched (asked account path) path
 with_step account (Remove path) = written (asked account path) path
-with_step account (Move from to) = written (written (asked account from) to) from
+with_step account (Move from to) = moved account from to
 
 -- the account of what was done, step by step
 abbrev pub account_of : List Step → Account

@@ -1,7 +1,7 @@
 -- What a call does to places: it asks for them, runs, writes, changes, moves or removes them. A call that failed asks. One that
 -- opens a file asks for it or writes it by its flags, under its name and under the path of its descriptor.
 use Rattle.std.specs.Prelude.{ℕ, ◌==◌, ◌&&◌, ◌||◌, not, Bool, true, false, if◌then◌else◌, List, [], ◌∷◌, ◌++◌, Option, Some, None, codes, bytes_eq, unwrap_or}
-use Rattle.tup_watch.specs.Names.{is_opening, is_creating, is_moving, is_linking, is_pointing, is_removing, is_making, is_cutting, is_running, is_looking, has}
+use Rattle.tup_watch.specs.Names.{is_opening, is_creating, is_moving, is_linking, is_pointing, is_removing, is_making, is_binding, is_cutting, is_running, is_looking, has}
 use Rattle.tup_watch.specs.declared.act.Act.{Act}
 use Rattle.tup_watch.specs.declared.act.Act.TheVariants.{Ask, Run, Write, Change, Remove, Move}
 use Rattle.tup_watch.specs.declared.said.Said.{Said}
@@ -60,8 +60,12 @@ follows name words = not (is_looking name || has (codes "AT_SYMLINK_NOFOLLOW") w
 abbrev pub is_new : List (List ℕ) → Bool
 is_new words = has (codes "O_CREAT") words && (has (codes "O_TRUNC") words || has (codes "O_EXCL") words)
 
+-- `openat2` has its flags in a structure, and the first of them is one word with what stands before it
+abbrev pub is_structured : List (List ℕ) → Bool
+is_structured words = has (codes "{flags=O_WRONLY") words || has (codes "{flags=O_RDWR") words
+
 abbrev pub is_writing : List (List ℕ) → Bool
-is_writing words = has (codes "O_WRONLY") words || has (codes "O_RDWR") words || has (codes "O_APPEND") words || has (codes "O_CREAT") words
+is_writing words = has (codes "O_WRONLY") words || has (codes "O_RDWR") words || has (codes "O_APPEND") words || has (codes "O_CREAT") words || is_structured words
 
 -- no file: a folder, or one without a name
 abbrev pub is_no_file : List (List ℕ) → Bool
@@ -75,18 +79,24 @@ opening words place follows =
     if is_writing words then change place follows else ask place follows
 
 -- ---- what a call does
--- a call that failed asks for what it names, and one that makes a link doesn't ask where the link leads
+-- a call that failed asks for what it names, and one that makes a link doesn't ask where the link leads; a program may not
+-- have been run for want of its interpreter
 abbrev pub failed : List ℕ → Said → List Act
 failed name said =
     let follow = follows name said.words in
+    if is_running name then run (first said.places) else
     if is_pointing name then ask (second said.places) false else
     if is_moving name || is_linking name then ask (first said.places) false ++ ask (second said.places) false
     else ask (first said.places) (follow && not (is_removing name))
 
+-- a call that moved a name, or exchanged two, which asks for both
+abbrev pub moved : Said → List Act
+moved said = (if has (codes "RENAME_EXCHANGE") said.words then ask (second said.places) false else []) ++ move (first said.places) (second said.places)
+
 -- a call that made or removed names
 abbrev pub renamed : List ℕ → Said → List Act
 renamed name said =
-    if is_moving name then move (first said.places) (second said.places) else
+    if is_moving name then moved said else
     if is_linking name then ask (first said.places) (has (codes "AT_SYMLINK_FOLLOW") said.words) ++ write (second said.places) false else
     if is_pointing name then write (second said.places) false else
     if is_removing name then remove (first said.places) else
@@ -102,8 +112,13 @@ done name said =
     if is_cutting name then ask (first said.places) true ++ write (first said.places) true
     else renamed name said
 
+-- whether it gives a socket an address that is no name of a file
+abbrev pub is_elsewhere : List ℕ → Said → Bool
+is_elsewhere name said = is_binding name && not (has (codes "sun_path=") said.words)
+
 -- a call whose end isn't known does nothing
 abbrev pub acts_of : List ℕ → Said → List Act
 acts_of name said =
+    if is_elsewhere name said then [] else
     if has_failed said.outcome then failed name said else
     if is_done said.outcome then done name said else []

@@ -21,10 +21,13 @@ abbrev pub is_removing : List ℕ → Bool
 is_removing name = bytes_eq name (codes "unlink") || bytes_eq name (codes "unlinkat") || bytes_eq name (codes "rmdir")
 
 abbrev pub is_making : List ℕ → Bool
-is_making name = bytes_eq name (codes "mkdir") || bytes_eq name (codes "mkdirat") || bytes_eq name (codes "mknod") || bytes_eq name (codes "mknodat") || bytes_eq name (codes "bind")
+is_making name = bytes_eq name (codes "mkdir") || bytes_eq name (codes "mkdirat") || bytes_eq name (codes "mknod") || bytes_eq name (codes "mknodat") || is_binding name
+
+abbrev pub is_binding : List ℕ → Bool
+is_binding name = bytes_eq name (codes "bind")
 
 abbrev pub is_cutting : List ℕ → Bool
-is_cutting name = bytes_eq name (codes "truncate")
+is_cutting name = bytes_eq name (codes "truncate") || bytes_eq name (codes "truncate64")
 
 abbrev pub is_running : List ℕ → Bool
 is_running name = bytes_eq name (codes "execve") || bytes_eq name (codes "execveat")
@@ -37,10 +40,6 @@ is_entering name = bytes_eq name (codes "chdir")
 
 abbrev pub is_returning : List ℕ → Bool
 is_returning name = bytes_eq name (codes "fchdir")
-
--- the end of a process
-abbrev pub is_ending : List ℕ → Bool
-is_ending name = bytes_eq name (codes "+++")
 
 -- calls that look at a link itself and not at what it leads to
 abbrev pub is_looking : List ℕ → Bool

@@ -112,9 +112,11 @@ impl Account {
 
     /// Adds a move.
     fn rename(&mut self, from: &Path, to: &Path) -> Result<(), AllocError>
-        ensures { OnOk result (self.new
-            ≡ specs.written (specs.written (specs.asked self.old from.now) to.now) from.now) }
+        ensures { OnOk result (self.new ≡ specs.moved self.old from.now to.now) }
     {
+        if *from == *to {
+            return self.ask(from);
+        }
         self.ask(from)?;
         self.write(to)?;
         self.write(from)

@@ -5,7 +5,7 @@ ghost use Rattle.tup_watch.specs.Acts.{acts_of};
 
 use crate::act::Act;
 use crate::names::{
-    has, is_creating, is_cutting, is_linking, is_looking, is_making, is_moving, is_opening,
+    has, is_binding, is_creating, is_cutting, is_linking, is_looking, is_making, is_moving, is_opening,
     is_pointing, is_removing, is_running,
 };
 use crate::said::Said;
@@ -23,7 +23,9 @@ impl Acts {
     pub(crate) fn add(&mut self, alloc: Global, name: &[u8], said: &Said) -> Result<(), AllocError>
         ensures { OnOk result (self.new.list ≡ self.old.list ++ acts_of name.now said.now) }
     {
-        if has_failed(&said.outcome) {
+        if is_elsewhere(name, said) {
+            Ok(())
+        } else if has_failed(&said.outcome) {
             self.failed(alloc, name, said)
         } else if is_done(&said.outcome) {
             self.done(alloc, name, said)
@@ -37,7 +39,9 @@ impl Acts {
         ensures { OnOk result (self.new.list ≡ self.old.list ++ specs.failed name.now said.now) }
     {
         let (one, two) = (first(said), second(said));
-        if is_pointing(name) {
+        if is_running(name) {
+            self.run(alloc, one)
+        } else if is_pointing(name) {
             self.ask(alloc, two, false)
         } else if is_moving(name) || is_linking(name) {
             self.ask(alloc, one, false)?;
@@ -75,7 +79,7 @@ impl Acts {
     {
         let (one, two) = (first(said), second(said));
         if is_moving(name) {
-            self.rename(alloc, one, two)
+            self.moved(alloc, said)
         } else if is_linking(name) {
             self.ask(alloc, one, has(b"AT_SYMLINK_FOLLOW", said.words.as_slice()))?;
             self.write(alloc, two, false)
@@ -88,6 +92,16 @@ impl Acts {
         } else {
             self.ask(alloc, one, follows(name, said))
         }
+    }
+
+    /// Adds what a call does that moved a name or exchanged two.
+    fn moved(&mut self, alloc: Global, said: &Said) -> Result<(), AllocError>
+        ensures { OnOk result (self.new.list ≡ self.old.list ++ specs.moved said.now) }
+    {
+        if has(b"RENAME_EXCHANGE", said.words.as_slice()) {
+            self.ask(alloc, second(said), false)?;
+        }
+        self.rename(alloc, first(said), second(said))
     }
 
     /// Adds what opening a file at a place does, by its flags.
@@ -243,6 +257,14 @@ fn is_writing(words: &[Bytes]) -> bool
         || has(b"O_RDWR", words)
         || has(b"O_APPEND", words)
         || has(b"O_CREAT", words)
+        || is_structured(words)
+}
+
+/// Whether the flags of `openat2` say so: the first of them is one word with what stands before it.
+fn is_structured(words: &[Bytes]) -> bool
+    ensures { result ≡ specs.is_structured words.now }
+{
+    has(b"{flags=O_WRONLY", words) || has(b"{flags=O_RDWR", words)
 }
 
 /// Whether it is a folder that was opened, or a file without a name.
@@ -250,6 +272,13 @@ fn is_no_file(words: &[Bytes]) -> bool
     ensures { result ≡ specs.is_no_file words.now }
 {
     has(b"O_DIRECTORY", words) || has(b"O_TMPFILE", words)
+}
+
+/// Whether a call gives a socket an address that is no name of a file.
+fn is_elsewhere(name: &[u8], said: &Said) -> bool
+    ensures { result ≡ specs.is_elsewhere name.now said.now }
+{
+    is_binding(name) && !has(b"sun_path=", said.words.as_slice())
 }
 
 /// Whether a call did what it says.

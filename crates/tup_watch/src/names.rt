@@ -56,14 +56,21 @@ pub(crate) fn is_making(name: &[u8]) -> bool
         || name == b"mkdirat".as_slice()
         || name == b"mknod".as_slice()
         || name == b"mknodat".as_slice()
-        || name == b"bind".as_slice()
+        || is_binding(name)
+}
+
+/// Whether a call gives a socket its address.
+pub(crate) fn is_binding(name: &[u8]) -> bool
+    ensures { result ≡ specs.is_binding name.now }
+{
+    name == b"bind".as_slice()
 }
 
 /// Whether a call cuts a file.
 pub(crate) fn is_cutting(name: &[u8]) -> bool
     ensures { result ≡ specs.is_cutting name.now }
 {
-    name == b"truncate".as_slice()
+    name == b"truncate".as_slice() || name == b"truncate64".as_slice()
 }
 
 /// Whether a call runs a program.
@@ -95,13 +102,6 @@ pub(crate) fn is_returning(name: &[u8]) -> bool
     ensures { result ≡ specs.is_returning name.now }
 {
     name == b"fchdir".as_slice()
-}
-
-/// Whether a line is the end of a process.
-pub(crate) fn is_ending(name: &[u8]) -> bool
-    ensures { result ≡ specs.is_ending name.now }
-{
-    name == b"+++".as_slice()
 }
 
 /// Whether a call looks at a link itself.
