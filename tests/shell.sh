@@ -18,7 +18,8 @@ wrong() {
     printf 'wrong: %s: %s\n' "$text" "$1"
 }
 
-# The project: in src the files a, b, o, sub/s, s.c with h.h, interp and script, the folder e, and links to a and to sub.
+# The project: in src the files a, b, o, sub/s, s.c with h.h, interp, script and lost, whose interpreters are interp and none,
+# the folder e, and links to a and to sub.
 project() {
     root=$work/root
     stage=$root/.tup/stage/0
@@ -27,6 +28,7 @@ project() {
     cd "$root/src" || exit 1
     echo a > a && echo two > b && echo o > o && echo s > sub/s && ln -s a ln && ln -s sub dl
     printf '#!%s/src/interp\n' "$root" > script && chmod +x script && cp /bin/cat interp
+    printf '#!%s/src/none\n' "$root" > lost && chmod +x lost
     echo '#include "h.h"' > s.c && echo 'int h;' > h.h
 }
 
@@ -80,6 +82,8 @@ kept 0 'a
 more'
 # -- moving and editing in place
 try '' 'mv a a2; cat a2' 'R a,W a2,W a,E 0'
+# -- what is in a folder that was made and moved: asked for all the same, as absent, and the last of the writes
+try '' 'mkdir d; echo x >d/f; mv d d2; cat d2/f; echo y >z' 'A d2/f,W z,W d2/f,E 0'
 try '' 'sed -i s/two/TWO/ b; cat b' 'R b,W b,E 0'
 kept 0 TWO
 # -- what changes no content is no write
@@ -92,6 +96,7 @@ told "sl: a link, a pipe, a socket or a device can't be an output"
 try '' 'echo 1 >t; echo 2 >b2; mv t a2; exec 3<>a; read x <&3' 'R a,W b2,W a2,E 0'
 # -- programs and their interpreters
 try '' './script; ./noscript' 'R script,R interp,A noscript,E 127'
+try '' './lost' 'R lost,A none,E 127'
 if command -v gcc > /dev/null; then
     try 's.o' 'gcc -c s.c -o s.o' 'R s.c,A s.o,A s.c.gch,A h.h.gch,R h.h,W s.o,E 0'
     try 's.o' 'echo "int x" >>s.c; gcc -c s.c -o s.o' 'R s.c,A s.o,A s.c.gch,A h.h.gch,R h.h,W s.c,E 1'
@@ -103,7 +108,7 @@ try '' 'rm -f ln; cp -P dl dl2; set -C; echo >b; kill -9 $$' 'A ln,A dl2,A dl,R 
 try '' 'kill -TERM $$' 'E 143'
 try '' 'exit 3' 'E 3'
 # -- whatever a command does, no source changes
-try '' 'rm -rf *; echo x > ../source; echo y > ../src/a' 'R a,R b,A dl,R h.h,R interp,A ln,R o,R s.c,R script,R sub/s,W a,W b,W dl,W h.h,W interp,W ln,W o,W s.c,W script,W sub/s,W ../source,E 0'
+try '' 'rm -rf *; echo x > ../source; echo y > ../src/a' 'R a,R b,A dl,R h.h,R interp,A ln,R lost,R o,R s.c,R script,R sub/s,W a,W b,W dl,W h.h,W interp,W ln,W lost,W o,W s.c,W script,W sub/s,W ../source,E 0'
 try '' 'mkfifo p; :' 'E 1'
 told "p: a link, a pipe"
 try '' 'umount "$PWD/.." 2>/dev/null; mount -t tmpfs none . 2>/dev/null; echo x >a' 'A none,W a,E 0'

@@ -1,20 +1,20 @@
 //! The command, run and followed.
 use crate::failure::Failure;
-use crate::log::add_asks;
+use crate::log::asks;
 use crate::script::{INSIDE, OUTSIDE, WRAP};
 use crate::seen::Seen;
-use crate::tree::Tree;
+use crate::tree::{Tree, path_of};
 use crate::words::Words;
-use crate::writes::{Entries, Writes};
+use crate::writes::{Entries, Entry, Writes};
 use std::alloc::Global;
 use std::fs::File;
 use std::process::{Command, Processes};
 use std::rt::Files;
 use std::{fs, str};
-use tup_path::{Items, Path, PathFault, Text};
+use tup_path::{Items, Path, Text};
 use tup_proc::{LogLine, write_log};
 use tup_trace::{Call, Token, TraceFault, calls};
-use tup_watch::{Account, acts_of};
+use tup_watch::{Account, Act, acts_of};
 
 /// What a command is run by.
 #[derive(Drop)]
@@ -28,16 +28,10 @@ pub(crate) struct Job<R: Files<File = File> + Processes + Eprint + Clone + Drop>
 pub(crate) fn run<R: Files<File = File> + Processes + Eprint + Clone + Drop>(
     job: &Job<R>,
 ) -> Result<(), Failure> {
-    let tree = job.tree()?;
     let dir = path_of(job.alloc, job.words.dir.as_str())?;
+    let tree = job.tree()?;
     job.start(&tree)?;
-    let trace = tree.content(tree.staged("trace")?.as_str())?;
-    let calls = read_calls(job.alloc, trace.as_slice())?;
-    let Some(status) = ending(calls.as_slice()) else {
-        return Err(Failure::Because("the tracer failed, and the command wasn't run"));
-    };
-    let seen = job.follow(tree, &dir, calls.as_slice())?;
-    job.leave(seen, dir, status)
+    job.account(tree, dir)
 }
 
 impl<R: Files<File = File> + Processes + Eprint + Clone + Drop> Job<R> {
@@ -45,15 +39,8 @@ impl<R: Files<File = File> + Processes + Eprint + Clone + Drop> Job<R> {
     fn tree(&self) -> Result<Tree<R>, Failure> {
         let root = self.real(self.words.root.as_str())?;
         let stage = self.real(self.words.stage.as_str())?;
-        let mut tree = Tree {
-            rt: self.rt.clone()?,
-            alloc: self.alloc,
-            root,
-            stage,
-            own: Vec::new(self.alloc),
-        };
-        let list = tree.content(tree.staged("own")?.as_str())?;
-        tree.own = self.own(list.as_slice())?;
+        let mut tree = Tree::new(self.rt.clone()?, self.alloc, root, stage);
+        tree.read_own()?;
         Ok(tree)
     }
 
@@ -63,21 +50,10 @@ impl<R: Files<File = File> + Processes + Eprint + Clone + Drop> Job<R> {
         Ok(Text::from_string(fs::canonicalize(&runtime, place)?.into_string()))
     }
 
-    /// The paths of a list.
-    fn own(&self, list: &[u8]) -> Result<Vec<Path>, Failure> {
-        let Ok(list) = str::from_utf8(list) else {
-            return Err(Failure::Because("the list of outputs isn't a text"));
-        };
-        let mut own = Vec::new(self.alloc);
-        for line in list.lines() {
-            own.push(path_of(self.alloc, line)?)?;
-        }
-        Ok(own)
-    }
-
     /// Runs the command under the tracer. The scripts print what went wrong.
     fn start(&self, tree: &Tree<R>) -> Result<(), Failure> {
-        let mut command = self.command(tree)?;
+        let mut command = Command::new(self.alloc, "sh")?;
+        self.add_words(&mut command, tree)?;
         if command.status(&self.rt)?.success() {
             Ok(())
         } else {
@@ -85,48 +61,89 @@ impl<R: Files<File = File> + Processes + Eprint + Clone + Drop> Job<R> {
         }
     }
 
-    /// The shell with its scripts and words.
-    fn command(&self, tree: &Tree<R>) -> Result<Command, Failure> {
-        let mut command = Command::new(self.alloc, "sh")?;
-        command.arg("-c")?;
-        command.arg(OUTSIDE)?;
-        command.arg("sh")?;
-        command.arg(tree.stage.as_str())?;
-        command.arg(tree.root.as_str())?;
-        command.arg(self.words.dir.as_str())?;
-        command.arg(self.words.text.as_str())?;
-        command.arg(INSIDE)?;
-        command.arg(WRAP)?;
-        Ok(command)
+    /// Gives the shell its scripts and words.
+    fn add_words(&self, command: &mut Command, tree: &Tree<R>) -> Result<(), Failure> {
+        let words = [
+            "-c",
+            OUTSIDE,
+            "sh",
+            tree.stage.as_str(),
+            tree.root.as_str(),
+            self.words.dir.as_str(),
+            self.words.text.as_str(),
+            INSIDE,
+            WRAP,
+        ];
+        for word in words {
+            command.arg(word)?;
+        }
+        Ok(())
+    }
+
+    /// Leaves the log of a command that was run.
+    fn account(&self, tree: Tree<R>, dir: Path) -> Result<(), Failure> {
+        let trace = tree.staged_content("trace")?;
+        let calls = read_calls(self.alloc, trace.as_slice())?;
+        match ending(calls.as_slice()) {
+            Some(status) => self.follow(tree, dir, calls.as_slice(), status),
+            None => Err(Failure::Because("the tracer failed, and the command wasn't run")),
+        }
     }
 
     /// Follows what the command did.
-    fn follow(&self, tree: Tree<R>, dir: &Path, calls: &[Call]) -> Result<Seen<R>, Failure> {
-        let folder = tree.source(dir)?;
+    fn follow(&self, tree: Tree<R>, dir: Path, calls: &[Call], status: u8) -> Result<(), Failure> {
+        let folder = tree.source(&dir)?;
         let acts = acts_of(self.alloc, folder.as_bytes(), calls)?;
         let mut seen = Seen {
             tree,
             account: Account::new(self.alloc),
         };
-        for act in acts.as_slice() {
+        self.resolve(&mut seen, acts.as_slice())?;
+        self.leave(seen, dir, status)
+    }
+
+    /// Resolves what the command did.
+    fn resolve(&self, seen: &mut Seen<R>, acts: &[Act]) -> Result<(), Failure> {
+        for act in acts {
             seen.follow(self.alloc, act)?;
         }
-        Ok(seen)
+        Ok(())
     }
 
     /// Leaves what was written, and the log with its end.
     fn leave(&self, seen: Seen<R>, dir: Path, status: u8) -> Result<(), Failure> {
-        let mut log = Items::new(self.alloc);
-        add_asks(
-            self.alloc,
-            &mut log,
-            &seen.tree,
-            &dir,
-            seen.account.asks.as_slice(),
-        )?;
-        let list = seen.tree.content(seen.tree.staged("entries")?.as_str())?;
+        let log = asks(self.alloc, &seen.tree, &dir, seen.account.asks.as_slice())?;
+        let entries = self.entries(&seen.tree)?;
+        self.write(seen, dir, log, entries.as_slice(), status)
+    }
+
+    /// What stands in the upper folder.
+    fn entries(&self, tree: &Tree<R>) -> Result<Vec<Entry>, Failure> {
+        let list = tree.staged_content("entries")?;
         let entries = Entries::read(self.alloc, list.as_slice())?;
-        self.tell_lost(entries.lost);
+        if entries.lost > 0 {
+            self.tell_lost(entries.lost);
+        }
+        Ok(entries.list)
+    }
+
+    /// Tells that files weren't kept. A line that can't be printed changes nothing.
+    fn tell_lost(&self, lost: u32) {
+        drop(eprintln!(self.rt;
+            "tup_sh: files with names that tup doesn't see weren't kept: {lost}"
+        ));
+    }
+
+    /// Keeps what was written behind what was asked for.
+    fn write(
+        &self,
+        seen: Seen<R>,
+        dir: Path,
+        log: Items<LogLine>,
+        entries: &[Entry],
+        status: u8,
+    ) -> Result<(), Failure> {
+        let account = seen.account;
         let mut writes = Writes {
             tree: seen.tree,
             dir,
@@ -134,44 +151,40 @@ impl<R: Files<File = File> + Processes + Eprint + Clone + Drop> Job<R> {
             count: 0,
             strange: Items::new(self.alloc),
         };
-        writes.add_all(self.alloc, &seen.account, entries.list.as_slice())?;
+        writes.add_touched(self.alloc, &account, entries)?;
+        writes.add_others(self.alloc, &account, entries)?;
         self.close(writes, status)
-    }
-
-    /// Tells that files weren't kept.
-    fn tell_lost(&self, lost: u32) {
-        if lost > 0 {
-            drop(eprintln!(self.rt;
-                "tup_sh: files with names that tup doesn't see weren't kept: {lost}"
-            ));
-        }
     }
 
     /// Writes the log. What no output can be is told, and is a failure of the command.
     fn close(&self, mut writes: Writes<R>, status: u8) -> Result<(), Failure> {
-        for text in writes.strange.as_slice() {
-            drop(eprintln!(&self.rt;
+        self.tell_strange(writes.strange.as_slice());
+        let status = if writes.strange.len() > 0 && status == 0 {
+            1
+        } else {
+            status
+        };
+        writes.log.push(LogLine::End { status })?;
+        self.write_log(&writes.tree, writes.log.as_slice())
+    }
+
+    /// Tells what no output can be. A line that can't be printed changes nothing.
+    fn tell_strange(&self, texts: &[Text]) {
+        for text in texts {
+            drop(eprintln!(self.rt;
                 "tup_sh: {text}: a link, a pipe, a socket or a device can't be an output"
             ));
         }
-        let strange = writes.strange.len() > 0;
-        let status = if strange && status == 0 { 1 } else { status };
-        writes.log.push(LogLine::End { status })?;
-        let Ok(bytes) = write_log(self.alloc, writes.log.as_slice()) else {
+    }
+
+    /// Writes a log into the stage.
+    fn write_log(&self, tree: &Tree<R>, log: &[LogLine]) -> Result<(), Failure> {
+        let Ok(bytes) = write_log(self.alloc, log) else {
             return Err(Failure::Memory);
         };
-        let place = writes.tree.staged("log")?;
+        let place = tree.staged("log")?;
         fs::write(&self.rt, place.as_str(), bytes.as_slice())?;
         Ok(())
-    }
-}
-
-/// The path that a text names from the top.
-fn path_of(alloc: Global, text: &str) -> Result<Path, Failure> {
-    match Path::from_top(alloc, text) {
-        Ok(path) => Ok(path),
-        Err(PathFault::Memory) => Err(Failure::Memory),
-        Err(_) => Err(Failure::Because("a path doesn't resolve")),
     }
 }
 
@@ -193,9 +206,12 @@ fn ending(calls: &[Call]) -> Option<u8> {
     let end = calls.iter().find(|call| call.process == first.process
         && call.name.as_slice() == b"+++".as_slice())?;
     match end.parts.as_slice() {
-        [Token::Word(_), Token::Word(_), Token::Word(status), ..] => {
-            str::from_utf8(status.as_slice()).ok()?.parse::<u8>().ok()
-        }
+        [Token::Word(_), Token::Word(_), Token::Word(status), ..] => number(status.as_slice()),
         _ => None,
     }
+}
+
+/// The status that digits say.
+fn number(digits: &[u8]) -> Option<u8> {
+    str::from_utf8(digits).ok()?.parse::<u8>().ok()
 }

@@ -1,4 +1,4 @@
-//! The lines of a command's log.
+//! The lines of what a command asked for.
 use crate::failure::Failure;
 use crate::tree::{Standing, Tree};
 use std::alloc::Global;
@@ -8,18 +8,18 @@ use tup_path::{Items, Path, Text};
 use tup_proc::LogLine;
 use tup_stamp::stamp_of;
 
-/// Adds what a command asked for. A folder says nothing; a link is no file.
-pub(crate) fn add_asks<R: Files<File = File> + Clone + Drop>(
+/// The lines of what a command asked for. A folder says nothing; a link is no file.
+pub(crate) fn asks<R: Files<File = File> + Clone + Drop>(
     alloc: Global,
-    log: &mut Items<LogLine>,
     tree: &Tree<R>,
     dir: &Path,
-    asks: &[Path],
-) -> Result<(), Failure> {
-    for path in asks {
-        add_ask(alloc, log, tree, dir, path)?;
+    paths: &[Path],
+) -> Result<Items<LogLine>, Failure> {
+    let mut log = Items::new(alloc);
+    for path in paths {
+        add_ask(alloc, &mut log, tree, dir, path)?;
     }
-    Ok(())
+    Ok(log)
 }
 
 /// Adds an ask.
@@ -49,8 +49,7 @@ fn add_read<R: Files<File = File> + Clone + Drop>(
     dir: &Path,
     path: &Path,
 ) -> Result<(), Failure> {
-    let place = tree.source(path)?;
-    let stamp = stamp_of(tree.content(place.as_str())?.as_slice());
+    let stamp = stamp_of(tree.source_content(path)?.as_slice());
     let text = shown(alloc, path, dir)?;
     log.push(LogLine::Read { stamp, text })?;
     Ok(())

@@ -86,17 +86,22 @@ impl<R: Files<File = File> + Clone + Drop> Seen<R> {
     fn start(&mut self, alloc: Global, place: &Bytes) -> Result<(), Failure> {
         let mut program = Vec::from_slice(alloc, place.as_slice())?;
         for _ in 0..MAX_INTERPRETERS {
-            let Some(path) = self.resolve(alloc, program.as_slice(), true)? else {
-                return Ok(());
-            };
-            let interpreter = self.interpreter(alloc, &path)?;
-            self.add(&Step::Ask(path))?;
-            match interpreter {
-                Some(next) => program = next,
+            match self.start_one(alloc, program.as_slice())? {
+                Some(interpreter) => program = interpreter,
                 None => return Ok(()),
             }
         }
         Ok(())
+    }
+
+    /// Adds that a program is asked for, and gives the interpreter that it names.
+    fn start_one(&mut self, alloc: Global, place: &[u8]) -> Result<Option<Vec<u8>>, Failure> {
+        let Some(path) = self.resolve(alloc, place, true)? else {
+            return Ok(None);
+        };
+        let interpreter = self.interpreter(alloc, &path)?;
+        self.add(&Step::Ask(path))?;
+        Ok(interpreter)
     }
 
     /// The interpreter that a program names.
@@ -136,14 +141,19 @@ impl<R: Files<File = File> + Clone + Drop> Seen<R> {
             return Ok(None);
         }
         let mut walk = Walk::to(alloc, text)?;
+        self.go(alloc, &mut walk, follows)?;
+        walk.found(alloc, self.tree.root.as_str())
+    }
+
+    /// Walks to the end, or as far as names are walked.
+    fn go(&mut self, alloc: Global, walk: &mut Walk, follows: bool) -> Result<(), Failure> {
         for _ in 0..MAX_NAMES {
-            let Some(name) = walk.rest.pop() else {
-                let place = walk.place(alloc)?;
-                return path_below(alloc, self.tree.root.as_str(), place.as_str());
-            };
-            self.step(alloc, &mut walk, name, follows)?;
+            match walk.rest.pop() {
+                Some(name) => self.step(alloc, walk, name, follows)?,
+                None => return Ok(()),
+            }
         }
-        Ok(None)
+        Ok(())
     }
 
     /// Walks to a name.

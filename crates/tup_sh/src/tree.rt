@@ -4,8 +4,8 @@ use std::alloc::Global;
 use std::fs::File;
 use std::io::{ErrorKind, Read};
 use std::rt::Files;
-use std::{fs, io};
-use tup_path::{Path, Text};
+use std::{fs, io, str};
+use tup_path::{Path, PathFault, Text};
 
 /// What stands at a place.
 #[derive(Clone, Copy, PartialEq, Eq)]
@@ -30,6 +30,24 @@ pub(crate) struct Tree<R: Files<File = File> + Clone + Drop> {
 }
 
 impl<R: Files<File = File> + Clone + Drop> Tree<R> {
+    /// A project in which nothing is the rule's own.
+    pub(crate) fn new(rt: R, alloc: Global, root: Text, stage: Text) -> Tree<R> {
+        Tree {
+            rt,
+            alloc,
+            root,
+            stage,
+            own: Vec::new(alloc),
+        }
+    }
+
+    /// Reads which paths are the rule's own outputs.
+    pub(crate) fn read_own(&mut self) -> Result<(), Failure> {
+        let list = self.staged_content("own")?;
+        self.own = paths_of(self.alloc, list.as_slice())?;
+        Ok(())
+    }
+
     /// What stood at a path before the command. Its own outputs didn't.
     pub(crate) fn before(&self, path: &Path) -> Result<Standing, Failure> {
         if self.own.contains(path) {
@@ -56,6 +74,24 @@ impl<R: Files<File = File> + Clone + Drop> Tree<R> {
         let mut bytes = Vec::new(self.alloc);
         self.read_into(&mut bytes, place)?;
         Ok(bytes)
+    }
+
+    /// What a file of the stage holds.
+    pub(crate) fn staged_content(&self, name: &str) -> Result<Vec<u8>, Failure> {
+        let place = self.staged(name)?;
+        self.content(place.as_str())
+    }
+
+    /// What a source holds.
+    pub(crate) fn source_content(&self, path: &Path) -> Result<Vec<u8>, Failure> {
+        let place = self.source(path)?;
+        self.content(place.as_str())
+    }
+
+    /// What was written at a path.
+    pub(crate) fn written_content(&self, path: &Path) -> Result<Vec<u8>, Failure> {
+        let place = self.written(path)?;
+        self.content(place.as_str())
     }
 
     /// Reads a file to its end.
@@ -97,6 +133,27 @@ impl<R: Files<File = File> + Clone + Drop> Tree<R> {
             place.push_str(name.as_str())?;
         }
         Ok(place)
+    }
+}
+
+/// The paths of a list, a line for each.
+fn paths_of(alloc: Global, list: &[u8]) -> Result<Vec<Path>, Failure> {
+    let Ok(list) = str::from_utf8(list) else {
+        return Err(Failure::Because("the list of outputs isn't a text"));
+    };
+    let mut paths = Vec::new(alloc);
+    for line in list.lines() {
+        paths.push(path_of(alloc, line)?)?;
+    }
+    Ok(paths)
+}
+
+/// The path that a text names from the top.
+pub(crate) fn path_of(alloc: Global, text: &str) -> Result<Path, Failure> {
+    match Path::from_top(alloc, text) {
+        Ok(path) => Ok(path),
+        Err(PathFault::Memory) => Err(Failure::Memory),
+        Err(_) => Err(Failure::Because("a path doesn't resolve")),
     }
 }
 

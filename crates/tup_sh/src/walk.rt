@@ -37,6 +37,15 @@ impl Walk {
         Ok(())
     }
 
+    /// The path of the place where it ended, below a root.
+    pub(crate) fn found(&self, alloc: Global, root: &str) -> Result<Option<Path>, Failure> {
+        if !self.rest.is_empty() {
+            return Ok(None);
+        }
+        let place = self.place(alloc)?;
+        path_below(alloc, root, place.as_str())
+    }
+
     /// The place where it is.
     pub(crate) fn place(&self, alloc: Global) -> Result<String, Failure> {
         let mut place = String::new(alloc);

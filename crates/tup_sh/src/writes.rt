@@ -6,7 +6,7 @@ use std::alloc::Global;
 use std::fs::File;
 use std::rt::Files;
 use std::{fs, str};
-use tup_path::{Items, Path, PathFault};
+use tup_path::{Items, Path, PathFault, Text};
 use tup_proc::LogLine;
 use tup_watch::Account;
 
@@ -37,7 +37,7 @@ pub(crate) struct Writes<R: Files<File = File> + Clone + Drop> {
     /// How many files were written.
     pub(crate) count: u32,
     /// The texts of what no output can be.
-    pub(crate) strange: Items<tup_path::Text>,
+    pub(crate) strange: Items<Text>,
 }
 
 /// What stands in the upper folder.
@@ -96,8 +96,8 @@ fn entry_of(alloc: Global, line: &[u8]) -> Result<Option<Entry>, Failure> {
 }
 
 impl<R: Files<File = File> + Clone + Drop> Writes<R> {
-    /// Adds what was written, in the order of the trace, and then what the trace doesn't show.
-    pub(crate) fn add_all(
+    /// Adds what was written, in the order of the trace.
+    pub(crate) fn add_touched(
         &mut self,
         alloc: Global,
         account: &Account,
@@ -107,6 +107,16 @@ impl<R: Files<File = File> + Clone + Drop> Writes<R> {
             let kind = kind_at(entries, path);
             self.add(alloc, path, kind, account.is_own(path))?;
         }
+        Ok(())
+    }
+
+    /// Adds what was written and the trace doesn't show.
+    pub(crate) fn add_others(
+        &mut self,
+        alloc: Global,
+        account: &Account,
+        entries: &[Entry],
+    ) -> Result<(), Failure> {
         for entry in entries {
             if !account.touched.as_slice().contains(&entry.path) {
                 self.add(alloc, &entry.path, Some(entry.kind), false)?;
@@ -127,11 +137,14 @@ impl<R: Files<File = File> + Clone + Drop> Writes<R> {
             Verdict::Nothing => Ok(()),
             Verdict::Written => self.keep(alloc, path),
             Verdict::Removed => self.removed(alloc, path),
-            Verdict::Strange => {
-                self.strange.push(shown(alloc, path, &self.dir)?)?;
-                Ok(())
-            }
+            Verdict::Strange => self.refuse(alloc, path),
         }
+    }
+
+    /// Notes what no output can be.
+    fn refuse(&mut self, alloc: Global, path: &Path) -> Result<(), Failure> {
+        self.strange.push(shown(alloc, path, &self.dir)?)?;
+        Ok(())
     }
 
     /// What is at a path: a file that isn't as it was before, or a source that is gone.
@@ -159,9 +172,9 @@ impl<R: Files<File = File> + Clone + Drop> Writes<R> {
         if self.tree.before(path)? != Standing::File {
             return Ok(Verdict::Written);
         }
-        let before = self.tree.source(path)?;
-        let now = self.tree.written(path)?;
-        if self.tree.content(before.as_str())? == self.tree.content(now.as_str())? {
+        let before = self.tree.source_content(path)?;
+        let now = self.tree.written_content(path)?;
+        if before == now {
             Ok(Verdict::Nothing)
         } else {
             Ok(Verdict::Written)
