@@ -25,11 +25,11 @@ done <own\n\
 uid=$(id -u) gid=$(id -g)\n\
 if [ \"$uid\" = 0 ]; then alone=-m; else alone=-rm; fi\n\
 unshare $alone --pid --fork --kill-child --mount-proc sh -c \"$inside\" sh \"$stage\" \"$root\" \"$dir\" \"$text\" \"$uid\" \"$gid\" \"$wrap\" </dev/null\n\
+chmod -R u+rwx up wk 2>/dev/null\n\
+rm -rf wk\n\
 [ -e trace ] || fail \"no namespace could be made: allow user namespaces (sysctl user.max_user_namespaces, kernel.unprivileged_userns_clone, kernel.apparmor_restrict_unprivileged_userns)\"\n\
 [ -e mounted ] || fail \"no overlay could be mounted: the stage must not lie on an overlay itself, and the kernel must have overlayfs\"\n\
 [ -s trace ] || fail \"strace couldn't trace: allow ptrace\"\n\
-chmod -R u+rwx up wk 2>/dev/null\n\
-rm -rf wk\n\
 find up -mindepth 1 -printf '%y%P\\0' >entries\n";
 
 /// In the namespaces: mounts the overlay over the project, gives up all rights, and starts the tracer. Its words are
@@ -41,7 +41,7 @@ mount -t overlay overlay -o \"lowerdir=/proc/self/fd/4,upperdir=up,workdir=wk,$o
 : >mounted\n\
 root=$2 dir=$3 text=$4 wrap=$7\n\
 if [ \"$5\" = 0 ]; then\n\
-    caps=-sys_admin,-sys_ptrace,-dac_read_search,-mknod,-sys_rawio,-sys_module,-sys_boot\n\
+    caps=-sys_admin,-sys_ptrace,-sys_chroot,-dac_read_search,-mknod,-sys_rawio,-sys_module,-sys_boot\n\
     set -- setpriv --bounding-set $caps --inh-caps $caps\n\
 else\n\
     set -- unshare -U --map-user=\"$5\" --map-group=\"$6\"\n\
