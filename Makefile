@@ -37,7 +37,8 @@ test:
 try: build
 	sh tests/program.sh $(TUP)
 
-shell: runners
+shell:
+	cd crates/tup_sh && rt run
 	sh tests/shell.sh $(SH)
 
 killed: build

@@ -3,3 +3,4 @@ pub mod Said
 pub mod Acts
 pub mod Watch
 pub mod Account
+pub mod Laws

@@ -5,8 +5,8 @@ ghost use Rattle.tup_watch.specs.Acts.{acts_of};
 
 use crate::act::Act;
 use crate::names::{
-    has, is_binding, is_creating, is_cutting, is_linking, is_looking, is_making, is_moving, is_opening,
-    is_pointing, is_removing, is_running,
+    has, is_binding, is_creating, is_cutting, is_linking, is_looking, is_making, is_moving,
+    is_opening, is_pointing, is_removing, is_running,
 };
 use crate::said::Said;
 use std::alloc::{AllocError, Global};
