@@ -20,11 +20,11 @@ is_pointing name = bytes_eq name (codes "symlink") || bytes_eq name (codes "syml
 abbrev pub is_removing : List ℕ → Bool
 is_removing name = bytes_eq name (codes "unlink") || bytes_eq name (codes "unlinkat") || bytes_eq name (codes "rmdir")
 
-abbrev pub is_making : List ℕ → Bool
-is_making name = bytes_eq name (codes "mkdir") || bytes_eq name (codes "mkdirat") || bytes_eq name (codes "mknod") || bytes_eq name (codes "mknodat") || is_binding name
-
 abbrev pub is_binding : List ℕ → Bool
 is_binding name = bytes_eq name (codes "bind")
+
+abbrev pub is_making : List ℕ → Bool
+is_making name = bytes_eq name (codes "mkdir") || bytes_eq name (codes "mkdirat") || bytes_eq name (codes "mknod") || bytes_eq name (codes "mknodat") || is_binding name
 
 abbrev pub is_cutting : List ℕ → Bool
 is_cutting name = bytes_eq name (codes "truncate") || bytes_eq name (codes "truncate64")

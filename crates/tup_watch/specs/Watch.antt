@@ -63,15 +63,22 @@ folders_after folders call said folder =
 abbrev pub with_acts : Acts → List ℕ → Said → Acts
 with_acts acts name said = record { list = acts.list ++ acts_of name said }
 
+-- a call that says so of a process in this folder
+abbrev pub noted : Watch → Call → Said → List ℕ → Watch
+noted watch call said folder = record { folders = folders_after watch.folders call said folder; acts = with_acts watch.acts call.name said }
+
+abbrev pub followed_in : List ℕ → Watch → Call → Watch
+followed_in folder watch call = noted watch call (said_of folder call.parts) folder
+
 abbrev pub followed : List Birth → List ℕ → Watch → Call → Watch
-followed births dir watch call =
-    let folder = folder_of births dir watch.folders call.process in
-    let said = said_of folder call.parts in
-    record { folders = folders_after watch.folders call said folder; acts = with_acts watch.acts call.name said }
+followed births dir watch call = followed_in (folder_of births dir watch.folders call.process) watch call
 
 abbrev pub watch_begun : Watch
 watch_begun = record { folders = []; acts = record { list = [] } }
 
+abbrev pub watched : List Birth → List ℕ → List Call → List Act
+watched births dir calls = (fold (followed births dir) watch_begun calls).acts.list
+
 -- what a command did that began in this folder
 abbrev pub acts_in : List ℕ → List Call → List Act
-acts_in dir calls = (fold (followed (births_of calls) dir) watch_begun calls).acts.list
+acts_in dir calls = watched (births_of calls) dir calls

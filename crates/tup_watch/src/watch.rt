@@ -37,6 +37,18 @@ pub fn acts_of(alloc: Global, dir: &[u8], calls: &[Call]) -> Result<Items<Act>, 
     ensures { IfOk result (λ acts. acts ≡ acts_in dir.now calls.now) }
 {
     let births = births_of(alloc, calls)?;
+    watched(alloc, births.as_slice(), dir, calls)
+}
+
+/// What the calls did, by who made whom.
+fn watched(
+    alloc: Global,
+    births: &[Birth],
+    dir: &[u8],
+    calls: &[Call],
+) -> Result<Items<Act>, AllocError>
+    ensures { IfOk result (λ acts. acts ≡ specs.watched births.now dir.now calls.now) }
+{
     let mut watch = Watch {
         folders: Items::new(alloc),
         acts: Acts {
@@ -44,7 +56,7 @@ pub fn acts_of(alloc: Global, dir: &[u8], calls: &[Call]) -> Result<Items<Act>, 
         },
     };
     for call in calls {
-        watch.follow(alloc, births.as_slice(), dir, call)?;
+        watch.follow(alloc, births, dir, call)?;
     }
     Ok(watch.acts.list)
 }
@@ -61,9 +73,29 @@ impl Watch {
         ensures { OnOk result (self.new ≡ specs.followed births.now dir.now self.old call.now) }
     {
         let folder = self.folder_of(alloc, births, dir, call.process.as_slice())?;
-        let said = Said::of(alloc, folder.as_slice(), call.parts.as_slice())?;
-        self.after(alloc, call, &said, folder.as_slice())?;
-        self.acts.add(alloc, call.name.as_slice(), &said)
+        self.follow_in(alloc, call, folder.as_slice())
+    }
+
+    /// Follows a call of a process in this folder.
+    fn follow_in(&mut self, alloc: Global, call: &Call, folder: &[u8]) -> Result<(), AllocError>
+        ensures { OnOk result (self.new ≡ specs.followed_in folder.now self.old call.now) }
+    {
+        let said = Said::of(alloc, folder, call.parts.as_slice())?;
+        self.note(alloc, call, &said, folder)
+    }
+
+    /// Notes what a call does that says so of a process in this folder.
+    fn note(
+        &mut self,
+        alloc: Global,
+        call: &Call,
+        said: &Said,
+        folder: &[u8],
+    ) -> Result<(), AllocError>
+        ensures { OnOk result (self.new ≡ specs.noted self.old call.now said.now folder.now) }
+    {
+        self.after(alloc, call, said, folder)?;
+        self.acts.add(alloc, call.name.as_slice(), said)
     }
 
     /// The folder of a process.
