@@ -6,7 +6,7 @@ use Rattle.std.proofs.lemmas.Bool.{true≢false}
 use Rattle.std.proofs.lemmas.List.Folds.{list_any-append}
 use Rattle.tup_path.specs.Order.{same_path}
 use Rattle.tup_path.proofs.Same.{same_path-decides}
-use Rattle.tup_watch.specs.Account.{Names, is_among, with_path, nothing, asked, touched, written, with_step, account_of}
+use Rattle.tup_watch.specs.Account.{Names, is_among, with_path, nothing, asked, written, with_step}
 use Rattle.tup_watch.specs.Laws.{asked_by, written_by, touched_by, asks_first, AsksAreFirst, AsksAreDistinct, AllIsTouched, TouchedAreDistinct, WrittenIsOwn}
 use Rattle.tup_watch.specs.declared.account.Account.{Account}
 use Rattle.tup_watch.specs.declared.account.Step.{Step}

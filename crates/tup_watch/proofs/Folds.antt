@@ -1,5 +1,5 @@
 -- A fold over a list, one item on.
-use Rattle.std.proofs.Common.{◌≡◌, ◌<◌, ◌+◌, ℕ, length, drop, List, ◌∷◌, sym, ap, ◌∙◌}
+use Rattle.std.proofs.Common.{◌≡◌, ◌<◌, ◌+◌, ℕ, length, drop, List, sym, ap, ◌∙◌}
 use Rattle.std.proofs.Math.ListN.{get_or}
 use Rattle.std.proofs.lemmas.List.{drop_more}
 use Rattle.std.specs.List.{fold}

@@ -1,6 +1,6 @@
 -- The account of a command: what it asks for, each path once and none that it wrote itself before, and what it wrote, in the
 -- order of first writing.
-use Rattle.std.specs.Prelude.{ℕ, ◌||◌, Bool, true, false, if◌then◌else◌, List, [], ◌∷◌, ◌++◌, fold}
+use Rattle.std.specs.Prelude.{ℕ, Bool, if◌then◌else◌, List, [], ◌∷◌, ◌++◌, fold}
 use Rattle.std.specs.List.{list_any}
 use Rattle.tup_path.specs.Order.{same_path}
 use Rattle.tup_watch.specs.declared.account.Account.{Account}

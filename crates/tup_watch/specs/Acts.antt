@@ -1,6 +1,6 @@
 -- What a call does to places: it asks for them, runs, writes, changes, moves or removes them. A call that failed asks. One that
 -- opens a file asks for it or writes it by its flags, under its name and under the path of its descriptor.
-use Rattle.std.specs.Prelude.{ℕ, ◌==◌, ◌&&◌, ◌||◌, not, Bool, true, false, if◌then◌else◌, List, [], ◌∷◌, ◌++◌, Option, Some, None, codes, bytes_eq, unwrap_or}
+use Rattle.std.specs.Prelude.{ℕ, ◌==◌, ◌&&◌, ◌||◌, not, Bool, true, false, if◌then◌else◌, List, [], ◌∷◌, ◌++◌, Option, Some, None, codes, unwrap_or}
 use Rattle.tup_watch.specs.Names.{is_opening, is_creating, is_moving, is_linking, is_pointing, is_removing, is_making, is_binding, is_cutting, is_running, is_looking, has}
 use Rattle.tup_watch.specs.declared.act.Act.{Act}
 use Rattle.tup_watch.specs.declared.act.Act.TheVariants.{Ask, Run, Write, Change, Remove, Move}

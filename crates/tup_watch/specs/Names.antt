@@ -1,5 +1,5 @@
 -- The calls of a traced program, by their names and flags.
-use Rattle.std.specs.Prelude.{ℕ, ◌==◌, ◌&&◌, ◌||◌, not, Bool, true, false, List, [], ◌∷◌, codes, bytes_eq}
+use Rattle.std.specs.Prelude.{ℕ, ◌||◌, Bool, List, codes, bytes_eq}
 use Rattle.std.specs.List.{list_any}
 
 abbrev pub is_opening : List ℕ → Bool

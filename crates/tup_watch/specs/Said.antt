@@ -1,6 +1,6 @@
 -- What a call says: the places that it names, its flags, and how it ended. A text names a place from the descriptor right
 -- before it, and else from the working folder of its process.
-use Rattle.std.specs.Prelude.{ℕ, ◌==◌, Bool, true, false, if◌then◌else◌, List, [], ◌∷◌, ◌++◌, fold, Option, Some, None, codes, bytes_eq, unwrap_or}
+use Rattle.std.specs.Prelude.{ℕ, ◌==◌, Bool, false, if◌then◌else◌, List, [], ◌∷◌, ◌++◌, fold, Some, None, codes, bytes_eq, unwrap_or}
 use Rattle.tup_trace.specs.declared.token.Token.{Token}
 use Rattle.tup_trace.specs.declared.token.Token.TheVariants.{Word, Quoted, Place}
 use Rattle.tup_watch.specs.declared.said.Said.{Said}

@@ -1,6 +1,6 @@
 -- What a command did to places, call by call. Each process has a working folder: the folder of the one that made it, until
 -- it enters another.
-use Rattle.std.specs.Prelude.{ℕ, ◌&&◌, Bool, true, false, if◌then◌else◌, List, [], ◌∷◌, ◌++◌, fold, Option, Some, None, bytes_eq, unwrap_or}
+use Rattle.std.specs.Prelude.{ℕ, ◌&&◌, Bool, if◌then◌else◌, List, [], ◌∷◌, ◌++◌, fold, bytes_eq, unwrap_or}
 use Rattle.std.specs.List.{list_any}
 use Rattle.tup_trace.specs.declared.call.Call.{Call}
 use Rattle.tup_watch.specs.Names.{is_forking, is_entering, is_returning}

@@ -1,4 +1,4 @@
-use Rattle.std.proofs.Common.{◌≡◌, drop, Bool, []}
+use Rattle.std.proofs.Common.{◌≡◌, drop}
 use Rattle.std.specs.List.{fold}
 use Rattle.tup_watch.specs.Account.{with_step, nothing}
 use Rattle.tup_watch.proofs.account.accounted.Given as goal

@@ -1,4 +1,4 @@
-use Rattle.std.proofs.Common.{◌≡◌, drop, Bool, []}
+use Rattle.std.proofs.Common.{◌≡◌, drop, []}
 use Rattle.std.specs.List.{fold}
 use Rattle.tup_watch.specs.Watch.{with_birth}
 use Rattle.tup_watch.proofs.watch.births_of.Given as goal

@@ -1,5 +1,4 @@
-use Rattle.std.proofs.Common.{◌≡◌, drop, Bool, []}
-use Rattle.std.specs.List.{fold}
+use Rattle.std.proofs.Common.{◌≡◌, drop}
 use Rattle.tup_watch.specs.Watch.{last_folder}
 use Rattle.tup_watch.proofs.watch.last_folder.Given as goal
 

@@ -1,5 +1,4 @@
-use Rattle.std.proofs.Common.{◌≡◌, drop, Bool, []}
-use Rattle.std.specs.List.{fold}
+use Rattle.std.proofs.Common.{◌≡◌, drop}
 use Rattle.tup_watch.specs.Watch.{parent_of, parent_of_from}
 use Rattle.tup_watch.proofs.watch.parent_of.Given as goal
 

@@ -1,4 +1,4 @@
-use Rattle.std.proofs.Common.{◌≡◌, drop, Bool, []}
+use Rattle.std.proofs.Common.{◌≡◌, drop}
 use Rattle.std.specs.List.{fold}
 use Rattle.tup_watch.specs.Watch.{followed, watch_begun}
 use Rattle.tup_watch.proofs.watch.watched.Given as goal

@@ -1,4 +1,4 @@
-use Rattle.std.proofs.Common.{◌≡◌, drop, Bool, []}
+use Rattle.std.proofs.Common.{◌≡◌, drop}
 use Rattle.std.specs.List.{fold}
 use Rattle.tup_watch.specs.Said.{with_token, nothing_said}
 use Rattle.tup_watch.proofs.said.Said.of.Given as goal
