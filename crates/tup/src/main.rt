@@ -11,6 +11,7 @@ use std::alloc::Global;
 use std::io;
 use std::process::ExitCode;
 use tup_fs::FsSite;
+use tup_mini::Mini;
 use tup_output::Output;
 use tup_top::{Status, Word, tup};
 use words::words;
@@ -24,7 +25,7 @@ tup makes the files that the Tupfile of this folder asks for.
   tup --version   print the version
 
 Exit numbers: 0 done, 1 a command's fault, 2 usage, 4 damaged store, 5 fault in a Tupfile,
-7 the file tree or the store failed, 9 the output failed, 11 over a limit, 12 no memory.
+7 the file tree or the store failed, 8 the runner failed, 9 the output failed, 11 over a limit, 12 no memory.
 ";
 
 /// The version, which stands here alone.
@@ -50,7 +51,10 @@ fn answer(rt: HostRuntime, alloc: Global, words: &[Word]) -> u8 {
     let Ok(site) = FsSite::new(rt, alloc, ".") else {
         return told(&rt, Status::Memory);
     };
-    let ran = tup(alloc, words, site, &mut Output::new(&rt));
+    let Ok(crew) = vec![in alloc; Mini::new(alloc)] else {
+        return told(&rt, Status::Memory);
+    };
+    let ran = tup(alloc, words, site, crew, &mut Output::new(&rt));
     if let Some(failure) = ran.site.last() {
         // Words that can't be printed change nothing: the exit number tells as much.
         drop(eprintln!(rt; "tup: {failure}"));
