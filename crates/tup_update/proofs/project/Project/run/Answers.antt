@@ -6,7 +6,7 @@ use Rattle.tup_access.specs.declared.verdict.Verdict.{Verdict}
 use Rattle.tup_access.specs.declared.verdict.Verdict.TheVariants.{Good}
 use Rattle.tup_clean.proofs.InOrderLaws.{good_none}
 use Rattle.tup_clean.proofs.CleanLaws.{clean_tree_of_good, clean_succeeds}
-use Rattle.tup_update.specs.Sources.{files_beside}
+use Rattle.tup_update.specs.Sources.{files_beside, build_beside}
 use Rattle.tup_update.specs.Ran.{RanAll, RunsOne, RunsThese}
 use Rattle.tup_update.proofs.Begun.{begun_more, part_noted, noted_bad, noted_whole, noted_part, ran_none, ran_more, ran_all_of, ran_to_halt, stopped_err}
 use Rattle.tup_update.proofs.Running.{CarriesOn, rule_here, room_for, agrees_at_first, beside_all, carried_on, replicate_more, noted_more, named_bad, unnamed_good, stops_at}
@@ -109,7 +109,7 @@ returns-then-is_some-clause-noted g c = λ tells means.
 pub returns-then-is_some-clause-part : goal.returns-then-is_some-clause-part
 returns-then-is_some-clause-part g c = λ tells means.
     let here = rule_here c.args.self.now.rules _ c.loop-rule.rule-index c.rule-item.result c.as_slice-rule-items.ensures c.loop-rule-test.true c.rule-item.is in
-    noted_part _ _ _ _
+    noted_part c.args.self.now.rules (build_beside g.R.Runner.next c.args.self.now.owned c.args.self.now.rules (g.S.Site.world c.args.site.now).tree) _ _
     (noted_bad g.R.Runner.next c.loop-rule.rule-index c.args.self.now.owned c.args.self.now.rules (g.S.Site.world c.args.site.now).tree _ c.rule-item.result c.in_ok-verdict.verdict (c.requires.runnable tells) here
     (c.loop-rule.invariant.carries tells means) (c.in_ok-verdict.ensures.leaves tells means).is
     (named_bad c.rule-item.result c.in_ok-verdict.verdict c.in_ok-bad.bad c.in_ok-bad.ensures.bad (sym c.is_some.ensures ∙ c.if-is_some.true)).1 _ _
@@ -164,7 +164,7 @@ pub returns-clause-part : goal.returns-clause-part
 returns-clause-part g c = λ tells means.
     let rules = c.args.self.now.rules in
     let all : c.loop-rule.rule-index ≡ length rules = omega (arith, ap (λ (l : List Rule). length l) c.as_slice-rule-items.ensures) in
-    noted_part _ _ _ _
+    noted_part c.args.self.now.rules (build_beside g.R.Runner.next c.args.self.now.owned c.args.self.now.rules (g.S.Site.world c.args.site.now).tree) _ _
     (noted_whole g.R.Runner.next c.loop-rule.rule-index c.args.self.now.owned rules (g.S.Site.world c.args.site.now).tree _ all (c.requires.runnable tells) (c.loop-rule.invariant.carries tells means) _ _
     c.loop-rule.invariant.begun c.loop-rule.invariant.noted)
 
