@@ -1,5 +1,5 @@
 //! The top call.
-ghost use Rattle.std.specs.Prelude.{IsTrue, map};
+ghost use Rattle.std.specs.Prelude.{◌≡◌, [], IsTrue, map};
 ghost use Rattle.tup_update.specs.Outcome.{ExactlyTheFiles, SourcesStay, NothingForgotten, HasCause};
 ghost use Rattle.tup_top.specs.Order.{order};
 ghost use Rattle.tup_top.specs.Crew.{IsCrew, CrewRuns, RanFits, NothingRun};
@@ -77,7 +77,7 @@ pub fn tup<S: Site, R: Runner, K: Sink>(
         result.status }
 {
     match order_of(words) {
-        Ok(Order::Upd) => {
+        Ok(Order::Upd { .. }) => {
             let mut site = site;
             let mut crew = crew;
             let Updated { status, ran } = update(alloc, &mut site, &mut crew[0], out);
@@ -88,29 +88,35 @@ pub fn tup<S: Site, R: Runner, K: Sink>(
                 ran,
             }
         }
-        Ok(Order::Demo) => Ran {
-            status: demo(alloc, out),
-            site,
-            crew,
-            ran: Items::new(alloc),
-        },
-        Err(fault) => Ran {
-            status: refuse(alloc, fault, out),
-            site,
-            crew,
-            ran: Items::new(alloc),
-        },
+        Ok(Order::Demo) => idle(alloc, demo(alloc, out), site, crew),
+        Err(OrderFault::Usage { place }) => idle(alloc, refuse(alloc, place, out), site, crew),
+        Err(OrderFault::Memory) => idle(alloc, Status::Memory, site, crew),
+    }
+}
+
+/// What is left where the crew ran nothing.
+fn idle<S: Site, R: Runner>(alloc: Global, status: Status, site: S, crew: Vec<R>) -> Ran<S, R>
+    ensures status { result.status ≡ status }
+    ensures site { result.site ≡ site }
+    ensures crew { result.crew.items ≡ crew.items }
+    ensures ran { result.ran ≡ [] }
+{
+    Ran {
+        status,
+        site,
+        crew,
+        ran: Items::new(alloc),
     }
 }
 
 /// Prints the line of a word that can't stand where it stands.
-fn refuse<K: Sink>(alloc: Global, fault: OrderFault, out: &mut K) -> Status
-    ensures cause { IsRefusal fault result }
+fn refuse<K: Sink>(alloc: Global, place: u32, out: &mut K) -> Status
+    ensures cause { IsRefusal place result }
     ensures printed { IsTrue K.tells
         → let before = K.faults out.old in let now = K.faults out.new in
-        Prints (line_of (Usage fault.place)) before now (K.held out.old) (K.held out.new) result }
+        Prints (line_of (Usage place)) before now (K.held out.old) (K.held out.new) result }
 {
-    let status = Status::Usage { place: fault.place };
+    let status = Status::Usage { place };
     let Ok(line) = last_line(alloc, &status) else {
         return Status::Memory;
     };
