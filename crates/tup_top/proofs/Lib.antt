@@ -1,2 +1,3 @@
 pub mod Causes
+pub mod Crewed
 pub mod Success
