@@ -1,12 +1,24 @@
+use Rattle.std.proofs.Common.{refl}
 use Rattle.tup_top.specs.Promise.{counts}
+use Rattle.tup_top.specs.Status.{came_to}
+use Rattle.tup_top.proofs.Crewed.{crew_cause, crew_runs}
 use Rattle.tup_top.proofs.Success.{succeeds_so, sources_stay_so}
 use Rattle.tup_top.proofs.call.tup.Goals as goal
 
 pub returns-in-Ok-Upd-clause-success : goal.returns-in-Ok-Upd-clause-success
-returns-in-Ok-Upd-clause-success g c = λ tells _ clear fine.
-    succeeds_so (g.S.Site.world c.args.site) (g.S.Site.world c.update-status.new.site)
-    (counts g.S.Site.faults g.K.Sink.faults c.args.site c.args.out.now) (counts g.S.Site.faults g.K.Sink.faults c.update-status.new.site c.update-status.new.out)
-    c.update-status.result (c.update-status.ensures.cause tells) c.update-status.ensures.counted_cause clear fine
+returns-in-Ok-Upd-clause-success g c = λ tells means _ clear fine.
+    succeeds_so g.R.Runner.next (g.S.Site.world c.args.site) (g.S.Site.world c.update-status.new.site)
+    (counts g.S.Site.faults g.R.Runner.faults g.K.Sink.faults c.args.site c.args.crew.items c.args.out.now) (counts g.S.Site.faults g.R.Runner.faults g.K.Sink.faults c.update-status.new.site _ c.update-status.new.out)
+    c.update-status.result.status (c.update-status.ensures.cause tells means)
+    (crew_cause g.R.Runner.faults c.args.crew.items _ _ _ _ _ _ c.update-status.result.status refl c.update-status.ensures.counted_cause) clear fine
+
+pub returns-in-Ok-Upd-clause-plain_cause : goal.returns-in-Ok-Upd-clause-plain_cause
+returns-in-Ok-Upd-clause-plain_cause g c =
+    crew_cause g.R.Runner.faults c.args.crew.items _ _ _ _ _ _ c.update-status.result.status refl c.update-status.ensures.counted_cause
+
+pub returns-in-Ok-Upd-clause-ran : goal.returns-in-Ok-Upd-clause-ran
+returns-in-Ok-Upd-clause-ran g c = λ tells.
+    crew_runs g.R.Runner.ran c.args.crew.items _ _ _ (came_to c.update-status.result.status) refl (c.update-status.ensures.ran tells)
 
 pub returns-in-Ok-Demo-clause-sources_stay : goal.returns-in-Ok-Demo-clause-sources_stay
 returns-in-Ok-Demo-clause-sources_stay g c = λ _. sources_stay_so (g.S.Site.world c.args.site)
