@@ -89,12 +89,8 @@ pub fn tup<S: Site, R: Runner, K: Sink>(
             }
         }
         Ok(Order::Demo) => idle(alloc, demo(alloc, out), site, crew),
-<<<<<<< HEAD
         Err(OrderFault::Usage { place }) => idle(alloc, refuse(alloc, place, out), site, crew),
         Err(OrderFault::Memory) => idle(alloc, Status::Memory, site, crew),
-=======
-        Err(fault) => idle(alloc, refuse(alloc, fault, out), site, crew),
->>>>>>> crew
     }
 }
 
