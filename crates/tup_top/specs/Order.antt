@@ -1,10 +1,10 @@
 -- What the words of a command line ask for (own). A word that isn't known here can't stand anywhere.
-use Rattle.std.specs.Prelude.{◌+◌, ◌==◌, ℕ, ⊤, Bool, false, if◌then◌else◌, List, [], ◌∷◌, Option, None, Some, Result, Ok, Err, codes, bytes_eq}
+use Rattle.std.specs.Prelude.{◌≡◌, ◌+◌, ◌==◌, ℕ, ⊤, Bool, false, if◌then◌else◌, List, [], ◌∷◌, Option, None, Some, Result, Ok, Err, codes, bytes_eq}
 use Rattle.tup_top.specs.declared.order.Word.{Word}
 use Rattle.tup_top.specs.declared.order.Order.{Order}
 use Rattle.tup_top.specs.declared.order.Order.TheVariants.{Upd, Demo}
 use Rattle.tup_top.specs.declared.order.OrderFault.{OrderFault}
-use Rattle.tup_top.specs.declared.order.OrderFault.TheVariants.{Usage}
+use Rattle.tup_top.specs.declared.order.OrderFault.TheVariants.{Usage, Memory}
 
 -- what the words ask for, or the place of the first that can't stand, counted from 1; a word that is missing has the place
 -- behind the last
@@ -46,7 +46,8 @@ order (word ∷ words) =
     else if says (codes "demo") word then alone Demo words
     else Err 1
 
--- what the words are answered as
-abbrev pub answer_of : Wanted → Result Order OrderFault
-answer_of (Ok order) = Ok order
-answer_of (Err place) = Err (Usage place)
+-- what is answered to the words: what they ask for, or the place of the first that can't stand, but for want of memory
+abbrev pub Answers : Wanted → Result Order OrderFault → Type 0
+Answers wanted (Ok order) = wanted ≡ Ok order
+Answers wanted (Err (Usage place)) = wanted ≡ Err place
+Answers wanted (Err Memory) = ⊤

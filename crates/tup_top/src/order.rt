@@ -1,9 +1,7 @@
 //! The words of the command line.
 ghost use Rattle.std.specs.Prelude.{◌≡◌, ◌≤◌, None};
-ghost use Rattle.tup_path.specs.Gives.{GivesUnless};
 ghost use Rattle.tup_top.specs.Order as specs;
-ghost use Rattle.tup_top.specs.Order.{answer_of, order};
-ghost use Rattle.tup_top.specs.declared.order.OrderFault.TheVariants.{Memory};
+ghost use Rattle.tup_top.specs.Order.{Answers, order};
 
 use std::alloc::AllocError;
 use thiserror::Error;
@@ -47,7 +45,7 @@ impl From<AllocError> for OrderFault {
 
 /// What the words ask for. No words mean an update, and so do options without an order.
 pub fn order_of(words: &[Word]) -> Result<Order, OrderFault>
-    ensures { GivesUnless result Memory (answer_of (order words.now)) }
+    ensures { Answers (order words.now) result }
 {
     let Some((first, rest)) = words.split_first() else {
         return Ok(Order::Upd { program: None });
@@ -71,7 +69,7 @@ fn is_option(word: &Word) -> bool
 
 /// An order that takes no further words.
 fn alone(order: Order, rest: &[Word]) -> Result<Order, OrderFault>
-    ensures { result ≡ answer_of (specs.alone order rest.now) }
+    ensures { Answers (specs.alone order rest.now) result }
 {
     if rest.is_empty() {
         Ok(order)
@@ -83,7 +81,7 @@ fn alone(order: Order, rest: &[Word]) -> Result<Order, OrderFault>
 /// The options of an update; the first of them stands at this place, 1 or 2.
 fn options(words: &[Word], place: u32) -> Result<Order, OrderFault>
     requires { place ≤ 2 }
-    ensures { GivesUnless result Memory (answer_of (specs.options place None words.now)) }
+    ensures { Answers (specs.options place None words.now) result }
 {
     let Some((option, rest)) = words.split_first() else {
         return Ok(Order::Upd { program: None });
