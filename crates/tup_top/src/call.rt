@@ -1,5 +1,5 @@
 //! The top call.
-ghost use Rattle.std.specs.Prelude.{◌≡◌, [], IsTrue, map};
+ghost use Rattle.std.specs.Prelude.{IsTrue, map};
 ghost use Rattle.tup_update.specs.Outcome.{ExactlyTheFiles, SourcesStay, NothingForgotten, HasCause};
 ghost use Rattle.tup_top.specs.Order.{order};
 ghost use Rattle.tup_top.specs.Crew.{IsCrew, CrewRuns, RanFits, NothingRun};
@@ -88,24 +88,24 @@ pub fn tup<S: Site, R: Runner, K: Sink>(
                 ran,
             }
         }
-        Ok(Order::Demo) => idle(alloc, demo(alloc, out), site, crew),
-        Err(OrderFault::Usage { place }) => idle(alloc, refuse(alloc, place, out), site, crew),
-        Err(OrderFault::Memory) => idle(alloc, Status::Memory, site, crew),
-    }
-}
-
-/// What is left where the crew ran nothing.
-fn idle<S: Site, R: Runner>(alloc: Global, status: Status, site: S, crew: Vec<R>) -> Ran<S, R>
-    ensures status { result.status ≡ status }
-    ensures site { result.site ≡ site }
-    ensures crew { result.crew.items ≡ crew.items }
-    ensures ran { result.ran ≡ [] }
-{
-    Ran {
-        status,
-        site,
-        crew,
-        ran: Items::new(alloc),
+        Ok(Order::Demo) => Ran {
+            status: demo(alloc, out),
+            site,
+            crew,
+            ran: Items::new(alloc),
+        },
+        Err(OrderFault::Usage { place }) => Ran {
+            status: refuse(alloc, place, out),
+            site,
+            crew,
+            ran: Items::new(alloc),
+        },
+        Err(OrderFault::Memory) => Ran {
+            status: Status::Memory,
+            site,
+            crew,
+            ran: Items::new(alloc),
+        },
     }
 }
 

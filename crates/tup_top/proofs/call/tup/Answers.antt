@@ -1,7 +1,12 @@
-use Rattle.std.proofs.Common.{refl}
+use Rattle.std.proofs.Common.{inl, inr, refl}
+use Rattle.tup_update.specs.Log.{whole_log}
+use Rattle.tup_update.specs.Outcome.{ExactlyTheFiles, NothingForgotten, HasCause}
+use Rattle.tup_top.specs.Crew.{CrewRuns, RanFits}
+use Rattle.tup_top.specs.Order.{order}
 use Rattle.tup_top.specs.Promise.{counts}
 use Rattle.tup_top.specs.Status.{came_to}
 use Rattle.tup_top.proofs.Crewed.{crew_cause, crew_runs}
+use Rattle.tup_top.proofs.Idle.{memory_for_update, memory_tells, memory_cause, memory_runs, memory_prints}
 use Rattle.tup_top.proofs.Success.{succeeds_so, sources_stay_so}
 use Rattle.tup_top.proofs.call.tup.Goals as goal
 
@@ -23,5 +28,7 @@ returns-in-Ok-Upd-clause-ran g c = λ tells.
 pub returns-in-Ok-Demo-clause-sources_stay : goal.returns-in-Ok-Demo-clause-sources_stay
 returns-in-Ok-Demo-clause-sources_stay g c = λ _. sources_stay_so (g.S.Site.world c.args.site)
 
-pub returns-in-Err-clause-sources_stay : goal.returns-in-Err-clause-sources_stay
-returns-in-Err-clause-sources_stay g c = λ _. sources_stay_so (g.S.Site.world c.args.site)
+pub returns-in-Err-Usage-clause-sources_stay : goal.returns-in-Err-Usage-clause-sources_stay
+returns-in-Err-Usage-clause-sources_stay g c = λ _. sources_stay_so (g.S.Site.world c.args.site)
+
+-- no memory to read the words: nothing was done
