@@ -1,5 +1,5 @@
 -- The runners of one call: what they count, and what they ran.
-use Rattle.std.specs.Prelude.{◌≡◌, ◌≢◌, ◌<◌, ◌≤◌, ℕ, List, [], ◌∷◌, length, Option, None, Some, Ok, slice_get}
+use Rattle.std.specs.Prelude.{◌≡◌, ◌<◌, ◌≤◌, ℕ, List, [], ◌∷◌, length, Option, None, Some, slice_get}
 use Rattle.tup_path.specs.Count.{Rose}
 use Rattle.tup_path.specs.Name.{Names}
 use Rattle.tup_site.specs.World.{World}
@@ -9,8 +9,7 @@ use Rattle.tup_update.specs.Log.{IsFront, whole_log}
 use Rattle.tup_update.specs.Ran.{RunsThese}
 use Rattle.tup_update.specs.declared.stop.Stop.{Stop}
 use Rattle.tup_update.specs.declared.stop.Stop.TheVariants.{BadStore, Parse, Bad, Run, Outside}
-use Rattle.tup_top.specs.declared.order.Order.TheVariants.{Upd}
-use Rattle.tup_top.specs.Order.{Wanted}
+use Rattle.tup_top.specs.Order.{Wanted, IsUpdate}
 
 -- a crew has a runner, and at most 16
 abbrev pub IsCrew : {R : Type 0} → List R → Type 0
@@ -43,4 +42,4 @@ CrewRuns ran before [] stopped = ⊥
 
 -- only an update has the crew run anything
 abbrev pub NothingRun : {R : Type 0} → Wanted → List R → List R → List RuleName → Type 0
-NothingRun {R} wanted before now ran = wanted ≢ Ok Upd → (now ≡ before) × (ran ≡ [])
+NothingRun {R} wanted before now ran = (IsUpdate wanted → ⊥) → (now ≡ before) × (ran ≡ [])

@@ -1,27 +1,53 @@
 -- What the words of a command line ask for (own). A word that isn't known here can't stand anywhere.
-use Rattle.std.specs.Prelude.{ℕ, if◌then◌else◌, List, [], ◌∷◌, Result, Ok, Err, codes, bytes_eq}
+use Rattle.std.specs.Prelude.{◌≡◌, ◌+◌, ◌==◌, ℕ, ⊤, Bool, false, if◌then◌else◌, List, [], ◌∷◌, Option, None, Some, Result, Ok, Err, codes, bytes_eq}
 use Rattle.tup_top.specs.declared.order.Word.{Word}
 use Rattle.tup_top.specs.declared.order.Order.{Order}
 use Rattle.tup_top.specs.declared.order.Order.TheVariants.{Upd, Demo}
 use Rattle.tup_top.specs.declared.order.OrderFault.{OrderFault}
+use Rattle.tup_top.specs.declared.order.OrderFault.TheVariants.{Usage, Memory}
 
--- what the words ask for, or the place of the first that can't stand
+-- what the words ask for, or the place of the first that can't stand, counted from 1; a word that is missing has the place
+-- behind the last
 abbrev pub Wanted : Type 0
-Wanted = Result Order OrderFault
+Wanted = Result Order ℕ
 
--- the word at this place can't stand there
-abbrev pub cannot_stand : ℕ → Wanted
-cannot_stand place = Err (record { place = place })
+-- the words ask for an update
+abbrev pub IsUpdate : Wanted → Type 0
+IsUpdate (Ok (Upd program)) = ⊤
+IsUpdate (Ok Demo) = ⊥
+IsUpdate (Err place) = ⊥
+
+-- whether a word says this
+abbrev pub says : List ℕ → Word → Bool
+says text word = bytes_eq word.0 text
+
+-- whether a word is an option
+abbrev pub is_option : Word → Bool
+is_option word = elim word.0 [ [] ↦ false | byte ∷ rest ↦ byte == 45 ]
+
+-- the options of an update from a place on, behind those that give this program: each stands once, in any order
+abbrev pub options : ℕ → Option (List ℕ) → List Word → Wanted
+options place program [] = Ok (Upd program)
+options place (Some given) (word ∷ words) = Err place
+options place None (word ∷ []) = if says (codes "--proc") word then Err (place + 1) else Err place
+options place None (word ∷ program ∷ words) = if says (codes "--proc") word then options (place + 2) (Some program.0) words else Err place
 
 -- an order that takes no further words
 abbrev pub alone : Order → List Word → Wanted
 alone order [] = Ok order
-alone order (word ∷ words) = cannot_stand 2
+alone order (word ∷ words) = Err 2
 
--- no words mean an update
+-- no words mean an update, and so do options without an order
 abbrev pub order : List Word → Wanted
-order [] = Ok Upd
+order [] = Ok (Upd None)
 order (word ∷ words) =
-    if bytes_eq word.0 (codes "upd") then alone Upd words
-    else if bytes_eq word.0 (codes "demo") then alone Demo words
-    else cannot_stand 1
+    if is_option word then options 1 None (word ∷ words)
+    else if says (codes "upd") word then options 2 None words
+    else if says (codes "demo") word then alone Demo words
+    else Err 1
+
+-- what is answered to the words: what they ask for, or the place of the first that can't stand, but for want of memory
+abbrev pub Answers : Wanted → Result Order OrderFault → Type 0
+Answers wanted (Ok order) = wanted ≡ Ok order
+Answers wanted (Err (Usage place)) = wanted ≡ Err place
+Answers wanted (Err Memory) = ⊤

@@ -59,6 +59,6 @@ demo_world = record { tree = tree_of_files demo_files; store = [] }
 
 -- the lines of what was asked for: of the update, of the demo's update, or the line of the refusal
 abbrev pub Printed : Wanted → Next → World → ℕ → ℕ → List ℕ → List ℕ → Status → Type 0
-Printed (Ok Upd) next world before now old new answer = PrintsUpdate next world before now old new answer
+Printed (Ok (Upd program)) next world before now old new answer = PrintsUpdate next world before now old new answer
 Printed (Ok Demo) next world before now old new answer = PrintsUpdate mini_next demo_world before now old new answer
-Printed (Err fault) next world before now old new answer = Prints (last_line (Usage fault.place)) before now old new answer
+Printed (Err place) next world before now old new answer = Prints (last_line (Usage place)) before now old new answer

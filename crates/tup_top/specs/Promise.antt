@@ -12,23 +12,22 @@ use Rattle.tup_update.specs.Log.{whole_log}
 use Rattle.tup_update.specs.Sources.{rules_read, rules, build}
 use Rattle.tup_update.specs.declared.stop.Stop.{Stop}
 use Rattle.tup_top.specs.Status.{status_of, came_to}
-use Rattle.tup_top.specs.Order.{Wanted}
+use Rattle.tup_top.specs.Order.{Wanted, IsUpdate}
 use Rattle.tup_top.specs.Crew.{OneRose}
 use Rattle.tup_top.specs.declared.order.Order.TheVariants.{Upd, Demo}
-use Rattle.tup_top.specs.declared.order.OrderFault.{OrderFault}
 use Rattle.tup_top.specs.declared.status.Status.{Status}
 use Rattle.tup_top.specs.declared.status.Status.TheVariants.{Done, Usage, SiteFault, RunFault, SinkFault, Limit, Memory}
 use Rattle.tup_top.specs.declared.status.What.TheVariants.{FileSize}
 
 -- a promise of an update, of what the update came to
 abbrev pub ForUpdate : Wanted → Status → (Option Stop → Type 0) → Type 0
-ForUpdate (Ok Upd) status promise = IfSome (came_to status) promise
+ForUpdate (Ok (Upd program)) status promise = IfSome (came_to status) promise
 ForUpdate (Ok Demo) status promise = ⊤
-ForUpdate (Err fault) status promise = ⊤
+ForUpdate (Err place) status promise = ⊤
 
 -- only an update changes anything
 abbrev pub NothingDone : Wanted → World → World → Type 0
-NothingDone wanted old new = wanted ≢ Ok Upd → new ≡ old
+NothingDone wanted old new = (IsUpdate wanted → ⊥) → new ≡ old
 
 -- what is counted as done is all that there was to do
 abbrev pub CountsAll : Next → World → Status → Type 0
@@ -37,9 +36,9 @@ CountsAll next old other = ⊤
 
 -- an update says so
 abbrev pub TellsWhatWasDone : Wanted → Next → World → Status → Type 0
-TellsWhatWasDone (Ok Upd) next old status = CountsAll next old status
+TellsWhatWasDone (Ok (Upd program)) next old status = CountsAll next old status
 TellsWhatWasDone (Ok Demo) next old status = ⊤
-TellsWhatWasDone (Err fault) next old status = ⊤
+TellsWhatWasDone (Err place) next old status = ⊤
 
 -- the failures that a site, the runners of a crew and a sink have counted
 pub record Counts : Type 0 where
@@ -77,16 +76,16 @@ HasDemoCause before now RunFault = ⊥
 HasDemoCause before now other = ⊤
 
 -- where a word can't stand, only its place is answered
-abbrev pub IsRefusal : OrderFault → Status → Type 0
-IsRefusal fault (Usage place) = place ≡ fault.place
-IsRefusal fault Memory = ⊤
-IsRefusal fault other = ⊥
+abbrev pub IsRefusal : ℕ → Status → Type 0
+IsRefusal wrong (Usage place) = place ≡ wrong
+IsRefusal wrong Memory = ⊤
+IsRefusal wrong other = ⊥
 
 -- the causes of every order
 abbrev pub HasPlainCause : Wanted → Counts → Counts → Status → Type 0
-HasPlainCause (Ok Upd) before now status = HasCountedCause before now status
+HasPlainCause (Ok (Upd program)) before now status = HasCountedCause before now status
 HasPlainCause (Ok Demo) before now status = AreSteady before now × HasDemoCause before.sink now.sink status
-HasPlainCause (Err fault) before now status = AreSteady before now × IsRefusal fault status
+HasPlainCause (Err place) before now status = AreSteady before now × IsRefusal place status
 
 -- no count of failures rose, and none stands at its end
 pub record NothingFailed (before now : Counts) : Type 0 where
@@ -113,4 +112,4 @@ IsDoneOrMemory other = ⊥
 
 -- an update that nothing stands in the way of is done, but for want of memory
 abbrev pub Succeeds : Wanted → Next → World → World → Counts → Counts → Status → Type 0
-Succeeds wanted next old new before now status = wanted ≡ Ok Upd → IsClear next old new → NothingFailed before now → IsDoneOrMemory status
+Succeeds wanted next old new before now status = IsUpdate wanted → IsClear next old new → NothingFailed before now → IsDoneOrMemory status

@@ -77,7 +77,7 @@ pub fn tup<S: Site, R: Runner, K: Sink>(
         result.status }
 {
     match order_of(words) {
-        Ok(Order::Upd) => {
+        Ok(Order::Upd { .. }) => {
             let mut site = site;
             let mut crew = crew;
             let Updated { status, ran } = update(alloc, &mut site, &mut crew[0], out);
@@ -94,8 +94,14 @@ pub fn tup<S: Site, R: Runner, K: Sink>(
             crew,
             ran: Items::new(alloc),
         },
-        Err(fault) => Ran {
-            status: refuse(alloc, fault, out),
+        Err(OrderFault::Usage { place }) => Ran {
+            status: refuse(alloc, place, out),
+            site,
+            crew,
+            ran: Items::new(alloc),
+        },
+        Err(OrderFault::Memory) => Ran {
+            status: Status::Memory,
             site,
             crew,
             ran: Items::new(alloc),
@@ -104,13 +110,13 @@ pub fn tup<S: Site, R: Runner, K: Sink>(
 }
 
 /// Prints the line of a word that can't stand where it stands.
-fn refuse<K: Sink>(alloc: Global, fault: OrderFault, out: &mut K) -> Status
-    ensures cause { IsRefusal fault result }
+fn refuse<K: Sink>(alloc: Global, place: u32, out: &mut K) -> Status
+    ensures cause { IsRefusal place result }
     ensures printed { IsTrue K.tells
         → let before = K.faults out.old in let now = K.faults out.new in
-        Prints (line_of (Usage fault.place)) before now (K.held out.old) (K.held out.new) result }
+        Prints (line_of (Usage place)) before now (K.held out.old) (K.held out.new) result }
 {
-    let status = Status::Usage { place: fault.place };
+    let status = Status::Usage { place };
     let Ok(line) = last_line(alloc, &status) else {
         return Status::Memory;
     };

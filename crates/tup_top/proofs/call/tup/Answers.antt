@@ -1,7 +1,12 @@
-use Rattle.std.proofs.Common.{refl}
+use Rattle.std.proofs.Common.{inl, inr, refl, [], map}
+use Rattle.tup_update.specs.Log.{whole_log}
+use Rattle.tup_update.specs.Outcome.{ExactlyTheFiles, NothingForgotten, HasCause}
+use Rattle.tup_top.specs.Crew.{CrewRuns, RanFits}
+use Rattle.tup_top.specs.Order.{order}
 use Rattle.tup_top.specs.Promise.{counts}
 use Rattle.tup_top.specs.Status.{came_to}
 use Rattle.tup_top.proofs.Crewed.{crew_cause, crew_runs}
+use Rattle.tup_top.proofs.Idle.{memory_for_update, memory_tells, memory_cause, memory_runs, memory_prints}
 use Rattle.tup_top.proofs.Success.{succeeds_so, sources_stay_so}
 use Rattle.tup_top.proofs.call.tup.Goals as goal
 
@@ -23,5 +28,39 @@ returns-in-Ok-Upd-clause-ran g c = λ tells.
 pub returns-in-Ok-Demo-clause-sources_stay : goal.returns-in-Ok-Demo-clause-sources_stay
 returns-in-Ok-Demo-clause-sources_stay g c = λ _. sources_stay_so (g.S.Site.world c.args.site)
 
-pub returns-in-Err-clause-sources_stay : goal.returns-in-Err-clause-sources_stay
-returns-in-Err-clause-sources_stay g c = λ _. sources_stay_so (g.S.Site.world c.args.site)
+pub returns-in-Err-Usage-clause-sources_stay : goal.returns-in-Err-Usage-clause-sources_stay
+returns-in-Err-Usage-clause-sources_stay g c = λ _. sources_stay_so (g.S.Site.world c.args.site)
+
+-- no memory to read the words: nothing was done
+
+pub returns-in-Err-Memory-clause-exactly_the_files : goal.returns-in-Err-Memory-clause-exactly_the_files
+returns-in-Err-Memory-clause-exactly_the_files g c = λ _ _.
+    memory_for_update (order c.args.words.now) (ExactlyTheFiles g.R.Runner.next (g.S.Site.world c.args.site) (g.S.Site.world c.args.site)) tt
+
+pub returns-in-Err-Memory-clause-sources_stay : goal.returns-in-Err-Memory-clause-sources_stay
+returns-in-Err-Memory-clause-sources_stay g c = λ _. sources_stay_so (g.S.Site.world c.args.site)
+
+pub returns-in-Err-Memory-clause-nothing_forgotten : goal.returns-in-Err-Memory-clause-nothing_forgotten
+returns-in-Err-Memory-clause-nothing_forgotten g c = λ _ _.
+    memory_for_update (order c.args.words.now) (NothingForgotten g.R.Runner.next (g.S.Site.world c.args.site) (g.S.Site.world c.args.site)) (inr (inl refl))
+
+pub returns-in-Err-Memory-clause-begun : goal.returns-in-Err-Memory-clause-begun
+returns-in-Err-Memory-clause-begun g c = λ _ _.
+    memory_for_update (order c.args.words.now) (RanFits g.R.Runner.next (g.S.Site.world c.args.site) []) ((whole_log g.R.Runner.next (g.S.Site.world c.args.site)).ran, refl)
+
+pub returns-in-Err-Memory-clause-ran : goal.returns-in-Err-Memory-clause-ran
+returns-in-Err-Memory-clause-ran g c = λ _.
+    memory_for_update (order c.args.words.now) (CrewRuns [] (map g.R.Runner.ran c.args.crew.items) (map g.R.Runner.ran c.args.crew.items)) (memory_runs g.R.Runner.ran c.args.crew.items c.requires.0)
+
+pub returns-in-Err-Memory-clause-cause : goal.returns-in-Err-Memory-clause-cause
+returns-in-Err-Memory-clause-cause g c = λ _ _.
+    memory_for_update (order c.args.words.now) (HasCause g.R.Runner.next (g.S.Site.world c.args.site) (g.S.Site.world c.args.site)) tt
+
+pub returns-in-Err-Memory-clause-plain_cause : goal.returns-in-Err-Memory-clause-plain_cause
+returns-in-Err-Memory-clause-plain_cause g c = memory_cause (order c.args.words.now) (counts g.S.Site.faults g.R.Runner.faults g.K.Sink.faults c.args.site c.args.crew.items c.args.out.now)
+
+pub returns-in-Err-Memory-clause-told : goal.returns-in-Err-Memory-clause-told
+returns-in-Err-Memory-clause-told g c = λ _ _. memory_tells (order c.args.words.now) g.R.Runner.next (g.S.Site.world c.args.site)
+
+pub returns-in-Err-Memory-clause-printed : goal.returns-in-Err-Memory-clause-printed
+returns-in-Err-Memory-clause-printed g c = λ _ _ _. memory_prints (order c.args.words.now) g.R.Runner.next (g.S.Site.world c.args.site) (g.K.Sink.faults c.args.out.now) (g.K.Sink.held c.args.out.now)
