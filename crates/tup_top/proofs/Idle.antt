@@ -1,17 +1,15 @@
 -- A call that found no memory to read its words did nothing.
-use Rattle.std.proofs.Common.{◌≡◌, inl, inr, ℕ, ◌<◌, List, [], ◌∷◌, length, map, Option, None, Some, Ok, Err, refl, sym, append-nil, arith}
-use Rattle.tup_path.specs.Name.{Names}
+use Rattle.std.proofs.Common.{ℕ, List, Option, Some, Ok, Err}
 use Rattle.tup_site.specs.World.{World}
 use Rattle.tup_site.specs.declared.fault.SiteFailed.TheVariants.{Memory as NoMemory}
 use Rattle.tup_runner.specs.Next.{Next}
 use Rattle.tup_mini.specs.Means.{mini_next}
 use Rattle.tup_update.specs.declared.stop.Stop.{Stop}
 use Rattle.tup_update.specs.declared.stop.Stop.TheVariants.{Outside}
-use Rattle.tup_top.specs.Crew.{CrewRuns}
 use Rattle.tup_top.specs.Lines.{last_line}
 use Rattle.tup_top.specs.Order.{Wanted}
 use Rattle.tup_top.specs.Printed.{Printed, demo_world}
-use Rattle.tup_top.specs.Promise.{ForUpdate, TellsWhatWasDone, Counts, HasPlainCause}
+use Rattle.tup_top.specs.Promise.{ForUpdate}
 use Rattle.tup_top.specs.declared.order.Order.TheVariants.{Upd, Demo}
 use Rattle.tup_top.specs.declared.status.Status.TheVariants.{Usage, Memory}
 use Rattle.tup_top.proofs.Causes.{prints_nothing, prints_no_update}
@@ -22,20 +20,7 @@ memory_for_update (Ok (Upd program)) P p = p
 memory_for_update (Ok Demo) P p = tt
 memory_for_update (Err place) P p = tt
 
-pub memory_tells : (wanted : Wanted) (next : Next) (old : World) → TellsWhatWasDone wanted next old Memory
-memory_tells (Ok (Upd program)) next old = tt
-memory_tells (Ok Demo) next old = tt
-memory_tells (Err place) next old = tt
-
-pub memory_cause : (wanted : Wanted) (counted : Counts) → HasPlainCause wanted counted counted Memory
-memory_cause (Ok (Upd program)) counted = tt
-memory_cause (Ok Demo) counted = ((refl, refl), tt)
-memory_cause (Err place) counted = ((refl, refl), tt)
-
-pub memory_runs : {R : Type 0} (ran_by : R → List (Names × List ℕ)) (crew : List R) → 0 < length crew → CrewRuns [] (map ran_by crew) (map ran_by crew) (Some (Outside NoMemory))
-memory_runs {R} ran_by [] some = absurd (omega (arith, some))
-memory_runs {R} ran_by (one ∷ others) some = (inl (sym (append-nil (ran_by one))), refl)
-
+-- and what is printed then
 pub memory_prints : (wanted : Wanted) (next : Next) (old : World) (count : ℕ) (held : List ℕ) → Printed wanted next old count count held held Memory
 memory_prints (Ok (Upd program)) next old count held = prints_no_update next old count count held
 memory_prints (Ok Demo) next old count held = prints_no_update mini_next demo_world count count held

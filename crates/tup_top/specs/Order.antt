@@ -25,25 +25,28 @@ says text word = bytes_eq word.0 text
 abbrev pub is_option : Word → Bool
 is_option word = elim word.0 [ [] ↦ false | byte ∷ rest ↦ byte == 45 ]
 
--- the options of an update from a place on, behind those that give this program: each stands once, in any order
-abbrev pub options : ℕ → Option (List ℕ) → List Word → Wanted
-options place program [] = Ok (Upd program)
-options place (Some given) (word ∷ words) = Err place
-options place None (word ∷ []) = if says (codes "--proc") word then Err (place + 1) else Err place
-options place None (word ∷ program ∷ words) = if says (codes "--proc") word then options (place + 2) (Some program.0) words else Err place
+-- an order that takes no further words, of which the first would stand at a place
+abbrev pub alone : ℕ → Order → List Word → Wanted
+alone place order [] = Ok order
+alone place order (word ∷ words) = Err place
 
--- an order that takes no further words
-abbrev pub alone : Order → List Word → Wanted
-alone order [] = Ok order
-alone order (word ∷ words) = Err 2
+-- an update by a program, which is the word at a place
+abbrev pub program : ℕ → List Word → Wanted
+program place [] = Err place
+program place (word ∷ words) = alone (place + 1) (Upd (Some word.0)) words
+
+-- the options of an update, from a place on
+abbrev pub options : ℕ → List Word → Wanted
+options place [] = Ok (Upd None)
+options place (word ∷ words) = if says (codes "--proc") word then program (place + 1) words else Err place
 
 -- no words mean an update, and so do options without an order
 abbrev pub order : List Word → Wanted
 order [] = Ok (Upd None)
 order (word ∷ words) =
-    if is_option word then options 1 None (word ∷ words)
-    else if says (codes "upd") word then options 2 None words
-    else if says (codes "demo") word then alone Demo words
+    if is_option word then options 1 (word ∷ words)
+    else if says (codes "upd") word then options 2 words
+    else if says (codes "demo") word then alone 2 Demo words
     else Err 1
 
 -- what is answered to the words: what they ask for, or the place of the first that can't stand, but for want of memory

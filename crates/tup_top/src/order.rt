@@ -1,5 +1,5 @@
 //! The words of the command line.
-ghost use Rattle.std.specs.Prelude.{◌≡◌, ◌≤◌, None};
+ghost use Rattle.std.specs.Prelude.{◌≡◌, ◌≤◌};
 ghost use Rattle.tup_top.specs.Order as specs;
 ghost use Rattle.tup_top.specs.Order.{Answers, order};
 
@@ -55,7 +55,7 @@ pub fn order_of(words: &[Word]) -> Result<Order, OrderFault>
     }
     match first.0.as_str() {
         "upd" => options(rest, 2),
-        "demo" => alone(Order::Demo, rest),
+        "demo" => alone(Order::Demo, rest, 2),
         _ => Err(OrderFault::Usage { place: 1 }),
     }
 }
@@ -67,36 +67,45 @@ fn is_option(word: &Word) -> bool
     matches!(word.0.as_str().as_bytes(), [b'-', ..])
 }
 
-/// An order that takes no further words.
-fn alone(order: Order, rest: &[Word]) -> Result<Order, OrderFault>
-    ensures { Answers (specs.alone order rest.now) result }
+/// An order that takes no further words; the first of them would stand at this place.
+fn alone(order: Order, rest: &[Word], place: u32) -> Result<Order, OrderFault>
+    ensures { Answers (specs.alone place order rest.now) result }
 {
     if rest.is_empty() {
         Ok(order)
     } else {
-        Err(OrderFault::Usage { place: 2 })
+        Err(OrderFault::Usage { place })
     }
 }
 
 /// The options of an update; the first of them stands at this place, 1 or 2.
 fn options(words: &[Word], place: u32) -> Result<Order, OrderFault>
     requires { place ≤ 2 }
-    ensures { Answers (specs.options place None words.now) result }
+    ensures { Answers (specs.options place words.now) result }
 {
     let Some((option, rest)) = words.split_first() else {
         return Ok(Order::Upd { program: None });
     };
-    if option.0.as_str() != "--proc" {
+    match option.0.as_str() {
+        "--proc" => program(rest, place + 1),
+        _ => Err(OrderFault::Usage { place }),
+    }
+}
+
+/// An update by a program, which is the word at this place, at most 3.
+fn program(words: &[Word], place: u32) -> Result<Order, OrderFault>
+    requires { place ≤ 3 }
+    ensures { Answers (specs.program place words.now) result }
+{
+    let Some((word, rest)) = words.split_first() else {
         return Err(OrderFault::Usage { place });
-    }
-    let Some((program, rest)) = rest.split_first() else {
-        return Err(OrderFault::Usage { place: place + 1 });
     };
-    if !rest.is_empty() {
-        return Err(OrderFault::Usage { place: place + 2 });
-    }
-    let program = program.0.clone()?;
-    Ok(Order::Upd {
-        program: Some(program),
-    })
+    let program = word.0.clone()?;
+    alone(
+        Order::Upd {
+            program: Some(program),
+        },
+        rest,
+        place + 1,
+    )
 }

@@ -1,12 +1,11 @@
-use Rattle.std.proofs.Common.{inl, inr, refl, [], map}
+use Rattle.std.proofs.Common.{rules, refl, []}
 use Rattle.tup_update.specs.Log.{whole_log}
-use Rattle.tup_update.specs.Outcome.{ExactlyTheFiles, NothingForgotten, HasCause}
-use Rattle.tup_top.specs.Crew.{CrewRuns, RanFits}
+use Rattle.tup_top.specs.Crew.{RanFits}
 use Rattle.tup_top.specs.Order.{order}
 use Rattle.tup_top.specs.Promise.{counts}
 use Rattle.tup_top.specs.Status.{came_to}
 use Rattle.tup_top.proofs.Crewed.{crew_cause, crew_runs}
-use Rattle.tup_top.proofs.Idle.{memory_for_update, memory_tells, memory_cause, memory_runs, memory_prints}
+use Rattle.tup_top.proofs.Idle.{memory_for_update, memory_prints}
 use Rattle.tup_top.proofs.Success.{succeeds_so, sources_stay_so}
 use Rattle.tup_top.proofs.call.tup.Goals as goal
 
@@ -15,15 +14,15 @@ returns-in-Ok-Upd-clause-success g c = λ tells means _ clear fine.
     succeeds_so g.R.Runner.next (g.S.Site.world c.args.site) (g.S.Site.world c.update-status.new.site)
     (counts g.S.Site.faults g.R.Runner.faults g.K.Sink.faults c.args.site c.args.crew.items c.args.out.now) (counts g.S.Site.faults g.R.Runner.faults g.K.Sink.faults c.update-status.new.site _ c.update-status.new.out)
     c.update-status.result.status (c.update-status.ensures.cause tells means)
-    (crew_cause g.R.Runner.faults c.args.crew.items _ _ _ _ _ _ c.update-status.result.status refl c.update-status.ensures.counted_cause) clear fine
+    (crew_cause g.R.Runner.faults c.args.crew.items _ _ _ _ _ _ c.update-status.result.status (search rules) c.update-status.ensures.counted_cause) clear fine
 
 pub returns-in-Ok-Upd-clause-plain_cause : goal.returns-in-Ok-Upd-clause-plain_cause
 returns-in-Ok-Upd-clause-plain_cause g c =
-    crew_cause g.R.Runner.faults c.args.crew.items _ _ _ _ _ _ c.update-status.result.status refl c.update-status.ensures.counted_cause
+    crew_cause g.R.Runner.faults c.args.crew.items _ _ _ _ _ _ c.update-status.result.status (search rules) c.update-status.ensures.counted_cause
 
 pub returns-in-Ok-Upd-clause-ran : goal.returns-in-Ok-Upd-clause-ran
 returns-in-Ok-Upd-clause-ran g c = λ tells.
-    crew_runs g.R.Runner.ran c.args.crew.items _ _ _ (came_to c.update-status.result.status) refl (c.update-status.ensures.ran tells)
+    crew_runs g.R.Runner.ran c.args.crew.items _ _ _ (came_to c.update-status.result.status) c.show_the_fields (c.update-status.ensures.ran tells)
 
 pub returns-in-Ok-Demo-clause-sources_stay : goal.returns-in-Ok-Demo-clause-sources_stay
 returns-in-Ok-Demo-clause-sources_stay g c = λ _. sources_stay_so (g.S.Site.world c.args.site)
@@ -33,34 +32,12 @@ returns-in-Err-Usage-clause-sources_stay g c = λ _. sources_stay_so (g.S.Site.w
 
 -- no memory to read the words: nothing was done
 
-pub returns-in-Err-Memory-clause-exactly_the_files : goal.returns-in-Err-Memory-clause-exactly_the_files
-returns-in-Err-Memory-clause-exactly_the_files g c = λ _ _.
-    memory_for_update (order c.args.words.now) (ExactlyTheFiles g.R.Runner.next (g.S.Site.world c.args.site) (g.S.Site.world c.args.site)) tt
+pub returns-clause-sources_stay : goal.returns-clause-sources_stay
+returns-clause-sources_stay g c = λ _. sources_stay_so (g.S.Site.world c.args.site)
 
-pub returns-in-Err-Memory-clause-sources_stay : goal.returns-in-Err-Memory-clause-sources_stay
-returns-in-Err-Memory-clause-sources_stay g c = λ _. sources_stay_so (g.S.Site.world c.args.site)
-
-pub returns-in-Err-Memory-clause-nothing_forgotten : goal.returns-in-Err-Memory-clause-nothing_forgotten
-returns-in-Err-Memory-clause-nothing_forgotten g c = λ _ _.
-    memory_for_update (order c.args.words.now) (NothingForgotten g.R.Runner.next (g.S.Site.world c.args.site) (g.S.Site.world c.args.site)) (inr (inl refl))
-
-pub returns-in-Err-Memory-clause-begun : goal.returns-in-Err-Memory-clause-begun
-returns-in-Err-Memory-clause-begun g c = λ _ _.
+pub returns-clause-begun : goal.returns-clause-begun
+returns-clause-begun g c = λ _ _.
     memory_for_update (order c.args.words.now) (RanFits g.R.Runner.next (g.S.Site.world c.args.site) []) ((whole_log g.R.Runner.next (g.S.Site.world c.args.site)).ran, refl)
 
-pub returns-in-Err-Memory-clause-ran : goal.returns-in-Err-Memory-clause-ran
-returns-in-Err-Memory-clause-ran g c = λ _.
-    memory_for_update (order c.args.words.now) (CrewRuns [] (map g.R.Runner.ran c.args.crew.items) (map g.R.Runner.ran c.args.crew.items)) (memory_runs g.R.Runner.ran c.args.crew.items c.requires.0)
-
-pub returns-in-Err-Memory-clause-cause : goal.returns-in-Err-Memory-clause-cause
-returns-in-Err-Memory-clause-cause g c = λ _ _.
-    memory_for_update (order c.args.words.now) (HasCause g.R.Runner.next (g.S.Site.world c.args.site) (g.S.Site.world c.args.site)) tt
-
-pub returns-in-Err-Memory-clause-plain_cause : goal.returns-in-Err-Memory-clause-plain_cause
-returns-in-Err-Memory-clause-plain_cause g c = memory_cause (order c.args.words.now) (counts g.S.Site.faults g.R.Runner.faults g.K.Sink.faults c.args.site c.args.crew.items c.args.out.now)
-
-pub returns-in-Err-Memory-clause-told : goal.returns-in-Err-Memory-clause-told
-returns-in-Err-Memory-clause-told g c = λ _ _. memory_tells (order c.args.words.now) g.R.Runner.next (g.S.Site.world c.args.site)
-
-pub returns-in-Err-Memory-clause-printed : goal.returns-in-Err-Memory-clause-printed
-returns-in-Err-Memory-clause-printed g c = λ _ _ _. memory_prints (order c.args.words.now) g.R.Runner.next (g.S.Site.world c.args.site) (g.K.Sink.faults c.args.out.now) (g.K.Sink.held c.args.out.now)
+pub returns-clause-printed : goal.returns-clause-printed
+returns-clause-printed g c = λ _ _ _. memory_prints (order c.args.words.now) g.R.Runner.next (g.S.Site.world c.args.site) (g.K.Sink.faults c.args.out.now) (g.K.Sink.held c.args.out.now)
