@@ -1,7 +1,6 @@
 -- A crew whose first runner did all: what one runner counts and ran is what the crew does.
-use Rattle.std.proofs.Common.{◌≡◌, ℕ, zero, suc, List, [], ◌∷◌, ◌++◌, map, Option, None, Some, IfSome, refl, sym, ap, subst, ◌∙◌}
+use Rattle.std.proofs.Common.{◌≡◌, ℕ, zero, suc, ◌<◌, List, [], ◌∷◌, length, map, get_or, Option, None, Some, IfSome, refl, ap, subst, arith}
 use Rattle.std.specs.Prelude.{slice_get, slice_set}
-use Rattle.tup_path.specs.Count.{Rose}
 use Rattle.tup_path.specs.Name.{Names}
 use Rattle.tup_rule.specs.declared.rule.RuleName.{RuleName}
 use Rattle.tup_update.specs.Ran.{RunsThese}
@@ -52,20 +51,18 @@ module _ (site_before site_now run_before run_now sink_before sink_now : ℕ) (o
   causes_of_crew Memory cause = tt
 
 -- so they are where the first runner of a crew did all
-pub crew_cause : {R : Type 0} (count : R → ℕ) (crew : List R) (old now : R) (site_before site_now sink_before sink_now : ℕ) (status : Status) → slice_get crew 0 ≡ Some old →
+pub crew_cause : {R : Type 0} (count : R → ℕ) (crew : List R) (old now : R) (site_before site_now sink_before sink_now : ℕ) (status : Status) → 0 < length crew → old ≡ get_or crew 0 old →
     HasCountedCause (of_one site_before (count old) sink_before) (of_one site_now (count now) sink_now) status →
     HasCountedCause (record { site = site_before; runners = map count crew; sink = sink_before }) (record { site = site_now; runners = map count (slice_set crew 0 now); sink = sink_now }) status
-crew_cause {R} count [] old now site_before site_now sink_before sink_now status first cause = absurd (cc first)
-crew_cause {R} count (one ∷ others) old now site_before site_now sink_before sink_now status first cause =
-    let here : one ≡ old = cc first in
-    subst (λ (r : R). HasCountedCause (record { site = site_before; runners = count r ∷ map count others; sink = sink_before }) (record { site = site_now; runners = count now ∷ map count others; sink = sink_now }) status) (sym here)
+crew_cause {R} count [] old now site_before site_now sink_before sink_now status some first cause = absurd (omega (arith, some))
+crew_cause {R} count (one ∷ others) old now site_before site_now sink_before sink_now status some first cause =
+    subst (λ (r : R). HasCountedCause (record { site = site_before; runners = count r ∷ map count others; sink = sink_before }) (record { site = site_now; runners = count now ∷ map count others; sink = sink_now }) status) first
     (causes_of_crew site_before site_now (count old) (count now) sink_before sink_now (map count others) status cause)
 
 -- and what it ran is what the crew ran
-pub crew_runs : {R : Type 0} (ran_by : R → List (Names × List ℕ)) (crew : List R) (old now : R) (ran : List RuleName) (came : Option (Option Stop)) → slice_get crew 0 ≡ Some old →
+pub crew_runs : {R : Type 0} (ran_by : R → List (Names × List ℕ)) (crew : List R) (old now : R) (ran : List RuleName) (came : Option (Option Stop)) → 0 < length crew → old ≡ get_or crew 0 old →
     IfSome came (RunsThese ran (ran_by old) (ran_by now)) → IfSome came (CrewRuns ran (map ran_by crew) (map ran_by (slice_set crew 0 now)))
-crew_runs {R} ran_by crew old now ran None first runs = tt
-crew_runs {R} ran_by [] old now ran (Some stopped) first runs = absurd (cc first)
-crew_runs {R} ran_by (one ∷ others) old now ran (Some stopped) first runs =
-    let here : one ≡ old = cc first in
-    subst (λ (r : R). RunsThese ran (ran_by r) (ran_by now) stopped × (map ran_by others ≡ map ran_by others)) (sym here) (runs, refl)
+crew_runs {R} ran_by crew old now ran None some first runs = tt
+crew_runs {R} ran_by [] old now ran (Some stopped) some first runs = absurd (omega (arith, some))
+crew_runs {R} ran_by (one ∷ others) old now ran (Some stopped) some first runs =
+    subst (λ (r : R). RunsThese ran (ran_by r) (ran_by now) stopped × (map ran_by others ≡ map ran_by others)) first (runs, refl)

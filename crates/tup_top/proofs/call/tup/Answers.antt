@@ -1,8 +1,9 @@
-use Rattle.std.proofs.Common.{rules, refl, []}
+use Rattle.std.proofs.Common.{[], ◌++◌, List, Ok, sym, ap, subst}
+use Rattle.tup_rule.specs.declared.rule.RuleName.{RuleName}
 use Rattle.tup_update.specs.Log.{whole_log}
-use Rattle.tup_top.specs.Crew.{RanFits}
-use Rattle.tup_top.specs.Order.{order}
-use Rattle.tup_top.specs.Promise.{counts}
+use Rattle.tup_top.specs.Crew.{RanFits, CrewRuns}
+use Rattle.tup_top.specs.Order.{Wanted, order}
+use Rattle.tup_top.specs.Promise.{ForUpdate, HasPlainCause, counts}
 use Rattle.tup_top.specs.Status.{came_to}
 use Rattle.tup_top.proofs.Crewed.{crew_cause, crew_runs}
 use Rattle.tup_top.proofs.Idle.{memory_for_update, memory_prints}
@@ -11,18 +12,23 @@ use Rattle.tup_top.proofs.call.tup.Goals as goal
 
 pub returns-in-Ok-Upd-clause-success : goal.returns-in-Ok-Upd-clause-success
 returns-in-Ok-Upd-clause-success g c = λ tells means _ clear fine.
-    succeeds_so g.R.Runner.next (g.S.Site.world c.args.site) (g.S.Site.world c.update-status.new.site)
-    (counts g.S.Site.faults g.R.Runner.faults g.K.Sink.faults c.args.site c.args.crew.items c.args.out.now) (counts g.S.Site.faults g.R.Runner.faults g.K.Sink.faults c.update-status.new.site _ c.update-status.new.out)
-    c.update-status.result.status (c.update-status.ensures.cause tells means)
-    (crew_cause g.R.Runner.faults c.args.crew.items _ _ _ _ _ _ c.update-status.result.status (search rules) c.update-status.ensures.counted_cause) clear fine
+    succeeds_so g.R.Runner.next (g.S.Site.world c.args.site) (g.S.Site.world c.update-status.new.site) _ _ c.update-status.result.status (c.update-status.ensures.cause tells means)
+    (crew_cause g.R.Runner.faults c.args.crew.items c.index_mut.result.now c.update-status.new.runner (g.S.Site.faults c.args.site) (g.S.Site.faults c.update-status.new.site) (g.K.Sink.faults c.args.out.now) (g.K.Sink.faults c.update-status.new.out)
+    c.update-status.result.status c.requires.0 c.index_mut.ensures.value c.update-status.ensures.counted_cause) clear fine
 
 pub returns-in-Ok-Upd-clause-plain_cause : goal.returns-in-Ok-Upd-clause-plain_cause
 returns-in-Ok-Upd-clause-plain_cause g c =
-    crew_cause g.R.Runner.faults c.args.crew.items _ _ _ _ _ _ c.update-status.result.status (search rules) c.update-status.ensures.counted_cause
+    let is = rw c.in-Ok-Upd.is at c.order_of.ensures in
+    subst (λ (w : Wanted). HasPlainCause w _ _ c.update-status.result.status) (sym is)
+    (crew_cause g.R.Runner.faults c.args.crew.items c.index_mut.result.now c.update-status.new.runner (g.S.Site.faults c.args.site) (g.S.Site.faults c.update-status.new.site) (g.K.Sink.faults c.args.out.now) (g.K.Sink.faults c.update-status.new.out)
+    c.update-status.result.status c.requires.0 c.index_mut.ensures.value c.update-status.ensures.counted_cause)
 
 pub returns-in-Ok-Upd-clause-ran : goal.returns-in-Ok-Upd-clause-ran
 returns-in-Ok-Upd-clause-ran g c = λ tells.
-    crew_runs g.R.Runner.ran c.args.crew.items _ _ _ (came_to c.update-status.result.status) c.show_the_fields (c.update-status.ensures.ran tells)
+    let is = rw c.in-Ok-Upd.is at c.order_of.ensures in
+    subst (λ (w : Wanted). ForUpdate w c.update-status.result.status _) (sym is)
+    (crew_runs g.R.Runner.ran c.args.crew.items c.index_mut.result.now c.update-status.new.runner c.update-status.result.ran (came_to c.update-status.result.status) c.requires.0 c.index_mut.ensures.value
+    (c.update-status.ensures.ran tells))
 
 pub returns-in-Ok-Demo-clause-sources_stay : goal.returns-in-Ok-Demo-clause-sources_stay
 returns-in-Ok-Demo-clause-sources_stay g c = λ _. sources_stay_so (g.S.Site.world c.args.site)
@@ -37,7 +43,8 @@ returns-clause-sources_stay g c = λ _. sources_stay_so (g.S.Site.world c.args.s
 
 pub returns-clause-begun : goal.returns-clause-begun
 returns-clause-begun g c = λ _ _.
-    memory_for_update (order c.args.words.now) (RanFits g.R.Runner.next (g.S.Site.world c.args.site) []) ((whole_log g.R.Runner.next (g.S.Site.world c.args.site)).ran, refl)
+    let whole = (whole_log g.R.Runner.next (g.S.Site.world c.args.site)).ran in
+    memory_for_update (order c.args.words.now) (RanFits g.R.Runner.next (g.S.Site.world c.args.site) c.new-in-Err-Memory.result) (whole, ap (λ (l : List RuleName). l ++ whole) c.new-in-Err-Memory.ensures)
 
 pub returns-clause-printed : goal.returns-clause-printed
 returns-clause-printed g c = λ _ _ _. memory_prints (order c.args.words.now) g.R.Runner.next (g.S.Site.world c.args.site) (g.K.Sink.faults c.args.out.now) (g.K.Sink.held c.args.out.now)
