@@ -1,4 +1,5 @@
-use Rattle.std.proofs.Common.{[], ◌++◌, List, Ok, sym, ap, subst}
+use Rattle.std.proofs.Common.{◌++◌, List, map, Ok, sym, ap, subst}
+use Rattle.std.specs.Prelude.{slice_set}
 use Rattle.tup_rule.specs.declared.rule.RuleName.{RuleName}
 use Rattle.tup_update.specs.Log.{whole_log}
 use Rattle.tup_top.specs.Crew.{RanFits, CrewRuns}
@@ -14,20 +15,25 @@ pub returns-in-Ok-Upd-clause-success : goal.returns-in-Ok-Upd-clause-success
 returns-in-Ok-Upd-clause-success g c = λ tells means _ clear fine.
     succeeds_so g.R.Runner.next (g.S.Site.world c.args.site) (g.S.Site.world c.update-status.new.site) _ _ c.update-status.result.status (c.update-status.ensures.cause tells means)
     (crew_cause g.R.Runner.faults c.args.crew.items c.index_mut.result.now c.update-status.new.runner (g.S.Site.faults c.args.site) (g.S.Site.faults c.update-status.new.site) (g.K.Sink.faults c.args.out.now) (g.K.Sink.faults c.update-status.new.out)
-    c.update-status.result.status c.requires.0 c.index_mut.ensures.value c.update-status.ensures.counted_cause) clear fine
+    c.update-status.result.status c.requires.crew.0 c.index_mut.ensures.value c.update-status.ensures.counted_cause) clear fine
 
 pub returns-in-Ok-Upd-clause-plain_cause : goal.returns-in-Ok-Upd-clause-plain_cause
 returns-in-Ok-Upd-clause-plain_cause g c =
     let is = rw c.in-Ok-Upd.is at c.order_of.ensures in
-    subst (λ (w : Wanted). HasPlainCause w _ _ c.update-status.result.status) (sym is)
+    let crew = slice_set c.args.crew.items 0 c.update-status.new.runner in
+    let before = counts g.S.Site.faults g.R.Runner.faults g.K.Sink.faults c.args.site c.args.crew.items c.args.out.now in
+    let now = counts g.S.Site.faults g.R.Runner.faults g.K.Sink.faults c.update-status.new.site crew c.update-status.new.out in
+    subst (λ (w : Wanted). HasPlainCause w before now c.update-status.result.status) (sym is)
     (crew_cause g.R.Runner.faults c.args.crew.items c.index_mut.result.now c.update-status.new.runner (g.S.Site.faults c.args.site) (g.S.Site.faults c.update-status.new.site) (g.K.Sink.faults c.args.out.now) (g.K.Sink.faults c.update-status.new.out)
-    c.update-status.result.status c.requires.0 c.index_mut.ensures.value c.update-status.ensures.counted_cause)
+    c.update-status.result.status c.requires.crew.0 c.index_mut.ensures.value c.update-status.ensures.counted_cause)
 
 pub returns-in-Ok-Upd-clause-ran : goal.returns-in-Ok-Upd-clause-ran
 returns-in-Ok-Upd-clause-ran g c = λ tells.
     let is = rw c.in-Ok-Upd.is at c.order_of.ensures in
-    subst (λ (w : Wanted). ForUpdate w c.update-status.result.status _) (sym is)
-    (crew_runs g.R.Runner.ran c.args.crew.items c.index_mut.result.now c.update-status.new.runner c.update-status.result.ran (came_to c.update-status.result.status) c.requires.0 c.index_mut.ensures.value
+    let crew = slice_set c.args.crew.items 0 c.update-status.new.runner in
+    let runs = CrewRuns c.update-status.result.ran (map g.R.Runner.ran c.args.crew.items) (map g.R.Runner.ran crew) in
+    subst (λ (w : Wanted). ForUpdate w c.update-status.result.status runs) (sym is)
+    (crew_runs g.R.Runner.ran c.args.crew.items c.index_mut.result.now c.update-status.new.runner c.update-status.result.ran (came_to c.update-status.result.status) c.requires.crew.0 c.index_mut.ensures.value
     (c.update-status.ensures.ran tells))
 
 pub returns-in-Ok-Demo-clause-sources_stay : goal.returns-in-Ok-Demo-clause-sources_stay
