@@ -19,7 +19,8 @@ returns-in-Ok-Upd-clause-success g c = λ tells means _ clear fine.
 
 pub returns-in-Ok-Upd-clause-plain_cause : goal.returns-in-Ok-Upd-clause-plain_cause
 returns-in-Ok-Upd-clause-plain_cause g c =
-    let is = rw c.in-Ok-Upd.is at c.order_of.ensures in
+    let wanted = rw c.in-Ok-Upd.is at c.order_of.ensures in
+    let is = rw c.in-Ok-Upd.field-0-is at wanted in
     let crew = slice_set c.args.crew.items 0 c.update-status.new.runner in
     let before = counts g.S.Site.faults g.R.Runner.faults g.K.Sink.faults c.args.site c.args.crew.items c.args.out.now in
     let now = counts g.S.Site.faults g.R.Runner.faults g.K.Sink.faults c.update-status.new.site crew c.update-status.new.out in
@@ -29,7 +30,8 @@ returns-in-Ok-Upd-clause-plain_cause g c =
 
 pub returns-in-Ok-Upd-clause-ran : goal.returns-in-Ok-Upd-clause-ran
 returns-in-Ok-Upd-clause-ran g c = λ tells.
-    let is = rw c.in-Ok-Upd.is at c.order_of.ensures in
+    let wanted = rw c.in-Ok-Upd.is at c.order_of.ensures in
+    let is = rw c.in-Ok-Upd.field-0-is at wanted in
     let crew = slice_set c.args.crew.items 0 c.update-status.new.runner in
     let runs = CrewRuns c.update-status.result.ran (map g.R.Runner.ran c.args.crew.items) (map g.R.Runner.ran crew) in
     subst (λ (w : Wanted). ForUpdate w c.update-status.result.status runs) (sym is)
