@@ -56,9 +56,11 @@ fn answer(rt: HostRuntime, alloc: Global, words: &[Word]) -> u8 {
         }
     }
     match order_of(words) {
-        Ok(Order::Upd {
-            program: Some(program),
-        }) => run_through(rt, alloc, words, &program),
+        Ok(
+            Order::Upd {
+                program: Some(program),
+            },
+        ) => run_through(rt, alloc, words, &program),
         _ => run(rt, alloc, words, Mini::new(alloc)).0,
     }
 }
