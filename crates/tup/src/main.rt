@@ -56,9 +56,11 @@ fn answer(rt: HostRuntime, alloc: Global, words: &[Word]) -> u8 {
         }
     }
     match order_of(words) {
-        Ok(Order::Upd {
-            program: Some(program),
-        }) => run_through(rt, alloc, words, &program),
+        Ok(
+            Order::Upd {
+                program: Some(program),
+            },
+        ) => run_through(rt, alloc, words, &program),
         _ => run(rt, alloc, words, Mini::new(alloc)).0,
     }
 }
@@ -68,7 +70,8 @@ fn run<R: Runner>(rt: HostRuntime, alloc: Global, words: &[Word], runner: R) -> 
     let Ok(site) = FsSite::new(rt, alloc, ".") else {
         return (told(&rt, Status::Memory), None);
     };
-    let Ok(crew) = vec![in alloc; runner] else {
+    let mut crew = Vec::new(alloc);
+    let Ok(()) = crew.push(runner) else {
         return (told(&rt, Status::Memory), None);
     };
     let mut ran = tup(alloc, words, site, crew, &mut Output::new(&rt));

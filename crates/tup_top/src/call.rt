@@ -59,8 +59,7 @@ pub fn tup<S: Site, R: Runner, K: Sink>(
         (CrewRuns result.ran (map R.ran crew.items) (map R.ran result.crew.items)) }
     ensures cause { IsTrue S.tells → IsTrue R.tells → ForUpdate (order words.now) result.status
         (HasCause R.next (S.world site) (S.world result.site)) }
-    ensures plain_cause {
-        let before = counts S.faults R.faults K.faults site crew.items out.old in
+    ensures plain_cause { let before = counts S.faults R.faults K.faults site crew.items out.old in
         let now = counts S.faults R.faults K.faults result.site result.crew.items out.new in
         HasPlainCause (order words.now) before now result.status }
     ensures success { IsTrue S.tells → IsTrue R.tells

@@ -13,8 +13,8 @@ ghost use Rattle.tup_top.specs.Status.{came_to};
 use crate::print::{lines, print};
 use crate::status::{Status, status_of};
 use std::alloc::Global;
-use tup_path::{Bytes, Items, Path};
 use tup_mini::Mini;
+use tup_path::{Bytes, Items, Path};
 use tup_rule::RuleName;
 use tup_runner::Runner;
 use tup_site::{MemSite, Site};
@@ -42,8 +42,7 @@ pub(crate) fn update<S: Site, R: Runner, K: Sink>(
         (NothingForgotten R.next (S.world site.old) (S.world site.new)) }
     ensures cause { IsTrue S.tells → IsTrue R.tells → IfSome (came_to result.status)
         (HasCause R.next (S.world site.old) (S.world site.new)) }
-    ensures counted_cause {
-        let before = counts S.faults R.faults K.faults site.old (runner.old ∷ []) out.old in
+    ensures counted_cause { let before = counts S.faults R.faults K.faults site.old (runner.old ∷ []) out.old in
         let now = counts S.faults R.faults K.faults site.new (runner.new ∷ []) out.new in
         HasCountedCause before now result.status }
     ensures begun { IsTrue S.tells → IsTrue R.tells

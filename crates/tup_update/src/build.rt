@@ -112,7 +112,14 @@ impl Project {
     {
         let plan = Plan::of(alloc, self)?;
         prepare(alloc, site, &plan, &mut log.removed)?;
-        match self.run(alloc, site, runner, &plan.made, &mut log.ran, &mut log.verdicts)? {
+        match self.run(
+            alloc,
+            site,
+            runner,
+            &plan.made,
+            &mut log.ran,
+            &mut log.verdicts,
+        )? {
             Some((name, verdict)) => Err(Stop::Bad(name, verdict)),
             None => Ok(finish(alloc, site, plan.listed.as_slice())?),
         }
