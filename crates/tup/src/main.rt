@@ -70,7 +70,8 @@ fn run<R: Runner>(rt: HostRuntime, alloc: Global, words: &[Word], runner: R) -> 
     let Ok(site) = FsSite::new(rt, alloc, ".") else {
         return (told(&rt, Status::Memory), None);
     };
-    let Ok(crew) = vec![in alloc; runner] else {
+    let mut crew = Vec::new(alloc);
+    let Ok(()) = crew.push(runner) else {
         return (told(&rt, Status::Memory), None);
     };
     let mut ran = tup(alloc, words, site, crew, &mut Output::new(&rt));

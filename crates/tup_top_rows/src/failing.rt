@@ -1,4 +1,6 @@
 //! A runner that fails.
+ghost use Rattle.std.specs.Prelude.{◌≡◌};
+
 use std::alloc::Global;
 use tup_mini::Mini;
 use tup_path::{Path, Text};

@@ -88,16 +88,22 @@ impl Session {
 
     /// Keeps the site and the runner as the program leaves them.
     fn keep(&mut self, alloc: Global, ran: Ran<MemSite, Failing>, out: &MemSink) -> Words {
-        let mut answer = Words::shown(alloc, &ran.status.exit());
-        answer.put(alloc, out.bytes().as_slice());
-        let mut crew = ran.crew;
-        if let Some(runner) = crew.pop() {
-            self.project = Some(Project {
-                site: ran.site,
+        let Ran {
+            status,
+            site,
+            mut crew,
+            ran: begun,
+        } = ran;
+        self.project = match crew.pop() {
+            Some(runner) => Some(Project {
+                site,
                 runner,
-                begun: ran.ran,
-            });
-        }
+                begun,
+            }),
+            None => None,
+        };
+        let mut answer = Words::shown(alloc, &status.exit());
+        answer.put(alloc, out.bytes().as_slice());
         answer
     }
 }
