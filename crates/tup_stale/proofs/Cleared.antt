@@ -1,5 +1,5 @@
 -- What a clearing leaves, by what its parts answer.
-use Rattle.std.proofs.Common.{◌≡◌, ℕ, Bool, true, false, ◌&&◌, List, IsTrue, Result, Ok, Err, inl, inr, ⊎_elim, refl, sym, ap, subst, ◌∙◌}
+use Rattle.std.proofs.Common.{◌≡◌, ℕ, Bool, true, false, ◌&&◌, ◌⊎◌, List, IsTrue, Result, Ok, Err, inl, inr, ⊎_elim, refl, sym, ap, subst, ◌∙◌}
 use Rattle.tup_path.specs.Gives.{GivesUnless}
 use Rattle.tup_path.specs.Name.{Names}
 use Rattle.tup_path.specs.Tree.{Tree}
@@ -11,11 +11,12 @@ use Rattle.tup_graph.specs.declared.fault.GraphFault.TheVariants.{NotThere, BadS
 use Rattle.tup_kept.specs.Held.{Held, is_fresh, stale}
 use Rattle.tup_kept.specs.Transaction.{after, IsFull, Leaves as TransactionLeaves}
 use Rattle.tup_stale.specs.declared.fault.StaleFault.{StaleFault}
+use Rattle.tup_stale.specs.declared.fault.StaleFault.TheVariants.{UserFile, Site, TooLarge, Full, Memory}
 use Rattle.tup_stale.specs.Cause.{of_site, of_graph}
-use Rattle.tup_stale.specs.Cleared.{doomed, forgotten, AtFirst, AtLast, Leaves}
-use Rattle.tup_stale.specs.Files.{without, IsPart}
+use Rattle.tup_stale.specs.Cleared.{doomed, forgotten, AtFirst, Removing, Committing, AtLast, Leaves}
+use Rattle.tup_stale.specs.Files.{without, SameBeside, IsPart}
 use Rattle.tup_stale.proofs.Forgotten.{doomed_then_forgotten}
-use Rattle.tup_stale.proofs.Removing.{part_all}
+use Rattle.tup_stale.proofs.Removing.{part_all, beside_same, beside_without, beside_part}
 
 and_false : (b : Bool) → (b && false) ≡ false
 and_false true = refl
@@ -63,3 +64,24 @@ module _ (tells : Bool) (paths files : List Names) (old new : Held) (before now 
       room,
       λ full. more (subst (λ (h : Held). IsFull h (forget_edits h.nodes paths)) (sym is) full),
     )
+
+-- nothing but the files changes, whatever is left
+module _ (paths files : List Names) (old new : Held) (before now : Tree) where
+  at_first : now ≡ before → SameBeside files before now
+  at_first is = beside_same files before now is
+
+  all_gone : now ≡ without before files → SameBeside files before now
+  all_gone is = subst (SameBeside files before) (sym is) (beside_without files before)
+
+  stopped : {tells : Bool} → IsTrue tells → AtFirst tells paths files old new before now ⊎ Removing tells paths files old new before now ⊎ Committing tells paths files old new before now → SameBeside files before now
+  stopped tells left =
+      ⊎_elim (λ first. at_first (first.1 tells))
+      (λ later. ⊎_elim (λ removing. beside_part files before now (removing.1 tells)) (λ committing. ⊎_elim at_first all_gone (committing.1 tells)) later) left
+
+  pub leaves_beside : {T : Type 0} {tells : Bool} → IsTrue tells → (result : Result T StaleFault) → Leaves tells paths files old new before now result → SameBeside files before now
+  leaves_beside tells (Ok value) left = all_gone (left.1 tells)
+  leaves_beside tells (Err (UserFile path written found)) left = at_first (left.1 tells)
+  leaves_beside tells (Err (TooLarge bytes)) left = at_first (left.1 tells)
+  leaves_beside tells (Err Full) left = ⊎_elim (λ doom. at_first (doom.1.1 tells)) (λ forget. all_gone (forget.1.1 tells)) left
+  leaves_beside tells (Err Site) left = stopped tells left
+  leaves_beside tells (Err Memory) left = stopped tells left

@@ -1,11 +1,11 @@
 -- Files that are removed one after another.
-use Rattle.std.proofs.Common.{◌≡◌, ◌≢◌, ℕ, ◌+◌, ◌<◌, Bool, true, false, cond, ◌||◌, List, [], ◌∷◌, ◌++◌, length, take, get_or, fold, None, Some, Option, refl, sym, ap, subst, ◌∙◌, arith}
+use Rattle.std.proofs.Common.{◌≡◌, ◌≢◌, ℕ, ◌+◌, ◌<◌, Bool, true, false, cond, ◌||◌, List, [], ◌∷◌, ◌++◌, length, take, drop, get_or, slice_get, fold, None, Some, Option, refl, sym, ap, subst, ◌∙◌, arith, take-append-drop}
 use Rattle.std.specs.FinMap as finite
 use Rattle.std.proofs.lemmas.Bool.{false≢true}
 use Rattle.std.proofs.lemmas.List.{take_more, take_all}
-use Rattle.std.proofs.lemmas.List.Folds.{list_any_at}
+use Rattle.std.proofs.lemmas.List.Folds.{list_any_at, list_any-append}
 use Rattle.std.proofs.lemmas.List.Sums.{fold-append}
-use Rattle.std.proofs.lemmas.Option.{slice_get-get_or, slice_get_past}
+use Rattle.std.proofs.lemmas.Option.{slice_get-get_or, slice_get_past, slice_get_within, get_or_from_slice_get}
 use Rattle.tup_path.specs.Name.{Names}
 use Rattle.tup_path.specs.Order.{by_names, same_path, same_path-by_names, by_names-total}
 use Rattle.tup_path.specs.Tree.{Tree}
@@ -74,5 +74,30 @@ get-without (path ∷ paths) m q =
     ∙ ap (cond (among q paths) None) (finite.get-remove by_names-total m path q ∙ ap (λ (b : Bool). cond b None (finite.get m q)) (sym (same_path-by_names q path)))
     ∙ gone_either (same_path q path) (among q paths) (finite.get m q)
 
+outside_front : (files : List Names) (n : ℕ) (path : Names) → among path files ≡ false → among path (take n files) ≡ false
+outside_front files n path outside =
+    front_false (among path (take n files)) (among path (drop n files))
+    (sym (list_any-append (same_path path) (take n files) (drop n files)) ∙ ap (among path) (take-append-drop n files) ∙ outside)
+  where
+    front_false : (a b : Bool) → (a || b) ≡ false → a ≡ false
+    front_false true b is = absurd (false≢true (sym is))
+    front_false false b is = refl
+
 pub beside_without : (files : List Names) (tree : Tree) → SameBeside files tree (without tree files)
 beside_without files tree other outside = get-without files tree other ∙ ap (λ (b : Bool). cond b None (finite.get tree other)) outside
+
+-- where some files are gone and one was tried, all else is as it was
+pub beside_part : (files : List Names) (old new : Tree) → IsPart files old new → SameBeside files old new
+beside_part files old new part = by (slice_get files part.gone) refl part.next
+  where
+    between : Tree
+    between = without old (take part.gone files)
+
+    before : SameBeside files old between
+    before other outside = beside_without (take part.gone files) old other (outside_front files part.gone other outside)
+
+    by : (o : Option Names) → slice_get files part.gone ≡ o → IsTried o between new → SameBeside files old new
+    by None none is = beside_then files old between new before (beside_same files between new is)
+    by (Some path) here same =
+        beside_then files old between new before (beside_one files path between new
+        (among_at files part.gone path (slice_get_within files part.gone path here) (get_or_from_slice_get files part.gone path path here)) same)

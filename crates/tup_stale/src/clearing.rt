@@ -6,6 +6,7 @@ ghost use Rattle.tup_kept.specs.Held.{is_fresh, StandsFor};
 ghost use Rattle.tup_stale.specs.Cause.{CountsFaults, OnlyLarge, IsStopped};
 ghost use Rattle.tup_stale.specs.Cleared.{Leaves, AllAreMade};
 ghost use Rattle.tup_stale.specs.Crash.{ClearStep, LeavesBy};
+ghost use Rattle.tup_stale.specs.Files.{SameBeside};
 ghost use Rattle.tup_stale.specs.Unmade.{unmade as unmade_in, standing, Sees};
 
 use crate::fault::StaleFault;
@@ -33,6 +34,10 @@ pub fn clear<S: Site>(alloc: Global, graph: &mut Graph, site: &mut S) -> Result<
         let tree = (S.world site.old).tree in
         Leaves S.tells paths (standing tree paths) graph.old graph.new
         tree (S.world site.new).tree result }
+    // Nothing changes but these files, whatever the answer.
+    ensures others { let tree = (S.world site.old).tree in
+        IsTrue S.tells → SameBeside (standing tree (unmade_in graph.old.nodes))
+        tree (S.world site.new).tree }
     ensures all_made { IfOk result (λ _. AllAreMade graph.new.nodes) }
     ensures nothing { unmade_in graph.old.nodes ≡ [] → site.new ≡ site.old }
     ensures stands { IsTrue S.tells → IsTrue (is_fresh graph.new)
