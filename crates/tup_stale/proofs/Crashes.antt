@@ -16,7 +16,7 @@ use Rattle.tup_stale.specs.Crash.{IsUntouched, IsDoomed, IsForgotten, ClearStep}
 use Rattle.tup_stale.specs.Files.{without, SameBeside, FilesStep}
 use Rattle.tup_stale.proofs.Forgotten.{doomed_then_forgotten}
 use Rattle.tup_stale.proofs.Going.{then_by}
-use Rattle.tup_stale.proofs.Removing.{beside_same, beside_then}
+use Rattle.tup_stale.proofs.Removals.{beside_same, beside_then}
 
 module _ {S : Type 0} (world : S → World) (moment : S → ℕ) (left_since : S → ℕ → World → Type 0) where
   -- a crash now leaves stores of the graph that stands for the store

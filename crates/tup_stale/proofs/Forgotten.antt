@@ -12,7 +12,7 @@ use Rattle.tup_graph.specs.Transactions.{unsure_as, with_doomed, with_forgotten}
 use Rattle.tup_stale.specs.Cleared.{AllAreMade}
 use Rattle.tup_stale.specs.Unmade.{lacks_maker, unmade}
 use Rattle.tup_stale.proofs.Looked.{unmade_of}
-use Rattle.tup_stale.proofs.Removing.{get-without}
+use Rattle.tup_stale.proofs.Removals.{get-without}
 
 abbrev OwnedPaths : Type 0
 OwnedPaths = finite.FinMap by_names Owned

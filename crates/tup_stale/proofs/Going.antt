@@ -1,9 +1,13 @@
 -- Calls one behind another whose steps differ.
-use Rattle.std.proofs.Common.{ℕ, ◌≤◌, inl, inr, ⊎_elim, arith}
+use Rattle.std.proofs.Common.{◌≡◌, ℕ, ◌≤◌, true, List, inl, inr, ⊎_elim, ◌∙◌, arith}
+use Rattle.tup_path.specs.Name.{Names, Content}
 use Rattle.tup_site.specs.World.{World}
-use Rattle.tup_site.specs.Crash.{Follows, GoesOn}
+use Rattle.tup_site.specs.Crash.{Follows, GoesOn, NoStep, FileStep}
+use Rattle.tup_rule.specs.Rule.{among}
 use Rattle.tup_table.proofs.Going.{IsEarlier}
 use Rattle.tup_stale.specs.Crash.{LeavesBy}
+use Rattle.tup_stale.specs.Files.{FilesStep}
+use Rattle.tup_stale.proofs.Removals.{beside_one, beside_then}
 
 module _ {S : Type 0} (moment : S → ℕ) (left_since : S → ℕ → World → Type 0) where
   pub then_by : (old mid new : S) (one two both : World → World → Type 0) → IsEarlier moment left_since mid
@@ -26,3 +30,26 @@ module _ {S : Type 0} (moment : S → ℕ) (left_since : S → ℕ → World →
     only = λ w left. ⊎_elim (λ before. (w, before, same w before)) (λ from. from) (on.since (moment old) w (omega arith) left);
     on = on;
   }
+
+  -- where nothing was done
+  pub at_rest : (site : S) (step : World → World → Type 0) → GoesOn moment left_since site site step
+  at_rest site step = record { later = omega arith; kept = λ t w le left. left; since = λ t w le left. inl left }
+
+  -- one more file is removed
+  module _ (files : List Names) where
+    file_step : (path : Names) (known : List Content) (v w : World) → among path files ≡ true → FileStep path known v w → FilesStep files v w
+    file_step path known v w inside step = record { others = beside_one files path v.tree w.tree inside step.others; store = step.store }
+
+    pub one_more : (old mid new : S) (path : Names) (known : List Content) → IsEarlier moment left_since mid → among path files ≡ true
+        → GoesOn moment left_since old mid (FilesStep files) → GoesOn moment left_since mid new (FileStep path known) → GoesOn moment left_since old new (FilesStep files)
+    one_more old mid new path known earlier inside first last =
+        then_by old mid new (FilesStep files) (FileStep path known) (FilesStep files) earlier (λ v w step. step) (λ v w step. file_step path known v w inside step)
+        (λ u v w before step. record {
+          others = beside_then files u.tree v.tree w.tree before.others (beside_one files path v.tree w.tree inside step.others);
+          store = step.store ∙ before.store;
+        }) first last
+
+  -- a call that adds nothing comes last
+  pub then_nothing : (old mid new : S) (step : World → World → Type 0) → IsEarlier moment left_since mid → GoesOn moment left_since old mid step → GoesOn moment left_since mid new NoStep
+      → GoesOn moment left_since old new step
+  then_nothing old mid new step earlier first last = then_by old mid new step NoStep step earlier (λ v w s. s) (λ v w none. absurd none) (λ u v w s none. absurd none) first last

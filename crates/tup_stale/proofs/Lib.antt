@@ -1,5 +1,5 @@
 mod Looked
-mod Removing
+mod Removals
 mod Going
 mod Forgotten
 mod Cleared
