@@ -1,5 +1,5 @@
 -- What a crash leaves while files are cleared, by what it leaves of the parts.
-use Rattle.std.proofs.Common.{◌≡◌, ◌⊎◌, ℕ, List, inl, inr, ⊎_elim, sym, ap, subst, ◌∙◌}
+use Rattle.std.proofs.Common.{◌≡◌, ◌⊎◌, ℕ, List, inl, inr, ⊎_elim, refl, sym, ap, subst, ◌∙◌}
 use Rattle.tup_path.specs.Name.{Names}
 use Rattle.tup_path.specs.Tree.{Tree}
 use Rattle.tup_site.specs.Crash.{GoesOn}
@@ -12,10 +12,10 @@ use Rattle.tup_graph.specs.Opening.{IsGraphOf}
 use Rattle.tup_graph.specs.Transactions.{with_doomed, with_forgotten}
 use Rattle.tup_kept.specs.Crash.{IsStoreOf, GraphStep, LeavesEither}
 use Rattle.tup_kept.proofs.Crashes.{as_it_was}
-use Rattle.tup_stale.specs.Crash.{IsUntouched, IsDoomed, IsForgotten, ClearStep}
+use Rattle.tup_stale.specs.Crash.{IsUntouched, IsDoomed, IsForgotten, ClearStep, LeavesBy}
 use Rattle.tup_stale.specs.Files.{without, SameBeside, FilesStep}
 use Rattle.tup_stale.proofs.Forgotten.{doomed_then_forgotten}
-use Rattle.tup_stale.proofs.Going.{then_by}
+use Rattle.tup_stale.proofs.Going.{then_by, leaves_by}
 use Rattle.tup_stale.proofs.Removals.{beside_same, beside_then}
 
 module _ {S : Type 0} (world : S → World) (moment : S → ℕ) (left_since : S → ℕ → World → Type 0) where
@@ -23,6 +23,12 @@ module _ {S : Type 0} (world : S → World) (moment : S → ℕ) (left_since : S
   pub stores_now : (table : Table) (h : GraphState) (site : S) → StandsFor world moment left_since table site → IsGraphOf (entries_in table) h
       → (w : World) → left_since site (moment site) w → IsStoreOf h w.store
   stores_now table h site stands is w left = ⊎_elim (λ store. store) (λ store. store) ((as_it_was world moment left_since table h site stands is h).only.each w left)
+
+  -- what a crash may leave since a moment at which the graph stands for the store
+  pub leaves_since : (table : Table) (h : GraphState) (old new : S) (paths files : List Names) (present : Tree) → StandsFor world moment left_since table old → IsGraphOf (entries_in table) h
+      → GoesOn moment left_since old new (ClearStep h paths files present) → LeavesBy moment left_since old new (ClearStep h paths files present)
+  leaves_since table h old new paths files present stands is on =
+      leaves_by moment left_since old new (ClearStep h paths files present) (λ w left. inl (stores_now table h old stands is w left, refl)) on
 
 module _ {S : Type 0} (moment : S → ℕ) (left_since : S → ℕ → World → Type 0) (g : GraphState) (paths files : List Names) (present : Tree) where
   abbrev Step : World → World → Type 0

@@ -3,7 +3,7 @@
 use Rattle.std.specs.Prelude.{◌≡◌, ◌≢◌, ◌⊎◌, Bool, false, List, None, Some, IsTrue, Result, Ok, Err}
 use Rattle.std.specs.FinMap as finite
 use Rattle.tup_path.specs.Name.{Names}
-use Rattle.tup_path.specs.Tree.{Tree}
+use Rattle.tup_site.specs.World.{World, TreeStays}
 use Rattle.tup_graph.specs.Graph.{GraphState}
 use Rattle.tup_graph.specs.Transactions.{doom_edits, with_doomed, forget_edits, with_forgotten}
 use Rattle.tup_graph.specs.declared.owned.Owned.{Owned}
@@ -33,27 +33,27 @@ abbrev pub AllAreMade : GraphState → Type 0
 AllAreMade g = (path : Names) (owned : Owned) → finite.get g.owned path ≡ Some owned → owned.maker ≢ None
 
 -- How far a clearing of some paths came, at which these files stand: the graph before it and now, and where the site tells
--- them, the trees.
-module _ (tells : Bool) (paths files : List Names) (old new : Held) (before now : Tree) where
+-- them, the worlds.
+module _ (tells : Bool) (paths files : List Names) (old new : Held) (v w : World) where
   -- nothing is done yet
   abbrev pub AtFirst : Type 0
-  AtFirst = (new ≡ old) × (IsTrue tells → now ≡ before)
+  AtFirst = (new ≡ old) × (IsTrue tells → w ≡ v)
 
   -- the files are being removed: the paths are doomed
   abbrev pub Removing : Type 0
-  Removing = (new ≡ doomed old paths) × (IsTrue tells → IsPart files before now)
+  Removing = (new ≡ doomed old paths) × (IsTrue tells → IsPart files v.tree w.tree)
 
   -- all files are gone, and the paths are still doomed
   abbrev pub Removed : Type 0
-  Removed = (new ≡ doomed old paths) × (IsTrue tells → now ≡ without before files)
+  Removed = (new ≡ doomed old paths) × (IsTrue tells → w.tree ≡ without v.tree files)
 
   -- one of the two commits was begun, and its store is opened again
   abbrev pub Committing : Type 0
-  Committing = (is_fresh new ≡ false) × (IsTrue tells → (now ≡ before) ⊎ (now ≡ without before files))
+  Committing = (is_fresh new ≡ false) × (IsTrue tells → TreeStays v w ⊎ (w.tree ≡ without v.tree files))
 
   -- all is done, and there was room for both commits
   abbrev pub AtLast : Type 0
-  AtLast = (new ≡ forgotten old paths) × (IsTrue tells → now ≡ without before files) × (CannotDoom old paths → ⊥) × (CannotForget old paths → ⊥)
+  AtLast = (new ≡ forgotten old paths) × (IsTrue tells → w.tree ≡ without v.tree files) × (CannotDoom old paths → ⊥) × (CannotForget old paths → ⊥)
 
   -- what it leaves, by its answer
   abbrev pub Leaves : {T : Type 0} → Result T StaleFault → Type 0

@@ -31,15 +31,15 @@ pub fn clear<S: Site>(alloc: Global, graph: &mut Graph, site: &mut S) -> Result<
     ensures sees { IsTrue S.tells
         → Sees graph.old.nodes (S.world site.old).tree (unmade_in graph.old.nodes) result }
     ensures leaves { let paths = unmade_in graph.old.nodes in
-        let tree = (S.world site.old).tree in
-        Leaves S.tells paths (standing tree paths) graph.old graph.new
-        tree (S.world site.new).tree result }
+        let files = standing (S.world site.old).tree paths in
+        Leaves S.tells paths files graph.old graph.new (S.world site.old) (S.world site.new) result }
     // Nothing changes but these files, whatever the answer.
     ensures others { let tree = (S.world site.old).tree in
         IsTrue S.tells → SameBeside (standing tree (unmade_in graph.old.nodes))
         tree (S.world site.new).tree }
     ensures all_made { IfOk result (λ _. AllAreMade graph.new.nodes) }
-    ensures nothing { unmade_in graph.old.nodes ≡ [] → site.new ≡ site.old }
+    ensures nothing { unmade_in graph.old.nodes ≡ []
+        → (graph.new ≡ graph.old) × (site.new ≡ site.old) }
     ensures stands { IsTrue S.tells → IsTrue (is_fresh graph.new)
         → StandsFor S.world S.moment S.left_since graph.new site.new }
     ensures crash { let paths = unmade_in graph.old.nodes in
@@ -70,9 +70,9 @@ fn clear_paths<S: Site>(
 
     ensures sees { IsTrue S.tells
         → Sees graph.old.nodes (S.world site.old).tree paths.now result }
-    ensures leaves { let tree = (S.world site.old).tree in
-        Leaves S.tells paths.now (standing tree paths.now) graph.old graph.new
-        tree (S.world site.new).tree result }
+    ensures leaves { let files = standing (S.world site.old).tree paths.now in
+        Leaves S.tells paths.now files graph.old graph.new
+        (S.world site.old) (S.world site.new) result }
     ensures stands { IsTrue S.tells → IsTrue (is_fresh graph.new)
         → StandsFor S.world S.moment S.left_since graph.new site.new }
     ensures crash { let tree = (S.world site.old).tree in
@@ -100,7 +100,7 @@ fn give_up<S: Site>(
         → StandsFor S.world S.moment S.left_since graph.old site.old }
 
     ensures leaves { Leaves S.tells paths.now files.now graph.old graph.new
-        (S.world site.old).tree (S.world site.new).tree result }
+        (S.world site.old) (S.world site.new) result }
     ensures only { IsStopped result }
     ensures stands { IsTrue S.tells → IsTrue (is_fresh graph.new)
         → StandsFor S.world S.moment S.left_since graph.new site.new }
