@@ -28,11 +28,11 @@ use Rattle.tup_stale.proofs.Removals.{beside_same, beside_without, beside_part}
 -- ---- a graph whose paths were doomed stands for its store
 second : (a b : Bool) → IsTrue (a && b) → IsTrue b
 second true b is = is
-second false b is = absurd is
+second false b is = absurd (cc)
 
 changed_is_fresh : (table : Table) (changes : List Change) → IsTrue (is_fresh_table table) → IsTrue (is_fresh_table (with_changes table changes))
 changed_is_fresh table [] fresh = fresh
-changed_is_fresh table (change ∷ changes) fresh = tt
+changed_is_fresh table (change ∷ changes) fresh = refl
 
 pub doomed_is_fresh : (old new : Held) (paths : List Names) → IsTrue (is_fresh old) → new ≡ doomed old paths → IsTrue (is_fresh new)
 doomed_is_fresh old new paths fresh is =
@@ -94,7 +94,7 @@ no_room_needed h full = ⊎_elim (λ unspelled. unspelled (All-nil HasSpelling))
 
 first : (a b : Bool) → IsTrue (a && b) → a ≡ true
 first true b is = refl
-first false b is = absurd is
+first false b is = absurd (cc)
 
 module _ (old : Held) (fresh : IsTrue (is_fresh old)) where
   after_nothing : after old [] old.nodes ≡ old

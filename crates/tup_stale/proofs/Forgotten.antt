@@ -56,7 +56,7 @@ module _ (g : GraphState) where
 module _ (path : Names) (owned : Owned) (none : owned.maker ≡ None) where
   found_unmade : (entries : List (Names × Owned)) → finite.find by_names path entries ≡ Some owned → among path (unmade_of entries) ≡ true
   found_unmade [] is = absurd (cc)
-  found_unmade (entry ∷ entries) is = by (eq_by_cmp by_names path entry.0) refl is
+  found_unmade (entry ∷ entries) is = by (eq_by_cmp by_names path entry.0) refl is (found_unmade entries)
     where
       rest : List Names
       rest = unmade_of entries
@@ -69,12 +69,13 @@ module _ (path : Names) (owned : Owned) (none : owned.maker ≡ None) where
       later true e there = listed true e ∙ or_true (same_path path entry.0) (among path rest) there
       later false e there = listed false e ∙ there
 
-      by : (b : Bool) → eq_by_cmp by_names path entry.0 ≡ b → cond b (Some entry.1) (finite.find by_names path entries) ≡ Some owned → among path (unmade_of (entry ∷ entries)) ≡ true
-      by true here this =
+      by : (b : Bool) → eq_by_cmp by_names path entry.0 ≡ b → cond b (Some entry.1) (finite.find by_names path entries) ≡ Some owned
+          → (finite.find by_names path entries ≡ Some owned → among path rest ≡ true) → among path (unmade_of (entry ∷ entries)) ≡ true
+      by true here this behind =
           let same : entry.1 ≡ owned = cc in
           let lacks : lacks_maker entry ≡ true = ap (λ (o : Owned). is_none o.maker) same ∙ ap is_none none in
           listed true lacks ∙ ap (λ (b : Bool). b || among path rest) (same_path-by_names path entry.0 ∙ here)
-      by false here there = later (lacks_maker entry) refl (found_unmade entries there)
+      by false here there behind = later (lacks_maker entry) refl (behind there)
 
 pub all_are_made : (g : GraphState) → AllAreMade (with_forgotten g (unmade g))
 all_are_made g path owned is none = by (among path (unmade g)) refl

@@ -84,4 +84,4 @@ returns-clause-leaves g c =
     let files = c.args.files.now in
     forget_done g.S.Site.tells c.args.paths.now files c.args.graph.now c.forget.new.self (g.S.Site.world c.args.site.now) (g.S.Site.world c.forget.new.site) c.doom.new.self c.in_ok-doom.ensures.leaves.0
     (λ tells. c.forget.ensures.tree tells ∙ c.in_ok-remove.ensures.removed tells ∙ ap (λ (t : Tree). without t files) (c.doom.ensures.tree tells))
-    c.remove.new.site c.forget.new.site tt c.in_ok-forget.ensures.leaves (has_room c.doom.result tt c.in_ok-doom.was c.doom.ensures.full) (has_room c.forget.result tt c.in_ok-forget.was c.forget.ensures.full)
+    c.remove.new.site c.forget.new.site c.in_ok-forget.field-0 c.in_ok-forget.ensures.leaves (has_room c.doom.result c.in_ok-doom.field-0 c.in_ok-doom.was c.doom.ensures.full) (has_room c.forget.result c.in_ok-forget.field-0 c.in_ok-forget.was c.forget.ensures.full)

@@ -57,4 +57,5 @@ returns-clause-sees g c = λ tells.
     let tree = (g.S.Site.world c.args.site.now).tree in
     let paths = c.args.paths.now in
     let all : take c.loop-path.path-index paths ≡ paths = take_all c.loop-path.path-index paths (omega arith) in
-    (c.loop-path.invariant.files tells ∙ ap (standing tree) all, subst (λ (ps : List Names). All (HasNoUsers nodes tree) ps) all (c.loop-path.invariant.none tells))
+    let files : c.loop-path.files ≡ standing tree paths = c.loop-path.invariant.files tells ∙ ap (standing tree) all in
+    (files, subst (λ (ps : List Names). All (HasNoUsers nodes tree) ps) all (c.loop-path.invariant.none tells))
