@@ -1,8 +1,8 @@
 -- Calls one behind another whose steps differ.
-use Rattle.std.proofs.Common.{◌≡◌, ℕ, ◌≤◌, true, List, inl, inr, ⊎_elim, ◌∙◌, arith}
+use Rattle.std.proofs.Common.{◌≡◌, ℕ, true, List, inl, inr, ⊎_elim, ◌∙◌, arith}
 use Rattle.tup_path.specs.Name.{Names, Content}
 use Rattle.tup_site.specs.World.{World}
-use Rattle.tup_site.specs.Crash.{Follows, GoesOn, NoStep, FileStep}
+use Rattle.tup_site.specs.Crash.{GoesOn, NoStep, FileStep}
 use Rattle.tup_rule.specs.Rule.{among}
 use Rattle.tup_table.proofs.Going.{IsEarlier}
 use Rattle.tup_stale.specs.Crash.{LeavesBy}

@@ -1,12 +1,10 @@
-use Rattle.std.proofs.Common.{◌≡◌, IsTrue, sym, ap, subst, ◌∙◌}
+use Rattle.std.proofs.Common.{◌≡◌, ap, subst, ◌∙◌}
 use Rattle.tup_path.specs.Tree.{Tree}
-use Rattle.tup_site.specs.World.{World}
 use Rattle.tup_table.specs.Table.{entries_in}
 use Rattle.tup_table.proofs.Stands.{stands_on}
-use Rattle.tup_graph.specs.Graph.{GraphState}
 use Rattle.tup_graph.specs.Opening.{IsGraphOf}
 use Rattle.tup_graph.specs.Transactions.{with_doomed}
-use Rattle.tup_kept.specs.Held.{Held, is_fresh}
+use Rattle.tup_kept.specs.Held.{Held}
 use Rattle.tup_stale.specs.Cleared.{doomed}
 use Rattle.tup_stale.specs.Files.{without, FilesStep}
 use Rattle.tup_stale.proofs.Cleared.{doomed_is_fresh, has_room, forget_done}

@@ -1,5 +1,5 @@
 use Rattle.std.proofs.Common.{sym, ◌∙◌, arith}
-use Rattle.tup_stale.proofs.Going.{one_more, at_rest}
+use Rattle.tup_stale.proofs.Going.{one_more}
 use Rattle.tup_stale.proofs.Removals.{among_at, part_tried, without_more}
 use Rattle.tup_stale.proofs.removing.remove_all.Goals as goal
 
