@@ -32,7 +32,8 @@ pub fn clear<S: Site>(alloc: Global, graph: &mut Graph, site: &mut S) -> Result<
         → Sees graph.old.nodes (S.world site.old).tree (unmade_in graph.old.nodes) result }
     ensures leaves { let paths = unmade_in graph.old.nodes in
         let files = standing (S.world site.old).tree paths in
-        Leaves S.tells paths files graph.old graph.new (S.world site.old) (S.world site.new) result }
+        Leaves S.tells paths files graph.old graph.new
+        (S.world site.old) (S.world site.new) result }
     // Nothing changes but these files, whatever the answer.
     ensures others { let tree = (S.world site.old).tree in
         IsTrue S.tells → SameBeside (standing tree (unmade_in graph.old.nodes))
