@@ -12,7 +12,7 @@ help:
 	@echo 'make demo       builds the program and shows it on a copy of examples/hello'
 	@echo 'make test       the gate: every proof, every edit that must be refused, every test, the program as a user meets it'
 	@echo 'make try        the last part of the gate alone: the program over small projects, full disks, damaged stores'
-	@echo 'make shell      runs shell commands under tup_sh and compares what it logs (passed over where there is no strace)'
+	@echo 'make shell      runs shell commands under tup_sh and builds examples/c (passed over where there is no strace)'
 	@echo 'make killed     fails and kills each system call of an update in turn and looks at what is left (some minutes)'
 	@echo 'make install    builds it and puts it at $(PREFIX)/bin/tup, tup_sh and tup_shim beside it, its page where `man tup` finds it'
 	@echo 'make uninstall  takes them away'
@@ -23,10 +23,10 @@ help:
 build:
 	cd crates/tup && rt run -- --version
 
-# The programs that run a command. Without words each prints its usage and ends with 2.
+# The programs that run a command. Once it is built, each prints its usage: without words it ends with 2, which tells nothing.
 runners:
-	cd crates/tup_sh && rt run
-	cd crates/tup_shim && rt run
+	cd crates/tup_sh && rt run | grep '^usage'
+	cd crates/tup_shim && rt run | grep '^usage'
 
 demo: build
 	sh examples/demo.sh $(TUP)
@@ -37,9 +37,9 @@ test:
 try: build
 	sh tests/program.sh $(TUP)
 
-shell:
-	cd crates/tup_sh && rt run
+shell: build runners
 	sh tests/shell.sh $(SH)
+	sh tests/c-example.sh $(TUP) $(SH)
 
 killed: build
 	sh tests/killed.sh $(TUP)

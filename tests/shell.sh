@@ -70,6 +70,11 @@ told() {
     grep -qF -- "$1" "$work/said" || wrong "it didn't say: $1"
 }
 
+# Where no command can be run apart on this machine, the program says why, once.
+project
+: > "$stage/own"
+"$sh" "$root" src "$stage" true > "$work/said" 2>&1 || { cat "$work/said"; exit 1; }
+
 # -- reading: files, nothing, folders; through links, which are no files
 try '' 'cat a b nope; [ -e sub/s ]' 'R a,R b,A nope,R sub/s,E 0'
 try '' 'cat ln dl/s a/x; [ -d sub ]; [ -d nodir ]' 'A ln,R a,A dl,R sub/s,A a/x,A nodir,E 1'
