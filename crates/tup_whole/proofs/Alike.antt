@@ -133,10 +133,10 @@ module _ (sources : Tree) where
   read_or_memory readings folders.Memory is = refl
 
   linked_alike : (one other : Found) → IsLinking one → IsLinking other → AreAlike one other
-  linked_alike one other (readings, link, read, links, is) (more, with, also_read, also_links, also) =
+  linked_alike one other (readings, link, read, links, is) (more, other_link, also_read, also_links, also) =
       let same : readings ≡ more = outcomes_alike sources (Ok readings) (Ok more) read also_read in
       subst (λ (f : Found). AreAlike f other) (sym is) (subst (AreAlike (of_link link)) (sym also)
-      (links_alike more link with (subst (λ (r : List (Names × Reading)). LinkTo r link) same links) also_links))
+      (links_alike more link other_link (subst (λ (r : List (Names × Reading)). LinkTo r link) same links) also_links))
 
   mixed_first : (one other : Found) → IsUnread one → IsLinking other → AreAlike one other
   mixed_first one other (fault, unread, is) (readings, link, read, links, also) =

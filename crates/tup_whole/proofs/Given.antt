@@ -1,5 +1,6 @@
 -- The rules that the readings of all folders come to: each makes in its own folder what no rule before it makes.
 use Rattle.std.proofs.Common.{◌≡◌, ◌⊎◌, inl, inr, ℕ, ◌≤◌, Bool, true, false, cond, ◌&&◌, ◌||◌, List, [], ◌∷◌, ◌++◌, map, length, Option, Some, None, Result, Ok, Err, IsTrue, refl, sym, ap, ◌∙◌, subst, append_assoc, append-nil, arith, length-map}
+use Rattle.std.specs.Prelude.{nat_lt}
 use Rattle.std.specs.Bool.{passes}
 use Rattle.std.specs.FinMap as finite
 use Rattle.std.specs.FinMap.Entries.{below_all}
@@ -26,6 +27,8 @@ use Rattle.tup_folders.specs.Readings.{AreAllReadings, AreReadWith, IsOutcome}
 use Rattle.tup_folders.specs.Sources.{has_tupfile, settings_of}
 use Rattle.tup_folders.proofs.One.{of_tupfiles}
 use Rattle.tup_link.specs.declared.fault.LinkFault.{LinkFault}
+use Rattle.tup_link.specs.declared.fault.LinkFault.TheVariants.{TooMany}
+use Rattle.tup_link.specs.declared.fault.What.TheVariants.{Commands}
 use Rattle.tup_link.specs.Faults.{too_many_commands, fault_of_groups, fault_in, early_fault}
 use Rattle.tup_link.specs.Groups.{members}
 use Rattle.tup_link.specs.Linked.{Members, rule_of, rules_of}
@@ -180,11 +183,11 @@ first_none None other e = refl
 first_none (Some fault) other e = cc
 
 few_of : (count : ℕ) → too_many_commands count ≡ None → count ≤ 65536
-few_of count none = ltb-false 65536 count (flat _ none)
+few_of count none = ltb-false 65536 count (flat (nat_lt 65536 count) (TooMany Commands count) none)
   where
-    flat : {A : Type 0} {fault : A} (b : Bool) → cond b (Some fault) None ≡ None → b ≡ false
-    flat false e = refl
-    flat true e = cc
+    flat : (b : Bool) (fault : LinkFault) → cond b (Some fault) None ≡ None → b ≡ false
+    flat false fault e = refl
+    flat true fault e = cc
 
 few_rules : (readings : List (Names × Reading)) (rules : List Rule) → AreLinked readings rules → length rules ≤ 65536
 unfolding early_fault rules_of

@@ -48,8 +48,10 @@ below_is folder path (rest, some, is) = ap (is_below folder) is ∙ below_append
 below_own : (file dir path : Names) (name other : List ℕ) → path ≡ dir ++ name ∷ [] → IsBelow file path → IsBelow file (dir ++ other ∷ [])
 below_own file dir path name other own (rest, some, is) = elim (last_item rest) [
   | inl none ↦ absurd (some none)
-  | inr (front, last, ends) ↦
-      let e : dir ++ name ∷ [] ≡ (file ++ front) ++ last ∷ [] = sym own ∙ is ∙ ap (λ (r : Names). file ++ r) ends ∙ sym (append_assoc file front (last ∷ [])) in
+  | inr ends ↦
+      let front = ends.0 in
+      let last = ends.1 in
+      let e : dir ++ name ∷ [] ≡ (file ++ front) ++ last ∷ [] = sym own ∙ is ∙ ap (λ (r : Names). file ++ r) ends.2 ∙ sym (append_assoc file front (last ∷ [])) in
       let up : dir ≡ file ++ front = same_front dir (file ++ front) name last e in
       (front ++ other ∷ [], not_top front other, ap (λ (d : Names). d ++ other ∷ []) up ∙ append_assoc file front (other ∷ []))
 ]
@@ -59,7 +61,7 @@ module _ (sources : Tree) where
   source_below : (path file : Names) → IsSome (finite.get sources file) → IsBelow path file → has_below (finite.keys sources) path ≡ true
   source_below path file some below =
       let has : Contains (finite.keys sources) file = Contains-from_any same file (finite.keys sources) (sym (finite.contains_key-keys sources file) ∙ some) in
-      list_any_at (is_below path) (finite.keys sources) has.0 file has.1 (ap (is_below path) (has.2 file) ∙ below_is path file below)
+      list_any_at (is_below path) (finite.keys sources) has.0 file has.1 (ap (is_below path) has.2 ∙ below_is path file below)
     where
       same : (x y : Names) → eq_by_cmp by_names x y ≡ true → x ≡ y
       same x y e = (same_path-decides x y).0 (same_path-by_names x y ∙ e)
