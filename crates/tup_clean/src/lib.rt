@@ -23,7 +23,7 @@ pub use build::clean_build;
 pub use fault::CleanFault;
 pub use laws::{any_order, counted_test, no_order};
 pub use made::generated;
-pub use queue::readers;
+pub use queue::{Queue, readers};
 use tup_access::Verdict;
 use tup_path::{Files, Items};
 
