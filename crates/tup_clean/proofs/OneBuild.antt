@@ -23,7 +23,7 @@ use Rattle.tup_clean.specs.AnyOrder.{MakeApart, AreProducersGood, MayBeTaken, Is
 use Rattle.tup_clean.proofs.Places.{some_place, position_found, zip_first}
 use Rattle.tup_clean.proofs.Among.{is_generated-maker}
 use Rattle.tup_clean.proofs.Growing.{none_good, stays_good, was_good}
-use Rattle.tup_clean.proofs.InOrderLaws.{declared_since}
+use Rattle.tup_clean.proofs.Putting.{declared_since}
 use Rattle.tup_clean.proofs.MayTake.{IsClosed, first_may, may_first}
 use Rattle.tup_clean.proofs.Whole.{IsGoing, good_is, is_good_at, verdict_set, none_at_start, going_start, going_more, going_on, whole_over, same_after}
 
