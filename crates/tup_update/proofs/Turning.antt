@@ -1,7 +1,7 @@
 -- Rules that are run in turn: how far they came, beside the clean build that they carry out.
-use Rattle.std.proofs.Common.{◌≡◌, ◌⊎◌, inl, inr, ℕ, zero, suc, ◌+◌, ◌-◌, ◌<◌, ◌≤◌, Bool, true, false, if◌then◌else◌, List, [], ◌∷◌, ◌++◌, length, map, Option, None, Some, replicate, refl, sym, ◌∙◌, ap, subst, arith, append_assoc, append-nil}
+use Rattle.std.proofs.Common.{◌≡◌, ◌⊎◌, inl, inr, ℕ, zero, suc, ◌+◌, ◌-◌, ◌<◌, ◌≤◌, Bool, true, false, if◌then◌else◌, List, [], ◌∷◌, ◌++◌, length, map, Option, None, Some, replicate, refl, sym, ◌∙◌, ap, subst, arith, get_or, append_assoc, append-nil}
 use Rattle.std.specs.List.{slice_get, slice_set}
-use Rattle.std.proofs.lemmas.Option.{slice_get_within}
+use Rattle.std.proofs.lemmas.Option.{slice_get_within, slice_get-get_or}
 use Rattle.tup_path.specs.Tree.{Tree}
 use Rattle.tup_link.specs.Circle.{NoneWaitsForItself}
 use Rattle.tup_rule.specs.declared.rule.Rule.{Rule}
@@ -19,7 +19,7 @@ use Rattle.tup_clean.proofs.Agreeing.{Agrees, verdict_same, agrees_more, agrees_
 use Rattle.tup_clean.proofs.Building.{IsUnderWay, step-some, under_way_start, under_way_more, under_way_left, under_way_none, built_clean, took_clean}
 use Rattle.tup_clean.proofs.OneBuild.{missing, missing_all, missing_less}
 use Rattle.tup_clean.proofs.Places.{set_here}
-use Rattle.tup_clean.proofs.Standing.{ready_untaken, verdict_stays}
+use Rattle.tup_clean.proofs.Standing.{ready_untaken, none_is_ready, verdict_stays}
 use Rattle.tup_clean.proofs.Turns.{taken_more, verdicts_more, told_append, told_more, good_more, up_to_bad-good, up_to_bad-bad, all_are_taken, succeeds_all}
 use Rattle.tup_update.specs.Log.{IsFront}
 use Rattle.tup_update.specs.Parts.{HasRun, AreNoted, ArePartNoted, BeginsIt, IsBuilt, IsFirstBad, Leaves, bad_of}
@@ -28,6 +28,17 @@ use Rattle.tup_update.specs.Turns.{names_of, AreInTurn, BeginsNext, AreBegun, En
 use Rattle.tup_update.specs.declared.stop.Halt.{Halt}
 use Rattle.tup_update.specs.declared.stop.Halt.TheVariants.{Run as RunHalted, Outside as Halted}
 use Rattle.tup_update.specs.declared.stop.Stop.TheVariants.{Bad}
+
+-- the rule at a place of a list that was taken out
+pub rule_here : (rules items : List Rule) (at : ℕ) (item : Rule) → items ≡ rules → (rule : Rule) → slice_get rules at ≡ Some rule → item ≡ get_or items at item → slice_get rules at ≡ Some item
+rule_here rules items at item same rule here is =
+    let within : at < length items = subst (λ (l : List Rule). at < length l) (sym same) (slice_get_within rules at rule here) in
+    ap (λ (l : List Rule). slice_get l at) (sym same) ∙ slice_get-get_or items at item within ∙ ap (λ (r : Rule). Some r) (sym is)
+
+-- the verdicts with one more
+pub verdicts_of_more : (rules : List Rule) (ended : List Taken) (at : ℕ) (outcome : Verdict) (noted : List Taken) → noted ≡ ended ++ (at, outcome) ∷ [] →
+    verdicts_of rules noted ≡ slice_set (verdicts_of rules ended) at (Some outcome)
+verdicts_of_more rules ended at outcome noted is = ap (verdicts_of rules) is ∙ verdicts_more (replicate (length rules) None) ended (at, outcome)
 
 -- ---- whoever runs their commands
 
@@ -57,6 +68,10 @@ module _ (rules : List Rule) (count : ℕ) (ran : List RuleName) (ended : List T
   turned_halted RunHalted begun are = (in_turn_good rules ended has.in_turn has.good, are)
   turned_halted (Halted failed) begun are = (in_turn_good rules ended has.in_turn has.good, are)
 
+  -- as many as there are rules were run, so none is ready
+  pub none_at_end : length rules ≤ count → first_ready rules (verdicts_of rules ended) ≡ None
+  none_at_end all = none_is_ready rules (verdicts_of rules ended) (let left = has.left in omega (arith, left, all))
+
   -- all were run
   pub turned_all : NoneWaitsForItself rules → first_ready rules (verdicts_of rules ended) ≡ None → TurnsFit rules ran ended None
   turned_all acyclic none =
@@ -81,8 +96,7 @@ module _ (rules : List Rule) (count : ℕ) (ran : List RuleName) (ended : List T
       good = subst AllGood (sym is) (good_more ended (at, outcome) has.good good);
       left =
           let less = missing_less (verdicts_of rules ended) at outcome (ready_untaken rules (verdicts_of rules ended) at ready) in
-          let same : missing (verdicts_of rules noted) ≡ missing (slice_set (verdicts_of rules ended) at (Some outcome)) =
-          ap (λ (l : List Taken). missing (verdicts_of rules l)) is ∙ ap missing (verdicts_more (replicate (length rules) None) ended (at, outcome)) in
+          let same : missing (verdicts_of rules noted) ≡ missing (slice_set (verdicts_of rules ended) at (Some outcome)) = ap missing (verdicts_of_more rules ended at outcome noted is) in
           let before = has.left in
           omega (arith, less, same, before);
       begun = names_next outcome begun noted one is;
@@ -183,7 +197,7 @@ module _ (next : Next) (rules : List Rule) (sources : Tree) (count : ℕ) (ended
         verdicts =
             ap (λ (v : List (Option Verdict)). slice_set v at (Some outcome)) is.verdicts
             ∙ ap (λ (v : Verdict). slice_set (verdicts_of rules ended) at (Some v)) (sym came_is)
-            ∙ sym (verdicts_more (replicate (length rules) None) ended (at, came)) ∙ ap (verdicts_of rules) (sym told);
+            ∙ sym (verdicts_of_more rules ended at came noted told);
         way = subst (IsUnderWay next rules (start rules sources) (given next rules is.now at rule) (count + 1))
             (ap (λ (v : Verdict). ended ++ (at, v) ∷ []) (sym came_is) ∙ sym told)
             (under_way_more next rules (start rules sources) is.now (given next rules is.now at rule) count at rule (verdict next rules rule is.now.tree) ended is.way within ready here refl refl refl);
