@@ -8,7 +8,7 @@ use Rattle.std.proofs.lemmas.Option.{same_Some, none-some, slice_get_within}
 use Rattle.std.specs.FinMap as finite
 use Rattle.std.specs.List.{slice_get, slice_set, list_all, filter_map, cons_option}
 use Rattle.tup_path.specs.Tree.{Tree}
-use Rattle.tup_link.specs.Circle.{NoneWaitsForItself}
+use Rattle.tup_clean.specs.Buildable.{NoneWaitsForItself}
 use Rattle.tup_rule.specs.declared.rule.Rule.{Rule}
 use Rattle.tup_rule.specs.Producer.{DeclaredProducer}
 use Rattle.tup_runner.specs.Next.{Next}
