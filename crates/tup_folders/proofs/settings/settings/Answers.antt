@@ -1,4 +1,4 @@
-use Rattle.std.proofs.Common.{refl, Some, None, [], ◌∙◌}
+use Rattle.std.proofs.Common.{refl, Some, None, ◌∙◌}
 use Rattle.tup_folders.proofs.Told.{settings_given}
 use Rattle.tup_folders.proofs.settings.settings.Goals as goal
 
