@@ -10,6 +10,7 @@ mod graph;
 mod owned;
 mod record;
 mod say;
+mod scan;
 mod sites;
 mod table;
 mod transaction;
@@ -31,5 +32,6 @@ fn main(rt: HostRuntime) -> io::Result<()> {
     try_file(&rt, alloc, "owned.rows", &mut OwnedLists)?;
     try_file(&rt, alloc, "table.rows", &mut Tables)?;
     try_file_by(&rt, alloc, "site.rows", Sites::new(alloc))?;
-    try_file(&rt, alloc, "graph.rows", &mut Graphs)
+    try_file(&rt, alloc, "graph.rows", &mut Graphs)?;
+    try_file(&rt, alloc, "scan.rows", &mut Graphs)
 }

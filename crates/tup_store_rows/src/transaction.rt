@@ -1,8 +1,12 @@
 //! The calls of `graph.rows` that are transactions.
+ghost use Rattle.tup_above.specs.Readers.{AreRunsOfRules};
+
 use crate::changes::add_changes;
 use crate::field::joined;
 use crate::graph::{add_commit, add_graph, store};
+use crate::scan::scanned;
 use std::alloc::Global;
+use tup_above::runs_are_of_rules;
 use tup_field::{Field, Reader};
 use tup_graph::{Edits, GraphFault, Nodes, changes, read_graph};
 use tup_path::Path;
@@ -83,6 +87,7 @@ fn made_of(
     entries: &Entries,
     transaction: (&str, &[Vec<u8>]),
 ) -> Result<Vec<Change>, RowFault> {
+    runs_are_of_rules();
     match read_graph(alloc, entries) {
         Ok(graph) => needed(alloc, entries, edits(alloc, said, &graph, transaction)?),
         Err(_) => Err(RowFault::OtherKind),
@@ -108,14 +113,18 @@ fn edits(
     alloc: Global,
     said: &Words,
     graph: &Nodes,
-    (call, arguments): (&str, &[Vec<u8>]),
-) -> Result<Result<Edits, GraphFault>, RowFault> {
+    transaction: (&str, &[Vec<u8>]),
+) -> Result<Result<Edits, GraphFault>, RowFault>
+    requires { AreRunsOfRules graph.now }
+{
+    let (call, arguments) = transaction;
     Ok(match call {
         "begin" => graph.begin(alloc, number(said)),
         "finish" => graph.finish(alloc, number(said), run(alloc, said, arguments)?),
         "doom" => graph.doom(alloc, &paths(alloc, said, arguments.len())),
         "forget" => graph.forget(alloc, &paths(alloc, said, arguments.len())),
         "flag" => graph.flag(alloc, &numbers(alloc, said, arguments.len())),
+        "scan" => scanned(alloc, said, graph, arguments.len()),
         _ => return Err(RowFault::NoSuchCall),
     })
 }

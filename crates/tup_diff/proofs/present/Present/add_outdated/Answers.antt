@@ -1,0 +1,16 @@
+use Rattle.std.proofs.Common.{List, ◌∷◌, [], sym, subst, map}
+use Rattle.std.specs.Map.Iter.{deref_pair}
+use Rattle.std.proofs.lemmas.List.{map-append}
+use Rattle.tup_path.specs.Name.{Names}
+use Rattle.tup_path.specs.Order.{by_names}
+use Rattle.tup_rule.specs.declared.question.Reading.{Reading}
+use Rattle.tup_diff.specs.Sets.{GrowsBy}
+use Rattle.tup_diff.specs.Stale.{IsOutdatedIn}
+use Rattle.tup_diff.proofs.Staled.{outdated_more}
+use Rattle.tup_diff.proofs.present.Present.add_outdated.Goals as goal
+
+pub loop-dir-preserved : goal.loop-dir-preserved
+loop-dir-preserved c = λ config is.
+    subst (λ (l : List (Names × Reading)). GrowsBy by_names (IsOutdatedIn config c.args.self.now l) c.args.dirs.now c.add_if_outdated.new.dirs) (sym (map-append deref_pair c.loop-dir.yielded ((c.in-Some.dir, c.in-Some.reading) ∷ [])))
+    (outdated_more config c.args.self.now (map deref_pair c.loop-dir.yielded) c.in-Some.dir.now c.in-Some.reading.now c.args.dirs.now c.loop-dir.dirs c.add_if_outdated.new.dirs (c.loop-dir.invariant config is)
+    (c.in_ok-add_if_outdated.ensures.added config is))

@@ -1,0 +1,6 @@
+use Rattle.tup_diff.proofs.Staled.{all_stale}
+use Rattle.tup_diff.proofs.present.Present.stale.Goals as goal
+
+pub returns-clause-stale : goal.returns-clause-stale
+returns-clause-stale c = λ config is.
+    all_stale config c.args.self.now is c.new.result c.add_outdated.new.dirs c.add_unread.new.dirs c.new.ensures.empty (c.in_ok-add_outdated.ensures.added config is) c.in_ok-add_unread.ensures.added
