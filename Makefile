@@ -1,24 +1,32 @@
 # `make help` says what there is.
 PREFIX ?= /usr/local
 TUP = crates/tup/out/tup
+SH = crates/tup_sh/out/tup_sh
+SHIM = crates/tup_shim/out/tup_shim
 MAN = $(DESTDIR)$(PREFIX)/share/man/man1/tup.1
 VERSION = $(shell sed -n 's/^const VERSION: &str = "\(.*\)";/\1/p' crates/tup/src/main.rt)
 
-.PHONY: help build demo test try killed fmt times install uninstall clean
+.PHONY: help build runners demo test try shell killed fmt times install uninstall clean
 
 help:
 	@echo 'make demo       builds the program and shows it on a copy of examples/hello'
 	@echo 'make test       the gate: every proof, every edit that must be refused, every test, the program as a user meets it'
 	@echo 'make try        the last part of the gate alone: the program over small projects, full disks, damaged stores'
+	@echo 'make shell      runs shell commands under tup_sh and builds examples/c (passed over where there is no strace)'
 	@echo 'make killed     fails and kills each system call of an update in turn and looks at what is left (some minutes)'
-	@echo 'make install    builds it and puts it at $(PREFIX)/bin/tup, its page where `man tup` finds it'
-	@echo 'make uninstall  takes both away'
+	@echo 'make install    builds it and puts it at $(PREFIX)/bin/tup, tup_sh and tup_shim beside it, its page where `man tup` finds it'
+	@echo 'make uninstall  takes them away'
 	@echo 'make fmt        lays out every crate'
 	@echo 'make times      measures what each crate costs the gate from nothing (an hour and more)'
 	@echo 'make clean      removes what was built and what checks kept in this checkout'
 
 build:
 	cd crates/tup && rt run -- --version
+
+# The programs that run a command. Once it is built, each prints its usage: without words it ends with 2, which tells nothing.
+runners:
+	cd crates/tup_sh && rt run | grep '^usage'
+	cd crates/tup_shim && rt run | grep '^usage'
 
 demo: build
 	sh examples/demo.sh $(TUP)
@@ -29,6 +37,10 @@ test:
 try: build
 	sh tests/program.sh $(TUP)
 
+shell: build runners
+	sh tests/shell.sh $(SH)
+	sh tests/c-example.sh $(TUP) $(SH)
+
 killed: build
 	sh tests/killed.sh $(TUP)
 
@@ -38,13 +50,14 @@ fmt:
 times:
 	sh tests/times.sh
 
-install: build
+install: build runners
 	install -D -m 755 $(TUP) $(DESTDIR)$(PREFIX)/bin/tup
+	install -m 755 $(SH) $(SHIM) $(DESTDIR)$(PREFIX)/bin
 	mkdir -p $(dir $(MAN))
 	sed 's/@VERSION@/$(VERSION)/' docs/tup.1 > $(MAN)
 
 uninstall:
-	rm -f $(DESTDIR)$(PREFIX)/bin/tup $(MAN)
+	rm -f $(DESTDIR)$(PREFIX)/bin/tup $(DESTDIR)$(PREFIX)/bin/tup_sh $(DESTDIR)$(PREFIX)/bin/tup_shim $(MAN)
 
 clean:
 	rm -rf crates/*/out

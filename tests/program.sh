@@ -1,9 +1,11 @@
 #!/bin/sh
 # The program as a user meets it: runs the one given as the first word over small projects, each in a new folder, and
 # compares lines, exit numbers and files with what they have to be. It ends with 1 where something differs. What needs the
-# superuser (a full disk, files without permission) is passed over for others.
+# superuser (a full disk, files without permission) is passed over for others, and what needs tup_shim where that isn't
+# built in the folder beside.
 set -u
 tup=$(realpath "$1")
+shim=$(realpath -m "$(dirname "$tup")/../../tup_shim/out/tup_shim")
 work=$(mktemp -d)
 trap 'cd /; umount "$work/small" 2>/dev/null; rm -rf "$work"' EXIT
 failures=0
@@ -25,13 +27,13 @@ same() {
 }
 
 # Runs the program with words: the row's name, its exit number, its lines with a semicolon behind each, the words. Only
-# where a call of the system failed it says something on standard error.
+# where a call of the system, or what runs the commands, failed it says something on standard error.
 row() {
     name=$1 status=$2 lines=$3
     shift 3
     found=$("$tup" "$@" 2> "$work/said"; printf 'exit %s' "$?")
     same "$name" "$(printf '%s' "$found" | tr '\n' ';')" "${lines}exit $status"
-    if [ "$status" != 7 ]; then same "$name, standard error" "$(cat "$work/said")" ""; fi
+    if [ "$status" != 7 ] && [ "$status" != 8 ]; then same "$name, standard error" "$(cat "$work/said")" ""; fi
 }
 
 # What the last row said on standard error: the place, and the system's words.
@@ -166,6 +168,37 @@ truncate -s 8388608 half
 row "a write of more than a file may hold" 1 'read .;run .: cat half half > b;bad .: cat half half a > c;fault: .: cat half half a > c: status 5;' upd
 same "one of just so much" "$(wc -c < b)" 16777216
 
+# Commands that are run through another program.
+project "$copy"
+row "a program that isn't there" 8 'read .;fault: the runner failed;' upd --proc ./none
+said "./none: the program couldn't be started"
+gone "nothing was made" b
+row "the next update goes on" 0 "$done_copy" upd
+row "a program that leaves no log" 8 'read .;fault: the runner failed;' upd --proc true
+said "true: the program's log is bad"
+file "what was made before stands" b hi
+rm -r .tup/stage && echo mine > .tup/stage
+row "no place for its files" 8 'read .;fault: the runner failed;' --proc true
+said "true: the stage couldn't be made or read"
+row "an option without its word" 2 'fault: usage, word 3;' upd --proc
+row "an option twice" 2 'fault: usage, word 4;' upd --proc true --proc true
+if [ -x "$shim" ]; then
+    project "$copy" ': b |> cat b a > c |> c'
+    row "commands through tup_shim" 0 'read .;run .: cp a b;run .: cat b a > c;done: 1 read, 2 run, 0 removed;' upd --proc "$shim"
+    file "what they made" c "$(printf 'hi\nhi')"
+    row "an order that is left out" 0 'read .;run .: cp a b;run .: cat b a > c;done: 1 read, 2 run, 0 removed;' --proc "$shim"
+    project ': a |> cp a g |> g' ': a |> cat a g > h |> h'
+    row "one that reads what it may not" 1 'read .;run .: cp a g;bad .: cat a g > h;fault: .: cat a g > h: reads g;' upd --proc "$shim"
+    gone "nothing was made of it" h
+    project ': a |> cp a b && cp a c |> b'
+    row "one that writes what it may not" 1 'read .;bad .: cp a b && cp a c;fault: .: cp a b && cp a c: writes c;' upd --proc "$shim"
+    gone "nor of this one" b
+    project ': a |> fail 3 |> b'
+    row "one that fails" 1 'read .;bad .: fail 3;fault: .: fail 3: status 3;' upd --proc "$shim"
+else
+    echo "passed over: commands through tup_shim"
+fi
+
 damaged() {
     project "$copy"
     mkdir .tup && printf "$3" > .tup/db
@@ -263,6 +296,7 @@ row "the Tupfile is deleted" 0 'remove b;done: 0 read, 0 run, 1 removed;' upd
 file "the source stays" a ho
 for word in -h Upd '' --help=all; do row "the word '$word'" 2 'fault: usage, word 1;' "$word"; done
 row "two orders" 2 'fault: usage, word 2;' upd demo
+row "an option that isn't known" 2 'fault: usage, word 1;' -k
 row "a word behind --version" 2 'fault: usage, word 1;' --version upd
 
 project ': big |> cp big b |> b'

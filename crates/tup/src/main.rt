@@ -7,12 +7,16 @@
 
 mod words;
 
-use std::alloc::Global;
+use std::alloc::{AllocError, Global};
 use std::io;
 use std::process::ExitCode;
 use tup_fs::FsSite;
+use tup_mini::Mini;
 use tup_output::Output;
-use tup_top::{Status, Word, tup};
+use tup_path::Text;
+use tup_proc_runner::ProcRunner;
+use tup_runner::Runner;
+use tup_top::{Order, Status, Word, order_of, tup};
 use words::words;
 
 const HELP: &str = "\
@@ -20,12 +24,16 @@ tup makes the files that the Tupfile of this folder asks for.
 
   tup, tup upd    update: remove the files of vanished rules, run every rule in order
   tup demo        show an update of a small project in memory
+  tup --proc P    update, each command run through the program P; also tup upd --proc P
   tup --help      print this
   tup --version   print the version
 
 Exit numbers: 0 done, 1 a command's fault, 2 usage, 4 damaged store, 5 fault in a Tupfile,
-7 the file tree or the store failed, 9 the output failed, 11 over a limit, 12 no memory.
+7 the file tree or the store failed, 8 the runner failed, 9 the output failed, 11 over a limit, 12 no memory.
 ";
+
+/// Where a program that runs commands finds and leaves its files.
+const STAGE: &str = ".tup/stage";
 
 /// The version, which stands here alone.
 const VERSION: &str = "0.1";
@@ -47,15 +55,55 @@ fn answer(rt: HostRuntime, alloc: Global, words: &[Word]) -> u8 {
             _ => {}
         }
     }
+    match order_of(words) {
+        Ok(
+            Order::Upd {
+                program: Some(program),
+            },
+        ) => run_through(rt, alloc, words, &program),
+        _ => run(rt, alloc, words, Mini::new(alloc)).0,
+    }
+}
+
+/// Has a crew of this one runner carry out the words; gives the exit number, and the runner back.
+fn run<R: Runner>(rt: HostRuntime, alloc: Global, words: &[Word], runner: R) -> (u8, Option<R>) {
     let Ok(site) = FsSite::new(rt, alloc, ".") else {
-        return told(&rt, Status::Memory);
+        return (told(&rt, Status::Memory), None);
     };
-    let ran = tup(alloc, words, site, &mut Output::new(&rt));
+    let mut crew = Vec::new(alloc);
+    let Ok(()) = crew.push(runner) else {
+        return (told(&rt, Status::Memory), None);
+    };
+    let mut ran = tup(alloc, words, site, crew, &mut Output::new(&rt));
     if let Some(failure) = ran.site.last() {
         // Words that can't be printed change nothing: the exit number tells as much.
         drop(eprintln!(rt; "tup: {failure}"));
     }
-    ran.status.exit()
+    (ran.status.exit(), ran.crew.pop())
+}
+
+/// The same with the runner that starts this program for each command.
+fn run_through(rt: HostRuntime, alloc: Global, words: &[Word], program: &Text) -> u8 {
+    let Ok(runner) = starter(rt, alloc, program) else {
+        return told(&rt, Status::Memory);
+    };
+    let (status, runner) = run(rt, alloc, words, runner);
+    if let Some(fault) = runner.and_then(|runner| runner.last()) {
+        // Words that can't be printed change nothing: the exit number tells as much.
+        drop(eprintln!(rt; "tup: {program}: {fault}"));
+    }
+    status
+}
+
+/// The runner that starts a program.
+fn starter(
+    rt: HostRuntime,
+    alloc: Global,
+    program: &Text,
+) -> Result<ProcRunner<HostRuntime>, AllocError> {
+    let root = Text::from_str(alloc, ".")?;
+    let stage = Text::from_str(alloc, STAGE)?;
+    Ok(ProcRunner::new(rt, root, program.clone()?, stage))
 }
 
 /// The exit number of a text that was to be printed.

@@ -2,11 +2,14 @@
 #![tactic(auto)]
 
 mod branches;
+mod draft;
 mod flags;
 mod glob;
 mod lex;
+mod link;
 mod macros;
 mod parse;
+mod project;
 mod repeated;
 mod vars;
 
@@ -19,5 +22,6 @@ fn main(rt: HostRuntime) -> io::Result<()> {
     glob::try_rows(&rt, alloc)?;
     flags::try_rows(&rt, alloc)?;
     macros::try_rows(&rt, alloc)?;
-    parse::try_rows(&rt, alloc)
+    parse::try_rows(&rt, alloc)?;
+    link::try_rows(&rt, alloc)
 }

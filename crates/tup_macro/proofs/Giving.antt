@@ -110,6 +110,11 @@ module _ {K : Type 0} (eq : K → K → Bool) (key : K) (kept : List (K × BTree
       let known : members_of eq (seen kept) key ≡ Some members.keys = members-seen (seen kept) (Some members) refl (sym there) in
       map-set_value (eq key) (λ (s : BTreeSet Names). s.keys) kept more ∙ ap (set_value (eq key) (seen kept)) one ∙ rw known refl
 
+-- the set behind a reference, as its keys
+pub seen-shown : {R : Type 0} (now : R → BTreeSet Names) (found : Option R) → option_map (λ (r : R). (now r).keys) found ≡ option_map (λ (s : BTreeSet Names). s.keys) (option_map now found)
+seen-shown now None = refl
+seen-shown now (Some set) = refl
+
 -- a key that comes last with its first path
 pub seen-begun : {K S : Type 0} (eq : K → K → Bool) (kept : IndexMap K (BTreeSet Names) S) (gifts : GiftsTo K) (key : K) (first : BTreeSet Names) (path : Names) → seen kept.entries ≡ gifts →
     get eq kept key ≡ None → first.keys ≡ path ∷ [] → seen (insert_entry eq kept.entries key first) ≡ gifts ++ (key, path ∷ []) ∷ []

@@ -1,5 +1,5 @@
 //! Paths that were given to keys.
-ghost use Rattle.std.specs.Prelude.{◌≡◌, ◌++◌, ◌∷◌, [], None, IsSome, IfOk, IfErr, IfSome, OnOk};
+ghost use Rattle.std.specs.Prelude.{◌≡◌, ◌++◌, ◌∷◌, [], None, IsSome, IfOk, IfErr, IfSome, OnOk, option_map};
 ghost use Rattle.std.specs.List.Sorted.{IsStrictlySortedBy};
 ghost use Rattle.tup_path.specs.Order.{by_names};
 ghost use Rattle.tup_macro.specs.Gifts.{members_of, with_gift};
@@ -82,6 +82,13 @@ impl<K: Eq + Hash> Gifts<K> {
             Some(members) => Ok(Some(listed(alloc, members)?)),
             None => Ok(None),
         }
+    }
+
+    /// The set of the paths given to a key, or `None` where there is none.
+    pub(crate) fn get(&self, key: &K) -> Option<&BTreeSet<Path>>
+        ensures { option_map (λ set. set.now.keys) result ≡ members_of K.eq self.now key.now }
+    {
+        self.given.get(key)
     }
 }
 

@@ -1,5 +1,5 @@
 //! Groups of paths by their folders and names.
-ghost use Rattle.std.specs.Prelude.{◌≡◌, [], Ok, IsSome, IfOk, IfSome, IfErr, OnOk};
+ghost use Rattle.std.specs.Prelude.{◌≡◌, [], Ok, IsSome, IfOk, IfSome, IfErr, OnOk, option_map};
 ghost use Rattle.std.specs.List.Sorted.{IsStrictlySortedBy};
 ghost use Rattle.tup_path.specs.Order.{by_names};
 ghost use Rattle.tup_macro.specs.Gifts.{members_of, same_group, with_gift, IsOneMore};
@@ -7,6 +7,7 @@ ghost use Rattle.tup_macro.specs.Gifts.{members_of, same_group, with_gift, IsOne
 use crate::fault::MacroFault;
 use crate::gifts::Gifts;
 use std::alloc::Global;
+use std::collections::BTreeSet;
 use std::marker::Model;
 use tup_path::{Path, Paths};
 use tup_rule::GroupRef;
@@ -55,5 +56,13 @@ impl Groups {
             (fault ≡ MacroFault.Memory) × IsSome (members_of same_group self.now group.now)) }
     {
         self.gifts.members(alloc, group)
+    }
+
+    /// The set of the paths of a group, or `None` just where nothing was given to it. It takes no memory.
+    pub fn get(&self, group: &GroupRef) -> Option<&BTreeSet<Path>>
+        ensures { option_map (λ set. set.now.keys) result
+            ≡ members_of same_group self.now group.now }
+    {
+        self.gifts.get(group)
     }
 }

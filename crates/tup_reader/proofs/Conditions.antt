@@ -1,22 +1,23 @@
 -- What conditionals and assignments come to, case by case.
-use Rattle.std.proofs.Common.{◌≡◌, ◌⊎◌, inl, inr, Bool, true, false, if◌then◌else◌, ℕ, List, Option, Some, None, Result, Ok, Err, ap, sym, is_some}
+use Rattle.std.proofs.Common.{◌≡◌, ◌⊎◌, inl, inr, Bool, true, false, if◌then◌else◌, ℕ, List, Option, Some, None, Result, Ok, Err, ap, sym, ◌∙◌, is_some}
+use Rattle.tup_lex.specs.Blank.{trim}
 use Rattle.tup_lex.specs.declared.kind.ParseKind.TheVariants.{BadName, Unclosed}
 use Rattle.tup_vars.specs.Name.{is_name, is_free}
 use Rattle.tup_vars.specs.Table.{Entries}
 use Rattle.tup_vars.specs.declared.fault.VarFault.{VarFault}
 use Rattle.tup_vars.specs.declared.fault.VarFault.TheVariants as kept
-use Rattle.tup_reader.specs.declared.fault.ParseFault.{ParseFault}
-use Rattle.tup_reader.specs.declared.fault.ReadEnd.{ReadEnd}
-use Rattle.tup_reader.specs.declared.fault.ReadEnd.TheVariants.{Memory}
-use Rattle.tup_reader.specs.declared.state.State.{State}
-use Rattle.tup_reader.specs.Reads.{Reads, gives, and_then}
-use Rattle.tup_reader.specs.Ask.{setting_of}
-use Rattle.tup_reader.specs.Spot.{Spot, refused}
-use Rattle.tup_reader.specs.Text.{var_kind, taken}
+use Rattle.tup_ask.specs.declared.fault.ParseFault.{ParseFault}
+use Rattle.tup_ask.specs.declared.fault.ReadEnd.{ReadEnd}
+use Rattle.tup_ask.specs.declared.fault.ReadEnd.TheVariants.{Memory}
+use Rattle.tup_draft.specs.declared.state.State.{State}
+use Rattle.tup_ask.specs.Reads.{Reads, gives, and_then}
+use Rattle.tup_ask.specs.Ask.{setting_of}
+use Rattle.tup_ask.specs.Spot.{Spot, refused}
+use Rattle.tup_ask.specs.Text.{var_kind, taken, expanded}
 use Rattle.tup_reader.specs.Conditional.{agrees, looked_up, sides, compared, compares}
-use Rattle.tup_reader.specs.Setting.{put_value, with_value}
-use Rattle.tup_reader.specs.Went.{Gives, IsRefusal}
-use Rattle.tup_reader.proofs.Went.{refusal_of}
+use Rattle.tup_reader.specs.Setting.{put_value, set_name, goes_on, with_value, assigned}
+use Rattle.tup_ask.specs.Went.{Gives, IsRefusal}
+use Rattle.tup_ask.proofs.Went.{refusal_of}
 
 pub looked_up-bad : (at : Spot) (wanted : Bool) (name : List ℕ) → is_name name ≡ false → looked_up at wanted name ≡ refused at BadName
 unfolding looked_up
@@ -49,3 +50,15 @@ pub with_value-refused : (at : Spot) (state : State) (name : List ℕ) (more : B
     → (fault ≡ kept.Memory) ⊎ (put_value state.variables name more value ≡ Err fault) → Gives (with_value at state name more value) (Err end)
 with_value-refused at state name more value fault end is memory (inl e) = refusal_of (with_value at state name more value) at (var_kind fault) end is (inl (memory e))
 with_value-refused at state name more value fault end is memory (inr e) = refusal_of (with_value at state name more value) at (var_kind fault) end is (inr (with_value-err at state name more value fault e))
+
+-- ---- assignments
+pub assigned-bad : (at : Spot) (state : State) (left right : List ℕ) → is_free (set_name left) ≡ false → assigned at state left right ≡ refused at BadName
+unfolding assigned
+assigned-bad at state left right e = ap (λ b. if b then and_then (expanded at state.variables (trim right)) (λ value. with_value at state (set_name left) (goes_on left) value) else refused at BadName) e
+
+pub assigned-free : (at : Spot) (state : State) (left right text : List ℕ) → is_free (set_name left) ≡ true → text ≡ trim right
+    → assigned at state left right ≡ and_then (expanded at state.variables text) (λ value. with_value at state (set_name left) (goes_on left) value)
+unfolding assigned
+assigned-free at state left right text e is =
+    ap (λ b. if b then and_then (expanded at state.variables (trim right)) (λ value. with_value at state (set_name left) (goes_on left) value) else refused at BadName) e
+    ∙ ap (λ (t : List ℕ). and_then (expanded at state.variables t) (λ value. with_value at state (set_name left) (goes_on left) value)) (sym is)

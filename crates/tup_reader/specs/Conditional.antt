@@ -1,15 +1,15 @@
 -- What conditionals test, from the manual; the bracket at the line's end and the first comma are own.
-use Rattle.std.specs.Prelude.{ℕ, Bool, true, false, if◌then◌else◌, List, Option, Some, None, option_and_then, is_some, bytes_eq, not, codes}
+use Rattle.std.specs.Prelude.{ℕ, Bool, if◌then◌else◌, List, Option, Some, None, option_and_then, is_some, bytes_eq, not, codes}
 use Rattle.tup_lex.specs.declared.kind.ParseKind.TheVariants.{Unclosed, BadName}
 use Rattle.tup_vars.specs.Name.{is_name}
 use Rattle.tup_vars.specs.Config.{around, behind}
 use Rattle.tup_vars.specs.Table.{Entries}
-use Rattle.tup_reader.specs.declared.fault.ParseFault.{ParseFault}
-use Rattle.tup_reader.specs.Reads.{Reads, gives, and_then}
-use Rattle.tup_reader.specs.Ask.{setting_of}
-use Rattle.tup_reader.specs.Last.{before_last}
-use Rattle.tup_reader.specs.Spot.{Spot, refused}
-use Rattle.tup_reader.specs.Text.{expanded}
+use Rattle.tup_ask.specs.declared.fault.ParseFault.{ParseFault}
+use Rattle.tup_ask.specs.Reads.{Reads, gives, and_then}
+use Rattle.tup_ask.specs.Ask.{setting_of}
+use Rattle.tup_draft.specs.Last.{before_last}
+use Rattle.tup_ask.specs.Spot.{Spot, refused}
+use Rattle.tup_ask.specs.Text.{expanded}
 
 -- what stands in a bracket that begins and ends a text
 abbrev pub bracketed : List ℕ → Option (List ℕ)

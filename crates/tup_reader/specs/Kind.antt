@@ -1,6 +1,6 @@
 -- The kinds of line, from the manual; where a first word ends is own. What a first word or a whole line tells comes before
 -- what its first byte tells, and an assignment comes last.
-use Rattle.std.specs.Prelude.{ℕ, ◌-◌, ◌==◌, ◌||◌, Bool, true, false, not, if◌then◌else◌, List, [], ◌∷◌, length, take, drop, slice_index, codes, bytes_eq, Option, Some, None}
+use Rattle.std.specs.Prelude.{ℕ, Bool, true, false, not, if◌then◌else◌, List, take, drop, codes, bytes_eq, Some, None}
 use Rattle.std.specs.List.{prefix_len}
 use Rattle.tup_lex.specs.Blank.{is_blank, trim}
 use Rattle.tup_vars.specs.Config.{around, behind}

@@ -1,17 +1,17 @@
 -- Assignments, from the manual; what is refused, and in which order, is own.
-use Rattle.std.specs.Prelude.{ℕ, Bool, if◌then◌else◌, List, Option, Some, None, is_some, Result}
+use Rattle.std.specs.Prelude.{ℕ, Bool, if◌then◌else◌, List, Some, None, is_some, Result}
 use Rattle.tup_lex.specs.Blank.{trim}
 use Rattle.tup_lex.specs.declared.kind.ParseKind.TheVariants.{BadName}
 use Rattle.tup_vars.specs.Name.{is_free}
 use Rattle.tup_vars.specs.Table.{Entries}
 use Rattle.tup_vars.specs.Vars.{set_to, appending}
 use Rattle.tup_vars.specs.declared.fault.VarFault.{VarFault}
-use Rattle.tup_reader.specs.declared.fault.ParseFault.{ParseFault}
-use Rattle.tup_reader.specs.declared.state.State.{State}
-use Rattle.tup_reader.specs.Reads.{Reads, gives, and_then}
-use Rattle.tup_reader.specs.Last.{before_last}
-use Rattle.tup_reader.specs.Spot.{Spot, refused}
-use Rattle.tup_reader.specs.Text.{var_kind, taken, expanded}
+use Rattle.tup_ask.specs.declared.fault.ParseFault.{ParseFault}
+use Rattle.tup_draft.specs.declared.state.State.{State}
+use Rattle.tup_ask.specs.Reads.{Reads, gives, and_then}
+use Rattle.tup_draft.specs.Last.{before_last}
+use Rattle.tup_ask.specs.Spot.{Spot, refused}
+use Rattle.tup_ask.specs.Text.{var_kind, taken, expanded}
 
 -- a text without a `:` or a `+` at its end
 abbrev pub unmarked : List ℕ → List ℕ

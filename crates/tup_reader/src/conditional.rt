@@ -1,20 +1,17 @@
 //! What conditionals test.
-ghost use Rattle.std.specs.Prelude.{◌≡◌, false, option_map};
+ghost use Rattle.std.specs.Prelude.{◌≡◌, false, option_map, is_some};
 ghost use Rattle.tup_reader.specs.Conditional as specs;
-ghost use Rattle.tup_reader.specs.Went.{Went, asker};
+ghost use Rattle.tup_ask.specs.Went.{Went, asker};
 
-use crate::ask::{Log, setting_of};
-use crate::env::Env;
-use crate::fault::ReadEnd;
-use crate::last::before_last;
-use crate::spot::Spot;
-use crate::text::expanded;
 use std::alloc::Global;
+use tup_ask::{Env, Log, ReadEnd, Spot, expanded, setting_of};
+use tup_draft::before_last;
 use tup_lex::ParseKind;
 use tup_path::Text;
 use tup_vars::{Vars, is_name};
 
-/// Whether the two sides of `(LEFT,RIGHT)` stand for the same, or for different texts where that is wanted.
+/// Whether the two sides of `(LEFT,RIGHT)` stand for the same, or for different texts where that is
+/// wanted.
 pub(crate) fn compares<E: Env>(
     alloc: Global,
     env: &mut E,
@@ -24,7 +21,7 @@ pub(crate) fn compares<E: Env>(
     alike: bool,
     text: &str,
 ) -> Result<bool, ReadEnd>
-    requires { E.stopped env.old ≡ false }
+    requires { is_some (E.stopped env.old) ≡ false }
     ensures { Went E.tells (asker (E.answers env.old) (E.stopped env.old) log.old)
         (specs.compares at.now variables.now alike text.now)
         (asker (E.answers env.new) (E.stopped env.new) log.new) result }
@@ -35,6 +32,7 @@ pub(crate) fn compares<E: Env>(
     }
 }
 
+/// Whether two texts stand for the same, or for different ones where that is wanted.
 fn compared<E: Env>(
     alloc: Global,
     env: &mut E,
@@ -45,7 +43,7 @@ fn compared<E: Env>(
     left: &str,
     right: &str,
 ) -> Result<bool, ReadEnd>
-    requires { E.stopped env.old ≡ false }
+    requires { is_some (E.stopped env.old) ≡ false }
     ensures { Went E.tells (asker (E.answers env.old) (E.stopped env.old) log.old)
         (specs.compared at.now variables.now alike left.now right.now)
         (asker (E.answers env.new) (E.stopped env.new) log.new) result }
@@ -64,7 +62,7 @@ pub(crate) fn looked_up<E: Env>(
     wanted: bool,
     name: &str,
 ) -> Result<bool, ReadEnd>
-    requires { E.stopped env.old ≡ false }
+    requires { is_some (E.stopped env.old) ≡ false }
     ensures { Went E.tells (asker (E.answers env.old) (E.stopped env.old) log.old)
         (specs.looked_up at.now wanted name.now)
         (asker (E.answers env.new) (E.stopped env.new) log.new) result }
@@ -77,6 +75,7 @@ pub(crate) fn looked_up<E: Env>(
     Ok(agrees(wanted, value.is_some()))
 }
 
+/// Whether what was found is what was wanted.
 fn agrees(wanted: bool, found: bool) -> bool
     ensures { result ≡ specs.agrees wanted found }
 {

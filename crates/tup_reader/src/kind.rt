@@ -92,6 +92,7 @@ fn blank_in(line: &[u8]) -> Option<usize>
     line.iter().position(|byte| is_blank(*byte))
 }
 
+/// Whether a byte is a blank.
 fn is_blank(byte: u8) -> bool
     ensures { result ≡ blank_test byte }
 {

@@ -1,16 +1,11 @@
 //! Assignments.
-ghost use Rattle.std.specs.Prelude.{◌≡◌, ◌⊎◌, false, Ok, Err, MatchResult};
+ghost use Rattle.std.specs.Prelude.{◌≡◌, ◌⊎◌, false, Ok, Err, MatchResult, is_some};
 ghost use Rattle.tup_reader.specs.Setting as specs;
-ghost use Rattle.tup_reader.specs.Went.{Went, asker, Gives};
+ghost use Rattle.tup_ask.specs.Went.{Went, asker, Gives};
 
-use crate::ask::Log;
-use crate::env::Env;
-use crate::fault::ReadEnd;
-use crate::last::before_last;
-use crate::spot::Spot;
-use crate::state::State;
-use crate::text::{expanded, var_end};
 use std::alloc::Global;
+use tup_ask::{Env, Log, ReadEnd, Spot, expanded, var_end};
+use tup_draft::{State, before_last};
 use tup_lex::{ParseKind, trimmed};
 use tup_path::Text;
 use tup_vars::{VarFault, Vars, is_free};
@@ -25,7 +20,7 @@ pub(crate) fn assigned<E: Env>(
     left: &str,
     right: &str,
 ) -> Result<State, ReadEnd>
-    requires { E.stopped env.old ≡ false }
+    requires { is_some (E.stopped env.old) ≡ false }
     ensures { Went E.tells (asker (E.answers env.old) (E.stopped env.old) log.old)
         (specs.assigned at.now state left.now right.now)
         (asker (E.answers env.new) (E.stopped env.new) log.new) result }
@@ -84,6 +79,7 @@ fn with_value(
     }
 }
 
+/// Sets a variable, or adds to what it is set to.
 fn put_value(
     alloc: Global,
     variables: &mut Vars,

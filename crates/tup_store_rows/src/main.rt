@@ -1,4 +1,4 @@
-//! The rows of the store: fields, records, lists of owned paths, stores, tables over a site, and graphs.
+//! The rows of the store: fields, records, lists of owned paths, stores, tables and graphs over a site, and graphs.
 //!
 //! Each file of `data/` has rows, a call with the answer that is wanted each. The head of a file says what its calls
 //! and their arguments mean.
@@ -7,6 +7,7 @@
 mod changes;
 mod field;
 mod graph;
+mod kept;
 mod owned;
 mod record;
 mod say;
@@ -18,6 +19,7 @@ mod values;
 
 use field::Fields;
 use graph::Graphs;
+use kept::KeptGraphs;
 use owned::OwnedLists;
 use record::Records;
 use sites::Sites;
@@ -33,5 +35,6 @@ fn main(rt: HostRuntime) -> io::Result<()> {
     try_file(&rt, alloc, "table.rows", &mut Tables)?;
     try_file_by(&rt, alloc, "site.rows", Sites::new(alloc))?;
     try_file(&rt, alloc, "graph.rows", &mut Graphs)?;
-    try_file(&rt, alloc, "scan.rows", &mut Graphs)
+    try_file(&rt, alloc, "scan.rows", &mut Graphs)?;
+    try_file_by(&rt, alloc, "kept.rows", KeptGraphs::new(alloc))
 }

@@ -93,7 +93,7 @@ fn one(alloc: Global, said: &Words, number: u64) -> Vec<u64> {
 const BEFORE_A_COMMIT: u64 = 5;
 
 /// A site without files that holds a store. The calls with these numbers will fail.
-fn site_with(alloc: Global, store: &[u8], fails: Vec<u64>) -> Result<MemSite, RowFault> {
+pub fn site_with(alloc: Global, store: &[u8], fails: Vec<u64>) -> Result<MemSite, RowFault> {
     let Ok(mut site) = MemSite::new(alloc, Vec::new(alloc), fails) else {
         return Err(RowFault::Memory);
     };

@@ -130,7 +130,7 @@ fn edits(
 }
 
 /// The number that the first word is.
-fn number(said: &Words) -> u32 {
+pub fn number(said: &Words) -> u32 {
     number_at(said, 0)
 }
 
@@ -148,7 +148,7 @@ fn number_at(said: &Words, at: usize) -> u32 {
 }
 
 /// The numbers that so many words are.
-fn numbers(alloc: Global, said: &Words, count: usize) -> Vec<u32> {
+pub fn numbers(alloc: Global, said: &Words, count: usize) -> Vec<u32> {
     let mut numbers = Vec::new(alloc);
     for at in 0..count {
         if numbers.push(number_at(said, at)).is_err() {
@@ -159,7 +159,7 @@ fn numbers(alloc: Global, said: &Words, count: usize) -> Vec<u32> {
 }
 
 /// The paths that so many words name from the top directory.
-fn paths(alloc: Global, said: &Words, count: usize) -> Vec<Path> {
+pub fn paths(alloc: Global, said: &Words, count: usize) -> Vec<Path> {
     let mut paths = Vec::new(alloc);
     for at in 0..count {
         if paths.push(said.path_at(alloc, at)).is_err() {
@@ -170,7 +170,7 @@ fn paths(alloc: Global, said: &Words, count: usize) -> Vec<Path> {
 }
 
 /// The run that the words behind the first spell.
-fn run(alloc: Global, said: &Words, words: &[Vec<u8>]) -> Result<RunRecord, RowFault> {
+pub fn run(alloc: Global, said: &Words, words: &[Vec<u8>]) -> Result<RunRecord, RowFault> {
     let Some((_, spelled)) = words.split_first() else {
         return Err(RowFault::TooFew);
     };

@@ -1,21 +1,28 @@
 -- How an order ends whose update came out so: what is promised of the update holds of the status that tells of it.
-use Rattle.std.proofs.Common.{◌≡◌, inl, inr, ℕ, List, [], Option, None, Some, IfSome, refl, sym, ap, subst, ◌∙◌, append-nil}
+use Rattle.std.proofs.Common.{◌≡◌, inl, inr, ℕ, zero, suc, List, [], ◌∷◌, ◌++◌, Option, None, Some, IfSome, refl, sym, ap, subst, ◌∙◌, append-nil, arith}
+use Rattle.std.specs.List.{slice_get}
 use Rattle.std.proofs.lemmas.Bool.{false≢true}
+use Rattle.tup_path.specs.Count.{Rose}
+use Rattle.tup_path.specs.Name.{Names}
 use Rattle.tup_site.specs.World.{World}
 use Rattle.tup_site.specs.declared.fault.SiteFailed.TheVariants.{Fault, TooLarge, Memory as NoMemory}
+use Rattle.tup_rule.specs.declared.rule.RuleName.{RuleName}
+use Rattle.tup_runner.specs.Next.{Next}
 use Rattle.tup_access.specs.declared.verdict.Verdict.TheVariants.{Good, Failed, IllegalRead as ReadsIllegally, IllegalWrite as WritesIllegally, Unwritten as LeavesUnwritten, TooManyReads as ReadsTooOften}
-use Rattle.tup_update.specs.Log.{LogFits, whole_log}
-use Rattle.tup_update.specs.Outcome.{ExactlyTheFiles, NothingForgotten, IsLeft, HasCountedCause as StopHasCountedCause}
+use Rattle.tup_update.specs.Log.{LogFits, IsFront, whole_log}
+use Rattle.tup_update.specs.Ran.{RunsThese}
+use Rattle.tup_update.specs.Outcome.{ExactlyTheFiles, NothingForgotten, IsLeft, HasRunCause, HasCountedCause as StopHasCountedCause}
 use Rattle.tup_update.specs.declared.update.Log.{Log}
 use Rattle.tup_update.specs.declared.stop.Stop.{Stop}
-use Rattle.tup_update.specs.declared.stop.Stop.TheVariants.{BadStore as StoreDamaged, Parse as ParseFailed, Bad, Outside}
+use Rattle.tup_update.specs.declared.stop.Stop.TheVariants.{BadStore as StoreDamaged, Parse as ParseFailed, Bad, Run, Outside}
 use Rattle.tup_top.specs.Lines.{lines}
-use Rattle.tup_top.specs.Promise.{CountsAll, Counts, HasCountedCause, HasDemoCause}
+use Rattle.tup_top.specs.Crew.{OneRose, RanFits}
+use Rattle.tup_top.specs.Promise.{CountsAll, Counts, AreSteady, HasCountedCause, HasDemoCause}
 use Rattle.tup_top.specs.Printed.{IsDone, Ends, Prints, Told, PrintsUpdate}
 use Rattle.tup_top.specs.Status.{status_of, came_to}
 use Rattle.tup_top.specs.declared.status.What.TheVariants.{FileSize}
 use Rattle.tup_top.specs.declared.status.Status.{Status}
-use Rattle.tup_top.specs.declared.status.Status.TheVariants.{Done, Command, IllegalRead, IllegalWrite, Unwritten, TooManyReads, Usage, BadStore, Parse, SiteFault, SinkFault, Limit, Memory}
+use Rattle.tup_top.specs.declared.status.Status.TheVariants.{Done, Command, IllegalRead, IllegalWrite, Unwritten, TooManyReads, Usage, BadStore, Parse, SiteFault, RunFault, SinkFault, Limit, Memory}
 
 -- the status of an update tells what the update came to
 came_to-status_of : (before now : ℕ) (log : Log) (stopped : Option Stop) → StopHasCountedCause before now stopped → came_to (status_of log stopped) ≡ Some stopped
@@ -28,6 +35,7 @@ came_to-status_of before now log (Some (Bad rule (ReadsIllegally text))) cause =
 came_to-status_of before now log (Some (Bad rule (WritesIllegally text))) cause = refl
 came_to-status_of before now log (Some (Bad rule (LeavesUnwritten path))) cause = refl
 came_to-status_of before now log (Some (Bad rule ReadsTooOften)) cause = refl
+came_to-status_of before now log (Some Run) cause = refl
 came_to-status_of before now log (Some (Outside Fault)) cause = refl
 came_to-status_of before now log (Some (Outside (TooLarge number))) cause = refl
 came_to-status_of before now log (Some (Outside NoMemory)) cause = refl
@@ -43,6 +51,7 @@ done_is_none log (Some (Bad rule (ReadsIllegally text))) done = absurd done
 done_is_none log (Some (Bad rule (WritesIllegally text))) done = absurd done
 done_is_none log (Some (Bad rule (LeavesUnwritten path))) done = absurd done
 done_is_none log (Some (Bad rule ReadsTooOften)) done = absurd done
+done_is_none log (Some Run) done = absurd done
 done_is_none log (Some (Outside Fault)) done = absurd done
 done_is_none log (Some (Outside (TooLarge number))) done = absurd done
 done_is_none log (Some (Outside NoMemory)) done = absurd done
@@ -58,61 +67,83 @@ answered P before now old new log stopped status answer is (inr (inr (e, done, r
     subst (λ (s : Status). IfSome (came_to s) P) (sym e) (subst P (done_is_none log stopped (subst IsDone is done)) p)
 
 -- also where there was no memory for its lines
-pub untold_left : (old new : World) (stopped : Option Stop) → NothingForgotten old new stopped → ExactlyTheFiles old new stopped → IsLeft old new
-untold_left old new None left files = inr (inr (record { clean = files.clean; files = files.files }))
-untold_left old new (Some (StoreDamaged offset)) same files = inr (inl (ap (λ (w : World). w.tree) same))
-untold_left old new (Some (ParseFailed fault)) same files = inr (inl (ap (λ (w : World). w.tree) same))
-untold_left old new (Some (Bad rule verdict)) listed files = inl listed
-untold_left old new (Some (Outside Fault)) left files = left
-untold_left old new (Some (Outside (TooLarge number))) (inl same) files = inr (inl (ap (λ (w : World). w.tree) same))
-untold_left old new (Some (Outside (TooLarge number))) (inr listed) files = inl listed
-untold_left old new (Some (Outside NoMemory)) left files = left
+pub untold_left : (next : Next) (old new : World) (stopped : Option Stop) → NothingForgotten next old new stopped → ExactlyTheFiles next old new stopped → IsLeft next old new
+untold_left next old new None left files = inr (inr (record { clean = files.clean; files = files.files }))
+untold_left next old new (Some (StoreDamaged offset)) same files = inr (inl (ap (λ (w : World). w.tree) same))
+untold_left next old new (Some (ParseFailed fault)) same files = inr (inl (ap (λ (w : World). w.tree) same))
+untold_left next old new (Some (Bad rule verdict)) listed files = inl listed
+untold_left next old new (Some Run) listed files = inl listed
+untold_left next old new (Some (Outside Fault)) left files = left
+untold_left next old new (Some (Outside (TooLarge number))) (inl same) files = inr (inl (ap (λ (w : World). w.tree) same))
+untold_left next old new (Some (Outside (TooLarge number))) (inr listed) files = inl listed
+untold_left next old new (Some (Outside NoMemory)) left files = left
 
 -- ---- counts
 
-counts_of_stop : (old : World) (log : Log) (stopped : Option Stop) → LogFits old log stopped → CountsAll old (status_of log stopped)
-counts_of_stop old log None fits = ap (λ (l : Log). status_of l None) fits
-counts_of_stop old log (Some (StoreDamaged offset)) fits = tt
-counts_of_stop old log (Some (ParseFailed fault)) fits = tt
-counts_of_stop old log (Some (Bad rule Good)) fits = tt
-counts_of_stop old log (Some (Bad rule (Failed status))) fits = tt
-counts_of_stop old log (Some (Bad rule (ReadsIllegally text))) fits = tt
-counts_of_stop old log (Some (Bad rule (WritesIllegally text))) fits = tt
-counts_of_stop old log (Some (Bad rule (LeavesUnwritten path))) fits = tt
-counts_of_stop old log (Some (Bad rule ReadsTooOften)) fits = tt
-counts_of_stop old log (Some (Outside Fault)) fits = tt
-counts_of_stop old log (Some (Outside (TooLarge number))) fits = tt
-counts_of_stop old log (Some (Outside NoMemory)) fits = tt
+counts_of_stop : (next : Next) (old : World) (log : Log) (stopped : Option Stop) → LogFits next old log stopped → CountsAll next old (status_of log stopped)
+counts_of_stop next old log None fits = ap (λ (l : Log). status_of l None) fits
+counts_of_stop next old log (Some (StoreDamaged offset)) fits = tt
+counts_of_stop next old log (Some (ParseFailed fault)) fits = tt
+counts_of_stop next old log (Some (Bad rule Good)) fits = tt
+counts_of_stop next old log (Some (Bad rule (Failed status))) fits = tt
+counts_of_stop next old log (Some (Bad rule (ReadsIllegally text))) fits = tt
+counts_of_stop next old log (Some (Bad rule (WritesIllegally text))) fits = tt
+counts_of_stop next old log (Some (Bad rule (LeavesUnwritten path))) fits = tt
+counts_of_stop next old log (Some (Bad rule ReadsTooOften)) fits = tt
+counts_of_stop next old log (Some Run) fits = tt
+counts_of_stop next old log (Some (Outside Fault)) fits = tt
+counts_of_stop next old log (Some (Outside (TooLarge number))) fits = tt
+counts_of_stop next old log (Some (Outside NoMemory)) fits = tt
 
 -- what an update counts is what it had to do
-pub counts_all : (old : World) (before now : ℕ) (log : Log) (stopped : Option Stop) (status answer : Status) → status ≡ status_of log stopped → Ends before now status answer → LogFits old log stopped → CountsAll old answer
-counts_all old before now log stopped status answer is (inl e) fits = subst (CountsAll old) (sym (e ∙ is)) (counts_of_stop old log stopped fits)
-counts_all old before now log stopped status answer is (inr (inl e)) fits = subst (CountsAll old) (sym e) tt
-counts_all old before now log stopped status answer is (inr (inr (e, done, rose))) fits = subst (CountsAll old) (sym e) tt
+pub counts_all : (next : Next) (old : World) (before now : ℕ) (log : Log) (stopped : Option Stop) (status answer : Status) → status ≡ status_of log stopped → Ends before now status answer → LogFits next old log stopped → CountsAll next old answer
+counts_all next old before now log stopped status answer is (inl e) fits = subst (CountsAll next old) (sym (e ∙ is)) (counts_of_stop next old log stopped fits)
+counts_all next old before now log stopped status answer is (inr (inl e)) fits = subst (CountsAll next old) (sym e) tt
+counts_all next old before now log stopped status answer is (inr (inr (e, done, rose))) fits = subst (CountsAll next old) (sym e) tt
 
-counted_of_stop : (before now : Counts) (log : Log) (stopped : Option Stop) → (IsDone (status_of log stopped) → now.sink ≡ before.sink) → StopHasCountedCause before.site now.site stopped → HasCountedCause before now (status_of log stopped)
-counted_of_stop before now log None sink cause = (cause, sink tt)
-counted_of_stop before now log (Some (StoreDamaged offset)) sink cause = cause
-counted_of_stop before now log (Some (ParseFailed fault)) sink cause = cause
-counted_of_stop before now log (Some (Bad rule Good)) sink cause = tt
-counted_of_stop before now log (Some (Bad rule (Failed status))) sink cause = cause.0
-counted_of_stop before now log (Some (Bad rule (ReadsIllegally text))) sink cause = cause.0
-counted_of_stop before now log (Some (Bad rule (WritesIllegally text))) sink cause = cause.0
-counted_of_stop before now log (Some (Bad rule (LeavesUnwritten path))) sink cause = cause.0
-counted_of_stop before now log (Some (Bad rule ReadsTooOften)) sink cause = cause.0
-counted_of_stop before now log (Some (Outside Fault)) sink cause = cause
-counted_of_stop before now log (Some (Outside (TooLarge number))) sink cause = cause
-counted_of_stop before now log (Some (Outside NoMemory)) sink cause = tt
+-- what a site, one runner and a sink count
+abbrev pub of_one : ℕ → ℕ → ℕ → Counts
+of_one site runner sink = record { site = site; runners = runner ∷ []; sink = sink }
 
--- and no count rises unseen
-pub counted_cause : (before now : Counts) (log : Log) (stopped : Option Stop) (status answer : Status) → status ≡ status_of log stopped → Ends before.sink now.sink status answer →
-    (IsDone answer → now.sink ≡ before.sink) → StopHasCountedCause before.site now.site stopped → HasCountedCause before now answer
-counted_cause before now log stopped status answer is (inl e) sink cause =
-    subst (HasCountedCause before now) (sym (e ∙ is)) (counted_of_stop before now log stopped (λ done. sink (subst IsDone (sym (e ∙ is)) done)) cause)
-counted_cause before now log stopped status answer is (inr (inl e)) sink cause = subst (HasCountedCause before now) (sym e) tt
-counted_cause before now log stopped status answer is (inr (inr (e, done, rose))) sink cause =
-    let none : StopHasCountedCause before.site now.site None = subst (StopHasCountedCause before.site now.site) (done_is_none log stopped (subst IsDone is done)) cause in
-    subst (HasCountedCause before now) (sym e) (none, rose)
+module _ (site_before site_now run_before run_now sink_before sink_now : ℕ) where
+  abbrev before : Counts
+  before = of_one site_before run_before sink_before
+
+  abbrev now : Counts
+  now = of_one site_now run_now sink_now
+
+  steady : site_now ≡ site_before → run_now ≡ run_before → AreSteady before now
+  steady site run = (site, ap (λ (n : ℕ). n ∷ []) run)
+
+  one_rose : Rose run_before run_now → OneRose (run_before ∷ []) (run_now ∷ [])
+  one_rose rose = record { at = 0; was = run_before; is = run_now; stood = refl; stands = refl; rose = rose }
+
+  counted_of_stop : (log : Log) (stopped : Option Stop) → (IsDone (status_of log stopped) → sink_now ≡ sink_before) → StopHasCountedCause site_before site_now stopped → HasRunCause run_before run_now stopped →
+      HasCountedCause before now (status_of log stopped)
+  counted_of_stop log None sink cause run = (steady cause run, sink tt)
+  counted_of_stop log (Some (StoreDamaged offset)) sink cause run = steady cause run
+  counted_of_stop log (Some (ParseFailed fault)) sink cause run = steady cause run
+  counted_of_stop log (Some (Bad rule Good)) sink cause run = tt
+  counted_of_stop log (Some (Bad rule (Failed status))) sink cause run = steady cause.0 run
+  counted_of_stop log (Some (Bad rule (ReadsIllegally text))) sink cause run = steady cause.0 run
+  counted_of_stop log (Some (Bad rule (WritesIllegally text))) sink cause run = steady cause.0 run
+  counted_of_stop log (Some (Bad rule (LeavesUnwritten path))) sink cause run = steady cause.0 run
+  counted_of_stop log (Some (Bad rule ReadsTooOften)) sink cause run = steady cause.0 run
+  counted_of_stop log (Some Run) sink cause run = (cause, one_rose run)
+  counted_of_stop log (Some (Outside Fault)) sink cause run = (cause, ap (λ (n : ℕ). n ∷ []) run)
+  counted_of_stop log (Some (Outside (TooLarge number))) sink cause run = (steady cause.0 run, cause.1)
+  counted_of_stop log (Some (Outside NoMemory)) sink cause run = tt
+
+  -- and no count rises unseen
+  pub counted_cause : (log : Log) (stopped : Option Stop) (status answer : Status) → status ≡ status_of log stopped → Ends sink_before sink_now status answer →
+      (IsDone answer → sink_now ≡ sink_before) → StopHasCountedCause site_before site_now stopped → HasRunCause run_before run_now stopped → HasCountedCause before now answer
+  counted_cause log stopped status answer is (inl e) sink cause run =
+      subst (HasCountedCause before now) (sym (e ∙ is)) (counted_of_stop log stopped (λ done. sink (subst IsDone (sym (e ∙ is)) done)) cause run)
+  counted_cause log stopped status answer is (inr (inl e)) sink cause run = subst (HasCountedCause before now) (sym e) tt
+  counted_cause log stopped status answer is (inr (inr (e, done, rose))) sink cause run =
+      let none = done_is_none log stopped (subst IsDone is done) in
+      subst (HasCountedCause before now) (sym e)
+      (steady (subst (StopHasCountedCause site_before site_now) none cause) (subst (HasRunCause run_before run_now) none run), rose)
 
 -- ---- what is printed
 
@@ -125,46 +156,87 @@ prints_nothing text before now held = record {
 }
 
 -- the lines of an update were handed to the sink
-pub prints_update : (old : World) (before now : ℕ) (held grown : List ℕ) (told : Told old) (status : Status) (text : List ℕ) (answer : Status) → status ≡ status_of told.log told.stopped → text ≡ lines told.rules told.log status → Ends before now status answer → Prints text before now held grown answer → PrintsUpdate old before now held grown answer
-prints_update old before now held grown told status text answer is reads ends prints = record {
+pub prints_update : (next : Next) (old : World) (before now : ℕ) (held grown : List ℕ) (told : Told next old) (status : Status) (text : List ℕ) (answer : Status) → status ≡ status_of told.log told.stopped → text ≡ lines told.rules told.log status → Ends before now status answer → Prints text before now held grown answer → PrintsUpdate next old before now held grown answer
+prints_update next old before now held grown told status text answer is reads ends prints = record {
   told = told;
   ends = subst (λ s. Ends before now s answer) is ends;
   prints = subst (λ t. Prints t before now held grown answer) (reads ∙ ap (λ s. lines told.rules told.log s) is) prints;
 }
 
--- what a demo may answer, from what its update may
-pub demo_cause : (before now : Counts) (status : Status) → HasCountedCause before now status → HasDemoCause before.sink now.sink status
-demo_cause before now (Done read ran removed) cause = cause.1
-demo_cause before now (Command rule status) cause = tt
-demo_cause before now (IllegalRead rule text) cause = tt
-demo_cause before now (IllegalWrite rule text) cause = tt
-demo_cause before now (Unwritten rule path) cause = tt
-demo_cause before now (TooManyReads rule) cause = tt
-demo_cause before now (Usage place) cause = cause
-demo_cause before now (BadStore offset) cause = tt
-demo_cause before now (Parse fault) cause = tt
-demo_cause before now SiteFault cause = tt
-demo_cause before now SinkFault cause = cause.1
-demo_cause before now (Limit FileSize number) cause = cause.1
-demo_cause before now Memory cause = tt
+-- what a demo may answer, from what its update may: its runner counts no failures
+never_rose : OneRose (0 ∷ []) (0 ∷ []) → ⊥
+never_rose one = by one.at one.was one.is one.stood one.stands one.rose
+  where
+    by : (at was is : ℕ) → slice_get (0 ∷ []) at ≡ Some was → slice_get (0 ∷ []) at ≡ Some is → Rose was is → ⊥
+    by zero was is stood stands (inl more) = let none : was ≡ 0 = cc stood in let same : is ≡ 0 = cc stands in omega (arith, none, same, more)
+    by zero was is stood stands (inr end) = let same : is ≡ 0 = cc stands in omega (arith, same, end)
+    by (suc at) was is stood stands rose = absurd (cc stood)
+
+pub demo_cause : (site_before site_now sink_before sink_now : ℕ) (status : Status) → HasCountedCause (of_one site_before 0 sink_before) (of_one site_now 0 sink_now) status → HasDemoCause sink_before sink_now status
+demo_cause site_before site_now before now (Done read ran removed) cause = cause.1
+demo_cause site_before site_now before now (Command rule status) cause = tt
+demo_cause site_before site_now before now (IllegalRead rule text) cause = tt
+demo_cause site_before site_now before now (IllegalWrite rule text) cause = tt
+demo_cause site_before site_now before now (Unwritten rule path) cause = tt
+demo_cause site_before site_now before now (TooManyReads rule) cause = tt
+demo_cause site_before site_now before now (Usage place) cause = cause
+demo_cause site_before site_now before now (BadStore offset) cause = tt
+demo_cause site_before site_now before now (Parse fault) cause = tt
+demo_cause site_before site_now before now SiteFault cause = tt
+demo_cause site_before site_now before now RunFault cause = never_rose cause.1
+demo_cause site_before site_now before now SinkFault cause = cause.1
+demo_cause site_before site_now before now (Limit FileSize number) cause = cause.1
+demo_cause site_before site_now before now Memory cause = tt
 
 -- an update that didn't begin, for want of memory
-abbrev pub told_nothing : (old : World) → Told old
-told_nothing old = record {
+abbrev pub told_nothing : (next : Next) (old : World) → Told next old
+told_nothing next old = record {
   rules = [];
-  log = record { read = []; removed = []; verdicts = [] };
+  log = record { read = []; removed = []; ran = []; verdicts = [] };
   stopped = Some (Outside NoMemory);
   are_its_rules = inl refl;
   is_its_log = record {
-    read = ((whole_log old).read, refl);
-    removed = ((whole_log old).removed, refl);
-    verdicts = ((whole_log old).verdicts, refl);
+    read = ((whole_log next old).read, refl);
+    removed = ((whole_log next old).removed, refl);
+    ran = ((whole_log next old).ran, refl);
+    verdicts = ((whole_log next old).verdicts, refl);
   };
 }
 
-pub prints_no_update : (old : World) (before now : ℕ) (held : List ℕ) → PrintsUpdate old before now held held Memory
-prints_no_update old before now held = record {
-  told = told_nothing old;
+pub prints_no_update : (next : Next) (old : World) (before now : ℕ) (held : List ℕ) → PrintsUpdate next old before now held held Memory
+prints_no_update next old before now held = record {
+  told = told_nothing next old;
   ends = inl refl;
-  prints = prints_nothing (lines [] (told_nothing old).log Memory) before now held;
+  prints = prints_nothing (lines [] (told_nothing next old).log Memory) before now held;
 }
+
+-- ---- what was begun
+
+-- a log that fits tells what was begun
+pub ran_fits : (next : Next) (old : World) (log : Log) (stopped : Option Stop) → LogFits next old log stopped → RanFits next old log.ran stopped
+ran_fits next old log None fits = ap (λ (l : Log). l.ran) fits
+ran_fits next old log (Some (StoreDamaged offset)) fits = fits.2
+ran_fits next old log (Some (ParseFailed fault)) fits = fits.2
+ran_fits next old log (Some (Bad rule verdict)) fits = ap (λ (l : Log). l.ran) fits
+ran_fits next old log (Some Run) fits = fits.ran
+ran_fits next old log (Some (Outside failed)) fits = fits.ran
+
+-- whatever it came to, a front of the rules was begun
+pub untold_ran : (next : Next) (old : World) (ran : List RuleName) (stopped : Option Stop) → RanFits next old ran stopped → IsFront ran (whole_log next old).ran
+untold_ran next old ran None fits = ([], append-nil ran ∙ fits)
+untold_ran next old ran (Some (StoreDamaged offset)) fits = ((whole_log next old).ran, ap (λ (l : List RuleName). l ++ (whole_log next old).ran) fits)
+untold_ran next old ran (Some (ParseFailed fault)) fits = ((whole_log next old).ran, ap (λ (l : List RuleName). l ++ (whole_log next old).ran) fits)
+untold_ran next old ran (Some (Bad rule verdict)) fits = ([], append-nil ran ∙ fits)
+untold_ran next old ran (Some Run) fits = fits
+untold_ran next old ran (Some (Outside failed)) fits = fits
+
+-- and the runner was given what was begun, but for the last where there was no memory
+pub untold_runs : (ran : List RuleName) (old new : List (Names × List ℕ)) (stopped : Option Stop) → RunsThese ran old new stopped → RunsThese ran old new (Some (Outside NoMemory))
+untold_runs ran old new None runs = inl runs
+untold_runs ran old new (Some (StoreDamaged offset)) runs = inl runs
+untold_runs ran old new (Some (ParseFailed fault)) runs = inl runs
+untold_runs ran old new (Some (Bad rule verdict)) runs = inl runs
+untold_runs ran old new (Some Run) runs = inl runs
+untold_runs ran old new (Some (Outside Fault)) runs = inl runs
+untold_runs ran old new (Some (Outside (TooLarge number))) runs = inl runs
+untold_runs ran old new (Some (Outside NoMemory)) runs = runs

@@ -1,2 +1,4 @@
 pub mod Causes
+pub mod Crewed
+pub mod Idle
 pub mod Success

@@ -1,10 +1,11 @@
 -- Where nothing stands in the way of an update, it is done, but for want of memory: every other cause is excluded.
-use Rattle.std.proofs.Common.{◌≡◌, inl, inr, ℕ, ◌-◌, ◌^◌, ◌<◌, Bool, true, false, List, Some, IfSome, sym, subst, ◌∙◌, arith}
+use Rattle.std.proofs.Common.{◌≡◌, inl, inr, ℕ, ◌-◌, ◌^◌, ◌<◌, Bool, true, false, List, Some, IfSome, sym, subst, ap, ◌∙◌, arith}
 use Rattle.std.specs.List.{list_all, slice_get}
 use Rattle.std.proofs.lemmas.List.Sums.{AllPass-from_list_all}
 use Rattle.std.proofs.lemmas.Option.{slice_get_within, get_or_from_slice_get}
 use Rattle.tup_site.specs.World.{World}
 use Rattle.tup_rule.specs.declared.rule.RuleName.{RuleName}
+use Rattle.tup_runner.specs.Next.{Next}
 use Rattle.tup_access.specs.declared.verdict.Verdict.{Verdict}
 use Rattle.tup_access.specs.declared.verdict.Verdict.TheVariants.{Failed, IllegalRead as ReadsIllegally, IllegalWrite as WritesIllegally, Unwritten as LeavesUnwritten, TooManyReads as ReadsTooOften}
 use Rattle.tup_clean.specs.Clean.{is_good}
@@ -14,10 +15,11 @@ use Rattle.tup_update.specs.Parts.{HasFileOf}
 use Rattle.tup_update.specs.Sources.{owned, build}
 use Rattle.tup_update.proofs.Beside.{left_is}
 use Rattle.tup_top.specs.Status.{came_to}
+use Rattle.tup_top.specs.Crew.{OneRose}
 use Rattle.tup_top.specs.Promise.{HasCountedCause, Counts, NothingFailed, IsClear, IsDoneOrMemory}
 use Rattle.tup_top.specs.declared.status.What.TheVariants.{FileSize}
 use Rattle.tup_top.specs.declared.status.Status.{Status}
-use Rattle.tup_top.specs.declared.status.Status.TheVariants.{Done, Command, IllegalRead, IllegalWrite, Unwritten, TooManyReads, Usage, BadStore, Parse, SiteFault, SinkFault, Limit, Memory}
+use Rattle.tup_top.specs.declared.status.Status.TheVariants.{Done, Command, IllegalRead, IllegalWrite, Unwritten, TooManyReads, Usage, BadStore, Parse, SiteFault, RunFault, SinkFault, Limit, Memory}
 
 list_all_at : {X : Type 0} (p : X → Bool) (xs : List X) (at : ℕ) (x : X) → list_all p xs ≡ true → slice_get xs at ≡ Some x → p x ≡ true
 list_all_at p xs at x all stands =
@@ -26,34 +28,42 @@ list_all_at p xs at x all stands =
 true_is_not_false : (b : Bool) → b ≡ true → b ≡ false → ⊥
 true_is_not_false b is not = let no : true ≡ false = sym is ∙ not in cc
 
-no_bad_rule : (old new : World) (name : RuleName) (verdict : Verdict) → IsClear old new → IsBadRule old name verdict → ⊥
-no_bad_rule old new name verdict clear bad =
-    true_is_not_false (is_good (Some verdict)) (list_all_at is_good (build old).verdicts bad.first.at (Some verdict) clear.clean bad.first.given) bad.first.bad
+no_bad_rule : (next : Next) (old new : World) (name : RuleName) (verdict : Verdict) → IsClear next old new → IsBadRule next old name verdict → ⊥
+no_bad_rule next old new name verdict clear bad =
+    true_is_not_false (is_good (Some verdict)) (list_all_at is_good (build next old).verdicts bad.first.at (Some verdict) clear.clean bad.first.given) bad.first.bad
 
 not_rose : (before now : ℕ) → now ≡ before → now < 2 ^ 64 - 1 → Rose before now → ⊥
 not_rose before now same counts (inl more) = omega (arith, same, more)
 not_rose before now same counts (inr end) = omega (arith, counts, end)
 
-no_large_file : (old new : World) (number : ℕ) → IsClear old new → HasFileOf number new.tree → 16777216 < number → ⊥
-no_large_file old new number clear file large =
+no_large_file : (next : Next) (old new : World) (number : ℕ) → IsClear next old new → HasFileOf number new.tree → 16777216 < number → ⊥
+no_large_file next old new number clear file large =
     let small = clear.small file.0 file.1.content file.1.found in
     let bytes = file.1.bytes in
     omega (arith, small, bytes, large)
 
-pub succeeds_so : (old new : World) (before now : Counts) (status : Status) → IfSome (came_to status) (HasCause old new) → HasCountedCause before now status → IsClear old new → NothingFailed before now → IsDoneOrMemory status
-succeeds_so old new before now (Done read ran removed) cause counted clear fine = tt
-succeeds_so old new before now (Command rule status) cause counted clear fine = no_bad_rule old new rule (Failed status) clear cause
-succeeds_so old new before now (IllegalRead rule text) cause counted clear fine = no_bad_rule old new rule (ReadsIllegally text) clear cause
-succeeds_so old new before now (IllegalWrite rule text) cause counted clear fine = no_bad_rule old new rule (WritesIllegally text) clear cause
-succeeds_so old new before now (Unwritten rule path) cause counted clear fine = no_bad_rule old new rule (LeavesUnwritten path) clear cause
-succeeds_so old new before now (TooManyReads rule) cause counted clear fine = no_bad_rule old new rule ReadsTooOften clear cause
-succeeds_so old new before now (Usage place) cause counted clear fine = absurd counted
-succeeds_so old new before now (BadStore offset) cause counted clear fine = let reads = clear.store_reads in absurd (cc)
-succeeds_so old new before now (Parse fault) cause counted clear fine = let reads = clear.sources_read in absurd (cc)
-succeeds_so old new before now SiteFault cause counted clear fine = not_rose before.site now.site fine.site fine.site_counts counted
-succeeds_so old new before now SinkFault cause counted clear fine = not_rose before.sink now.sink fine.sink fine.sink_counts counted.1
-succeeds_so old new before now (Limit FileSize number) cause counted clear fine = no_large_file old new number clear cause counted.1
-succeeds_so old new before now Memory cause counted clear fine = tt
+-- no runner failed
+no_runner_rose : (before now : Counts) → NothingFailed before now → OneRose before.runners now.runners → ⊥
+no_runner_rose before now fine one =
+    let there : slice_get now.runners one.at ≡ Some one.was = ap (λ (l : List ℕ). slice_get l one.at) fine.runners ∙ one.stood in
+    let same : Some one.is ≡ Some one.was = sym one.stands ∙ there in
+    not_rose one.was one.is (cc same) (fine.runners_count one.at one.is one.stands) one.rose
+
+pub succeeds_so : (next : Next) (old new : World) (before now : Counts) (status : Status) → IfSome (came_to status) (HasCause next old new) → HasCountedCause before now status → IsClear next old new → NothingFailed before now → IsDoneOrMemory status
+succeeds_so next old new before now (Done read ran removed) cause counted clear fine = tt
+succeeds_so next old new before now (Command rule status) cause counted clear fine = no_bad_rule next old new rule (Failed status) clear cause
+succeeds_so next old new before now (IllegalRead rule text) cause counted clear fine = no_bad_rule next old new rule (ReadsIllegally text) clear cause
+succeeds_so next old new before now (IllegalWrite rule text) cause counted clear fine = no_bad_rule next old new rule (WritesIllegally text) clear cause
+succeeds_so next old new before now (Unwritten rule path) cause counted clear fine = no_bad_rule next old new rule (LeavesUnwritten path) clear cause
+succeeds_so next old new before now (TooManyReads rule) cause counted clear fine = no_bad_rule next old new rule ReadsTooOften clear cause
+succeeds_so next old new before now (Usage place) cause counted clear fine = absurd counted
+succeeds_so next old new before now (BadStore offset) cause counted clear fine = let reads = clear.store_reads in absurd (cc)
+succeeds_so next old new before now (Parse fault) cause counted clear fine = let reads = clear.sources_read in absurd (cc)
+succeeds_so next old new before now SiteFault cause counted clear fine = not_rose before.site now.site fine.site fine.site_counts counted.0
+succeeds_so next old new before now RunFault cause counted clear fine = no_runner_rose before now fine counted.1
+succeeds_so next old new before now SinkFault cause counted clear fine = not_rose before.sink now.sink fine.sink fine.sink_counts counted.1
+succeeds_so next old new before now (Limit FileSize number) cause counted clear fine = no_large_file next old new number clear cause counted.1
+succeeds_so next old new before now Memory cause counted clear fine = tt
 
 -- where nothing was done the sources stay
 pub sources_stay_so : (w : World) → SourcesStay w w

@@ -12,7 +12,7 @@ use Rattle.tup_clean.specs.Clean.{is_good}
 use Rattle.tup_parse.specs.declared.fault.ParseFault.{ParseFault}
 use Rattle.tup_update.specs.declared.update.Log.{Log}
 use Rattle.tup_top.specs.declared.status.Status.{Status}
-use Rattle.tup_top.specs.declared.status.Status.TheVariants.{Done, Command, IllegalRead, IllegalWrite, Unwritten, TooManyReads, Usage, BadStore, Parse, SiteFault, SinkFault, Limit, Memory}
+use Rattle.tup_top.specs.declared.status.Status.TheVariants.{Done, Command, IllegalRead, IllegalWrite, Unwritten, TooManyReads, Usage, BadStore, Parse, SiteFault, RunFault, SinkFault, Limit, Memory}
 use Rattle.tup_top.specs.declared.status.What.{What}
 use Rattle.tup_top.specs.declared.status.What.TheVariants.{FileSize}
 
@@ -55,6 +55,7 @@ status_text (Usage place) = codes "fault: usage, word " ++ decimal place
 status_text (BadStore offset) = codes "fault: the store is damaged at byte " ++ decimal offset
 status_text (Parse fault) = parse_fault fault
 status_text SiteFault = codes "fault: the file tree or the store failed"
+status_text RunFault = codes "fault: the runner failed"
 status_text SinkFault = codes "fault: the output failed"
 status_text (Limit what number) = codes "fault: limit " ++ (what_text what ++ (codes ", " ++ decimal number))
 status_text Memory = codes "fault: no memory"

@@ -5,12 +5,14 @@ use Rattle.tup_path.specs.Name.{Names, Content}
 use Rattle.tup_path.specs.Tree.{tree_of_files}
 use Rattle.tup_site.specs.World.{World}
 use Rattle.tup_rule.specs.declared.rule.Rule.{Rule}
+use Rattle.tup_runner.specs.Next.{Next}
+use Rattle.tup_mini.specs.Means.{mini_next}
 use Rattle.tup_tell.specs.Sink.{GrownByPart}
 use Rattle.tup_update.specs.Log.{LogFits, RulesFit}
 use Rattle.tup_update.specs.declared.update.Log.{Log}
 use Rattle.tup_update.specs.declared.stop.Stop.{Stop}
 use Rattle.tup_top.specs.Lines.{lines, last_line}
-use Rattle.tup_top.specs.Promise.{Wanted}
+use Rattle.tup_top.specs.Order.{Wanted}
 use Rattle.tup_top.specs.Status.{status_of}
 use Rattle.tup_top.specs.declared.order.Order.TheVariants.{Upd, Demo}
 use Rattle.tup_top.specs.declared.status.Status.{Status}
@@ -34,16 +36,16 @@ pub record Prints (text : List ℕ) (before now : ℕ) (old new : List ℕ) (ans
   pub all : answer ≢ Memory → ¬ Rose before now → new ≡ old ++ text
 
 -- what an update of this world told of itself
-pub record Told (old : World) : Type 0 where
+pub record Told (next : Next) (old : World) : Type 0 where
   pub rules : List Rule
   pub log : Log
   pub stopped : Option Stop
   pub are_its_rules : RulesFit old rules stopped
-  pub is_its_log : LogFits old log stopped
+  pub is_its_log : LogFits next old log stopped
 
 -- the lines of an update of this world
-pub record PrintsUpdate (world : World) (before now : ℕ) (old new : List ℕ) (answer : Status) : Type 0 where
-  pub told : Told world
+pub record PrintsUpdate (next : Next) (world : World) (before now : ℕ) (old new : List ℕ) (answer : Status) : Type 0 where
+  pub told : Told next world
   pub ends : Ends before now (status_of told.log told.stopped) answer
   pub prints : Prints (lines told.rules told.log (status_of told.log told.stopped)) before now old new answer
 
@@ -56,7 +58,7 @@ abbrev pub demo_world : World
 demo_world = record { tree = tree_of_files demo_files; store = [] }
 
 -- the lines of what was asked for: of the update, of the demo's update, or the line of the refusal
-abbrev pub Printed : Wanted → World → ℕ → ℕ → List ℕ → List ℕ → Status → Type 0
-Printed (Ok Upd) world before now old new answer = PrintsUpdate world before now old new answer
-Printed (Ok Demo) world before now old new answer = PrintsUpdate demo_world before now old new answer
-Printed (Err fault) world before now old new answer = Prints (last_line (Usage fault.place)) before now old new answer
+abbrev pub Printed : Wanted → Next → World → ℕ → ℕ → List ℕ → List ℕ → Status → Type 0
+Printed (Ok (Upd program)) next world before now old new answer = PrintsUpdate next world before now old new answer
+Printed (Ok Demo) next world before now old new answer = PrintsUpdate mini_next demo_world before now old new answer
+Printed (Err place) next world before now old new answer = Prints (last_line (Usage place)) before now old new answer

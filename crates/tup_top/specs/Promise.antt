@@ -1,101 +1,107 @@
 -- What the program promises of one call, each promise a word. What it says of an update is what tup_update says, of what
 -- the status tells that the update came to.
-use Rattle.std.specs.Prelude.{◌≡◌, ◌≢◌, ◌<◌, ◌≤◌, ⊤, ℕ, ◌-◌, ◌^◌, List, length, Option, None, Some, IsTrue, IfSome, Result, Ok, Err}
+use Rattle.std.specs.Prelude.{◌≡◌, ◌≢◌, ◌<◌, ◌≤◌, ⊤, ℕ, ◌-◌, ◌^◌, List, length, map, slice_get, Option, None, Some, IsTrue, IfSome, Ok, Err}
 use Rattle.std.specs.FinMap as finite
 use Rattle.tup_path.specs.Count.{Rose}
 use Rattle.tup_path.specs.Name.{Names, Content}
 use Rattle.tup_site.specs.World.{World}
+use Rattle.tup_runner.specs.Next.{Next}
 use Rattle.tup_clean.specs.Clean.{succeeds}
 use Rattle.tup_owned.specs.Owned.{owned_of}
 use Rattle.tup_update.specs.Log.{whole_log}
 use Rattle.tup_update.specs.Sources.{rules_read, rules, build}
 use Rattle.tup_update.specs.declared.stop.Stop.{Stop}
 use Rattle.tup_top.specs.Status.{status_of, came_to}
-use Rattle.tup_top.specs.declared.order.Order.{Order}
+use Rattle.tup_top.specs.Order.{Wanted, IsUpdate}
+use Rattle.tup_top.specs.Crew.{OneRose}
 use Rattle.tup_top.specs.declared.order.Order.TheVariants.{Upd, Demo}
-use Rattle.tup_top.specs.declared.order.OrderFault.{OrderFault}
 use Rattle.tup_top.specs.declared.status.Status.{Status}
-use Rattle.tup_top.specs.declared.status.Status.TheVariants.{Done, Usage, SiteFault, SinkFault, Limit, Memory}
+use Rattle.tup_top.specs.declared.status.Status.TheVariants.{Done, Usage, SiteFault, RunFault, SinkFault, Limit, Memory}
 use Rattle.tup_top.specs.declared.status.What.TheVariants.{FileSize}
-
--- what the words ask for, or the place of the first that can't stand
-abbrev pub Wanted : Type 0
-Wanted = Result Order OrderFault
 
 -- a promise of an update, of what the update came to
 abbrev pub ForUpdate : Wanted → Status → (Option Stop → Type 0) → Type 0
-ForUpdate (Ok Upd) status promise = IfSome (came_to status) promise
+ForUpdate (Ok (Upd program)) status promise = IfSome (came_to status) promise
 ForUpdate (Ok Demo) status promise = ⊤
-ForUpdate (Err fault) status promise = ⊤
+ForUpdate (Err place) status promise = ⊤
 
 -- only an update changes anything
 abbrev pub NothingDone : Wanted → World → World → Type 0
-NothingDone wanted old new = wanted ≢ Ok Upd → new ≡ old
+NothingDone wanted old new = (IsUpdate wanted → ⊥) → new ≡ old
 
 -- what is counted as done is all that there was to do
-abbrev pub CountsAll : World → Status → Type 0
-CountsAll old (Done read ran removed) = Done read ran removed ≡ status_of (whole_log old) None
-CountsAll old other = ⊤
+abbrev pub CountsAll : Next → World → Status → Type 0
+CountsAll next old (Done read ran removed) = Done read ran removed ≡ status_of (whole_log next old) None
+CountsAll next old other = ⊤
 
 -- an update says so
-abbrev pub TellsWhatWasDone : Wanted → World → Status → Type 0
-TellsWhatWasDone (Ok Upd) old status = CountsAll old status
-TellsWhatWasDone (Ok Demo) old status = ⊤
-TellsWhatWasDone (Err fault) old status = ⊤
+abbrev pub TellsWhatWasDone : Wanted → Next → World → Status → Type 0
+TellsWhatWasDone (Ok (Upd program)) next old status = CountsAll next old status
+TellsWhatWasDone (Ok Demo) next old status = ⊤
+TellsWhatWasDone (Err place) next old status = ⊤
 
--- the failures that a site and a sink have counted
+-- the failures that a site, the runners of a crew and a sink have counted
 pub record Counts : Type 0 where
   pub site : ℕ
+  pub runners : List ℕ
   pub sink : ℕ
 
 -- what these count
-abbrev pub counts : {S K : Type 0} → (S → ℕ) → (K → ℕ) → S → K → Counts
-counts of_site of_sink site sink = record { site = of_site site; sink = of_sink sink }
+abbrev pub counts : {S R K : Type 0} → (S → ℕ) → (R → ℕ) → (K → ℕ) → S → List R → K → Counts
+counts of_site of_runner of_sink site crew sink = record { site = of_site site; runners = map of_runner crew; sink = of_sink sink }
 
--- the causes that every site and every sink shows: no count rises unseen, and a count that is blamed rose. Want of memory
+-- neither the site nor a runner failed
+abbrev pub AreSteady : Counts → Counts → Type 0
+AreSteady before now = (now.site ≡ before.site) × (now.runners ≡ before.runners)
+
+-- the causes that every site, runner and sink shows: no count rises unseen, and a count that is blamed rose. Want of memory
 -- while lines are printed is answered in the place of all else.
 abbrev pub HasCountedCause : Counts → Counts → Status → Type 0
-HasCountedCause before now (Done read ran removed) = (now.site ≡ before.site) × (now.sink ≡ before.sink)
-HasCountedCause before now SinkFault = (now.site ≡ before.site) × Rose before.sink now.sink
-HasCountedCause before now SiteFault = Rose before.site now.site
-HasCountedCause before now (Limit FileSize number) = (now.site ≡ before.site) × (16777216 < number)
+HasCountedCause before now (Done read ran removed) = AreSteady before now × (now.sink ≡ before.sink)
+HasCountedCause before now SinkFault = AreSteady before now × Rose before.sink now.sink
+HasCountedCause before now SiteFault = Rose before.site now.site × (now.runners ≡ before.runners)
+HasCountedCause before now RunFault = (now.site ≡ before.site) × OneRose before.runners now.runners
+HasCountedCause before now (Limit FileSize number) = AreSteady before now × (16777216 < number)
 HasCountedCause before now (Usage place) = ⊥
 HasCountedCause before now Memory = ⊤
-HasCountedCause before now other = now.site ≡ before.site
+HasCountedCause before now other = AreSteady before now
 
--- the same of a demo, whose site is its own
+-- the same of a demo, whose site and runner are its own; this runner never fails
 abbrev pub HasDemoCause : ℕ → ℕ → Status → Type 0
 HasDemoCause before now (Done read ran removed) = now ≡ before
 HasDemoCause before now SinkFault = Rose before now
 HasDemoCause before now (Limit FileSize number) = 16777216 < number
 HasDemoCause before now (Usage place) = ⊥
+HasDemoCause before now RunFault = ⊥
 HasDemoCause before now other = ⊤
 
 -- where a word can't stand, only its place is answered
-abbrev pub IsRefusal : OrderFault → Status → Type 0
-IsRefusal fault (Usage place) = place ≡ fault.place
-IsRefusal fault Memory = ⊤
-IsRefusal fault other = ⊥
+abbrev pub IsRefusal : ℕ → Status → Type 0
+IsRefusal wrong (Usage place) = place ≡ wrong
+IsRefusal wrong Memory = ⊤
+IsRefusal wrong other = ⊥
 
 -- the causes of every order
 abbrev pub HasPlainCause : Wanted → Counts → Counts → Status → Type 0
-HasPlainCause (Ok Upd) before now status = HasCountedCause before now status
-HasPlainCause (Ok Demo) before now status = (now.site ≡ before.site) × HasDemoCause before.sink now.sink status
-HasPlainCause (Err fault) before now status = (now.site ≡ before.site) × IsRefusal fault status
+HasPlainCause (Ok (Upd program)) before now status = HasCountedCause before now status
+HasPlainCause (Ok Demo) before now status = AreSteady before now × HasDemoCause before.sink now.sink status
+HasPlainCause (Err place) before now status = AreSteady before now × IsRefusal place status
 
 -- no count of failures rose, and none stands at its end
 pub record NothingFailed (before now : Counts) : Type 0 where
   pub site : now.site ≡ before.site
   pub site_counts : now.site < 2 ^ 64 - 1
+  pub runners : now.runners ≡ before.runners
+  pub runners_count : (at count : ℕ) → slice_get now.runners at ≡ Some count → count < 2 ^ 64 - 1
   pub sink : now.sink ≡ before.sink
   pub sink_counts : now.sink < 2 ^ 64 - 1
 
 -- nothing stands in the way of an update
-pub record IsClear (old new : World) : Type 0 where
+pub record IsClear (next : Next) (old new : World) : Type 0 where
   pub store : List Names
   pub store_reads : owned_of old.store ≡ Ok store
   pub sources_read : rules_read old ≡ Ok (rules old)
-  pub clean : IsTrue (succeeds (build old))
+  pub clean : IsTrue (succeeds (build next old))
   pub small : (path : Names) (content : Content) → finite.get new.tree path ≡ Some content → length content ≤ 16777216
 
 -- an answer that is free, or says that all was done
@@ -105,5 +111,5 @@ IsDoneOrMemory Memory = ⊤
 IsDoneOrMemory other = ⊥
 
 -- an update that nothing stands in the way of is done, but for want of memory
-abbrev pub Succeeds : Wanted → World → World → Counts → Counts → Status → Type 0
-Succeeds wanted old new before now status = wanted ≡ Ok Upd → IsClear old new → NothingFailed before now → IsDoneOrMemory status
+abbrev pub Succeeds : Wanted → Next → World → World → Counts → Counts → Status → Type 0
+Succeeds wanted next old new before now status = IsUpdate wanted → IsClear next old new → NothingFailed before now → IsDoneOrMemory status

@@ -7,9 +7,9 @@ use Rattle.tup_access.specs.declared.verdict.Verdict.{Verdict}
 use Rattle.tup_access.specs.declared.verdict.Verdict.TheVariants.{Good, Failed, IllegalRead as ReadsIllegally, IllegalWrite as WritesIllegally, Unwritten as LeavesUnwritten, TooManyReads as ReadsTooOften}
 use Rattle.tup_update.specs.declared.update.Log.{Log}
 use Rattle.tup_update.specs.declared.stop.Stop.{Stop}
-use Rattle.tup_update.specs.declared.stop.Stop.TheVariants.{BadStore as StoreDamaged, Parse as ParseFailed, Bad, Outside}
+use Rattle.tup_update.specs.declared.stop.Stop.TheVariants.{BadStore as StoreDamaged, Parse as ParseFailed, Bad, Run, Outside}
 use Rattle.tup_top.specs.declared.status.Status.{Status}
-use Rattle.tup_top.specs.declared.status.Status.TheVariants.{Done, Command, IllegalRead, IllegalWrite, Unwritten, TooManyReads, Usage, BadStore, Parse, SiteFault, SinkFault, Limit, Memory}
+use Rattle.tup_top.specs.declared.status.Status.TheVariants.{Done, Command, IllegalRead, IllegalWrite, Unwritten, TooManyReads, Usage, BadStore, Parse, SiteFault, RunFault, SinkFault, Limit, Memory}
 use Rattle.tup_top.specs.declared.status.What.TheVariants.{FileSize}
 
 -- the exit number of the program
@@ -24,6 +24,7 @@ exit_of (Usage place) = 2
 exit_of (BadStore offset) = 4
 exit_of (Parse fault) = 5
 exit_of SiteFault = 7
+exit_of RunFault = 8
 exit_of SinkFault = 9
 exit_of (Limit what number) = 11
 exit_of Memory = 12
@@ -53,6 +54,7 @@ status_of log None = Done (capped (length log.read)) (capped (length log.verdict
 status_of log (Some (StoreDamaged offset)) = BadStore offset
 status_of log (Some (ParseFailed fault)) = Parse fault
 status_of log (Some (Bad rule verdict)) = status_of_bad rule verdict
+status_of log (Some Run) = RunFault
 status_of log (Some (Outside failed)) = status_of_outside failed
 
 -- what an update came to that is answered so: its end, or the reason for which it stopped. A word that can't stand is no
@@ -68,6 +70,7 @@ came_to (TooManyReads rule) = Some (Some (Bad rule ReadsTooOften))
 came_to (BadStore offset) = Some (Some (StoreDamaged offset))
 came_to (Parse fault) = Some (Some (ParseFailed fault))
 came_to SiteFault = Some (Some (Outside Fault))
+came_to RunFault = Some (Some Run)
 came_to (Limit FileSize number) = Some (Some (Outside (TooLarge number)))
 came_to Memory = Some (Some (Outside NoMemory))
 came_to (Usage place) = None

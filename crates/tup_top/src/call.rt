@@ -1,7 +1,8 @@
 //! The top call.
-ghost use Rattle.std.specs.Prelude.{IsTrue};
+ghost use Rattle.std.specs.Prelude.{IsTrue, map};
 ghost use Rattle.tup_update.specs.Outcome.{ExactlyTheFiles, SourcesStay, NothingForgotten, HasCause};
 ghost use Rattle.tup_top.specs.Order.{order};
+ghost use Rattle.tup_top.specs.Crew.{IsCrew, CrewRuns, RanFits, NothingRun};
 ghost use Rattle.tup_top.specs.Lines.{last_line as line_of};
 ghost use Rattle.tup_top.specs.Printed.{Printed, Prints};
 ghost use Rattle.tup_top.specs.Promise.{ForUpdate, NothingDone, TellsWhatWasDone, HasPlainCause, IsRefusal, Succeeds, counts};
@@ -10,70 +11,111 @@ ghost use Rattle.tup_top.specs.declared.status.Status.TheVariants.{Usage};
 use crate::order::{Order, OrderFault, Word, order_of};
 use crate::print::{last_line, print};
 use crate::status::Status;
-use crate::update::{demo, update};
+use crate::update::{Updated, demo, update};
 use std::alloc::Global;
+use tup_path::Items;
+use tup_rule::RuleName;
+use tup_runner::Runner;
 use tup_site::Site;
 use tup_tell::Sink;
 
-/// How an order ended, and the site as it left it.
+/// How an order ended, with the site and the crew as it left them.
 #[derive(Drop)]
-pub struct Ran<S> {
+pub struct Ran<S, R> {
     pub status: Status,
     pub site: S,
+    /// The runners, in their order.
+    pub crew: Vec<R>,
+    /// The rules that were begun, in order: the first runner ran their commands.
+    pub ran: Items<RuleName>,
 }
 
 /// Carries out what the words ask for, and prints its lines to `out` in one write.
 ///
-/// No words, or `upd`, update the files of the site. `demo` shows an update of a small project in memory, and
-/// leaves the site alone. Other words are refused by the place of the first that can't stand there.
-pub fn tup<S: Site, K: Sink>(alloc: Global, words: &[Word], site: S, out: &mut K) -> Ran<S>
-    ensures exactly_the_files { IsTrue S.tells → ForUpdate (order words.now) result.status
-        (ExactlyTheFiles (S.world site) (S.world result.site)) }
+/// No words, or `upd`, update the files of the site; the first runner of the crew runs the commands. `demo` shows
+/// an update of a small project in memory, and leaves site and crew alone. Other words are refused by the place of
+/// the first that can't stand there. A crew has 1 to 16 runners.
+pub fn tup<S: Site, R: Runner, K: Sink>(
+    alloc: Global,
+    words: &[Word],
+    site: S,
+    crew: Vec<R>,
+    out: &mut K,
+) -> Ran<S, R>
+    requires crew { IsCrew crew.items }
+    ensures exactly_the_files { IsTrue S.tells → IsTrue R.tells
+        → ForUpdate (order words.now) result.status
+        (ExactlyTheFiles R.next (S.world site) (S.world result.site)) }
     ensures sources_stay { IsTrue S.tells → SourcesStay (S.world site) (S.world result.site) }
-    ensures nothing_forgotten { IsTrue S.tells → ForUpdate (order words.now) result.status
-        (NothingForgotten (S.world site) (S.world result.site)) }
+    ensures nothing_forgotten { IsTrue S.tells → IsTrue R.tells
+        → ForUpdate (order words.now) result.status
+        (NothingForgotten R.next (S.world site) (S.world result.site)) }
     ensures nothing_done { IsTrue S.tells
         → NothingDone (order words.now) (S.world site) (S.world result.site) }
-    ensures cause { IsTrue S.tells → ForUpdate (order words.now) result.status
-        (HasCause (S.world site) (S.world result.site)) }
-    ensures plain_cause { let before = counts S.faults K.faults site out.old in
-        let now = counts S.faults K.faults result.site out.new in
+    ensures nothing_run { NothingRun (order words.now) crew.items result.crew.items result.ran }
+    ensures begun { IsTrue S.tells → IsTrue R.tells
+        → ForUpdate (order words.now) result.status (RanFits R.next (S.world site) result.ran) }
+    ensures ran { IsTrue R.tells_ran → ForUpdate (order words.now) result.status
+        (CrewRuns result.ran (map R.ran crew.items) (map R.ran result.crew.items)) }
+    ensures cause { IsTrue S.tells → IsTrue R.tells → ForUpdate (order words.now) result.status
+        (HasCause R.next (S.world site) (S.world result.site)) }
+    ensures plain_cause { let before = counts S.faults R.faults K.faults site crew.items out.old in
+        let now = counts S.faults R.faults K.faults result.site result.crew.items out.new in
         HasPlainCause (order words.now) before now result.status }
-    ensures success { IsTrue S.tells → let before = counts S.faults K.faults site out.old in
-        let now = counts S.faults K.faults result.site out.new in
-        Succeeds (order words.now) (S.world site) (S.world result.site) before now result.status }
-    ensures told { IsTrue S.tells
-        → TellsWhatWasDone (order words.now) (S.world site) result.status }
-    ensures printed { IsTrue S.tells → IsTrue K.tells
+    ensures success { IsTrue S.tells → IsTrue R.tells
+        → let before = counts S.faults R.faults K.faults site crew.items out.old in
+        let now = counts S.faults R.faults K.faults result.site result.crew.items out.new in
+        let new = S.world result.site in
+        Succeeds (order words.now) R.next (S.world site) new before now result.status }
+    ensures told { IsTrue S.tells → IsTrue R.tells
+        → TellsWhatWasDone (order words.now) R.next (S.world site) result.status }
+    ensures printed { IsTrue S.tells → IsTrue R.tells → IsTrue K.tells
         → let before = K.faults out.old in let now = K.faults out.new in
-        Printed (order words.now) (S.world site) before now (K.held out.old) (K.held out.new)
+        let new = K.held out.new in
+        Printed (order words.now) R.next (S.world site) before now (K.held out.old) new
         result.status }
 {
     match order_of(words) {
-        Ok(Order::Upd) => {
+        Ok(Order::Upd { .. }) => {
             let mut site = site;
-            let status = update(alloc, &mut site, out);
-            Ran { status, site }
+            let mut crew = crew;
+            let Updated { status, ran } = update(alloc, &mut site, &mut crew[0], out);
+            Ran {
+                status,
+                site,
+                crew,
+                ran,
+            }
         }
         Ok(Order::Demo) => Ran {
             status: demo(alloc, out),
             site,
+            crew,
+            ran: Items::new(alloc),
         },
-        Err(fault) => Ran {
-            status: refuse(alloc, fault, out),
+        Err(OrderFault::Usage { place }) => Ran {
+            status: refuse(alloc, place, out),
             site,
+            crew,
+            ran: Items::new(alloc),
+        },
+        Err(OrderFault::Memory) => Ran {
+            status: Status::Memory,
+            site,
+            crew,
+            ran: Items::new(alloc),
         },
     }
 }
 
 /// Prints the line of a word that can't stand where it stands.
-fn refuse<K: Sink>(alloc: Global, fault: OrderFault, out: &mut K) -> Status
-    ensures cause { IsRefusal fault result }
+fn refuse<K: Sink>(alloc: Global, place: u32, out: &mut K) -> Status
+    ensures cause { IsRefusal place result }
     ensures printed { IsTrue K.tells
         → let before = K.faults out.old in let now = K.faults out.new in
-        Prints (line_of (Usage fault.place)) before now (K.held out.old) (K.held out.new) result }
+        Prints (line_of (Usage place)) before now (K.held out.old) (K.held out.new) result }
 {
-    let status = Status::Usage { place: fault.place };
+    let status = Status::Usage { place };
     let Ok(line) = last_line(alloc, &status) else {
         return Status::Memory;
     };

@@ -1,7 +1,9 @@
 //! The words of the command line.
-ghost use Rattle.std.specs.Prelude.{◌≡◌};
-ghost use Rattle.tup_top.specs.Order.{order};
+ghost use Rattle.std.specs.Prelude.{◌≡◌, ◌≤◌};
+ghost use Rattle.tup_top.specs.Order as specs;
+ghost use Rattle.tup_top.specs.Order.{Answers, order};
 
+use std::alloc::AllocError;
 use thiserror::Error;
 use tup_path::Text;
 
@@ -10,36 +12,100 @@ use tup_path::Text;
 pub struct Word(pub Text);
 
 /// What the words ask for.
-#[derive(Clone, Copy, Debug, PartialEq, Eq)]
+#[derive(Debug, Drop)]
 pub enum Order {
-    /// Update the files.
-    Upd,
+    /// Update the files; commands are run by the runner that comes with the program, or through this program.
+    Upd { program: Option<Text> },
     /// Show an update of a small project in memory.
     Demo,
 }
 
-/// The first word that can't stand where it stands, counted from 1.
+/// Why the words ask for nothing.
 #[derive(Clone, Copy, Debug, PartialEq, Eq, Error)]
-#[error("word {place} can't stand there")]
-pub struct OrderFault {
-    pub place: u32,
+pub enum OrderFault {
+    /// The first word that can't stand where it stands, counted from 1; a word that is missing has the place behind the
+    /// last.
+    #[error("word {place} can't stand there")]
+    Usage { place: u32 },
+    /// There was no memory.
+    #[error("no memory")]
+    Memory,
 }
 
-/// What the words ask for. No words mean an update.
+impl From<AllocError> for OrderFault {
+    ghost use Rattle.std.specs.Prelude.{◌≡◌};
+    ghost use Rattle.tup_top.specs.declared.order.OrderFault.TheVariants.{Memory};
+
+    ghost from_gives = { λ _ fault. fault ≡ Memory };
+
+    fn from(_: AllocError) -> OrderFault {
+        OrderFault::Memory
+    }
+}
+
+/// What the words ask for. No words mean an update, and so do options without an order.
 pub fn order_of(words: &[Word]) -> Result<Order, OrderFault>
-    ensures { result ≡ order words.now }
+    ensures { Answers (order words.now) result }
 {
     let Some((first, rest)) = words.split_first() else {
-        return Ok(Order::Upd);
+        return Ok(Order::Upd { program: None });
     };
-    let order = match first.0.as_str() {
-        "upd" => Order::Upd,
-        "demo" => Order::Demo,
-        _ => return Err(OrderFault { place: 1 }),
-    };
+    if is_option(first) {
+        return options(words, 1);
+    }
+    match first.0.as_str() {
+        "upd" => options(rest, 2),
+        "demo" => alone(Order::Demo, rest, 2),
+        _ => Err(OrderFault::Usage { place: 1 }),
+    }
+}
+
+/// Whether a word is an option.
+fn is_option(word: &Word) -> bool
+    ensures { result ≡ specs.is_option word.now }
+{
+    matches!(word.0.as_str().as_bytes(), [b'-', ..])
+}
+
+/// An order that takes no further words; the first of them would stand at this place.
+fn alone(order: Order, rest: &[Word], place: u32) -> Result<Order, OrderFault>
+    ensures { Answers (specs.alone place order rest.now) result }
+{
     if rest.is_empty() {
         Ok(order)
     } else {
-        Err(OrderFault { place: 2 })
+        Err(OrderFault::Usage { place })
     }
+}
+
+/// The options of an update; the first of them stands at this place, 1 or 2.
+fn options(words: &[Word], place: u32) -> Result<Order, OrderFault>
+    requires { place ≤ 2 }
+    ensures { Answers (specs.options place words.now) result }
+{
+    let Some((option, rest)) = words.split_first() else {
+        return Ok(Order::Upd { program: None });
+    };
+    match option.0.as_str() {
+        "--proc" => program(rest, place + 1),
+        _ => Err(OrderFault::Usage { place }),
+    }
+}
+
+/// An update by a program, which is the word at this place, at most 3.
+fn program(words: &[Word], place: u32) -> Result<Order, OrderFault>
+    requires { place ≤ 3 }
+    ensures { Answers (specs.program place words.now) result }
+{
+    let Some((word, rest)) = words.split_first() else {
+        return Err(OrderFault::Usage { place });
+    };
+    let program = word.0.clone()?;
+    alone(
+        Order::Upd {
+            program: Some(program),
+        },
+        rest,
+        place + 1,
+    )
 }

@@ -41,6 +41,8 @@ pub enum Status {
     Parse { fault: ParseFault },
     /// The file tree or the store failed.
     SiteFault,
+    /// A runner failed.
+    RunFault,
     /// The order was carried out, and its lines couldn't be written.
     SinkFault,
     /// So many of these would be too many.
@@ -65,6 +67,7 @@ impl Status {
             Status::BadStore { .. } => 4,
             Status::Parse { .. } => 5,
             Status::SiteFault => 7,
+            Status::RunFault => 8,
             Status::SinkFault => 9,
             Status::Limit { .. } => 11,
             Status::Memory => 12,
@@ -85,6 +88,7 @@ pub(crate) fn status_of(log: &Log, stopped: Option<Stop>) -> Status
         Some(Stop::BadStore(offset)) => Status::BadStore { offset },
         Some(Stop::Parse(fault)) => Status::Parse { fault },
         Some(Stop::Bad(rule, verdict)) => status_of_bad(rule, verdict),
+        Some(Stop::Run) => Status::RunFault,
         Some(Stop::Outside(failed)) => status_of_outside(failed),
     }
 }
@@ -181,6 +185,7 @@ impl fmt::Display for Status {
                 )
             }
             Status::SiteFault => f.write_str("fault: the file tree or the store failed"),
+            Status::RunFault => f.write_str("fault: the runner failed"),
             Status::SinkFault => f.write_str("fault: the output failed"),
             Status::Limit { what, number } => write!(f, "fault: limit {what}, {number}"),
             Status::Memory => f.write_str("fault: no memory"),

@@ -1,8 +1,11 @@
 //! An update, and what is told of it.
-ghost use Rattle.std.specs.Prelude.{◌≡◌, [], IsTrue, IfSome, Ok};
+ghost use Rattle.std.specs.Prelude.{◌≡◌, [], ◌∷◌, IsTrue, IfSome, Ok};
 ghost use Rattle.tup_path.specs.Resolve.{resolve};
 ghost use Rattle.tup_site.specs.Memory.{world_in};
+ghost use Rattle.tup_mini.specs.Means.{mini_next};
+ghost use Rattle.tup_update.specs.Ran.{RunsThese};
 ghost use Rattle.tup_update.specs.Outcome.{ExactlyTheFiles, SourcesStay, NothingForgotten, HasCause};
+ghost use Rattle.tup_top.specs.Crew.{RanFits};
 ghost use Rattle.tup_top.specs.Printed.{PrintsUpdate, demo_world};
 ghost use Rattle.tup_top.specs.Promise.{CountsAll, HasCountedCause, HasDemoCause, counts};
 ghost use Rattle.tup_top.specs.Status.{came_to};
@@ -10,38 +13,66 @@ ghost use Rattle.tup_top.specs.Status.{came_to};
 use crate::print::{lines, print};
 use crate::status::{Status, status_of};
 use std::alloc::Global;
-use tup_path::{Bytes, Path};
+use tup_mini::Mini;
+use tup_path::{Bytes, Items, Path};
+use tup_rule::RuleName;
+use tup_runner::Runner;
 use tup_site::{MemSite, Site};
 use tup_tell::Sink;
 use tup_update::{Update, update_site};
 
-/// Updates the files of a site and prints the lines of this update.
-pub(crate) fn update<S: Site, K: Sink>(alloc: Global, site: &mut S, out: &mut K) -> Status
-    ensures exactly_the_files { IsTrue S.tells
-        → IfSome (came_to result) (ExactlyTheFiles (S.world site.old) (S.world site.new)) }
+/// How an update ended, and the rules that it began.
+#[derive(Drop)]
+pub(crate) struct Updated {
+    pub status: Status,
+    pub ran: Items<RuleName>,
+}
+
+/// Updates the files of a site by a runner, and prints the lines of this update.
+pub(crate) fn update<S: Site, R: Runner, K: Sink>(
+    alloc: Global,
+    site: &mut S,
+    runner: &mut R,
+    out: &mut K,
+) -> Updated
+    ensures exactly_the_files { IsTrue S.tells → IsTrue R.tells → IfSome (came_to result.status)
+        (ExactlyTheFiles R.next (S.world site.old) (S.world site.new)) }
     ensures sources_stay { IsTrue S.tells → SourcesStay (S.world site.old) (S.world site.new) }
-    ensures nothing_forgotten { IsTrue S.tells
-        → IfSome (came_to result) (NothingForgotten (S.world site.old) (S.world site.new)) }
-    ensures cause { IsTrue S.tells
-        → IfSome (came_to result) (HasCause (S.world site.old) (S.world site.new)) }
-    ensures counted_cause { let before = counts S.faults K.faults site.old out.old in
-        let now = counts S.faults K.faults site.new out.new in
-        HasCountedCause before now result }
-    ensures told { IsTrue S.tells → CountsAll (S.world site.old) result }
-    ensures printed { IsTrue S.tells → IsTrue K.tells
+    ensures nothing_forgotten { IsTrue S.tells → IsTrue R.tells → IfSome (came_to result.status)
+        (NothingForgotten R.next (S.world site.old) (S.world site.new)) }
+    ensures cause { IsTrue S.tells → IsTrue R.tells → IfSome (came_to result.status)
+        (HasCause R.next (S.world site.old) (S.world site.new)) }
+    ensures counted_cause { let before = counts S.faults R.faults K.faults site.old (runner.old ∷ []) out.old in
+        let now = counts S.faults R.faults K.faults site.new (runner.new ∷ []) out.new in
+        HasCountedCause before now result.status }
+    ensures begun { IsTrue S.tells → IsTrue R.tells
+        → IfSome (came_to result.status) (RanFits R.next (S.world site.old) result.ran) }
+    ensures ran { IsTrue R.tells_ran → IfSome (came_to result.status)
+        (RunsThese result.ran (R.ran runner.old) (R.ran runner.new)) }
+    ensures told { IsTrue S.tells → IsTrue R.tells
+        → CountsAll R.next (S.world site.old) result.status }
+    ensures printed { IsTrue S.tells → IsTrue R.tells → IsTrue K.tells
         → let before = K.faults out.old in let now = K.faults out.new in
-        PrintsUpdate (S.world site.old) before now (K.held out.old) (K.held out.new) result }
+        PrintsUpdate R.next (S.world site.old) before now (K.held out.old) (K.held out.new)
+        result.status }
 {
     let Update {
         rules,
         log,
         stopped,
-    } = update_site(alloc, site);
+    } = update_site(alloc, site, runner);
     let status = status_of(&log, stopped);
     let Ok(text) = lines(alloc, rules.as_slice(), &log, &status) else {
-        return Status::Memory;
+        return Updated {
+            status: Status::Memory,
+            ran: log.ran,
+        };
     };
-    print(alloc, &text, status, out)
+    let status = print(alloc, &text, status, out);
+    Updated {
+        status,
+        ran: log.ran,
+    }
 }
 
 /// Updates a small project in memory and prints the lines of this update.
@@ -49,10 +80,10 @@ pub(crate) fn demo<K: Sink>(alloc: Global, out: &mut K) -> Status
     ensures cause { HasDemoCause (K.faults out.old) (K.faults out.new) result }
     ensures printed { IsTrue K.tells
         → let before = K.faults out.old in let now = K.faults out.new in
-        PrintsUpdate demo_world before now (K.held out.old) (K.held out.new) result }
+        PrintsUpdate mini_next demo_world before now (K.held out.old) (K.held out.new) result }
 {
     match demo_site(alloc) {
-        Some(mut site) => update(alloc, &mut site, out),
+        Some(mut site) => update(alloc, &mut site, &mut Mini::new(alloc), out).status,
         None => Status::Memory,
     }
 }

@@ -1,26 +1,38 @@
 //! The calls of `tup.rows`.
+use crate::failing::Failing;
 use std::alloc::Global;
-use tup_path::Bytes;
+use tup_path::{Bytes, Items};
 use tup_rows::{Answers, RowFault, Words};
+use tup_rule::RuleName;
 use tup_site::{MemSite, Site};
 use tup_tell::{MemSink, Sink};
-use tup_top::{Word, tup};
+use tup_top::{Ran, Word, tup};
+
+/// A project, and what runs its commands.
+#[derive(Drop)]
+struct Project {
+    site: MemSite,
+    runner: Failing,
+    /// The rules that the last call of the program began.
+    begun: Items<RuleName>,
+}
 
 /// The project that the rows above have left; none while `tup` has it.
 #[derive(Drop)]
 pub(crate) struct Session {
-    site: Option<MemSite>,
+    project: Option<Project>,
 }
 
 impl Answers for Session {
     fn answer(&mut self, alloc: Global, call: &str, said: &Words) -> Result<Words, RowFault> {
         Ok(match call {
-            "project" => self.begin(alloc, 0),
-            "failing" => self.begin(alloc, said.number_at(0)),
+            "project" => self.begin(alloc, 0, 0),
+            "failing" => self.begin(alloc, said.number_at(0), 0),
+            "failing_run" => self.begin(alloc, 0, said.number_at(0)),
             "tup" => self.call(alloc, said, 0),
             "tup_unheard" => self.call(alloc, said, 1),
-            _ => match &mut self.site {
-                Some(site) => answer_of_site(alloc, site, call, said),
+            _ => match &mut self.project {
+                Some(project) => answer_of_project(alloc, project, call, said),
                 None => Words::none(alloc, RowFault::Memory),
             },
         })
@@ -28,17 +40,24 @@ impl Answers for Session {
 }
 
 impl Session {
-    /// An empty project whose site fails at the call of this number, counted from 1.
-    pub(crate) fn new(alloc: Global, fails: u64) -> Result<Session, RowFault> {
+    /// An empty project whose site fails at the call of the one number, counted from 1, and whose runner
+    /// fails at the run of the other.
+    pub(crate) fn new(alloc: Global, fails: u64, run_fails: u64) -> Result<Session, RowFault> {
         match MemSite::new(alloc, Vec::new(alloc), vec![in alloc; fails]?) {
-            Ok(site) => Ok(Session { site: Some(site) }),
+            Ok(site) => Ok(Session {
+                project: Some(Project {
+                    site,
+                    runner: Failing::new(alloc, run_fails),
+                    begun: Items::new(alloc),
+                }),
+            }),
             Err(_) => Err(RowFault::Memory),
         }
     }
 
-    /// Begins an empty project whose site fails at the call of this number.
-    fn begin(&mut self, alloc: Global, fails: u64) -> Words {
-        match Session::new(alloc, fails) {
+    /// Begins an empty project whose site and runner fail so.
+    fn begin(&mut self, alloc: Global, fails: u64, run_fails: u64) -> Words {
+        match Session::new(alloc, fails, run_fails) {
             Ok(session) => {
                 *self = session;
                 Words::done(alloc)
@@ -49,23 +68,61 @@ impl Session {
 
     /// Calls the program, and gives its exit number and what it printed.
     fn call(&mut self, alloc: Global, said: &Words, sink_fails: u64) -> Words {
-        match (self.site.take(), vec![in alloc; sink_fails]) {
-            (Some(site), Ok(fails)) => {
+        match (self.project.take(), vec![in alloc; sink_fails]) {
+            (Some(project), Ok(fails)) => {
                 let mut out = MemSink::new(alloc, fails);
-                self.run(alloc, &words_of(alloc, said), site, &mut out)
+                self.run(alloc, &words_of(alloc, said), project, &mut out)
             }
             _ => Words::none(alloc, RowFault::Memory),
         }
     }
 
-    /// Runs the program, and keeps the site as it leaves it.
-    fn run(&mut self, alloc: Global, words: &[Word], site: MemSite, out: &mut MemSink) -> Words {
-        let ran = tup(alloc, words, site, out);
-        self.site = Some(ran.site);
-        let mut answer = Words::shown(alloc, &ran.status.exit());
+    /// Runs the program with a crew of the one runner.
+    fn run(&mut self, alloc: Global, words: &[Word], project: Project, out: &mut MemSink) -> Words {
+        let Project { site, runner, .. } = project;
+        match vec![in alloc; runner] {
+            Ok(crew) => self.keep(alloc, tup(alloc, words, site, crew, out), out),
+            Err(_) => Words::none(alloc, RowFault::Memory),
+        }
+    }
+
+    /// Keeps the site and the runner as the program leaves them.
+    fn keep(&mut self, alloc: Global, ran: Ran<MemSite, Failing>, out: &MemSink) -> Words {
+        let Ran {
+            status,
+            site,
+            mut crew,
+            ran: begun,
+        } = ran;
+        self.project = match crew.pop() {
+            Some(runner) => Some(Project {
+                site,
+                runner,
+                begun,
+            }),
+            None => None,
+        };
+        let mut answer = Words::shown(alloc, &status.exit());
         answer.put(alloc, out.bytes().as_slice());
         answer
     }
+}
+
+/// Answers a call on the project.
+fn answer_of_project(alloc: Global, project: &mut Project, call: &str, said: &Words) -> Words {
+    match call {
+        "begun" => begun(alloc, project.begun.as_slice()),
+        _ => answer_of_site(alloc, &mut project.site, call, said),
+    }
+}
+
+/// The commands of rules.
+fn begun(alloc: Global, rules: &[RuleName]) -> Words {
+    let mut words = Words::new(alloc);
+    for rule in rules {
+        words.put(alloc, rule.text.as_str().as_bytes());
+    }
+    words
 }
 
 /// Answers a call on the files or the store of the project.

@@ -9,7 +9,7 @@ use Rattle.tup_site.specs.Cause.{CountsFaults, OnlyLarge, NamesLength, IsTooLarg
 use Rattle.tup_site.specs.declared.fault.SiteFailed.{SiteFailed}
 use Rattle.tup_site.specs.declared.fault.SiteFailed.TheVariants.{Fault, TooLarge}
 use Rattle.tup_rule.specs.declared.rule.Rule.{Rule}
-use Rattle.tup_runner.specs.Next.{Asks}
+use Rattle.tup_runner.specs.Next.{Next, Asks}
 use Rattle.tup_runner.specs.Refusal.{Refusal}
 use Rattle.tup_runner.specs.Run.{RunsAs, WasRefused}
 use Rattle.tup_runner.specs.declared.fault.RunFailed.{RunFailed}
@@ -22,8 +22,8 @@ use Rattle.tup_access.specs.Judge.{IsJudged}
 use Rattle.tup_access.specs.Verdict.{verdict}
 use Rattle.tup_access.specs.declared.verdict.Verdict.{Verdict}
 use Rattle.tup_access.specs.declared.verdict.Access.TheVariants.{No}
-use Rattle.tup_mini.specs.Means.{mini_next}
 use Rattle.tup_clean.proofs.Denying.{judged_denied}
+use Rattle.tup_update.specs.declared.stop.Halt.{Halt}
 use Rattle.tup_update.specs.declared.view.Refused.{Refused}
 use Rattle.tup_update.specs.declared.view.Refused.TheVariants.{Denied, Failed}
 use Rattle.tup_update.specs.Seeing.{IsCause, ComesTo, refusal_of}
@@ -46,19 +46,19 @@ nothing_kept refused (text, Denied verdict) none was = absurd (cc (ap refusal_of
 nothing_kept refused (text, Failed failed) none was = absurd (cc (ap refusal_of (sym was) ∙ none))
 
 -- a command that was run over the files of a site, by asks of which it came by some
-module _ (rules : List Rule) (rule : Rule) (tree : Tree) (after : ℕ) (came : Asks → Type 0) where
+module _ (tells : Bool) (told : IsTrue tells) (next : Next) (rules : List Rule) (rule : Rule) (tree : Tree) (after : ℕ) (came : Asks → Type 0) where
   -- one that was denied a text has the verdict by which it was
-  at_denial : (text : List ℕ) (given : Verdict) (why : ViewFailed) → WasRefused true (mini_next rule.dir rule.text) came (Some (record { text = text; why = ViewDenied })) why →
-      ((asks : Asks) → came asks → HasSeen rules rule tree 0 asks after) → access rules rule after text ≡ No given → IsJudged given [] (verdict mini_next rules rule tree)
+  at_denial : (text : List ℕ) (given : Verdict) (why : ViewFailed) → WasRefused tells (next rule.dir rule.text) came (Some (record { text = text; why = ViewDenied })) why →
+      ((asks : Asks) → came asks → HasSeen rules rule tree 0 asks after) → access rules rule after text ≡ No given → IsJudged given [] (verdict next rules rule tree)
   at_denial text given why was seen denied =
-      judged_denied mini_next rules rule tree was.asks after (seen was.asks was.came_by) text was.last given [] (was.means refl)
+      judged_denied next rules rule tree was.asks after (seen was.asks was.came_by) text was.last given [] (was.means told)
       (ap (λ (r : Refusal). r.text) (same_Some (record { text = text; why = ViewDenied }) (record { text = was.last; why = why }) was.refused)) denied refl
 
   -- and this is what it comes to
-  pub judged_refused : (kept : Option (List ℕ × Refused)) (failed : RunFailed) (result : Result (Verdict × List (Names × Content)) SiteFailed) →
-      RunsAs true (mini_next rule.dir rule.text) came (refusal_of kept) (Err failed) → ((asks : Asks) → came asks → HasSeen rules rule tree 0 asks after) → IsSome kept →
+  pub judged_refused : (kept : Option (List ℕ × Refused)) (failed : RunFailed) (result : Result (Verdict × List (Names × Content)) Halt) →
+      RunsAs tells (next rule.dir rule.text) came (refusal_of kept) (Err failed) → ((asks : Asks) → came asks → HasSeen rules rule tree 0 asks after) → IsSome kept →
       ((text : List ℕ) (given : Verdict) → kept ≡ Some (text, Denied given) → access rules rule after text ≡ No given) → ComesTo kept result →
-      IfOk result (λ judged. IsJudged judged.0 judged.1 (verdict mini_next rules rule tree))
+      IfOk result (λ judged. IsJudged judged.0 judged.1 (verdict next rules rule tree))
   judged_refused None failed result ran seen some denies comes = absurd (false≢true some)
   judged_refused (Some (text, Failed kept)) failed result ran seen some denies comes = rw comes tt
   judged_refused (Some (text, Denied given)) RunDenied result ran seen some denies comes = rw comes (at_denial text given ViewDenied ran seen (denies text given refl))

@@ -9,7 +9,7 @@ use Rattle.tup_path.specs.Tree.{Tree}
 use Rattle.tup_path.proofs.Same.{same_tree}
 use Rattle.tup_rule.specs.declared.rule.Rule.{Rule}
 use Rattle.tup_rule.specs.Rule.{among, is_generated}
-use Rattle.tup_mini.specs.Means.{mini_next}
+use Rattle.tup_runner.specs.Next.{Next}
 use Rattle.tup_clean.proofs.Among.{among-Contains, Contains-among, is_generated-IsOutputAt}
 use Rattle.tup_clean.specs.Clean.{Build, succeeds}
 use Rattle.tup_clean.specs.InOrder.{IsBuildable}
@@ -84,14 +84,14 @@ same_beside_claimed owned rules old new buildable changes =
         ∙ sym (ap (λ (b : Bool). cond (not b) (finite.get old path) None) other)
 
 -- and where the clean build stands, of which the outputs are listed
-same_beside_outputs : (owned : List Names) (rules : List Rule) (old : Tree) → IsBuildable (files_beside owned old) rules → IsTrue (succeeds (build_beside owned rules old)) →
-    files_beside (ascending (outputs rules)) (build_beside owned rules old).tree ≡ files_beside owned old
-same_beside_outputs owned rules old buildable clean_build =
+same_beside_outputs : (next : Next) (owned : List Names) (rules : List Rule) (old : Tree) → IsBuildable (files_beside owned old) rules → IsTrue (succeeds (build_beside next owned rules old)) →
+    files_beside (ascending (outputs rules)) (build_beside next owned rules old).tree ≡ files_beside owned old
+same_beside_outputs next owned rules old buildable clean_build =
     same_sources owned (ascending (outputs rules)) rules old built.tree buildable (λ path e. is path ∙ e)
     (λ path e. get_beside (ascending (outputs rules)) built.tree path ∙ ap (λ (b : Bool). cond (not b) (finite.get built.tree path) None) (is path ∙ e) ∙ elsewhere path e)
   where
     built : Build
-    built = build_beside owned rules old
+    built = build_beside next owned rules old
 
     is : (path : Names) → among path (ascending (outputs rules)) ≡ is_generated rules path
     is path = among_ascending (outputs rules) path ∙ among_outputs rules path
@@ -99,15 +99,15 @@ same_beside_outputs owned rules old buildable clean_build =
     elsewhere : (path : Names) → is_generated rules path ≡ false → finite.get built.tree path ≡ finite.get (files_beside owned old) path
     elsewhere path unmade =
         let beside = files_beside owned old in
-        let good = good_where_clean_succeeds (length rules) mini_next rules beside buildable (omega arith) clean_build in
-        ap (λ (b : Build). finite.get b.tree path) (clean_of_good mini_next rules beside buildable good)
-        ∙ (in_order_good (length rules) mini_next rules beside buildable (omega arith) good).elsewhere path
+        let good = good_where_clean_succeeds (length rules) next rules beside buildable (omega arith) clean_build in
+        ap (λ (b : Build). finite.get b.tree path) (clean_of_good next rules beside buildable good)
+        ∙ (in_order_good (length rules) next rules beside buildable (omega arith) good).elsewhere path
         (λ at below output. false≢true (sym unmade ∙ is_generated-IsOutputAt rules at path output))
 
 -- ---- of worlds
 
-pub build_is : (w : World) (paths : List Names) (found : List Rule) → owned_of w.store ≡ Ok paths → rules_beside paths w.tree ≡ Ok found → build_beside paths found w.tree ≡ build w
-build_is w paths found owns asks = λ i. build_beside (sym (owned_is w paths owns) i) (sym (rules_are w paths found owns asks) i) w.tree
+pub build_is : (next : Next) (w : World) (paths : List Names) (found : List Rule) → owned_of w.store ≡ Ok paths → rules_beside paths w.tree ≡ Ok found → build_beside next paths found w.tree ≡ build next w
+build_is next w paths found owns asks = λ i. build_beside next (sym (owned_is w paths owns) i) (sym (rules_are w paths found owns asks) i) w.tree
 
 -- the sources of a world, by what its store lists
 sources_are : (w : World) (paths : List Names) → owned_of w.store ≡ Ok paths → sources w ≡ files_beside paths w.tree
@@ -122,12 +122,12 @@ claimed_known old new paths found owns asks buildable changes stored =
       same = sources_are new (ascending (paths ++ outputs found)) reads ∙ same_beside_claimed paths found old.tree new.tree buildable changes ∙ sym (sources_are old paths owns);
     }
 
-pub made_known : (old new : World) (paths : List Names) (found : List Rule) → owned_of old.store ≡ Ok paths → rules_beside paths old.tree ≡ Ok found →
-    IsBuildable (files_beside paths old.tree) found → IsTrue (succeeds (build_beside paths found old.tree)) → new.tree ≡ (build_beside paths found old.tree).tree →
+pub made_known : (next : Next) (old new : World) (paths : List Names) (found : List Rule) → owned_of old.store ≡ Ok paths → rules_beside paths old.tree ≡ Ok found →
+    IsBuildable (files_beside paths old.tree) found → IsTrue (succeeds (build_beside next paths found old.tree)) → new.tree ≡ (build_beside next paths found old.tree).tree →
     owned_of new.store ≡ Ok (ascending (outputs found)) → IsListed (ascending (outputs (rules old))) old new
-made_known old new paths found owns asks buildable clean_build files reads = record {
+made_known next old new paths found owns asks buildable clean_build files reads = record {
   listed = reads ∙ ap (λ (r : List Rule). Ok (ascending (outputs r))) (sym (rules_are old paths found owns asks));
   same =
       sources_are new (ascending (outputs found)) reads ∙ ap (files_beside (ascending (outputs found))) files
-      ∙ same_beside_outputs paths found old.tree buildable clean_build ∙ sym (sources_are old paths owns);
+      ∙ same_beside_outputs next paths found old.tree buildable clean_build ∙ sym (sources_are old paths owns);
 }

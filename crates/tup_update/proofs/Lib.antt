@@ -4,6 +4,7 @@ pub mod Beside
 pub mod Fronts
 pub mod Reading
 pub mod Running
+pub mod Begun
 pub mod Preparing
 pub mod Trees
 pub mod Known

@@ -1,5 +1,5 @@
 -- Rules that are run one after another over a tree, beside their clean build.
-use Rattle.std.proofs.Common.{◌≡◌, ◌≢◌, ◌⊎◌, inl, inr, ℕ, zero, suc, ◌+◌, ◌-◌, ◌<◌, ◌≤◌, Bool, true, false, cond, not, if◌then◌else◌, get_or, append_assoc, append-nil, List, [], ◌∷◌, ◌++◌, length, map, Option, None, Some, IsSome, is_some, IsTrue, replicate, refl, sym, ◌∙◌, ap, subst, arith}
+use Rattle.std.proofs.Common.{◌≡◌, ◌≢◌, ◌⊎◌, inl, inr, ℕ, zero, suc, ◌+◌, ◌-◌, ◌<◌, ◌≤◌, Bool, true, false, cond, not, if◌then◌else◌, get_or, append_assoc, append-nil, List, [], ◌∷◌, ◌++◌, length, map, Option, None, Some, IsSome, is_some, IsTrue, IfOk, Result, replicate, refl, sym, ◌∙◌, ap, subst, arith}
 use Rattle.std.specs.List.{slice_get}
 use Rattle.std.specs.FinMap as finite
 use Rattle.std.proofs.lemmas.Bool.{false≢true}
@@ -15,16 +15,20 @@ use Rattle.tup_access.specs.declared.verdict.Verdict.{Verdict}
 use Rattle.tup_access.specs.declared.verdict.Verdict.TheVariants.{Good, Failed, IllegalRead, IllegalWrite, Unwritten, TooManyReads}
 use Rattle.tup_access.specs.Judge.{Judged, IsJudged}
 use Rattle.tup_access.specs.Verdict.{verdict}
-use Rattle.tup_mini.specs.Means.{mini_next}
+use Rattle.tup_runner.specs.Next.{Next}
 use Rattle.tup_clean.specs.Clean.{Build, clean, is_good, good_at, with_files}
 use Rattle.tup_clean.specs.InOrder.{IsOutputAt, IsBuildable, AllGoodBefore, AgreesBefore, judged_at}
 use Rattle.tup_clean.proofs.Among.{maker-IsOutputAt, is_generated-maker, Contains-among}
 use Rattle.tup_clean.proofs.InOrderLaws.{good_more, agrees_start, agrees_put, verdict_over, in_order_good}
 use Rattle.tup_clean.proofs.CleanLaws.{clean_verdict_at, clean_names_the_first_bad, clean_of_good}
 use Rattle.tup_update.specs.Sources.{files_beside, build_beside}
-use Rattle.tup_update.specs.Log.{up_to_first_bad, IsFront, IsGrownByFront}
+use Rattle.tup_update.specs.Log.{up_to_first_bad, IsFront}
 use Rattle.tup_update.specs.Parts.{HasRun, bad_of, SameBeside, SameBesideOutputs, IsRunnable, IsFirstBad, Leaves}
-use Rattle.tup_update.specs.Put.{HasRoom}
+use Rattle.tup_update.specs.Put.{HasRoom, AreOwn}
+use Rattle.tup_update.specs.Seeing.{ComesTo}
+use Rattle.tup_update.specs.declared.stop.Halt.{Halt}
+use Rattle.tup_update.specs.declared.view.Refused.{Refused}
+use Rattle.tup_update.specs.declared.view.Refused.TheVariants.{Denied, Failed as NotGiven}
 use Rattle.tup_update.proofs.Beside.{get_beside}
 
 -- a path that a rule makes is an output at some place
@@ -66,9 +70,9 @@ room_for owned rules old now at rule here runnable same = record {
     own path mine = (rule, here, Contains-among path rule.outputs mine)
 
 -- before the first rule the tree agrees with the build
-pub agrees_at_first : (owned : List Names) (rules : List Rule) (tree : Tree) → IsRunnable owned rules tree → AgreesBefore 0 mini_next rules (files_beside owned tree) tree
-agrees_at_first owned rules tree runnable =
-    agrees_start mini_next rules (files_beside owned tree) tree (λ path none. by path none (among path owned) refl)
+pub agrees_at_first : (next : Next) (owned : List Names) (rules : List Rule) (tree : Tree) → IsRunnable owned rules tree → AgreesBefore 0 next rules (files_beside owned tree) tree
+agrees_at_first next owned rules tree runnable =
+    agrees_start next rules (files_beside owned tree) tree (λ path none. by path none (among path owned) refl)
   where
     no_file : (path : Names) → ((at : ℕ) → IsOutputAt rules at path → ⊥) → among path owned ≡ true → (found : Option Content) → finite.get tree path ≡ found → found ≡ None
     no_file path none mine None e = refl
@@ -87,19 +91,19 @@ pub beside_all : (rules : List Rule) (at : ℕ) (rule : Rule) (old between now :
 beside_all rules at rule old between now here same more path unmade = more path (writes-at rules path at rule unmade here) ∙ same path unmade
 
 -- a rule that was Good has carried the run on
-pub record CarriesOn (count : ℕ) (rules : List Rule) (sources tree : Tree) : Type 0 where
-  pub good : AllGoodBefore count mini_next rules sources
-  pub agrees : AgreesBefore count mini_next rules sources tree
+pub record CarriesOn (next : Next) (count : ℕ) (rules : List Rule) (sources tree : Tree) : Type 0 where
+  pub good : AllGoodBefore count next rules sources
+  pub agrees : AgreesBefore count next rules sources tree
 
-pub carried_on : (count : ℕ) (rules : List Rule) (sources before after : Tree) (rule : Rule) (given : Verdict) → IsBuildable sources rules → slice_get rules count ≡ Some rule → CarriesOn count rules sources before →
-    Leaves (verdict mini_next rules rule before) before after given → given ≡ Good → CarriesOn (suc count) rules sources after
-carried_on count rules sources before after rule given buildable here run left is =
-    let same = verdict_over count mini_next rules sources before rule buildable here run.agrees in
-    let good : (judged_at mini_next rules sources count rule).verdict ≡ Good = ap (λ (j : Judged). j.verdict) (sym same) ∙ sym left.is ∙ is in
+pub carried_on : (next : Next) (count : ℕ) (rules : List Rule) (sources before after : Tree) (rule : Rule) (given : Verdict) → IsBuildable sources rules → slice_get rules count ≡ Some rule → CarriesOn next count rules sources before →
+    Leaves (verdict next rules rule before) before after given → given ≡ Good → CarriesOn next (suc count) rules sources after
+carried_on next count rules sources before after rule given buildable here run left is =
+    let same = verdict_over count next rules sources before rule buildable here run.agrees in
+    let good : (judged_at next rules sources count rule).verdict ≡ Good = ap (λ (j : Judged). j.verdict) (sym same) ∙ sym left.is ∙ is in
     record {
-      good = good_more count mini_next rules sources rule here run.good good;
-      agrees = subst (AgreesBefore (suc count) mini_next rules sources) (sym (left.files ∙ ap (λ (j : Judged). with_files before j.files) same))
-          (agrees_put count mini_next rules sources before rule here run.agrees good);
+      good = good_more count next rules sources rule here run.good good;
+      agrees = subst (AgreesBefore (suc count) next rules sources) (sym (left.files ∙ ap (λ (j : Judged). with_files before j.files) same))
+          (agrees_put count next rules sources before rule here run.agrees good);
     }
 
 -- ---- the verdicts that are noted
@@ -128,24 +132,29 @@ pub rule_here : (rules items : List Rule) (at : ℕ) (item : Rule) → items ≡
 rule_here rules items at item same within is =
     ap (λ (l : List Rule). slice_get l at) (sym same) ∙ slice_get-get_or items at item within ∙ ap (λ (r : Rule). Some r) (sym is)
 
--- the places of a command's files are its rule's outputs, or it leaves none
-pub own_places : (rule : Rule) (given : Verdict) (files slice : List (Names × Content)) (judged : Judged) → slice ≡ files → IsJudged given files judged → LeavesOutputs rule judged →
-    (map (λ (file : Names × Content). file.0) slice ≡ rule.outputs) ⊎ (map (λ (file : Names × Content). file.0) slice ≡ [])
-own_places rule given files slice judged same is leaves = by judged.verdict refl
+-- what judging a command leaves are its rule's own files
+pub judged_own : (rule : Rule) (given : Verdict) (files : List (Names × Content)) (judged : Judged) → IsJudged given files judged → LeavesOutputs rule judged → AreOwn rule files
+judged_own rule given files judged is leaves = by judged.verdict refl
   where
-    placed : map (λ (file : Names × Content). file.0) slice ≡ map (λ (file : Names × Content). file.0) judged.files
-    placed = ap (λ (l : List (Names × Content)). map (λ (file : Names × Content). file.0) l) (same ∙ is.1)
+    by : (v : Verdict) → judged.verdict ≡ v → AreOwn rule files
+    by Good e = inl (ap (λ (l : List (Names × Content)). map (λ (file : Names × Content). file.0) l) is.1 ∙ leaves.good e)
+    by (Failed status) e = inr (is.1 ∙ leaves.other (λ good. cc (e, good)))
+    by (IllegalRead text) e = inr (is.1 ∙ leaves.other (λ good. cc (e, good)))
+    by (IllegalWrite text) e = inr (is.1 ∙ leaves.other (λ good. cc (e, good)))
+    by (Unwritten path) e = inr (is.1 ∙ leaves.other (λ good. cc (e, good)))
+    by TooManyReads e = inr (is.1 ∙ leaves.other (λ good. cc (e, good)))
 
-    none : judged.verdict ≢ Good → (map (λ (file : Names × Content). file.0) slice ≡ rule.outputs) ⊎ (map (λ (file : Names × Content). file.0) slice ≡ [])
-    none apart = inr (placed ∙ ap (λ (l : List (Names × Content)). map (λ (file : Names × Content). file.0) l) (leaves.other apart))
+-- as they are of one that was denied a text
+pub refused_own : (rule : Rule) (kept : Option (List ℕ × Refused)) (result : Result (Verdict × List (Names × Content)) Halt) → IsSome kept → ComesTo kept result → IfOk result (λ judged. AreOwn rule judged.1)
+refused_own rule None result some comes = absurd (false≢true some)
+refused_own rule (Some (text, Denied given)) result some comes = rw comes (inr refl)
+refused_own rule (Some (text, NotGiven failed)) result some comes = rw comes tt
 
-    by : (v : Verdict) → judged.verdict ≡ v → (map (λ (file : Names × Content). file.0) slice ≡ rule.outputs) ⊎ (map (λ (file : Names × Content). file.0) slice ≡ [])
-    by Good e = inl (placed ∙ leaves.good e)
-    by (Failed status) e = none (λ good. cc (e, good))
-    by (IllegalRead text) e = none (λ good. cc (e, good))
-    by (IllegalWrite text) e = none (λ good. cc (e, good))
-    by (Unwritten path) e = none (λ good. cc (e, good))
-    by TooManyReads e = none (λ good. cc (e, good))
+-- their places are its outputs, or there are none
+pub own_places : (rule : Rule) (files slice : List (Names × Content)) → slice ≡ files → AreOwn rule files →
+    (map (λ (file : Names × Content). file.0) slice ≡ rule.outputs) ⊎ (map (λ (file : Names × Content). file.0) slice ≡ [])
+own_places rule files slice same (inl placed) = inl (ap (λ (l : List (Names × Content)). map (λ (file : Names × Content). file.0) l) same ∙ placed)
+own_places rule files slice same (inr none) = inr (ap (λ (l : List (Names × Content)). map (λ (file : Names × Content). file.0) l) (same ∙ none))
 
 -- so there is room for them
 pub room_for_places : (rule : Rule) (places : List Names) (tree now : Tree) → (places ≡ rule.outputs) ⊎ (places ≡ []) → now ≡ tree → HasRoom tree rule.outputs → HasRoom now places
@@ -178,27 +187,26 @@ replicate_more {A} n x = let next : suc n ≡ n + 1 = omega arith in by n ∙ ap
     by zero = refl
     by (suc n) = ap (λ (l : List A). x ∷ l) (by n)
 
-pub noted_more : (count : ℕ) (given : Verdict) (old between new : List Verdict) → between ≡ old ++ replicate count Good → new ≡ between ++ given ∷ [] → new ≡ old ++ (replicate count Good ++ given ∷ [])
-noted_more count given old between new was more =
-    more ∙ ap (λ (l : List Verdict). l ++ given ∷ []) was ∙ append_assoc old (replicate count Good) (given ∷ [])
+pub noted_more : (count : ℕ) (given : Verdict) (between new : List Verdict) → between ≡ replicate count Good → new ≡ between ++ given ∷ [] → new ≡ replicate count Good ++ given ∷ []
+noted_more count given between new was more = more ∙ ap (λ (l : List Verdict). l ++ given ∷ []) was
 
 -- in the clean build the rules that were Good are Good
-good_in_build : (count : ℕ) (rules : List Rule) (sources tree : Tree) (rule : Rule) → IsBuildable sources rules → count ≤ length rules → CarriesOn count rules sources tree →
-    (at : ℕ) → at < count → slice_get (clean mini_next rules sources).verdicts at ≡ Some (Some Good)
-good_in_build count rules sources tree rule buildable within run at below =
+pub good_in_build : (next : Next) (count : ℕ) (rules : List Rule) (sources tree : Tree) (rule : Rule) → IsBuildable sources rules → count ≤ length rules → CarriesOn next count rules sources tree →
+    (at : ℕ) → at < count → slice_get (clean next rules sources).verdicts at ≡ Some (Some Good)
+good_in_build next count rules sources tree rule buildable within run at below =
     let here = slice_get-get_or rules at rule (omega arith) in
-    clean_verdict_at at mini_next rules sources (get_or rules at rule) buildable here (λ place one lower. run.good place one (omega arith))
+    clean_verdict_at at next rules sources (get_or rules at rule) buildable here (λ place one lower. run.good place one (omega arith))
     ∙ ap (λ (v : Verdict). Some (Some v)) (run.good at (get_or rules at rule) below here)
 
 -- a rule that isn't Good is the first such in the build
-pub first_bad : (count : ℕ) (owned : List Names) (rules : List Rule) (old tree : Tree) (rule : Rule) (name : RuleName) (given : Verdict) → IsRunnable owned rules old → slice_get rules count ≡ Some rule →
-    CarriesOn count rules (files_beside owned old) tree → given ≡ (verdict mini_next rules rule tree).verdict → name ≡ name_of rule → is_good (Some given) ≡ false →
-    IsFirstBad rules (build_beside owned rules old) name given
-first_bad count owned rules old tree rule name given runnable here run is named bad =
+pub first_bad : (next : Next) (count : ℕ) (owned : List Names) (rules : List Rule) (old tree : Tree) (rule : Rule) (name : RuleName) (given : Verdict) → IsRunnable owned rules old → slice_get rules count ≡ Some rule →
+    CarriesOn next count rules (files_beside owned old) tree → given ≡ (verdict next rules rule tree).verdict → name ≡ name_of rule → is_good (Some given) ≡ false →
+    IsFirstBad rules (build_beside next owned rules old) name given
+first_bad next count owned rules old tree rule name given runnable here run is named bad =
     let sources = files_beside owned old in
-    let same : given ≡ (judged_at mini_next rules sources count rule).verdict =
-    is ∙ ap (λ (j : Judged). j.verdict) (verdict_over count mini_next rules sources tree rule runnable.buildable here run.agrees) in
-    let names = clean_names_the_first_bad count mini_next rules sources rule runnable.buildable here run.good
+    let same : given ≡ (judged_at next rules sources count rule).verdict =
+    is ∙ ap (λ (j : Judged). j.verdict) (verdict_over count next rules sources tree rule runnable.buildable here run.agrees) in
+    let names = clean_names_the_first_bad count next rules sources rule runnable.buildable here run.good
     (λ good. false≢true (sym bad ∙ ap (λ (v : Verdict). is_good (Some v)) (same ∙ good))) in
     record {
       at = count;
@@ -207,23 +215,23 @@ first_bad count owned rules old tree rule name given runnable here run is named 
       named = named;
       given = names.here ∙ ap (λ (v : Verdict). Some (Some v)) (sym same);
       bad = bad;
-      first = λ before less. good_there (build_beside owned rules old).verdicts before (names.before before less);
+      first = λ before less. good_there (build_beside next owned rules old).verdicts before (names.before before less);
     }
   where
     good_there : (verdicts : List (Option Verdict)) (at : ℕ) → slice_get verdicts at ≡ Some (Some Good) → IsTrue (good_at verdicts at)
     good_there verdicts at e = ap (λ (found : Option (Option Verdict)). elim found [ Some one ↦ is_good one | None ↦ false ]) e
 
 -- its verdict ends what is noted
-pub noted_to_bad : (count : ℕ) (owned : List Names) (rules : List Rule) (old tree : Tree) (rule : Rule) (name : RuleName) (given : Verdict) → IsRunnable owned rules old → slice_get rules count ≡ Some rule →
-    CarriesOn count rules (files_beside owned old) tree → given ≡ (verdict mini_next rules rule tree).verdict → is_good (Some given) ≡ false →
-    up_to_first_bad (build_beside owned rules old).verdicts ≡ replicate count Good ++ given ∷ []
+pub noted_to_bad : (next : Next) (count : ℕ) (owned : List Names) (rules : List Rule) (old tree : Tree) (rule : Rule) (name : RuleName) (given : Verdict) → IsRunnable owned rules old → slice_get rules count ≡ Some rule →
+    CarriesOn next count rules (files_beside owned old) tree → given ≡ (verdict next rules rule tree).verdict → is_good (Some given) ≡ false →
+    up_to_first_bad (build_beside next owned rules old).verdicts ≡ replicate count Good ++ given ∷ []
 unfolding first_bad
-noted_to_bad count owned rules old tree rule name given runnable here run is bad =
+noted_to_bad next count owned rules old tree rule name given runnable here run is bad =
     let sources = files_beside owned old in
-    let verdicts = (build_beside owned rules old).verdicts in
+    let verdicts = (build_beside next owned rules old).verdicts in
     let within = slice_get_within rules count rule here in
-    let front = up_to_first_bad-good verdicts count (good_in_build count rules sources tree rule runnable.buildable (omega arith) run) in
-    let there = (first_bad count owned rules old tree rule (name_of rule) given runnable here run is refl bad).given in
+    let front = up_to_first_bad-good verdicts count (good_in_build next count rules sources tree rule runnable.buildable (omega arith) run) in
+    let there = (first_bad next count owned rules old tree rule (name_of rule) given runnable here run is refl bad).given in
     let behind : slice_get front.0 0 ≡ Some (Some given) = sym (front.2 0) ∙ ap (slice_get verdicts) (omega arith) ∙ there in
     front.1 ∙ ap (λ (l : List Verdict). replicate count Good ++ l) (ends front.0 behind)
   where
@@ -234,20 +242,20 @@ noted_to_bad count owned rules old tree rule name given runnable here run is bad
         ap (λ (v : Option Verdict). up_to_first_bad (v ∷ rest)) head ∙ ap (λ (b : Bool). if b then given ∷ up_to_first_bad rest else given ∷ []) bad
 
 -- what is noted is a front of it, wherever the run stops
-pub noted_front : (count : ℕ) (owned : List Names) (rules : List Rule) (old tree : Tree) (rule : Rule) → IsRunnable owned rules old → slice_get rules count ≡ Some rule →
-    CarriesOn count rules (files_beside owned old) tree → IsFront (replicate count Good) (up_to_first_bad (build_beside owned rules old).verdicts)
-noted_front count owned rules old tree rule runnable here run =
+pub noted_front : (next : Next) (count : ℕ) (owned : List Names) (rules : List Rule) (old tree : Tree) (rule : Rule) → IsRunnable owned rules old → slice_get rules count ≡ Some rule →
+    CarriesOn next count rules (files_beside owned old) tree → IsFront (replicate count Good) (up_to_first_bad (build_beside next owned rules old).verdicts)
+noted_front next count owned rules old tree rule runnable here run =
     let within = slice_get_within rules count rule here in
-    let front = up_to_first_bad-good (build_beside owned rules old).verdicts count (good_in_build count rules (files_beside owned old) tree rule runnable.buildable (omega arith) run) in
+    let front = up_to_first_bad-good (build_beside next owned rules old).verdicts count (good_in_build next count rules (files_beside owned old) tree rule runnable.buildable (omega arith) run) in
     (up_to_first_bad front.0, sym front.1)
 
 -- and at the end it is all of it
-pub noted_all : (owned : List Names) (rules : List Rule) (old tree : Tree) → IsRunnable owned rules old → CarriesOn (length rules) rules (files_beside owned old) tree →
-    up_to_first_bad (build_beside owned rules old).verdicts ≡ replicate (length rules) Good
-noted_all owned rules old tree runnable run =
+pub noted_all : (next : Next) (owned : List Names) (rules : List Rule) (old tree : Tree) → IsRunnable owned rules old → CarriesOn next (length rules) rules (files_beside owned old) tree →
+    up_to_first_bad (build_beside next owned rules old).verdicts ≡ replicate (length rules) Good
+noted_all next owned rules old tree runnable run =
     let sources = files_beside owned old in
-    ap (λ (b : Build). up_to_first_bad b.verdicts) (clean_of_good mini_next rules sources runnable.buildable run.good)
-    ∙ ap up_to_first_bad (in_order_good (length rules) mini_next rules sources runnable.buildable (omega arith) run.good).verdicts
+    ap (λ (b : Build). up_to_first_bad b.verdicts) (clean_of_good next rules sources runnable.buildable run.good)
+    ∙ ap up_to_first_bad (in_order_good (length rules) next rules sources runnable.buildable (omega arith) run.good).verdicts
     ∙ all (length rules) (length rules - length rules) (omega arith)
   where
     all : (n m : ℕ) → m ≡ 0 → up_to_first_bad (replicate n (Some Good) ++ replicate m None) ≡ replicate n Good
@@ -277,13 +285,9 @@ unnamed_good rule given bad is none = by (is_good (Some given)) refl
         absurd (false≢true (sym none ∙ ap (λ (o : Option (RuleName × Verdict)). is_some o) some))
 
 -- the run that stops there has run as promised
-pub stops_at : (count : ℕ) (owned : List Names) (rules : List Rule) (old tree now : Tree) (rule : Rule) (given : Verdict) (bad : Option (RuleName × Verdict)) → IsRunnable owned rules old →
-    slice_get rules count ≡ Some rule → CarriesOn count rules (files_beside owned old) tree → given ≡ (verdict mini_next rules rule tree).verdict →
-    bad ≡ bad_of rule given → is_some bad ≡ true → HasRun rules (build_beside owned rules old) now bad
-stops_at count owned rules old tree now rule given bad runnable here run is names some =
+pub stops_at : (next : Next) (count : ℕ) (owned : List Names) (rules : List Rule) (old tree now : Tree) (rule : Rule) (given : Verdict) (bad : Option (RuleName × Verdict)) → IsRunnable owned rules old →
+    slice_get rules count ≡ Some rule → CarriesOn next count rules (files_beside owned old) tree → given ≡ (verdict next rules rule tree).verdict →
+    bad ≡ bad_of rule given → is_some bad ≡ true → HasRun rules (build_beside next owned rules old) now bad
+stops_at next count owned rules old tree now rule given bad runnable here run is names some =
     let at = named_bad rule given bad names some in
-    subst (HasRun rules (build_beside owned rules old) now) (sym at.0) (first_bad count owned rules old tree rule (name_of rule) given runnable here run is refl at.1)
-
--- a list that grew by all of it grew by a front of it
-pub whole_grown : {A : Type 0} (old new whole : List A) → new ≡ old ++ whole → IsGrownByFront old new whole
-whole_grown {A} old new whole e = (whole, ([], append-nil whole), e)
+    subst (HasRun rules (build_beside next owned rules old) now) (sym at.0) (first_bad next count owned rules old tree rule (name_of rule) given runnable here run is refl at.1)

@@ -2,6 +2,7 @@ pub mod Sources
 pub mod Log
 pub mod Outside
 pub mod Stopped
+pub mod Ran
 pub mod Parts
 pub mod Put
 pub mod Seeing

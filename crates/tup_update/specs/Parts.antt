@@ -16,6 +16,7 @@ use Rattle.tup_clean.specs.Clean.{Build, is_good, good_at, succeeds, with_files}
 use Rattle.tup_clean.specs.InOrder.{IsBuildable}
 use Rattle.tup_owned.specs.Owned.{owned_of}
 use Rattle.tup_parse.specs.Reading.{top_tupfile}
+use Rattle.tup_update.specs.Log.{begun, up_to_first_bad, IsFront}
 use Rattle.tup_update.specs.Sources.{files_beside, rules_beside, folders_of}
 use Rattle.tup_update.specs.declared.project.Project.{Project}
 
@@ -83,6 +84,14 @@ pub record IsBuilt (build : Build) (tree : Tree) : Type 0 where
 abbrev pub HasRun : List Rule → Build → Tree → Option (RuleName × Verdict) → Type 0
 HasRun rules build tree None = IsBuilt build tree
 HasRun rules build tree (Some bad) = IsFirstBad rules build bad.0 bad.1
+
+-- what is noted of rules that are run: the names of those that were begun, and the verdicts
+abbrev pub AreNoted : List Rule → Build → List RuleName → List Verdict → Type 0
+AreNoted rules build ran verdicts = (ran ≡ begun rules build) × (verdicts ≡ up_to_first_bad build.verdicts)
+
+-- or as far as it came
+abbrev pub ArePartNoted : List Rule → Build → List RuleName → List Verdict → Type 0
+ArePartNoted rules build ran verdicts = IsFront ran (begun rules build) × IsFront verdicts (up_to_first_bad build.verdicts)
 
 -- the rules can be run over a tree: each of its files is a source or an output of theirs
 pub record IsRunnable (owned : List Names) (rules : List Rule) (tree : Tree) : Type 0 where

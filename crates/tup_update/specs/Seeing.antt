@@ -9,6 +9,8 @@ use Rattle.tup_access.specs.declared.verdict.Verdict.{Verdict}
 use Rattle.tup_runner.specs.declared.fault.ViewFailed.TheVariants.{Denied as ViewDenied, Fault as ViewFault}
 use Rattle.tup_runner.specs.declared.step.Answer.{Answer}
 use Rattle.tup_runner.specs.declared.step.Answer.TheVariants.{Content as Holds, Absent}
+use Rattle.tup_update.specs.declared.stop.Halt.{Halt}
+use Rattle.tup_update.specs.declared.stop.Halt.TheVariants.{Outside}
 use Rattle.tup_update.specs.declared.view.Refused.{Refused}
 use Rattle.tup_update.specs.declared.view.Refused.TheVariants.{Denied, Failed}
 use Rattle.tup_update.specs.Parts.{NamesALargeFile}
@@ -38,10 +40,10 @@ pub record KeepsCount (tells : Bool) (w : World) (before now : ℕ) (was is : Op
   pub stays : (refused : List ℕ × Refused) → was ≡ Some refused → (is ≡ Some refused) × (now ≡ before)
 
 -- what a command comes to whose text got no answer
-abbrev pub ComesTo : Option (List ℕ × Refused) → Result (Verdict × List (Names × Content)) SiteFailed → Type 0
+abbrev pub ComesTo : Option (List ℕ × Refused) → Result (Verdict × List (Names × Content)) Halt → Type 0
 ComesTo None result = ⊤
 ComesTo (Some (text, Denied verdict)) result = result ≡ Ok (verdict, [])
-ComesTo (Some (text, Failed failed)) result = result ≡ Err failed
+ComesTo (Some (text, Failed failed)) result = result ≡ Err (Outside failed)
 
 -- what a file that was looked for is answered as
 abbrev pub answer_of_file : Option Content → Answer

@@ -7,7 +7,7 @@ use Rattle.tup_path.specs.Tree.{Tree}
 use Rattle.tup_site.specs.World.{World}
 use Rattle.tup_rule.specs.declared.rule.Rule.{Rule}
 use Rattle.tup_rule.specs.Rule.{among}
-use Rattle.tup_mini.specs.Means.{mini_next}
+use Rattle.tup_runner.specs.Next.{Next}
 use Rattle.tup_clean.specs.Clean.{Build, clean}
 use Rattle.tup_parse.specs.declared.fault.ReadEnd.{ReadEnd}
 use Rattle.tup_parse.specs.Reading.{top_tupfile}
@@ -37,13 +37,13 @@ rules_read w = rules_beside (owned w) w.tree
 abbrev pub rules : World → List Rule
 rules w = elim (rules_read w) [ Ok found ↦ found | Err end ↦ [] ]
 
--- the clean build of the files of a tree that aren't owned
-abbrev pub build_beside : List Names → List Rule → Tree → Build
-build_beside owned rules tree = clean mini_next rules (files_beside owned tree)
+-- the clean build of the files of a tree that aren't owned, by what a runner means
+abbrev pub build_beside : Next → List Names → List Rule → Tree → Build
+build_beside next owned rules tree = clean next rules (files_beside owned tree)
 
 -- the clean build of the present sources
-abbrev pub build : World → Build
-build w = build_beside (owned w) (rules w) w.tree
+abbrev pub build : Next → World → Build
+build next w = build_beside next (owned w) (rules w) w.tree
 
 -- all outputs of some rules, in the order of the rules
 abbrev pub outputs : List Rule → List Names

@@ -7,8 +7,9 @@ ghost use Rattle.tup_access.specs.Generated.{IsGenerated};
 ghost use Rattle.tup_owned.specs.Owned.{spelling};
 ghost use Rattle.tup_owned.specs.Ascending.{ascending};
 ghost use Rattle.tup_update.specs.Log.{IsGrownByFront, IsUnused, with_read};
-ghost use Rattle.tup_update.specs.Outcome.{Keeps, HasCountedCause};
+ghost use Rattle.tup_update.specs.Outcome.{Keeps, Stays, HasCountedCause, HasRunCause};
 ghost use Rattle.tup_update.specs.Parts.{IsProject, IsCleared, SameBeside};
+ghost use Rattle.tup_update.specs.Ran.{RunsThese};
 ghost use Rattle.tup_update.specs.Sources.{outputs, left_over};
 ghost use Rattle.tup_site.specs.declared.fault.SiteFailed.TheVariants.{Memory};
 ghost use Rattle.tup_update.specs.declared.stop.Stop.TheVariants.{Outside};
@@ -21,6 +22,7 @@ use std::collections::BTreeSet;
 use tup_owned::{sorted, spell_owned, union};
 use tup_path::{Path, Paths};
 use tup_rule::Rule;
+use tup_runner::Runner;
 use tup_site::{Site, SiteFailed};
 
 /// What is to be done for a project, made before anything is touched.
@@ -88,22 +90,36 @@ fn add_all(paths: &mut Paths, more: &[Path]) -> Result<(), AllocError>
 
 impl Project {
     /// Makes the files of a project. What may be written is owned before it is.
-    pub(crate) fn build<S: Site>(
+    pub(crate) fn build<S: Site, R: Runner>(
         &self,
         alloc: Global,
         site: &mut S,
+        runner: &mut R,
         log: &mut Log,
     ) -> Result<(), Stop>
         requires project { IsTrue S.tells → IsProject self.now (S.world site.old) }
         requires unused { IsUnused log.old }
-        ensures kept { IsTrue S.tells → Keeps (S.world site.old) (S.world site.new) self.now.rules
-            (with_read self.now.read log.new) (result_err result) }
+        ensures stays { IsTrue S.tells
+            → Stays (S.world site.old) (S.world site.new) self.now.rules (result_err result) }
+        ensures kept { IsTrue S.tells → IsTrue R.tells → let told = with_read self.now.read log.new in
+            Keeps R.next (S.world site.old) (S.world site.new) told (result_err result) }
+        ensures ran { IsTrue R.tells_ran
+            → RunsThese log.new.ran (R.ran runner.old) (R.ran runner.new) (result_err result) }
         ensures counted { let stopped = result_err result in
             HasCountedCause (S.faults site.old) (S.faults site.new) stopped }
+        ensures counted_runs { let stopped = result_err result in
+            HasRunCause (R.faults runner.old) (R.faults runner.new) stopped }
     {
         let plan = Plan::of(alloc, self)?;
         prepare(alloc, site, &plan, &mut log.removed)?;
-        match self.run(alloc, site, &plan.made, &mut log.verdicts)? {
+        match self.run(
+            alloc,
+            site,
+            runner,
+            &plan.made,
+            &mut log.ran,
+            &mut log.verdicts,
+        )? {
             Some((name, verdict)) => Err(Stop::Bad(name, verdict)),
             None => Ok(finish(alloc, site, plan.listed.as_slice())?),
         }

@@ -1,40 +1,45 @@
 //! The run of one command over the files of a site.
 ghost use Rattle.std.specs.Prelude.{◌≡◌, IsSome, IsTrue, IfOk};
-ghost use Rattle.tup_site.specs.Cause.{CountsFaults, OnlyLarge};
 ghost use Rattle.tup_access.specs.Generated.{IsGenerated};
 ghost use Rattle.tup_access.specs.Judge.{IsJudged};
 ghost use Rattle.tup_access.specs.Verdict as specs;
-ghost use Rattle.tup_mini.specs.Means.{mini_next};
-ghost use Rattle.tup_update.specs.Parts.{NamesALargeFile};
+ghost use Rattle.tup_rule.specs.Rule.{name_of};
+ghost use Rattle.tup_update.specs.Outside.{HandsOn, HandsOnLarge};
+ghost use Rattle.tup_update.specs.Put.{AreOwn};
+ghost use Rattle.tup_update.specs.Ran.{RunsOne, CountsRuns};
 ghost use Rattle.tup_update.specs.Seeing.{ComesTo};
+ghost use Rattle.tup_update.specs.declared.stop.Halt.TheVariants.{Outside};
 
+use crate::stop::Halt;
 use crate::view::{Refused, Sight, SiteView};
 use std::alloc::Global;
 use std::collections::BTreeSet;
 use tup_access::{Verdict, judge};
-use tup_mini::Mini;
 use tup_path::{Files, Path, Text};
 use tup_rule::{Rule, Rules};
-use tup_runner::{RunFailed, perform};
+use tup_runner::{RunFailed, Runner, perform};
 use tup_site::{Site, SiteFailed};
 
 /// What becomes of a rule's command over the site's files, which stay as they are.
-pub(crate) fn run<S: Site>(
+pub(crate) fn run<S: Site, R: Runner>(
     alloc: Global,
     site: &mut S,
+    runner: &mut R,
     rules: &Rules,
     made: &BTreeSet<Path>,
     rule: &Rule,
-) -> Result<(Verdict, Files), SiteFailed>
+) -> Result<(Verdict, Files), Halt>
     requires { IsGenerated rules.now made.now }
-    ensures judged { IsTrue S.tells → IfOk result (λ judged. IsJudged judged.0 judged.1
-        (specs.verdict mini_next rules.now rule.now (S.world site.old).tree)) }
+    ensures judged { IsTrue S.tells → IsTrue R.tells → IfOk result (λ judged. IsJudged judged.0 judged.1
+        (specs.verdict R.next rules.now rule.now (S.world site.old).tree)) }
+    ensures own { IfOk result (λ judged. AreOwn rule.now judged.1) }
     ensures same { IsTrue S.tells → S.world site.new ≡ S.world site.old }
-    ensures large { IsTrue S.tells → NamesALargeFile (S.world site.new).tree result }
-    ensures only_large { OnlyLarge result }
-    ensures cause { CountsFaults (S.faults site.old) (S.faults site.new) result }
+    ensures large { IsTrue S.tells → HandsOnLarge Outside (S.world site.new).tree result }
+    ensures ran { IsTrue R.tells_ran
+        → RunsOne (name_of rule.now) (R.ran runner.old) (R.ran runner.new) result }
+    ensures cause { HandsOn Outside (S.faults site.old) (S.faults site.new) result }
+    ensures run_cause { CountsRuns (R.faults runner.old) (R.faults runner.new) result }
 {
-    let mut mini = Mini::new(alloc);
     let mut refused = None;
     let mut view = SiteView {
         sight: Sight { rules, made, rule },
@@ -42,27 +47,27 @@ pub(crate) fn run<S: Site>(
         asked: 0,
         refused: &mut refused,
     };
-    let performed = perform(alloc, &mut mini, &rule.dir, &rule.text, &mut view);
+    let performed = perform(alloc, runner, &rule.dir, &rule.text, &mut view);
     match performed {
         Ok(report) => match judge(alloc, rule, report.ended()) {
             Ok(judged) => Ok(judged),
-            Err(_) => Err(SiteFailed::Memory),
+            Err(_) => Err(Halt::Outside(SiteFailed::Memory)),
         },
         Err(RunFailed::Denied | RunFailed::View) => came_to(alloc, refused),
-        Err(RunFailed::Fault) => unreachable!(), // the small commands never fail themselves
-        Err(RunFailed::Memory) => Err(SiteFailed::Memory),
+        Err(RunFailed::Fault) => Err(Halt::Run),
+        Err(RunFailed::Memory) => Err(Halt::Outside(SiteFailed::Memory)),
     }
 }
 
 /// What a command comes to whose text got no answer: the verdict by which it was denied, or the
 /// site's refusal.
-fn came_to(alloc: Global, refused: Option<(Text, Refused)>) -> Result<(Verdict, Files), SiteFailed>
+fn came_to(alloc: Global, refused: Option<(Text, Refused)>) -> Result<(Verdict, Files), Halt>
     requires { IsSome refused }
     ensures { ComesTo refused result }
 {
     let (_, why) = refused.unwrap();
     match why {
         Refused::Denied(verdict) => Ok((verdict, Files::new(alloc))),
-        Refused::Failed(failed) => Err(failed),
+        Refused::Failed(failed) => Err(Halt::Outside(failed)),
     }
 }

@@ -1,64 +1,76 @@
 //! The running of rules.
 ghost use Rattle.std.specs.Prelude.{◌≡◌, ◌++◌, [], ◌∷◌, map, false, IsTrue, IfOk, IfSome, Some, OnOk, OnErr};
 ghost use Rattle.tup_site.specs.World.{StoreStays};
-ghost use Rattle.tup_site.specs.Cause.{CountsFaults, OnlyLarge, NeverTooLarge};
-ghost use Rattle.tup_rule.specs.declared.rule.Rule.{Rule as RuleValue};
+ghost use Rattle.tup_site.specs.Cause.{CountsFaults, NeverTooLarge};
+ghost use Rattle.tup_rule.specs.Rule.{name_of};
 ghost use Rattle.tup_access.specs.Generated.{IsGenerated};
 ghost use Rattle.tup_access.specs.Verdict as specs;
-ghost use Rattle.tup_mini.specs.Means.{mini_next};
 ghost use Rattle.tup_clean.specs.Clean.{is_good, with_files};
 ghost use Rattle.tup_update.specs.Sources.{build_beside};
-ghost use Rattle.tup_update.specs.Log.{up_to_first_bad, IsGrownByFront};
+ghost use Rattle.tup_update.specs.Outside.{HandsOn, HandsOnLarge};
 ghost use Rattle.tup_update.specs.Put.{HasRoom};
-ghost use Rattle.tup_update.specs.Parts.{NamesALargeFile, HasRun, Leaves, SameBeside, SameBesideOutputs, IsRunnable, bad_of};
+ghost use Rattle.tup_update.specs.Parts.{HasRun, AreNoted, ArePartNoted, Leaves, SameBeside, SameBesideOutputs, IsRunnable, bad_of};
+ghost use Rattle.tup_update.specs.Ran.{RunsOne, RunsThese, CountsRuns, stopped_by};
+ghost use Rattle.tup_update.specs.declared.stop.Halt.TheVariants.{Outside};
 
 use crate::command::run;
 use crate::project::Project;
+use crate::stop::Halt;
 use std::alloc::{AllocError, Global};
 use std::collections::BTreeSet;
 use tup_access::Verdict;
 use tup_path::{Bytes, Items, Path};
 use tup_rule::{Rule, RuleName};
+use tup_runner::Runner;
 use tup_site::{Site, SiteFailed};
 
 /// A rule that isn't Good, with its verdict.
 pub(crate) type BadRule = (RuleName, Verdict);
 
 impl Project {
-    /// Runs all rules in their order up to the first that is bad, which it names, and notes their
-    /// verdicts.
-    pub(crate) fn run<S: Site>(
+    /// Runs all rules in their order up to the first that is bad, which it names. It notes the rules
+    /// that are begun, and their verdicts.
+    pub(crate) fn run<S: Site, R: Runner>(
         &self,
         alloc: Global,
         site: &mut S,
+        runner: &mut R,
         made: &BTreeSet<Path>,
+        ran: &mut Items<RuleName>,
         verdicts: &mut Items<Verdict>,
-    ) -> Result<Option<BadRule>, SiteFailed>
+    ) -> Result<Option<BadRule>, Halt>
         requires made { IsGenerated self.now.rules made.now }
         requires runnable { IsTrue S.tells
             → IsRunnable self.now.owned self.now.rules (S.world site.old).tree }
-        ensures run { IsTrue S.tells
-            → let built = build_beside self.now.owned self.now.rules (S.world site.old).tree in
+        requires unused { (ran.old ≡ []) × (verdicts.old ≡ []) }
+        ensures run { IsTrue S.tells → IsTrue R.tells
+            → let tree = (S.world site.old).tree in
+            let built = build_beside R.next self.now.owned self.now.rules tree in
             IfOk result (HasRun self.now.rules built (S.world site.new).tree) }
         ensures bad { IfOk result (λ found. IfSome found (λ bad. is_good (Some bad.1) ≡ false)) }
         ensures others { IsTrue S.tells
             → SameBesideOutputs self.now.rules (S.world site.old).tree (S.world site.new).tree }
         ensures store { IsTrue S.tells → StoreStays (S.world site.old) (S.world site.new) }
 
-        // Each verdict is noted; where the outside stops the run, as far as it came.
-        ensures noted { IsTrue S.tells
-            → let built = build_beside self.now.owned self.now.rules (S.world site.old).tree in
-            OnOk result (verdicts.new ≡ verdicts.old ++ up_to_first_bad built.verdicts) }
-        ensures part { IsTrue S.tells
-            → let built = build_beside self.now.owned self.now.rules (S.world site.old).tree in
-            IsGrownByFront verdicts.old verdicts.new (up_to_first_bad built.verdicts) }
+        // Rules and verdicts are noted, where the run is halted as far as it came.
+        ensures noted { IsTrue S.tells → IsTrue R.tells
+            → let tree = (S.world site.old).tree in
+            let built = build_beside R.next self.now.owned self.now.rules tree in
+            OnOk result (AreNoted self.now.rules built ran.new verdicts.new) }
+        ensures part { IsTrue S.tells → IsTrue R.tells
+            → let tree = (S.world site.old).tree in
+            let built = build_beside R.next self.now.owned self.now.rules tree in
+            ArePartNoted self.now.rules built ran.new verdicts.new }
+        ensures ran { IsTrue R.tells_ran
+            → RunsThese ran.new (R.ran runner.old) (R.ran runner.new) (stopped_by result) }
 
-        ensures large { IsTrue S.tells → NamesALargeFile (S.world site.new).tree result }
-        ensures only_large { OnlyLarge result }
-        ensures cause { CountsFaults (S.faults site.old) (S.faults site.new) result }
+        ensures large { IsTrue S.tells → HandsOnLarge Outside (S.world site.new).tree result }
+        ensures cause { HandsOn Outside (S.faults site.old) (S.faults site.new) result }
+        ensures run_cause { CountsRuns (R.faults runner.old) (R.faults runner.new) result }
     {
         for rule in self.rules.as_slice() {
-            let verdict = self.run_rule(alloc, site, made, rule)?;
+            begin(alloc, rule, ran)?;
+            let verdict = self.run_rule(alloc, site, runner, made, rule)?;
             let bad = noted(alloc, rule, verdict, verdicts)?;
             if bad.is_some() {
                 return Ok(bad);
@@ -68,29 +80,44 @@ impl Project {
     }
 
     /// Runs one rule, and puts the files of a Good command.
-    fn run_rule<S: Site>(
+    fn run_rule<S: Site, R: Runner>(
         &self,
         alloc: Global,
         site: &mut S,
+        runner: &mut R,
         made: &BTreeSet<Path>,
         rule: &Rule,
-    ) -> Result<Verdict, SiteFailed>
+    ) -> Result<Verdict, Halt>
         requires made { IsGenerated self.now.rules made.now }
         requires room { IsTrue S.tells → HasRoom (S.world site.old).tree rule.now.outputs }
-        ensures leaves { IsTrue S.tells
-            → let judged = specs.verdict mini_next self.now.rules rule.now (S.world site.old).tree in
+        ensures leaves { IsTrue S.tells → IsTrue R.tells
+            → let judged = specs.verdict R.next self.now.rules rule.now (S.world site.old).tree in
             IfOk result (Leaves judged (S.world site.old).tree (S.world site.new).tree) }
         ensures others { IsTrue S.tells
             → SameBeside rule.now.outputs (S.world site.old).tree (S.world site.new).tree }
         ensures store { IsTrue S.tells → StoreStays (S.world site.old) (S.world site.new) }
-        ensures large { IsTrue S.tells → NamesALargeFile (S.world site.new).tree result }
-        ensures only_large { OnlyLarge result }
-        ensures cause { CountsFaults (S.faults site.old) (S.faults site.new) result }
+        ensures large { IsTrue S.tells → HandsOnLarge Outside (S.world site.new).tree result }
+        ensures ran { IsTrue R.tells_ran
+            → RunsOne (name_of rule.now) (R.ran runner.old) (R.ran runner.new) result }
+        ensures cause { HandsOn Outside (S.faults site.old) (S.faults site.new) result }
+        ensures run_cause { CountsRuns (R.faults runner.old) (R.faults runner.new) result }
     {
-        let (verdict, files) = run(alloc, site, &self.rules, made, rule)?;
+        let (verdict, files) = run(alloc, site, runner, &self.rules, made, rule)?;
         put_all(alloc, site, files.as_slice())?;
         Ok(verdict)
     }
+}
+
+/// Notes that a rule is begun.
+fn begin(alloc: Global, rule: &Rule, ran: &mut Items<RuleName>) -> Result<(), AllocError>
+    ensures noted { OnOk result (ran.new ≡ ran.old ++ name_of rule.now ∷ []) }
+    ensures unnoted { OnErr result (ran.new ≡ ran.old) }
+{
+    let Ok(name) = rule.name(alloc) else {
+        return Err(AllocError);
+    };
+    ran.push(name)?;
+    Ok(())
 }
 
 /// Notes the verdict of a rule, and names the rule where it isn't Good.

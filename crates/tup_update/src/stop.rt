@@ -19,6 +19,9 @@ pub enum Stop {
     /// This rule came to a bad verdict; what ran before it stands.
     #[error("a command of the sources is bad")]
     Bad(RuleName, Verdict),
+    /// The runner failed; what ran before it stands.
+    #[error("a command can't be run")]
+    Run,
     /// The site failed, or a file to be read is too large, or there was no memory.
     #[error("{0}")]
     Outside(SiteFailed),
@@ -38,6 +41,17 @@ pub(crate) enum Unread {
     Outside(SiteFailed),
 }
 
+/// Why the rules of a project aren't run to the end. What ran before stands.
+#[derive(Debug, Drop, Error)]
+pub(crate) enum Halt {
+    /// The runner failed, and its count of faults rose.
+    #[error("a command can't be run")]
+    Run,
+    /// The site failed, or a file to be read is too large, or there was no memory.
+    #[error("{0}")]
+    Outside(SiteFailed),
+}
+
 impl From<Unread> for Stop {
     ghost use Rattle.std.specs.Prelude.{◌≡◌};
     ghost use Rattle.tup_update.specs.Stopped.{stop_of};
@@ -49,6 +63,20 @@ impl From<Unread> for Stop {
             Unread::Store(offset) => Stop::BadStore(offset),
             Unread::Sources(fault) => Stop::Parse(fault),
             Unread::Outside(failed) => Stop::Outside(failed),
+        }
+    }
+}
+
+impl From<Halt> for Stop {
+    ghost use Rattle.std.specs.Prelude.{◌≡◌};
+    ghost use Rattle.tup_update.specs.Stopped.{stop_of_halt};
+
+    ghost from_gives = { λ halt stop. stop ≡ stop_of_halt halt };
+
+    fn from(halt: Halt) -> Stop {
+        match halt {
+            Halt::Run => Stop::Run,
+            Halt::Outside(failed) => Stop::Outside(failed),
         }
     }
 }
@@ -73,6 +101,29 @@ impl From<AllocError> for Stop {
 
     fn from(_: AllocError) -> Stop {
         Stop::Outside(SiteFailed::Memory)
+    }
+}
+
+impl From<SiteFailed> for Halt {
+    ghost use Rattle.std.specs.Prelude.{◌≡◌};
+    ghost use Rattle.tup_update.specs.declared.stop.Halt.TheVariants.{Outside};
+
+    ghost from_gives = { λ failed halt. halt ≡ Outside failed };
+
+    fn from(failed: SiteFailed) -> Halt {
+        Halt::Outside(failed)
+    }
+}
+
+impl From<AllocError> for Halt {
+    ghost use Rattle.std.specs.Prelude.{◌≡◌};
+    ghost use Rattle.tup_site.specs.declared.fault.SiteFailed.TheVariants.{Memory};
+    ghost use Rattle.tup_update.specs.declared.stop.Halt.TheVariants.{Outside};
+
+    ghost from_gives = { λ _ halt. halt ≡ Outside Memory };
+
+    fn from(_: AllocError) -> Halt {
+        Halt::Outside(SiteFailed::Memory)
     }
 }
 

@@ -2,14 +2,16 @@
 ghost use Rattle.std.specs.Prelude.{◌≡◌, [], IsTrue};
 ghost use Rattle.std.specs.Result.{result_err};
 ghost use Rattle.tup_update.specs.Log.{IsEmptyLog, LogFits, RulesFit};
-ghost use Rattle.tup_update.specs.Outcome.{Keeps, ExactlyTheFiles, SourcesStay, NothingForgotten, HasCause, HasCountedCause};
+ghost use Rattle.tup_update.specs.Outcome.{Keeps, Stays, ExactlyTheFiles, SourcesStay, NothingForgotten, HasCause, HasCountedCause, HasRunCause};
+ghost use Rattle.tup_update.specs.Ran.{RunsThese};
 
 use crate::project::Project;
 use crate::stop::Stop;
 use std::alloc::Global;
 use tup_access::Verdict;
 use tup_path::{Items, Paths};
-use tup_rule::Rules;
+use tup_rule::{RuleName, Rules};
+use tup_runner::Runner;
 use tup_site::Site;
 
 /// What an update did, in the order in which it did it.
@@ -19,7 +21,9 @@ pub struct Log {
     pub read: Paths,
     /// The files of vanished rules that were removed.
     pub removed: Paths,
-    /// What became of the rules that were run, from the first on.
+    /// The rules that were begun.
+    pub ran: Items<RuleName>,
+    /// What became of them; the last one has none where the update was stopped while it ran.
     pub verdicts: Items<Verdict>,
 }
 
@@ -31,6 +35,7 @@ impl Log {
         Log {
             read: Paths::new(alloc),
             removed: Paths::new(alloc),
+            ran: Items::new(alloc),
             verdicts: Items::new(alloc),
         }
     }
@@ -46,21 +51,26 @@ pub struct Update {
 }
 
 /// Updates the files of a site: reads the store and the sources, removes the files of vanished
-/// rules, and runs every rule in order up to the first that is bad.
-pub fn update_site<S: Site>(alloc: Global, site: &mut S) -> Update
-    ensures exactly_the_files { IsTrue S.tells
-        → ExactlyTheFiles (S.world site.old) (S.world site.new) result.stopped }
+/// rules, and has the runner run every rule in order up to the first that is bad.
+pub fn update_site<S: Site, R: Runner>(alloc: Global, site: &mut S, runner: &mut R) -> Update
+    ensures exactly_the_files { IsTrue S.tells → IsTrue R.tells
+        → ExactlyTheFiles R.next (S.world site.old) (S.world site.new) result.stopped }
     ensures sources_stay { IsTrue S.tells → SourcesStay (S.world site.old) (S.world site.new) }
-    ensures nothing_forgotten { IsTrue S.tells
-        → NothingForgotten (S.world site.old) (S.world site.new) result.stopped }
-    ensures cause { IsTrue S.tells → HasCause (S.world site.old) (S.world site.new) result.stopped }
+    ensures nothing_forgotten { IsTrue S.tells → IsTrue R.tells
+        → NothingForgotten R.next (S.world site.old) (S.world site.new) result.stopped }
+    ensures cause { IsTrue S.tells → IsTrue R.tells
+        → HasCause R.next (S.world site.old) (S.world site.new) result.stopped }
     ensures counted_cause { HasCountedCause (S.faults site.old) (S.faults site.new) result.stopped }
+    ensures run_cause { HasRunCause (R.faults runner.old) (R.faults runner.new) result.stopped }
+    ensures ran { IsTrue R.tells_ran
+        → RunsThese result.log.ran (R.ran runner.old) (R.ran runner.new) result.stopped }
     ensures rules { IsTrue S.tells → RulesFit (S.world site.old) result.rules result.stopped }
-    ensures logged { IsTrue S.tells → LogFits (S.world site.old) result.log result.stopped }
+    ensures logged { IsTrue S.tells → IsTrue R.tells
+        → LogFits R.next (S.world site.old) result.log result.stopped }
 {
     let mut rules = Rules::new(alloc);
     let mut log = Log::new(alloc);
-    let stopped = carry_out(alloc, site, &mut rules, &mut log).err();
+    let stopped = carry_out(alloc, site, runner, &mut rules, &mut log).err();
     Update {
         rules,
         log,
@@ -69,20 +79,27 @@ pub fn update_site<S: Site>(alloc: Global, site: &mut S) -> Update
 }
 
 /// The same, with the rules and what was done told as it goes on.
-fn carry_out<S: Site>(
+fn carry_out<S: Site, R: Runner>(
     alloc: Global,
     site: &mut S,
+    runner: &mut R,
     rules: &mut Rules,
     log: &mut Log,
 ) -> Result<(), Stop>
     requires rules { rules.old ≡ [] }
     requires log { IsEmptyLog log.old }
-    ensures kept { IsTrue S.tells
-        → Keeps (S.world site.old) (S.world site.new) rules.new log.new (result_err result) }
+    ensures stays { IsTrue S.tells
+        → Stays (S.world site.old) (S.world site.new) rules.new (result_err result) }
+    ensures kept { IsTrue S.tells → IsTrue R.tells
+        → Keeps R.next (S.world site.old) (S.world site.new) log.new (result_err result) }
+    ensures ran { IsTrue R.tells_ran
+        → RunsThese log.new.ran (R.ran runner.old) (R.ran runner.new) (result_err result) }
     ensures counted { HasCountedCause (S.faults site.old) (S.faults site.new) (result_err result) }
+    ensures counted_runs { let stopped = result_err result in
+        HasRunCause (R.faults runner.old) (R.faults runner.new) stopped }
 {
     let project = Project::read(alloc, site)?;
-    let built = project.build(alloc, site, log);
+    let built = project.build(alloc, site, runner, log);
     log.read = project.read;
     *rules = project.rules;
     built

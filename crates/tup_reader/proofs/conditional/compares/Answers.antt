@@ -1,6 +1,6 @@
 use Rattle.std.proofs.Common.{◌≡◌, Some, None, option_map, ap, sym, ◌∙◌}
 use Rattle.tup_reader.specs.Conditional.{sides}
-use Rattle.tup_reader.proofs.Went.{went_along, went_refuses}
+use Rattle.tup_ask.proofs.Went.{went_along, went_refuses}
 use Rattle.tup_reader.proofs.Conditions.{compares-some, compares-none}
 use Rattle.tup_reader.proofs.conditional.compares.Goals as goal
 

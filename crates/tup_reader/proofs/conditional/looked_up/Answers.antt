@@ -1,9 +1,9 @@
 use Rattle.std.proofs.Common.{◌≡◌, true, false, is_some, ap, ◌∙◌, rules}
 use Rattle.std.proofs.lemmas.Result.{err_from_is_err_and}
 use Rattle.tup_vars.specs.Name.{is_name}
-use Rattle.tup_reader.specs.Reads.{gives}
+use Rattle.tup_ask.specs.Reads.{gives}
 use Rattle.tup_reader.specs.Conditional.{agrees}
-use Rattle.tup_reader.proofs.Went.{went_then, went_err, went_gives, went_along, went_refuses}
+use Rattle.tup_ask.proofs.Went.{went_then, went_err, went_gives, went_along, went_refuses}
 use Rattle.tup_reader.proofs.Conditions.{looked_up-bad, looked_up-name}
 use Rattle.tup_reader.proofs.conditional.looked_up.Goals as goal
 

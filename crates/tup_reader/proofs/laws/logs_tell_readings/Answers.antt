@@ -1,6 +1,6 @@
 use Rattle.std.proofs.Common.{[]}
 use Rattle.tup_reader.specs.Reading.{reading}
-use Rattle.tup_reader.proofs.Runs.{ran_outcome}
+use Rattle.tup_ask.proofs.Runs.{ran_outcome}
 use Rattle.tup_reader.proofs.laws.logs_tell_readings.Goals as goal
 
 pub returns : goal.returns

@@ -1,5 +1,5 @@
 use Rattle.tup_reader.specs.Reading.{reading}
-use Rattle.tup_reader.proofs.Local.{local}
+use Rattle.tup_ask.proofs.Local.{local}
 use Rattle.tup_reader.proofs.laws.reading_is_local.Goals as goal
 
 pub returns : goal.returns

@@ -2,8 +2,8 @@ use Rattle.std.proofs.Common.{◌≡◌, true, false, ap, sym, ◌∙◌}
 use Rattle.std.proofs.lemmas.Result.{err_from_is_err_and}
 use Rattle.tup_vars.specs.Name.{is_free}
 use Rattle.tup_reader.specs.Setting.{set_name, goes_on, with_value}
-use Rattle.tup_reader.proofs.Went.{went_then, went_err, went_given, went_nowhere, went_along, went_refuses}
-use Rattle.tup_reader.proofs.Texts.{assigned-bad, assigned-free}
+use Rattle.tup_ask.proofs.Went.{went_then, went_err, went_given, went_nowhere, went_along, went_refuses}
+use Rattle.tup_reader.proofs.Conditions.{assigned-bad, assigned-free}
 use Rattle.tup_reader.proofs.setting.assigned.Goals as goal
 
 pub returns-then-not-is_free : goal.returns-then-not-is_free
@@ -22,12 +22,12 @@ returns-in_err-value g c =
     let p = err_from_is_err_and c.from_residual-in_err-value.result c.from_residual-in_err-value.ensures.1 in
     rw (p.1, p.2)
     (went_along _ _ (assigned-free c.args.at.now c.args.state c.args.left.now c.args.right.now c.trimmed.result.now free c.trimmed.ensures)
-    (went_err (λ value. with_value c.args.at.now c.args.state (set_name c.args.left.now) (goes_on c.args.left.now) value) c.in_err-value.ensures))
+    (went_err (λ value. with_value c.args.at.now c.args.state (set_name c.args.left.now) (goes_on c.args.left.now) value) c.in_err-value.ensures.went))
 
 pub returns : goal.returns
 returns g c =
     let free : is_free (set_name c.args.left.now) ≡ true = sym (ap is_free c.set_name-name.ensures) ∙ sym c.is_free.ensures ∙ c.if-not-is_free.false in
     let name : c.in_ok-name.name ≡ set_name c.args.left.now = c.in_ok-name.ensures ∙ c.set_name-name.ensures in
     went_along _ _ (assigned-free c.args.at.now c.args.state c.args.left.now c.args.right.now c.trimmed.result.now free c.trimmed.ensures)
-    (went_then (λ value. with_value c.args.at.now c.args.state (set_name c.args.left.now) (goes_on c.args.left.now) value) c.in_ok-value.ensures
-    (went_given _ _ _ _ c.in_ok-value.ensures.stopped (rw (name, c.goes_on.ensures) at c.with_value.ensures)))
+    (went_then (λ value. with_value c.args.at.now c.args.state (set_name c.args.left.now) (goes_on c.args.left.now) value) c.in_ok-value.ensures.went
+    (went_given _ _ _ _ c.in_ok-value.ensures.went.stopped (rw (name, c.goes_on.ensures) at c.with_value.ensures)))

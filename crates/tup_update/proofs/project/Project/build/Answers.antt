@@ -1,29 +1,48 @@
-use Rattle.std.proofs.Common.{List, Err, refl, sym, ◌∙◌, ap, subst}
+use Rattle.std.proofs.Common.{List, Err, refl, sym, ◌∙◌, ap, subst, inl, inr}
 use Rattle.std.specs.FinMap as finite
 use Rattle.tup_path.specs.Name.{Names}
 use Rattle.tup_owned.specs.Owned.{spelling}
 use Rattle.tup_site.specs.declared.fault.SiteFailed.{SiteFailed}
 use Rattle.tup_site.specs.declared.fault.SiteFailed.TheVariants.{Memory}
 use Rattle.tup_update.specs.Log.{with_read}
-use Rattle.tup_update.specs.Outcome.{Keeps}
+use Rattle.tup_update.specs.Outcome.{Keeps, Stays}
 use Rattle.tup_update.specs.Parts.{HasRun, IsCleared, SameBeside}
+use Rattle.tup_update.specs.Ran.{RunsThese, stopped_by}
 use Rattle.tup_update.specs.Sources.{build_beside}
+use Rattle.tup_update.specs.Stopped.{stop_of_halt}
+use Rattle.tup_update.specs.declared.stop.Halt.{Halt}
 use Rattle.tup_update.specs.declared.stop.Stop.TheVariants.{Outside}
 use Rattle.tup_update.specs.declared.update.Log.{Log}
-use Rattle.tup_update.proofs.Ending.{gone_are}
+use Rattle.tup_update.proofs.Begun.{ran_none, ran_all_of}
+use Rattle.tup_update.proofs.Ending.{gone_are, read_is}
 use Rattle.tup_update.proofs.Preparing.{runnable}
-use Rattle.tup_update.proofs.Keeping.{IsUnderWay, err_is, small_failure, unplanned_keeps, unprepared_keeps, unrun_keeps, bad_run_keeps, unfinished_keeps, finished_keeps}
+use Rattle.tup_update.proofs.Keeping.{IsUnderWay, err_is, small_failure, project_rules, unplanned_stays, way_stays, unplanned_keeps, unprepared_keeps, unrun_keeps, bad_run_keeps, unfinished_keeps, finished_keeps}
 use Rattle.tup_update.proofs.project.Project.build.Goals as goal
 
-pub returns-in_err-plan-clause-kept : goal.returns-in_err-plan-clause-kept
-returns-in_err-plan-clause-kept g c = λ tells.
+-- ---- what could not be planned
+
+pub returns-in_err-plan-clause-stays : goal.returns-in_err-plan-clause-stays
+returns-in_err-plan-clause-stays g c = λ tells.
     let old = g.S.Site.world c.args.site.now in
     let project = c.args.self.now in
-    subst (Keeps old old project.rules (with_read project.read c.args.log.now)) (sym (err_is c.from_residual.result (Outside Memory) c.from_residual.ensures.1))
-    (unplanned_keeps old project c.args.log.now (c.requires.project tells) c.requires.unused.0 c.requires.unused.1)
+    subst (Stays old old project.rules) (sym (err_is c.from_residual.result (Outside Memory) c.from_residual.ensures.1))
+    (unplanned_stays old project (c.requires.project tells))
 
-pub returns-in_err-prepare-clause-kept : goal.returns-in_err-prepare-clause-kept
-returns-in_err-prepare-clause-kept g c = λ tells.
+pub returns-in_err-plan-clause-kept : goal.returns-in_err-plan-clause-kept
+returns-in_err-plan-clause-kept g c = λ tells means.
+    let old = g.S.Site.world c.args.site.now in
+    let project = c.args.self.now in
+    subst (Keeps g.R.Runner.next old old (with_read project.read c.args.log.now)) (sym (err_is c.from_residual.result (Outside Memory) c.from_residual.ensures.1))
+    (unplanned_keeps g.R.Runner.next old project c.args.log.now (c.requires.project tells) c.requires.unused)
+
+pub returns-in_err-plan-clause-ran : goal.returns-in_err-plan-clause-ran
+returns-in_err-plan-clause-ran g c = λ _.
+    ran_all_of c.args.log.now.ran _ _ _ (ran_none c.args.log.now.ran _ c.requires.unused.1)
+
+-- ---- what could not be prepared
+
+pub returns-in_err-prepare-clause-stays : goal.returns-in_err-prepare-clause-stays
+returns-in_err-prepare-clause-stays g c = λ tells.
     let old = g.S.Site.world c.args.site.now in
     let mid = g.S.Site.world c.prepare.new.site in
     let project = c.args.self.now in
@@ -35,13 +54,52 @@ returns-in_err-prepare-clause-kept g c = λ tells.
       beside = c.prepare.ensures.others tells;
     } in
     let failed = c.in_err-prepare.field-0.0 in
-    let log : Log = record { read = c.args.log.now.read; removed = c.prepare.new.removed; verdicts = c.args.log.now.verdicts } in
-    subst (Keeps old mid project.rules (with_read project.read log)) (sym (err_is c.from_residual-in_err-prepare.result (Outside failed) c.from_residual-in_err-prepare.ensures.1))
-    (unprepared_keeps project old mid plan.vanished plan.claimed c.args.log.now.removed log failed way (c.prepare.ensures.unclaimed tells)
-    (small_failure c.prepare.result failed c.in_err-prepare.was c.prepare.ensures.never_too_large) c.requires.unused.0 c.prepare.ensures.part c.requires.unused.1)
+    subst (Stays old mid project.rules) (sym (err_is c.from_residual-in_err-prepare.result (Outside failed) c.from_residual-in_err-prepare.ensures.1))
+    (way_stays project old mid plan.vanished plan.claimed way mid mid _ (λ path unmade. refl) refl (inr (read_is project old (c.requires.project tells))))
+
+pub returns-in_err-prepare-clause-kept : goal.returns-in_err-prepare-clause-kept
+returns-in_err-prepare-clause-kept g c = λ tells means.
+    let old = g.S.Site.world c.args.site.now in
+    let mid = g.S.Site.world c.prepare.new.site in
+    let project = c.args.self.now in
+    let plan = c.in_ok-plan.plan in
+    let way : IsUnderWay project old mid plan.vanished plan.claimed = record {
+      is = c.requires.project tells;
+      vanishes = c.in_ok-plan.ensures.vanished;
+      claims = c.in_ok-plan.ensures.claimed;
+      beside = c.prepare.ensures.others tells;
+    } in
+    let failed = c.in_err-prepare.field-0.0 in
+    let log : Log = record { read = c.args.log.now.read; removed = c.prepare.new.removed; ran = c.args.log.now.ran; verdicts = c.args.log.now.verdicts } in
+    subst (Keeps g.R.Runner.next old mid (with_read project.read log)) (sym (err_is c.from_residual-in_err-prepare.result (Outside failed) c.from_residual-in_err-prepare.ensures.1))
+    (unprepared_keeps project old mid plan.vanished plan.claimed way g.R.Runner.next c.args.log.now.removed log failed (c.prepare.ensures.unclaimed tells)
+    (small_failure c.prepare.result failed c.in_err-prepare.was c.prepare.ensures.never_too_large) c.requires.unused.0 c.prepare.ensures.part c.requires.unused.1 c.requires.unused.2)
+
+pub returns-in_err-prepare-clause-ran : goal.returns-in_err-prepare-clause-ran
+returns-in_err-prepare-clause-ran g c = λ _.
+    ran_all_of c.args.log.now.ran _ _ _ (ran_none c.args.log.now.ran _ c.requires.unused.1)
+
+-- ---- rules that were halted
+
+pub returns-in_err-name-clause-stays : goal.returns-in_err-name-clause-stays
+returns-in_err-name-clause-stays g c = λ tells.
+    let old = g.S.Site.world c.args.site.now in
+    let mid = g.S.Site.world c.prepare.new.site in
+    let project = c.args.self.now in
+    let plan = c.in_ok-plan.plan in
+    let way : IsUnderWay project old mid plan.vanished plan.claimed = record {
+      is = c.requires.project tells;
+      vanishes = c.in_ok-plan.ensures.vanished;
+      claims = c.in_ok-plan.ensures.claimed;
+      beside = c.prepare.ensures.others tells;
+    } in
+    let ran = g.S.Site.world c.run.new.site in
+    let halt = c.in_err-name.field-0.0 in
+    subst (Stays old ran project.rules) (sym (err_is c.from_residual-in_err-name.result (stop_of_halt halt) c.from_residual-in_err-name.ensures.1))
+    (way_stays project old mid plan.vanished plan.claimed way ran ran _ (c.run.ensures.others tells) refl (project_rules old project halt (c.requires.project tells)))
 
 pub returns-in_err-name-clause-kept : goal.returns-in_err-name-clause-kept
-returns-in_err-name-clause-kept g c = λ tells.
+returns-in_err-name-clause-kept g c = λ tells means.
     let old = g.S.Site.world c.args.site.now in
     let mid = g.S.Site.world c.prepare.new.site in
     let project = c.args.self.now in
@@ -52,16 +110,41 @@ returns-in_err-name-clause-kept g c = λ tells.
       claims = c.in_ok-plan.ensures.claimed;
       beside = c.prepare.ensures.others tells;
     } in
-    let log : Log = record { read = c.args.log.now.read; removed = c.prepare.new.removed; verdicts = c.run.new.verdicts } in
+    let log : Log = record { read = c.args.log.now.read; removed = c.prepare.new.removed; ran = c.run.new.ran; verdicts = c.run.new.verdicts } in
     let ran = g.S.Site.world c.run.new.site in
     let stored = c.run.ensures.store tells ∙ c.in_ok-prepare.ensures.claimed tells in
-    let failed = c.in_err-name.field-0.0 in
-    subst (Keeps old ran project.rules (with_read project.read log)) (sym (err_is c.from_residual-in_err-name.result (Outside failed) c.from_residual-in_err-name.ensures.1))
-    (unrun_keeps project old mid ran plan.vanished plan.claimed c.args.log.now.removed c.args.log.now.verdicts log failed way (c.run.ensures.others tells) stored
-    (λ n e. c.run.ensures.large tells n (c.in_err-name.was ∙ ap (λ (f : SiteFailed). Err f) e)) c.requires.unused.0 c.in_ok-prepare.ensures.removed c.requires.unused.1 (c.run.ensures.part tells))
+    let halt = c.in_err-name.field-0.0 in
+    subst (Keeps g.R.Runner.next old ran (with_read project.read log)) (sym (err_is c.from_residual-in_err-name.result (stop_of_halt halt) c.from_residual-in_err-name.ensures.1))
+    (unrun_keeps project old mid plan.vanished plan.claimed way g.R.Runner.next ran c.args.log.now.removed log halt (c.run.ensures.others tells) stored
+    (λ n e. c.run.ensures.large tells n (c.in_err-name.was ∙ ap (λ (h : Halt). Err h) e)) c.requires.unused.0 c.in_ok-prepare.ensures.removed
+    (c.run.ensures.part tells means))
+
+pub returns-in_err-name-clause-ran : goal.returns-in_err-name-clause-ran
+returns-in_err-name-clause-ran g c = λ tells.
+    let halt = c.in_err-name.field-0.0 in
+    subst (RunsThese c.run.new.ran (g.R.Runner.ran c.args.runner.now) (g.R.Runner.ran c.run.new.runner))
+    (ap (λ r. stopped_by r) c.in_err-name.was ∙ sym (err_is c.from_residual-in_err-name.result (stop_of_halt halt) c.from_residual-in_err-name.ensures.1))
+    (c.run.ensures.ran tells)
+
+-- ---- a bad rule
+
+pub returns-in-Some-clause-stays : goal.returns-in-Some-clause-stays
+returns-in-Some-clause-stays g c = λ tells.
+    let old = g.S.Site.world c.args.site.now in
+    let mid = g.S.Site.world c.prepare.new.site in
+    let project = c.args.self.now in
+    let plan = c.in_ok-plan.plan in
+    let way : IsUnderWay project old mid plan.vanished plan.claimed = record {
+      is = c.requires.project tells;
+      vanishes = c.in_ok-plan.ensures.vanished;
+      claims = c.in_ok-plan.ensures.claimed;
+      beside = c.prepare.ensures.others tells;
+    } in
+    let ran = g.S.Site.world c.run.new.site in
+    way_stays project old mid plan.vanished plan.claimed way ran ran _ (c.run.ensures.others tells) refl (read_is project old (c.requires.project tells))
 
 pub returns-in-Some-clause-kept : goal.returns-in-Some-clause-kept
-returns-in-Some-clause-kept g c = λ tells.
+returns-in-Some-clause-kept g c = λ tells means.
     let old = g.S.Site.world c.args.site.now in
     let mid = g.S.Site.world c.prepare.new.site in
     let project = c.args.self.now in
@@ -72,15 +155,40 @@ returns-in-Some-clause-kept g c = λ tells.
       claims = c.in_ok-plan.ensures.claimed;
       beside = c.prepare.ensures.others tells;
     } in
-    let log : Log = record { read = c.args.log.now.read; removed = c.prepare.new.removed; verdicts = c.run.new.verdicts } in
+    let log : Log = record { read = c.args.log.now.read; removed = c.prepare.new.removed; ran = c.run.new.ran; verdicts = c.run.new.verdicts } in
     let ran = g.S.Site.world c.run.new.site in
     let stored = c.run.ensures.store tells ∙ c.in_ok-prepare.ensures.claimed tells in
-    let built = build_beside project.owned project.rules mid.tree in
-    bad_run_keeps project old mid ran plan.vanished plan.claimed c.args.log.now.removed c.args.log.now.verdicts log c.in-Some.name c.in-Some.verdict way (c.run.ensures.others tells) stored
-    (subst (HasRun project.rules built ran.tree) c.in-Some.is (c.in_ok-name.ensures.run tells)) c.requires.unused.0 c.in_ok-prepare.ensures.removed c.requires.unused.1 (c.in_ok-name.ensures.noted tells)
+    let built = build_beside g.R.Runner.next project.owned project.rules mid.tree in
+    bad_run_keeps project old mid plan.vanished plan.claimed way g.R.Runner.next ran c.args.log.now.removed log c.in-Some.name c.in-Some.verdict (c.run.ensures.others tells) stored
+    (subst (HasRun project.rules built ran.tree) c.in-Some.is (c.in_ok-name.ensures.run tells means)) c.requires.unused.0 c.in_ok-prepare.ensures.removed
+    (c.in_ok-name.ensures.noted tells means)
+
+pub returns-in-Some-clause-ran : goal.returns-in-Some-clause-ran
+returns-in-Some-clause-ran g c = λ tells.
+    subst (RunsThese c.run.new.ran (g.R.Runner.ran c.args.runner.now) (g.R.Runner.ran c.run.new.runner)) (ap (λ r. stopped_by r) c.in_ok-name.was) (c.run.ensures.ran tells)
+
+-- ---- all was made
+
+pub returns-in_err-finish-in-None-clause-stays : goal.returns-in_err-finish-in-None-clause-stays
+returns-in_err-finish-in-None-clause-stays g c = λ tells.
+    let old = g.S.Site.world c.args.site.now in
+    let mid = g.S.Site.world c.prepare.new.site in
+    let project = c.args.self.now in
+    let plan = c.in_ok-plan.plan in
+    let way : IsUnderWay project old mid plan.vanished plan.claimed = record {
+      is = c.requires.project tells;
+      vanishes = c.in_ok-plan.ensures.vanished;
+      claims = c.in_ok-plan.ensures.claimed;
+      beside = c.prepare.ensures.others tells;
+    } in
+    let ran = g.S.Site.world c.run.new.site in
+    let new = g.S.Site.world c.finish.new.site in
+    let failed = c.in_err-finish-in-None.field-0.0 in
+    subst (Stays old new project.rules) (sym (err_is c.from_residual-in_err-finish-in-None.result (Outside failed) c.from_residual-in_err-finish-in-None.ensures.1))
+    (way_stays project old mid plan.vanished plan.claimed way ran new _ (c.run.ensures.others tells) (c.finish.ensures.tree tells) (inr (read_is project old (c.requires.project tells))))
 
 pub returns-in_err-finish-in-None-clause-kept : goal.returns-in_err-finish-in-None-clause-kept
-returns-in_err-finish-in-None-clause-kept g c = λ tells.
+returns-in_err-finish-in-None-clause-kept g c = λ tells means.
     let old = g.S.Site.world c.args.site.now in
     let mid = g.S.Site.world c.prepare.new.site in
     let project = c.args.self.now in
@@ -91,18 +199,40 @@ returns-in_err-finish-in-None-clause-kept g c = λ tells.
       claims = c.in_ok-plan.ensures.claimed;
       beside = c.prepare.ensures.others tells;
     } in
-    let log : Log = record { read = c.args.log.now.read; removed = c.prepare.new.removed; verdicts = c.run.new.verdicts } in
+    let log : Log = record { read = c.args.log.now.read; removed = c.prepare.new.removed; ran = c.run.new.ran; verdicts = c.run.new.verdicts } in
     let ran = g.S.Site.world c.run.new.site in
     let new = g.S.Site.world c.finish.new.site in
-    let built = subst (HasRun project.rules (build_beside project.owned project.rules mid.tree) ran.tree) c.in-None.is (c.in_ok-name.ensures.run tells) in
+    let built_by = build_beside g.R.Runner.next project.owned project.rules mid.tree in
+    let built = subst (HasRun project.rules built_by ran.tree) c.in-None.is (c.in_ok-name.ensures.run tells means) in
     let failed = c.in_err-finish-in-None.field-0.0 in
-    subst (Keeps old new project.rules (with_read project.read log)) (sym (err_is c.from_residual-in_err-finish-in-None.result (Outside failed) c.from_residual-in_err-finish-in-None.ensures.1))
-    (unfinished_keeps project old mid ran new plan.vanished plan.claimed c.args.log.now.removed c.args.log.now.verdicts log failed way (c.run.ensures.others tells)
+    subst (Keeps g.R.Runner.next old new (with_read project.read log)) (sym (err_is c.from_residual-in_err-finish-in-None.result (Outside failed) c.from_residual-in_err-finish-in-None.ensures.1))
+    (unfinished_keeps project old mid plan.vanished plan.claimed way g.R.Runner.next ran new c.args.log.now.removed log failed
     built (c.finish.ensures.tree tells) (small_failure c.finish.result failed c.in_err-finish-in-None.was c.finish.ensures.never_too_large)
-    c.requires.unused.0 c.in_ok-prepare.ensures.removed c.requires.unused.1 (c.in_ok-name.ensures.noted tells))
+    c.requires.unused.0 c.in_ok-prepare.ensures.removed (c.in_ok-name.ensures.noted tells means))
+
+pub returns-in_err-finish-in-None-clause-ran : goal.returns-in_err-finish-in-None-clause-ran
+returns-in_err-finish-in-None-clause-ran g c = λ tells.
+    ran_all_of c.run.new.ran _ _ _
+    (subst (RunsThese c.run.new.ran (g.R.Runner.ran c.args.runner.now) (g.R.Runner.ran c.run.new.runner)) (ap (λ r. stopped_by r) c.in_ok-name.was) (c.run.ensures.ran tells))
+
+pub returns-clause-stays : goal.returns-clause-stays
+returns-clause-stays g c = λ tells.
+    let old = g.S.Site.world c.args.site.now in
+    let mid = g.S.Site.world c.prepare.new.site in
+    let project = c.args.self.now in
+    let plan = c.in_ok-plan.plan in
+    let way : IsUnderWay project old mid plan.vanished plan.claimed = record {
+      is = c.requires.project tells;
+      vanishes = c.in_ok-plan.ensures.vanished;
+      claims = c.in_ok-plan.ensures.claimed;
+      beside = c.prepare.ensures.others tells;
+    } in
+    let ran = g.S.Site.world c.run.new.site in
+    let new = g.S.Site.world c.finish.new.site in
+    way_stays project old mid plan.vanished plan.claimed way ran new _ (c.run.ensures.others tells) (c.finish.ensures.tree tells) (read_is project old (c.requires.project tells))
 
 pub returns-clause-kept : goal.returns-clause-kept
-returns-clause-kept g c = λ tells.
+returns-clause-kept g c = λ tells means.
     let old = g.S.Site.world c.args.site.now in
     let mid = g.S.Site.world c.prepare.new.site in
     let project = c.args.self.now in
@@ -113,13 +243,18 @@ returns-clause-kept g c = λ tells.
       claims = c.in_ok-plan.ensures.claimed;
       beside = c.prepare.ensures.others tells;
     } in
-    let log : Log = record { read = c.args.log.now.read; removed = c.prepare.new.removed; verdicts = c.run.new.verdicts } in
+    let log : Log = record { read = c.args.log.now.read; removed = c.prepare.new.removed; ran = c.run.new.ran; verdicts = c.run.new.verdicts } in
     let ran = g.S.Site.world c.run.new.site in
     let new = g.S.Site.world c.finish.new.site in
-    let built = subst (HasRun project.rules (build_beside project.owned project.rules mid.tree) ran.tree) c.in-None.is (c.in_ok-name.ensures.run tells) in
-    finished_keeps project old mid ran new plan.vanished plan.claimed c.args.log.now.removed plan.listed c.args.log.now.verdicts log way (c.run.ensures.others tells)
+    let built_by = build_beside g.R.Runner.next project.owned project.rules mid.tree in
+    let built = subst (HasRun project.rules built_by ran.tree) c.in-None.is (c.in_ok-name.ensures.run tells means) in
+    finished_keeps project old mid plan.vanished plan.claimed way g.R.Runner.next ran new c.args.log.now.removed plan.listed log
     built (c.finish.ensures.tree tells) (c.in_ok-finish-in-None.ensures.listed tells ∙ ap spelling c.as_slice.ensures) c.in_ok-plan.ensures.listed
-    c.requires.unused.0 c.in_ok-prepare.ensures.removed c.requires.unused.1 (c.in_ok-name.ensures.noted tells)
+    c.requires.unused.0 c.in_ok-prepare.ensures.removed (c.in_ok-name.ensures.noted tells means)
+
+pub returns-clause-ran : goal.returns-clause-ran
+returns-clause-ran g c = λ tells.
+    subst (RunsThese c.run.new.ran (g.R.Runner.ran c.args.runner.now) (g.R.Runner.ran c.run.new.runner)) (ap (λ r. stopped_by r) c.in_ok-name.was) (c.run.ensures.ran tells)
 
 pub run-requires-clause-runnable : goal.run-requires-clause-runnable
 run-requires-clause-runnable g c κs = λ lives tells.

@@ -51,5 +51,5 @@ returns-in_err-rules-clause-cause g c = λ tells.
     (λ path there. (left_is owned old.tree path there).1 ∙ ap (λ (w : World). finite.get w.tree path) (sym (c.in_ok-files.ensures.same tells ∙ c.in_ok-store.ensures.same tells))) in
     let owns = ap owned_of (sym (c.in_ok-store.ensures.bytes tells)) ∙ ap owned_of (sym c.deref.ensures.value) ∙ c.in_ok-owned.ensures.owned in
     err_if c.from_residual-in_err-rules.result (unread_of_reading c.in_err-rules.field-0.0) _ c.from_residual-in_err-rules.ensures.1
-    (reading_cause old (g.S.Site.world c.top_file.new.site) c.read_rules.result _ c.in_err-rules.field-0.0 c.read_rules.ensures.read c.in_err-rules.was
+    (λ next. reading_cause next old (g.S.Site.world c.top_file.new.site) c.read_rules.result _ c.in_err-rules.field-0.0 c.read_rules.ensures.read c.in_err-rules.was
     (ap (λ (p : List Names). rules_beside p old.tree) (owned_is old owned owns) ∙ (λ i. rules_of (keys i) (sym content i)) ∙ ap (rules_of c.in_ok-owned_files.sources) (sym c.as_ref.ensures.value)))

@@ -1,42 +1,33 @@
 use Rattle.std.proofs.Common.{◌∙◌, ap}
 use Rattle.tup_site.specs.World.{World}
-use Rattle.tup_access.proofs.Outputs.{verdict-LeavesOutputs}
-use Rattle.tup_mini.specs.Means.{mini_next}
 use Rattle.tup_clean.specs.Clean.{with_files}
 use Rattle.tup_update.proofs.Running.{own_places, room_for_places, beside_places}
 use Rattle.tup_update.proofs.project.Project.run_rule.Goals as goal
 
 pub put_all-requires-after_bounds : goal.put_all-requires-after_bounds
 put_all-requires-after_bounds g c κs = λ lives tells.
-    let rules = c.args.self.now.rules in
     let tree = (g.S.Site.world c.args.site.now).tree in
-    let judged = c.in_ok-verdict.ensures.judged tells in
     room_for_places c.args.rule.now _ tree _
-    (own_places c.args.rule.now c.in_ok-verdict.verdict c.in_ok-verdict.files _ _ c.as_slice.ensures judged (verdict-LeavesOutputs mini_next rules c.args.rule.now tree))
+    (own_places c.args.rule.now c.in_ok-verdict.files _ c.as_slice.ensures c.in_ok-verdict.ensures.own)
     (ap (λ (w : World). w.tree) (c.in_ok-verdict.ensures.same tells)) (c.requires.room tells)
 
 pub returns-in_err-put_all-clause-others : goal.returns-in_err-put_all-clause-others
 returns-in_err-put_all-clause-others g c = λ tells.
-    let rules = c.args.self.now.rules in
     let tree = (g.S.Site.world c.args.site.now).tree in
-    let judged = c.in_ok-verdict.ensures.judged tells in
     beside_places c.args.rule.now _ tree _ _
-    (own_places c.args.rule.now c.in_ok-verdict.verdict c.in_ok-verdict.files _ _ c.as_slice.ensures judged (verdict-LeavesOutputs mini_next rules c.args.rule.now tree))
+    (own_places c.args.rule.now c.in_ok-verdict.files _ c.as_slice.ensures c.in_ok-verdict.ensures.own)
     (ap (λ (w : World). w.tree) (c.in_ok-verdict.ensures.same tells)) (c.put_all.ensures.others tells)
 
 pub returns-clause-others : goal.returns-clause-others
 returns-clause-others g c = λ tells.
-    let rules = c.args.self.now.rules in
     let tree = (g.S.Site.world c.args.site.now).tree in
-    let judged = c.in_ok-verdict.ensures.judged tells in
     beside_places c.args.rule.now _ tree _ _
-    (own_places c.args.rule.now c.in_ok-verdict.verdict c.in_ok-verdict.files _ _ c.as_slice.ensures judged (verdict-LeavesOutputs mini_next rules c.args.rule.now tree))
+    (own_places c.args.rule.now c.in_ok-verdict.files _ c.as_slice.ensures c.in_ok-verdict.ensures.own)
     (ap (λ (w : World). w.tree) (c.in_ok-verdict.ensures.same tells)) (c.put_all.ensures.others tells)
 
 pub returns-clause-leaves : goal.returns-clause-leaves
-returns-clause-leaves g c = λ tells.
-    let rules = c.args.self.now.rules in
-    let judged = c.in_ok-verdict.ensures.judged tells in
+returns-clause-leaves g c = λ tells means.
+    let judged = c.in_ok-verdict.ensures.judged tells means in
     record {
       is = judged.0;
       files = c.in_ok-put_all.ensures.put tells ∙ (λ i. with_files (c.in_ok-verdict.ensures.same tells i).tree ((c.as_slice.ensures ∙ judged.1) i));

@@ -1,0 +1,6 @@
+pub mod Reads
+pub mod Log
+pub mod Went
+pub mod Ask
+pub mod Spot
+pub mod Text

@@ -1,0 +1,80 @@
+-- The commands of a rule line, one after another.
+use Rattle.std.proofs.Common.{◌≡◌, ℕ, ◌+◌, ◌<◌, ◌≤◌, List, [], length, get_or, drop, Option, Some, None, refl, sym, ap, ◌∙◌}
+use Rattle.std.proofs.lemmas.List.{at_drop_more, at_drop_all}
+use Rattle.tup_path.specs.Name.{Names}
+use Rattle.tup_lex.specs.declared.kind.ParseKind.TheVariants.{BadCaret}
+use Rattle.tup_rule.specs.declared.draft.Draft.{Draft}
+use Rattle.tup_rule.specs.declared.draft.Piece.{Piece}
+use Rattle.tup_flags.specs.declared.parts.FlagParts.{FlagParts}
+use Rattle.tup_flags.specs.declared.parts.Place.TheVariants as place
+use Rattle.tup_ask.specs.declared.fault.ParseFault.{ParseFault}
+use Rattle.tup_draft.specs.declared.caret.Command.{Command}
+use Rattle.tup_draft.specs.declared.job.Job.{Job}
+use Rattle.tup_draft.specs.declared.job.Sources.{Sources}
+use Rattle.tup_draft.specs.declared.job.Outputs.{Outputs}
+use Rattle.tup_draft.specs.declared.job.Spoken.{Spoken}
+use Rattle.tup_draft.specs.declared.state.State.{State}
+use Rattle.tup_draft.specs.declared.words.Words.{Words}
+use Rattle.tup_ask.specs.Reads.{Reads, gives, and_then}
+use Rattle.tup_ask.specs.Spot.{Spot, refused}
+use Rattle.tup_draft.specs.Caret.{command_of}
+use Rattle.tup_draft.specs.Flagged.{flagged}
+use Rattle.tup_draft.specs.Output.{from_outputs}
+use Rattle.tup_draft.specs.Job.{flag_parts, outputs_of, with_carets, shown, spoken, draft_of, with_draft, with_job, with_jobs}
+
+pub jobs_more : (at : Spot) (words : Words) (sources : Sources) (state : State) (jobs : List Job) (index : ℕ) (job : Job) → index < length jobs → job ≡ get_or jobs index job
+    → with_jobs at words sources state (drop index jobs) ≡ and_then (with_job at words sources state job) (λ next. with_jobs at words sources next (drop (index + 1) jobs))
+unfolding with_jobs
+jobs_more at words sources state jobs index job within is =
+    at_drop_more (with_jobs at words sources state) jobs index job within
+    ∙ ap (λ (j : Job). and_then (with_job at words sources state j) (λ next. with_jobs at words sources next (drop (index + 1) jobs))) (sym is)
+
+pub jobs_end : (at : Spot) (words : Words) (sources : Sources) (state : State) (jobs : List Job) (index : ℕ) → length jobs ≤ index → with_jobs at words sources state (drop index jobs) ≡ gives state
+unfolding with_jobs
+jobs_end at words sources state jobs index past = at_drop_all (with_jobs at words sources state) jobs index past
+
+-- what comes of a command behind its outputs, and behind its text
+abbrev pub behind_text : Spot → Words → Sources → State → Job → Outputs → Spoken → Reads ParseFault State
+behind_text at words sources state job outputs said = gives (with_draft state words.bin (draft_of at sources job outputs.all said))
+
+abbrev pub behind_outputs : Spot → Words → Sources → State → Job → Outputs → Reads ParseFault State
+behind_outputs at words sources state job outputs =
+    and_then (spoken at (flag_parts at words.foreach sources job outputs.plain place.Command) words.command) (behind_text at words sources state job outputs)
+
+pub job_by : (at : Spot) (words : Words) (sources : Sources) (state : State) (job : Job) → with_job at words sources state job ≡ and_then (outputs_of at words sources state.drafts job) (behind_outputs at words sources state job)
+unfolding with_job
+job_by at words sources state job = refl
+
+abbrev pub both : List Names → List Names → Reads ParseFault Outputs
+both plain all = gives (record { plain = plain; all = all })
+
+abbrev pub behind_plain : Spot → Words → Sources → List Draft → Job → List Names → Reads ParseFault Outputs
+behind_plain at words sources drafts job plain =
+    and_then (from_outputs at (flag_parts at words.foreach sources job plain place.Extra) drafts plain words.extra) (both plain)
+
+pub outputs_by : (at : Spot) (words : Words) (sources : Sources) (drafts : List Draft) (job : Job)
+    → outputs_of at words sources drafts job ≡ and_then (from_outputs at (flag_parts at words.foreach sources job [] place.Outputs) drafts [] words.outputs) (behind_plain at words sources drafts job)
+unfolding outputs_of
+outputs_by at words sources drafts job = refl
+
+pub carets-some : (at : Spot) (text : List ℕ) (command : Command) → command_of text ≡ Some command → with_carets at text ≡ gives command
+unfolding with_carets
+carets-some at text command e = ap (λ (found : Option Command). elim found as (λ _. Reads ParseFault Command) [ Some command ↦ gives command | None ↦ refused at BadCaret ]) e
+
+pub carets-none : (at : Spot) (text : List ℕ) → command_of text ≡ None → with_carets at text ≡ refused at BadCaret
+unfolding with_carets
+carets-none at text e = ap (λ (found : Option Command). elim found as (λ _. Reads ParseFault Command) [ Some command ↦ gives command | None ↦ refused at BadCaret ]) e
+
+-- what comes of a command's text behind its carets, behind its pieces, and behind what is shown
+abbrev pub behind_display : Command → List Piece → Option (List Piece) → Reads ParseFault Spoken
+behind_display command pieces display = gives (record { pieces = pieces; display = display; compare = command.compare })
+
+abbrev pub behind_pieces : Spot → FlagParts → Command → List Piece → Reads ParseFault Spoken
+behind_pieces at parts command pieces = and_then (shown at parts command.display) (behind_display command pieces)
+
+abbrev pub behind_command : Spot → FlagParts → Command → Reads ParseFault Spoken
+behind_command at parts command = and_then (flagged at parts command.text) (behind_pieces at parts command)
+
+pub spoken_by : (at : Spot) (parts : FlagParts) (text : List ℕ) → spoken at parts text ≡ and_then (with_carets at text) (behind_command at parts)
+unfolding spoken
+spoken_by at parts text = refl

@@ -1,0 +1,11 @@
+pub mod Ends
+pub mod Pieces
+pub mod Folders
+pub mod Outputs
+pub mod Inputs
+pub mod Jobs
+pub mod Globs
+pub mod Cuttings
+pub mod Parts
+pub mod Rules
+pub mod Soundness

@@ -1,0 +1,15 @@
+pub mod Last
+pub mod State
+pub mod Caret
+pub mod Cut
+pub mod Flagged
+pub mod Folder
+pub mod Found
+pub mod Glob
+pub mod Input
+pub mod Job
+pub mod Output
+pub mod Words
+pub mod RuleLine
+pub mod MacroLine
+pub mod Sound

@@ -1,0 +1,46 @@
+-- A macro line, from the manual; what is refused, and in which order, is own.
+use Rattle.std.specs.Prelude.{ℕ, ◌&&◌, ◌||◌, Bool, not, if◌then◌else◌, List, [], ◌∷◌, ◌++◌, length, ◌==◌, is_some, is_none}
+use Rattle.std.specs.List.{list_any}
+use Rattle.tup_lex.specs.Blank.{trim}
+use Rattle.tup_lex.specs.declared.kind.ParseKind.TheVariants.{BadName, BadBrace, DefinedTwice}
+use Rattle.tup_vars.specs.Name.{is_name}
+use Rattle.tup_macro.specs.Macros.{macro_of}
+use Rattle.tup_macro.specs.declared.macros.Macro.{Macro}
+use Rattle.tup_ask.specs.declared.fault.ParseFault.{ParseFault}
+use Rattle.tup_draft.specs.declared.state.State.{State}
+use Rattle.tup_draft.specs.declared.words.Words.{Words}
+use Rattle.tup_ask.specs.Reads.{Reads, gives, and_then}
+use Rattle.tup_ask.specs.Spot.{Spot, refused}
+use Rattle.tup_ask.specs.Text.{expanded}
+use Rattle.tup_draft.specs.Folder.{bin_name, is_group}
+use Rattle.tup_draft.specs.Words.{cut}
+
+-- whether a word is a bin or a group
+abbrev pub is_gift : List ℕ → Bool
+is_gift word = is_some (bin_name word) || is_group word
+
+-- whether words are those of a macro: order-only inputs that are files, and outputs that go nowhere else
+abbrev pub is_body : Words → Bool
+is_body words =
+    not words.foreach && length words.inputs == 0 && not (list_any is_gift words.order)
+    && is_none words.group && is_none words.bin
+
+-- what a macro says
+abbrev pub body_of : Words → Macro
+body_of words = record { order = words.order; command = words.command; outputs = words.outputs; extra = words.extra }
+
+-- the state with one more macro
+unfoldable pub with_body : Spot → State → List ℕ → Words → Reads ParseFault State
+with_body at state name words =
+    if is_body words
+    then (if is_some (macro_of state.macros name) then refused at DefinedTwice
+    else gives (record state { macros = state.macros ++ (name, body_of words) ∷ [] }))
+    else refused at BadBrace
+
+-- the state with a macro of a name, by its text
+unfoldable pub named_macro : Spot → State → List ℕ → List ℕ → Reads ParseFault State
+named_macro at state name text = if is_name name then and_then (cut at text) (λ words. with_body at state name words) else refused at BadName
+
+-- a macro line: what stands before its first `=`, and behind it
+unfoldable pub defined : Spot → State → List ℕ → List ℕ → Reads ParseFault State
+defined at state left right = and_then (expanded at state.variables right) (λ text. named_macro at state (trim left) text)

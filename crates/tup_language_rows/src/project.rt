@@ -1,0 +1,82 @@
+//! The project that rows give.
+use crate::draft::{bare, numbered, pieces_of, tops};
+use std::alloc::Global;
+use tup_path::{Items, Path};
+use tup_rows::{RowFault, Words};
+use tup_rule::{Draft, Reading};
+
+/// The readings of the rows so far.
+#[derive(Drop)]
+pub(crate) struct Project {
+    readings: Vec<(Path, Reading)>,
+}
+
+impl Project {
+    pub(crate) fn new(alloc: Global) -> Project {
+        Project {
+            readings: Vec::new(alloc),
+        }
+    }
+
+    pub(crate) fn readings(&self) -> &[(Path, Reading)] {
+        &self.readings
+    }
+
+    /// Begins the reading of a folder.
+    pub(crate) fn begin(&mut self, alloc: Global, said: &Words, dir: Path) {
+        let reading = Reading {
+            drafts: Items::new(alloc),
+            asked: Items::new(alloc),
+        };
+        if self.readings.push((dir, reading)).is_err() {
+            said.fail(RowFault::Memory);
+        }
+    }
+
+    /// Adds a draft to the last reading.
+    pub(crate) fn add(&mut self, said: &Words, draft: Draft) {
+        match self.readings.last_mut() {
+            Some((_, reading)) => said.list(&mut reading.drafts, draft),
+            None => said.fail(RowFault::OtherKind),
+        }
+    }
+
+    /// Adds so many drafts to the last reading; each makes a file of the next one's.
+    pub(crate) fn add_chain(&mut self, alloc: Global, said: &Words, dir: &Path, count: u64) {
+        for number in 0..count {
+            self.add(said, link_of(alloc, said, dir, number));
+        }
+    }
+
+    /// Adds so many drafts to the last reading, with so many inputs each.
+    pub(crate) fn add_wide(&mut self, alloc: Global, said: &Words, count: u64, inputs: u64) {
+        for number in 0..count {
+            self.add(said, wide(alloc, said, number, inputs));
+        }
+    }
+}
+
+/// A draft that makes the file of its number from the file of the next number.
+fn link_of(alloc: Global, said: &Words, dir: &Path, number: u64) -> Draft {
+    let mut draft = named(alloc, said, number);
+    let before = numbered(alloc, said, dir, number.saturating_add(1));
+    said.list(&mut draft.inputs, before);
+    said.list(&mut draft.outputs, numbered(alloc, said, dir, number));
+    draft
+}
+
+fn wide(alloc: Global, said: &Words, number: u64, inputs: u64) -> Draft {
+    let mut draft = named(alloc, said, number);
+    draft.inputs = tops(alloc, said, inputs);
+    draft
+}
+
+/// A draft whose command is its number.
+fn named(alloc: Global, said: &Words, number: u64) -> Draft {
+    let mut draft = bare(alloc, Path::top(alloc));
+    match format!(in alloc; "{number}") {
+        Ok(text) => draft.pieces = pieces_of(alloc, said, &text),
+        Err(_) => said.fail(RowFault::Memory),
+    }
+    draft
+}

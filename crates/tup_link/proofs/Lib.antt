@@ -1,0 +1,12 @@
+pub mod Circles
+pub mod Finding
+pub mod Gathering
+pub mod Going
+pub mod Knowing
+pub mod Making
+pub mod Showing
+pub mod Steps
+pub mod Together
+pub mod Turning
+pub mod Waiting
+pub mod Walking

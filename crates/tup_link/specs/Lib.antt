@@ -1,0 +1,9 @@
+pub mod Placed
+pub mod Groups
+pub mod Linked
+pub mod Circle
+pub mod Faults
+pub mod Known
+pub mod Makers
+pub mod Graph
+pub mod Walk

@@ -1,0 +1,42 @@
+//! The call that reads a folder's Tupfile.
+ghost use Rattle.std.specs.Prelude.{◌≡◌, false, IfOk, IsTrue, is_some};
+ghost use Rattle.tup_ask.specs.Log.{noted_log};
+ghost use Rattle.tup_reader.specs.Read.{IsReading, IsToldBy, Agrees};
+ghost use Rattle.tup_reader.specs.Reading.{reading};
+ghost use Rattle.tup_ask.specs.Went.{is_stopped};
+
+use crate::reading::drafts_of;
+use std::alloc::{AllocError, Global};
+use tup_ask::{Env, Log, ReadEnd};
+use tup_path::Path;
+use tup_rule::{Questions, Reading};
+
+/// The reading of a folder's Tupfile: its rules, and what it asked, each question once in the order
+/// of first asking.
+///
+/// `Fault` names the first fault, just where the reading has it over the same answers. `Stopped` comes
+/// just where the environment has stopped in this call, at a question that was not asked before.
+/// Where memory was wanting nothing is known of the rules.
+pub fn read_tupfile<E: Env>(alloc: Global, dir: &Path, env: &mut E) -> Result<Reading, ReadEnd>
+    requires { is_some (E.stopped env.old) ≡ false }
+    ensures reading { IsReading (IsToldBy E.tells (E.answers env.old)) dir.now (E.stopped env.new) result }
+    ensures answers { IsTrue E.tells → Agrees (E.answers env.old) (reading dir.now) result }
+    ensures stopped { is_some (E.stopped env.new) ≡ is_stopped result }
+    ensures same { IsTrue E.tells → E.answers env.new ≡ E.answers env.old }
+{
+    let mut log = Log::new(alloc);
+    let drafts = drafts_of(alloc, env, &mut log, dir)?;
+    let asked = noted(alloc, log)?;
+    Ok(Reading { drafts, asked })
+}
+
+/// A log as it is kept: a content by its stamp.
+fn noted(alloc: Global, log: Log) -> Result<Questions, AllocError>
+    ensures { IfOk result (λ asked. asked ≡ noted_log log) }
+{
+    let mut asked = Questions::new(alloc);
+    for (question, told) in log.into_vec() {
+        asked.push((question, told.noted()))?;
+    }
+    Ok(asked)
+}

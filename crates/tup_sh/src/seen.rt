@@ -1,0 +1,240 @@
+//! What a command did, with the links on the way to each place.
+use crate::failure::Failure;
+use crate::tree::{Standing, Tree};
+use crate::walk::{MAX_NAMES, Walk, path_below};
+use std::alloc::Global;
+use std::fs::File;
+use std::rt::Files;
+use std::str;
+use tup_path::{Bytes, Path};
+use tup_watch::{Account, Act, Step};
+
+/// How many interpreters of interpreters the system starts.
+const MAX_INTERPRETERS: usize = 4;
+
+/// The account of a command over a tree.
+#[derive(Drop)]
+pub(crate) struct Seen<R: Files<File = File> + Clone + Drop> {
+    pub(crate) tree: Tree<R>,
+    pub(crate) account: Account,
+}
+
+impl<R: Files<File = File> + Clone + Drop> Seen<R> {
+    /// Adds what was done to a place.
+    pub(crate) fn follow(&mut self, alloc: Global, act: &Act) -> Result<(), Failure> {
+        match act {
+            Act::Ask { place, follows } => self.ask(alloc, place, *follows),
+            Act::Run { place } => self.start(alloc, place),
+            Act::Write { place, follows } => self.write(alloc, place, *follows),
+            Act::Change { place, follows } => self.change(alloc, place, *follows),
+            Act::Remove { place } => self.remove(alloc, place),
+            Act::Move { from, to } => self.rename(alloc, from, to),
+        }
+    }
+
+    /// Adds that a place was asked for.
+    fn ask(&mut self, alloc: Global, place: &Bytes, follows: bool) -> Result<(), Failure> {
+        match self.resolve(alloc, place.as_slice(), follows)? {
+            Some(path) => self.add(&Step::Ask(path)),
+            None => Ok(()),
+        }
+    }
+
+    /// Adds that a place was written.
+    fn write(&mut self, alloc: Global, place: &Bytes, follows: bool) -> Result<(), Failure> {
+        match self.resolve(alloc, place.as_slice(), follows)? {
+            Some(path) => self.add(&Step::Write(path)),
+            None => Ok(()),
+        }
+    }
+
+    /// Adds that a place may have been changed.
+    fn change(&mut self, alloc: Global, place: &Bytes, follows: bool) -> Result<(), Failure> {
+        match self.resolve(alloc, place.as_slice(), follows)? {
+            Some(path) => self.add(&Step::Change(path)),
+            None => Ok(()),
+        }
+    }
+
+    /// Adds that a place was removed.
+    fn remove(&mut self, alloc: Global, place: &Bytes) -> Result<(), Failure> {
+        match self.resolve(alloc, place.as_slice(), false)? {
+            Some(path) => self.add(&Step::Remove(path)),
+            None => Ok(()),
+        }
+    }
+
+    /// Adds that a place was moved. Where one end isn't in the project, the other one was written or removed.
+    fn rename(&mut self, alloc: Global, from: &Bytes, to: &Bytes) -> Result<(), Failure> {
+        let from = self.resolve(alloc, from.as_slice(), false)?;
+        let to = self.resolve(alloc, to.as_slice(), false)?;
+        match (from, to) {
+            (Some(from), Some(to)) => self.add(&Step::Move { from, to }),
+            (Some(from), None) => self.add(&Step::Remove(from)),
+            (None, Some(to)) => self.add(&Step::Write(to)),
+            (None, None) => Ok(()),
+        }
+    }
+
+    /// Adds a step.
+    fn add(&mut self, step: &Step) -> Result<(), Failure> {
+        self.account.add(step)?;
+        Ok(())
+    }
+
+    /// Adds that a place was run: it is asked for, and so is the interpreter that it names, and so on.
+    fn start(&mut self, alloc: Global, place: &Bytes) -> Result<(), Failure> {
+        let mut program = Vec::from_slice(alloc, place.as_slice())?;
+        for _ in 0..MAX_INTERPRETERS {
+            match self.start_one(alloc, program.as_slice())? {
+                Some(interpreter) => program = interpreter,
+                None => return Ok(()),
+            }
+        }
+        Ok(())
+    }
+
+    /// Adds that a program is asked for, and gives the interpreter that it names.
+    fn start_one(&mut self, alloc: Global, place: &[u8]) -> Result<Option<Vec<u8>>, Failure> {
+        let Some(path) = self.resolve(alloc, place, true)? else {
+            return Ok(None);
+        };
+        let interpreter = self.interpreter(alloc, &path)?;
+        self.add(&Step::Ask(path))?;
+        Ok(interpreter)
+    }
+
+    /// The interpreter that a program names.
+    fn interpreter(&self, alloc: Global, path: &Path) -> Result<Option<Vec<u8>>, Failure> {
+        let place = self.now(path)?;
+        if self.tree.standing(place.as_str())? != Standing::File {
+            return Ok(None);
+        }
+        let content = self.tree.content(place.as_str())?;
+        match named(content.as_slice()) {
+            Some(name) => Ok(Some(Vec::from_slice(alloc, name)?)),
+            None => Ok(None),
+        }
+    }
+
+    /// The place of a path as the command sees it.
+    fn now(&self, path: &Path) -> Result<String, Failure> {
+        if self.account.is_own(path) {
+            self.tree.written(path)
+        } else {
+            self.tree.source(path)
+        }
+    }
+
+    /// The path of a place, through the links on the way and, where it follows them, the one at its end. Links of the
+    /// project are asked for. `None` for what no path of the project names.
+    fn resolve(
+        &mut self,
+        alloc: Global,
+        place: &[u8],
+        follows: bool,
+    ) -> Result<Option<Path>, Failure> {
+        let Ok(text) = str::from_utf8(place) else {
+            return Ok(None);
+        };
+        if is_system(text, self.tree.root.as_str()) {
+            return Ok(None);
+        }
+        let mut walk = Walk::to(alloc, text)?;
+        self.go(alloc, &mut walk, follows)?;
+        walk.found(alloc, self.tree.root.as_str())
+    }
+
+    /// Walks to the end, or as far as names are walked.
+    fn go(&mut self, alloc: Global, walk: &mut Walk, follows: bool) -> Result<(), Failure> {
+        for _ in 0..MAX_NAMES {
+            match walk.rest.pop() {
+                Some(name) => self.step(alloc, walk, name, follows)?,
+                None => return Ok(()),
+            }
+        }
+        Ok(())
+    }
+
+    /// Walks to a name.
+    fn step(
+        &mut self,
+        alloc: Global,
+        walk: &mut Walk,
+        name: String,
+        follows: bool,
+    ) -> Result<(), Failure> {
+        match name.as_str() {
+            "" | "." => Ok(()),
+            ".." => {
+                walk.names.pop();
+                Ok(())
+            }
+            _ => {
+                walk.names.push(name)?;
+                if follows || !walk.rest.is_empty() {
+                    self.pass(alloc, walk)
+                } else {
+                    Ok(())
+                }
+            }
+        }
+    }
+
+    /// Follows the link at which a walk is, if it is at one.
+    fn pass(&mut self, alloc: Global, walk: &mut Walk) -> Result<(), Failure> {
+        let place = walk.place(alloc)?;
+        let Some(target) = self.link(alloc, place)? else {
+            return Ok(());
+        };
+        walk.names.pop();
+        walk.add(alloc, target.as_str())
+    }
+
+    /// Where the link at a place leads, if there is one. A link of the project is asked for.
+    fn link(&mut self, alloc: Global, place: String) -> Result<Option<String>, Failure> {
+        match path_below(alloc, self.tree.root.as_str(), place.as_str())? {
+            Some(path) => self.link_of(path),
+            None => self.link_at(place.as_str()),
+        }
+    }
+
+    /// Where the link at a path leads, if there is one.
+    fn link_of(&mut self, path: Path) -> Result<Option<String>, Failure> {
+        if self.tree.own.contains(&path) && !self.account.is_own(&path) {
+            return Ok(None);
+        }
+        let place = self.now(&path)?;
+        let target = self.link_at(place.as_str())?;
+        if target.is_some() {
+            self.add(&Step::Ask(path))?;
+        }
+        Ok(target)
+    }
+
+    /// Where the link that stands at a place leads, if there is one.
+    fn link_at(&self, place: &str) -> Result<Option<String>, Failure> {
+        match self.tree.standing(place) {
+            Ok(Standing::Link) => Ok(Some(self.tree.target(place)?)),
+            _ => Ok(None),
+        }
+    }
+}
+
+/// Whether a place is one of the system's, which isn't walked: what is opened through a link from there into the project has
+/// the path of its descriptor besides.
+fn is_system(place: &str, root: &str) -> bool {
+    [
+        "/proc/", "/dev/", "/sys/", "/usr/", "/etc/", "/lib/", "/lib64/",
+    ]
+    .iter()
+    .any(|front| place.starts_with(*front) && !root.starts_with(*front))
+}
+
+/// The interpreter that a program's first line names.
+fn named(content: &[u8]) -> Option<&[u8]> {
+    let rest = content.strip_prefix(b"#!".as_slice())?;
+    let line = rest.split(|byte| *byte == b'\n').next()?;
+    let mut words = line.split(|byte| *byte == b' ' || *byte == b'\t');
+    words.find(|word| !word.is_empty())
+}

@@ -1,0 +1,73 @@
+//! How a place is found: name by name, through the links on the way.
+use crate::failure::Failure;
+use std::alloc::Global;
+use tup_path::{Path, PathFault};
+
+/// How many names are walked at most. A place behind more isn't one of the project.
+pub(crate) const MAX_NAMES: usize = 4096;
+
+/// A walk from the root of the system.
+#[derive(Drop)]
+pub(crate) struct Walk {
+    /// The names of the folders that it came through.
+    pub(crate) names: Vec<String>,
+    /// The names that it has to go, the next one last.
+    pub(crate) rest: Vec<String>,
+}
+
+impl Walk {
+    /// A walk to a place.
+    pub(crate) fn to(alloc: Global, place: &str) -> Result<Walk, Failure> {
+        let mut walk = Walk {
+            names: Vec::new(alloc),
+            rest: Vec::new(alloc),
+        };
+        walk.add(alloc, place)?;
+        Ok(walk)
+    }
+
+    /// Puts the names of a text before those that are left. A text with a slash in front begins at the root.
+    pub(crate) fn add(&mut self, alloc: Global, text: &str) -> Result<(), Failure> {
+        if text.starts_with('/') {
+            self.names.clear();
+        }
+        for name in text.rsplit('/') {
+            self.rest.push(String::from_str(alloc, name)?)?;
+        }
+        Ok(())
+    }
+
+    /// The path of the place where it ended, below a root.
+    pub(crate) fn found(&self, alloc: Global, root: &str) -> Result<Option<Path>, Failure> {
+        if !self.rest.is_empty() {
+            return Ok(None);
+        }
+        let place = self.place(alloc)?;
+        path_below(alloc, root, place.as_str())
+    }
+
+    /// The place where it is.
+    pub(crate) fn place(&self, alloc: Global) -> Result<String, Failure> {
+        let mut place = String::new(alloc);
+        for name in &self.names {
+            place.push('/')?;
+            place.push_str(name.as_str())?;
+        }
+        Ok(place)
+    }
+}
+
+/// The path of a place below a root. `None` for the root itself, a place elsewhere, and one that no path names.
+pub(crate) fn path_below(alloc: Global, root: &str, place: &str) -> Result<Option<Path>, Failure> {
+    let Some(rest) = place.strip_prefix(root) else {
+        return Ok(None);
+    };
+    let Some(text) = rest.strip_prefix('/') else {
+        return Ok(None);
+    };
+    match Path::from_top(alloc, text) {
+        Ok(path) => Ok(Some(path)),
+        Err(PathFault::Memory) => Err(Failure::Memory),
+        Err(_) => Ok(None),
+    }
+}

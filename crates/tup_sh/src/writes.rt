@@ -1,0 +1,223 @@
+//! What a command left in the stage.
+use crate::failure::Failure;
+use crate::log::shown;
+use crate::tree::{Standing, Tree};
+use std::alloc::Global;
+use std::fs::File;
+use std::rt::Files;
+use std::{fs, str};
+use tup_path::{Items, Path, PathFault, Text};
+use tup_proc::LogLine;
+use tup_watch::Account;
+
+/// Something that stands in the upper folder.
+#[derive(Drop)]
+pub(crate) struct Entry {
+    /// The letter of its kind: a file, a folder, a link, a mark that a source was removed, or another one.
+    pub(crate) kind: u8,
+    pub(crate) path: Path,
+}
+
+/// What an entry is to the log.
+#[derive(Clone, Copy)]
+enum Verdict {
+    Nothing,
+    Written,
+    Removed,
+    /// A link, a pipe, a socket or a device, which no output can be.
+    Strange,
+}
+
+/// The writes of a command, as they come to the log.
+#[derive(Drop)]
+pub(crate) struct Writes<R: Files<File = File> + Clone + Drop> {
+    pub(crate) tree: Tree<R>,
+    pub(crate) dir: Path,
+    pub(crate) log: Items<LogLine>,
+    /// How many files were written.
+    pub(crate) count: u32,
+    /// The texts of what no output can be.
+    pub(crate) strange: Items<Text>,
+}
+
+/// What stands in the upper folder.
+#[derive(Drop)]
+pub(crate) struct Entries {
+    pub(crate) list: Vec<Entry>,
+    /// How many files have names that no path has.
+    pub(crate) lost: u32,
+}
+
+impl Entries {
+    /// The entries of a list, which end with a zero byte each.
+    pub(crate) fn read(alloc: Global, list: &[u8]) -> Result<Entries, Failure> {
+        let mut entries = Entries {
+            list: Vec::new(alloc),
+            lost: 0,
+        };
+        for line in list.split(|byte| *byte == 0) {
+            entries.add(alloc, line)?;
+        }
+        Ok(entries)
+    }
+
+    /// Adds the entry that a line says.
+    fn add(&mut self, alloc: Global, line: &[u8]) -> Result<(), Failure> {
+        match entry_of(alloc, line)? {
+            Some(entry) => self.list.push(entry)?,
+            None if is_lost(line) => self.lost = self.lost.saturating_add(1),
+            None => {}
+        }
+        Ok(())
+    }
+}
+
+/// Whether a line says something that isn't kept: no folder, and no mark that a source was removed.
+fn is_lost(line: &[u8]) -> bool {
+    match line {
+        [kind, ..] => *kind != b'd' && *kind != b'c',
+        [] => false,
+    }
+}
+
+/// The entry that a line says.
+fn entry_of(alloc: Global, line: &[u8]) -> Result<Option<Entry>, Failure> {
+    let Some((kind, name)) = line.split_first() else {
+        return Ok(None);
+    };
+    let Ok(text) = str::from_utf8(name) else {
+        return Ok(None);
+    };
+    match Path::from_top(alloc, text) {
+        Ok(path) => Ok(Some(Entry { kind: *kind, path })),
+        Err(PathFault::Memory) => Err(Failure::Memory),
+        Err(_) => Ok(None),
+    }
+}
+
+impl<R: Files<File = File> + Clone + Drop> Writes<R> {
+    /// Adds what was written, in the order of the trace.
+    pub(crate) fn add_touched(
+        &mut self,
+        alloc: Global,
+        account: &Account,
+        entries: &[Entry],
+    ) -> Result<(), Failure> {
+        for path in account.touched.as_slice() {
+            let kind = kind_at(entries, path);
+            self.add(alloc, path, kind, account.is_own(path))?;
+        }
+        Ok(())
+    }
+
+    /// Adds what was written and the trace doesn't show.
+    pub(crate) fn add_others(
+        &mut self,
+        alloc: Global,
+        account: &Account,
+        entries: &[Entry],
+    ) -> Result<(), Failure> {
+        for entry in entries {
+            if !account.touched.as_slice().contains(&entry.path) {
+                self.add(alloc, &entry.path, Some(entry.kind), false)?;
+            }
+        }
+        Ok(())
+    }
+
+    /// Adds what is at a path.
+    fn add(
+        &mut self,
+        alloc: Global,
+        path: &Path,
+        kind: Option<u8>,
+        sure: bool,
+    ) -> Result<(), Failure> {
+        match self.verdict(path, kind, sure)? {
+            Verdict::Nothing => Ok(()),
+            Verdict::Written => self.keep(alloc, path),
+            Verdict::Removed => self.removed(alloc, path),
+            Verdict::Strange => self.refuse(alloc, path),
+        }
+    }
+
+    /// Notes what no output can be.
+    fn refuse(&mut self, alloc: Global, path: &Path) -> Result<(), Failure> {
+        self.strange.push(shown(alloc, path, &self.dir)?)?;
+        Ok(())
+    }
+
+    /// What is at a path: a file that isn't as it was before, or a source that is gone.
+    fn verdict(&self, path: &Path, kind: Option<u8>, sure: bool) -> Result<Verdict, Failure> {
+        match kind {
+            Some(b'f') if sure => Ok(Verdict::Written),
+            Some(b'f') => self.changed(path),
+            Some(b'd') | Some(b'c') => self.gone(path),
+            Some(_) => Ok(Verdict::Strange),
+            None if sure => self.gone(path),
+            None => Ok(Verdict::Nothing),
+        }
+    }
+
+    /// A removal, where a file or a link was.
+    fn gone(&self, path: &Path) -> Result<Verdict, Failure> {
+        match self.tree.before(path)? {
+            Standing::File | Standing::Link | Standing::Other => Ok(Verdict::Removed),
+            Standing::Nothing | Standing::Folder => Ok(Verdict::Nothing),
+        }
+    }
+
+    /// A write, where the content isn't what it was.
+    fn changed(&self, path: &Path) -> Result<Verdict, Failure> {
+        if self.tree.before(path)? != Standing::File {
+            return Ok(Verdict::Written);
+        }
+        let before = self.tree.source_content(path)?;
+        let now = self.tree.written_content(path)?;
+        if before == now {
+            Ok(Verdict::Nothing)
+        } else {
+            Ok(Verdict::Written)
+        }
+    }
+
+    /// Keeps what was written at a path.
+    fn keep(&mut self, alloc: Global, path: &Path) -> Result<(), Failure> {
+        let from = self.tree.written(path)?;
+        let to = self.next(alloc)?;
+        fs::rename(&self.tree.rt, from.as_str(), to.as_str())?;
+        self.note(alloc, path)
+    }
+
+    /// Keeps that a source was removed, as an empty file.
+    fn removed(&mut self, alloc: Global, path: &Path) -> Result<(), Failure> {
+        let to = self.next(alloc)?;
+        fs::write(&self.tree.rt, to.as_str(), b"".as_slice())?;
+        self.note(alloc, path)
+    }
+
+    /// The place of the next file.
+    fn next(&self, alloc: Global) -> Result<String, Failure> {
+        let count = self.count;
+        let name = format!(in alloc; "w{count}")?;
+        self.tree.staged(name.as_str())
+    }
+
+    /// Adds the line of the next file.
+    fn note(&mut self, alloc: Global, path: &Path) -> Result<(), Failure> {
+        let text = shown(alloc, path, &self.dir)?;
+        let file = self.count;
+        let Some(count) = file.checked_add(1) else {
+            return Err(Failure::Because("too many files"));
+        };
+        self.count = count;
+        self.log.push(LogLine::Wrote { file, text })?;
+        Ok(())
+    }
+}
+
+/// The kind of what stands at a path.
+fn kind_at(entries: &[Entry], path: &Path) -> Option<u8> {
+    let entry = entries.iter().find(|entry| entry.path == *path)?;
+    Some(entry.kind)
+}

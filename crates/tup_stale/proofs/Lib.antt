@@ -1,0 +1,6 @@
+mod Looked
+mod Removals
+mod Going
+mod Forgotten
+mod Cleared
+mod Crashes

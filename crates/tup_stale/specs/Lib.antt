@@ -1,0 +1,5 @@
+pub mod Unmade
+pub mod Cause
+pub mod Files
+pub mod Cleared
+pub mod Crash

@@ -1,0 +1,257 @@
+//! The calls of `kept.rows`: transactions over a site in memory.
+ghost use Rattle.std.specs.Prelude.{◌≡◌, ◌↔◌, true, All, IsTrue};
+ghost use Rattle.tup_graph.specs.Graph.{is_rule as is_rule_of};
+ghost use Rattle.tup_kept.specs.Held.{is_fresh, StandsFor};
+
+use crate::graph::store;
+use crate::say::Say;
+use crate::sites::site_with;
+use crate::transaction::{number, numbers, paths, run};
+use std::alloc::Global;
+use tup_graph::GraphFault;
+use tup_kept::Graph;
+use tup_rows::{Answers, RowFault, Words};
+use tup_site::{MemSite, Site};
+
+/// How many calls a site has answered when a graph of it makes a transaction: the store is written
+/// and synced, and then synced, measured and read.
+const BEFORE_A_TRANSACTION: u64 = 5;
+
+/// Transactions on graphs over sites in memory, whose store and failures are set by rows.
+#[derive(Drop)]
+pub struct KeptGraphs {
+    store: Vec<u8>,
+    fails: Vec<u64>,
+}
+
+impl Answers for KeptGraphs {
+    fn answer(&mut self, alloc: Global, call: &str, said: &Words) -> Result<Words, RowFault> {
+        Ok(match call {
+            "graph" => self.set_store(alloc, said),
+            "failing" => self.set_fails(alloc, said),
+            "make" => make(alloc, said, &self.fails),
+            _ => self.transaction(alloc, call, said),
+        })
+    }
+}
+
+impl KeptGraphs {
+    /// No store, and no call fails.
+    pub fn new(alloc: Global) -> KeptGraphs {
+        KeptGraphs {
+            store: Vec::new(alloc),
+            fails: Vec::new(alloc),
+        }
+    }
+
+    /// The store of the rows below: one commit, which puts keys and values.
+    fn set_store(&mut self, alloc: Global, said: &Words) -> Words {
+        self.store = store(alloc, said, said.as_slice());
+        Words::shown(alloc, &self.store.len())
+    }
+
+    /// The calls that fail in the rows below.
+    fn set_fails(&mut self, alloc: Global, said: &Words) -> Words {
+        let mut fails = Vec::new(alloc);
+        for at in 0..said.len() {
+            if fails.push(said.number_at(at)).is_err() {
+                said.fail(RowFault::Memory);
+            }
+        }
+        self.fails = fails;
+        Words::done(alloc)
+    }
+
+    /// Opens the store, and makes a transaction.
+    fn transaction(&self, alloc: Global, call: &str, said: &Words) -> Words {
+        let fails = behind(alloc, said, &self.fails, BEFORE_A_TRANSACTION);
+        match site_with(alloc, &self.store, fails) {
+            Ok(mut site) => transaction_in(alloc, call, said, &mut site),
+            Err(fault) => Words::none(alloc, fault),
+        }
+    }
+}
+
+/// The numbers, each so much later.
+fn behind(alloc: Global, said: &Words, numbers: &[u64], calls: u64) -> Vec<u64> {
+    let mut later = Vec::new(alloc);
+    for number in numbers {
+        if later.push(number.saturating_add(calls)).is_err() {
+            said.fail(RowFault::Memory);
+        }
+    }
+    later
+}
+
+/// The graph of a store that was made.
+fn make(alloc: Global, said: &Words, fails: &[u64]) -> Words {
+    match MemSite::new(alloc, Vec::new(alloc), behind(alloc, said, fails, 0)) {
+        Ok(mut site) => match Graph::make(alloc, &mut site) {
+            Ok(graph) => with_graph(alloc, Words::new(alloc), &graph, &mut site),
+            Err(fault) => refused(alloc, fault),
+        },
+        Err(_) => Words::none(alloc, RowFault::Memory),
+    }
+}
+
+/// How a transaction ends after how many calls of the site, and the graph then.
+fn transaction_in(alloc: Global, call: &str, said: &Words, site: &mut MemSite) -> Words {
+    match Graph::open(alloc, site) {
+        Ok(mut graph) => {
+            let opened = site.calls();
+            let ended = made(alloc, call, said, &mut graph, site);
+            let mut words = Words::shown(alloc, &site.calls().saturating_sub(opened));
+            add_end(alloc, &mut words, ended);
+            with_graph(alloc, words, &graph, site)
+        }
+        Err(fault) => unopened(alloc, said, fault),
+    }
+}
+
+/// The words of a store that doesn't open, whatever the arguments of a transaction are.
+fn unopened(alloc: Global, said: &Words, fault: GraphFault) -> Words {
+    said.as_slice();
+    refused(alloc, fault)
+}
+
+/// Makes a transaction.
+fn made<S: Site>(
+    alloc: Global,
+    call: &str,
+    said: &Words,
+    graph: &mut Graph,
+    site: &mut S,
+) -> Result<Result<(), GraphFault>, RowFault>
+    requires fresh { IsTrue (is_fresh graph.old) }
+    requires stands { IsTrue S.tells
+        → StandsFor S.world S.moment S.left_since graph.old site.old }
+{
+    match call {
+        "begin" => begin(alloc, said, graph, site),
+        "finish" => finish(alloc, said, graph, site),
+        "doom" => Ok(graph.doom(alloc, site, &paths(alloc, said, said.len()))),
+        "forget" => Ok(graph.forget(alloc, site, &paths(alloc, said, said.len()))),
+        "flag" => flag(alloc, said, graph, site),
+        _ => Err(RowFault::NoSuchCall),
+    }
+}
+
+/// Begins the run of a rule.
+fn begin<S: Site>(
+    alloc: Global,
+    said: &Words,
+    graph: &mut Graph,
+    site: &mut S,
+) -> Result<Result<(), GraphFault>, RowFault>
+    requires fresh { IsTrue (is_fresh graph.old) }
+    requires stands { IsTrue S.tells
+        → StandsFor S.world S.moment S.left_since graph.old site.old }
+{
+    let rule = number(said);
+    if !is_rule(graph, rule) {
+        return Err(RowFault::OtherKind);
+    }
+    Ok(graph.begin(alloc, site, rule))
+}
+
+/// Ends the run of a rule well.
+fn finish<S: Site>(
+    alloc: Global,
+    said: &Words,
+    graph: &mut Graph,
+    site: &mut S,
+) -> Result<Result<(), GraphFault>, RowFault>
+    requires fresh { IsTrue (is_fresh graph.old) }
+    requires stands { IsTrue S.tells
+        → StandsFor S.world S.moment S.left_since graph.old site.old }
+{
+    let rule = number(said);
+    if !is_rule(graph, rule) {
+        return Err(RowFault::OtherKind);
+    }
+    match run(alloc, said, said.as_slice()) {
+        Ok(run) => Ok(graph.finish(alloc, site, rule, run)),
+        Err(fault) => Err(fault),
+    }
+}
+
+/// Flags rules.
+fn flag<S: Site>(
+    alloc: Global,
+    said: &Words,
+    graph: &mut Graph,
+    site: &mut S,
+) -> Result<Result<(), GraphFault>, RowFault>
+    requires fresh { IsTrue (is_fresh graph.old) }
+    requires stands { IsTrue S.tells
+        → StandsFor S.world S.moment S.left_since graph.old site.old }
+{
+    let rules = numbers(alloc, said, said.len());
+    if !are_rules(graph, &rules) {
+        return Err(RowFault::OtherKind);
+    }
+    Ok(graph.flag(alloc, site, &rules))
+}
+
+/// Whether a number is that of a rule.
+fn is_rule(graph: &Graph, rule: u32) -> bool
+    ensures { result ≡ is_rule_of graph.now.nodes rule }
+{
+    (rule as usize) < graph.nodes().rules().len()
+}
+
+/// Whether all numbers are those of rules.
+fn are_rules(graph: &Graph, rules: &[u32]) -> bool
+    ensures { IsTrue result ↔ All (λ rule. is_rule_of graph.now.nodes rule ≡ true) rules.now }
+{
+    rules.iter().all(|rule| is_rule(graph, *rule))
+}
+
+/// Adds how a transaction ended.
+fn add_end(alloc: Global, words: &mut Words, ended: Result<Result<(), GraphFault>, RowFault>) {
+    match ended {
+        Ok(Ok(())) => words.put(alloc, b"done"),
+        Ok(Err(GraphFault::Memory)) => words.fail(RowFault::Memory),
+        Ok(Err(fault)) => words.show(alloc, &fault),
+        Err(fault) => words.fail(fault),
+    }
+}
+
+/// The words, whether a graph stands for the store of its site, and the graph that another opening
+/// reads there.
+fn with_graph(alloc: Global, mut words: Words, graph: &Graph, site: &mut MemSite) -> Words {
+    match Graph::open(alloc, site) {
+        Ok(again) => {
+            words.put(alloc, standing(alloc, graph, &again).as_bytes());
+            again.nodes().say(alloc, &mut words);
+            words
+        }
+        Err(fault) => refused(alloc, fault),
+    }
+}
+
+/// Whether a graph is fresh, and has then what was read again.
+fn standing(alloc: Global, graph: &Graph, again: &Graph) -> &'static str {
+    if !graph.fresh() {
+        "stale"
+    } else if said_of(alloc, graph).as_slice() == said_of(alloc, again).as_slice() {
+        "fresh"
+    } else {
+        "other"
+    }
+}
+
+/// The words of a graph.
+fn said_of(alloc: Global, graph: &Graph) -> Words {
+    let mut words = Words::new(alloc);
+    graph.nodes().say(alloc, &mut words);
+    words
+}
+
+/// The words of a refusal; want of memory is no answer.
+fn refused(alloc: Global, fault: GraphFault) -> Words {
+    match fault {
+        GraphFault::Memory => Words::none(alloc, RowFault::Memory),
+        fault => Words::refusal(alloc, &fault),
+    }
+}

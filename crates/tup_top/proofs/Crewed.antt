@@ -1,0 +1,68 @@
+-- A crew whose first runner did all: what one runner counts and ran is what the crew does.
+use Rattle.std.proofs.Common.{◌≡◌, ℕ, zero, suc, ◌<◌, List, [], ◌∷◌, length, map, get_or, Option, None, Some, IfSome, refl, ap, subst, arith}
+use Rattle.std.specs.Prelude.{slice_get, slice_set}
+use Rattle.tup_path.specs.Name.{Names}
+use Rattle.tup_rule.specs.declared.rule.RuleName.{RuleName}
+use Rattle.tup_update.specs.Ran.{RunsThese}
+use Rattle.tup_update.specs.declared.stop.Stop.{Stop}
+use Rattle.tup_top.specs.Crew.{OneRose, CrewRuns}
+use Rattle.tup_top.specs.Promise.{Counts, AreSteady, HasCountedCause}
+use Rattle.tup_top.specs.declared.status.Status.{Status}
+use Rattle.tup_top.specs.declared.status.Status.TheVariants.{Done, Command, IllegalRead, IllegalWrite, Unwritten, TooManyReads, Usage, BadStore, Parse, SiteFault, RunFault, SinkFault, Limit, Memory}
+use Rattle.tup_top.specs.declared.status.What.TheVariants.{FileSize}
+use Rattle.tup_top.proofs.Causes.{of_one}
+
+-- a count of one runner that rose is one of the crew's
+one_of_more : (before now : ℕ) (others : List ℕ) → OneRose (before ∷ []) (now ∷ []) → OneRose (before ∷ others) (now ∷ others)
+one_of_more before now others one = by one.at one.stood one.stands
+  where
+    by : (at : ℕ) → slice_get (before ∷ []) at ≡ Some one.was → slice_get (now ∷ []) at ≡ Some one.is → OneRose (before ∷ others) (now ∷ others)
+    by zero stood stands = record { at = 0; was = one.was; is = one.is; stood = stood; stands = stands; rose = one.rose }
+    by (suc at) stood stands = absurd (cc stood)
+
+module _ (site_before site_now run_before run_now sink_before sink_now : ℕ) (others : List ℕ) where
+  abbrev crew_before : Counts
+  crew_before = record { site = site_before; runners = run_before ∷ others; sink = sink_before }
+
+  abbrev crew_now : Counts
+  crew_now = record { site = site_now; runners = run_now ∷ others; sink = sink_now }
+
+  same_runners : run_now ∷ [] ≡ run_before ∷ [] → run_now ∷ others ≡ run_before ∷ others
+  same_runners same = let here : run_now ≡ run_before = cc same in ap (λ (n : ℕ). n ∷ others) here
+
+  steady : AreSteady (of_one site_before run_before sink_before) (of_one site_now run_now sink_now) → AreSteady crew_before crew_now
+  steady (site, run) = (site, same_runners run)
+
+  -- the causes of one runner are those of the crew
+  causes_of_crew : (status : Status) → HasCountedCause (of_one site_before run_before sink_before) (of_one site_now run_now sink_now) status → HasCountedCause crew_before crew_now status
+  causes_of_crew (Done read ran removed) cause = (steady cause.0, cause.1)
+  causes_of_crew (Command rule status) cause = steady cause
+  causes_of_crew (IllegalRead rule text) cause = steady cause
+  causes_of_crew (IllegalWrite rule text) cause = steady cause
+  causes_of_crew (Unwritten rule path) cause = steady cause
+  causes_of_crew (TooManyReads rule) cause = steady cause
+  causes_of_crew (Usage place) cause = cause
+  causes_of_crew (BadStore offset) cause = steady cause
+  causes_of_crew (Parse fault) cause = steady cause
+  causes_of_crew SiteFault cause = (cause.0, same_runners cause.1)
+  causes_of_crew RunFault cause = (cause.0, one_of_more run_before run_now others cause.1)
+  causes_of_crew SinkFault cause = (steady cause.0, cause.1)
+  causes_of_crew (Limit FileSize number) cause = (steady cause.0, cause.1)
+  causes_of_crew Memory cause = tt
+
+-- so they are where the first runner of a crew did all
+pub crew_cause : {R : Type 0} (count : R → ℕ) (crew : List R) (old now : R) (site_before site_now sink_before sink_now : ℕ) (status : Status) → 0 < length crew → old ≡ get_or crew 0 old →
+    HasCountedCause (of_one site_before (count old) sink_before) (of_one site_now (count now) sink_now) status →
+    HasCountedCause (record { site = site_before; runners = map count crew; sink = sink_before }) (record { site = site_now; runners = map count (slice_set crew 0 now); sink = sink_now }) status
+crew_cause {R} count [] old now site_before site_now sink_before sink_now status some first cause = absurd (omega (arith, some))
+crew_cause {R} count (one ∷ others) old now site_before site_now sink_before sink_now status some first cause =
+    subst (λ (r : R). HasCountedCause (record { site = site_before; runners = count r ∷ map count others; sink = sink_before }) (record { site = site_now; runners = count now ∷ map count others; sink = sink_now }) status) first
+    (causes_of_crew site_before site_now (count old) (count now) sink_before sink_now (map count others) status cause)
+
+-- and what it ran is what the crew ran
+pub crew_runs : {R : Type 0} (ran_by : R → List (Names × List ℕ)) (crew : List R) (old now : R) (ran : List RuleName) (came : Option (Option Stop)) → 0 < length crew → old ≡ get_or crew 0 old →
+    IfSome came (RunsThese ran (ran_by old) (ran_by now)) → IfSome came (CrewRuns ran (map ran_by crew) (map ran_by (slice_set crew 0 now)))
+crew_runs {R} ran_by crew old now ran None some first runs = tt
+crew_runs {R} ran_by [] old now ran (Some stopped) some first runs = absurd (omega (arith, some))
+crew_runs {R} ran_by (one ∷ others) old now ran (Some stopped) some first runs =
+    subst (λ (r : R). RunsThese ran (ran_by r) (ran_by now) stopped × (map ran_by others ≡ map ran_by others)) first (runs, refl)

@@ -1,0 +1,45 @@
+-- The runners of one call: what they count, and what they ran.
+use Rattle.std.specs.Prelude.{◌≡◌, ◌<◌, ◌≤◌, ℕ, List, [], ◌∷◌, length, Option, None, Some, slice_get}
+use Rattle.tup_path.specs.Count.{Rose}
+use Rattle.tup_path.specs.Name.{Names}
+use Rattle.tup_site.specs.World.{World}
+use Rattle.tup_rule.specs.declared.rule.RuleName.{RuleName}
+use Rattle.tup_runner.specs.Next.{Next}
+use Rattle.tup_update.specs.Log.{IsFront, whole_log}
+use Rattle.tup_update.specs.Ran.{RunsThese}
+use Rattle.tup_update.specs.declared.stop.Stop.{Stop}
+use Rattle.tup_update.specs.declared.stop.Stop.TheVariants.{BadStore, Parse, Bad, Run, Outside}
+use Rattle.tup_top.specs.Order.{Wanted, IsUpdate}
+
+-- a crew has a runner, and at most 16
+abbrev pub IsCrew : {R : Type 0} → List R → Type 0
+IsCrew {R} crew = (0 < length crew) × (length crew ≤ 16)
+
+-- one of these counts rose
+pub record OneRose (before now : List ℕ) : Type 0 where
+  pub at : ℕ
+  pub was : ℕ
+  pub is : ℕ
+  pub stood : slice_get before at ≡ Some was
+  pub stands : slice_get now at ≡ Some is
+  pub rose : Rose was is
+
+-- the rules that an update began are its rules in their order, each once: all of them up to the first that is bad, or as
+-- many as it came to
+abbrev pub RanFits : Next → World → List RuleName → Option Stop → Type 0
+RanFits next old ran None = ran ≡ (whole_log next old).ran
+RanFits next old ran (Some (Bad name verdict)) = ran ≡ (whole_log next old).ran
+RanFits next old ran (Some (BadStore offset)) = ran ≡ []
+RanFits next old ran (Some (Parse fault)) = ran ≡ []
+RanFits next old ran (Some Run) = IsFront ran (whole_log next old).ran
+RanFits next old ran (Some (Outside failed)) = IsFront ran (whole_log next old).ran
+
+-- the first runner was given the commands of these rules to run, and the others ran nothing
+abbrev pub CrewRuns : List RuleName → List (List (Names × List ℕ)) → List (List (Names × List ℕ)) → Option Stop → Type 0
+CrewRuns ran (old ∷ others) (new ∷ rest) stopped = RunsThese ran old new stopped × (rest ≡ others)
+CrewRuns ran [] now stopped = ⊥
+CrewRuns ran before [] stopped = ⊥
+
+-- only an update has the crew run anything
+abbrev pub NothingRun : {R : Type 0} → Wanted → List R → List R → List RuleName → Type 0
+NothingRun {R} wanted before now ran = (IsUpdate wanted → ⊥) → (now ≡ before) × (ran ≡ [])

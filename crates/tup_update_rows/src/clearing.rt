@@ -1,0 +1,220 @@
+//! The calls of `stale.rows`.
+use crate::project::Project;
+use std::alloc::Global;
+use tup_graph::{GraphFault, Nodes};
+use tup_kept::Graph;
+use tup_path::{Bytes, Path, Paths};
+use tup_record::OwnedState;
+use tup_rows::{Answers, RowFault, Words};
+use tup_site::{Changed, Choice, MemSite};
+use tup_stale::{StaleFault, clear};
+
+/// How many calls of a site an opening makes: the store is synced, measured and read.
+const OPENING: u64 = 3;
+
+/// A project that is cleared, again and again from its beginning.
+#[derive(Drop)]
+pub(crate) struct Clearings {
+    project: Project,
+}
+
+impl Answers for Clearings {
+    fn answer(&mut self, alloc: Global, call: &str, said: &Words) -> Result<Words, RowFault> {
+        Ok(match call {
+            "begin" => self.begin(alloc),
+            "owned" => self.project.owned(alloc, said),
+            "made" => self.project.made(alloc, said),
+            "seen" => self.project.seen(alloc, said),
+            "rule" => self.project.rule(alloc, said),
+            "file" => self.project.file(alloc, said),
+            "clear" => self.clear(alloc, u64::MAX),
+            "stopped" => self.clear(alloc, said.number_at(0)),
+            "crashed" => self.crashed(alloc, said),
+            _ => Words::none(alloc, RowFault::NoSuchCall),
+        })
+    }
+}
+
+impl Clearings {
+    /// No project.
+    pub fn new(alloc: Global) -> Clearings {
+        Clearings {
+            project: Project::new(alloc),
+        }
+    }
+
+    fn begin(&mut self, alloc: Global) -> Words {
+        self.project = Project::new(alloc);
+        Words::done(alloc)
+    }
+
+    /// A site with the project, of which an opening and so many calls more pass.
+    fn site(&self, alloc: Global, calls: u64) -> Result<MemSite, RowFault> {
+        let mut site = self.project.site(alloc)?;
+        site.stop_after(calls.saturating_add(OPENING));
+        Ok(site)
+    }
+
+    /// Clears the project, stopped after so many calls of the site.
+    fn clear(&self, alloc: Global, calls: u64) -> Words {
+        let mut words = Words::new(alloc);
+        match self.site(alloc, calls) {
+            Ok(mut site) => self.clear_in(alloc, &mut words, &mut site),
+            Err(fault) => words.fail(fault),
+        }
+        words
+    }
+
+    fn clear_in(&self, alloc: Global, words: &mut Words, site: &mut MemSite) {
+        add_clearing(alloc, words, site);
+        site.run_on();
+        self.add_left(alloc, words, site);
+    }
+
+    /// Clears the project, stopped after so many calls of the site; a crash then leaves the store as it was after so many
+    /// calls, cut by so many bytes, and files. Then it is cleared again.
+    fn crashed(&self, alloc: Global, said: &Words) -> Words {
+        match self.site(alloc, said.number_at(0)) {
+            Ok(mut site) => self.crashed_in(alloc, said, &mut site),
+            Err(fault) => Words::none(alloc, fault),
+        }
+    }
+
+    fn crashed_in(&self, alloc: Global, said: &Words, site: &mut MemSite) -> Words {
+        let mut words = Words::new(alloc);
+        add_clearing(alloc, &mut Words::new(alloc), site);
+        match self.choice(alloc, said) {
+            Ok(choice) => self.crash(alloc, &mut words, site, choice),
+            Err(fault) => words.fail(fault),
+        }
+        words
+    }
+
+    fn crash(&self, alloc: Global, words: &mut Words, site: &mut MemSite, choice: Choice) {
+        match site.crash(alloc, choice) {
+            Ok(()) => {
+                self.add_left(alloc, words, site);
+                words.put(alloc, b"again");
+                add_clearing(alloc, words, site);
+                self.add_left(alloc, words, site);
+            }
+            Err(fault) => words.show(alloc, &fault),
+        }
+    }
+
+    /// The store as it was after so many calls, cut by so many bytes, and files.
+    fn choice(&self, alloc: Global, said: &Words) -> Result<Choice, RowFault> {
+        let mut before = self.site(alloc, said.number_at(1))?;
+        add_clearing(alloc, &mut Words::new(alloc), &mut before);
+        let store = before.store();
+        let end = store.len().saturating_sub(said.number_at(2) as usize);
+        match store.get(..end) {
+            Some(front) => Ok(Choice {
+                db: Bytes::new(Vec::from_slice(alloc, front)?),
+                tree: changed(alloc, said),
+            }),
+            None => Err(RowFault::OtherKind),
+        }
+    }
+
+    /// Adds the files that are left of the project's, and the paths that the store owns.
+    fn add_left(&self, alloc: Global, words: &mut Words, site: &mut MemSite) {
+        words.put(alloc, b"files");
+        for (path, _) in self.project.files.as_slice() {
+            if let Some(content) = site.file(path) {
+                words.show(alloc, path);
+                words.put(alloc, content.as_slice());
+            }
+        }
+        add_owned(alloc, words, site);
+    }
+}
+
+/// Files that the words behind the third name, each followed by its content or by `-` where it is gone.
+fn changed(alloc: Global, said: &Words) -> Changed {
+    let mut tree = Changed::new(alloc);
+    for pair in 1..said.len() / 2 {
+        let at = pair.saturating_mul(2).saturating_add(1);
+        said.list(&mut tree, change(alloc, said, at));
+    }
+    tree
+}
+
+fn change(alloc: Global, said: &Words, at: usize) -> (Path, Option<Bytes>) {
+    let path = said.path_at(alloc, at);
+    match said.word_at(at.saturating_add(1)) {
+        b"-" => (path, None),
+        _ => {
+            let content = Bytes::new(said.bytes_at(alloc, at.saturating_add(1)));
+            (path, Some(content))
+        }
+    }
+}
+
+/// Clears the project of a site. Adds how many calls of it that makes, how it ends, and whether the graph still stands
+/// for the store.
+fn add_clearing(alloc: Global, words: &mut Words, site: &mut MemSite) {
+    match Graph::open(alloc, site) {
+        Ok(mut graph) => {
+            let opened = site.calls();
+            let ended = clear(alloc, &mut graph, site);
+            words.show(alloc, &site.calls().saturating_sub(opened));
+            add_end(alloc, words, ended);
+            words.put(alloc, if graph.fresh() { b"fresh" } else { b"stale" });
+        }
+        Err(fault) => add_refusal(alloc, words, fault),
+    }
+}
+
+/// Adds the paths at which files were removed, or why none is left to be.
+fn add_end(alloc: Global, words: &mut Words, ended: Result<Paths, StaleFault>) {
+    match ended {
+        Ok(removed) => {
+            words.put(alloc, b"done");
+            for path in removed.as_slice() {
+                words.show(alloc, path);
+            }
+        }
+        Err(StaleFault::Memory) => words.fail(RowFault::Memory),
+        Err(fault) => words.show(alloc, &fault),
+    }
+}
+
+/// Adds the paths that the store of a site owns, each with its maker and its state.
+fn add_owned(alloc: Global, words: &mut Words, site: &mut MemSite) {
+    match Graph::open(alloc, site) {
+        Ok(graph) => add_nodes(alloc, words, graph.nodes()),
+        Err(fault) => add_refusal(alloc, words, fault),
+    }
+}
+
+fn add_nodes(alloc: Global, words: &mut Words, nodes: &Nodes) {
+    words.put(alloc, b"owned");
+    for (path, owned) in nodes.owned() {
+        words.show(alloc, path);
+        if owned.maker.is_some() {
+            words.put(alloc, b"made");
+        }
+        words.put(alloc, word_of(owned.state));
+    }
+    words.put(alloc, b"seen");
+    for (path, _) in nodes.files() {
+        words.show(alloc, path);
+    }
+}
+
+fn word_of(state: OwnedState) -> &'static [u8] {
+    match state {
+        OwnedState::Never => b"never",
+        OwnedState::Unsure => b"unsure",
+        OwnedState::Written(_) => b"written",
+    }
+}
+
+/// Adds why a store doesn't open; want of memory is no answer.
+fn add_refusal(alloc: Global, words: &mut Words, fault: GraphFault) {
+    match fault {
+        GraphFault::Memory => words.fail(RowFault::Memory),
+        fault => words.show(alloc, &fault),
+    }
+}

@@ -1,0 +1,3 @@
+#define GREETING "Hello"
+
+void hello(const char *version);

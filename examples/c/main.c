@@ -1,0 +1,7 @@
+#include "hello.h"
+#include "version.h"
+
+int main(void) {
+    hello(VERSION);
+    return 0;
+}

@@ -1,0 +1,129 @@
+#!/bin/sh
+# Shell commands under the tracer: each runs over real files, and its log, its status and the sources afterwards have to be
+# as wanted. Words: the program. It ends with 1 where something else came, and says so.
+set -u
+sh=$(realpath "$1")
+if ! strace -o /dev/null true 2> /dev/null; then
+    echo "passed over: there is no strace, or it may not trace"
+    exit 0
+fi
+work=$(mktemp -d ${WORK:-/tmp}/shell.XXXXXX)
+trap 'cd /; rm -rf "$work"' EXIT
+trap 'exit 1' INT TERM
+failures=0
+all=0
+
+wrong() {
+    failures=$((failures + 1))
+    printf 'wrong: %s: %s\n' "$text" "$1"
+}
+
+# The project: in src the files a, b, o, sub/s, s.c with h.h, interp, script and lost, whose interpreters are interp and none,
+# the folder e, and links to a and to sub.
+project() {
+    root=$work/root
+    stage=$root/.tup/stage/0
+    rm -rf "$root"
+    mkdir -p "$root/src/sub" "$root/src/e" "$stage"
+    cd "$root/src" || exit 1
+    echo a > a && echo two > b && echo o > o && echo s > sub/s && ln -s a ln && ln -s sub dl
+    printf '#!%s/src/interp\n' "$root" > script && chmod +x script && cp /bin/cat interp
+    printf '#!%s/src/none\n' "$root" > lost && chmod +x lost
+    echo '#include "h.h"' > s.c && echo 'int h;' > h.h
+}
+
+# The lines of a log, without its digests and the numbers of its files.
+lines() {
+    sed -e 's/^R [0-9a-f]* /R /' -e 's/^W [0-9]* /W /' "$stage/log" | paste -sd, -
+}
+
+sources() {
+    (cd "$root" && find . -path ./.tup -prune -o -printf '%y %m %p %l\n' | sort; cat src/a src/b src/o src/sub/s src/s.c src/h.h)
+}
+
+# try OWN TEXT LINES: the outputs of the rule, the command and what its log has to say.
+try() {
+    text=$2
+    all=$((all + 1))
+    project
+    for output in $1; do echo "src/$output"; done > "$stage/own"
+    before=$(sources)
+    timeout 60 "$sh" "$root" src "$stage" "$text" > "$work/said" 2>&1
+    status=$?
+    [ $status = 0 ] || wrong "exit number $status: $(cat "$work/said")"
+    [ "$(sources)" = "$before" ] || wrong "a source changed"
+    said=$(lines)
+    [ "$said" = "$3" ] || wrong "its log says $said, wanted $3"
+    # Each write has its file.
+    for file in $(sed -n 's/^W \([0-9]*\) .*/\1/p' "$stage/log"); do
+        [ -f "$stage/w$file" ] || wrong "w$file is missing"
+    done
+}
+
+# kept N BYTES: what the file of that number holds.
+kept() {
+    [ "$(cat "$stage/w$1")" = "$2" ] || wrong "w$1 holds $(cat "$stage/w$1"), wanted $2"
+}
+
+# told TEXT: a line that the program printed.
+told() {
+    grep -qF -- "$1" "$work/said" || wrong "it didn't say: $1"
+}
+
+# Where no command can be run apart on this machine, the program says why, once.
+project
+: > "$stage/own"
+"$sh" "$root" src "$stage" true > "$work/said" 2>&1 || { cat "$work/said"; exit 1; }
+
+# -- reading: files, nothing, folders; through links, which are no files
+try '' 'cat a b nope; [ -e sub/s ]' 'R a,R b,A nope,R sub/s,E 0'
+try '' 'cat ln dl/s a/x; [ -d sub ]; [ -d nodir ]' 'A ln,R a,A dl,R sub/s,A a/x,A nodir,E 1'
+# -- own outputs aren't there before they are written; what is written isn't asked for
+try 'o' 'cat o; echo x >o; cat o; echo y >>o' 'A o,W o,E 0'
+kept 0 'x
+y'
+try '' 'echo more >>a; echo x >>new' 'R a,A new,W a,W new,E 0'
+kept 0 'a
+more'
+# -- moving and editing in place
+try '' 'mv a a2; cat a2' 'R a,W a2,W a,E 0'
+# -- what is in a folder that was made and moved: asked for all the same, as absent, and the last of the writes
+try '' 'mkdir d; echo x >d/f; mv d d2; cat d2/f; echo y >z' 'A d2/f,W z,W d2/f,E 0'
+try '' 'sed -i s/two/TWO/ b; cat b' 'R b,W b,E 0'
+kept 0 TWO
+# -- what changes no content is no write
+try '' 'chmod 600 a; touch b; mkdir d; echo t >tmp; rm tmp' 'R a,R b,E 0'
+try '' 'rm -r sub; mkdir sub; echo n >sub/n' 'R sub/s,W sub/s,W sub/n,E 0'
+try '' 'mv sub sub2; cat sub2/s' 'A sub2,R sub/s,A sub2/s,W sub2/s,W sub/s,E 0'
+# -- links as outputs are a stated end
+try '' 'ln a hl; ln -s b sl; cat hl sl' 'R a,R b,W hl,E 1'
+told "sl: a link, a pipe, a socket or a device can't be an output"
+try '' 'echo 1 >t; echo 2 >b2; mv t a2; exec 3<>a; read x <&3' 'R a,W b2,W a2,E 0'
+# -- programs and their interpreters
+try '' './script; ./noscript' 'R script,R interp,A noscript,E 127'
+try '' './lost' 'R lost,A none,E 127'
+if command -v gcc > /dev/null; then
+    try 's.o' 'gcc -c s.c -o s.o' 'R s.c,A s.o,A s.c.gch,A h.h.gch,R h.h,W s.o,E 0'
+    try 's.o' 'echo "int x" >>s.c; gcc -c s.c -o s.o' 'R s.c,A s.o,A s.c.gch,A h.h.gch,R h.h,W s.c,E 1'
+    told error
+fi
+# -- what outlives the command is ended with it; a signal's number comes as a shell tells it
+try '' '(setsid sleep 9; echo late >late) & echo now >now' 'W now,E 0'
+try '' 'rm -f ln; cp -P dl dl2; set -C; echo >b; kill -9 $$' 'A ln,A dl2,A dl,R b,W ln,E 137'
+try '' 'kill -TERM $$' 'E 143'
+try '' 'exit 3' 'E 3'
+# -- whatever a command does, no source changes
+try '' 'rm -rf *; echo x > ../source; echo y > ../src/a' 'R a,R b,A dl,R h.h,R interp,A ln,R lost,R o,R s.c,R script,R sub/s,W a,W b,W dl,W h.h,W interp,W ln,W lost,W o,W s.c,W script,W sub/s,W ../source,E 0'
+try '' 'mkfifo p; :' 'E 1'
+told "p: a link, a pipe"
+try '' 'umount "$PWD/.." 2>/dev/null; mount -t tmpfs none . 2>/dev/null; echo x >a' 'A none,W a,E 0'
+# -- names that tup doesn't see: neither asked nor kept, and it says so
+try '' "echo x > 'a b'; cat 'a b' 'no such'; cat '\"q\\'" 'A "q\,E 1'
+told "weren't kept: 1"
+try '' 'cat ../.git/HEAD; echo x >.hidden' 'E 0'
+told "weren't kept: 1"
+# -- folders of processes
+try '' 'cd sub; cat s; cd ..; (cd e; cat ../a nope); env -C sub cat s no' 'R sub/s,R a,A e/nope,A sub/no,E 1'
+
+printf '%s commands, %s wrong\n' "$all" "$failures"
+[ "$failures" = 0 ]
