@@ -4,11 +4,13 @@ ghost use Rattle.tup_graph.specs.Graph.{is_rule as is_rule_of};
 
 use crate::graph::store;
 use crate::say::Say;
+use crate::scan::seen;
 use crate::sites::site_with;
 use crate::transaction::{number, numbers, paths, run};
 use std::alloc::Global;
 use tup_graph::GraphFault;
 use tup_kept::Graph;
+use tup_note::note_scan;
 use tup_rows::{Answers, RowFault, Words};
 use tup_site::{MemSite, Site};
 
@@ -123,6 +125,7 @@ fn made(alloc: Global, call: &str, said: &Words, site: &mut MemSite) -> Made {
         "doom" => doom(alloc, said, site),
         "forget" => forget(alloc, said, site),
         "flag" => flag(alloc, said, site),
+        "scan" => scan(alloc, said, site),
         _ => nothing(alloc, said, site),
     }
 }
@@ -174,6 +177,14 @@ fn flag<S: Site>(alloc: Global, said: &Words, site: &mut S) -> Made {
         return Ok((graph, Ok(())));
     }
     let ended = graph.flag(alloc, site, &rules);
+    Ok((graph, ended))
+}
+
+/// Opens a store, and takes note of a scan.
+fn scan<S: Site>(alloc: Global, said: &Words, site: &mut S) -> Made {
+    let mut graph = Graph::open(alloc, site)?;
+    let seen = seen(alloc, said, said.len() / 2);
+    let ended = note_scan(alloc, &mut graph, site, &seen);
     Ok((graph, ended))
 }
 

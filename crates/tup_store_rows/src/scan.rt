@@ -22,7 +22,7 @@ pub fn scanned(
 }
 
 /// So many files, as a scan sees them.
-fn seen(alloc: Global, said: &Words, count: usize) -> Seen {
+pub fn seen(alloc: Global, said: &Words, count: usize) -> Seen {
     let mut files = Items::new(alloc);
     for at in 0..count {
         said.list(&mut files, file(alloc, said, at.saturating_mul(2)));
