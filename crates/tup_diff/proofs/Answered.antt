@@ -1,6 +1,6 @@
 -- Answers to what a reading asked.
-use Rattle.std.specs.Prelude.{◌≡◌, ◌≢◌, ◌⊎◌, ◌↔◌, ◌+◌, ◌<◌, ℕ, Bool, true, false, List, [], ◌∷◌, ◌++◌, Option, None, Some, Contains, Decides, length}
-use Rattle.std.proofs.Common.{refl, sym, ap, subst, ◌∙◌, inl, inr, take, get_or, arith}
+use Rattle.std.specs.Prelude.{◌≡◌, ◌≢◌, ◌⊎◌, ◌↔◌, ◌+◌, ◌<◌, ◌≤◌, ℕ, Bool, true, false, List, [], ◌∷◌, ◌++◌, Option, None, Some, Contains, Decides, length}
+use Rattle.std.proofs.Common.{refl, sym, ap, subst, ◌∙◌, inl, inr, take, take_all, get_or, arith}
 use Rattle.std.specs.FinMap as finite
 use Rattle.std.specs.List.{list_any}
 use Rattle.std.proofs.lemmas.Bool.{true≢false}
@@ -42,6 +42,12 @@ module _ (path : Names) where
     | inl first ↦ before (one, first, out)
     | inr last ↦ true≢false (sym (any_among draft.outputs (subst (λ (o : Draft). Contains o.outputs path) (sym last) out)) ∙ hasn't)
   ]
+
+  pub drafted_tells : (drafts : List Draft) → IsDrafted drafts path → Decides true (IsDrafted drafts path)
+  drafted_tells drafts is = (λ _. is, λ _. refl)
+
+  pub all_passed : (drafts : List Draft) (i : ℕ) → length drafts ≤ i → (IsDrafted (take i drafts) path → ⊥) → Decides false (IsDrafted drafts path)
+  all_passed drafts i whole none = (λ e. absurd (true≢false (sym e)), λ h. absurd (none (subst (λ (l : List Draft). IsDrafted l path) (sym (take_all i drafts whole)) h)))
 
 -- ---- an output of a reading
 

@@ -31,6 +31,18 @@ use Rattle.tup_diff.proofs.Ordered.{none_in, in_front, behind_front, front_or_be
 
 -- ---- entries of a map, by their keys
 
+left_of : (a b : Bool) → (a && b) ≡ true → a ≡ true
+left_of true b e = refl
+left_of false b e = e
+
+right_of : (a b : Bool) → (a && b) ≡ true → b ≡ true
+right_of true b e = e
+right_of false b e = absurd (true≢false (sym e))
+
+t_true : (b : Bool) → T b → b ≡ true
+t_true true t = refl
+t_true false t = absurd t
+
 module _ {X : Type 0} where
   found_in : (es : List (Names × X)) (q : Names) (x : X) → find by_names q es ≡ Some x → Contains es (q, x)
   found_in [] q x e = absurd (let wrong : None ≡ Some x = e in cc)
@@ -41,14 +53,6 @@ module _ {X : Type 0} where
           let value : first.1 ≡ x = cc in
           subst (Contains (first ∷ es)) (λ i. (sym ((by_names-decides q first.0).0 same) i, value i)) (in_front first es)
       either false apart more e = behind_front first (q, x) es (more e)
-
-  left_of : (a b : Bool) → (a && b) ≡ true → a ≡ true
-  left_of true b e = refl
-  left_of false b e = e
-
-  right_of : (a b : Bool) → (a && b) ≡ true → b ≡ true
-  right_of true b e = e
-  right_of false b e = absurd (true≢false (sym e))
 
   above_head : (k : Names) (es : List (Names × X)) (e : Names × X) → below_all by_names k es ≡ true → Contains es e → is_lt (by_names k e.0) ≡ true
   above_head k [] e up h = absurd (none_in e h)
@@ -74,10 +78,6 @@ module _ {X : Type 0} where
       apart : (q k : Names) → is_lt (by_names k q) ≡ true → eq_by_cmp by_names q k ≡ false
       apart q k less = false_from_ne_true (eq_by_cmp by_names q k) (λ same.
           not_less (by_names k q) less ((by_names-decides k q).1 (sym ((by_names-decides q k).0 same))))
-
-  t_true : (b : Bool) → T b → b ≡ true
-  t_true true t = refl
-  t_true false t = absurd t
 
   -- an entry is what its map has at its key
   pub found_entry : (m : FinMap by_names X) (q : Names) (x : X) → Contains (finite.entries m) (q, x) → finite.get m q ≡ Some x
@@ -269,14 +269,14 @@ module _ {K : Type 0} (R : K → K → Ordering) (o : IsTotalOrder R) (decides :
 
   -- those aside that are there already
   passed : (p : K → Bool) (q : K) (ks : List K) → p q ≡ true → list_any (eq_by_cmp R q) (filter p ks) ≡ list_any (eq_by_cmp R q) ks
-  passed p q [] yes = refl
-  passed p q (k ∷ ks) yes = either (p k) refl (passed p q ks yes)
+  passed p q [] passes = refl
+  passed p q (k ∷ ks) passes = either (p k) refl (passed p q ks passes)
     where
       either : (b : Bool) → p k ≡ b → list_any (eq_by_cmp R q) (filter p ks) ≡ list_any (eq_by_cmp R q) ks → list_any (eq_by_cmp R q) (cond b (k ∷ filter p ks) (filter p ks)) ≡ (eq_by_cmp R q k || list_any (eq_by_cmp R q) ks)
-      either true passes more = ap (λ (b : Bool). eq_by_cmp R q k || b) more
+      either true same more = ap (λ (b : Bool). eq_by_cmp R q k || b) more
       either false fails more =
           more
-          ∙ ap (λ (b : Bool). b || list_any (eq_by_cmp R q) ks) (sym (false_from_ne_true (eq_by_cmp R q k) (λ e. true≢false (sym yes ∙ ap p ((decides q k).0 e) ∙ fails))))
+          ∙ ap (λ (b : Bool). b || list_any (eq_by_cmp R q) ks) (sym (false_from_ne_true (eq_by_cmp R q k) (λ e. true≢false (sym passes ∙ ap p ((decides q k).0 e) ∙ fails))))
 
   pub missing_put : (m : FinMap R (Unit {0})) (ks : List K) (q : K) → finite.contains_key (fold put_key m (filter (λ k. not (finite.contains_key m k)) ks)) q ≡ (finite.contains_key m q || list_any (eq_by_cmp R q) ks)
   missing_put m ks q = put_keys m (filter (λ k. not (finite.contains_key m k)) ks) q ∙ either (finite.contains_key m q) refl
@@ -304,10 +304,11 @@ module _ (g : GraphState) (m : Stamps) (dirs : List Names) (numbers : List ℕ) 
 
   pub scan_leaves : edited_by g (seen_edits g m ++ create_edits g dirs ++ modify_edits g numbers) ≡ record g { seen = m; created = created_after; flags = flags_after }
   scan_leaves =
-      fold-append edited g (seen_edits g m) (create_edits g dirs ++ modify_edits g numbers)
-      ∙ ap (λ (h : GraphState). edited_by h (create_edits g dirs ++ modify_edits g numbers)) (seen_leave g m)
-      ∙ fold-append edited (seeing g m) (create_edits g dirs) (modify_edits g numbers)
-      ∙ ap (λ (h : GraphState). edited_by h (modify_edits g numbers)) (creates_leave (seeing g m) (filter (λ dir. not (is_created g dir)) dirs))
+      fold-append edited g (seen_edits g m ++ create_edits g dirs) (modify_edits g numbers)
+      ∙ ap (λ (h : GraphState). edited_by h (modify_edits g numbers))
+      (fold-append edited g (seen_edits g m) (create_edits g dirs)
+      ∙ ap (λ (h : GraphState). edited_by h (create_edits g dirs)) (seen_leave g m)
+      ∙ creates_leave (seeing g m) (filter (λ dir. not (is_created g dir)) dirs))
       ∙ flags_leave (record (seeing g m) { created = created_after }) (filter (λ number. not (is_flagged g number)) numbers)
 
 -- ---- pushes, one after another

@@ -43,6 +43,17 @@ no_index index names tupfiles folders = record {
   folders = λ dir. (λ h. absurd (nothing_there index.folders dir folders h), λ (file, below, never). absurd never);
 }
 
+-- of the same files, said otherwise
+pub index_as : (P Q : Names → Type 0) → ((p : Names) → P p → Q p) → ((p : Names) → Q p → P p) → (index : Index) → IsIndexOf P index → IsIndexOf Q index
+index_as P Q to from index is = record {
+  names = λ dir name. (λ h. to (dir ++ name ∷ []) ((is.names dir name).0 h), λ q. (is.names dir name).1 (from (dir ++ name ∷ []) q));
+  tupfiles = λ dir. (λ h. to (tupfile dir) ((is.tupfiles dir).0 h), λ q. (is.tupfiles dir).1 (from (tupfile dir) q));
+  folders = λ dir. (
+    λ h. let (p, below, is_file) = (is.folders dir).0 h in (p, below, to p is_file),
+    λ (p, below, is_file). (is.folders dir).1 (p, below, from p is_file),
+  );
+}
+
 -- ---- one file more
 
 both_ways : {X : Type 0} {P Old New : X → Type 0} (Was Is : X → Type 0) → ((x : X) → Old x ↔ Was x) → Grows P Old New → ((x : X) → Was x → Is x) → ((x : X) → P x → Is x) → ((x : X) → Is x → Was x ⊎ P x) → (x : X) → New x ↔ Is x
@@ -75,6 +86,12 @@ module _ (IsFile IsFileNow : Names → Type 0) (path : Names) (kept : (p : Names
 
 abbrev path_of : Names × Stamp → Names
 path_of file = file.0
+
+pub no_sources : (g : GraphState) (index : Index) → IsIndexOf (λ path. ⊥) index → IsIndexOf (IsSourceAmong g []) index
+no_sources g index = index_as (λ path. ⊥) (IsSourceAmong g []) (λ p never. absurd never) (λ p (h, unowned). none p h) index
+  where
+    none : (p : Names) → Contains [] p → ⊥
+    none p h = let less = h.1 in omega arith
 
 module _ (g : GraphState) (files : List (Names × Stamp)) (i : ℕ) (file d : Names × Stamp) (less : i < length files) (here : file ≡ get_or files i d) where
   grown : map path_of (take (i + 1) files) ≡ map path_of (take i files) ++ file.0 ∷ []

@@ -10,3 +10,4 @@ pub mod Editing
 pub mod Noting
 pub mod Rooted
 pub mod Founding
+pub mod Scanned

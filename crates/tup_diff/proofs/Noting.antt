@@ -168,13 +168,14 @@ module _ (g : GraphState) where
       → AllByRecursion HasSpelling ((map seen_so news ++ map not_seen gone) ++ map to_read dirs ++ flag_edits numbers)
       → AllByRecursion (IsTaken g) ((map seen_so news ++ map not_seen gone) ++ map to_read dirs ++ flag_edits numbers)
   scan_taken news gone dirs numbers named spelled =
-      let seen = all_front HasSpelling (map seen_so news ++ map not_seen gone) (map to_read dirs ++ flag_edits numbers) spelled in
-      let others = all_rest HasSpelling (map seen_so news ++ map not_seen gone) (map to_read dirs ++ flag_edits numbers) spelled in
-      all_both (IsTaken g) (map seen_so news ++ map not_seen gone) (map to_read dirs ++ flag_edits numbers)
+      let front = all_front HasSpelling ((map seen_so news ++ map not_seen gone) ++ map to_read dirs) (flag_edits numbers) spelled in
+      let seen = all_front HasSpelling (map seen_so news ++ map not_seen gone) (map to_read dirs) front in
+      all_both (IsTaken g) ((map seen_so news ++ map not_seen gone) ++ map to_read dirs) (flag_edits numbers)
+      (all_both (IsTaken g) (map seen_so news ++ map not_seen gone) (map to_read dirs)
       (all_both (IsTaken g) (map seen_so news) (map not_seen gone)
       (seen_taken news (all_front HasSpelling (map seen_so news) (map not_seen gone) seen)) (gone_taken gone (all_rest HasSpelling (map seen_so news) (map not_seen gone) seen)))
-      (all_both (IsTaken g) (map to_read dirs) (flag_edits numbers)
-      (create_taken dirs (all_front HasSpelling (map to_read dirs) (flag_edits numbers) others)) (flag_taken numbers named (all_rest HasSpelling (map to_read dirs) (flag_edits numbers) others)))
+      (create_taken dirs (all_rest HasSpelling (map seen_so news ++ map not_seen gone) (map to_read dirs) front)))
+      (flag_taken numbers named (all_rest HasSpelling ((map seen_so news ++ map not_seen gone) ++ map to_read dirs) (flag_edits numbers) spelled))
 
 module _ (entries : Standing) (g : GraphState) (files : List (Names × Stamp)) (config : Option Content) (edits : List Edit) (is : IsGraphOf entries g) (are : AreScanEdits g files config edits) where
   abbrev found_now : GraphState

@@ -2,8 +2,10 @@
 use Rattle.std.specs.Prelude.{◌≡◌, ◌≢◌, ◌⊎◌, ◌↔◌, ◌+◌, ◌<◌, ◌≤◌, ℕ, Bool, true, false, List, [], ◌∷◌, ◌++◌, Option, None, Some, Contains, Decides, length, slice_get}
 use Rattle.std.proofs.Common.{refl, sym, ap, subst, ◌∙◌, inl, inr, take, take_all, get_or, arith}
 use Rattle.std.specs.FinMap as finite
+use Rattle.std.specs.List.{HoldsAt}
 use Rattle.std.proofs.lemmas.Bool.{cases_eq, true≢false}
 use Rattle.std.proofs.lemmas.List.{get_or_default}
+use Rattle.std.proofs.lemmas.Option.{slice_get_read}
 use Rattle.std.proofs.lemmas.List.Elements.{Contains-push, Contains-push_cases, Contains-append_left}
 use Rattle.tup_path.specs.Name.{Names}
 use Rattle.tup_path.specs.Order.{by_names}
@@ -44,6 +46,10 @@ module _ (g : GraphState) (n : ℕ) (rule : Rule) (run : RunRecord) (here : slic
             | inl asked ↦ absurd (none (subst (λ (t : Rule × RunRecord). AsksOther g t.0 t.1.asks) (λ i. (one i, two i)) asked))
             | inr wrote_other ↦ subst (λ (t : RunRecord). WroteOther g t.writes) two wrote_other
           ]
+
+-- the rule that stands at a place
+pub rule_at : (rules slice : List Rule) (n : ℕ) (rule : Rule) → slice ≡ rules → (n < length slice) × HoldsAt (λ (y : Rule). rule ≡ y) slice n → slice_get rules n ≡ Some rule
+rule_at rules slice n rule same at = ap (λ (l : List Rule). slice_get l n) (sym same) ∙ slice_get_read slice (length slice) n rule refl at.0 (at.1 rule)
 
 -- ---- one rule more
 

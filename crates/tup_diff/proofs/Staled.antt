@@ -1,12 +1,13 @@
 -- Folders that are to be read again, one after another.
-use Rattle.std.specs.Prelude.{◌≡◌, ◌⊎◌, ◌↔◌, ◌+◌, ◌<◌, ℕ, Bool, true, false, List, [], ◌∷◌, ◌++◌, Option, None, Some, All, Contains, length, map, IsSome, is_some}
-use Rattle.std.proofs.Common.{refl, sym, ap, subst, ◌∙◌, inl, inr, take, get_or, arith}
+use Rattle.std.specs.Prelude.{◌≡◌, ◌⊎◌, ◌↔◌, ◌+◌, ◌<◌, ◌≤◌, ℕ, Bool, true, false, not, Decides, List, [], ◌∷◌, ◌++◌, Option, None, Some, All, Contains, length, map, IsSome, is_some}
+use Rattle.std.proofs.Common.{refl, sym, ap, subst, ◌∙◌, inl, inr, take, take_all, get_or, arith}
 use Rattle.std.specs.BTreeSet.{BTreeSet, IsOrdered}
 use Rattle.std.specs.FinMap as finite
 use Rattle.std.specs.FinMap.{find}
 use Rattle.std.specs.Ordering.{eq_by_cmp}
 use Rattle.std.proofs.lemmas.Bool.{true≢false}
-use Rattle.std.proofs.lemmas.List.Elements.{Contains-push, Contains-push_cases, Contains-append_left}
+use Rattle.std.proofs.lemmas.List.{get_or_default}
+use Rattle.std.proofs.lemmas.List.Elements.{All-nil, All-cons, All-append, Contains-push, Contains-push_cases, Contains-append_left}
 use Rattle.tup_path.specs.Name.{Names, Content}
 use Rattle.tup_path.specs.Order.{by_names, by_names-total}
 use Rattle.tup_path.proofs.Same.{by_names-decides}
@@ -33,6 +34,34 @@ use Rattle.tup_diff.proofs.Sets.{set_on, set_as}
 pub all_told : (config : Option Content) (present : Present) (reader : Names) (asked : List (Question × Noted)) → AreToldSo config present reader asked → IsToldOtherwise config present reader asked → ⊥
 all_told config present reader asked all (question, told, (k, less, here), other) =
     other (subst (λ (one : Question × Noted). IsToldSo config present reader one.0 one.1) here (all k (question, told) less))
+
+-- one answer more that still is so
+pub told_more : (config : Option Content) (present : Present) (reader : Names) (asked : List (Question × Noted)) (i : ℕ) (one d : Question × Noted) → i < length asked → one ≡ get_or asked i d
+    → AreToldSo config present reader (take i asked) → IsToldSo config present reader one.0 one.1 → AreToldSo config present reader (take (i + 1) asked)
+told_more config present reader asked i one d less here before so =
+    subst (AreToldSo config present reader) (sym (taken asked i one d less here))
+    (All-append (λ (x : Question × Noted). IsToldSo config present reader x.0 x.1) (take i asked) (one ∷ []) before (All-cons (λ (x : Question × Noted). IsToldSo config present reader x.0 x.1) one [] so (All-nil (λ (x : Question × Noted). IsToldSo config present reader x.0 x.1))))
+
+-- one that isn't
+pub told_otherwise : (config : Option Content) (present : Present) (reader : Names) (asked : List (Question × Noted)) (i : ℕ) (one d : Question × Noted) → i < length asked → one ≡ get_or asked i d
+    → (IsToldSo config present reader one.0 one.1 → ⊥) → Tells false (AreToldSo config present reader asked) (IsToldOtherwise config present reader asked)
+told_otherwise config present reader asked i one d less here other = (
+  λ e. absurd (true≢false (sym e)),
+  λ _. (one.0, one.1, (i, less, get_or_default asked i one d less ∙ sym here), other),
+)
+
+-- all are
+pub all_told_so : (config : Option Content) (present : Present) (reader : Names) (asked : List (Question × Noted)) (i : ℕ) → length asked ≤ i → AreToldSo config present reader (take i asked) → Tells true (AreToldSo config present reader asked) (IsToldOtherwise config present reader asked)
+all_told_so config present reader asked i whole so = (λ _. subst (AreToldSo config present reader) (take_all i asked whole) so, λ e. absurd (true≢false e))
+
+-- whether a reading is outdated, whose folder has a Tupfile
+pub outdated_decides : (config : Option Content) (present : Present) (dir : Names) (reading : Reading) (b : Bool) → HasTupfile present.index dir → Tells b (AreToldSo config present dir reading.asked) (IsToldOtherwise config present dir reading.asked)
+    → Decides (not b) (IsOutdated config present dir reading)
+outdated_decides config present dir reading true tup tells = (
+  λ e. absurd (true≢false (sym e)),
+  λ old. elim old [ inl gone ↦ absurd (gone tup) | inr told ↦ absurd (all_told config present dir reading.asked (tells.0 refl) told) ],
+)
+outdated_decides config present dir reading false tup tells = (λ _. inr (tells.1 refl), λ _. refl)
 
 -- ---- one folder more
 

@@ -30,7 +30,8 @@ impl Present<'_> {
         ensures memory { IfErr result (λ fault. fault ≡ GraphFault.Memory) }
     {
         for (question, noted) in asked {
-            if !self.stands(alloc, reader, question, noted)? {
+            let stands = self.stands(alloc, reader, question, noted)?;
+            if !stands {
                 return Ok(false);
             }
         }
@@ -132,7 +133,8 @@ impl Present<'_> {
             (AreNames self.now reader.now dir.now names.now)) }
         ensures memory { IfErr result (λ fault. fault ≡ GraphFault.Memory) }
     {
-        Ok(self.names(alloc, reader, dir)? == *names)
+        let found = self.names(alloc, reader, dir)?;
+        Ok(found == *names)
     }
 
     /// Whether this stands at a path.

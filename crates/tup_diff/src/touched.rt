@@ -31,7 +31,8 @@ impl Present<'_> {
         ensures ascending { IfOk result (λ numbers. IsStrictlySortedBy nat_cmp numbers) }
         ensures memory { IfErr result (λ fault. fault ≡ GraphFault.Memory) }
     {
-        above(alloc, self.nodes, self.roots(alloc)?.as_slice())
+        let roots = self.roots(alloc)?;
+        above(alloc, self.nodes, roots.as_slice())
     }
 
     /// The rules that are flagged or touched.

@@ -7,4 +7,4 @@ use Rattle.tup_diff.proofs.present.Present.are_names.Goals as goal
 pub returns-clause-names : goal.returns-clause-names
 returns-clause-names c =
     subst (λ (b : Bool). Decides b (AreNames c.args.self.now c.args.reader.now c.args.dir.now c.args.names.now)) (sym c.eq.ensures)
-    (names_decide c.args.self.now c.args.reader.now c.args.dir.now c.in_ok-names.field-0 c.args.names.now c.in_ok-names.ensures.names)
+    (names_decide c.args.self.now c.args.reader.now c.args.dir.now c.in_ok-found.found c.args.names.now c.in_ok-found.ensures.names)

@@ -9,13 +9,13 @@ use Rattle.tup_diff.proofs.present.Present.name_set.Goals as goal
 
 pub returns-then-eq-clause-names : goal.returns-then-eq-clause-names
 returns-then-eq-clause-names c =
-    own_names c.args.self.now c.requires.0 c.requires.1 c.args.reader.now c.args.dir.now c.new.result c.add_names.new.names c.new.ensures.empty
-    (subst (λ (l : List (List ℕ)). GrowsBy by_bytes (Contains l) c.new.result c.add_names.new.names) c.of.ensures c.in_ok-add_names.ensures.names)
+    own_names c.args.self.now c.requires.present.0 c.requires.present.1 c.args.reader.now c.args.dir.now c.new-names.result c.add_names.new.names c.new-names.ensures.empty
+    (subst (λ (l : List (List ℕ)). GrowsBy by_bytes (Contains l) c.new-names.result c.add_names.new.names) c.of.ensures c.in_ok-add_names.ensures.names)
     ((same_path-decides c.args.dir.now c.args.reader.now).0 (sym c.eq.ensures ∙ c.if-eq.true))
 
 pub returns-clause-names : goal.returns-clause-names
 returns-clause-names c =
-    other_names c.args.self.now c.requires.0 c.requires.1 c.args.reader.now c.args.dir.now c.new.result c.add_names.new.names c.add_outputs.new.names c.new.ensures.empty
-    (subst (λ (l : List (List ℕ)). GrowsBy by_bytes (Contains l) c.new.result c.add_names.new.names) c.of.ensures c.in_ok-add_names.ensures.names)
+    other_names c.args.self.now c.requires.present.0 c.requires.present.1 c.args.reader.now c.args.dir.now c.new-names.result c.add_names.new.names c.add_outputs.new.names c.new-names.ensures.empty
+    (subst (λ (l : List (List ℕ)). GrowsBy by_bytes (Contains l) c.new-names.result c.add_names.new.names) c.of.ensures c.in_ok-add_names.ensures.names)
     c.in_ok-add_outputs.ensures.names
     (λ e. true≢false (sym ((same_path-decides c.args.dir.now c.args.reader.now).1 e) ∙ sym c.eq.ensures ∙ c.if-eq.false))
