@@ -1,10 +1,10 @@
-use Rattle.std.proofs.Common.{◌≡◌, ◌<◌, ◌≤◌, ◌+◌, List, length, Some, Ok, refl, sym, ◌∙◌, ap, subst, inl}
+use Rattle.std.proofs.Common.{tests, ◌≡◌, ◌<◌, ◌≤◌, ◌+◌, List, length, Some, Ok, refl, sym, ◌∙◌, ap, subst, inl}
 use Rattle.std.proofs.lemmas.Option.{slice_get_within}
 use Rattle.tup_rule.specs.declared.rule.Rule.{Rule}
 use Rattle.tup_rule.specs.Rule.{name_of}
 use Rattle.tup_access.specs.declared.verdict.Verdict.{Verdict}
 use Rattle.tup_clean.specs.Clean.{good_at, is_good}
-use Rattle.tup_clean.specs.Queue.{IsWhole, Notes}
+use Rattle.tup_clean.specs.Queue.{IsWhole}
 use Rattle.tup_clean.specs.Taken.{Taken, verdicts_of, takes, up_to_bad}
 use Rattle.tup_clean.proofs.Agreeing.{make_apart, agrees_first}
 use Rattle.tup_clean.proofs.Taking.{IsQueued, is_left, taken_at, can_note, ready_is, none_ready, queued_start, queued_more}
@@ -14,7 +14,9 @@ use Rattle.tup_update.specs.Ran.{RunsThese, stopped_by, comes_to}
 use Rattle.tup_update.specs.Turns.{TurnsFit}
 use Rattle.tup_update.proofs.Begun.{ran_none, ran_all_of, stopped_err, comes_err}
 use Rattle.tup_update.proofs.Running.{room_for, beside_made, beside_all, named_bad, unnamed_good}
-use Rattle.tup_update.proofs.Turning.{rule_here, verdicts_of_more, none_at_end, taken_none, turned_halted, turned_all, begun_next, taken_next, turned_bad, building_none, ended_front, begun_front, building_next, noted_bad, first_bad, noted_all, built_all, noted_part}
+use Rattle.tup_site.specs.declared.fault.SiteFailed.TheVariants.{Memory}
+use Rattle.tup_update.specs.declared.stop.Halt.TheVariants.{Outside as Halted}
+use Rattle.tup_update.proofs.Turning.{rule_here, notes_of, verdicts_of_more, none_at_end, taken_none, turned_halted, turned_all, begun_next, taken_next, turned_bad, building_none, ended_front, begun_front, building_next, noted_bad, first_bad, noted_all, built_all, noted_part}
 use Rattle.tup_update.proofs.project.Project.run.Goals as goal
 
 -- ---- no memory for a queue
@@ -24,7 +26,7 @@ returns-in_err-queue-clause-in_turn g c = λ tells.
     let rules = c.args.self.now.rules in
     let has = taken_none rules c.args.ran.now c.args.ended.now c.requires.unused.0 c.requires.unused.1 in
     subst (TurnsFit rules c.args.ran.now c.args.ended.now) (comes_err c.from_residual.result _ c.from_residual.ensures.1)
-    (turned_halted rules 0 c.args.ran.now c.args.ended.now has _ c.args.ran.now (inl has.begun))
+    (turned_halted rules 0 c.args.ran.now c.args.ended.now has (Halted Memory) c.args.ran.now (inl has.begun))
 
 pub returns-in_err-queue-clause-part : goal.returns-in_err-queue-clause-part
 returns-in_err-queue-clause-part g c = λ tells means.
@@ -63,8 +65,17 @@ bounds-rules-at g c =
     let taken = taken_at rules verdicts at _ next in
     subst (λ (l : List Rule). at < length l) (sym c.as_slice-rules.ensures) (slice_get_within rules at taken.rule taken.here)
 
+pub offset_bounds-rules-at : goal.offset_bounds-rules-at
+offset_bounds-rules-at g c =
+    let all = c.args.self.now.rules in
+    let verdicts = verdicts_of all c.loop.ended in
+    let next = c.in-Some.ensures all (is_left verdicts) (good_at verdicts) c.loop.invariant.queued.waiting in
+    let taken = taken_at all verdicts c.in-Some.at _ next in
+    let within = subst (λ (l : List Rule). c.in-Some.at < length l) (sym c.as_slice-rules.ensures) (slice_get_within all c.in-Some.at taken.rule taken.here) in
+    search (tests, within)
+
 pub take-requires-clause-room : goal.take-requires-clause-room
-take-requires-clause-room g c = λ lives tells.
+take-requires-clause-room g c κs = λ lives fits tells.
     let rules = c.args.self.now.rules in
     let verdicts = verdicts_of rules c.loop.ended in
     let at = c.in-Some.at in
@@ -236,7 +247,7 @@ returns-in_err-note-clause-in_turn g c = λ tells.
     let is = ap (λ (v : Verdict). is_good (Some v)) good in
     let has = taken_next rules c.loop.counter c.loop.ran c.loop.ended c.loop.invariant.has at rule ready here ends.verdict c.take.new.ran c.take.new.ended c.in_ok-bad.ensures.begins ends.noted is in
     subst (TurnsFit rules c.take.new.ran c.take.new.ended) (comes_err c.from_residual-in_err-note.result _ c.from_residual-in_err-note.ensures.1)
-    (turned_halted rules (c.loop.counter + 1) c.take.new.ran c.take.new.ended has _ c.take.new.ran (inl has.begun))
+    (turned_halted rules (c.loop.counter + 1) c.take.new.ran c.take.new.ended has (Halted Memory) c.take.new.ran (inl has.begun))
 
 pub returns-in_err-note-clause-part : goal.returns-in_err-note-clause-part
 returns-in_err-note-clause-part g c = λ tells means.
@@ -276,7 +287,7 @@ loop-preserved g c =
     let is = ap (λ (v : Verdict). is_good (Some v)) good in
     record {
       queued = subst (λ v. IsQueued rules v c.note.new.self) (sym (verdicts_of_more rules c.loop.ended at ends.verdict c.take.new.ended ends.noted) )
-          (queued_more rules verdicts at _ next rule ends.verdict c.loop.queue c.note.new.self c.loop.invariant.queued here (subst (λ (v : Verdict). Notes at (is_good (Some v)) _ c.note.new.self) (sym good) c.in_ok-note.ensures));
+          (queued_more rules verdicts at _ next rule ends.verdict c.loop.queue c.note.new.self c.loop.invariant.queued here (notes_of at ends.verdict _ _ good c.in_ok-note.ensures));
       has = taken_next rules c.loop.counter c.loop.ran c.loop.ended c.loop.invariant.has at rule ready here ends.verdict c.take.new.ran c.take.new.ended c.in_ok-bad.ensures.begins ends.noted is;
       builds = λ tells means. building_next g.R.Runner.next rules (files_beside c.args.self.now.owned (g.S.Site.world c.args.site.now).tree) c.loop.counter c.loop.ended (g.S.Site.world c.loop.site).tree (c.loop.invariant.builds tells means) at rule within ready here (make_apart _ rules (c.requires.runnable tells).buildable) _ ends.verdict (ends.left tells means) c.take.new.ended ends.noted good;
       others = λ tells. beside_all rules at rule _ _ _ here (c.loop.invariant.others tells) (c.take.ensures.others tells);
@@ -292,14 +303,14 @@ pub returns-in_default-clause-in_turn : goal.returns-in_default-clause-in_turn
 returns-in_default-clause-in_turn g c = λ tells.
     let rules = c.args.self.now.rules in
     let verdicts = verdicts_of rules c.loop.ended in
-    let none = none_ready rules verdicts c.loop.queue _ c.loop.invariant.queued (c.in_default.ensures rules (is_left verdicts) (good_at verdicts) c.loop.invariant.queued.waiting) in
+    let none = none_ready rules verdicts c.loop.queue c.loop.queue c.loop.invariant.queued (c.in_default.ensures rules (is_left verdicts) (good_at verdicts) c.loop.invariant.queued.waiting) in
     turned_all rules c.loop.counter c.loop.ran c.loop.ended c.loop.invariant.has (c.requires.runnable tells).buildable.none_waits none
 
 pub returns-in_default-clause-run : goal.returns-in_default-clause-run
 returns-in_default-clause-run g c = λ tells means.
     let rules = c.args.self.now.rules in
     let verdicts = verdicts_of rules c.loop.ended in
-    let none = none_ready rules verdicts c.loop.queue _ c.loop.invariant.queued (c.in_default.ensures rules (is_left verdicts) (good_at verdicts) c.loop.invariant.queued.waiting) in
+    let none = none_ready rules verdicts c.loop.queue c.loop.queue c.loop.invariant.queued (c.in_default.ensures rules (is_left verdicts) (good_at verdicts) c.loop.invariant.queued.waiting) in
     let all = turned_all rules c.loop.counter c.loop.ran c.loop.ended c.loop.invariant.has (c.requires.runnable tells).buildable.none_waits none in
     built_all g.R.Runner.next rules (files_beside c.args.self.now.owned (g.S.Site.world c.args.site.now).tree) c.loop.counter c.loop.ended (g.S.Site.world c.loop.site).tree (c.loop.invariant.builds tells means) c.loop.invariant.has.good none all.2
 
@@ -307,7 +318,7 @@ pub returns-in_default-clause-noted : goal.returns-in_default-clause-noted
 returns-in_default-clause-noted g c = λ tells means.
     let rules = c.args.self.now.rules in
     let verdicts = verdicts_of rules c.loop.ended in
-    let none = none_ready rules verdicts c.loop.queue _ c.loop.invariant.queued (c.in_default.ensures rules (is_left verdicts) (good_at verdicts) c.loop.invariant.queued.waiting) in
+    let none = none_ready rules verdicts c.loop.queue c.loop.queue c.loop.invariant.queued (c.in_default.ensures rules (is_left verdicts) (good_at verdicts) c.loop.invariant.queued.waiting) in
     noted_all g.R.Runner.next rules (files_beside c.args.self.now.owned (g.S.Site.world c.args.site.now).tree) c.loop.counter c.loop.ended (g.S.Site.world c.loop.site).tree (c.loop.invariant.builds tells means) c.loop.invariant.has.good none c.loop.ran c.loop.invariant.has.begun
 
 pub returns-in_default-clause-part : goal.returns-in_default-clause-part
