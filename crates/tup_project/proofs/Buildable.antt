@@ -12,8 +12,9 @@ use Rattle.tup_path.specs.Order.{same_path, same_path-by_names, by_names}
 use Rattle.tup_path.proofs.Same.{same_path-decides}
 use Rattle.tup_path.specs.Tree.{Tree, IsTree, IsBelow}
 use Rattle.tup_rule.specs.declared.rule.Rule.{Rule}
+use Rattle.tup_rule.specs.Producer.{ProducerOver}
 use Rattle.tup_rule.specs.Rule.{among, declares, writes, maker, is_generated}
-use Rattle.tup_clean.specs.InOrder.{IsOutputAt, IsBuildable}
+use Rattle.tup_clean.specs.Buildable.{IsOutputAt, IsBuildable}
 use Rattle.tup_parse.specs.declared.occupant.Occupant.TheVariants.{Output, Source, Folder}
 use Rattle.tup_parse.specs.Plain.{IsReadBehind, AreReadInTurn}
 use Rattle.tup_parse.specs.Occupant.{is_below, occupant}
@@ -182,6 +183,15 @@ made_later sources rules are at other rule path e d m =
       | inr source ↦ absurd (both_ways (among path sources) free.1 source)
     ]
 
+-- so a declared producer stands before a rule
+earlier : (sources : List Names) (rules : List Rule) → AreReadInTurn sources rules → (between at other : ℕ) (rule : Rule)
+    → slice_get rules at ≡ Some rule → ProducerOver between rules rule other → other < at
+earlier sources rules are zero at other rule here (path, declared, made) = made_later sources rules are at other rule path here declared made
+earlier sources rules are (suc between) at other rule here (next, one, (path, declared, made), there, over) =
+    let last = earlier sources rules are between next other one there over in
+    let first = made_later sources rules are at next rule path here declared made in
+    omega (arith, last, first)
+
 -- what is read is buildable over each tree that has just these sources
 pub read-IsBuildable : (sources : List Names) (rules : List Rule) → AreReadInTurn sources rules
     → (tree : Tree) → finite.keys tree ≡ sources → IsTree tree → IsBuildable tree rules
@@ -209,5 +219,5 @@ read-IsBuildable sources rules are tree keys good =
       not_below_output = λ at other path file a b below.
           let k = out other file b in
           let x : k.name ∷ [] ≡ [] = sym k.is ∙ top at path file a below in cc;
-      in_order = λ at other rule path there d m. made_later sources rules are at other rule path there d m;
+      none_waits = λ at rule there producer. let l = earlier sources rules are producer.0 at at rule there producer.1 in omega (arith, l);
     }

@@ -5,7 +5,7 @@ use Rattle.tup_path.specs.Name.{Names, Content}
 use Rattle.tup_path.specs.Tree.{Tree, IsTree}
 use Rattle.tup_lex.specs.declared.kind.ParseKind.TheVariants.{DuplicateCommand}
 use Rattle.tup_rule.specs.declared.rule.Rule.{Rule}
-use Rattle.tup_clean.specs.InOrder.{IsBuildable}
+use Rattle.tup_clean.specs.Buildable.{IsBuildable}
 use Rattle.tup_parse.specs.declared.fault.ReadEnd.{ReadEnd}
 use Rattle.tup_parse.specs.declared.fault.ReadEnd.TheVariants.{Memory}
 use Rattle.tup_parse.specs.declared.placed.Placed.{Placed}

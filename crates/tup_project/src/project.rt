@@ -3,7 +3,7 @@ ghost use Rattle.std.specs.Prelude.{◌≡◌, ◌^◌, ◌<◌, [], IfOk, IfSom
 ghost use Rattle.std.specs.FinMap as finite;
 ghost use Rattle.tup_path.specs.Gives.{GivesUnless};
 ghost use Rattle.tup_path.specs.Tree.{Tree, IsTree};
-ghost use Rattle.tup_clean.specs.InOrder.{IsBuildable};
+ghost use Rattle.tup_clean.specs.Buildable.{IsBuildable};
 ghost use Rattle.tup_parse.specs.Reading.{fault_at, top_tupfile, rules_in as rules_of_placed};
 ghost use Rattle.tup_project.specs.Project as specs;
 

@@ -1,6 +1,6 @@
 -- What is printed of an update (the wording is own): a line for each thing done, and a last one for how it ended.
-use Rattle.std.specs.Prelude.{ℕ, if◌then◌else◌, List, [], ◌∷◌, ◌++◌, Some, codes, decimal}
-use Rattle.std.specs.List.{flat_map, zip}
+use Rattle.std.specs.Prelude.{ℕ, if◌then◌else◌, List, [], ◌∷◌, ◌++◌, None, Some, slice_get, codes, decimal}
+use Rattle.std.specs.List.{flat_map}
 use Rattle.tup_path.specs.Name.{Names}
 use Rattle.tup_path.specs.Show.{show}
 use Rattle.tup_rule.specs.declared.rule.Rule.{Rule}
@@ -9,6 +9,7 @@ use Rattle.tup_rule.specs.Rule.{label_of}
 use Rattle.tup_access.specs.declared.verdict.Verdict.{Verdict}
 use Rattle.tup_lex.specs.ParseKind.{kind_text}
 use Rattle.tup_clean.specs.Clean.{is_good}
+use Rattle.tup_clean.specs.Taken.{Taken}
 use Rattle.tup_parse.specs.declared.fault.ParseFault.{ParseFault}
 use Rattle.tup_update.specs.declared.update.Log.{Log}
 use Rattle.tup_top.specs.declared.status.Status.{Status}
@@ -25,9 +26,13 @@ abbrev pub removed_line : Names → List ℕ
 removed_line path = codes "remove " ++ (show path ++ 10 ∷ [])
 
 -- what became of a rule, `DIR: LABEL` behind it
-abbrev pub verdict_line : Rule × Verdict → List ℕ
-verdict_line p =
-    (if is_good (Some p.1) then codes "run " else codes "bad ") ++ (show p.0.dir ++ (codes ": " ++ (label_of p.0 ++ 10 ∷ [])))
+abbrev pub verdict_line : Rule → Verdict → List ℕ
+verdict_line rule verdict =
+    (if is_good (Some verdict) then codes "run " else codes "bad ") ++ (show rule.dir ++ (codes ": " ++ (label_of rule ++ 10 ∷ [])))
+
+-- so of one that was taken
+abbrev pub ended_line : List Rule → Taken → List ℕ
+ended_line rules one = elim (slice_get rules one.0) [ Some rule ↦ verdict_line rule one.1 | None ↦ [] ]
 
 -- what has a limit
 abbrev pub what_text : What → List ℕ
@@ -67,4 +72,4 @@ last_line status = status_text status ++ 10 ∷ []
 -- all lines of an update with these rules and this log
 abbrev pub lines : List Rule → Log → Status → List ℕ
 lines rules log status =
-    flat_map read_line log.read ++ (flat_map removed_line log.removed ++ (flat_map verdict_line (zip rules log.verdicts) ++ last_line status))
+    flat_map read_line log.read ++ (flat_map removed_line log.removed ++ (flat_map (ended_line rules) log.ended ++ last_line status))

@@ -5,11 +5,13 @@ use Rattle.std.specs.FinMap as finite
 use Rattle.tup_path.specs.Count.{Rose}
 use Rattle.tup_path.specs.Name.{Names, Content}
 use Rattle.tup_site.specs.World.{World}
+use Rattle.tup_rule.specs.declared.rule.Rule.{Rule}
 use Rattle.tup_runner.specs.Next.{Next}
 use Rattle.tup_clean.specs.Clean.{succeeds}
+use Rattle.tup_parse.specs.declared.fault.ParseFault.{ParseFault}
 use Rattle.tup_owned.specs.Owned.{owned_of}
 use Rattle.tup_update.specs.Log.{whole_log}
-use Rattle.tup_update.specs.Sources.{rules_read, rules, build}
+use Rattle.tup_update.specs.Sources.{AsksFor, Refuses, build}
 use Rattle.tup_update.specs.declared.stop.Stop.{Stop}
 use Rattle.tup_top.specs.Status.{status_of, came_to}
 use Rattle.tup_top.specs.Order.{Wanted, IsUpdate}
@@ -30,15 +32,9 @@ abbrev pub NothingDone : Wanted → World → World → Type 0
 NothingDone wanted old new = (IsUpdate wanted → ⊥) → new ≡ old
 
 -- what is counted as done is all that there was to do
-abbrev pub CountsAll : Next → World → Status → Type 0
-CountsAll next old (Done read ran removed) = Done read ran removed ≡ status_of (whole_log next old) None
-CountsAll next old other = ⊤
-
--- an update says so
-abbrev pub TellsWhatWasDone : Wanted → Next → World → Status → Type 0
-TellsWhatWasDone (Ok (Upd program)) next old status = CountsAll next old status
-TellsWhatWasDone (Ok Demo) next old status = ⊤
-TellsWhatWasDone (Err place) next old status = ⊤
+abbrev pub CountsAll : Next → List Rule → World → Status → Type 0
+CountsAll next rules old (Done read ran removed) = Done read ran removed ≡ status_of (whole_log next rules old) None
+CountsAll next rules old other = ⊤
 
 -- the failures that a site, the runners of a crew and a sink have counted
 pub record Counts : Type 0 where
@@ -100,8 +96,8 @@ pub record NothingFailed (before now : Counts) : Type 0 where
 pub record IsClear (next : Next) (old new : World) : Type 0 where
   pub store : List Names
   pub store_reads : owned_of old.store ≡ Ok store
-  pub sources_read : rules_read old ≡ Ok (rules old)
-  pub clean : IsTrue (succeeds (build next old))
+  pub sources_read : (fault : ParseFault) → Refuses old fault → ⊥
+  pub clean : (rules : List Rule) → AsksFor old rules → IsTrue (succeeds (build next rules old))
   pub small : (path : Names) (content : Content) → finite.get new.tree path ≡ Some content → length content ≤ 16777216
 
 -- an answer that is free, or says that all was done

@@ -50,7 +50,7 @@ status_of_outside NoMemory = Memory
 
 -- the status of an update with this log that stopped for this reason, or came to its end
 abbrev pub status_of : Log → Option Stop → Status
-status_of log None = Done (capped (length log.read)) (capped (length log.verdicts)) (capped (length log.removed))
+status_of log None = Done (capped (length log.read)) (capped (length log.ended)) (capped (length log.removed))
 status_of log (Some (StoreDamaged offset)) = BadStore offset
 status_of log (Some (ParseFailed fault)) = Parse fault
 status_of log (Some (Bad rule verdict)) = status_of_bad rule verdict

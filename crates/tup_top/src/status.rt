@@ -82,7 +82,7 @@ pub(crate) fn status_of(log: &Log, stopped: Option<Stop>) -> Status
     match stopped {
         None => Status::Done {
             read: capped(log.read.len()),
-            ran: capped(log.verdicts.len()),
+            ran: capped(log.ended.len()),
             removed: capped(log.removed.len()),
         },
         Some(Stop::BadStore(offset)) => Status::BadStore { offset },

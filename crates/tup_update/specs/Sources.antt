@@ -1,5 +1,5 @@
 -- What a site's world holds as an update sees it: which files are owned, which are sources, and what these ask for.
-use Rattle.std.specs.Prelude.{Bool, not, if◌then◌else◌, is_some, List, [], ◌∷◌, filter, Option, Ok, Err, Result}
+use Rattle.std.specs.Prelude.{◌≡◌, Bool, not, if◌then◌else◌, is_some, List, [], ◌∷◌, filter, Option, Ok, Err, Result}
 use Rattle.std.specs.List.{flat_map}
 use Rattle.std.specs.FinMap as finite
 use Rattle.tup_path.specs.Name.{Names, Content}
@@ -9,7 +9,10 @@ use Rattle.tup_rule.specs.declared.rule.Rule.{Rule}
 use Rattle.tup_rule.specs.Rule.{among}
 use Rattle.tup_runner.specs.Next.{Next}
 use Rattle.tup_clean.specs.Clean.{Build, clean}
+use Rattle.tup_clean.specs.Taken.{Taken, takes, up_to_bad}
+use Rattle.tup_parse.specs.declared.fault.ParseFault.{ParseFault}
 use Rattle.tup_parse.specs.declared.fault.ReadEnd.{ReadEnd}
+use Rattle.tup_parse.specs.declared.fault.ReadEnd.TheVariants.{Fault}
 use Rattle.tup_parse.specs.Reading.{top_tupfile}
 use Rattle.tup_project.specs.Project.{rules_of}
 use Rattle.tup_owned.specs.Owned.{owned_of}
@@ -26,24 +29,25 @@ files_beside paths tree = finite.retain_keys tree (λ path. not (among path path
 abbrev pub sources : World → Tree
 sources w = files_beside (owned w) w.tree
 
--- the rules of the files of a tree that aren't owned, or the first fault in them
-abbrev pub rules_beside : List Names → Tree → Result (List Rule) ReadEnd
-rules_beside paths tree = rules_of (finite.keys (files_beside paths tree)) (finite.get (files_beside paths tree) top_tupfile)
-
--- the rules of the present sources
+-- the rules of the present sources, or the first fault in them
 abbrev pub rules_read : World → Result (List Rule) ReadEnd
-rules_read w = rules_beside (owned w) w.tree
+rules_read w = rules_of (finite.keys (sources w)) (finite.get (sources w) top_tupfile)
 
-abbrev pub rules : World → List Rule
-rules w = elim (rules_read w) [ Ok found ↦ found | Err end ↦ [] ]
+-- the present sources ask for these rules
+abbrev pub AsksFor : World → List Rule → Type 0
+AsksFor w rules = rules_read w ≡ Ok rules
 
--- the clean build of the files of a tree that aren't owned, by what a runner means
-abbrev pub build_beside : Next → List Names → List Rule → Tree → Build
-build_beside next owned rules tree = clean next rules (files_beside owned tree)
+-- the present sources ask for no rules, for this fault
+abbrev pub Refuses : World → ParseFault → Type 0
+Refuses w fault = rules_read w ≡ Err (Fault fault)
 
--- the clean build of the present sources
-abbrev pub build : Next → World → Build
-build next w = build_beside next (owned w) (rules w) w.tree
+-- the clean build of rules over the present sources, by what a runner means
+abbrev pub build : Next → List Rule → World → Build
+build next rules w = clean next rules (sources w)
+
+-- the rules that are run in turn, with their verdicts: those of the clean build, up to the first that isn't Good
+abbrev pub ends : Next → List Rule → World → List Taken
+ends next rules w = up_to_bad (takes next rules (sources w))
 
 -- all outputs of some rules, in the order of the rules
 abbrev pub outputs : List Rule → List Names
@@ -69,5 +73,5 @@ left_over paths rules = filter (λ path. not (among path (outputs rules))) paths
 abbrev pub gone : List Names → List Names → List Rule → List Names
 gone owned files rules = left_over (filter (λ path. among path owned) files) rules
 
-abbrev pub vanished : World → List Names
-vanished w = gone (owned w) (finite.keys w.tree) (rules w)
+abbrev pub vanished : List Rule → World → List Names
+vanished rules w = gone (owned w) (finite.keys w.tree) rules

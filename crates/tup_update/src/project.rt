@@ -7,6 +7,7 @@ ghost use Rattle.tup_path.specs.Order.{by_names};
 ghost use Rattle.tup_path.specs.Tree.{Tree};
 ghost use Rattle.tup_site.specs.Cause.{CountsFaults, NeverTooLarge, OnlyLarge};
 ghost use Rattle.tup_rule.specs.Rule.{among};
+ghost use Rattle.tup_rule.specs.declared.rule.Rule.{Rule as RuleValue};
 ghost use Rattle.tup_runner.specs.Next.{Next};
 ghost use Rattle.tup_parse.specs.Reading.{top_tupfile};
 ghost use Rattle.tup_update.specs.Outcome.{HasCause};
@@ -43,8 +44,8 @@ impl Project {
     pub(crate) fn read<S: Site>(alloc: Global, site: &mut S) -> Result<Project, Unread>
         ensures project { IsTrue S.tells
             → IfOk result (λ project. IsProject project (S.world site.old)) }
-        ensures cause { IsTrue S.tells → IfErr result (λ unread. (next : Next)
-            → HasCause next (S.world site.old) (S.world site.new) (Some (stop_of unread))) }
+        ensures cause { IsTrue S.tells → IfErr result (λ unread. (next : Next) (rules : List RuleValue)
+            → HasCause next rules (S.world site.old) (S.world site.new) (Some (stop_of unread))) }
         ensures same { IsTrue S.tells → S.world site.new ≡ S.world site.old }
         ensures counted { HandsOn Outside (S.faults site.old) (S.faults site.new) result }
     {

@@ -9,7 +9,7 @@ use Rattle.std.proofs.lemmas.Map.Steps.{length-le_from_distinct_below}
 use Rattle.tup_rule.specs.declared.rule.Rule.{Rule}
 use Rattle.tup_rule.specs.Producer.{ProducerOver, DeclaredProducer}
 use Rattle.tup_rule.proofs.Laws.{maker-Some, producer-trans}
-use Rattle.tup_core.specs.Sound.{IsAcyclic}
+use Rattle.tup_clean.specs.Buildable.{NoneWaitsForItself}
 
 -- a declared producer stands in the list
 placed_over : (rules : List Rule) (rule : Rule) (at between : ℕ) → ProducerOver between rules rule at → (producer : Rule) × (slice_get rules at ≡ Some producer)
@@ -35,7 +35,7 @@ pub record IsChain (rules : List Rule) (last : ℕ) (chain : List ℕ) : Type 0 
   pub within : (at : ℕ) → list_any (nat_eq at) (last ∷ chain) ≡ true → at < length rules
   pub behind : (at : ℕ) → list_any (nat_eq at) chain ≡ true → (rule : Rule) × (slice_get rules at ≡ Some rule) × DeclaredProducer rules rule last
 
-longer : (rules : List Rule) (last next : ℕ) (chain : List ℕ) (rule : Rule) → IsAcyclic rules → IsChain rules last chain → slice_get rules last ≡ Some rule → DeclaredProducer rules rule next → next < length rules →
+longer : (rules : List Rule) (last next : ℕ) (chain : List ℕ) (rule : Rule) → NoneWaitsForItself rules → IsChain rules last chain → slice_get rules last ≡ Some rule → DeclaredProducer rules rule next → next < length rules →
     IsChain rules next (last ∷ chain)
 unfolding IsDistinct
 longer rules last next chain rule acyclic is here produces within = record {
@@ -67,7 +67,7 @@ abbrev pub Passes : List Rule → (ℕ → Type 0) → Type 0
 Passes rules P =
     (at : ℕ) (rule : Rule) → slice_get rules at ≡ Some rule → ((other : ℕ) → DeclaredProducer rules rule other → P other) → P at
 
-descend : (rules : List Rule) → IsAcyclic rules → (P : ℕ → Type 0) → Passes rules P → (fuel last : ℕ) (chain : List ℕ) (rule : Rule) →
+descend : (rules : List Rule) → NoneWaitsForItself rules → (P : ℕ → Type 0) → Passes rules P → (fuel last : ℕ) (chain : List ℕ) (rule : Rule) →
     length rules ≤ fuel + length chain → IsChain rules last chain → slice_get rules last ≡ Some rule → P last
 descend rules acyclic P passes zero last chain rule enough is here =
     absurd (no_room (length rules) (length chain) enough (length-le_from_distinct_below (last ∷ chain) (length rules) is.distinct is.within))
@@ -83,7 +83,7 @@ descend rules acyclic P passes (suc fuel) last chain rule enough is here =
     room : (n f m : ℕ) → n ≤ suc f + m → n ≤ f + suc m
     room n f m enough = omega arith
 
-pub by_producers : (rules : List Rule) → IsAcyclic rules → (P : ℕ → Type 0) → Passes rules P → (at : ℕ) (rule : Rule) → slice_get rules at ≡ Some rule → P at
+pub by_producers : (rules : List Rule) → NoneWaitsForItself rules → (P : ℕ → Type 0) → Passes rules P → (at : ℕ) (rule : Rule) → slice_get rules at ≡ Some rule → P at
 unfolding IsDistinct
 by_producers rules acyclic P passes at rule here =
     descend rules acyclic P passes (length rules) at [] rule (omega arith)
