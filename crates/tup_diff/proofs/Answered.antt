@@ -1,14 +1,14 @@
 -- Answers to what a reading asked.
-use Rattle.std.specs.Prelude.{◌≡◌, ◌≢◌, ◌⊎◌, ◌↔◌, ◌+◌, ◌<◌, ◌≤◌, ℕ, Bool, true, false, List, [], ◌∷◌, ◌++◌, Option, None, Some, Contains, Decides, length}
-use Rattle.std.proofs.Common.{refl, sym, ap, subst, ◌∙◌, inl, inr, take, take_all, get_or, arith}
+use Rattle.std.specs.Prelude.{◌≡◌, ◌≢◌, ◌+◌, ◌<◌, ◌≤◌, ℕ, Bool, true, false, List, [], ◌∷◌, ◌++◌, None, Some, Contains, Decides, length}
+use Rattle.std.proofs.Common.{refl, sym, subst, ◌∙◌, inl, inr, take, take_all, get_or}
 use Rattle.std.specs.FinMap as finite
 use Rattle.std.specs.List.{list_any}
 use Rattle.std.proofs.lemmas.Bool.{true≢false}
 use Rattle.std.proofs.lemmas.List.{get_or_default}
 use Rattle.std.proofs.lemmas.List.Folds.{Any-from_list_any, list_any-from_Any}
-use Rattle.std.proofs.lemmas.List.Elements.{All-contains, Contains-push, Contains-push_cases, Contains-append_left}
+use Rattle.std.proofs.lemmas.List.Elements.{Contains-push_cases}
 use Rattle.tup_path.specs.Name.{Names}
-use Rattle.tup_path.specs.Order.{by_names, same_path}
+use Rattle.tup_path.specs.Order.{same_path}
 use Rattle.tup_path.proofs.Same.{same_path-decides}
 use Rattle.tup_rule.specs.declared.draft.Draft.{Draft}
 use Rattle.tup_rule.specs.declared.question.Kind.{Kind}

@@ -1,5 +1,5 @@
 -- What a scan found, of its parts.
-use Rattle.std.specs.Prelude.{◌≡◌, List, [], ◌⊎◌, Ok, Result, Err, codes, Option, Some}
+use Rattle.std.specs.Prelude.{◌≡◌, List, [], ◌⊎◌, Ok, Result, Err, codes, Option}
 use Rattle.std.proofs.Common.{sym, subst, inl, inr}
 use Rattle.std.specs.FinMap as finite
 use Rattle.tup_path.specs.Name.{Names, Content}
@@ -9,13 +9,11 @@ use Rattle.tup_path.specs.declared.fault.PathFault.{PathFault}
 use Rattle.tup_path.specs.declared.fault.PathFault.TheVariants.{Memory}
 use Rattle.tup_stamp.specs.declared.Stamp.{Stamp}
 use Rattle.tup_graph.specs.Answers.{IsSource, tup_config}
-use Rattle.tup_graph.specs.Graph.{GraphState, source}
+use Rattle.tup_graph.specs.Graph.{source}
 use Rattle.tup_diff.specs.Index.{IsIndexOf, IsSourceAmong}
 use Rattle.tup_diff.specs.Present.{seeing, graph_of, IsPresent}
 use Rattle.tup_diff.specs.Settings.{AreSettings}
-use Rattle.tup_diff.specs.declared.index.Index.{Index}
 use Rattle.tup_diff.specs.declared.present.Present.{Present}
-use Rattle.tup_diff.specs.declared.settings.Settings.{Settings}
 use Rattle.tup_diff.proofs.Indexed.{index_of_sources}
 
 -- the path that its text names

@@ -1,5 +1,5 @@
 -- Indexes of files, one file after another.
-use Rattle.std.specs.Prelude.{◌≡◌, ◌⊎◌, ◌↔◌, ◌+◌, ◌<◌, Bool, true, false, List, ℕ, [], ◌∷◌, ◌++◌, Contains, map, codes, length, cond, Option, None, Some, is_some}
+use Rattle.std.specs.Prelude.{◌≡◌, ◌⊎◌, ◌↔◌, ◌+◌, ◌<◌, Bool, true, false, List, ℕ, [], ◌∷◌, ◌++◌, Contains, map, codes, length, cond, None, is_some}
 use Rattle.std.proofs.Common.{refl, sym, ap, subst, ◌∙◌, inl, inr, take, get_or, arith}
 use Rattle.std.specs.BTreeSet.{BTreeSet, contains}
 use Rattle.std.specs.Ordering.{eq_by_cmp}

@@ -1,34 +1,28 @@
 -- Names of the files in a folder, one after another.
-use Rattle.std.specs.Prelude.{◌≡◌, ◌≢◌, ◌⊎◌, ◌↔◌, ◌+◌, ◌<◌, ℕ, Bool, true, false, not, List, [], ◌∷◌, ◌++◌, Option, None, Some, Contains, length}
-use Rattle.std.proofs.Common.{refl, sym, ap, subst, ◌∙◌, inl, inr, take, get_or, arith}
-use Rattle.std.specs.BTreeSet.{BTreeSet, contains, IsOrdered, Updates}
-use Rattle.std.specs.FinMap as finite
-use Rattle.std.specs.List.{list_any}
-use Rattle.std.specs.FinMap.{slice_cmp-IsAntisymmetric, nat_cmp-IsAntisymmetric}
+use Rattle.std.specs.Prelude.{◌≡◌, ◌≢◌, ◌⊎◌, ◌↔◌, ◌+◌, ◌<◌, ℕ, Bool, true, false, not, List, [], ◌∷◌, ◌++◌, Option, Contains, length}
+use Rattle.std.proofs.Common.{refl, sym, subst, ◌∙◌, inl, inr, take, get_or, arith}
+use Rattle.std.specs.BTreeSet.{BTreeSet, IsOrdered}
 use Rattle.std.specs.List.Sorted.{IsStrictlySortedBy}
 use Rattle.std.specs.Ordering.{eq_by_cmp}
 use Rattle.std.specs.Prelude.{Decides}
 use Rattle.std.proofs.lemmas.Bool.{true≢false}
 use Rattle.std.proofs.lemmas.List.Elements.{Contains-push, Contains-push_cases, Contains-append_left}
 use Rattle.tup_path.specs.Name.{Names, Content}
-use Rattle.tup_path.specs.Order.{by_bytes, by_names, same_path}
+use Rattle.tup_path.specs.Order.{by_bytes, same_path}
 use Rattle.tup_path.proofs.Same.{same_path-decides}
 use Rattle.tup_rule.specs.declared.draft.Draft.{Draft}
-use Rattle.tup_rule.specs.declared.question.Reading.{Reading}
-use Rattle.tup_graph.specs.Answers.{tupfile, IsDrafted, IsFileFor, IsOutputOf, IsSource}
+use Rattle.tup_graph.specs.Answers.{IsFileFor, IsOutputOf}
 use Rattle.tup_graph.specs.Graph.{GraphState, source}
 use Rattle.tup_graph.proofs.Maps.{by_bytes-antisymmetric, equal_of}
 use Rattle.std.specs.Cmp.{eq_by_cmp_equiv}
 use Rattle.std.specs.Cmp.Lexicographic.{nat_list_cmp_total}
-use Rattle.tup_above.specs.Grows.{Grows}
-use Rattle.tup_above.specs.Lists.{IsListed, list_of}
+use Rattle.tup_above.specs.Lists.{list_of}
 use Rattle.tup_above.proofs.Asked.{taken}
 use Rattle.tup_above.proofs.Members.{contained, in_empty, in_set}
 use Rattle.tup_diff.specs.Told.{AreNames}
 use Rattle.tup_diff.proofs.Ordered.{same_members}
 use Rattle.tup_diff.proofs.Paths.{below_its_folder, none_below_top, one_folder, one_name}
 use Rattle.tup_diff.proofs.Sets.{set_on, set_as}
-use Rattle.tup_diff.specs.Index.{HasTupfile}
 use Rattle.tup_diff.specs.Names.{IsIn, IsDraftedIn, IsMadeIn}
 use Rattle.tup_diff.specs.Sets.{Has, GrowsBy}
 use Rattle.tup_diff.specs.Present.{IsPresent, graph_of}

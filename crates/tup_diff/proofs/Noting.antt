@@ -1,11 +1,11 @@
 -- The graph that a scan leaves.
-use Rattle.std.specs.Prelude.{◌≡◌, ◌⊎◌, ◌↔◌, ◌||◌, ℕ, zero, suc, ◌<◌, Bool, true, false, List, [], ◌∷◌, ◌++◌, Option, None, Some, All, Contains, length, map, filter, not, slice_get}
-use Rattle.std.proofs.Common.{refl, sym, ap, subst, ◌∙◌, inl, inr, arith}
+use Rattle.std.specs.Prelude.{◌≡◌, ◌⊎◌, ◌||◌, ℕ, zero, suc, Bool, true, false, List, [], ◌∷◌, ◌++◌, Option, Some, All, Contains, length, map, filter, not, slice_get}
+use Rattle.std.proofs.Common.{refl, sym, ap, subst, ◌∙◌, inl, inr}
 use Rattle.std.specs.FinMap as finite
 use Rattle.std.specs.Ordering.{eq_by_cmp, nat_cmp}
 use Rattle.std.specs.Cmp.{nat_cmp_total}
 use Rattle.std.specs.List.{AllByRecursion, list_any}
-use Rattle.std.proofs.lemmas.Bool.{true≢false, or_left, or_right, lt-ltb}
+use Rattle.std.proofs.lemmas.Bool.{or_left, or_right, lt-ltb}
 use Rattle.std.proofs.lemmas.List.Elements.{All-from_recursion, All-weaker, All-contains_itself, recursion_from_All}
 use Rattle.std.proofs.lemmas.Option.{slice_get_within}
 use Rattle.tup_path.specs.Name.{Names, Content}
@@ -16,8 +16,7 @@ use Rattle.tup_rule.specs.declared.rule.Rule.{Rule}
 use Rattle.tup_record.specs.declared.run.RunRecord.{RunRecord}
 use Rattle.tup_table.specs.Entries.{Standing, IsAscending}
 use Rattle.tup_graph.specs.declared.edit.Edit.{Edit}
-use Rattle.tup_graph.specs.declared.edit.Edit.TheVariants.{Put, Remove}
-use Rattle.tup_graph.specs.Above.{AboveOver, IsAbove, HasReadOf}
+use Rattle.tup_graph.specs.Above.{AboveOver, IsAbove}
 use Rattle.tup_graph.specs.Changes.{once_made}
 use Rattle.tup_graph.specs.Edits.{change_of, edited_by, HasSpelling, IsTaken}
 use Rattle.tup_graph.specs.Graph.{GraphState, is_created, is_flagged, is_rule}
@@ -29,7 +28,7 @@ use Rattle.tup_graph.proofs.Needed.{needed_read}
 use Rattle.tup_above.specs.Readers.{AreRunsOfRules}
 use Rattle.tup_above.proofs.Members.{in_list, listed, number-decides}
 use Rattle.tup_above.proofs.Stored.{stored}
-use Rattle.tup_diff.specs.Edits.{AreScanEdits, create_edits, gone_edits, modify_edits, is_gone, is_news, news_edits, not_seen, seen_edits, to_read}
+use Rattle.tup_diff.specs.Edits.{AreScanEdits, create_edits, modify_edits, is_gone, is_news, not_seen, seen_edits, to_read}
 use Rattle.tup_diff.specs.Present.{seeing}
 use Rattle.tup_diff.specs.Touched.{IsScanRoot}
 use Rattle.tup_diff.proofs.Editing.{scan_leaves, missing_put, created_after, flags_after, filter_in}

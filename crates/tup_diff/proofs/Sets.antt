@@ -1,12 +1,11 @@
 -- Ordered sets that grow one after another.
-use Rattle.std.specs.Prelude.{◌≡◌, ◌⊎◌, ◌+◌, ◌<◌, true, ℕ, List, ◌∷◌, [], ◌++◌, Decides, length}
-use Rattle.std.specs.BTreeSet.{BTreeSet, contains, IsOrdered, Updates}
+use Rattle.std.specs.Prelude.{◌≡◌, ◌⊎◌, true, Decides}
+use Rattle.std.specs.BTreeSet.{BTreeSet, IsOrdered, Updates}
 use Rattle.std.specs.Ordering.{eq_by_cmp}
 use Rattle.std.specs.declared.cmp.Ordering.{Ordering}
-use Rattle.tup_above.specs.Grows.{Grows}
 use Rattle.tup_above.proofs.Growing.{grows_on, grows_as, grows_nothing}
 use Rattle.tup_above.proofs.Members.{inserted}
-use Rattle.tup_diff.specs.Sets.{Has, GrowsBy}
+use Rattle.tup_diff.specs.Sets.{GrowsBy}
 
 module _ {K : Type 0} {cmp : K → K → Ordering} where
   pub set_on : {P Q : K → Type 0} {a b c : BTreeSet K} → GrowsBy cmp P a b → GrowsBy cmp Q b c → GrowsBy cmp (λ k. P k ⊎ Q k) a c

@@ -1,15 +1,13 @@
 -- Folders that are to be read again, one after another.
-use Rattle.std.specs.Prelude.{◌≡◌, ◌⊎◌, ◌↔◌, ◌+◌, ◌<◌, ◌≤◌, ℕ, Bool, true, false, not, Decides, List, [], ◌∷◌, ◌++◌, Option, None, Some, All, Contains, length, map, IsSome, is_some}
-use Rattle.std.proofs.Common.{refl, sym, ap, subst, ◌∙◌, inl, inr, take, take_all, get_or, arith}
-use Rattle.std.specs.BTreeSet.{BTreeSet, IsOrdered}
+use Rattle.std.specs.Prelude.{◌≡◌, ◌⊎◌, ◌↔◌, ◌+◌, ◌<◌, ◌≤◌, ℕ, Bool, true, false, not, Decides, List, [], ◌∷◌, ◌++◌, Option, None, Contains, length}
+use Rattle.std.proofs.Common.{refl, sym, ap, subst, ◌∙◌, inl, inr, take, take_all, get_or}
+use Rattle.std.specs.BTreeSet.{BTreeSet}
 use Rattle.std.specs.FinMap as finite
-use Rattle.std.specs.FinMap.{find}
-use Rattle.std.specs.Ordering.{eq_by_cmp}
 use Rattle.std.proofs.lemmas.Bool.{true≢false}
 use Rattle.std.proofs.lemmas.List.{get_or_default}
 use Rattle.std.proofs.lemmas.List.Elements.{All-nil, All-cons, All-append, Contains-push, Contains-push_cases, Contains-append_left}
 use Rattle.tup_path.specs.Name.{Names, Content}
-use Rattle.tup_path.specs.Order.{by_names, by_names-total}
+use Rattle.tup_path.specs.Order.{by_names}
 use Rattle.tup_path.proofs.Same.{by_names-decides}
 use Rattle.tup_rule.specs.declared.question.Noted.{Noted}
 use Rattle.tup_rule.specs.declared.question.Question.{Question}
@@ -17,7 +15,6 @@ use Rattle.tup_rule.specs.declared.question.Reading.{Reading}
 use Rattle.tup_graph.specs.Answers.{tupfile, IsSource}
 use Rattle.tup_graph.specs.Graph.{GraphState, source}
 use Rattle.tup_graph.specs.Scan.{IsStale}
-use Rattle.tup_above.specs.Grows.{Grows}
 use Rattle.tup_above.proofs.Asked.{taken}
 use Rattle.tup_above.proofs.Members.{contained, in_set, in_empty}
 use Rattle.tup_diff.specs.Index.{HasTupfile}

@@ -1,6 +1,6 @@
 -- Files that are put into a map one after another, each path's first stamp.
 use Rattle.std.specs.Prelude.{◌≡◌, ◌+◌, ◌<◌, ℕ, Bool, true, false, cond, if◌then◌else◌, List, [], ◌∷◌, ◌++◌, length, Option, None, Some, is_some}
-use Rattle.std.proofs.Common.{refl, sym, ap, subst, ◌∙◌, take, get_or}
+use Rattle.std.proofs.Common.{refl, sym, ap, ◌∙◌, take, get_or}
 use Rattle.std.specs.Ordering.{eq_by_cmp}
 use Rattle.std.specs.FinMap as finite
 use Rattle.std.specs.FinMap.{find}

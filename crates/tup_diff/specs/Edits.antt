@@ -1,5 +1,5 @@
 -- The edits that a scan makes of a graph (own).
-use Rattle.std.specs.Prelude.{◌≡◌, ◌↔◌, Bool, true, false, not, ℕ, List, [], ◌∷◌, ◌++◌, Option, None, Some, Contains, is_none, map, filter, bytes_eq}
+use Rattle.std.specs.Prelude.{◌≡◌, ◌↔◌, Bool, false, not, ℕ, List, ◌++◌, Option, None, Some, Contains, is_none, map, filter, bytes_eq}
 use Rattle.std.specs.FinMap as finite
 use Rattle.std.specs.List.Sorted.{IsStrictlySortedBy}
 use Rattle.std.specs.Ordering.{nat_cmp}

@@ -1,7 +1,7 @@
 -- What a scan found, beside the graph that it is compared with (own).
-use Rattle.std.specs.Prelude.{◌≡◌, Option}
+use Rattle.std.specs.Prelude.{Option}
 use Rattle.std.specs.FinMap as finite
-use Rattle.tup_path.specs.Name.{Names, Content}
+use Rattle.tup_path.specs.Name.{Content}
 use Rattle.tup_path.specs.Order.{by_names}
 use Rattle.tup_stamp.specs.declared.Stamp.{Stamp}
 use Rattle.tup_graph.specs.Answers.{IsSource, tup_config}

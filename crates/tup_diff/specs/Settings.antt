@@ -1,5 +1,5 @@
 -- What tup.config answers (own).
-use Rattle.std.specs.Prelude.{◌≡◌, ◌↔◌, List, ℕ, Option, None, Some, option_to_list}
+use Rattle.std.specs.Prelude.{◌≡◌, ◌↔◌, List, ℕ, Option, None, option_to_list}
 use Rattle.tup_path.specs.Name.{Content}
 use Rattle.tup_stamp.specs.declared.Stamp.{Stamp}
 use Rattle.tup_vars.specs.Table.{look}

@@ -1,4 +1,4 @@
-use Rattle.std.proofs.Common.{◌≡◌, ◌∙◌, List, ℕ, sym, subst}
+use Rattle.std.proofs.Common.{◌≡◌, ◌∙◌, sym, subst}
 use Rattle.std.proofs.lemmas.Bool.{true≢false}
 use Rattle.tup_path.specs.Name.{Names}
 use Rattle.tup_path.specs.Order.{by_names}

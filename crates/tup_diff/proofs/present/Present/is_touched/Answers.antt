@@ -1,5 +1,5 @@
-use Rattle.std.proofs.Common.{◌≡◌, ◌∙◌, List, Option, Some, rules, sym, subst}
-use Rattle.std.specs.Prelude.{Decides, slice_get}
+use Rattle.std.proofs.Common.{◌≡◌, ◌∙◌, List, Some, rules, sym, subst}
+use Rattle.std.specs.Prelude.{Decides}
 use Rattle.std.specs.FinMap as finite
 use Rattle.std.proofs.lemmas.Bool.{true≢false}
 use Rattle.tup_diff.specs.Present.{graph_of}
