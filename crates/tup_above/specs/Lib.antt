@@ -1,0 +1,4 @@
+pub mod Grows
+pub mod Lists
+pub mod Readers
+pub mod Walk
