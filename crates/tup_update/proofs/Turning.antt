@@ -14,6 +14,8 @@ use Rattle.tup_access.specs.Judge.{Judged}
 use Rattle.tup_access.specs.Verdict.{verdict}
 use Rattle.tup_clean.specs.AnyOrder.{MakeApart}
 use Rattle.tup_clean.specs.Clean.{Build, is_good, first_ready, given, builds_on, start, clean, with_files}
+use Rattle.tup_clean.specs.Queue.{Notes}
+use Rattle.tup_clean.specs.declared.queue.Queue.{Queue}
 use Rattle.tup_clean.specs.Taken.{Taken, verdicts_of, AreTaken, AllGood, takes_on, takes, up_to_bad}
 use Rattle.tup_clean.proofs.Agreeing.{Agrees, verdict_same, agrees_more, agrees_whole}
 use Rattle.tup_clean.proofs.Building.{IsUnderWay, step-some, under_way_start, under_way_more, under_way_left, under_way_none, built_clean, took_clean}
@@ -39,6 +41,10 @@ rule_here rules items at item same rule here is =
 pub verdicts_of_more : (rules : List Rule) (ended : List Taken) (at : ℕ) (outcome : Verdict) (noted : List Taken) → noted ≡ ended ++ (at, outcome) ∷ [] →
     verdicts_of rules noted ≡ slice_set (verdicts_of rules ended) at (Some outcome)
 verdicts_of_more rules ended at outcome noted is = ap (verdicts_of rules) is ∙ verdicts_more (replicate (length rules) None) ended (at, outcome)
+
+-- what was noted of a good verdict was noted of this one
+pub notes_of : (at : ℕ) (outcome : Verdict) (left noted : Queue) → outcome ≡ Good → Notes at (is_good (Some Good)) left noted → Notes at (is_good (Some outcome)) left noted
+notes_of at outcome left noted good notes = subst (λ (v : Verdict). Notes at (is_good (Some v)) left noted) (sym good) notes
 
 -- ---- whoever runs their commands
 
@@ -154,7 +160,7 @@ module _ (next : Next) (rules : List Rule) (sources : Tree) (count : ℕ) (ended
     ready : first_ready rules is.now.verdicts ≡ Some at
     ready = ap (first_ready rules) is.verdicts ∙ first
 
-    outcome : Verdict
+    abbrev outcome : Verdict
     outcome = (verdict next rules rule is.now.tree).verdict
 
     -- and behind the next one
@@ -255,5 +261,5 @@ module _ (next : Next) (rules : List Rule) (sources : Tree) (count : ℕ) (ended
         subst (λ (b : Build). IsBuilt b tree) whole (record { clean = succeeds_all (length rules) is.now verdicts; files = agrees_whole rules is.now tree verdicts is.agrees })
 
 -- all of it is a part of it
-pub noted_part : (rules : List Rule) (ends : List Taken) (ran : List RuleName) (ended : List Taken) → AreNoted rules ends ran ended → ArePartNoted rules ends ran ended
-noted_part rules ends ran ended noted = (([], append-nil ran ∙ noted.0), ([], append-nil ended ∙ noted.1))
+pub noted_part : (rules : List Rule) (whole : List Taken) (ran : List RuleName) (ended : List Taken) → AreNoted rules whole ran ended → ArePartNoted rules whole ran ended
+noted_part rules whole ran ended noted = (([], append-nil ran ∙ noted.0), ([], append-nil ended ∙ noted.1))
