@@ -71,11 +71,10 @@ module _ (sources : Tree) (group_has : Members) where
   folder_new : (before : List Rule) (dir : Names) (made drafts : List Draft) → IsApart before dir → has_tupfile sources dir ≡ true → AllMakeHere sources dir made drafts
       → AreNew sources (before ++ rules_here dir made) (rules_here dir drafts)
   folder_new before dir made [] none has all = tt
-  folder_new before dir made (draft ∷ more) none has (here, rest) =
-      (
-        All-weaker (MakesHere sources dir made) (IsNew sources (before ++ rules_here dir made) (rule_of group_has (placed_in dir draft))) new draft.outputs here,
-        subst (λ (rules : List Rule). AreNew sources rules (rules_here dir more)) (one_more before dir made draft) (folder_new before dir (made ++ draft ∷ []) more none has rest),
-      )
+  folder_new before dir made (draft ∷ more) none has (here, rest) = (
+    All-weaker (MakesHere sources dir made) (IsNew sources (before ++ rules_here dir made) (rule_of group_has (placed_in dir draft))) new draft.outputs here,
+    subst (λ (rules : List Rule). AreNew sources rules (rules_here dir more)) (one_more before dir made draft) (folder_new before dir (made ++ draft ∷ []) more none has rest),
+  )
     where
       new : (path : Names) → MakesHere sources dir made path → IsNew sources (before ++ rules_here dir made) (rule_of group_has (placed_in dir draft)) path
       new path makes = record {
@@ -126,8 +125,7 @@ module _ (sources : Tree) (group_has : Members) where
   apart_then before read [] keeps below all = tt
   apart_then before read (next ∷ more) keeps below (none, rest) =
       let parts = and_parts (is_lt (by_names read.0 next.0)) (below_all by_names read.0 more) below in
-      let far : same_path read.0 next.0 ≡ false = same_path-by_names read.0 next.0 ∙ less_apart (by_names read.0 next.0) parts.0 in
-      (
+      let far : same_path read.0 next.0 ≡ false = same_path-by_names read.0 next.0 ∙ less_apart (by_names read.0 next.0) parts.0 in (
         λ name. list_any-append (λ (rule : Rule). writes rule (next.0 ++ name ∷ [])) before (rules_here read.0 read.1.drafts)
             ∙ ap (λ b. b || is_generated (rules_here read.0 read.1.drafts) (next.0 ++ name ∷ [])) (none name)
             ∙ elsewhere read.0 next.0 far [] read.1.drafts keeps.1 name,
@@ -180,8 +178,8 @@ module _ (sources : Tree) (readings : List (Names × Reading)) (rules : List Rul
       let group_has = members (drafts_of (placed readings)) in
       let keep = all_keep sources settings all.some.0 (finite.from_sorted readings) all.some.1 in
       let each : (dir : Names) (left : Reading) → finite.find by_names dir readings ≡ Some left → Keeps sources group_has (dir, left) = λ dir left e.
-          let got = finite.get-from_sorted by_names readings dir (passes _ up) ∙ e in
-          (of_tupfiles sources settings all.some.0 (finite.from_sorted readings) all.some.1 dir left got, keep dir left got) in
+      let got = finite.get-from_sorted by_names readings dir (passes _ up) ∙ e in
+      (of_tupfiles sources settings all.some.0 (finite.from_sorted readings) all.some.1 dir left got, keep dir left got) in
       subst (AreNew sources []) (sym linked.are)
       (all_new sources group_has [] readings up (each_keeps sources group_has readings up each) (apart_from_none sources group_has readings))
 
