@@ -148,7 +148,6 @@ module _ (project : Project) (old : World) (is : IsProject project old) where
       part : IsPartOf (with_read project.read log) (whole_log next project.rules old)
       part = record { read = whole_front project.read (whole_log next project.rules old).read is.read; removed = removed; ran = noted.0; ended = noted.1 }
 
-
       fits : (halt : Halt) → LogFits next project.rules old (with_read project.read log) (Some (stop_of_halt halt))
       fits RunHalted = part
       fits (Halted failed) = inr (is.asked, part)
@@ -299,10 +298,13 @@ module _ (project : Project) (old mid : World) (vanishing claiming : List Names)
   unfinished_stays tells next ran new log failed cleared behind same small built turns = record {
     sources_stay = stay ran new behind same;
     rules_fit = inr way.is.asked;
-    nothing_forgotten = left_forgets_nothing tells next project.rules old new failed small (way.is.asked, inr (inr (record {
-      beside = ap (files_beside (outputs project.rules)) same ∙ beside_outputs (owned old) project.rules old.tree mid.tree ran.tree way.is.buildable same_left (owned_runnable cleared) behind;
-      built = λ means. is_built next ran new (built means) same;
-    })));
+    nothing_forgotten = left_forgets_nothing tells next project.rules old new failed small (
+      way.is.asked,
+      inr (inr (record {
+        beside = ap (files_beside (outputs project.rules)) same ∙ beside_outputs (owned old) project.rules old.tree mid.tree ran.tree way.is.buildable same_left (owned_runnable cleared) behind;
+        built = λ means. is_built next ran new (built means) same;
+      })),
+    );
     turns_fit = (turns.0, inl turns.1);
   }
 
@@ -311,9 +313,10 @@ module _ (project : Project) (old mid : World) (vanishing claiming : List Names)
       Keeps next project.rules old new (with_read project.read log) (Some (Outside failed))
   unfinished_keeps next new before log failed small none removed noted =
       halted_keeps project old way.is next new log (Halted failed) (small_cause next project.rules old new failed small)
-      (whole_front log.removed (vanished project.rules old) (removed_whole before log.removed none removed))
-      (whole_front log.ran (names_of project.rules (ends next project.rules old)) (noted.0 ∙ ap (names_of project.rules) (same_ends next)),
-      whole_front log.ended (ends next project.rules old) (noted.1 ∙ same_ends next))
+      (whole_front log.removed (vanished project.rules old) (removed_whole before log.removed none removed)) (
+        whole_front log.ran (names_of project.rules (ends next project.rules old)) (noted.0 ∙ ap (names_of project.rules) (same_ends next)),
+        whole_front log.ended (ends next project.rules old) (noted.1 ∙ same_ends next),
+      )
 
   -- all was made and the outputs are owned
   made_reads : (new : World) (listing : List Names) → new.store ≡ spelling listing → listing ≡ ascending (outputs project.rules) → owned_of new.store ≡ Ok (ascending (outputs project.rules))

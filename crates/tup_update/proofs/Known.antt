@@ -81,7 +81,7 @@ same_beside_claimed owned rules old new buildable changes =
 
 -- as where the outputs are listed, and all else that was owned is gone
 module _ (owned : List Names) (rules : List Rule) (old between new : Tree) (buildable : IsBuildable (files_beside owned old) rules) (left : files_beside owned between ≡ files_beside owned old)
-  (runnable : IsRunnable owned rules between) (behind : SameBesideOutputs rules between new) where
+    (runnable : IsRunnable owned rules between) (behind : SameBesideOutputs rules between new) where
   beside_listed : (listed : List Names) → ((path : Names) → among path listed ≡ is_generated rules path) → files_beside listed new ≡ files_beside owned old
   beside_listed listed is =
       same_sources owned listed rules old new buildable (λ path made. is path ∙ made)

@@ -150,8 +150,7 @@ module _ (next : Next) (rules : List Rule) (sources : Tree) (count : ℕ) (ended
   pub ended_front : AllGood ended → (begun : List RuleName) → begun ≡ names_of rules ended → ArePartNoted rules (up_to_bad (takes next rules sources)) begun ended
   ended_front good begun names =
       let more = up_to_bad (takes_on (length rules - count) next rules is.now) in
-      let whole : ended ++ more ≡ up_to_bad (takes next rules sources) = sym (ap up_to_bad rest_is ∙ up_to_bad-good ended _ good) in
-      (
+      let whole : ended ++ more ≡ up_to_bad (takes next rules sources) = sym (ap up_to_bad rest_is ∙ up_to_bad-good ended _ good) in (
         (names_of rules more, ap (λ (l : List RuleName). l ++ names_of rules more) names ∙ sym (told_append name_of rules ended more) ∙ ap (names_of rules) whole),
         (more, whole),
       )
@@ -176,8 +175,7 @@ module _ (next : Next) (rules : List Rule) (sources : Tree) (count : ℕ) (ended
         let rest = takes_on (length rules - (count + 1)) next rules (given next rules is.now at rule) in
         let more = if is_good (Some outcome) then up_to_bad rest else [] in
         let whole : (ended ++ (at, outcome) ∷ []) ++ more ≡ up_to_bad (takes next rules sources) =
-        append_assoc ended ((at, outcome) ∷ []) more ∙ sym (ap up_to_bad next_is ∙ up_to_bad-good ended _ good) in
-        (
+        append_assoc ended ((at, outcome) ∷ []) more ∙ sym (ap up_to_bad next_is ∙ up_to_bad-good ended _ good) in (
           (
             names_of rules more,
             ap (λ (l : List RuleName). l ++ names_of rules more) (one ∙ ap (λ (l : List RuleName). l ++ name_of rule ∷ []) names ∙ sym (told_more name_of rules ended (at, outcome) rule here))
@@ -240,8 +238,8 @@ module _ (next : Next) (rules : List Rule) (sources : Tree) (count : ℕ) (ended
 
           goes_on : builds_on (length rules - (count + 1)) next rules (given next rules is.now at rule) ≡ clean next rules sources
           goes_on = built_clean next rules sources (start rules sources) _ refl refl (
-            sym (step-some next rules (length rules - (count + 1)) is.now at rule ready here)
-            ∙ ap (λ (steps : ℕ). builds_on steps next rules is.now) (sym one_more) ∙ sym is.way.builds)
+              sym (step-some next rules (length rules - (count + 1)) is.now at rule ready here)
+              ∙ ap (λ (steps : ℕ). builds_on steps next rules is.now) (sym one_more) ∙ sym is.way.builds)
 
   -- all were taken, and were Good
   module _ (good : AllGood ended) (none : first_ready rules (verdicts_of rules ended) ≡ None) where
