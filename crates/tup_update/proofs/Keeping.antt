@@ -1,5 +1,5 @@
 -- What an update promises, for each way in which it can come out.
-use Rattle.std.proofs.Common.{◌≡◌, ◌≢◌, ◌⊎◌, inl, inr, ℕ, Bool, IsTrue, ◌++◌, [], List, Option, None, Some, Result, Ok, Err, refl, sym, ◌∙◌, ap, subst}
+use Rattle.std.proofs.Common.{◌≡◌, ◌≢◌, ◌⊎◌, inl, inr, ℕ, Bool, IsTrue, ◌++◌, [], List, None, Some, Result, Ok, Err, refl, sym, ◌∙◌, ap, subst}
 use Rattle.std.specs.Result.{result_err, IsErrAnd}
 use Rattle.std.specs.FinMap as finite
 use Rattle.tup_path.specs.Name.{Names}
@@ -11,7 +11,6 @@ use Rattle.tup_rule.specs.declared.rule.Rule.{Rule}
 use Rattle.tup_rule.specs.declared.rule.RuleName.{RuleName}
 use Rattle.tup_access.specs.declared.verdict.Verdict.{Verdict}
 use Rattle.tup_runner.specs.Next.{Next}
-use Rattle.tup_clean.specs.Buildable.{IsBuildable}
 use Rattle.tup_clean.specs.Clean.{clean}
 use Rattle.tup_clean.specs.Taken.{Taken, takes, up_to_bad}
 use Rattle.tup_parse.specs.declared.fault.ReadEnd.{ReadEnd}
@@ -27,13 +26,12 @@ use Rattle.tup_update.specs.Turns.{names_of, AreInTurn, AreBegun, TurnsFit}
 use Rattle.tup_update.specs.declared.project.Project.{Project}
 use Rattle.tup_update.specs.declared.stop.Halt.{Halt}
 use Rattle.tup_update.specs.declared.stop.Halt.TheVariants.{Run as RunHalted, Outside as Halted}
-use Rattle.tup_update.specs.declared.stop.Stop.{Stop}
-use Rattle.tup_update.specs.declared.stop.Stop.TheVariants.{Bad, Run, Outside}
+use Rattle.tup_update.specs.declared.stop.Stop.TheVariants.{Bad, Outside}
 use Rattle.tup_update.specs.declared.stop.Unread.{Unread}
 use Rattle.tup_update.specs.declared.stop.Unread.TheVariants.{Store, Sources, Outside as Unlucky}
 use Rattle.tup_update.specs.declared.update.Log.{Log}
 use Rattle.tup_update.proofs.Beside.{left_is}
-use Rattle.tup_update.proofs.Ending.{sources_are_kept, project_owns, project_sources, project_builds, gone_are, vanished_are, no_front, whole_front, grown_from_nothing}
+use Rattle.tup_update.proofs.Ending.{sources_are_kept, project_owns, project_builds, gone_are, vanished_are, no_front, whole_front, grown_from_nothing}
 use Rattle.tup_update.proofs.Known.{sources_are, claimed_known, beside_outputs, beside_ascending}
 use Rattle.tup_update.proofs.Preparing.{same_sources, changes, listed_reads, runnable}
 
