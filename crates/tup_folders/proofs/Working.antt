@@ -44,7 +44,7 @@ one_comes false true s left found = refl
 one_comes false false true left found = refl
 one_comes false false false left found = refl
 
-from_test : (b : Bool) → T b → b ≡ true
+pub from_test : (b : Bool) → T b → b ≡ true
 from_test true h = refl
 from_test false h = absurd h
 
