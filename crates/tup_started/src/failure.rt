@@ -5,12 +5,14 @@ use thiserror::Error;
 
 /// Why a command has no log.
 #[derive(Debug, Drop, Error)]
-pub(crate) enum Failure {
+pub enum Failure {
+    /// There was no memory.
     #[error("no memory")]
     Memory,
-    /// A word isn't what it should be, or a file can't be read.
+    /// A word isn't what it should be, or what stands between the program and the files failed.
     #[error("{0}")]
     Because(&'static str),
+    /// The system refused a call.
     #[error("{0}")]
     System(io::Error),
 }
