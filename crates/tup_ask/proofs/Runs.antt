@@ -17,7 +17,7 @@ same_question-refl (question.Names dir) = (same_path-decides dir dir).1 refl
 same_question-refl (question.Kind path) = (same_path-decides path path).1 refl
 
 -- what was told before stays told
-told_more : (log : Log) (entry : Question × Told) (asked : Question) (told : Told) → told_before log asked ≡ Some told → told_before (log ++ entry ∷ []) asked ≡ Some told
+pub told_more : (log : Log) (entry : Question × Told) (asked : Question) (told : Told) → told_before log asked ≡ Some told → told_before (log ++ entry ∷ []) asked ≡ Some told
 told_more [] entry asked told e = cc
 told_more (first ∷ log) entry asked told e = by (told_more log entry asked told) (same_question asked first.0) e
   where
@@ -27,7 +27,7 @@ told_more (first ∷ log) entry asked told e = by (told_more log entry asked tol
     by more false e = more e
 
 -- a new answer is told from then on
-told_new : (log : Log) (asked : Question) (told : Told) → told_before log asked ≡ None → told_before (log ++ (asked, told) ∷ []) asked ≡ Some told
+pub told_new : (log : Log) (asked : Question) (told : Told) → told_before log asked ≡ None → told_before (log ++ (asked, told) ∷ []) asked ≡ Some told
 told_new [] asked told e = ap (λ b. cond b (Some told) None) (same_question-refl asked)
 told_new (first ∷ log) asked told e = by (told_new log asked told) (same_question asked first.0) e
   where

@@ -127,7 +127,7 @@ fn in_order(alloc: Global, told: Texts) -> Result<BTreeSet<Text>, AllocError>
 }
 
 /// Adds the names of those outputs of rules that stand in a folder.
-fn add_made(names: &mut BTreeSet<Text>, dir: &Path, drafts: &[Draft]) -> Result<(), AllocError>
+pub fn add_made(names: &mut BTreeSet<Text>, dir: &Path, drafts: &[Draft]) -> Result<(), AllocError>
     ensures { OnOk result (names.new.keys ≡ fold (insert_key by_bytes) names.old.keys
         (specs.names_among dir.now (made_by drafts.now))) }
 {

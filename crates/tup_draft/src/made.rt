@@ -7,7 +7,7 @@ use tup_path::Path;
 use tup_rule::Draft;
 
 /// Whether a path is an output of one of these rules.
-pub(crate) fn is_made(drafts: &[Draft], path: &Path) -> bool
+pub fn is_made(drafts: &[Draft], path: &Path) -> bool
     ensures { result ≡ is_made drafts.now path.now }
 {
     drafts
