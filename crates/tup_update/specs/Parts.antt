@@ -1,7 +1,9 @@
 -- What the parts of an update promise to each other.
-use Rattle.std.specs.Prelude.{◌≡◌, ◌⊎◌, ℕ, true, false, if◌then◌else◌, List, [], ◌∷◌, ◌++◌, None, Some, IsSome, IsTrue, Option, Result, Ok, Err, filter, slice_get}
+use Rattle.std.specs.Prelude.{◌≡◌, ◌⊎◌, ◌<◌, ◌≤◌, ⊤, ℕ, true, false, length, filter_map, unwrap_or, if◌then◌else◌, List, [], ◌∷◌, ◌++◌, None, Some, IsSome, IsTrue, Option, Result, Ok, Err, filter, slice_get}
 use Rattle.std.specs.FinMap as finite
+use Rattle.std.specs.Result.{result_ok}
 use Rattle.tup_path.specs.Name.{Names}
+use Rattle.tup_path.specs.Resolve.{above}
 use Rattle.tup_path.specs.Tree.{Tree}
 use Rattle.tup_site.specs.World.{World}
 use Rattle.tup_site.specs.Cause.{IsTooLarge}
@@ -18,9 +20,38 @@ use Rattle.tup_clean.specs.Clean.{Build, clean, is_good, succeeds, with_files}
 use Rattle.tup_clean.specs.Taken.{Taken, takes, up_to_bad}
 use Rattle.tup_owned.specs.Owned.{owned_of}
 use Rattle.tup_update.specs.Log.{IsFront}
-use Rattle.tup_update.specs.Sources.{AsksFor, sources, files_beside, folders_read}
+use Rattle.tup_update.specs.Sources.{AsksFor, PassesLimit, sources, files_beside, folder_of_tupfile, folders_read}
 use Rattle.tup_update.specs.Turns.{names_of, EndsBadly}
+use Rattle.tup_update.specs.declared.fault.SourcesFault.TheVariants.{TooManyFiles}
+use Rattle.tup_update.specs.declared.found.Found.{Found}
 use Rattle.tup_update.specs.declared.project.Project.{Project}
+use Rattle.tup_update.specs.declared.stop.Unread.{Unread}
+use Rattle.tup_update.specs.declared.stop.Unread.TheVariants.{Store, Sources as NoRules, Outside}
+
+-- what is found in a world: what the store lists, the files among that, and the sources, which are no more files than may be
+pub record IsFound (w : World) (found : Found) : Type 0 where
+  pub owned : owned_of w.store ≡ Ok found.owned
+  pub files : found.owned_files ≡ filter (λ path. among path found.owned) (finite.keys w.tree)
+  pub few : length (finite.keys w.tree) ≤ 65536
+  pub sources : found.sources ≡ finite.entries (sources w)
+
+-- there are so many files, too many
+abbrev pub IsTooMany : ℕ → Unread → Type 0
+IsTooMany count unread = (unread ≡ NoRules (TooManyFiles count)) × (65536 < count)
+
+-- a limit is told only where it is passed
+abbrev pub KnowsLimits : Unread → Type 0
+KnowsLimits (Store offset) = ⊤
+KnowsLimits (NoRules fault) = PassesLimit fault
+KnowsLimits (Outside failed) = ⊤
+
+-- the folder of a path, and that of the top is the top
+abbrev pub IsFolderOf : Names → Names → Type 0
+IsFolderOf path folder = folder ≡ unwrap_or (result_ok (above path)) []
+
+-- folders, and behind them that of a path which is a Tupfile
+abbrev pub AddsFolder : Names → List Names → List Names → Type 0
+AddsFolder path old new = new ≡ old ++ filter_map folder_of_tupfile (path ∷ [])
 
 -- a project is what a world asks for, and its rules can be built
 pub record IsProject (project : Project) (w : World) : Type 0 where

@@ -1,0 +1,110 @@
+//! What a site holds: which paths are owned, and the sources with their contents.
+ghost use Rattle.std.specs.Prelude.{◌≡◌, ◌<◌, ◌≤◌, ◌^◌, ℕ, List, length, not, filter, IsTrue, IfOk, IfErr, OnOk, Some, None};
+ghost use Rattle.std.specs.FinMap as finite;
+ghost use Rattle.tup_path.specs.Order.{by_names};
+ghost use Rattle.tup_path.specs.Tree.{Tree};
+ghost use Rattle.tup_site.specs.Cause.{CountsFaults, NeverTooLarge, OnlyLarge};
+ghost use Rattle.tup_rule.specs.declared.rule.Rule.{Rule as RuleValue};
+ghost use Rattle.tup_runner.specs.Next.{Next};
+ghost use Rattle.tup_update.specs.Outcome.{HasCause};
+ghost use Rattle.tup_update.specs.Outside.{HandsOn};
+ghost use Rattle.tup_update.specs.Parts.{IsFound, KnowsLimits, IsTooMany, NamesALargeFile, AgreesOnItsFiles};
+ghost use Rattle.tup_update.specs.Stopped.{stop_of};
+ghost use Rattle.tup_update.specs.declared.stop.Unread.TheVariants.{Outside};
+
+use crate::fault::SourcesFault;
+use crate::project::{parted, path_set};
+use crate::stop::Unread;
+use std::alloc::Global;
+use tup_map::ByPath;
+use tup_owned::read_owned;
+use tup_path::{Files, Path, Paths};
+use tup_scan::MAX_FILES;
+use tup_site::{Site, SiteFailed};
+
+/// What a site holds.
+#[derive(Debug, Drop)]
+pub(crate) struct Found {
+    /// The paths that the store lists.
+    pub owned: Paths,
+    /// The files among them.
+    pub owned_files: Paths,
+    /// All other files, the sources, in the order of paths.
+    pub sources: Files,
+}
+
+impl Found {
+    /// Reads what a site holds, and changes nothing.
+    pub(crate) fn read<S: Site>(alloc: Global, site: &mut S) -> Result<Found, Unread>
+        ensures found { IsTrue S.tells → IfOk result (IsFound (S.world site.old)) }
+        ensures sorted { IfOk result (λ found. IsTrue (finite.is_sorted by_names found.sources)) }
+        ensures cause { IsTrue S.tells → IfErr result (λ unread. (next : Next) (rules : List RuleValue)
+            → HasCause next rules (S.world site.old) (S.world site.new) (Some (stop_of unread))) }
+        ensures limits { IfErr result KnowsLimits }
+        ensures same { IsTrue S.tells → S.world site.new ≡ S.world site.old }
+        ensures counted { HandsOn Outside (S.faults site.old) (S.faults site.new) result }
+    {
+        let store = read_store(alloc, site)?;
+        let owned = read_owned(alloc, &store)?;
+        let files = site.list(alloc)?;
+        few(&files)?;
+        let apart = path_set(alloc, owned.as_slice())?;
+        let (owned_files, sources) = parted(alloc, files.as_slice(), &apart)?;
+        let sources = contents(alloc, site, sources.as_slice())?;
+        Ok(Found {
+            owned,
+            owned_files,
+            sources,
+        })
+    }
+}
+
+/// The bytes of the store.
+fn read_store<S: Site>(alloc: Global, site: &mut S) -> Result<Vec<u8>, SiteFailed>
+    ensures bytes { IsTrue S.tells → IfOk result (λ bytes. bytes.items ≡ (S.world site.old).store) }
+    ensures same { IsTrue S.tells → S.world site.new ≡ S.world site.old }
+    ensures never_too_large { NeverTooLarge result }
+    ensures counted { CountsFaults (S.faults site.old) (S.faults site.new) result }
+{
+    let len = site.db_len(alloc)?;
+    let mut bytes = vec![in alloc; 0; len as usize]?;
+    site.db_read(alloc, 0, &mut bytes)?;
+    Ok(bytes)
+}
+
+/// Whether there are no more files than a project may have.
+fn few(files: &Paths) -> Result<(), Unread>
+    ensures few { OnOk result (length files.now ≤ 65536) }
+    ensures many { IfErr result (IsTooMany (length files.now)) }
+{
+    let count = files.len() as u64;
+    if count > MAX_FILES {
+        return Err(Unread::Sources(SourcesFault::TooManyFiles(count)));
+    }
+    Ok(())
+}
+
+/// The files at these paths with their contents, in the order of paths; one that isn't there any
+/// more is left out.
+pub(crate) fn contents<S: Site>(
+    alloc: Global,
+    site: &mut S,
+    paths: &[Path],
+) -> Result<Files, SiteFailed>
+    ensures files { IsTrue S.tells → (part : Tree) → finite.keys part ≡ paths.now
+        → AgreesOnItsFiles part (S.world site.old).tree
+        → IfOk result (λ files. files ≡ finite.entries part) }
+    ensures sorted { IfOk result (λ files. IsTrue (finite.is_sorted by_names files)) }
+    ensures same { IsTrue S.tells → S.world site.new ≡ S.world site.old }
+    ensures large { IsTrue S.tells → NamesALargeFile (S.world site.new).tree result }
+    ensures only_large { OnlyLarge result }
+    ensures counted { CountsFaults (S.faults site.old) (S.faults site.new) result }
+{
+    let mut files = ByPath::new(alloc);
+    for path in paths {
+        if let Some(content) = site.get(alloc, path)? {
+            files.insert(path.clone()?, content)?;
+        }
+    }
+    Ok(files.into_items(alloc)?)
+}
