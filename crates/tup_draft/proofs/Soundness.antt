@@ -111,7 +111,7 @@ snoc (first ∷ more) = by (snoc more)
     by (inr (folder, name, e)) = inr (first ∷ folder, name, ap (λ (m : Names). first ∷ m) e)
 
 -- a path that has a name in a folder stands there under this name
-name_in-own : (dir path : Names) (name : List ℕ) → name_in dir path ≡ Some name → path ≡ dir ++ name ∷ []
+pub name_in-own : (dir path : Names) (name : List ℕ) → name_in dir path ≡ Some name → path ≡ dir ++ name ∷ []
 name_in-own dir path name e = by (snoc path)
   where
     in_it : (folder : Names) (last : List ℕ) (same : Bool) → same_path dir folder ≡ same → cond same (Some last) None ≡ Some name → folder ++ last ∷ [] ≡ dir ++ name ∷ []
@@ -155,7 +155,7 @@ all_among paths k d within = list_any_at (same_path (get_or paths k d)) paths k 
 among_append_left : (path : Names) (some more : List Names) → among path some ≡ true → among path (some ++ more) ≡ true
 among_append_left path some more e = list_any-append (same_path path) some more ∙ or_true (among path some) (among path more) e
 
-made_all : (drafts : List Draft) → All (λ path. is_made drafts path ≡ true) (made_by drafts)
+pub made_all : (drafts : List Draft) → All (λ path. is_made drafts path ≡ true) (made_by drafts)
 made_all [] = All-nil (λ path. is_made [] path ≡ true)
 made_all (draft ∷ more) =
     All-append (λ path. is_made (draft ∷ more) path ≡ true) draft.outputs (made_by more)
@@ -341,7 +341,7 @@ brings_group answers at drafts word =
 abbrev pub TakesName : (Question → Told) → List Draft → Names → List ℕ → Type 0
 TakesName answers drafts dir name = MayTake answers drafts (dir ++ name ∷ [])
 
-ordered-all : (P : List ℕ → Type 0) (some names : List (List ℕ)) → All P some → All P names → All P (fold (insert_key by_bytes) some names)
+pub ordered-all : (P : List ℕ → Type 0) (some names : List (List ℕ)) → All P some → All P names → All P (fold (insert_key by_bytes) some names)
 ordered-all P some [] all more = all
 ordered-all P some (name ∷ names) all more =
     ordered-all P (insert_key by_bytes some name) names (All-insert_key by_bytes name P some all (All-head P name names more)) (All-tail P name names more)

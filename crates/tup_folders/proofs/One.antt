@@ -36,10 +36,10 @@ module _ (sources : Tree) (settings : Entries) where
   Agree one other = (dir : Names) (x y : Reading) → finite.get one dir ≡ Some x → finite.get other dir ≡ Some y → x ≡ y
 
   -- only folders with a Tupfile are read
-  abbrev AreOfTupfiles : Readings → Type 0
+  abbrev pub AreOfTupfiles : Readings → Type 0
   AreOfTupfiles readings = (dir : Names) (x : Reading) → finite.get readings dir ≡ Some x → has_tupfile sources dir ≡ true
 
-  of_tupfiles : (order : List Names) (readings : Readings) → AreReadings sources settings order readings → AreOfTupfiles readings
+  pub of_tupfiles : (order : List Names) (readings : Readings) → AreReadings sources settings order readings → AreOfTupfiles readings
   of_tupfiles [] readings is dir x e =
       let wrong : Some x ≡ None = sym e ∙ ap (λ r. finite.get r dir) is ∙ finite.get-empty by_names dir in
       cc

@@ -1,8 +1,9 @@
-//! The calls of `folders.rows`.
+//! The calls of `folders.rows` and `project.rows`.
 ghost use Rattle.std.specs.Prelude.{IsTrue, IfOk};
 ghost use Rattle.std.specs.FinMap as finite;
 ghost use Rattle.tup_path.specs.Order.{by_names};
 
+use crate::linked::linked;
 use crate::shown::shown;
 use std::alloc::{AllocError, Global};
 use std::mem;
@@ -10,6 +11,7 @@ use tup_folders::read_folders;
 use tup_map::ByPath;
 use tup_path::{Bytes, Files};
 use tup_rows::{Answers, RowFault, Words};
+use tup_whole::read_all;
 
 /// The sources that the rows above have put.
 #[derive(Drop)]
@@ -42,6 +44,14 @@ impl Session {
         }
     }
 
+    /// The rules of the sources. The next project begins without any.
+    fn rules(&mut self, alloc: Global) -> Words {
+        match self.sources(alloc) {
+            Ok(sources) => linked(alloc, read_all(alloc, &sources)),
+            Err(_) => Words::none(alloc, RowFault::Memory),
+        }
+    }
+
     /// Takes the sources.
     fn sources(&mut self, alloc: Global) -> Result<Files, AllocError>
         ensures { IfOk result (λ files. IsTrue (finite.is_sorted by_names files)) }
@@ -51,11 +61,12 @@ impl Session {
 }
 
 impl Answers for Session {
-    /// Makes one of the calls that `data/folders.rows` names.
+    /// Makes one of the calls that the files in `data/` name.
     fn answer(&mut self, alloc: Global, call: &str, said: &Words) -> Result<Words, RowFault> {
         Ok(match call {
             "file" => self.file(alloc, said),
             "folders" => self.folders(alloc),
+            "rules" => self.rules(alloc),
             _ => Words::none(alloc, RowFault::NoSuchCall),
         })
     }

@@ -1,0 +1,4 @@
+pub mod Fault
+pub mod Project
+pub mod Buildable
+pub mod Laws
