@@ -35,18 +35,18 @@ missing [] = 0
 missing (None ∷ verdicts) = suc (missing verdicts)
 missing (Some outcome ∷ verdicts) = missing verdicts
 
-missing_all : (n : ℕ) → missing (replicate n None) ≡ n
+pub missing_all : (n : ℕ) → missing (replicate n None) ≡ n
 missing_all zero = refl
 missing_all (suc n) = ap suc (missing_all n)
 
-missing_less : (verdicts : List (Option Verdict)) (at : ℕ) (outcome : Verdict) → slice_get verdicts at ≡ Some None → suc (missing (slice_set verdicts at (Some outcome))) ≡ missing verdicts
+pub missing_less : (verdicts : List (Option Verdict)) (at : ℕ) (outcome : Verdict) → slice_get verdicts at ≡ Some None → suc (missing (slice_set verdicts at (Some outcome))) ≡ missing verdicts
 missing_less [] at outcome untaken = absurd (none-some None untaken)
 missing_less (None ∷ verdicts) zero outcome untaken = refl
 missing_less (Some other ∷ verdicts) zero outcome untaken = absurd (none-some other (sym (same_Some _ _ untaken)))
 missing_less (None ∷ verdicts) (suc at) outcome untaken = ap suc (missing_less verdicts at outcome untaken)
 missing_less (Some other ∷ verdicts) (suc at) outcome untaken = missing_less verdicts at outcome untaken
 
-none_missing : (verdicts : List (Option Verdict)) (at : ℕ) → missing verdicts ≤ 0 → slice_get verdicts at ≡ Some None → ⊥
+pub none_missing : (verdicts : List (Option Verdict)) (at : ℕ) → missing verdicts ≤ 0 → slice_get verdicts at ≡ Some None → ⊥
 none_missing [] at none untaken = none-some None untaken
 none_missing (None ∷ verdicts) at none untaken = absurd (omega arith)
 none_missing (Some other ∷ verdicts) zero none untaken = none-some other (sym (same_Some _ _ untaken))

@@ -5,6 +5,7 @@ pub mod Fronts
 pub mod Reading
 pub mod Running
 pub mod Begun
+pub mod Turning
 pub mod Preparing
 pub mod Trees
 pub mod Known

@@ -15,6 +15,8 @@ use Rattle.tup_rule.specs.Rule.{among}
 use Rattle.tup_rule.specs.declared.rule.Rule.{Rule}
 use Rattle.tup_parse.specs.declared.fault.ReadEnd.{ReadEnd}
 use Rattle.tup_parse.specs.declared.fault.ReadEnd.TheVariants.{Memory}
+use Rattle.tup_parse.specs.Reading.{top_tupfile}
+use Rattle.tup_project.specs.Project.{rules_of}
 use Rattle.tup_update.specs.Sources.{files_beside}
 use Rattle.tup_update.proofs.Beside.{get_beside, left_is}
 
@@ -93,6 +95,10 @@ sources_are owned files sources inside tree tests keys is =
     keys_beside owned tree
     ∙ (λ i. filter (λ path. not (sym (tests path) i)) (sym keys i))
     ∙ sym is
+
+-- what the files of a tree ask for
+abbrev pub read_of : Tree → Result (List Rule) ReadEnd
+read_of tree = rules_of (finite.keys tree) (finite.get tree top_tupfile)
 
 -- what the reading gave that had the choice between want of memory and its answer
 pub read_ok : (r right : Result (List Rule) ReadEnd) (rules : List Rule) → (r ≡ Err Memory) ⊎ (r ≡ right) → r ≡ Ok rules → right ≡ Ok rules
