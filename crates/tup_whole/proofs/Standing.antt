@@ -17,7 +17,7 @@ use Rattle.tup_path.specs.Tree.{Tree, IsTree, IsBelow}
 use Rattle.tup_path.proofs.Same.{same_path-decides}
 use Rattle.tup_rule.specs.declared.rule.Rule.{Rule}
 use Rattle.tup_rule.specs.Rule.{writes, is_generated}
-use Rattle.tup_clean.specs.InOrder.{IsOutputAt}
+use Rattle.tup_clean.specs.Buildable.{IsOutputAt}
 use Rattle.tup_clean.proofs.Among.{among-Contains}
 use Rattle.tup_folders.specs.Sources.{is_source, has_below, has_tupfile, is_below, tupfile}
 use Rattle.tup_folders.proofs.Below.{last_item, lasts}

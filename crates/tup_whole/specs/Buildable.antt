@@ -4,7 +4,7 @@ use Rattle.std.specs.FinMap as finite
 use Rattle.tup_path.specs.Name.{Names, IsPath}
 use Rattle.tup_path.specs.Tree.{Tree, IsBelow}
 use Rattle.tup_rule.specs.declared.rule.Rule.{Rule}
-use Rattle.tup_clean.specs.InOrder.{IsOutputAt}
+use Rattle.tup_clean.specs.Buildable.{IsOutputAt}
 use Rattle.tup_link.specs.Circle.{NoneWaitsForItself}
 
 -- the outputs of rules are paths as they may be
