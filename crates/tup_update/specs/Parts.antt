@@ -8,7 +8,7 @@ use Rattle.tup_path.specs.Tree.{Tree}
 use Rattle.tup_site.specs.World.{World}
 use Rattle.tup_site.specs.Cause.{IsTooLarge}
 use Rattle.tup_site.specs.declared.fault.SiteFailed.{SiteFailed}
-use Rattle.tup_site.specs.declared.fault.SiteFailed.TheVariants.{TooLarge}
+use Rattle.tup_site.specs.declared.fault.SiteFailed.TheVariants.{TooLarge, Memory}
 use Rattle.tup_rule.specs.declared.rule.Rule.{Rule}
 use Rattle.tup_rule.specs.declared.rule.RuleName.{RuleName}
 use Rattle.tup_rule.specs.Rule.{among, is_generated, name_of}
@@ -20,7 +20,7 @@ use Rattle.tup_clean.specs.Clean.{Build, clean, is_good, succeeds, with_files}
 use Rattle.tup_clean.specs.Taken.{Taken, takes, up_to_bad}
 use Rattle.tup_owned.specs.Owned.{owned_of}
 use Rattle.tup_update.specs.Log.{IsFront}
-use Rattle.tup_update.specs.Sources.{AsksFor, PassesLimit, sources, files_beside, folder_of_tupfile, folders_read}
+use Rattle.tup_update.specs.Sources.{AsksFor, Refuses, PassesLimit, sources, files_beside, folder_of_tupfile, folders_read}
 use Rattle.tup_update.specs.Turns.{names_of, EndsBadly}
 use Rattle.tup_update.specs.declared.fault.SourcesFault.TheVariants.{TooManyFiles}
 use Rattle.tup_update.specs.declared.found.Found.{Found}
@@ -38,6 +38,12 @@ pub record IsFound (w : World) (found : Found) : Type 0 where
 -- there are so many files, too many
 abbrev pub IsTooMany : ℕ → Unread → Type 0
 IsTooMany count unread = (unread ≡ NoRules (TooManyFiles count)) × (65536 < count)
+
+-- the sources ask for no rules, or there was no memory
+abbrev pub IsRefusal : World → Unread → Type 0
+IsRefusal w (Store offset) = ⊥
+IsRefusal w (NoRules fault) = Refuses w fault
+IsRefusal w (Outside failed) = failed ≡ Memory
 
 -- a limit is told only where it is passed
 abbrev pub KnowsLimits : Unread → Type 0

@@ -1,14 +1,18 @@
 //! What a site holds: which paths are owned, and the sources with their contents.
-ghost use Rattle.std.specs.Prelude.{◌≡◌, ◌<◌, ◌≤◌, ◌^◌, ℕ, List, length, not, filter, IsTrue, IfOk, IfErr, OnOk, Some, None};
+ghost use Rattle.std.specs.Prelude.{◌≡◌, ◌≤◌, List, length, IsTrue, IfOk, IfErr, OnOk, Some};
 ghost use Rattle.std.specs.FinMap as finite;
 ghost use Rattle.tup_path.specs.Order.{by_names};
-ghost use Rattle.tup_path.specs.Tree.{Tree};
+ghost use Rattle.tup_path.specs.Tree.{Tree, IsTree};
+ghost use Rattle.tup_site.specs.World.{World};
 ghost use Rattle.tup_site.specs.Cause.{CountsFaults, NeverTooLarge, OnlyLarge};
 ghost use Rattle.tup_rule.specs.declared.rule.Rule.{Rule as RuleValue};
 ghost use Rattle.tup_runner.specs.Next.{Next};
+ghost use Rattle.tup_clean.specs.Buildable.{IsBuildable};
 ghost use Rattle.tup_update.specs.Outcome.{HasCause};
 ghost use Rattle.tup_update.specs.Outside.{HandsOn};
-ghost use Rattle.tup_update.specs.Parts.{IsFound, KnowsLimits, IsTooMany, NamesALargeFile, AgreesOnItsFiles};
+ghost use Rattle.tup_update.specs.Parts.{IsFound, IsRefusal, KnowsLimits, IsTooMany, NamesALargeFile, AgreesOnItsFiles};
+ghost use Rattle.tup_update.specs.Sources as specs;
+ghost use Rattle.tup_update.specs.Sources.{AsksFor};
 ghost use Rattle.tup_update.specs.Stopped.{stop_of};
 ghost use Rattle.tup_update.specs.declared.stop.Unread.TheVariants.{Outside};
 
@@ -19,8 +23,10 @@ use std::alloc::Global;
 use tup_map::ByPath;
 use tup_owned::read_owned;
 use tup_path::{Files, Path, Paths};
+use tup_rule::Rules;
 use tup_scan::MAX_FILES;
 use tup_site::{Site, SiteFailed};
+use tup_whole::read_all;
 
 /// What a site holds.
 #[derive(Debug, Drop)]
@@ -56,6 +62,18 @@ impl Found {
             owned_files,
             sources,
         })
+    }
+
+    /// The rules of the sources.
+    pub(crate) fn rules(&self, alloc: Global) -> Result<Rules, Unread>
+        requires { IsTrue (finite.is_sorted by_names self.now.sources) }
+        ensures asked { (w : World) → IsFound w self.now → IfOk result (AsksFor w) }
+        ensures buildable { (w : World) → IsTree w.tree → IsFound w self.now
+            → IfOk result (IsBuildable (specs.sources w)) }
+        ensures refused { (w : World) → IsFound w self.now → IfErr result (IsRefusal w) }
+        ensures limits { IfErr result KnowsLimits }
+    {
+        Ok(read_all(alloc, &self.sources)?)
     }
 }
 

@@ -1,5 +1,5 @@
 //! What a site asks for: its owned files, and the rules of its sources.
-ghost use Rattle.std.specs.Prelude.{◌≡◌, ℕ, List, not, filter, filter_map, IsTrue, IfOk, IfErr, OnOk, Some, None};
+ghost use Rattle.std.specs.Prelude.{◌≡◌, List, not, filter, IsTrue, IfOk, IfErr, OnOk, Some};
 ghost use Rattle.std.specs.BTreeSet.{contains};
 ghost use Rattle.std.specs.Map.{keys_of};
 ghost use Rattle.tup_path.specs.Name.{Names};
@@ -22,7 +22,6 @@ use tup_owned::sorted;
 use tup_path::{Bytes, Path, Paths};
 use tup_rule::Rules;
 use tup_site::Site;
-use tup_whole::read_all;
 
 /// What a site asks for.
 #[derive(Debug, Drop)]
@@ -50,7 +49,7 @@ impl Project {
     {
         let found = Found::read(alloc, site)?;
         let read = folders_read(alloc, found.sources.as_slice())?;
-        let rules = read_all(alloc, &found.sources)?;
+        let rules = found.rules(alloc)?;
         Ok(Project {
             owned: found.owned,
             owned_files: found.owned_files,
