@@ -9,7 +9,7 @@ use Rattle.std.proofs.lemmas.Map.Steps.{length-le_from_distinct_below}
 use Rattle.tup_rule.specs.declared.rule.Rule.{Rule}
 use Rattle.tup_rule.specs.Producer.{ProducerOver, DeclaredProducer}
 use Rattle.tup_rule.proofs.Laws.{maker-Some, producer-trans}
-use Rattle.tup_link.specs.Circle.{NoneWaitsForItself}
+use Rattle.tup_clean.specs.Buildable.{NoneWaitsForItself}
 
 -- a declared producer stands in the list
 placed_over : (rules : List Rule) (rule : Rule) (at between : ℕ) → ProducerOver between rules rule at → (producer : Rule) × (slice_get rules at ≡ Some producer)

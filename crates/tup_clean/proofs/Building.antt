@@ -8,6 +8,7 @@ use Rattle.tup_runner.specs.Next.{Next}
 use Rattle.tup_access.specs.Judge.{Judged}
 use Rattle.tup_access.specs.Verdict.{verdict}
 use Rattle.tup_clean.specs.Clean.{Build, first_ready, given, with_files, builds_on, start, clean}
+use Rattle.tup_clean.specs.Ran.{commands_of, commands}
 use Rattle.tup_clean.specs.Taken.{Taken, takes_on, takes}
 
 -- a build under way, which has taken some rules
@@ -107,3 +108,7 @@ module _ (means : Next) (rules : List Rule) where
   pub took_clean : (sources : Tree) (begun : Build) → begun.tree ≡ sources → begun.verdicts ≡ replicate (length rules) None → takes_on (length rules) means rules begun ≡ takes means rules sources
   unfolding takes
   took_clean sources begun tree verdicts = ap (takes_on (length rules) means rules) (starts sources begun tree verdicts)
+
+  -- so the commands of these are those of the clean build
+  pub ran_clean : (sources : Tree) (begun : Build) → begun.tree ≡ sources → begun.verdicts ≡ replicate (length rules) None → commands_of rules (takes_on (length rules) means rules begun) ≡ commands means rules sources
+  ran_clean sources begun tree verdicts = ap (commands_of rules) (took_clean sources begun tree verdicts)

@@ -8,7 +8,7 @@ use Rattle.std.proofs.lemmas.Option.{same_Some, none-some, slice_get_within}
 use Rattle.std.specs.FinMap as finite
 use Rattle.std.specs.List.{slice_get, slice_set, list_all, filter_map, cons_option}
 use Rattle.tup_path.specs.Tree.{Tree}
-use Rattle.tup_link.specs.Circle.{NoneWaitsForItself}
+use Rattle.tup_clean.specs.Buildable.{NoneWaitsForItself}
 use Rattle.tup_rule.specs.declared.rule.Rule.{Rule}
 use Rattle.tup_rule.specs.Producer.{DeclaredProducer}
 use Rattle.tup_runner.specs.Next.{Next}
@@ -22,6 +22,7 @@ use Rattle.tup_clean.proofs.Acyclic.{placed, by_producers}
 use Rattle.tup_clean.proofs.Building.{step-some, step-none, takes-some, takes-none}
 use Rattle.tup_clean.proofs.MayTake.{may_first}
 use Rattle.tup_clean.proofs.Places.{some_place, set_cases, all_replicate}
+use Rattle.tup_clean.proofs.Standing.{ready_stands}
 use Rattle.tup_clean.proofs.VerdictLaws.{cases_Good}
 use Rattle.tup_clean.proofs.Whole.{is_good_at}
 
@@ -172,22 +173,26 @@ succeeds_all n build are = ap (λ (l : List (Option Verdict)). list_all is_good 
 
 -- ---- what the clean build takes
 
-takes_in_turn : (steps : ℕ) (next : Next) (rules : List Rule) (build : Build) →
-    AreTakenFrom rules build.verdicts (takes_on steps next rules build) × (with_verdicts build.verdicts (takes_on steps next rules build) ≡ (builds_on steps next rules build).verdicts)
+-- each of these is taken in turn, and this build has their verdicts
+abbrev TakesTo : List Rule → List (Option Verdict) → List Taken → Build → Type 0
+TakesTo rules verdicts taken end = AreTakenFrom rules verdicts taken × (with_verdicts verdicts taken ≡ end.verdicts)
+
+takes_in_turn : (steps : ℕ) (next : Next) (rules : List Rule) (build : Build) → TakesTo rules build.verdicts (takes_on steps next rules build) (builds_on steps next rules build)
 takes_in_turn zero next rules build = (tt, refl)
-takes_in_turn (suc steps) next rules build =
-    let InTurn : List Taken → Build → Type 0 = λ taken end. AreTakenFrom rules build.verdicts taken × (with_verdicts build.verdicts taken ≡ end.verdicts) in
-    elim (first_ready rules build.verdicts) as (λ f. first_ready rules build.verdicts ≡ f → InTurn (takes_on (suc steps) next rules build) (builds_on (suc steps) next rules build)) [
-      | None ↦ λ none. rw (takes-none next rules (suc steps) build none, step-none next rules (suc steps) build none) (tt, refl)
-      | Some at ↦ λ ready. elim (slice_get rules at) as (λ o. slice_get rules at ≡ o → InTurn (takes_on (suc steps) next rules build) (builds_on (suc steps) next rules build)) [
-        | None ↦ λ none. rw (ready, none, takes_on, builds_on) (tt, refl)
-        | Some rule ↦ λ here.
-            let rest = takes_in_turn steps next rules (given next rules build at rule) in
-            rw (takes-some next rules steps build at rule ready here, step-some next rules steps build at rule ready here) ((ready, rest.0), rest.1)
-      ] refl
-    ] refl
+takes_in_turn (suc steps) next rules build = by (λ other. takes_in_turn steps next rules other) (first_ready rules build.verdicts) refl
+  where
+    by : ((other : Build) → TakesTo rules other.verdicts (takes_on steps next rules other) (builds_on steps next rules other)) → (f : Option ℕ) → first_ready rules build.verdicts ≡ f →
+        TakesTo rules build.verdicts (takes_on (suc steps) next rules build) (builds_on (suc steps) next rules build)
+    by on None none =
+        subst (λ (l : List Taken). TakesTo rules build.verdicts l (builds_on (suc steps) next rules build)) (sym (takes-none next rules (suc steps) build none))
+        (subst (λ (b : Build). TakesTo rules build.verdicts [] b) (sym (step-none next rules (suc steps) build none)) (tt, refl))
+    by on (Some at) ready =
+        let found = ready_stands rules build.verdicts at ready in
+        let rest = on (given next rules build at found.0) in
+        let taken : List Taken = (at, (verdict next rules found.0 build.tree).verdict) ∷ takes_on steps next rules (given next rules build at found.0) in
+        subst (λ (l : List Taken). TakesTo rules build.verdicts l (builds_on (suc steps) next rules build)) (sym (takes-some next rules steps build at found.0 ready found.1))
+        (subst (λ (b : Build). TakesTo rules build.verdicts taken b) (sym (step-some next rules steps build at found.0 ready found.1)) ((ready, rest.0), rest.1))
 
 pub clean_takes_in_turn : (next : Next) (rules : List Rule) (sources : Tree) → AreTaken rules (takes next rules sources) × (verdicts_of rules (takes next rules sources) ≡ (clean next rules sources).verdicts)
-unfolding takes
-unfolding clean
+unfolding takes clean
 clean_takes_in_turn next rules sources = takes_in_turn (length rules) next rules (start rules sources)

@@ -3,12 +3,16 @@ use Rattle.std.specs.Prelude.{◌≡◌, ◌≢◌, ℕ, List, [], None, Some, s
 use Rattle.std.specs.FinMap as finite
 use Rattle.tup_path.specs.Name.{Names, IsPath}
 use Rattle.tup_path.specs.Tree.{Tree, IsBelow}
-use Rattle.tup_link.specs.Circle.{NoneWaitsForItself}
 use Rattle.tup_rule.specs.declared.rule.Rule.{Rule}
+use Rattle.tup_rule.specs.Producer.{DeclaredProducer}
 
 -- a path is an output of the rule at a place
 abbrev pub IsOutputAt : List Rule → ℕ → Names → Type 0
 IsOutputAt rules at path = (rule : Rule) × (slice_get rules at ≡ Some rule) × Contains rule.outputs path
+
+-- no rule waits for itself, over whatever rules between
+abbrev pub NoneWaitsForItself : List Rule → Type 0
+NoneWaitsForItself rules = (at : ℕ) (rule : Rule) → slice_get rules at ≡ Some rule → DeclaredProducer rules rule at → ⊥
 
 -- what the reading of a project promises of its rules
 pub record IsBuildable (sources : Tree) (rules : List Rule) : Type 0 where
@@ -20,5 +24,4 @@ pub record IsBuildable (sources : Tree) (rules : List Rule) : Type 0 where
   pub not_above_source : (at : ℕ) (path file : Names) → IsOutputAt rules at path → IsSome (finite.get sources file) → IsBelow path file → ⊥
   pub not_below_source : (at : ℕ) (path file : Names) → IsOutputAt rules at path → IsSome (finite.get sources file) → IsBelow file path → ⊥
   pub not_below_output : (at other : ℕ) (path file : Names) → IsOutputAt rules at path → IsOutputAt rules other file → IsBelow file path → ⊥
-  -- no rule waits for itself, over whatever rules between
   pub none_waits : NoneWaitsForItself rules

@@ -3,7 +3,7 @@
 use Rattle.std.specs.Prelude.{◌≡◌, ℕ, zero, suc, ⊤, if◌then◌else◌, List, [], ◌∷◌, length, Option, None, Some, IsTrue, IsSome, replicate, filter_map, map, slice_get, slice_set}
 use Rattle.std.specs.List.{list_all}
 use Rattle.tup_path.specs.Tree.{Tree}
-use Rattle.tup_link.specs.Circle.{NoneWaitsForItself}
+use Rattle.tup_clean.specs.Buildable.{NoneWaitsForItself}
 use Rattle.tup_rule.specs.declared.rule.Rule.{Rule}
 use Rattle.tup_runner.specs.Next.{Next}
 use Rattle.tup_access.specs.declared.verdict.Verdict.{Verdict}

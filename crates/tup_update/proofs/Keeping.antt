@@ -55,7 +55,7 @@ unchanged_sources : (old new : World) → new ≡ old → SourcesStay old new
 unchanged_sources old new same path there = ap (λ (w : World). finite.get w.tree path) same ∙ sym (left_is (owned old) old.tree path there).1
 
 -- where nothing was run nothing was run out of turn
-no_turns : (rules : List Rule) (ran : List RuleName) (ended : List Taken) → ran ≡ [] → ended ≡ [] → AreInTurn rules ended × AreBegun rules ran ended
+pub no_turns : (rules : List Rule) (ran : List RuleName) (ended : List Taken) → ran ≡ [] → ended ≡ [] → AreInTurn rules ended × AreBegun rules ran ended
 no_turns rules ran ended nothing none =
     subst (λ (l : List Taken). AreInTurn rules l × AreBegun rules ran l) (sym none) ((tt, refl), inl nothing)
 
@@ -82,9 +82,9 @@ unread_stays tells next rules old new log unread same none empty = record {
     forgotten (Unlucky Memory) = inl same
 
     turns : (unread : Unread) → TurnsFit rules log.ran log.ended (Some (stop_of unread))
-    turns (Store offset) = empty.2
-    turns (Sources fault) = empty.2
-    turns (Unlucky failed) = no_turns rules log.ran log.ended empty.2.0 empty.2.1
+    turns (Store offset) = (empty.2, empty.3)
+    turns (Sources fault) = (empty.2, empty.3)
+    turns (Unlucky failed) = no_turns rules log.ran log.ended empty.2 empty.3
 
 pub unread_keeps : (next : Next) (rules : List Rule) (old new : World) (log : Log) (unread : Unread) → HasCause next rules old new (Some (stop_of unread)) → IsEmptyLog log →
     Keeps next rules old new log (Some (stop_of unread))
@@ -303,7 +303,7 @@ module _ (project : Project) (old mid : World) (vanishing claiming : List Names)
       beside = ap (files_beside (outputs project.rules)) same ∙ beside_outputs (owned old) project.rules old.tree mid.tree ran.tree way.is.buildable same_left (owned_runnable cleared) behind;
       built = λ means. is_built next ran new (built means) same;
     })));
-    turns_fit = (turns.0, inl turns.1.0);
+    turns_fit = (turns.0, inl turns.1);
   }
 
   pub unfinished_keeps : (next : Next) (new : World) (before : List Names) (log : Log) (failed : SiteFailed) → IsSmallFailure failed → before ≡ [] → log.removed ≡ before ++ vanishing →

@@ -30,7 +30,7 @@ same_tests false true there back = back refl
 same_tests false false there back = refl
 
 -- an ascending list has the members of the list that it is made of
-among_ascending : (paths : List Names) (path : Names) → among path (ascending paths) ≡ among path paths
+pub among_ascending : (paths : List Names) (path : Names) → among path (ascending paths) ≡ among path paths
 among_ascending paths path =
     same_tests (among path (ascending paths)) (among path paths)
     (λ e. among-Contains path paths (ascending_has_only paths path (Contains-among path (ascending paths) e)))

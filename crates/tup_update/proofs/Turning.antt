@@ -3,7 +3,7 @@ use Rattle.std.proofs.Common.{◌≡◌, ◌⊎◌, inl, inr, ℕ, zero, suc, �
 use Rattle.std.specs.List.{slice_get, slice_set}
 use Rattle.std.proofs.lemmas.Option.{slice_get_within, slice_get-get_or}
 use Rattle.tup_path.specs.Tree.{Tree}
-use Rattle.tup_link.specs.Circle.{NoneWaitsForItself}
+use Rattle.tup_clean.specs.Buildable.{NoneWaitsForItself}
 use Rattle.tup_rule.specs.declared.rule.Rule.{Rule}
 use Rattle.tup_rule.specs.declared.rule.RuleName.{RuleName}
 use Rattle.tup_rule.specs.Rule.{name_of}
@@ -75,7 +75,7 @@ module _ (rules : List Rule) (count : ℕ) (ran : List RuleName) (ended : List T
   -- all were run
   pub turned_all : NoneWaitsForItself rules → first_ready rules (verdicts_of rules ended) ≡ None → TurnsFit rules ran ended None
   turned_all acyclic none =
-      (in_turn_good rules ended has.in_turn has.good, (has.begun, all_are_taken rules ended acyclic has.in_turn has.good none))
+      (in_turn_good rules ended has.in_turn has.good, has.begun, all_are_taken rules ended acyclic has.in_turn has.good none)
 
   module _ (at : ℕ) (rule : Rule) (ready : first_ready rules (verdicts_of rules ended) ≡ Some at) (here : slice_get rules at ≡ Some rule) where
     -- the next was begun, or couldn't be
@@ -111,10 +111,8 @@ module _ (rules : List Rule) (count : ℕ) (ran : List RuleName) (ended : List T
         ap up_to_bad is ∙ up_to_bad-good ended ((at, outcome) ∷ []) has.good
             ∙ ap (λ (l : List Taken). ended ++ l) (up_to_bad-bad (at, outcome) [] bad) ∙ sym is,
       ),
-      (
-        names_next outcome begun noted one is,
-        record { front = ended; at = at; rule = rule; last = is; stands = here; named = named; bad = bad },
-      ),
+      names_next outcome begun noted one is,
+      record { front = ended; at = at; rule = rule; last = is; stands = here; named = named; bad = bad },
     )
 
 -- ---- by what their runner means

@@ -1,4 +1,4 @@
-use Rattle.std.proofs.Common.{◌≡◌, refl, rules, ◌∙◌, sym, ap, ◌++◌, ◌∷◌, [], List, ℕ, Err}
+use Rattle.std.proofs.Common.{◌≡◌, refl, rules, ◌∙◌, sym, ap, ◌++◌, ◌∷◌, [], List, ℕ, Err, arith}
 use Rattle.std.proofs.lemmas.List.{append-nil}
 use Rattle.std.proofs.lemmas.Option.{slice_get_read, slice_get_within}
 use Rattle.std.proofs.lemmas.Result.{err_from_is_err_and}
@@ -6,6 +6,7 @@ use Rattle.tup_path.specs.Name.{Names}
 use Rattle.tup_clean.specs.Clean.{good_at}
 use Rattle.tup_clean.specs.Cleaned.{build}
 use Rattle.tup_clean.specs.Ran.{command_of, commands_of}
+use Rattle.tup_clean.specs.Taken.{Taken}
 use Rattle.tup_clean.proofs.Stopping.{stopped_after, stopped_in, ran_more, ran_whole}
 use Rattle.tup_clean.proofs.Taking.{is_left, taken_at, can_note, going_start, going_more, going_none, going_end, going_left, going_left_next}
 use Rattle.tup_clean.proofs.Turns.{told_more}
@@ -54,7 +55,7 @@ loop-preserved g c =
     let taken = taken_at c.args.rules.now c.loop.verdicts c.in-Some.at _ next in
     let within = slice_get_within c.args.rules.now c.in-Some.at taken.rule taken.here in
     let here = slice_get_read c.args.rules.now _ c.in-Some.at c.index-rules-at.result refl within c.index-rules-at.is in
-    let one = (c.in-Some.at, c.in_ok-verdict.verdict) in
+    let one : Taken = (c.in-Some.at, c.in_ok-verdict.verdict) in
     record {
       going = (
         c.loop.invariant.going.0 ++ one ∷ [],

@@ -4,8 +4,7 @@ use Rattle.std.proofs.lemmas.Result.{err_from_is_err_and}
 use Rattle.std.specs.FinMap as finite
 use Rattle.tup_clean.specs.Clean.{Build}
 use Rattle.tup_clean.specs.Cleaned.{build}
-use Rattle.tup_clean.specs.Ran.{commands_of}
-use Rattle.tup_clean.proofs.Building.{built_clean, took_clean}
+use Rattle.tup_clean.proofs.Building.{built_clean, ran_clean}
 use Rattle.tup_clean.proofs.Stopping.{ran_whole, stopped_all, stopped_same}
 use Rattle.tup_clean.proofs.build.clean_build.Goals as goal
 
@@ -21,18 +20,18 @@ returns g c =
           };
       ran = λ told tells.
           ran_whole _ _ _ _ (c.in_ok-build_on.ensures.ran told tells)
-          (ap (commands_of c.args.rules.now) (took_clean g.R.Runner.next c.args.rules.now _ (build c.in_ok-tree.tree _) c.in_ok-tree.ensures (c.deref_mut.ensures.value ∙ c.in_ok-verdicts.ensures)));
+          (ran_clean g.R.Runner.next c.args.rules.now _ (build c.in_ok-tree.tree _) c.in_ok-tree.ensures (c.deref_mut.ensures.value ∙ c.in_ok-verdicts.ensures));
       cause = c.in_ok-build_on.ensures.cause;
     }
 
 pub returns-in_err-build_on-clause-ran : goal.returns-in_err-build_on-clause-ran
 returns-in_err-build_on-clause-ran g c = λ told tells.
-    let same = ap (commands_of c.args.rules.now) (took_clean g.R.Runner.next c.args.rules.now _ (build c.in_ok-tree.tree _) c.in_ok-tree.ensures (c.deref_mut.ensures.value ∙ c.in_ok-verdicts.ensures)) in
+    let same = ran_clean g.R.Runner.next c.args.rules.now _ (build c.in_ok-tree.tree _) c.in_ok-tree.ensures (c.deref_mut.ensures.value ∙ c.in_ok-verdicts.ensures) in
     let is : c.from_residual-in_err-build_on.result ≡ Err c.in_err-build_on.field-0.0 = grind arith in
     rw is (stopped_same _ _ _ _ same (c.in_err-build_on.ensures.ran told tells))
 
 pub returns-in_err-into_files-clause-ran : goal.returns-in_err-into_files-clause-ran
 returns-in_err-into_files-clause-ran g c = λ told tells.
-    let same = ap (commands_of c.args.rules.now) (took_clean g.R.Runner.next c.args.rules.now _ (build c.in_ok-tree.tree _) c.in_ok-tree.ensures (c.deref_mut.ensures.value ∙ c.in_ok-verdicts.ensures)) in
+    let same = ran_clean g.R.Runner.next c.args.rules.now _ (build c.in_ok-tree.tree _) c.in_ok-tree.ensures (c.deref_mut.ensures.value ∙ c.in_ok-verdicts.ensures) in
     let p = err_from_is_err_and c.from_residual-in_err-into_files.result c.from_residual-in_err-into_files.ensures.1 in
     rw p.1 (stopped_all _ _ _ _ same (c.in_ok-build_on.ensures.ran told tells))

@@ -301,7 +301,7 @@ returns-in_default-clause-run g c = λ tells means.
     let verdicts = verdicts_of rules c.loop.ended in
     let none = none_ready rules verdicts c.loop.queue _ c.loop.invariant.queued (c.in_default.ensures rules (is_left verdicts) (good_at verdicts) c.loop.invariant.queued.waiting) in
     let all = turned_all rules c.loop.counter c.loop.ran c.loop.ended c.loop.invariant.has (c.requires.runnable tells).buildable.none_waits none in
-    built_all g.R.Runner.next rules (files_beside c.args.self.now.owned (g.S.Site.world c.args.site.now).tree) c.loop.counter c.loop.ended (g.S.Site.world c.loop.site).tree (c.loop.invariant.builds tells means) c.loop.invariant.has.good none all.1.1
+    built_all g.R.Runner.next rules (files_beside c.args.self.now.owned (g.S.Site.world c.args.site.now).tree) c.loop.counter c.loop.ended (g.S.Site.world c.loop.site).tree (c.loop.invariant.builds tells means) c.loop.invariant.has.good none all.2
 
 pub returns-in_default-clause-noted : goal.returns-in_default-clause-noted
 returns-in_default-clause-noted g c = λ tells means.
@@ -329,7 +329,7 @@ returns-clause-run g c = λ tells means.
     let rules = c.args.self.now.rules in
     let none = none_at_end rules c.loop.counter c.loop.ran c.loop.ended c.loop.invariant.has (subst (λ (l : List Rule). length l ≤ c.loop.counter) c.as_slice-rules.ensures c.loop-test.false) in
     let all = turned_all rules c.loop.counter c.loop.ran c.loop.ended c.loop.invariant.has (c.requires.runnable tells).buildable.none_waits none in
-    built_all g.R.Runner.next rules (files_beside c.args.self.now.owned (g.S.Site.world c.args.site.now).tree) c.loop.counter c.loop.ended (g.S.Site.world c.loop.site).tree (c.loop.invariant.builds tells means) c.loop.invariant.has.good none all.1.1
+    built_all g.R.Runner.next rules (files_beside c.args.self.now.owned (g.S.Site.world c.args.site.now).tree) c.loop.counter c.loop.ended (g.S.Site.world c.loop.site).tree (c.loop.invariant.builds tells means) c.loop.invariant.has.good none all.2
 
 pub returns-clause-noted : goal.returns-clause-noted
 returns-clause-noted g c = λ tells means.
