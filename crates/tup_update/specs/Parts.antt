@@ -2,7 +2,7 @@
 use Rattle.std.specs.Prelude.{◌≡◌, ◌⊎◌, ◌<◌, ◌≤◌, ⊤, ℕ, true, false, length, filter_map, unwrap_or, if◌then◌else◌, List, [], ◌∷◌, ◌++◌, None, Some, IsSome, IsTrue, Option, Result, Ok, Err, filter, slice_get}
 use Rattle.std.specs.FinMap as finite
 use Rattle.std.specs.Result.{result_ok}
-use Rattle.tup_path.specs.Name.{Names}
+use Rattle.tup_path.specs.Name.{Names, Content}
 use Rattle.tup_path.specs.Resolve.{above}
 use Rattle.tup_path.specs.Tree.{Tree}
 use Rattle.tup_site.specs.World.{World}
@@ -66,6 +66,11 @@ pub record IsProject (project : Project) (w : World) : Type 0 where
   pub read : project.read ≡ folders_read w
   pub asked : AsksFor w project.rules
   pub buildable : IsBuildable (sources w) project.rules
+
+-- files with the one more that was found at a path, if there is one
+abbrev pub AddsFile : Names → Option Content → Tree → Tree → Type 0
+AddsFile path None old new = new ≡ old
+AddsFile path (Some content) old new = new ≡ finite.insert old path content
 
 -- a tree's files are what they are in another
 abbrev pub AgreesOnItsFiles : Tree → Tree → Type 0

@@ -53,7 +53,7 @@ pub fn compare_site<S: Site, R: Runner>(
 {
     let built = clean_files(alloc, site, runner)?;
     let files = all_files(alloc, site)?;
-    Ok(compared(files.as_slice(), built.as_slice())?)
+    Ok(comparison(files.as_slice(), built.as_slice())?)
 }
 
 /// The files that a clean build of the sources leaves, whose rules are all Good.
@@ -157,7 +157,7 @@ fn all_files<S: Site>(alloc: Global, site: &mut S) -> Result<Files, SiteFailed>
 }
 
 /// How two lists of files compare, which stand in the order of their paths.
-fn compared(one: &[(Path, Bytes)], other: &[(Path, Bytes)]) -> Result<Compared, AllocError>
+fn comparison(one: &[(Path, Bytes)], other: &[(Path, Bytes)]) -> Result<Compared, AllocError>
     ensures { IfOk result (λ compared. compared
         ≡ compared_at (specs.difference one.now other.now)) }
 {

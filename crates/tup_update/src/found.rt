@@ -10,7 +10,7 @@ ghost use Rattle.tup_runner.specs.Next.{Next};
 ghost use Rattle.tup_clean.specs.Buildable.{IsBuildable};
 ghost use Rattle.tup_update.specs.Outcome.{HasCause};
 ghost use Rattle.tup_update.specs.Outside.{HandsOn};
-ghost use Rattle.tup_update.specs.Parts.{IsFound, IsRefusal, KnowsLimits, IsTooMany, NamesALargeFile, AgreesOnItsFiles};
+ghost use Rattle.tup_update.specs.Parts.{AddsFile, IsFound, IsRefusal, KnowsLimits, IsTooMany, NamesALargeFile, AgreesOnItsFiles};
 ghost use Rattle.tup_update.specs.Sources as specs;
 ghost use Rattle.tup_update.specs.Sources.{AsksFor};
 ghost use Rattle.tup_update.specs.Stopped.{stop_of};
@@ -22,7 +22,7 @@ use crate::stop::Unread;
 use std::alloc::Global;
 use tup_map::ByPath;
 use tup_owned::read_owned;
-use tup_path::{Files, Path, Paths};
+use tup_path::{Bytes, Files, Path, Paths};
 use tup_rule::Rules;
 use tup_scan::MAX_FILES;
 use tup_site::{Site, SiteFailed};
@@ -120,9 +120,27 @@ pub(crate) fn contents<S: Site>(
 {
     let mut files = ByPath::new(alloc);
     for path in paths {
-        if let Some(content) = site.get(alloc, path)? {
-            files.insert(path.clone()?, content)?;
-        }
+        add(alloc, site, &mut files, path)?;
     }
     Ok(files.into_items(alloc)?)
+}
+
+/// Adds the file at a path, if it is there.
+fn add<S: Site>(
+    alloc: Global,
+    site: &mut S,
+    files: &mut ByPath<Bytes>,
+    path: &Path,
+) -> Result<(), SiteFailed>
+    ensures added { IsTrue S.tells → let found = finite.get (S.world site.old).tree path.now in
+        OnOk result (AddsFile path.now found files.old files.new) }
+    ensures same { IsTrue S.tells → S.world site.new ≡ S.world site.old }
+    ensures large { IsTrue S.tells → NamesALargeFile (S.world site.new).tree result }
+    ensures only_large { OnlyLarge result }
+    ensures counted { CountsFaults (S.faults site.old) (S.faults site.new) result }
+{
+    match site.get(alloc, path)? {
+        Some(content) => Ok(files.insert(path.clone()?, content)?),
+        None => Ok(()),
+    }
 }
