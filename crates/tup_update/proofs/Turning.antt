@@ -154,7 +154,7 @@ module _ (next : Next) (rules : List Rule) (sources : Tree) (count : ℕ) (ended
     ready : first_ready rules is.now.verdicts ≡ Some at
     ready = ap (first_ready rules) is.verdicts ∙ first
 
-    outcome : Verdict
+    abbrev outcome : Verdict
     outcome = (verdict next rules rule is.now.tree).verdict
 
     -- and behind the next one
@@ -255,5 +255,5 @@ module _ (next : Next) (rules : List Rule) (sources : Tree) (count : ℕ) (ended
         subst (λ (b : Build). IsBuilt b tree) whole (record { clean = succeeds_all (length rules) is.now verdicts; files = agrees_whole rules is.now tree verdicts is.agrees })
 
 -- all of it is a part of it
-pub noted_part : (rules : List Rule) (ends : List Taken) (ran : List RuleName) (ended : List Taken) → AreNoted rules ends ran ended → ArePartNoted rules ends ran ended
-noted_part rules ends ran ended noted = (([], append-nil ran ∙ noted.0), ([], append-nil ended ∙ noted.1))
+pub noted_part : (rules : List Rule) (whole : List Taken) (ran : List RuleName) (ended : List Taken) → AreNoted rules whole ran ended → ArePartNoted rules whole ran ended
+noted_part rules whole ran ended noted = (([], append-nil ran ∙ noted.0), ([], append-nil ended ∙ noted.1))

@@ -110,11 +110,11 @@ abbrev pub bad_of : Rule → Verdict → Option (RuleName × Verdict)
 bad_of rule verdict = if is_good (Some verdict) then None else Some (name_of rule, verdict)
 
 -- a rule that was run ended: it is noted with its verdict, of which this is so, and named where it isn't Good
-pub record Ends (at : ℕ) (rule : Rule) (left : Verdict → Type 0) (old new : List Taken) (bad : Option (RuleName × Verdict)) : Type 0 where
+pub record Ends (at : ℕ) (rule : Rule) (leaves : Verdict → Type 0) (old new : List Taken) (bad : Option (RuleName × Verdict)) : Type 0 where
   pub verdict : Verdict
   pub noted : new ≡ old ++ (at, verdict) ∷ []
   pub named : bad ≡ bad_of rule verdict
-  pub left : left verdict
+  pub left : leaves verdict
 
 -- a rule was begun, or couldn't be
 abbrev pub BeginsIt : Rule → List RuleName → List RuleName → Type 0
