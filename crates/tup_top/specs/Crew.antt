@@ -1,5 +1,6 @@
 -- The runners of one call: what they count, and what they ran.
 use Rattle.std.specs.Prelude.{◌≡◌, ◌<◌, ◌≤◌, ℕ, List, [], ◌∷◌, length, Option, None, Some, slice_get, Result}
+use Rattle.std.specs.Result.{result_err}
 use Rattle.tup_path.specs.Count.{Rose}
 use Rattle.tup_path.specs.Name.{Names}
 use Rattle.tup_site.specs.World.{World}
@@ -53,7 +54,7 @@ CrewRuns ran before [] stopped = ⊥
 
 -- the first runner was given the commands of a comparison to run, and the others ran nothing
 abbrev pub CrewCompares : Next → World → List (List (Names × List ℕ)) → List (List (Names × List ℕ)) → Result Compared Stop → Type 0
-CrewCompares next w (old ∷ others) (new ∷ rest) result = RunsToCompare next w old new result × (rest ≡ others)
+CrewCompares next w (old ∷ others) (new ∷ rest) result = RunsToCompare next w old new (result_err result) × (rest ≡ others)
 CrewCompares next w [] now result = ⊥
 CrewCompares next w before [] result = ⊥
 

@@ -49,7 +49,7 @@ pub record BuildsAlike (next : Next) (w : World) (compared : Compared) : Type 0 
   pub rules : List Rule
   pub asked : AsksFor w rules
   pub clean : IsTrue (succeeds (build next rules w))
-  pub compared : AreCompared w.tree (build next rules w).tree compared
+  pub alike : AreCompared w.tree (build next rules w).tree compared
 
 -- this is the first rule that isn't Good in the clean build
 pub record BuildsBadly (next : Next) (w : World) (name : RuleName) (verdict : Verdict) : Type 0 where
@@ -74,7 +74,7 @@ pub record BuildsWell (next : Next) (w : World) (files : List (Names × Content)
   pub asked : AsksFor w rules
   pub buildable : IsBuildable (sources w) rules
   pub clean : IsTrue (succeeds (build next rules w))
-  pub files : files ≡ finite.entries (build next rules w).tree
+  pub are : files ≡ finite.entries (build next rules w).tree
 
 abbrev pub HasBuilt : Next → World → Result (List (Names × Content)) Stop → Type 0
 HasBuilt next w (Ok files) = BuildsWell next w files
@@ -83,25 +83,25 @@ HasBuilt next w (Err stop) = HasCompared next w (Err stop)
 -- ---- what was run
 
 -- all commands were run in their order, or a front of them, where a build was stopped
-abbrev pub RunsBuildOf : {T : Type 0} → List (Names × List ℕ) → List (Names × List ℕ) → List (Names × List ℕ) → Result T Stop → Type 0
-RunsBuildOf commands old new (Ok value) = new ≡ old ++ commands
-RunsBuildOf commands old new (Err (Bad name verdict)) = new ≡ old ++ commands
-RunsBuildOf commands old new (Err stop) = RunsFront commands old new
+abbrev pub RunsBuildOf : List (Names × List ℕ) → List (Names × List ℕ) → List (Names × List ℕ) → Option Stop → Type 0
+RunsBuildOf commands old new None = new ≡ old ++ commands
+RunsBuildOf commands old new (Some (Bad name verdict)) = new ≡ old ++ commands
+RunsBuildOf commands old new (Some stop) = RunsFront commands old new
 
 -- the commands of the clean build of the sources were run so
-pub record RunsIt {T : Type 0} (next : Next) (w : World) (old new : List (Names × List ℕ)) (result : Result T Stop) : Type 0 where
+pub record RunsIt (next : Next) (w : World) (old new : List (Names × List ℕ)) (stopped : Option Stop) : Type 0 where
   pub rules : List Rule
   pub asked : AsksFor w rules
-  pub ran : RunsBuildOf (commands next rules (sources w)) old new result
+  pub ran : RunsBuildOf (commands next rules (sources w)) old new stopped
 
 -- what was run for a comparison: nothing where there are no rules
-abbrev pub RunsToCompare : {T : Type 0} → Next → World → List (Names × List ℕ) → List (Names × List ℕ) → Result T Stop → Type 0
-RunsToCompare next w old new (Err (BadStore offset)) = new ≡ old
-RunsToCompare next w old new (Err (Sources fault)) = new ≡ old
-RunsToCompare next w old new (Err (Outside failed)) = (new ≡ old) ⊎ RunsIt {T = ⊤} next w old new (Err (Outside failed))
-RunsToCompare next w old new (Err (Bad name verdict)) = RunsIt {T = ⊤} next w old new (Err (Bad name verdict))
-RunsToCompare next w old new (Err Run) = RunsIt {T = ⊤} next w old new (Err Run)
-RunsToCompare next w old new (Ok value) = RunsIt next w old new (Ok {E = Stop} value)
+abbrev pub RunsToCompare : Next → World → List (Names × List ℕ) → List (Names × List ℕ) → Option Stop → Type 0
+RunsToCompare next w old new None = RunsIt next w old new None
+RunsToCompare next w old new (Some (BadStore offset)) = new ≡ old
+RunsToCompare next w old new (Some (Sources fault)) = new ≡ old
+RunsToCompare next w old new (Some (Bad name verdict)) = RunsIt next w old new (Some (Bad name verdict))
+RunsToCompare next w old new (Some Run) = RunsIt next w old new (Some Run)
+RunsToCompare next w old new (Some (Outside failed)) = (new ≡ old) ⊎ RunsIt next w old new (Some (Outside failed))
 
 -- ---- the verdicts of a build
 

@@ -45,7 +45,8 @@ pub fn compare_site<S: Site, R: Runner>(
         → HasCompared R.next (S.world site.old) result }
     ensures same { IsTrue S.tells → S.world site.new ≡ S.world site.old }
     ensures ran { IsTrue S.tells → IsTrue R.tells → IsTrue R.tells_ran
-        → RunsToCompare R.next (S.world site.old) (R.ran runner.old) (R.ran runner.new) result }
+        → RunsToCompare R.next (S.world site.old) (R.ran runner.old) (R.ran runner.new)
+        (result_err result) }
     ensures counted_cause { HasCountedCause (S.faults site.old) (S.faults site.new)
         (result_err result) }
     ensures run_cause { HasRunCause (R.faults runner.old) (R.faults runner.new)
@@ -67,7 +68,8 @@ fn clean_files<S: Site, R: Runner>(
     ensures sorted { IfOk result (λ files. IsTrue (finite.is_sorted by_names files)) }
     ensures same { IsTrue S.tells → S.world site.new ≡ S.world site.old }
     ensures ran { IsTrue S.tells → IsTrue R.tells → IsTrue R.tells_ran
-        → RunsToCompare R.next (S.world site.old) (R.ran runner.old) (R.ran runner.new) result }
+        → RunsToCompare R.next (S.world site.old) (R.ran runner.old) (R.ran runner.new)
+        (result_err result) }
     ensures counted_cause { HasCountedCause (S.faults site.old) (S.faults site.new)
         (result_err result) }
     ensures run_cause { HasRunCause (R.faults runner.old) (R.faults runner.new)
@@ -91,7 +93,7 @@ fn good_build<R: Runner>(
     ensures sorted { IfOk result (λ files. IsTrue (finite.is_sorted by_names files)) }
     ensures ran { IsTrue R.tells → IsTrue R.tells_ran
         → RunsBuildOf (commands R.next rules.now (finite.from_sorted sources.now))
-        (R.ran runner.old) (R.ran runner.new) result }
+        (R.ran runner.old) (R.ran runner.new) (result_err result) }
     ensures run_cause { HasRunCause (R.faults runner.old) (R.faults runner.new)
         (result_err result) }
 {
