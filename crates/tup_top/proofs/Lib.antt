@@ -2,3 +2,4 @@ pub mod Causes
 pub mod Crewed
 pub mod Idle
 pub mod Success
+pub mod Verified
