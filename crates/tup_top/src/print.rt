@@ -80,11 +80,25 @@ fn add_ended(
         OnOk result (string_bytes text.new ≡ string_bytes text.old ++ told) }
 {
     for (at, verdict) in ended {
-        if let Some(rule) = rules.get(*at) {
-            add_verdict(text, rule, verdict)?;
-        }
+        add_line(text, rules, *at, verdict)?;
     }
     Ok(())
+}
+
+/// Adds the line of the rule at a place.
+fn add_line(
+    text: &mut String,
+    rules: &[Rule],
+    at: usize,
+    verdict: &Verdict,
+) -> Result<(), AllocError>
+    ensures { let told = specs.ended_line rules.now (at, verdict.now) in
+        OnOk result (string_bytes text.new ≡ string_bytes text.old ++ told) }
+{
+    match rules.get(at) {
+        Some(rule) => add_verdict(text, rule, verdict),
+        None => Ok(()),
+    }
 }
 
 /// Adds the line of a rule that ended.

@@ -14,6 +14,8 @@ use Rattle.tup_access.specs.Judge.{Judged}
 use Rattle.tup_access.specs.Verdict.{verdict}
 use Rattle.tup_clean.specs.AnyOrder.{MakeApart}
 use Rattle.tup_clean.specs.Clean.{Build, is_good, first_ready, given, builds_on, start, clean, with_files}
+use Rattle.tup_clean.specs.Queue.{Notes}
+use Rattle.tup_clean.specs.declared.queue.Queue.{Queue}
 use Rattle.tup_clean.specs.Taken.{Taken, verdicts_of, AreTaken, AllGood, takes_on, takes, up_to_bad}
 use Rattle.tup_clean.proofs.Agreeing.{Agrees, verdict_same, agrees_more, agrees_whole}
 use Rattle.tup_clean.proofs.Building.{IsUnderWay, step-some, under_way_start, under_way_more, under_way_left, under_way_none, built_clean, took_clean}
@@ -39,6 +41,10 @@ rule_here rules items at item same rule here is =
 pub verdicts_of_more : (rules : List Rule) (ended : List Taken) (at : ℕ) (outcome : Verdict) (noted : List Taken) → noted ≡ ended ++ (at, outcome) ∷ [] →
     verdicts_of rules noted ≡ slice_set (verdicts_of rules ended) at (Some outcome)
 verdicts_of_more rules ended at outcome noted is = ap (verdicts_of rules) is ∙ verdicts_more (replicate (length rules) None) ended (at, outcome)
+
+-- what was noted of a good verdict was noted of this one
+pub notes_of : (at : ℕ) (outcome : Verdict) (left noted : Queue) → outcome ≡ Good → Notes at (is_good (Some Good)) left noted → Notes at (is_good (Some outcome)) left noted
+notes_of at outcome left noted good notes = subst (λ (v : Verdict). Notes at (is_good (Some v)) left noted) (sym good) notes
 
 -- ---- whoever runs their commands
 

@@ -14,30 +14,30 @@ use Rattle.tup_top.proofs.update.update.Goals as goal
 pub returns-in_default-clause-exactly_the_files : goal.returns-in_default-clause-exactly_the_files
 returns-in_default-clause-exactly_the_files g c = λ tells means.
     let update = c.update_site-rules in
-    (update.result.rules, untold_rules _ _ update.result.stopped (update.ensures.rules tells), tt)
+    (update.result.rules, untold_rules (g.S.Site.world c.args.site.now) c.update_site-rules.result.rules update.result.stopped (update.ensures.rules tells), tt)
 
 pub returns-in_default-clause-nothing_forgotten : goal.returns-in_default-clause-nothing_forgotten
 returns-in_default-clause-nothing_forgotten g c = λ tells.
     let update = c.update_site-rules in
     let fits = update.ensures.rules tells in
-    (update.result.rules, untold_rules _ _ update.result.stopped fits, untold_left g.R.Runner.tells g.R.Runner.next _ _ _ update.result.stopped fits (update.ensures.nothing_forgotten tells) (λ means. update.ensures.exactly_the_files tells means))
+    (update.result.rules, untold_rules (g.S.Site.world c.args.site.now) c.update_site-rules.result.rules update.result.stopped fits, untold_left g.R.Runner.tells g.R.Runner.next _ _ _ update.result.stopped fits (update.ensures.nothing_forgotten tells) (λ means. update.ensures.exactly_the_files tells means))
 
 pub returns-in_default-clause-cause : goal.returns-in_default-clause-cause
 returns-in_default-clause-cause g c = λ tells means.
     let update = c.update_site-rules in
-    (update.result.rules, untold_rules _ _ update.result.stopped (update.ensures.rules tells), tt)
+    (update.result.rules, untold_rules (g.S.Site.world c.args.site.now) c.update_site-rules.result.rules update.result.stopped (update.ensures.rules tells), tt)
 
 pub returns-in_default-clause-begun : goal.returns-in_default-clause-begun
 returns-in_default-clause-begun g c = λ tells means.
     let update = c.update_site-rules in
     let old = g.S.Site.world c.args.site.now in
     let rules = update.result.rules in
-    (rules, untold_rules _ _ update.result.stopped (update.ensures.rules tells), untold_ran g.R.Runner.next rules old update.result.log.ran update.result.stopped (ran_fits g.R.Runner.next rules old update.result.log update.result.stopped (update.ensures.logged tells means)))
+    (rules, untold_rules (g.S.Site.world c.args.site.now) c.update_site-rules.result.rules update.result.stopped (update.ensures.rules tells), untold_ran g.R.Runner.next rules old update.result.log.ran update.result.stopped (ran_fits g.R.Runner.next rules old update.result.log update.result.stopped (update.ensures.logged tells means)))
 
 pub returns-in_default-clause-in_turn : goal.returns-in_default-clause-in_turn
 returns-in_default-clause-in_turn g c = λ tells.
     let update = c.update_site-rules in
-    (update.result.rules, untold_rules _ _ update.result.stopped (update.ensures.rules tells), (update.result.log.ended, untold_turns _ _ _ update.result.stopped (update.ensures.in_turn tells)))
+    (update.result.rules, untold_rules (g.S.Site.world c.args.site.now) c.update_site-rules.result.rules update.result.stopped (update.ensures.rules tells), (update.result.log.ended, untold_turns _ _ _ update.result.stopped (update.ensures.in_turn tells)))
 
 pub returns-in_default-clause-ran : goal.returns-in_default-clause-ran
 returns-in_default-clause-ran g c = λ tells.
@@ -47,7 +47,7 @@ returns-in_default-clause-ran g c = λ tells.
 pub returns-in_default-clause-told : goal.returns-in_default-clause-told
 returns-in_default-clause-told g c = λ tells means.
     let update = c.update_site-rules in
-    (update.result.rules, untold_rules _ _ update.result.stopped (update.ensures.rules tells), tt)
+    (update.result.rules, untold_rules (g.S.Site.world c.args.site.now) c.update_site-rules.result.rules update.result.stopped (update.ensures.rules tells), tt)
 
 pub returns-in_default-clause-printed : goal.returns-in_default-clause-printed
 returns-in_default-clause-printed g c = λ tells means _. record {
