@@ -148,15 +148,15 @@ differ_at (file ∷ one) [] path up also is =
     subst (DifferAt (file ∷ one) []) (same_Some file.0 path is) (at_one file one [] up refl (λ earlier less. refl))
 differ_at [] (file ∷ other) path up also is =
     subst (DifferAt [] (file ∷ other)) (same_Some file.0 path is) (other_way (file ∷ other) [] file.0 (at_one file other [] also refl (λ earlier less. refl)))
-differ_at (here ∷ one) (there ∷ other) path up also is = by (same_file here there) refl
+differ_at (here ∷ one) (there ∷ other) path up also is =
+    by (λ e. differ_at one other path (tail_sorted here one up) (tail_sorted there other also) e) (same_file here there) refl
   where
-    by : (b : Bool) → same_file here there ≡ b → DifferAt (here ∷ one) (there ∷ other) path
-    by true same =
+    by : (difference one other ≡ Some path → DifferAt one other path) → (b : Bool) → same_file here there ≡ b → DifferAt (here ∷ one) (there ∷ other) path
+    by rest true same =
         let parts = and_parts (same_path here.0 there.0) (bytes_eq here.1 there.1) same in
         behind here there one other path ((same_path-decides here.0 there.0).0 parts.0) ((same_bytes-decides here.1 there.1).0 parts.1) up also
-        (differ_at one other path (tail_sorted here one up) (tail_sorted there other also)
-        (sym (ap (λ (b : Bool). if b then difference one other else Some (first_of here.0 there.0)) same) ∙ is))
-    by false apart =
+        (rest (sym (ap (λ (b : Bool). if b then difference one other else Some (first_of here.0 there.0)) same) ∙ is))
+    by rest false apart =
         subst (DifferAt (here ∷ one) (there ∷ other))
         (same_Some (first_of here.0 there.0) path (sym (ap (λ (b : Bool). if b then difference one other else Some (first_of here.0 there.0)) apart) ∙ is))
         (apart_at here there one other apart up also)
@@ -166,16 +166,16 @@ same_lists : (one other : Entries) → difference one other ≡ None → one ≡
 same_lists [] [] is = refl
 same_lists (file ∷ one) [] is = absurd (none-some file.0 (sym is))
 same_lists [] (file ∷ other) is = absurd (none-some file.0 (sym is))
-same_lists (here ∷ one) (there ∷ other) is = by (same_file here there) refl
+same_lists (here ∷ one) (there ∷ other) is = by (λ e. same_lists one other e) (same_file here there) refl
   where
-    by : (b : Bool) → same_file here there ≡ b → here ∷ one ≡ there ∷ other
-    by true same =
+    by : (difference one other ≡ None → one ≡ other) → (b : Bool) → same_file here there ≡ b → here ∷ one ≡ there ∷ other
+    by more true same =
         let parts = and_parts (same_path here.0 there.0) (bytes_eq here.1 there.1) same in
         let path = (same_path-decides here.0 there.0).0 parts.0 in
         let content = (same_bytes-decides here.1 there.1).0 parts.1 in
-        let rest = same_lists one other (sym (ap (λ (b : Bool). if b then difference one other else Some (first_of here.0 there.0)) same) ∙ is) in
+        let rest = more (sym (ap (λ (b : Bool). if b then difference one other else Some (first_of here.0 there.0)) same) ∙ is) in
         λ i. (path i, content i) ∷ rest i
-    by false apart = absurd (none-some (first_of here.0 there.0) (sym (sym (ap (λ (b : Bool). if b then difference one other else Some (first_of here.0 there.0)) apart) ∙ is)))
+    by more false apart = absurd (none-some (first_of here.0 there.0) (sym (sym (ap (λ (b : Bool). if b then difference one other else Some (first_of here.0 there.0)) apart) ∙ is)))
 
 from_T : (b : Bool) → T b → b ≡ true
 from_T true h = refl

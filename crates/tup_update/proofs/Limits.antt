@@ -1,5 +1,6 @@
 -- A limit of linking is told only where it is passed.
 use Rattle.std.proofs.Common.{◌≡◌, ◌⊎◌, inl, inr, ℕ, ◌+◌, ◌<◌, ◌==◌, Bool, true, false, if◌then◌else◌, nat_lt, List, [], ◌∷◌, length, Option, None, Some, Err, option_map, option_and_then, slice_get, refl, sym, ◌∙◌, ap, subst}
+use Rattle.std.specs.Bool.{⊤}
 use Rattle.std.specs.List.{find}
 use Rattle.std.specs.Option.{option_or}
 use Rattle.tup_path.specs.Name.{Names}

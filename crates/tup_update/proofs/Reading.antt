@@ -1,6 +1,7 @@
 -- The sources of a tree: their keys, that they are a tree themselves, how they are read and what they are read as.
-use Rattle.std.proofs.Common.{◌≡◌, ◌≢◌, T, ℕ, ◌+◌, ◌<◌, is_some, Result, Err, Bool, true, false, cond, if◌then◌else◌, not, ◌||◌, filter, List, [], ◌∷◌, ◌++◌, length, take, get_or, codes, bytes_eq, Option, None, Some, IsSome, option_map, map, All, refl, sym, ◌∙◌, ap, subst}
-use Rattle.std.specs.List.{list_any}
+use Rattle.std.proofs.Common.{◌≡◌, ◌≢◌, T, ℕ, ◌+◌, ◌<◌, is_some, Result, Err, Bool, true, false, cond, if◌then◌else◌, not, ◌||◌, filter, List, [], ◌∷◌, ◌++◌, length, take, get_or, codes, bytes_eq, Option, None, Some, IsSome, option_map, unwrap_or, map, All, refl, sym, ◌∙◌, ap, subst}
+use Rattle.std.specs.List.{list_any, filter_map, cons_option}
+use Rattle.std.specs.Result.{result_ok}
 use Rattle.std.proofs.lemmas.Bool.{false≢true, or_right}
 use Rattle.std.proofs.lemmas.List.Folds.{list_any_more}
 use Rattle.std.specs.FinMap as finite
@@ -10,6 +11,9 @@ use Rattle.std.proofs.lemmas.List.Elements.{All-filter}
 use Rattle.tup_path.specs.Name.{Names, Content, IsPath}
 use Rattle.tup_path.specs.Order.{by_names, same_path, same_path-by_names, by_names-antisymmetric, by_names-total}
 use Rattle.tup_path.specs.Tree.{Tree, IsTree}
+use Rattle.tup_path.specs.Resolve.{above}
+use Rattle.tup_path.specs.declared.fault.PathFault.{PathFault}
+use Rattle.tup_path.proofs.Walks.{above_last}
 use Rattle.tup_path.proofs.Same.{same_path-decides, same_tree, get_inserted, get_inserted_elsewhere}
 use Rattle.tup_rule.specs.Rule.{among}
 use Rattle.tup_rule.specs.declared.rule.Rule.{Rule}
@@ -18,7 +22,7 @@ use Rattle.tup_link.specs.declared.fault.What.TheVariants.{Commands, Links}
 use Rattle.tup_whole.specs.Project.{ComeTo}
 use Rattle.tup_whole.specs.declared.fault.ProjectFault.{ProjectFault}
 use Rattle.tup_whole.specs.declared.fault.ProjectFault.TheVariants as project
-use Rattle.tup_update.specs.Parts.{AddsFile, AgreesOnItsFiles, IsFound, IsRefusal}
+use Rattle.tup_update.specs.Parts.{AddsFile, AgreesOnItsFiles, IsFolderOf, IsFound, IsRefusal}
 use Rattle.tup_update.specs.Sources.{files_beside, folder_of_tupfile, owned, sources, ReadAs}
 use Rattle.tup_update.specs.Stopped.{unread_of_project}
 use Rattle.tup_update.specs.declared.found.Found.{Found}
@@ -190,3 +194,14 @@ pub tupfile_last : (folder : Names) (name : List ℕ) → folder_of_tupfile (fol
 tupfile_last [] name = refl
 tupfile_last (first ∷ []) name = below first [] (bytes_eq name (codes "Tupfile"))
 tupfile_last (first ∷ next ∷ folder) name = ap (option_map (λ (l : Names). first ∷ l)) (tupfile_last (next ∷ folder) name) ∙ below first (next ∷ folder) (bytes_eq name (codes "Tupfile"))
+
+-- a Tupfile gives its folder, and another file none
+pub folder_listed : (path front : Names) (name : List ℕ) (folder : Names) → path ≡ front ++ name ∷ [] → bytes_eq name (codes "Tupfile") ≡ true → IsFolderOf path folder → filter_map folder_of_tupfile (path ∷ []) ≡ folder ∷ []
+folder_listed path front name folder is named of =
+    let found : folder_of_tupfile path ≡ Some front = ap folder_of_tupfile is ∙ tupfile_last front name ∙ ap (λ (b : Bool). if b then Some front else None) named in
+    let same : folder ≡ front = of ∙ ap (λ (p : Names). unwrap_or (result_ok (above p)) []) is ∙ ap (λ (r : Result Names PathFault). unwrap_or (result_ok r) []) (above_last front name) in
+    ap (λ (o : Option Names). cons_option o []) found ∙ ap (λ (f : Names). f ∷ []) (sym same)
+
+pub none_listed : (path front : Names) (name : List ℕ) → path ≡ front ++ name ∷ [] → bytes_eq name (codes "Tupfile") ≡ false → filter_map folder_of_tupfile (path ∷ []) ≡ []
+none_listed path front name is named =
+    ap (λ (o : Option Names). cons_option o []) (ap folder_of_tupfile is ∙ tupfile_last front name ∙ ap (λ (b : Bool). if b then Some front else None) named)

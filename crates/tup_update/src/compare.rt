@@ -118,9 +118,10 @@ fn first_not_good(
     requires { length verdicts.now ≡ length rules.now }
     ensures { IfOk result (FindsNotGood rules.now verdicts.now) }
 {
-    for (rule, verdict) in rules.iter().zip(verdicts) {
-        if let Some(bad) = not_good(alloc, rule, verdict)? {
-            return Ok(Some(bad));
+    for (at, rule) in rules.iter().enumerate() {
+        let bad = not_good(alloc, rule, &verdicts[at])?;
+        if bad.is_some() {
+            return Ok(bad);
         }
     }
     Ok(None)
@@ -173,17 +174,32 @@ fn comparison(one: &[(Path, Bytes)], other: &[(Path, Bytes)]) -> Result<Compared
 fn difference<'f>(one: &'f [(Path, Bytes)], other: &'f [(Path, Bytes)]) -> Option<&'f Path>
     ensures { option_copied result ≡ specs.difference one.now other.now }
 {
-    let mut one = one;
-    let mut other = other;
-    while let (Some((here, more)), Some((there, others))) = (one.split_first(), other.split_first()) {
-        if here.0 != there.0 || here.1 != there.1 {
-            return Some(if there.0 < here.0 { &there.0 } else { &here.0 });
+    let mut left = other;
+    for here in one {
+        let Some((there, others)) = left.split_first() else {
+            return Some(&here.0);
+        };
+        if !same(here, there) {
+            return Some(first(&here.0, &there.0));
         }
-        one = more;
-        other = others;
+        left = others;
     }
-    match (one.first(), other.first()) {
-        (Some(file), _) | (None, Some(file)) => Some(&file.0),
-        (None, None) => None,
+    match left.first() {
+        Some(there) => Some(&there.0),
+        None => None,
     }
+}
+
+/// Whether two files have one path and one content.
+fn same(one: &(Path, Bytes), other: &(Path, Bytes)) -> bool
+    ensures { result ≡ specs.same_file one.now other.now }
+{
+    one.0 == other.0 && one.1 == other.1
+}
+
+/// Of two paths the one that comes first.
+fn first<'f>(one: &'f Path, other: &'f Path) -> &'f Path
+    ensures { result.now ≡ specs.first_of one.now other.now }
+{
+    if other < one { other } else { one }
 }

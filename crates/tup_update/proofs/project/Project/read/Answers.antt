@@ -25,4 +25,4 @@ pub returns-in_err-rules-clause-cause : goal.returns-in_err-rules-clause-cause
 returns-in_err-rules-clause-cause g c = λ tells.
     let old = g.S.Site.world c.args.site.now in
     err_if c.from_residual-in_err-rules.result c.in_err-rules.field-0.0 _ c.from_residual-in_err-rules.ensures.1
-    (λ next rules. refusal_cause next rules old _ c.in_err-rules.field-0.0 (c.in_err-rules.ensures.refused old (c.in_ok-found.ensures.found tells)))
+    (λ next rules. refusal_cause next rules old (g.S.Site.world c.read.new.site) c.in_err-rules.field-0.0 (c.in_err-rules.ensures.refused old (c.in_ok-found.ensures.found tells)))
