@@ -1,19 +1,19 @@
 -- Where two lists of files first differ, and what the clean build is beside which files are looked at.
-use Rattle.std.proofs.Common.{◌≡◌, ◌≢◌, T, ℕ, ◌<◌, Bool, true, false, cond, ◌&&◌, bytes_eq, if◌then◌else◌, List, [], ◌∷◌, length, Option, None, Some, IsTrue, replicate, refl, sym, ◌∙◌, ap, subst}
-use Rattle.std.specs.List.{slice_get}
-use Rattle.std.specs.Bool.{passes}
+use Rattle.std.proofs.Common.{◌≡◌, ◌≢◌, T, ℕ, ◌<◌, Bool, true, false, cond, ◌&&◌, bytes_eq, if◌then◌else◌, List, [], ◌∷◌, length, Option, None, Some, Result, Ok, Err, IsTrue, inr, refl, sym, ◌∙◌, ap, subst}
+use Rattle.std.specs.Result.{result_err, IsErrAnd}
 use Rattle.std.specs.Ordering.{is_eq, is_lt, eq_by_cmp, match_ordering, ordering_reverse}
 use Rattle.std.specs.declared.cmp.Ordering.{Ordering}
 use Rattle.std.specs.declared.cmp.Ordering.TheVariants.{Less, Equal, Greater}
 use Rattle.std.specs.FinMap as finite
 use Rattle.std.specs.FinMap.Entries.{below_all}
 use Rattle.std.proofs.lemmas.Bool.{false≢true, and_parts, and_from}
-use Rattle.std.proofs.lemmas.Option.{none-some, same_Some}
+use Rattle.std.proofs.lemmas.Option.{none-some, same_Some, slice_get_within}
 use Rattle.tup_path.specs.Name.{Names, Content}
 use Rattle.tup_path.specs.Order.{by_names, same_path, by_names-total, by_names-antisymmetric}
 use Rattle.tup_path.specs.Tree.{Tree}
 use Rattle.tup_path.proofs.Same.{same_path-decides, same_bytes-decides, by_names-decides}
 use Rattle.tup_site.specs.World.{World}
+use Rattle.tup_site.specs.declared.fault.SiteFailed.TheVariants.{Fault, TooLarge, Memory}
 use Rattle.tup_rule.specs.declared.rule.Rule.{Rule}
 use Rattle.tup_runner.specs.Next.{Next}
 use Rattle.tup_access.specs.declared.verdict.Verdict.{Verdict}
@@ -21,13 +21,24 @@ use Rattle.tup_access.specs.declared.verdict.Verdict.TheVariants.{Good}
 use Rattle.tup_clean.specs.AnyOrder.{IsWhole}
 use Rattle.tup_clean.specs.Buildable.{IsBuildable}
 use Rattle.tup_clean.specs.Clean.{clean, first_ready, good_at, succeeds}
+use Rattle.tup_clean.specs.Ran.{commands}
 use Rattle.tup_clean.proofs.Agreeing.{make_apart}
 use Rattle.tup_clean.proofs.MayTake.{first_may}
 use Rattle.tup_clean.proofs.OneBuild.{clean_taken, clean_whole}
+use Rattle.tup_clean.proofs.Places.{some_place}
 use Rattle.tup_clean.proofs.Standing.{ready_stands}
 use Rattle.tup_clean.proofs.Whole.{good_is}
 use Rattle.tup_clean.proofs.Turns.{all_are_good, is_the_good, succeeds_all}
-use Rattle.tup_update.specs.Compared.{AreCompared, DifferFirstAt, NoneIsBad, compared_at, difference, first_of, same_file}
+use Rattle.tup_update.specs.Compared.{AreCompared, DifferFirstAt, HasCompared, HasBuilt, BuildsWell, BuildsAlike, IsGoodBuild, NoneIsBad, RunsBuildOf, RunsToCompare, compared_at, difference, first_of, same_file}
+use Rattle.tup_update.specs.Outcome.{HasCause}
+use Rattle.tup_update.specs.Parts.{HasFileOf}
+use Rattle.tup_update.specs.Sources.{AsksFor, build, sources}
+use Rattle.tup_update.specs.Stopped.{stop_of}
+use Rattle.tup_update.specs.declared.compare.Compared.{Compared}
+use Rattle.tup_update.specs.declared.stop.Stop.{Stop}
+use Rattle.tup_update.specs.declared.stop.Stop.TheVariants.{BadStore, Sources, Bad, Run, Outside}
+use Rattle.tup_update.specs.declared.stop.Unread.{Unread}
+use Rattle.tup_update.specs.declared.stop.Unread.TheVariants.{Store, Sources as NoRules, Outside as Unlucky}
 use Rattle.tup_update.specs.declared.compare.Compared.TheVariants.{Same, Differs}
 
 abbrev Entries : Type 0
@@ -177,7 +188,7 @@ same_lists (here ∷ one) (there ∷ other) is = by (λ e. same_lists one other 
         λ i. (path i, content i) ∷ rest i
     by more false apart = absurd (none-some (first_of here.0 there.0) (sym (sym (ap (λ (b : Bool). if b then difference one other else Some (first_of here.0 there.0)) apart) ∙ is)))
 
-from_T : (b : Bool) → T b → b ≡ true
+pub from_T : (b : Bool) → T b → b ≡ true
 from_T true h = refl
 from_T false h = absurd h
 
@@ -218,7 +229,63 @@ module _ (next : Next) (rules : List Rule) (sources : Tree) (buildable : IsBuild
           (first_may rules (clean next rules sources) at stands.0
           (record { behind = λ place reader here good. whole.ready place reader Good here (good_is (clean next rules sources).verdicts place good) }) ready stands.1))
 
-  pub good_succeeds : NoneIsBad (clean next rules sources).verdicts → IsTrue (succeeds (clean next rules sources))
+  pub good_succeeds : NoneIsBad rules (clean next rules sources).verdicts → IsTrue (succeeds (clean next rules sources))
   good_succeeds good =
       succeeds_all (length rules) (clean next rules sources)
-      (all_are_good rules (clean next rules sources).verdicts whole.many (λ at outcome has. is_the_good outcome (good at outcome has)) buildable.none_waits none_ready_more)
+      (all_are_good rules (clean next rules sources).verdicts whole.many
+      (λ at outcome has.
+      let rule = some_place rules at (subst (λ (n : ℕ). at < n) whole.many (slice_get_within (clean next rules sources).verdicts at (Some outcome) has)) in
+      is_the_good outcome (good at rule.0 outcome rule.1 has)) buildable.none_waits none_ready_more)
+
+-- ---- what a comparison comes to
+
+module _ (next : Next) (w : World) where
+  -- where the sources can't be read, or ask for no rules
+  pub unread_compared : (new : World) (unread : Unread) → HasCause next [] w new (Some (stop_of unread)) → new ≡ w → HasCompared next w (Err (stop_of unread))
+  unread_compared new (Store offset) why same = why
+  unread_compared new (NoRules fault) why same = why
+  unread_compared new (Unlucky Fault) why same = tt
+  unread_compared new (Unlucky (TooLarge n)) why same = subst (λ (world : World). HasFileOf n world.tree) same why
+  unread_compared new (Unlucky Memory) why same = tt
+
+  pub built_err : (result : Result Entries Stop) (stop : Stop) → IsErrAnd result (λ e. e ≡ stop) → HasCompared next w (Err stop) → HasBuilt next w result
+  built_err (Ok files) stop is has = absurd is
+  built_err (Err given) stop is has = subst (λ (s : Stop). HasCompared next w (Err s)) (sym is) has
+
+  -- the clean build of rules that the sources ask for
+  pub built_compared : (rules : List Rule) (sorted : Tree) (result : Result Entries Stop) → AsksFor w rules → IsBuildable (sources w) rules → sorted ≡ sources w → IsGoodBuild rules (clean next rules sorted) result → HasBuilt next w result
+  built_compared rules sorted result asked buildable same is =
+      by result (subst (λ (t : Tree). IsGoodBuild rules (clean next rules t) result) same is)
+    where
+      by : (r : Result Entries Stop) → IsGoodBuild rules (clean next rules (sources w)) r → HasBuilt next w r
+      by (Ok files) (good, are) = record { rules = rules; asked = asked; buildable = buildable; clean = good_succeeds next rules (sources w) buildable good; are = are }
+      by (Err (Bad name verdict)) first = record { rules = rules; asked = asked; first = first }
+      by (Err (BadStore offset)) never = absurd never
+      by (Err (Sources fault)) never = absurd never
+      by (Err Run) is = tt
+      by (Err (Outside Fault)) is = tt
+      by (Err (Outside (TooLarge n))) is = absurd (cc is)
+      by (Err (Outside Memory)) is = tt
+
+  -- and what was run of it
+  pub built_runs : (rules : List Rule) (sorted : Tree) (old new : List (Names × List ℕ)) (result : Result Entries Stop) → AsksFor w rules → sorted ≡ sources w → IsGoodBuild rules (clean next rules sorted) result →
+      RunsBuildOf (commands next rules sorted) old new (result_err result) → RunsToCompare next w old new (result_err result)
+  built_runs rules sorted old new result asked same is runs =
+      by result is (subst (λ (t : Tree). RunsBuildOf (commands next rules t) old new (result_err result)) same runs)
+    where
+      by : (r : Result Entries Stop) → IsGoodBuild rules (clean next rules sorted) r → RunsBuildOf (commands next rules (sources w)) old new (result_err r) → RunsToCompare next w old new (result_err r)
+      by (Ok files) is ran = record { rules = rules; asked = asked; ran = ran }
+      by (Err (Bad name verdict)) is ran = record { rules = rules; asked = asked; ran = ran }
+      by (Err (BadStore offset)) never ran = absurd never
+      by (Err (Sources fault)) never ran = absurd never
+      by (Err Run) is ran = record { rules = rules; asked = asked; ran = ran }
+      by (Err (Outside failed)) is ran = inr (record { rules = rules; asked = asked; ran = ran })
+
+  -- the files beside those of a build that succeeds
+  pub compared_alike : (files built : Entries) (compared : Compared) → BuildsWell next w built → files ≡ finite.entries w.tree → compared ≡ compared_at (difference files built) → BuildsAlike next w compared
+  compared_alike files built compared well are is = record {
+    rules = well.rules;
+    asked = well.asked;
+    clean = well.clean;
+    alike = subst (AreCompared w.tree (build next well.rules w).tree) (sym (is ∙ (λ i. compared_at (difference (are i) (well.are i))))) (compared_are w.tree (build next well.rules w).tree);
+  }

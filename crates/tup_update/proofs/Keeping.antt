@@ -19,7 +19,7 @@ use Rattle.tup_owned.specs.Ascending.{ascending}
 use Rattle.tup_update.specs.Log.{IsFront, IsGrownByFront, IsPartOf, IsEmptyLog, IsUnused, LogFits, RulesFit, whole_log, with_read}
 use Rattle.tup_update.specs.Outcome.{Stays, Keeps, HasCause, HasCountedCause, IsListed, AllIsMade, IsLeft, NothingForgotten, SourcesStay, claimed}
 use Rattle.tup_update.specs.Outside.{HandsOn}
-use Rattle.tup_update.specs.Parts.{IsRefusal, KnowsLimits, Changes, SameBeside, SameBesideOutputs, IsCleared, IsRunnable, HasFileOf, HasRun, AreNoted, ArePartNoted, IsBuilt, IsProject}
+use Rattle.tup_update.specs.Parts.{IsOfRules, IsRefusal, KnowsLimits, Changes, SameBeside, SameBesideOutputs, IsCleared, IsRunnable, HasFileOf, HasRun, AreNoted, ArePartNoted, IsBuilt, IsProject}
 use Rattle.tup_update.specs.Sources.{owned, sources, files_beside, ends, outputs, vanished}
 use Rattle.tup_update.specs.Stopped.{stop_of, stop_of_halt}
 use Rattle.tup_update.specs.Turns.{names_of, AreInTurn, AreBegun, TurnsFit}
@@ -48,6 +48,27 @@ refusal_cause next rules old new (Sources fault) refused = refused
 refusal_cause next rules old new (Unlucky Fault) refused = tt
 refusal_cause next rules old new (Unlucky (TooLarge n)) refused = absurd (cc refused)
 refusal_cause next rules old new (Unlucky Memory) refused = tt
+
+-- what is told of the rules tells of no failure of the site
+pub refusal_knows : (unread : Unread) → IsOfRules unread → KnowsLimits unread
+refusal_knows (Store offset) told = absurd told
+refusal_knows (Sources fault) told = told
+refusal_knows (Unlucky failed) told = tt
+
+pub refusal_counts : (before now : ℕ) (unread : Unread) → now ≡ before → IsOfRules unread → HasCountedCause before now (Some (stop_of unread))
+refusal_counts before now (Store offset) same told = absurd told
+refusal_counts before now (Sources fault) same told = (same, told)
+refusal_counts before now (Unlucky Fault) same told = absurd (cc told)
+refusal_counts before now (Unlucky (TooLarge n)) same told = absurd (cc told)
+refusal_counts before now (Unlucky Memory) same told = same
+
+pub refusal_hands_on : {T : Type 0} (before now : ℕ) (result : Result T Unread) (unread : Unread) → IsErrAnd result (λ e. e ≡ unread) → now ≡ before → IsOfRules unread → HandsOn Unlucky before now result
+refusal_hands_on {T} before now (Ok value) unread is same told = absurd is
+refusal_hands_on {T} before now (Err given) unread is same told = record {
+  fault = λ e. let never = subst IsOfRules (cc e) (subst IsOfRules (sym is) told) in absurd (cc never);
+  steady = λ other. same;
+  too_large = λ n e. let never = subst IsOfRules (cc e) (subst IsOfRules (sym is) told) in absurd (cc never);
+}
 
 -- the counts of what stops before it begins
 pub unread_counts : {T : Type 0} (before now : ℕ) (result : Result T Unread) (unread : Unread) → result ≡ Err unread → HandsOn Unlucky before now result → KnowsLimits unread →

@@ -1,5 +1,5 @@
 -- A limit of linking is told only where it is passed.
-use Rattle.std.proofs.Common.{◌≡◌, ◌⊎◌, inl, inr, ℕ, ◌+◌, ◌<◌, ◌==◌, Bool, true, false, if◌then◌else◌, nat_lt, List, [], ◌∷◌, length, Option, None, Some, Err, option_map, option_and_then, slice_get, refl, sym, ◌∙◌, ap, subst}
+use Rattle.std.proofs.Common.{◌≡◌, ◌⊎◌, inl, inr, ℕ, ◌+◌, ◌<◌, ◌==◌, Bool, true, false, if◌then◌else◌, nat_lt, List, [], ◌∷◌, length, Option, None, Some, Err, option_map, option_and_then, slice_get, refl, sym, subst, arith}
 use Rattle.std.specs.Bool.{⊤}
 use Rattle.std.specs.List.{find}
 use Rattle.std.specs.Option.{option_or}
@@ -19,7 +19,7 @@ use Rattle.tup_link.specs.Placed.{Placed, placed, drafts_of}
 use Rattle.tup_whole.specs.Project.{ComeTo}
 use Rattle.tup_whole.specs.declared.fault.ProjectFault.{ProjectFault}
 use Rattle.tup_whole.specs.declared.fault.ProjectFault.TheVariants as project
-use Rattle.tup_update.specs.Parts.{KnowsLimits}
+use Rattle.tup_update.specs.Parts.{IsOfRules}
 use Rattle.tup_update.specs.Stopped.{unread_of_project}
 use Rattle.tup_update.specs.Sources.{PassesLimit}
 
@@ -48,7 +48,7 @@ commands_true : (count : ℕ) → AllTrue (too_many_commands count)
 commands_true count = by (nat_lt 65536 count) refl
   where
     by : (b : Bool) → nat_lt 65536 count ≡ b → AllTrue (if b then Some (linking.TooMany Commands count) else None)
-    by true e = omega e
+    by true e = omega (arith, e)
     by false e = tt
 
 links_true : (before : ℕ) (rules : List Rule) → AllTrue (too_many_links before rules)
@@ -56,7 +56,7 @@ links_true before [] = tt
 links_true before (rule ∷ rules) = either _ _ (by (nat_lt 4194304 (before + links rule)) refl) (links_true (before + links rule) rules)
   where
     by : (b : Bool) → nat_lt 4194304 (before + links rule) ≡ b → AllTrue (if b then Some (linking.TooMany Links (before + links rule)) else None)
-    by true e = omega e
+    by true e = omega (arith, e)
     by false e = tt
 
 missing_true : (group_has : Members) (groups : List GroupRef) → AllTrue (missing_group group_has groups)
@@ -89,13 +89,13 @@ early_true readings = in_true (placed readings)
 cause_true : (readings : List (Names × Reading)) (fault : LinkFault) → HasCause readings fault → IsTrueOf fault
 cause_true readings fault (inl none) = subst IsTrueOf (sym none) tt
 cause_true readings fault (inr (inl early)) = subst AllTrue early (early_true readings)
-cause_true readings fault (inr (inr (none, places, circle, is))) = subst IsTrueOf (sym is) tt
+cause_true readings fault (inr (inr (none, circular))) = subst IsTrueOf (sym circular.2) tt
 
-pub knows_limits : (sources : Tree) (fault : ProjectFault) → ComeTo sources (Err fault) → KnowsLimits (unread_of_project fault)
-knows_limits sources (project.Parse fault) come = tt
-knows_limits sources (project.CircularDirs dirs) come = tt
-knows_limits sources (project.NoSuchGroup group) come = tt
-knows_limits sources (project.CircularCommands names) come = tt
-knows_limits sources (project.TooMany Commands number) come = cause_true come.0 (linking.TooMany Commands number) come.2
-knows_limits sources (project.TooMany Links number) come = cause_true come.0 (linking.TooMany Links number) come.2
-knows_limits sources project.Memory come = tt
+pub of_rules : (sources : Tree) (fault : ProjectFault) → ComeTo sources (Err fault) → IsOfRules (unread_of_project fault)
+of_rules sources (project.Parse fault) come = tt
+of_rules sources (project.CircularDirs dirs) come = tt
+of_rules sources (project.NoSuchGroup group) come = tt
+of_rules sources (project.CircularCommands names) come = tt
+of_rules sources (project.TooMany Commands number) come = cause_true come.0 (linking.TooMany Commands number) come.2
+of_rules sources (project.TooMany Links number) come = cause_true come.0 (linking.TooMany Links number) come.2
+of_rules sources project.Memory come = refl

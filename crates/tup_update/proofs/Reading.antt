@@ -2,12 +2,14 @@
 use Rattle.std.proofs.Common.{◌≡◌, ◌≢◌, T, ℕ, ◌+◌, ◌<◌, is_some, Result, Err, Bool, true, false, cond, if◌then◌else◌, not, ◌||◌, filter, List, [], ◌∷◌, ◌++◌, length, take, get_or, codes, bytes_eq, Option, None, Some, IsSome, option_map, unwrap_or, map, All, refl, sym, ◌∙◌, ap, subst}
 use Rattle.std.specs.List.{list_any, filter_map, cons_option}
 use Rattle.std.specs.Result.{result_ok}
+use Rattle.std.specs.Map.{keys_of}
+use Rattle.std.proofs.lemmas.List.{map_more}
 use Rattle.std.proofs.lemmas.Bool.{false≢true, or_right}
 use Rattle.std.proofs.lemmas.List.Folds.{list_any_more}
 use Rattle.std.specs.FinMap as finite
 use Rattle.std.specs.FinMap.Entries.{where_key, is_sorted, is_sorted-where_key, find-where_key}
 use Rattle.std.specs.declared.cmp.Ordering.TheVariants.{Equal}
-use Rattle.std.proofs.lemmas.List.Elements.{All-filter}
+use Rattle.std.proofs.lemmas.List.Elements.{All-filter, filter_map-append}
 use Rattle.tup_path.specs.Name.{Names, Content, IsPath}
 use Rattle.tup_path.specs.Order.{by_names, same_path, same_path-by_names, by_names-antisymmetric, by_names-total}
 use Rattle.tup_path.specs.Tree.{Tree, IsTree}
@@ -205,3 +207,11 @@ folder_listed path front name folder is named of =
 pub none_listed : (path front : Names) (name : List ℕ) → path ≡ front ++ name ∷ [] → bytes_eq name (codes "Tupfile") ≡ false → filter_map folder_of_tupfile (path ∷ []) ≡ []
 none_listed path front name is named =
     ap (λ (o : Option Names). cons_option o []) (ap folder_of_tupfile is ∙ tupfile_last front name ∙ ap (λ (b : Bool). if b then Some front else None) named)
+
+-- one source more
+pub folders_more : (sources : List (Names × Content)) (at : ℕ) (file : Names × Content) → at < length sources → get_or sources at file ≡ file →
+    filter_map folder_of_tupfile (keys_of (take (at + 1) sources)) ≡ filter_map folder_of_tupfile (keys_of (take at sources)) ++ filter_map folder_of_tupfile (file.0 ∷ [])
+folders_more sources at file within here =
+    ap (filter_map folder_of_tupfile)
+    (map_more (λ (f : Names × Content). f.0) sources at file within ∙ ap (λ (f : Names × Content). keys_of (take at sources) ++ f.0 ∷ []) here)
+    ∙ filter_map-append folder_of_tupfile (keys_of (take at sources)) (file.0 ∷ [])

@@ -106,22 +106,25 @@ RunsToCompare next w old new (Some (Outside failed)) = (new ≡ old) ⊎ RunsIt 
 -- ---- the verdicts of a build
 
 -- a rule with its verdict, where it has one that isn't Good
-abbrev pub bad_verdict : Rule → Option Verdict → Option (RuleName × Verdict)
+abbrev pub bad_verdict : Rule → Option (Option Verdict) → Option (RuleName × Verdict)
 bad_verdict rule None = None
-bad_verdict rule (Some verdict) = if is_good (Some verdict) then None else Some (name_of rule, verdict)
+bad_verdict rule (Some None) = None
+bad_verdict rule (Some (Some verdict)) = if is_good (Some verdict) then None else Some (name_of rule, verdict)
 
--- no verdict is one that isn't Good
-abbrev pub NoneIsBad : List (Option Verdict) → Type 0
-NoneIsBad verdicts = (at : ℕ) (verdict : Verdict) → slice_get verdicts at ≡ Some (Some verdict) → IsTrue (is_good (Some verdict))
+-- no rule has a verdict that isn't Good
+abbrev pub NoneIsBad : List Rule → List (Option Verdict) → Type 0
+NoneIsBad rules verdicts =
+    (at : ℕ) (rule : Rule) (verdict : Verdict) → slice_get rules at ≡ Some rule → slice_get verdicts at ≡ Some (Some verdict)
+    → IsTrue (is_good (Some verdict))
 
 -- the first rule that isn't Good, or none
 abbrev pub FindsNotGood : List Rule → List (Option Verdict) → Option (RuleName × Verdict) → Type 0
-FindsNotGood rules verdicts None = NoneIsBad verdicts
+FindsNotGood rules verdicts None = NoneIsBad rules verdicts
 FindsNotGood rules verdicts (Some bad) = IsFirstNotGood rules verdicts bad.0 bad.1
 
 -- the files of a build in which no rule is bad; the first that is bad stops it
 abbrev pub IsGoodBuild : List Rule → Build → Result (List (Names × Content)) Stop → Type 0
-IsGoodBuild rules build (Ok files) = NoneIsBad build.verdicts × (files ≡ finite.entries build.tree)
+IsGoodBuild rules build (Ok files) = NoneIsBad rules build.verdicts × (files ≡ finite.entries build.tree)
 IsGoodBuild rules build (Err (Bad name verdict)) = IsFirstNotGood rules build.verdicts name verdict
 IsGoodBuild rules build (Err Run) = ⊤
 IsGoodBuild rules build (Err (Outside failed)) = failed ≡ Memory

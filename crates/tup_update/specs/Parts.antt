@@ -55,6 +55,12 @@ KnowsLimits (Outside failed) = ⊤
 abbrev pub IsFolderOf : Names → Names → Type 0
 IsFolderOf path folder = folder ≡ unwrap_or (result_ok (above path)) []
 
+-- why there are no rules, whatever is told of the sources: a limit only where it is passed, and no failure of the site
+abbrev pub IsOfRules : Unread → Type 0
+IsOfRules (Store offset) = ⊥
+IsOfRules (NoRules fault) = PassesLimit fault
+IsOfRules (Outside failed) = failed ≡ Memory
+
 -- folders, and behind them that of a path which is a Tupfile
 abbrev pub AddsFolder : Names → List Names → List Names → Type 0
 AddsFolder path old new = new ≡ old ++ filter_map folder_of_tupfile (path ∷ [])

@@ -1,5 +1,5 @@
 //! The files of a site beside a clean build of its sources.
-ghost use Rattle.std.specs.Prelude.{◌≡◌, length, IsTrue, IfOk};
+ghost use Rattle.std.specs.Prelude.{◌≡◌, ℕ, IsTrue, IfOk};
 ghost use Rattle.std.specs.FinMap as finite;
 ghost use Rattle.std.specs.Option.{option_copied};
 ghost use Rattle.std.specs.Result.{result_err};
@@ -65,7 +65,6 @@ fn clean_files<S: Site, R: Runner>(
 ) -> Result<Files, Stop>
     ensures clean { IsTrue S.tells → IsTrue R.tells
         → HasBuilt R.next (S.world site.old) result }
-    ensures sorted { IfOk result (λ files. IsTrue (finite.is_sorted by_names files)) }
     ensures same { IsTrue S.tells → S.world site.new ≡ S.world site.old }
     ensures ran { IsTrue S.tells → IsTrue R.tells → IsTrue R.tells_ran
         → RunsToCompare R.next (S.world site.old) (R.ran runner.old) (R.ran runner.new)
@@ -90,10 +89,10 @@ fn good_build<R: Runner>(
     requires { IsTrue (finite.is_sorted by_names sources.now) }
     ensures built { IsTrue R.tells
         → IsGoodBuild rules.now (clean R.next rules.now (finite.from_sorted sources.now)) result }
-    ensures sorted { IfOk result (λ files. IsTrue (finite.is_sorted by_names files)) }
     ensures ran { IsTrue R.tells → IsTrue R.tells_ran
         → RunsBuildOf (commands R.next rules.now (finite.from_sorted sources.now))
         (R.ran runner.old) (R.ran runner.new) (result_err result) }
+    ensures counted { (count : ℕ) → HasCountedCause count count (result_err result) }
     ensures run_cause { HasRunCause (R.faults runner.old) (R.faults runner.new)
         (result_err result) }
 {
@@ -115,11 +114,10 @@ fn first_not_good(
     rules: &[Rule],
     verdicts: &[Option<Verdict>],
 ) -> Result<Option<BadRule>, AllocError>
-    requires { length verdicts.now ≡ length rules.now }
     ensures { IfOk result (FindsNotGood rules.now verdicts.now) }
 {
     for (at, rule) in rules.iter().enumerate() {
-        let bad = not_good(alloc, rule, &verdicts[at])?;
+        let bad = not_good(alloc, rule, verdicts.get(at))?;
         if bad.is_some() {
             return Ok(bad);
         }
@@ -131,13 +129,13 @@ fn first_not_good(
 fn not_good(
     alloc: Global,
     rule: &Rule,
-    verdict: &Option<Verdict>,
+    verdict: Option<&Option<Verdict>>,
 ) -> Result<Option<BadRule>, AllocError>
-    ensures { IfOk result (λ bad. bad ≡ specs.bad_verdict rule.now verdict.now) }
+    ensures { IfOk result (λ bad. bad ≡ specs.bad_verdict rule.now (option_copied verdict)) }
 {
     let verdict = match verdict {
-        None | Some(Verdict::Good) => return Ok(None),
-        Some(verdict) => verdict.clone()?,
+        None | Some(None | Some(Verdict::Good)) => return Ok(None),
+        Some(Some(verdict)) => verdict.clone()?,
     };
     match rule.name(alloc) {
         Ok(name) => Ok(Some((name, verdict))),
@@ -149,7 +147,6 @@ fn not_good(
 fn all_files<S: Site>(alloc: Global, site: &mut S) -> Result<Files, SiteFailed>
     ensures files { IsTrue S.tells
         → IfOk result (λ files. files ≡ finite.entries (S.world site.old).tree) }
-    ensures sorted { IfOk result (λ files. IsTrue (finite.is_sorted by_names files)) }
     ensures same { IsTrue S.tells → S.world site.new ≡ S.world site.old }
     ensures large { IsTrue S.tells → NamesALargeFile (S.world site.new).tree result }
     ensures only_large { OnlyLarge result }

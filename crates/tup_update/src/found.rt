@@ -10,7 +10,7 @@ ghost use Rattle.tup_runner.specs.Next.{Next};
 ghost use Rattle.tup_clean.specs.Buildable.{IsBuildable};
 ghost use Rattle.tup_update.specs.Outcome.{HasCause};
 ghost use Rattle.tup_update.specs.Outside.{HandsOn};
-ghost use Rattle.tup_update.specs.Parts.{AddsFile, IsFound, IsRefusal, KnowsLimits, IsTooMany, NamesALargeFile, AgreesOnItsFiles};
+ghost use Rattle.tup_update.specs.Parts.{AddsFile, IsFound, IsOfRules, IsRefusal, KnowsLimits, IsTooMany, NamesALargeFile, AgreesOnItsFiles};
 ghost use Rattle.tup_update.specs.Sources as specs;
 ghost use Rattle.tup_update.specs.Sources.{AsksFor};
 ghost use Rattle.tup_update.specs.Stopped.{stop_of};
@@ -71,7 +71,7 @@ impl Found {
         ensures buildable { (w : World) → IsTree w.tree → IsFound w self.now
             → IfOk result (IsBuildable (specs.sources w)) }
         ensures refused { (w : World) → IsFound w self.now → IfErr result (IsRefusal w) }
-        ensures limits { IfErr result KnowsLimits }
+        ensures fault { IfErr result IsOfRules }
     {
         Ok(read_all(alloc, &self.sources)?)
     }

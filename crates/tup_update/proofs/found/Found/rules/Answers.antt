@@ -6,7 +6,7 @@ use Rattle.tup_clean.specs.Buildable.{IsBuildable}
 use Rattle.tup_whole.specs.Project.{ComeTo}
 use Rattle.tup_update.specs.Stopped.{unread_of_project}
 use Rattle.tup_update.proofs.Handed.{err_if}
-use Rattle.tup_update.proofs.Limits.{knows_limits}
+use Rattle.tup_update.proofs.Limits.{of_rules}
 use Rattle.tup_update.proofs.Reading.{read_as, refused_as, sources_read, is_tree_of_sources}
 use Rattle.tup_update.proofs.found.Found.rules.Goals as goal
 
@@ -16,12 +16,12 @@ returns-in_err-read_all-clause-refused c = λ w found.
     err_if c.from_residual.result (unread_of_project fault) _ c.from_residual.ensures.1
     (refused_as w c.args.self.now fault found (subst (ComeTo (finite.from_sorted {R = by_names} c.args.self.now.sources)) c.in_err-read_all.was c.read_all.ensures.come_to))
 
-pub returns-in_err-read_all-clause-limits : goal.returns-in_err-read_all-clause-limits
-returns-in_err-read_all-clause-limits c =
+pub returns-in_err-read_all-clause-fault : goal.returns-in_err-read_all-clause-fault
+returns-in_err-read_all-clause-fault c =
     let fault = c.in_err-read_all.field-0.0 in
     let sources = finite.from_sorted {R = by_names} c.args.self.now.sources in
     err_if c.from_residual.result (unread_of_project fault) _ c.from_residual.ensures.1
-    (knows_limits sources fault (subst (ComeTo sources) c.in_err-read_all.was c.read_all.ensures.come_to))
+    (of_rules sources fault (subst (ComeTo sources) c.in_err-read_all.was c.read_all.ensures.come_to))
 
 pub returns-clause-asked : goal.returns-clause-asked
 returns-clause-asked c = λ w found.
