@@ -1,15 +1,16 @@
 -- Where no rule waits for itself, what passes from the declared producers of a rule to the rule holds of each rule:
 -- behind each rule stand others, and there are only so many.
-use Rattle.std.proofs.Common.{◌≡◌, ℕ, zero, suc, ◌+◌, ◌<◌, ◌≤◌, Bool, true, false, List, [], ◌∷◌, length, Some, refl, sym, ap, ◌∙◌, subst, inl, inr, arith}
+use Rattle.std.proofs.Common.{◌≡◌, ℕ, zero, suc, ◌+◌, ◌<◌, ◌≤◌, true, false, List, [], ◌∷◌, length, Some, refl, sym, ap, ◌∙◌, subst, inl, inr, arith}
 use Rattle.std.specs.Prelude.{nat_eq, slice_get}
-use Rattle.std.specs.List.{IsDistinct, AllByRecursion, list_any}
-use Rattle.std.proofs.lemmas.Bool.{true≢false, or_cases, or_left, or_right, eqb-true, false_from_ne_true}
+use Rattle.std.specs.List.{IsDistinct, list_any}
+use Rattle.std.proofs.lemmas.Bool.{true≢false, or_cases, eqb-true, false_from_ne_true}
 use Rattle.std.proofs.lemmas.Option.{slice_get_within}
 use Rattle.std.proofs.lemmas.Map.Steps.{length-le_from_distinct_below}
 use Rattle.tup_rule.specs.declared.rule.Rule.{Rule}
 use Rattle.tup_rule.specs.Producer.{ProducerOver, DeclaredProducer}
 use Rattle.tup_rule.proofs.Laws.{maker-Some, producer-trans}
 use Rattle.tup_clean.specs.Buildable.{NoneWaitsForItself}
+use Rattle.tup_clean.proofs.Deciding.{none_of}
 
 -- a declared producer stands in the list
 placed_over : (rules : List Rule) (rule : Rule) (at between : ℕ) → ProducerOver between rules rule at → (producer : Rule) × (slice_get rules at ≡ Some producer)
@@ -21,14 +22,6 @@ placed rules rule at behind = placed_over rules rule at behind.0 behind.1
 
 -- ---- chains
 
--- a number that isn't in a list is none of its
-none_of : (number : ℕ) (list : List ℕ) → (list_any (nat_eq number) list ≡ true → ⊥) → AllByRecursion (λ other. nat_eq number other ≡ false) list
-none_of number [] apart = tt
-none_of number (other ∷ list) apart = (
-  false_from_ne_true (nat_eq number other) (λ same. apart (or_left (nat_eq number other) (list_any (nat_eq number) list) same)),
-  none_of number list (λ among. apart (or_right (nat_eq number other) (list_any (nat_eq number) list) among)),
-)
-
 -- the rules of a chain, each of which waits for the last
 pub record IsChain (rules : List Rule) (last : ℕ) (chain : List ℕ) : Type 0 where
   pub distinct : IsDistinct nat_eq (last ∷ chain)
@@ -39,7 +32,7 @@ longer : (rules : List Rule) (last next : ℕ) (chain : List ℕ) (rule : Rule) 
     IsChain rules next (last ∷ chain)
 unfolding IsDistinct
 longer rules last next chain rule acyclic is here produces within = record {
-  distinct = (none_of next (last ∷ chain) (λ among. apart next among refl), is.distinct);
+  distinct = (none_of next (last ∷ chain) (false_from_ne_true (list_any (nat_eq next) (last ∷ chain)) (λ among. apart next among refl)), is.distinct);
   within = λ at among. elim (or_cases (nat_eq at next) (list_any (nat_eq at) (last ∷ chain)) among) [
     | inl same ↦ subst (λ (n : ℕ). n < length rules) (sym (eqb-true at next same)) within
     | inr earlier ↦ is.within at earlier

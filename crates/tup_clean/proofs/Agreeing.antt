@@ -1,7 +1,7 @@
 -- A tree beside a build under way: what other files may stand in it, so that rules come to the same there. A tree that
 -- agrees with the build but for outputs of rules that aren't Good yet does, and so it is the build's in the end.
-use Rattle.std.proofs.Common.{◌≡◌, ℕ, zero, suc, ◌<◌, ◌&&◌, Bool, true, false, cond, List, length, Option, None, Some, replicate, refl, sym, ap, ◌∙◌, inl, inr, arith}
-use Rattle.std.proofs.lemmas.Bool.{false≢true, cases_Bool, and_parts, cases_eq}
+use Rattle.std.proofs.Common.{◌≡◌, ℕ, zero, suc, ◌<◌, ◌&&◌, Bool, true, false, cond, List, length, Option, Some, replicate, refl, sym, ap, ◌∙◌, inl, inr, arith}
+use Rattle.std.proofs.lemmas.Bool.{false≢true, and_parts, cases_eq}
 use Rattle.std.proofs.lemmas.Option.{same_Some, slice_get_within}
 use Rattle.std.specs.FinMap as finite
 use Rattle.std.specs.Option.{is_none}
@@ -10,7 +10,7 @@ use Rattle.tup_path.specs.Name.{Names}
 use Rattle.tup_path.specs.Order.{by_names, by_names-total, by_names-antisymmetric}
 use Rattle.tup_path.specs.Tree.{Tree}
 use Rattle.tup_rule.specs.declared.rule.Rule.{Rule}
-use Rattle.tup_rule.specs.Rule.{writes, declares, is_generated, maker}
+use Rattle.tup_rule.specs.Rule.{writes, declares, is_generated}
 use Rattle.tup_rule.proofs.Laws.{maker-Some, is_generated-at}
 use Rattle.tup_runner.specs.Next.{Next}
 use Rattle.tup_access.specs.declared.verdict.Verdict.{Verdict}

@@ -1,12 +1,12 @@
 -- Rules that are taken in turn: one more, those up to the first bad one, and that all are Good once none is ready.
-use Rattle.std.proofs.Common.{◌≡◌, ◌⊎◌, inl, inr, ℕ, zero, suc, ◌<◌, Bool, true, false, ◌&&◌, if◌then◌else◌, List, [], ◌∷◌, ◌++◌, length, map, Option, None, Some, IsSome, is_some, replicate, refl, sym, ap, ◌∙◌, subst}
-use Rattle.std.proofs.lemmas.Bool.{false≢true, cases_Bool, and_from, and_parts}
+use Rattle.std.proofs.Common.{◌≡◌, inl, inr, ℕ, zero, suc, ◌<◌, Bool, true, false, if◌then◌else◌, List, [], ◌∷◌, ◌++◌, length, map, Option, None, Some, IsSome, is_some, replicate, refl, sym, ap, ◌∙◌, subst}
+use Rattle.std.proofs.lemmas.Bool.{false≢true, and_from, and_parts}
 use Rattle.std.proofs.lemmas.List.{length-set, length-replicate, map-append}
 use Rattle.std.proofs.lemmas.List.Elements.{filter_map-append}
 use Rattle.std.proofs.lemmas.List.Folds.{list_all-append}
-use Rattle.std.proofs.lemmas.Option.{same_Some, none-some, slice_get_within}
+use Rattle.std.proofs.lemmas.Option.{same_Some, slice_get_within}
 use Rattle.std.specs.FinMap as finite
-use Rattle.std.specs.List.{slice_get, slice_set, list_all, filter_map, cons_option}
+use Rattle.std.specs.List.{slice_get, slice_set, list_all, cons_option}
 use Rattle.tup_path.specs.Tree.{Tree}
 use Rattle.tup_clean.specs.Buildable.{NoneWaitsForItself}
 use Rattle.tup_rule.specs.declared.rule.Rule.{Rule}
@@ -23,8 +23,7 @@ use Rattle.tup_clean.proofs.Building.{step-some, step-none, takes-some, takes-no
 use Rattle.tup_clean.proofs.MayTake.{may_first}
 use Rattle.tup_clean.proofs.Places.{some_place, set_cases, all_replicate}
 use Rattle.tup_clean.proofs.Standing.{ready_stands}
-use Rattle.tup_clean.proofs.VerdictLaws.{cases_Good}
-use Rattle.tup_clean.proofs.Whole.{is_good_at}
+use Rattle.tup_clean.proofs.Whole.{is_good_at, none_at_start}
 
 -- ---- one more
 
@@ -97,13 +96,8 @@ only_good verdicts (one ∷ taken) only good =
       | inr before ↦ only at outcome before
     ]) parts.1
 
-none_there : (n at : ℕ) (outcome : Verdict) → slice_get (replicate n None) at ≡ Some (Some outcome) → ⊥
-none_there zero at outcome has = none-some (Some outcome) has
-none_there (suc n) zero outcome has = none-some outcome (same_Some _ _ has)
-none_there (suc n) (suc at) outcome has = none_there n at outcome has
-
 pub only_good_taken : (rules : List Rule) (taken : List Taken) → AllGood taken → OnlyGood (verdicts_of rules taken)
-only_good_taken rules taken good = only_good (replicate (length rules) None) taken (λ at outcome has. absurd (none_there (length rules) at outcome has)) good
+only_good_taken rules taken good = only_good (replicate (length rules) None) taken (λ at outcome has. absurd (none_at_start rules finite.empty at outcome has)) good
 
 -- ---- a rule is ready as long as one is left
 

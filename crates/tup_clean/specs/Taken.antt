@@ -1,6 +1,6 @@
 -- The order in which a clean build takes its rules: the first ready one, again and again (own). What is said of rules that
 -- were taken by their verdicts alone holds whoever ran their commands.
-use Rattle.std.specs.Prelude.{◌≡◌, ℕ, zero, suc, ⊤, if◌then◌else◌, List, [], ◌∷◌, length, Option, None, Some, IsTrue, IsSome, replicate, filter_map, map, slice_get, slice_set}
+use Rattle.std.specs.Prelude.{◌≡◌, ℕ, zero, suc, ⊤, if◌then◌else◌, List, [], ◌∷◌, length, Option, None, Some, IsTrue, IsSome, replicate, filter_map, slice_get, slice_set}
 use Rattle.std.specs.List.{list_all}
 use Rattle.tup_path.specs.Tree.{Tree}
 use Rattle.tup_clean.specs.Buildable.{NoneWaitsForItself}

@@ -1,9 +1,9 @@
 -- Runs of one process that were told alike.
-use Rattle.std.proofs.Common.{◌≡◌, ◌⊎◌, inl, inr, Bool, true, false, cond, List, [], ◌∷◌, ◌++◌, Option, Some, None, Result, refl, sym, ap, ◌∙◌, subst}
+use Rattle.std.proofs.Common.{◌≡◌, ◌⊎◌, inl, inr, [], ◌∷◌, ◌++◌, Option, Some, None, Result, refl, sym, ap, ◌∙◌, subst}
 use Rattle.tup_rule.specs.declared.question.Question.{Question}
 use Rattle.tup_rule.specs.declared.question.Told.{Told}
 use Rattle.tup_ask.specs.Reads.{Reads, Ends, Asks}
-use Rattle.tup_ask.specs.Log.{Log, fits, told_before, Step, Ran, Halts}
+use Rattle.tup_ask.specs.Log.{Log, told_before, Step, Ran, Halts}
 use Rattle.tup_ask.proofs.Runs.{told_more, told_new, ran_keeps}
 use Rattle.tup_folders.proofs.Logs.{one_step}
 

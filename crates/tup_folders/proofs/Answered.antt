@@ -1,5 +1,5 @@
 -- What one who answers told, by what sources and readings answer.
-use Rattle.std.proofs.Common.{◌≡◌, ◌⊎◌, inl, inr, Bool, true, false, Option, Some, None, IsTrue, refl, sym, ap, ◌∙◌, subst}
+use Rattle.std.proofs.Common.{◌≡◌, Bool, true, false, Option, Some, None, IsTrue, refl, sym, ap, ◌∙◌}
 use Rattle.tup_path.specs.Name.{Names}
 use Rattle.tup_path.specs.Order.{same_path}
 use Rattle.tup_path.specs.Tree.{Tree}
@@ -7,9 +7,8 @@ use Rattle.tup_path.proofs.Same.{same_path-decides}
 use Rattle.tup_rule.specs.declared.question.Question.{Question}
 use Rattle.tup_rule.specs.declared.question.Question.TheVariants as asks
 use Rattle.tup_rule.specs.declared.question.Told.{Told}
-use Rattle.tup_rule.specs.declared.question.Told.TheVariants as told
 use Rattle.tup_vars.specs.Table.{Entries}
-use Rattle.tup_ask.specs.Log.{Log, fits, told_before, Says}
+use Rattle.tup_ask.specs.Log.{Log, fits, Says}
 use Rattle.tup_folders.specs.Answers.{Readings, awaited, answer}
 use Rattle.tup_folders.specs.Asked.{misfit, answer_or_misfit, waits_for}
 use Rattle.tup_folders.specs.Readings.{IsAnswered}

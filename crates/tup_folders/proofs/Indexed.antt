@@ -1,8 +1,8 @@
 -- What an index of files in order says of their tree.
-use Rattle.std.proofs.Common.{◌≡◌, ◌⊎◌, inl, inr, ℕ, ◌+◌, Bool, true, false, cond, not, ◌&&◌, ◌||◌, List, [], ◌∷◌, ◌++◌, map, length, Option, Some, None, Result, Ok, Err, IsTrue, is_some, refl, sym, ap, ◌∙◌, subst}
+use Rattle.std.proofs.Common.{◌≡◌, inl, inr, ℕ, Bool, true, false, cond, ◌||◌, List, [], ◌∷◌, ◌++◌, map, Option, Some, None, Ok, IsTrue, is_some, refl, sym, ap, ◌∙◌}
 use Rattle.std.specs.Prelude.{bytes_eq, codes, option_map}
 use Rattle.std.specs.Bool.{passes}
-use Rattle.std.specs.BTreeMap.{BTreeMap, get}
+use Rattle.std.specs.BTreeMap.{get}
 use Rattle.std.specs.BTreeSet.{BTreeSet, contains, insert_key}
 use Rattle.std.specs.Cmp.{both_ways}
 use Rattle.std.specs.FinMap as finite
@@ -20,7 +20,7 @@ use Rattle.tup_path.specs.declared.fault.PathFault.{PathFault}
 use Rattle.tup_path.specs.declared.fault.PathFault.TheVariants as path_fault
 use Rattle.tup_draft.specs.Glob.{in_order}
 use Rattle.tup_folders.specs.Sources.{is_source, tupfile, is_below, has_below, names_in_folder, folder_of}
-use Rattle.tup_folders.specs.Index.{IsParted, AreTupfiles, FolderMap, names_of, AreFolders, AddsFile, or_none, AddsFolders, AddsName}
+use Rattle.tup_folders.specs.Index.{AreTupfiles, FolderMap, names_of, AreFolders, AddsFile, or_none, AddsFolders, AddsName}
 use Rattle.tup_folders.proofs.Below.{above_named, nothing_below, below_named, lasts, none_in_it, with_file, with_top}
 
 -- ---- a path as its folder and its name

@@ -1,6 +1,6 @@
 -- That what is met first is one thing: the readings themselves lead from one folder under way to the next, and none of these has a
 -- reading, over whichever readings of other folders.
-use Rattle.std.proofs.Common.{◌≡◌, ◌⊎◌, inl, inr, Bool, true, false, cond, ◌||◌, List, [], ◌∷◌, ◌++◌, Option, Some, None, Result, Ok, Err, IsTrue, IsSome, is_some, refl, sym, ap, ◌∙◌, subst, append_assoc}
+use Rattle.std.proofs.Common.{◌≡◌, inl, inr, Bool, true, false, cond, ◌||◌, List, [], ◌∷◌, ◌++◌, Option, Some, None, Ok, Err, IsTrue, IsSome, is_some, refl, sym, ap, ◌∙◌, subst, append_assoc}
 use Rattle.std.specs.FinMap as finite
 use Rattle.std.specs.List.{IsDistinct}
 use Rattle.std.specs.Ordering.{ordering_reverse}
@@ -13,20 +13,18 @@ use Rattle.tup_path.specs.Order.{by_names, by_names-total, by_names-antisymmetri
 use Rattle.tup_path.specs.Tree.{Tree}
 use Rattle.tup_path.proofs.Same.{same_path-decides}
 use Rattle.tup_rule.specs.Rule.{among}
-use Rattle.tup_rule.specs.declared.draft.Draft.{Draft}
-use Rattle.tup_rule.specs.declared.question.Question.{Question}
 use Rattle.tup_rule.specs.declared.question.Reading.{Reading}
 use Rattle.tup_vars.specs.Table.{Entries}
 use Rattle.tup_ask.specs.declared.fault.ParseFault.{ParseFault}
 use Rattle.tup_reader.specs.Reading.{reading}
 use Rattle.tup_folders.specs.Sources.{has_tupfile}
 use Rattle.tup_folders.specs.Answers.{Readings, awaited}
-use Rattle.tup_folders.specs.Readings.{IsReadingOver, IsFaultOver, WaitsFor, AreReadings, AreSomeReadings, AreAllReadings, IsLine, IsTurn, AreUnderWay, IsFirstFault, IsFirstCircle}
-use Rattle.tup_folders.proofs.Alike.{WasTold, runs_alike, run_tells, halts_alike}
+use Rattle.tup_folders.specs.Readings.{IsReadingOver, IsFaultOver, WaitsFor, AreReadings, AreSomeReadings, AreAllReadings, IsLine, IsTurn, IsFirstFault, IsFirstCircle}
+use Rattle.tup_folders.proofs.Alike.{runs_alike, run_tells, halts_alike}
 use Rattle.tup_folders.proofs.Lines.{among_push, among_last, not_behind, one_back}
 use Rattle.tup_folders.proofs.More.{get_more}
 use Rattle.tup_folders.proofs.One.{told_alike, reading_in}
-use Rattle.tup_folders.proofs.Waits.{awaited_is, awaited_elsewhere}
+use Rattle.tup_folders.proofs.Waits.{awaited_elsewhere}
 
 nothing : {A : Type 0} → true ≡ false → A
 nothing wrong = cc

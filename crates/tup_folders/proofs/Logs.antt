@@ -1,5 +1,5 @@
 -- What is in the log of a reading.
-use Rattle.std.proofs.Common.{◌≡◌, ◌⊎◌, inl, inr, Bool, true, false, List, [], ◌∷◌, ◌++◌, Option, Some, None, Result, refl, sym, ap, ◌∙◌, subst}
+use Rattle.std.proofs.Common.{◌≡◌, inl, inr, true, [], ◌∷◌, ◌++◌, Option, Some, None, Result, refl, sym, subst}
 use Rattle.tup_rule.specs.declared.question.Question.{Question}
 use Rattle.tup_rule.specs.declared.question.Told.{Told}
 use Rattle.tup_ask.specs.Reads.{Reads, Ends, Asks}

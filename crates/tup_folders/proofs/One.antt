@@ -1,5 +1,5 @@
 -- That a folder has one reading, and that what is met first is one thing.
-use Rattle.std.proofs.Common.{◌≡◌, ◌≢◌, ◌⊎◌, inl, inr, Bool, true, false, cond, not, ◌&&◌, ◌||◌, List, [], ◌∷◌, ◌++◌, Option, Some, None, Result, Ok, Err, IsTrue, IsSome, is_some, refl, sym, ap, ◌∙◌, subst}
+use Rattle.std.proofs.Common.{◌≡◌, ◌⊎◌, inl, inr, Bool, true, false, cond, not, ◌&&◌, ◌||◌, List, [], ◌∷◌, ◌++◌, Option, Some, None, Ok, IsSome, is_some, refl, sym, ap, ◌∙◌, subst}
 use Rattle.std.specs.Prelude.{is_none, option_and_then}
 use Rattle.std.specs.FinMap as finite
 use Rattle.std.specs.Result.{result_ok}
@@ -14,19 +14,17 @@ use Rattle.tup_rule.specs.declared.question.Kind.TheVariants.{Nothing, File, Dir
 use Rattle.tup_rule.specs.declared.question.Question.{Question}
 use Rattle.tup_rule.specs.declared.question.Question.TheVariants as asks
 use Rattle.tup_rule.specs.declared.question.Reading.{Reading}
-use Rattle.tup_rule.specs.declared.question.Told.{Told}
 use Rattle.tup_rule.specs.declared.question.Told.TheVariants as told
 use Rattle.tup_vars.specs.Table.{Entries}
-use Rattle.tup_ask.specs.declared.fault.ParseFault.{ParseFault}
-use Rattle.tup_ask.specs.Log.{Log, told_before, Ran, Halts, noted_log}
+use Rattle.tup_ask.specs.Log.{Log, noted_log}
 use Rattle.tup_draft.specs.Glob.{names_among, in_order}
 use Rattle.tup_draft.specs.State.{made_by, is_made}
 use Rattle.tup_reader.specs.Reading.{reading}
 use Rattle.tup_folders.specs.Sources.{is_source, has_below, has_tupfile}
 use Rattle.tup_folders.specs.Answers.{Readings, drafts_of, seen_drafts, made_kind, is_unread, unread, awaited, answer}
-use Rattle.tup_folders.specs.Readings.{IsAnswered, IsReadingOver, IsFaultOver, WaitsFor, AreReadings, AreSomeReadings, AreAllReadings}
+use Rattle.tup_folders.specs.Readings.{IsAnswered, IsReadingOver, AreReadings, AreSomeReadings, AreAllReadings}
 use Rattle.tup_folders.proofs.More.{get_more}
-use Rattle.tup_folders.proofs.Alike.{ToldAlike, WasTold, runs_alike, run_tells, halts_alike}
+use Rattle.tup_folders.proofs.Alike.{ToldAlike, runs_alike}
 
 module _ (sources : Tree) (settings : Entries) where
   -- ---- readings that agree

@@ -1,13 +1,12 @@
 -- How the reading of a folder ends.
-use Rattle.std.proofs.Common.{◌≡◌, true, [], Option, Some, None, Result, Ok, Err, IsTrue, refl, sym, ap, ◌∙◌, subst}
+use Rattle.std.proofs.Common.{◌≡◌, true, [], Option, Some, Result, Ok, Err, IsTrue, refl, subst}
 use Rattle.tup_path.specs.Name.{Names}
 use Rattle.tup_path.specs.Tree.{Tree}
 use Rattle.tup_rule.specs.declared.question.Question.{Question}
 use Rattle.tup_rule.specs.declared.question.Reading.{Reading}
-use Rattle.tup_rule.specs.declared.question.Told.{Told}
 use Rattle.tup_vars.specs.Table.{Entries}
 use Rattle.tup_ask.specs.declared.fault.ParseFault.{ParseFault}
-use Rattle.tup_ask.specs.Log.{Log, Ran, Halts, StopsAt, Says, noted_log}
+use Rattle.tup_ask.specs.Log.{Log, Ran, Halts, StopsAt, noted_log}
 use Rattle.tup_reader.specs.Read.{IsToldBy}
 use Rattle.tup_reader.specs.Reading.{reading}
 use Rattle.tup_folders.specs.declared.asked.Stop.{Stop}
@@ -19,7 +18,7 @@ use Rattle.tup_folders.specs.declared.folders.Came.TheVariants.{Read, Waits}
 use Rattle.tup_folders.specs.Sources.{has_tupfile}
 use Rattle.tup_folders.specs.Answers.{Readings, awaited}
 use Rattle.tup_folders.specs.Asked.{answer_or_misfit, waits_for, stopped_at, IsWait}
-use Rattle.tup_folders.specs.Readings.{IsReadingOver, IsFaultOver, WaitsFor}
+use Rattle.tup_folders.specs.Readings.{IsReadingOver, IsFaultOver}
 use Rattle.tup_folders.specs.State.{HasCome, HasStopped}
 use Rattle.tup_folders.proofs.Answered.{answered, waits_for-refl, waits_as_before}
 use Rattle.tup_folders.proofs.Logs.{fit_from_start, fit_where_it_stands}

@@ -1,5 +1,5 @@
 -- What is told to a reading.
-use Rattle.std.proofs.Common.{◌≡◌, ◌⊎◌, inl, inr, ℕ, Bool, true, false, cond, not, ◌&&◌, ◌||◌, List, [], ◌∷◌, ◌++◌, fold, Option, Some, None, Result, Ok, Err, Bor, is_some, refl, sym, ap, ◌∙◌, subst}
+use Rattle.std.proofs.Common.{◌≡◌, ◌⊎◌, inl, inr, ℕ, false, cond, ◌||◌, List, [], ◌∷◌, ◌++◌, fold, Option, Some, None, Result, Err, Bor, is_some, sym, ap, ◌∙◌, subst}
 use Rattle.std.specs.Prelude.{codes, unwrap_or, option_and_then}
 use Rattle.std.specs.BTreeSet.{insert_key}
 use Rattle.std.specs.FinMap as finite
@@ -24,10 +24,10 @@ use Rattle.tup_draft.specs.Glob.{names_among, in_order}
 use Rattle.tup_draft.specs.State.{made_by}
 use Rattle.tup_draft.proofs.Globs.{in_order-more}
 use Rattle.tup_folders.specs.declared.fault.FoldersFault.{FoldersFault}
-use Rattle.tup_folders.specs.declared.fault.FoldersFault.TheVariants.{Parse, Memory}
+use Rattle.tup_folders.specs.declared.fault.FoldersFault.TheVariants.{Parse}
 use Rattle.tup_folders.specs.Sources.{is_source, has_below, names_in_folder, settings_of}
 use Rattle.tup_folders.specs.Answers.{Readings, seen_drafts, names_in, made_kind, kind_at, unread, awaited}
-use Rattle.tup_folders.specs.Readings.{IsConfig, config_fault}
+use Rattle.tup_folders.specs.Readings.{IsConfig}
 use Rattle.tup_folders.proofs.Below.{above_named}
 
 -- the names of the sources in a folder, and those of the outputs there

@@ -1,5 +1,5 @@
 -- What is known of a folder for whose reading an answer waits.
-use Rattle.std.proofs.Common.{◌≡◌, Bool, true, false, cond, not, ◌&&◌, ◌||◌, Option, Some, None, refl, sym, ap, ◌∙◌, subst}
+use Rattle.std.proofs.Common.{◌≡◌, Bool, true, false, cond, not, ◌&&◌, ◌||◌, Option, Some, None, refl, sym, ap, ◌∙◌}
 use Rattle.std.specs.Prelude.{is_none, option_and_then}
 use Rattle.std.specs.FinMap as finite
 use Rattle.std.specs.Result.{result_ok}

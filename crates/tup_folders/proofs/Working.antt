@@ -1,15 +1,14 @@
 -- How the work on the folders goes on.
-use Rattle.std.proofs.Common.{◌≡◌, ◌≢◌, ◌⊎◌, inl, inr, ℕ, ◌+◌, ◌-◌, ◌*◌, ◌<◌, ◌≤◌, Bool, true, false, cond, not, ◌&&◌, ◌||◌, List, [], ◌∷◌, ◌++◌, length, T, Option, Some, None, Result, Ok, Err, IsTrue, IsSome, is_some, refl, sym, ap, ◌∙◌, subst, arith, length-append}
-use Rattle.std.specs.BTreeSet.{BTreeSet, contains, IsLowerBound}
+use Rattle.std.proofs.Common.{◌≡◌, inl, inr, ◌+◌, ◌-◌, ◌<◌, ◌≤◌, Bool, true, false, cond, not, ◌&&◌, ◌||◌, List, [], ◌∷◌, ◌++◌, length, T, Option, Some, None, Ok, Err, IsTrue, IsSome, is_some, refl, sym, ap, ◌∙◌, subst, arith, length-append}
+use Rattle.std.specs.BTreeSet.{contains, IsLowerBound}
 use Rattle.std.specs.Cmp.{eq_by_cmp_equiv}
 use Rattle.std.specs.FinMap as finite
 use Rattle.std.specs.List.{IsDistinct, list_any}
 use Rattle.std.specs.Ordering.{eq_by_cmp, is_gt, ordering_reverse}
-use Rattle.std.specs.declared.cmp.Ordering.{Ordering}
 use Rattle.std.specs.declared.cmp.Ordering.TheVariants.{Less}
 use Rattle.std.specs.Prelude.{slice_get}
 use Rattle.std.proofs.lemmas.List.{nil_from_length}
-use Rattle.std.proofs.lemmas.Bool.{and_parts, not-true, or_cases, or_parts, or_right}
+use Rattle.std.proofs.lemmas.Bool.{and_parts, not-true, or_cases, or_parts}
 use Rattle.tup_path.specs.Name.{Names}
 use Rattle.tup_path.specs.Order.{by_names, by_names-total, same_path, same_path-by_names}
 use Rattle.tup_path.specs.Tree.{Tree}

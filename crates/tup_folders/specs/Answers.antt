@@ -1,6 +1,6 @@
 -- What the sources, and the readings of other folders, answer to the reading of a folder. That a folder's own outputs are
 -- added by its own reading, and that answers wait for the readings of other folders, is own; the rest is the manual's.
-use Rattle.std.specs.Prelude.{ℕ, Bool, false, not, ◌&&◌, ◌||◌, if◌then◌else◌, List, [], ◌++◌, Option, Some, None, is_some, is_none, option_and_then}
+use Rattle.std.specs.Prelude.{ℕ, Bool, not, ◌&&◌, ◌||◌, if◌then◌else◌, List, [], ◌++◌, Option, Some, None, is_none, option_and_then}
 use Rattle.std.specs.FinMap as finite
 use Rattle.std.specs.Result.{result_ok}
 use Rattle.tup_path.specs.Name.{Names}

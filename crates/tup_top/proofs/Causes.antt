@@ -127,10 +127,13 @@ same_listed paths w reads = sym (sources_are w (ascending paths) reads ∙ (λ i
 
 pub untold_left : (tells : Bool) (next : Next) (rules : List Rule) (old new : World) (stopped : Option Stop) → RulesFit old rules stopped → NothingForgotten tells next rules old new stopped →
     (IsTrue tells → ExactlyTheFiles next rules old new stopped) → NothingForgotten tells next rules old new (Some (Outside NoMemory))
-untold_left tells next rules old new None fits listed files = inr (fits, inr (inr (record {
-  beside = same_listed (outputs rules) new listed.listed ∙ listed.same;
-  built = λ means. let made = files means in record { clean = made.clean; files = made.files };
-})))
+untold_left tells next rules old new None fits listed files = inr (
+  fits,
+  inr (inr (record {
+    beside = same_listed (outputs rules) new listed.listed ∙ listed.same;
+    built = λ means. let made = files means in record { clean = made.clean; files = made.files };
+  })),
+)
 untold_left tells next rules old new (Some (StoreDamaged offset)) fits same files = inl same
 untold_left tells next rules old new (Some (Sources fault)) fits same files = inl same
 untold_left tells next rules old new (Some (Bad rule verdict)) fits listed files = inr (fits, inl listed)

@@ -1,5 +1,5 @@
 -- What an update promises, for each way in which it can come out.
-use Rattle.std.proofs.Common.{◌≡◌, ◌≢◌, ◌⊎◌, inl, inr, ℕ, Bool, IsTrue, ◌++◌, [], List, Option, None, Some, Result, Ok, Err, refl, sym, ◌∙◌, ap, subst}
+use Rattle.std.proofs.Common.{◌≡◌, ◌≢◌, ◌⊎◌, inl, inr, ℕ, Bool, IsTrue, ◌++◌, [], List, None, Some, Result, Ok, Err, refl, sym, ◌∙◌, ap, subst}
 use Rattle.std.specs.Result.{result_err, IsErrAnd}
 use Rattle.std.specs.FinMap as finite
 use Rattle.tup_path.specs.Name.{Names}
@@ -11,7 +11,6 @@ use Rattle.tup_rule.specs.declared.rule.Rule.{Rule}
 use Rattle.tup_rule.specs.declared.rule.RuleName.{RuleName}
 use Rattle.tup_access.specs.declared.verdict.Verdict.{Verdict}
 use Rattle.tup_runner.specs.Next.{Next}
-use Rattle.tup_clean.specs.Buildable.{IsBuildable}
 use Rattle.tup_clean.specs.Clean.{clean}
 use Rattle.tup_clean.specs.Taken.{Taken, takes, up_to_bad}
 use Rattle.tup_owned.specs.Owned.{owned_of, spelling}
@@ -26,13 +25,12 @@ use Rattle.tup_update.specs.Turns.{names_of, AreInTurn, AreBegun, TurnsFit}
 use Rattle.tup_update.specs.declared.project.Project.{Project}
 use Rattle.tup_update.specs.declared.stop.Halt.{Halt}
 use Rattle.tup_update.specs.declared.stop.Halt.TheVariants.{Run as RunHalted, Outside as Halted}
-use Rattle.tup_update.specs.declared.stop.Stop.{Stop}
-use Rattle.tup_update.specs.declared.stop.Stop.TheVariants.{Bad, Run, Outside}
+use Rattle.tup_update.specs.declared.stop.Stop.TheVariants.{Bad, Outside}
 use Rattle.tup_update.specs.declared.stop.Unread.{Unread}
 use Rattle.tup_update.specs.declared.stop.Unread.TheVariants.{Store, Sources, Outside as Unlucky}
 use Rattle.tup_update.specs.declared.update.Log.{Log}
 use Rattle.tup_update.proofs.Beside.{left_is}
-use Rattle.tup_update.proofs.Ending.{sources_are_kept, project_owns, project_sources, project_builds, gone_are, vanished_are, no_front, whole_front, grown_from_nothing}
+use Rattle.tup_update.proofs.Ending.{sources_are_kept, project_owns, project_builds, gone_are, vanished_are, no_front, whole_front, grown_from_nothing}
 use Rattle.tup_update.proofs.Known.{sources_are, claimed_known, beside_outputs, beside_ascending}
 use Rattle.tup_update.proofs.Preparing.{same_sources, changes, listed_reads, runnable}
 
@@ -177,7 +175,6 @@ module _ (project : Project) (old : World) (is : IsProject project old) where
     where
       part : IsPartOf (with_read project.read log) (whole_log next project.rules old)
       part = record { read = whole_front project.read (whole_log next project.rules old).read is.read; removed = removed; ran = noted.0; ended = noted.1 }
-
 
       fits : (halt : Halt) → LogFits next project.rules old (with_read project.read log) (Some (stop_of_halt halt))
       fits RunHalted = part
@@ -329,10 +326,13 @@ module _ (project : Project) (old mid : World) (vanishing claiming : List Names)
   unfinished_stays tells next ran new log failed cleared behind same small built turns = record {
     sources_stay = stay ran new behind same;
     rules_fit = inr way.is.asked;
-    nothing_forgotten = left_forgets_nothing tells next project.rules old new failed small (way.is.asked, inr (inr (record {
-      beside = ap (files_beside (outputs project.rules)) same ∙ beside_outputs (owned old) project.rules old.tree mid.tree ran.tree way.is.buildable same_left (owned_runnable cleared) behind;
-      built = λ means. is_built next ran new (built means) same;
-    })));
+    nothing_forgotten = left_forgets_nothing tells next project.rules old new failed small (
+      way.is.asked,
+      inr (inr (record {
+        beside = ap (files_beside (outputs project.rules)) same ∙ beside_outputs (owned old) project.rules old.tree mid.tree ran.tree way.is.buildable same_left (owned_runnable cleared) behind;
+        built = λ means. is_built next ran new (built means) same;
+      })),
+    );
     turns_fit = (turns.0, inl turns.1);
   }
 
@@ -341,9 +341,10 @@ module _ (project : Project) (old mid : World) (vanishing claiming : List Names)
       Keeps next project.rules old new (with_read project.read log) (Some (Outside failed))
   unfinished_keeps next new before log failed small none removed noted =
       halted_keeps project old way.is next new log (Halted failed) (small_cause next project.rules old new failed small)
-      (whole_front log.removed (vanished project.rules old) (removed_whole before log.removed none removed))
-      (whole_front log.ran (names_of project.rules (ends next project.rules old)) (noted.0 ∙ ap (names_of project.rules) (same_ends next)),
-      whole_front log.ended (ends next project.rules old) (noted.1 ∙ same_ends next))
+      (whole_front log.removed (vanished project.rules old) (removed_whole before log.removed none removed)) (
+        whole_front log.ran (names_of project.rules (ends next project.rules old)) (noted.0 ∙ ap (names_of project.rules) (same_ends next)),
+        whole_front log.ended (ends next project.rules old) (noted.1 ∙ same_ends next),
+      )
 
   -- all was made and the outputs are owned
   made_reads : (new : World) (listing : List Names) → new.store ≡ spelling listing → listing ≡ ascending (outputs project.rules) → owned_of new.store ≡ Ok (ascending (outputs project.rules))

@@ -1,7 +1,7 @@
 -- After an update the sources are what they were: what the store lists then, and what stands beside it.
-use Rattle.std.proofs.Common.{◌≡◌, ◌++◌, ◌||◌, Bool, true, false, cond, not, List, None, Ok, refl, sym, ◌∙◌, ap, subst}
+use Rattle.std.proofs.Common.{◌≡◌, ◌++◌, ◌||◌, Bool, true, false, cond, not, List, None, Ok, refl, sym, ◌∙◌, ap}
 use Rattle.std.specs.FinMap as finite
-use Rattle.std.proofs.lemmas.Bool.{false≢true, or_right}
+use Rattle.std.proofs.lemmas.Bool.{or_right}
 use Rattle.std.proofs.lemmas.List.Folds.{list_any-append}
 use Rattle.tup_path.specs.Name.{Names}
 use Rattle.tup_path.specs.Order.{same_path}
@@ -81,7 +81,7 @@ same_beside_claimed owned rules old new buildable changes =
 
 -- as where the outputs are listed, and all else that was owned is gone
 module _ (owned : List Names) (rules : List Rule) (old between new : Tree) (buildable : IsBuildable (files_beside owned old) rules) (left : files_beside owned between ≡ files_beside owned old)
-  (runnable : IsRunnable owned rules between) (behind : SameBesideOutputs rules between new) where
+    (runnable : IsRunnable owned rules between) (behind : SameBesideOutputs rules between new) where
   beside_listed : (listed : List Names) → ((path : Names) → among path listed ≡ is_generated rules path) → files_beside listed new ≡ files_beside owned old
   beside_listed listed is =
       same_sources owned listed rules old new buildable (λ path made. is path ∙ made)

@@ -1,5 +1,5 @@
 -- Rules that are run in turn: how far they came, beside the clean build that they carry out.
-use Rattle.std.proofs.Common.{◌≡◌, ◌⊎◌, inl, inr, ℕ, zero, suc, ◌+◌, ◌-◌, ◌<◌, ◌≤◌, Bool, true, false, if◌then◌else◌, List, [], ◌∷◌, ◌++◌, length, map, Option, None, Some, replicate, refl, sym, ◌∙◌, ap, subst, arith, get_or, append_assoc, append-nil}
+use Rattle.std.proofs.Common.{◌≡◌, inl, inr, ℕ, suc, ◌+◌, ◌-◌, ◌<◌, ◌≤◌, true, false, if◌then◌else◌, List, [], ◌∷◌, ◌++◌, length, Option, None, Some, replicate, refl, sym, ◌∙◌, ap, subst, arith, get_or, append_assoc, append-nil}
 use Rattle.std.specs.List.{slice_get, slice_set}
 use Rattle.std.proofs.lemmas.Option.{slice_get_within, slice_get-get_or}
 use Rattle.tup_path.specs.Tree.{Tree}
@@ -13,7 +13,7 @@ use Rattle.tup_access.specs.declared.verdict.Verdict.TheVariants.{Good}
 use Rattle.tup_access.specs.Judge.{Judged}
 use Rattle.tup_access.specs.Verdict.{verdict}
 use Rattle.tup_clean.specs.AnyOrder.{MakeApart}
-use Rattle.tup_clean.specs.Clean.{Build, is_good, first_ready, given, builds_on, start, clean, with_files}
+use Rattle.tup_clean.specs.Clean.{Build, is_good, first_ready, given, builds_on, start, clean}
 use Rattle.tup_clean.specs.Queue.{Notes}
 use Rattle.tup_clean.specs.declared.queue.Queue.{Queue}
 use Rattle.tup_clean.specs.Taken.{Taken, verdicts_of, AreTaken, AllGood, takes_on, takes, up_to_bad}
@@ -23,10 +23,9 @@ use Rattle.tup_clean.proofs.OneBuild.{missing, missing_all, missing_less}
 use Rattle.tup_clean.proofs.Places.{set_here}
 use Rattle.tup_clean.proofs.Standing.{ready_untaken, none_is_ready, verdict_stays}
 use Rattle.tup_clean.proofs.Turns.{taken_more, verdicts_more, told_append, told_more, good_more, up_to_bad-good, up_to_bad-bad, all_are_taken, succeeds_all}
-use Rattle.tup_update.specs.Log.{IsFront}
-use Rattle.tup_update.specs.Parts.{HasRun, AreNoted, ArePartNoted, BeginsIt, IsBuilt, IsFirstBad, Leaves, bad_of}
+use Rattle.tup_update.specs.Parts.{AreNoted, ArePartNoted, BeginsIt, IsBuilt, IsFirstBad, Leaves}
 use Rattle.tup_update.specs.Stopped.{stop_of_halt}
-use Rattle.tup_update.specs.Turns.{names_of, AreInTurn, BeginsNext, AreBegun, EndsBadly, TurnsFit}
+use Rattle.tup_update.specs.Turns.{names_of, AreInTurn, AreBegun, TurnsFit}
 use Rattle.tup_update.specs.declared.stop.Halt.{Halt}
 use Rattle.tup_update.specs.declared.stop.Halt.TheVariants.{Run as RunHalted, Outside as Halted}
 use Rattle.tup_update.specs.declared.stop.Stop.TheVariants.{Bad}
@@ -150,8 +149,7 @@ module _ (next : Next) (rules : List Rule) (sources : Tree) (count : ℕ) (ended
   pub ended_front : AllGood ended → (begun : List RuleName) → begun ≡ names_of rules ended → ArePartNoted rules (up_to_bad (takes next rules sources)) begun ended
   ended_front good begun names =
       let more = up_to_bad (takes_on (length rules - count) next rules is.now) in
-      let whole : ended ++ more ≡ up_to_bad (takes next rules sources) = sym (ap up_to_bad rest_is ∙ up_to_bad-good ended _ good) in
-      (
+      let whole : ended ++ more ≡ up_to_bad (takes next rules sources) = sym (ap up_to_bad rest_is ∙ up_to_bad-good ended _ good) in (
         (names_of rules more, ap (λ (l : List RuleName). l ++ names_of rules more) names ∙ sym (told_append name_of rules ended more) ∙ ap (names_of rules) whole),
         (more, whole),
       )
@@ -176,8 +174,7 @@ module _ (next : Next) (rules : List Rule) (sources : Tree) (count : ℕ) (ended
         let rest = takes_on (length rules - (count + 1)) next rules (given next rules is.now at rule) in
         let more = if is_good (Some outcome) then up_to_bad rest else [] in
         let whole : (ended ++ (at, outcome) ∷ []) ++ more ≡ up_to_bad (takes next rules sources) =
-        append_assoc ended ((at, outcome) ∷ []) more ∙ sym (ap up_to_bad next_is ∙ up_to_bad-good ended _ good) in
-        (
+        append_assoc ended ((at, outcome) ∷ []) more ∙ sym (ap up_to_bad next_is ∙ up_to_bad-good ended _ good) in (
           (
             names_of rules more,
             ap (λ (l : List RuleName). l ++ names_of rules more) (one ∙ ap (λ (l : List RuleName). l ++ name_of rule ∷ []) names ∙ sym (told_more name_of rules ended (at, outcome) rule here))
@@ -240,8 +237,8 @@ module _ (next : Next) (rules : List Rule) (sources : Tree) (count : ℕ) (ended
 
           goes_on : builds_on (length rules - (count + 1)) next rules (given next rules is.now at rule) ≡ clean next rules sources
           goes_on = built_clean next rules sources (start rules sources) _ refl refl (
-            sym (step-some next rules (length rules - (count + 1)) is.now at rule ready here)
-            ∙ ap (λ (steps : ℕ). builds_on steps next rules is.now) (sym one_more) ∙ sym is.way.builds)
+              sym (step-some next rules (length rules - (count + 1)) is.now at rule ready here)
+              ∙ ap (λ (steps : ℕ). builds_on steps next rules is.now) (sym one_more) ∙ sym is.way.builds)
 
   -- all were taken, and were Good
   module _ (good : AllGood ended) (none : first_ready rules (verdicts_of rules ended) ≡ None) where

@@ -1,14 +1,12 @@
 -- The rules that the readings of all folders come to: each makes in its own folder what no rule before it makes.
-use Rattle.std.proofs.Common.{◌≡◌, ◌⊎◌, inl, inr, ℕ, ◌≤◌, Bool, true, false, cond, ◌&&◌, ◌||◌, List, [], ◌∷◌, ◌++◌, map, length, Option, Some, None, Result, Ok, Err, IsTrue, refl, sym, ap, ◌∙◌, subst, append_assoc, append-nil, arith, length-map}
-use Rattle.std.specs.Prelude.{nat_lt}
+use Rattle.std.proofs.Common.{◌≡◌, ◌⊎◌, inl, inr, ℕ, Bool, true, false, cond, ◌&&◌, ◌||◌, List, [], ◌∷◌, ◌++◌, map, Option, Some, None, Result, Ok, Err, IsTrue, refl, sym, ap, ◌∙◌, subst, append_assoc, append-nil}
 use Rattle.std.specs.Bool.{passes}
 use Rattle.std.specs.FinMap as finite
 use Rattle.std.specs.FinMap.Entries.{below_all}
-use Rattle.std.specs.Option.{option_or}
 use Rattle.std.specs.Ordering.{is_eq, is_lt, eq_by_cmp}
 use Rattle.std.specs.declared.cmp.Ordering.{Ordering}
 use Rattle.std.specs.declared.cmp.Ordering.TheVariants.{Less, Equal, Greater}
-use Rattle.std.proofs.lemmas.Bool.{and_parts, ltb-false}
+use Rattle.std.proofs.lemmas.Bool.{and_parts}
 use Rattle.std.proofs.lemmas.List.{map-append}
 use Rattle.std.proofs.lemmas.List.Elements.{All-weaker}
 use Rattle.std.proofs.lemmas.List.Folds.{list_any-append, list_any_none}
@@ -20,20 +18,17 @@ use Rattle.tup_rule.specs.declared.draft.Draft.{Draft}
 use Rattle.tup_rule.specs.declared.question.Reading.{Reading}
 use Rattle.tup_rule.specs.declared.rule.Rule.{Rule}
 use Rattle.tup_rule.specs.Rule.{among, writes, is_generated}
+use Rattle.tup_clean.specs.Buildable.{IsBuildable}
 use Rattle.tup_vars.specs.Table.{Entries}
 use Rattle.tup_vars.specs.declared.fault.ConfigFault.{ConfigFault}
 use Rattle.tup_draft.specs.State.{is_made}
 use Rattle.tup_folders.specs.Readings.{AreAllReadings, AreReadWith, IsOutcome}
 use Rattle.tup_folders.specs.Sources.{has_tupfile, settings_of}
 use Rattle.tup_folders.proofs.One.{of_tupfiles}
-use Rattle.tup_link.specs.declared.fault.LinkFault.{LinkFault}
-use Rattle.tup_link.specs.declared.fault.LinkFault.TheVariants.{TooMany}
-use Rattle.tup_link.specs.declared.fault.What.TheVariants.{Commands}
-use Rattle.tup_link.specs.Faults.{too_many_commands, fault_of_groups, fault_in, early_fault}
 use Rattle.tup_link.specs.Groups.{members}
 use Rattle.tup_link.specs.Linked.{Members, rule_of, rules_of}
-use Rattle.tup_link.specs.Placed.{Placed, placed_in, placed, drafts_of}
-use Rattle.tup_whole.specs.Buildable.{HavePaths, CanStand}
+use Rattle.tup_link.specs.Placed.{placed_in, placed, drafts_of}
+use Rattle.tup_whole.specs.Paths.{HavePaths}
 use Rattle.tup_whole.specs.Project.{AreLinked}
 use Rattle.tup_whole.proofs.Making.{MakesHere, AllMakeHere, AllKeepTo, all_keep}
 use Rattle.tup_whole.proofs.Standing.{IsNew, AreNew, new_append, same_front, can_stand}
@@ -76,11 +71,10 @@ module _ (sources : Tree) (group_has : Members) where
   folder_new : (before : List Rule) (dir : Names) (made drafts : List Draft) → IsApart before dir → has_tupfile sources dir ≡ true → AllMakeHere sources dir made drafts
       → AreNew sources (before ++ rules_here dir made) (rules_here dir drafts)
   folder_new before dir made [] none has all = tt
-  folder_new before dir made (draft ∷ more) none has (here, rest) =
-      (
-        All-weaker (MakesHere sources dir made) (IsNew sources (before ++ rules_here dir made) (rule_of group_has (placed_in dir draft))) new draft.outputs here,
-        subst (λ (rules : List Rule). AreNew sources rules (rules_here dir more)) (one_more before dir made draft) (folder_new before dir (made ++ draft ∷ []) more none has rest),
-      )
+  folder_new before dir made (draft ∷ more) none has (here, rest) = (
+    All-weaker (MakesHere sources dir made) (IsNew sources (before ++ rules_here dir made) (rule_of group_has (placed_in dir draft))) new draft.outputs here,
+    subst (λ (rules : List Rule). AreNew sources rules (rules_here dir more)) (one_more before dir made draft) (folder_new before dir (made ++ draft ∷ []) more none has rest),
+  )
     where
       new : (path : Names) → MakesHere sources dir made path → IsNew sources (before ++ rules_here dir made) (rule_of group_has (placed_in dir draft)) path
       new path makes = record {
@@ -131,8 +125,7 @@ module _ (sources : Tree) (group_has : Members) where
   apart_then before read [] keeps below all = tt
   apart_then before read (next ∷ more) keeps below (none, rest) =
       let parts = and_parts (is_lt (by_names read.0 next.0)) (below_all by_names read.0 more) below in
-      let far : same_path read.0 next.0 ≡ false = same_path-by_names read.0 next.0 ∙ less_apart (by_names read.0 next.0) parts.0 in
-      (
+      let far : same_path read.0 next.0 ≡ false = same_path-by_names read.0 next.0 ∙ less_apart (by_names read.0 next.0) parts.0 in (
         λ name. list_any-append (λ (rule : Rule). writes rule (next.0 ++ name ∷ [])) before (rules_here read.0 read.1.drafts)
             ∙ ap (λ b. b || is_generated (rules_here read.0 read.1.drafts) (next.0 ++ name ∷ [])) (none name)
             ∙ elsewhere read.0 next.0 far [] read.1.drafts keeps.1 name,
@@ -176,27 +169,6 @@ module _ (sources : Tree) (group_has : Members) where
               let none : None ≡ Some left = sym (ap (λ d. finite.find by_names d more) here ∙ below_none read.0 more below) ∙ e in
               cc
 
--- ---- how many rules there are
-
-first_none : (one other : Option LinkFault) → option_or one other ≡ None → one ≡ None
-first_none None other e = refl
-first_none (Some fault) other e = cc
-
-few_of : (count : ℕ) → too_many_commands count ≡ None → count ≤ 65536
-few_of count none = ltb-false 65536 count (flat (nat_lt 65536 count) (TooMany Commands count) none)
-  where
-    flat : (b : Bool) (fault : LinkFault) → cond b (Some fault) None ≡ None → b ≡ false
-    flat false fault e = refl
-    flat true fault e = cc
-
-few_rules : (readings : List (Names × Reading)) (rules : List Rule) → AreLinked readings rules → length rules ≤ 65536
-unfolding early_fault rules_of
-few_rules readings rules linked =
-    let all = placed readings in
-    let few = few_of (length all) (first_none (too_many_commands (length all)) (fault_of_groups all) linked.early) in
-    let many : length rules ≡ length all = ap length linked.are ∙ length-map all (rule_of (members (drafts_of all))) in
-    omega (arith, few, many)
-
 -- ---- the whole
 
 module _ (sources : Tree) (readings : List (Names × Reading)) (rules : List Rule) where
@@ -206,13 +178,13 @@ module _ (sources : Tree) (readings : List (Names × Reading)) (rules : List Rul
       let group_has = members (drafts_of (placed readings)) in
       let keep = all_keep sources settings all.some.0 (finite.from_sorted readings) all.some.1 in
       let each : (dir : Names) (left : Reading) → finite.find by_names dir readings ≡ Some left → Keeps sources group_has (dir, left) = λ dir left e.
-          let got = finite.get-from_sorted by_names readings dir (passes _ up) ∙ e in
-          (of_tupfiles sources settings all.some.0 (finite.from_sorted readings) all.some.1 dir left got, keep dir left got) in
+      let got = finite.get-from_sorted by_names readings dir (passes _ up) ∙ e in
+      (of_tupfiles sources settings all.some.0 (finite.from_sorted readings) all.some.1 dir left got, keep dir left got) in
       subst (AreNew sources []) (sym linked.are)
       (all_new sources group_has [] readings up (each_keeps sources group_has readings up each) (apart_from_none sources group_has readings))
 
-  pub linked_stand : IsOutcome sources (Ok readings) → AreLinked readings rules → HavePaths rules → IsTree sources → CanStand sources rules
-  linked_stand read linked have tree = can_stand sources rules (by (settings_of sources) read) tree have linked.order (few_rules readings rules linked)
+  pub linked_stand : IsOutcome sources (Ok readings) → AreLinked readings rules → HavePaths rules → IsTree sources → IsBuildable sources rules
+  linked_stand read linked have tree = can_stand sources rules (by (settings_of sources) read) tree have linked.order
     where
       by : (found : Result Entries ConfigFault) → AreReadWith sources found (Ok readings) → AreNew sources [] rules
       by (Ok settings) is = read_new settings is.0 is.1 linked

@@ -141,11 +141,12 @@ module _ (sources : Tree) (settings : Entries) where
   all_keep [] readings is dir left e =
       let wrong : Some left ≡ None = sym e ∙ ap (λ r. finite.get r dir) is ∙ finite.get-empty by_names dir in
       cc
-  all_keep (new ∷ earlier) readings (before, last, are, has, is_new, over, is) dir left e = by (same_path dir new) refl (sym (get_more before new last dir) ∙ sym (ap (λ r. finite.get r dir) is) ∙ e)
+  all_keep (new ∷ earlier) readings (before, last, are, has, is_new, over, is) dir left e =
+      by (all_keep earlier before are) (same_path dir new) refl (sym (get_more before new last dir) ∙ sym (ap (λ r. finite.get r dir) is) ∙ e)
     where
-      by : (b : Bool) → same_path dir new ≡ b → cond b (Some last) (finite.get before dir) ≡ Some left → AllMakeHere sources dir [] left.drafts
-      by false at got = all_keep earlier before are dir left got
-      by true at got =
+      by : AllKeepTo sources before → (b : Bool) → same_path dir new ≡ b → cond b (Some last) (finite.get before dir) ≡ Some left → AllMakeHere sources dir [] left.drafts
+      by keep false at got = keep dir left got
+      by keep true at got =
           let here : new ≡ dir = sym ((same_path-decides dir new).0 at) in
           let left_is : last ≡ left = cc in
-          subst (λ (d : Names). AllMakeHere sources d [] left.drafts) here (subst (λ (l : Reading). AllMakeHere sources new [] l.drafts) left_is (reading_keeps before new (all_keep earlier before are) last over))
+          subst (λ (d : Names). AllMakeHere sources d [] left.drafts) here (subst (λ (l : Reading). AllMakeHere sources new [] l.drafts) left_is (reading_keeps before new keep last over))

@@ -1,5 +1,5 @@
 -- Rules of which each makes what no rule before it makes, in its own folder, where nothing stands.
-use Rattle.std.proofs.Common.{◌≡◌, ◌≢◌, ◌⊎◌, inl, inr, ℕ, zero, suc, ◌+◌, ◌<◌, ◌≤◌, Bool, true, false, ◌||◌, List, [], ◌∷◌, ◌++◌, length, take, get_or, codes, Option, Some, None, IsSome, is_some, All, refl, sym, ap, ◌∙◌, subst, append_assoc, append-nil, arith, length-append}
+use Rattle.std.proofs.Common.{◌≡◌, ◌≢◌, ◌⊎◌, inl, inr, ℕ, zero, suc, ◌+◌, ◌<◌, Bool, true, false, ◌||◌, List, [], ◌∷◌, ◌++◌, length, take, get_or, codes, Option, Some, None, IsSome, is_some, All, refl, sym, ap, ◌∙◌, subst, append_assoc, append-nil, arith, length-append}
 use Rattle.std.specs.FinMap as finite
 use Rattle.std.specs.List.{Contains, slice_get}
 use Rattle.std.specs.Ordering.{eq_by_cmp}
@@ -17,13 +17,12 @@ use Rattle.tup_path.specs.Tree.{Tree, IsTree, IsBelow}
 use Rattle.tup_path.proofs.Same.{same_path-decides}
 use Rattle.tup_rule.specs.declared.rule.Rule.{Rule}
 use Rattle.tup_rule.specs.Rule.{writes, is_generated}
-use Rattle.tup_clean.specs.Buildable.{IsOutputAt}
+use Rattle.tup_clean.specs.Buildable.{IsOutputAt, IsBuildable, NoneWaitsForItself}
 use Rattle.tup_clean.proofs.Among.{among-Contains}
 use Rattle.tup_folders.specs.Sources.{is_source, has_below, has_tupfile, is_below, tupfile}
 use Rattle.tup_folders.proofs.Below.{last_item, lasts}
 use Rattle.tup_folders.proofs.Indexed.{none_there}
-use Rattle.tup_link.specs.Circle.{NoneWaitsForItself}
-use Rattle.tup_whole.specs.Buildable.{HavePaths, CanStand}
+use Rattle.tup_whole.specs.Paths.{HavePaths}
 
 -- ---- paths
 
@@ -129,8 +128,8 @@ module _ (sources : Tree) where
     above_no_source : (at : ℕ) (path file : Names) → IsOutputAt rules at path → IsSome (finite.get sources file) → IsBelow path file → ⊥
     above_no_source at path file output some below = both_ways (has_below (finite.keys sources) path) (new_at at path output).no_folder (source_below path file some below)
 
-    pub can_stand : IsTree sources → HavePaths rules → NoneWaitsForItself rules → length rules ≤ 65536 → CanStand sources rules
-    can_stand tree have order few = record {
+    pub can_stand : IsTree sources → HavePaths rules → NoneWaitsForItself rules → IsBuildable sources rules
+    can_stand tree have order = record {
       paths = λ at path output. let new = new_at at path output in (path_at have at path output, λ top. not_top (output.0).dir new.name (sym new.own ∙ top));
       no_source = λ at path output. none_there (finite.get sources path) (new_at at path output).no_source;
       one_maker = one_place;
@@ -141,6 +140,5 @@ module _ (sources : Tree) where
       not_below_output = λ at other path file output above below.
           let new = new_at at path output in
           above_no_source other file (tupfile (output.0).dir) above new.has (below_own file (output.0).dir path new.name (codes "Tupfile") new.own below);
-      order = order;
-      few = few;
+      none_waits = order;
     }

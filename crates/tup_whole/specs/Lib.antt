@@ -1,4 +1,4 @@
 pub mod Fault
 pub mod Project
-pub mod Buildable
+pub mod Paths
 pub mod Laws

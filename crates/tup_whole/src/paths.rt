@@ -1,7 +1,7 @@
 //! What is known of the outputs of rules because they are paths.
 ghost use Rattle.std.specs.Prelude.{All};
 ghost use Rattle.tup_path.specs.Name.{IsPath};
-ghost use Rattle.tup_whole.specs.Buildable.{HavePaths};
+ghost use Rattle.tup_whole.specs.Paths.{HavePaths};
 
 use tup_path::Path;
 use tup_rule::Rule;

@@ -3,7 +3,7 @@ ghost use Rattle.std.specs.Prelude.{IfOk, IsTrue};
 ghost use Rattle.std.specs.FinMap as finite;
 ghost use Rattle.tup_path.specs.Order.{by_names};
 ghost use Rattle.tup_path.specs.Tree.{IsTree};
-ghost use Rattle.tup_whole.specs.Buildable.{CanStand};
+ghost use Rattle.tup_clean.specs.Buildable.{IsBuildable};
 ghost use Rattle.tup_whole.specs.Project.{ComeTo};
 
 use crate::fault::ProjectFault;
@@ -25,7 +25,7 @@ pub fn read_all(alloc: Global, sources: &Files) -> Result<Rules, ProjectFault>
     requires { IsTrue (finite.is_sorted by_names sources.now) }
     ensures come_to { ComeTo (finite.from_sorted sources.now) result }
     ensures buildable { IfOk result (λ rules. IsTree (finite.from_sorted sources.now)
-        → CanStand (finite.from_sorted sources.now) rules) }
+        → IsBuildable (finite.from_sorted sources.now) rules) }
 {
     let readings = read_folders(alloc, sources)?;
     let rules = link(alloc, readings.as_slice())?;

@@ -60,9 +60,9 @@ loop-preserved g c =
       going = (
         c.loop.invariant.going.0 ++ one ∷ [],
         going_more _ _ c.args.rules.now _ (build c.loop.tree c.loop.verdicts) c.loop.counter c.loop.invariant.going.0 c.loop.queue c.loop.invariant.going.1
-        c.in-Some.at _ next c.loop-test.true c.index-rules-at.result here
-        _ (record { verdict = c.in_ok-verdict.verdict; files = c.in_ok-verdict.files }) _
-        c.in_ok-verdict.ensures.judged c.in_ok-note.ensures c.in_ok-put_all.ensures refl,
+            c.in-Some.at _ next c.loop-test.true c.index-rules-at.result here
+            _ (record { verdict = c.in_ok-verdict.verdict; files = c.in_ok-verdict.files }) _
+            c.in_ok-verdict.ensures.judged c.in_ok-note.ensures c.in_ok-put_all.ensures refl,
         λ told.
             ran_more _ _ _ _ _ (c.loop.invariant.going.2 told) (c.in_ok-verdict.ensures.ran told)
             ∙ ap (λ (l : List (Names × List ℕ)). g.R.Runner.ran c.args.runner.now ++ l) (sym (told_more command_of c.args.rules.now c.loop.invariant.going.0 one c.index-rules-at.result here)),

@@ -15,4 +15,4 @@ returns c =
     let a = c.args in
     let next = c.in_ok-dir.ensures in
     all_listed a.sources.now a.settings.now c.next.new.self c.in_ok-into_items.field-0 (next.work a.sources.now a.settings.now c.loop-work.invariant)
-    (subst (λ (dir : Option Names). IsLast dir c.next.new.self) c.in-None.is next.last) c.in_ok-into_items.ensures
+    (subst (λ (dir : Option Names). IsLast dir c.next.new.self) c.in_default.is next.last) c.in_ok-into_items.ensures

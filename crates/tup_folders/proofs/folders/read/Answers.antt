@@ -1,4 +1,4 @@
-use Rattle.std.proofs.Common.{◌≡◌, true, refl}
+use Rattle.std.proofs.Common.{refl}
 use Rattle.tup_folders.proofs.Stops.{read_over, fault_over, came}
 use Rattle.tup_folders.proofs.folders.read.Goals as goal
 

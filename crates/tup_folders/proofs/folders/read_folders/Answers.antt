@@ -7,8 +7,8 @@ pub returns-in-Ok : goal.returns-in-Ok
 returns-in-Ok c =
     outcome_ok (finite.from_sorted c.args.sources.now) c.in_ok-sources.sources c.in-Ok.settings c.all_read.result c.in_ok-sources.ensures c.in-Ok.ensures c.all_read.ensures
 
-pub returns-in-Err : goal.returns-in-Err
-returns-in-Err c = outcome_err (finite.from_sorted c.args.sources.now) c.in_ok-sources.sources c.in-Err.fault c.in_ok-sources.ensures c.in-Err.ensures
+pub returns : goal.returns
+returns c = outcome_err (finite.from_sorted c.args.sources.now) c.in_ok-sources.sources c.in-Err.fault c.in_ok-sources.ensures c.in-Err.ensures
 
 pub returns-in_err-sources : goal.returns-in_err-sources
 returns-in_err-sources c =

@@ -1,4 +1,4 @@
-use Rattle.std.proofs.Common.{refl, Some, None, [], ◌∙◌}
+use Rattle.std.proofs.Common.{refl, Some, None, ◌∙◌}
 use Rattle.tup_folders.proofs.Told.{settings_given}
 use Rattle.tup_folders.proofs.settings.settings.Goals as goal
 
@@ -7,4 +7,4 @@ returns-in-Some c = settings_given c.args.sources.now c.in_ok-path.path (Some c.
 
 pub returns-in-None : goal.returns-in-None
 returns-in-None c =
-    settings_given c.args.sources.now c.in_ok-path.path None c.new-nothing.result c.read.result c.in_ok-path.ensures.path c.in-None.ensures (c.new-nothing.ensures ∙ c.new.ensures.items) c.read.ensures
+    settings_given c.args.sources.now c.in_ok-path.path None c.new-nothing.result c.read-in-None.result c.in_ok-path.ensures.path c.in-None.ensures (c.new-nothing.ensures ∙ c.new.ensures.items) c.read-in-None.ensures

@@ -1,6 +1,5 @@
-use Rattle.std.proofs.Common.{◌≡◌, ℕ, List, Some, None, true, false, Option, is_some, subst, sym, ap, ◌∙◌}
+use Rattle.std.proofs.Common.{Some, is_some, subst, sym, ap, ◌∙◌}
 use Rattle.std.specs.BTreeMap.{get}
-use Rattle.tup_path.specs.Name.{Names}
 use Rattle.tup_path.specs.Order.{by_names}
 use Rattle.tup_folders.specs.Index.{IsParted, names_of, or_none}
 use Rattle.tup_folders.proofs.Indexed.{none_there, nothing_added, folder_added, folder_there}

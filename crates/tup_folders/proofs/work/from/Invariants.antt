@@ -1,4 +1,4 @@
-use Rattle.std.proofs.Common.{◌≡◌, ◌++◌, [], drop, if◌then◌else◌, length, ◌==◌}
+use Rattle.std.proofs.Common.{◌≡◌, drop}
 use Rattle.tup_folders.specs.State.{from_first}
 use Rattle.tup_folders.proofs.Lines.{from_here}
 use Rattle.tup_folders.proofs.work.from.Given as goal

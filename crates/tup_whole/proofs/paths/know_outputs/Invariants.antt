@@ -1,5 +1,5 @@
 use Rattle.std.proofs.Common.{take}
-use Rattle.tup_whole.specs.Buildable.{HavePaths}
+use Rattle.tup_whole.specs.Paths.{HavePaths}
 use Rattle.tup_whole.proofs.paths.know_outputs.Given as goal
 
 abbrev pub invariant-loop-rule : goal.invariant-loop-rule

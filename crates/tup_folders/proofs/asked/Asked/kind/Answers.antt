@@ -1,4 +1,4 @@
-use Rattle.std.proofs.Common.{◌≡◌, false, Option, subst, sym, ap, ◌∙◌}
+use Rattle.std.proofs.Common.{Option, subst, sym, ap, ◌∙◌}
 use Rattle.std.proofs.lemmas.Result.{MatchResult-weaker}
 use Rattle.tup_path.specs.Name.{Names}
 use Rattle.tup_rule.specs.declared.question.Told.TheVariants as told

@@ -1,4 +1,4 @@
-use Rattle.std.proofs.Common.{rules, ◌≡◌, ◌<◌, ◌≤◌, ◌+◌, List, length, Some, Ok, refl, sym, ◌∙◌, ap, subst, inl}
+use Rattle.std.proofs.Common.{rules, ◌<◌, ◌≤◌, ◌+◌, List, length, Some, Ok, refl, sym, ◌∙◌, ap, subst, inl}
 use Rattle.std.proofs.lemmas.Option.{slice_get_within}
 use Rattle.tup_rule.specs.declared.rule.Rule.{Rule}
 use Rattle.tup_rule.specs.Rule.{name_of}
@@ -42,7 +42,7 @@ returns-in_err-queue-clause-ran g c = λ tells. ran_all_of _ _ _ _ (ran_none c.a
 -- ---- the loop
 
 pub loop-init : goal.loop-init
-loop-init g c = 
+loop-init g c =
     let all = c.args.self.now.rules in
     let tree = (g.S.Site.world c.args.site.now).tree in
     record {
@@ -57,7 +57,7 @@ loop-init g c =
     }
 
 pub bounds-rules-at : goal.bounds-rules-at
-bounds-rules-at g c = 
+bounds-rules-at g c =
     let all = c.args.self.now.rules in
     let verdicts = verdicts_of all c.loop.ended in
     let at = c.in-Some.at in
@@ -86,7 +86,7 @@ take-requires-clause-room g c κs = λ lives tells.
     room_for c.args.self.now.owned all (g.S.Site.world c.args.site.now).tree _ at rule here (c.requires.runnable tells) (c.loop.invariant.others tells)
 
 pub note-requires : goal.note-requires
-note-requires g c = 
+note-requires g c =
     let all = c.args.self.now.rules in
     let verdicts = verdicts_of all c.loop.ended in
     let at = c.in-Some.at in
@@ -272,7 +272,7 @@ returns-in_err-note-clause-ran g c = λ tells.
     ran_all_of _ _ _ _ (subst (λ r. RunsThese c.take.new.ran (g.R.Runner.ran c.args.runner.now) (g.R.Runner.ran c.take.new.runner) (stopped_by r)) c.in_ok-bad.was (c.take.ensures.ran tells (g.R.Runner.ran c.args.runner.now) (c.loop.invariant.runs tells)))
 
 pub loop-preserved : goal.loop-preserved
-loop-preserved g c = 
+loop-preserved g c =
     let all = c.args.self.now.rules in
     let verdicts = verdicts_of all c.loop.ended in
     let at = c.in-Some.at in
@@ -286,7 +286,7 @@ loop-preserved g c =
     let good = unnamed_good rule ends.verdict c.in_ok-bad.bad ends.named (sym c.is_some.ensures ∙ c.if-is_some.false) in
     let is = ap (λ (v : Verdict). is_good (Some v)) good in
     record {
-      queued = subst (λ v. IsQueued all v c.note.new.self) (sym (verdicts_of_more all c.loop.ended at ends.verdict c.take.new.ended ends.noted) )
+      queued = subst (λ v. IsQueued all v c.note.new.self) (sym (verdicts_of_more all c.loop.ended at ends.verdict c.take.new.ended ends.noted))
           (queued_more all verdicts at _ next rule ends.verdict c.loop.queue c.note.new.self c.loop.invariant.queued here (notes_of at ends.verdict _ _ good c.in_ok-note.ensures));
       has = taken_next all c.loop.counter c.loop.ran c.loop.ended c.loop.invariant.has at rule ready here ends.verdict c.take.new.ran c.take.new.ended c.in_ok-bad.ensures.begins ends.noted is;
       builds = λ tells means. building_next g.R.Runner.next all (files_beside c.args.self.now.owned (g.S.Site.world c.args.site.now).tree) c.loop.counter c.loop.ended (g.S.Site.world c.loop.site).tree (c.loop.invariant.builds tells means) at rule within ready here (make_apart _ all (c.requires.runnable tells).buildable) _ ends.verdict (ends.left tells means) c.take.new.ended ends.noted good;

@@ -1,4 +1,4 @@
-use Rattle.std.proofs.Common.{◌++◌, [], ◌∷◌, List, refl, sym, ◌∙◌, ap, subst, inl, inr}
+use Rattle.std.proofs.Common.{List, sym, subst, inl, inr}
 use Rattle.tup_rule.specs.Rule.{name_of}
 use Rattle.tup_rule.specs.declared.rule.RuleName.{RuleName}
 use Rattle.tup_update.specs.Ran.{RanAll, RunsOne, RunsThese}
