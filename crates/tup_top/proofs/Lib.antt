@@ -2,4 +2,3 @@ pub mod Causes
 pub mod Crewed
 pub mod Idle
 pub mod Success
-pub mod Verified

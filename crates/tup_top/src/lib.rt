@@ -11,7 +11,6 @@ mod order;
 mod print;
 mod status;
 mod update;
-mod verify;
 
 pub use call::{Ran, tup};
 pub use order::{Order, OrderFault, Word, order_of};

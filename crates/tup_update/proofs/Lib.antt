@@ -12,4 +12,3 @@ pub mod Trees
 pub mod Known
 pub mod Ending
 pub mod Keeping
-pub mod Comparing

@@ -215,3 +215,7 @@ folders_more sources at file within here =
     ap (filter_map folder_of_tupfile)
     (map_more (λ (f : Names × Content). f.0) sources at file within ∙ ap (λ (f : Names × Content). keys_of (take at sources) ++ f.0 ∷ []) here)
     ∙ filter_map-append folder_of_tupfile (keys_of (take at sources)) (file.0 ∷ [])
+
+pub from_T : (b : Bool) → T b → b ≡ true
+from_T true h = refl
+from_T false h = absurd h

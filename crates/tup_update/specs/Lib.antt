@@ -9,4 +9,3 @@ pub mod Put
 pub mod Seeing
 pub mod SeeingLaws
 pub mod Outcome
-pub mod Compared

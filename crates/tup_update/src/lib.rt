@@ -7,7 +7,6 @@
 
 mod build;
 mod command;
-mod compare;
 mod fault;
 mod found;
 mod project;
@@ -16,7 +15,6 @@ mod stop;
 mod update;
 mod view;
 
-pub use compare::{Compared, compare_site};
 pub use fault::SourcesFault;
 pub use stop::Stop;
 pub use update::{Log, Update, update_site};

@@ -6,8 +6,7 @@ use Rattle.tup_path.specs.Order.{by_names}
 use Rattle.tup_path.specs.Tree.{Tree}
 use Rattle.tup_site.specs.World.{World}
 use Rattle.tup_update.specs.Parts.{AddsFile}
-use Rattle.tup_update.proofs.Comparing.{from_T}
-use Rattle.tup_update.proofs.Reading.{HasFilesAt, none_found, next_looked_for, all_found}
+use Rattle.tup_update.proofs.Reading.{HasFilesAt, from_T, none_found, next_looked_for, all_found}
 use Rattle.tup_update.proofs.found.contents.Goals as goal
 
 pub loop-path-init : goal.loop-path-init
