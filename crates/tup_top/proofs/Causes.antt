@@ -17,28 +17,48 @@ use Rattle.tup_clean.specs.Taken.{Taken}
 use Rattle.tup_update.specs.Log.{LogFits, RulesFit, OfRules}
 use Rattle.tup_update.specs.Ran.{RunsThese}
 use Rattle.tup_update.specs.Outcome.{ExactlyTheFiles, NothingForgotten, HasRunCause, HasCountedCause as StopHasCountedCause}
-use Rattle.tup_update.specs.Sources.{sources, files_beside, outputs, ends}
+use Rattle.tup_update.specs.Sources.{sources as sources_of, files_beside, outputs, ends, PassesLimit}
 use Rattle.tup_update.specs.Turns.{names_of, TurnsFit}
 use Rattle.tup_update.proofs.Ending.{no_front, whole_front}
 use Rattle.tup_update.proofs.Keeping.{no_turns}
 use Rattle.tup_update.proofs.Known.{sources_are, among_ascending}
+use Rattle.tup_update.specs.declared.fault.SourcesFault.{SourcesFault}
+use Rattle.tup_update.specs.declared.fault.SourcesFault.TheVariants as sources
 use Rattle.tup_update.specs.declared.update.Log.{Log}
 use Rattle.tup_update.specs.declared.stop.Stop.{Stop}
-use Rattle.tup_update.specs.declared.stop.Stop.TheVariants.{BadStore as StoreDamaged, Parse as ParseFailed, Bad, Run, Outside}
+use Rattle.tup_update.specs.declared.stop.Stop.TheVariants.{BadStore as StoreDamaged, Sources, Bad, Run, Outside}
 use Rattle.tup_top.specs.Lines.{lines}
 use Rattle.tup_top.specs.Crew.{OneRose, RanFits}
 use Rattle.tup_top.specs.Promise.{CountsAll, Counts, AreSteady, HasCountedCause, HasDemoCause}
 use Rattle.tup_top.specs.Printed.{IsDone, Ends, Prints, Told, PrintsUpdate}
-use Rattle.tup_top.specs.Status.{status_of, came_to}
-use Rattle.tup_top.specs.declared.status.What.TheVariants.{FileSize}
+use Rattle.tup_top.specs.Status.{status_of, status_of_sources, came_to}
 use Rattle.tup_top.specs.declared.status.Status.{Status}
-use Rattle.tup_top.specs.declared.status.Status.TheVariants.{Done, Command, IllegalRead, IllegalWrite, Unwritten, TooManyReads, Usage, BadStore, Parse, SiteFault, RunFault, SinkFault, Limit, Memory}
+use Rattle.tup_top.specs.declared.status.Status.TheVariants.{Done, Command, IllegalRead, IllegalWrite, Unwritten, TooManyReads, Usage, BadStore, Parse, CircularDirs, CircularCommands, NoSuchGroup, SiteFault, RunFault, SinkFault, Limit, Memory}
+
+-- the status of sources that ask for no rules tells why
+came_to-sources : (fault : SourcesFault) → came_to (status_of_sources fault) ≡ Some (Some (Sources fault))
+came_to-sources (sources.TooManyFiles number) = refl
+came_to-sources (sources.Parse fault) = refl
+came_to-sources (sources.CircularDirs cycle) = refl
+came_to-sources (sources.TooManyCommands number) = refl
+came_to-sources (sources.NoSuchGroup group) = refl
+came_to-sources (sources.TooManyLinks number) = refl
+came_to-sources (sources.CircularCommands cycle) = refl
+
+sources_undone : (fault : SourcesFault) → IsDone (status_of_sources fault) → ⊥
+sources_undone (sources.TooManyFiles number) done = done
+sources_undone (sources.Parse fault) done = done
+sources_undone (sources.CircularDirs cycle) done = done
+sources_undone (sources.TooManyCommands number) done = done
+sources_undone (sources.NoSuchGroup group) done = done
+sources_undone (sources.TooManyLinks number) done = done
+sources_undone (sources.CircularCommands cycle) done = done
 
 -- the status of an update tells what the update came to
 came_to-status_of : (before now : ℕ) (log : Log) (stopped : Option Stop) → StopHasCountedCause before now stopped → came_to (status_of log stopped) ≡ Some stopped
 came_to-status_of before now log None cause = refl
 came_to-status_of before now log (Some (StoreDamaged offset)) cause = refl
-came_to-status_of before now log (Some (ParseFailed fault)) cause = refl
+came_to-status_of before now log (Some (Sources fault)) cause = came_to-sources fault
 came_to-status_of before now log (Some (Bad rule Good)) cause = absurd (false≢true (sym cause.1))
 came_to-status_of before now log (Some (Bad rule (Failed status))) cause = refl
 came_to-status_of before now log (Some (Bad rule (ReadsIllegally text))) cause = refl
@@ -54,7 +74,7 @@ came_to-status_of before now log (Some (Outside NoMemory)) cause = refl
 done_is_none : (log : Log) (stopped : Option Stop) → IsDone (status_of log stopped) → stopped ≡ None
 done_is_none log None done = refl
 done_is_none log (Some (StoreDamaged offset)) done = absurd done
-done_is_none log (Some (ParseFailed fault)) done = absurd done
+done_is_none log (Some (Sources fault)) done = absurd (sources_undone fault done)
 done_is_none log (Some (Bad rule Good)) done = absurd done
 done_is_none log (Some (Bad rule (Failed status))) done = absurd done
 done_is_none log (Some (Bad rule (ReadsIllegally text))) done = absurd done
@@ -82,7 +102,7 @@ answered P before now old new log stopped status answer is (inr (inr (e, done, r
 pub untold_rules : (old : World) (rules : List Rule) (stopped : Option Stop) → RulesFit old rules stopped → RulesFit old rules (Some (Outside NoMemory))
 untold_rules old rules None fits = inr fits
 untold_rules old rules (Some (StoreDamaged offset)) fits = inl fits
-untold_rules old rules (Some (ParseFailed fault)) fits = inl fits
+untold_rules old rules (Some (Sources fault)) fits = inl fits
 untold_rules old rules (Some (Bad rule verdict)) fits = inr fits
 untold_rules old rules (Some Run) fits = inr fits
 untold_rules old rules (Some (Outside failed)) fits = fits
@@ -102,7 +122,7 @@ told_of old rules promise (Some stopped) fits kept = (rules, fits, kept)
 -- ---- what is left
 
 -- outputs in their order are the same paths
-same_listed : (paths : List Names) (w : World) → owned_of w.store ≡ Ok (ascending paths) → files_beside paths w.tree ≡ sources w
+same_listed : (paths : List Names) (w : World) → owned_of w.store ≡ Ok (ascending paths) → files_beside paths w.tree ≡ sources_of w
 same_listed paths w reads = sym (sources_are w (ascending paths) reads ∙ (λ i. finite.retain_keys w.tree (λ path. not (among_ascending paths path i))))
 
 pub untold_left : (tells : Bool) (next : Next) (rules : List Rule) (old new : World) (stopped : Option Stop) → RulesFit old rules stopped → NothingForgotten tells next rules old new stopped →
@@ -115,7 +135,7 @@ untold_left tells next rules old new None fits listed files = inr (
   })),
 )
 untold_left tells next rules old new (Some (StoreDamaged offset)) fits same files = inl same
-untold_left tells next rules old new (Some (ParseFailed fault)) fits same files = inl same
+untold_left tells next rules old new (Some (Sources fault)) fits same files = inl same
 untold_left tells next rules old new (Some (Bad rule verdict)) fits listed files = inr (fits, inl listed)
 untold_left tells next rules old new (Some Run) fits listed files = inr (fits, inl listed)
 untold_left tells next rules old new (Some (Outside Fault)) fits left files = left
@@ -125,10 +145,19 @@ untold_left tells next rules old new (Some (Outside NoMemory)) fits left files =
 
 -- ---- counts
 
+counts_of_sources : (next : Next) (rules : List Rule) (old : World) (fault : SourcesFault) → CountsAll next rules old (status_of_sources fault)
+counts_of_sources next rules old (sources.TooManyFiles number) = tt
+counts_of_sources next rules old (sources.Parse fault) = tt
+counts_of_sources next rules old (sources.CircularDirs cycle) = tt
+counts_of_sources next rules old (sources.TooManyCommands number) = tt
+counts_of_sources next rules old (sources.NoSuchGroup group) = tt
+counts_of_sources next rules old (sources.TooManyLinks number) = tt
+counts_of_sources next rules old (sources.CircularCommands cycle) = tt
+
 counts_of_stop : (next : Next) (rules : List Rule) (old : World) (log : Log) (stopped : Option Stop) → LogFits next rules old log stopped → CountsAll next rules old (status_of log stopped)
 counts_of_stop next rules old log None fits = ap (λ (l : Log). status_of l None) fits
 counts_of_stop next rules old log (Some (StoreDamaged offset)) fits = tt
-counts_of_stop next rules old log (Some (ParseFailed fault)) fits = tt
+counts_of_stop next rules old log (Some (Sources fault)) fits = counts_of_sources next rules old fault
 counts_of_stop next rules old log (Some (Bad rule Good)) fits = tt
 counts_of_stop next rules old log (Some (Bad rule (Failed status))) fits = tt
 counts_of_stop next rules old log (Some (Bad rule (ReadsIllegally text))) fits = tt
@@ -145,6 +174,16 @@ pub counts_all : (next : Next) (rules : List Rule) (old : World) (before now : �
 counts_all next rules old before now log stopped status answer is (inl e) fits = subst (CountsAll next rules old) (sym (e ∙ is)) (counts_of_stop next rules old log stopped fits)
 counts_all next rules old before now log stopped status answer is (inr (inl e)) fits = subst (CountsAll next rules old) (sym e) tt
 counts_all next rules old before now log stopped status answer is (inr (inr (e, done, rose))) fits = subst (CountsAll next rules old) (sym e) tt
+
+-- where nothing was done nothing failed, and a limit that is told is passed
+counted_of_sources : {before now : Counts} (fault : SourcesFault) → AreSteady before now → PassesLimit fault → HasCountedCause before now (status_of_sources fault)
+counted_of_sources (sources.TooManyFiles number) steady passed = (steady, passed)
+counted_of_sources (sources.Parse fault) steady passed = steady
+counted_of_sources (sources.CircularDirs cycle) steady passed = steady
+counted_of_sources (sources.TooManyCommands number) steady passed = (steady, passed)
+counted_of_sources (sources.NoSuchGroup group) steady passed = steady
+counted_of_sources (sources.TooManyLinks number) steady passed = (steady, passed)
+counted_of_sources (sources.CircularCommands cycle) steady passed = steady
 
 -- what a site, one runner and a sink count
 abbrev pub of_one : ℕ → ℕ → ℕ → Counts
@@ -167,7 +206,7 @@ module _ (site_before site_now run_before run_now sink_before sink_now : ℕ) wh
       HasCountedCause before now (status_of log stopped)
   counted_of_stop log None sink cause run = (steady cause run, sink tt)
   counted_of_stop log (Some (StoreDamaged offset)) sink cause run = steady cause run
-  counted_of_stop log (Some (ParseFailed fault)) sink cause run = steady cause run
+  counted_of_stop log (Some (Sources fault)) sink cause run = counted_of_sources fault (steady cause.0 run) cause.1
   counted_of_stop log (Some (Bad rule Good)) sink cause run = tt
   counted_of_stop log (Some (Bad rule (Failed status))) sink cause run = steady cause.0 run
   counted_of_stop log (Some (Bad rule (ReadsIllegally text))) sink cause run = steady cause.0 run
@@ -227,10 +266,13 @@ demo_cause site_before site_now before now (TooManyReads rule) cause = tt
 demo_cause site_before site_now before now (Usage place) cause = cause
 demo_cause site_before site_now before now (BadStore offset) cause = tt
 demo_cause site_before site_now before now (Parse fault) cause = tt
+demo_cause site_before site_now before now (CircularDirs cycle) cause = tt
+demo_cause site_before site_now before now (CircularCommands cycle) cause = tt
+demo_cause site_before site_now before now (NoSuchGroup group) cause = tt
 demo_cause site_before site_now before now SiteFault cause = tt
 demo_cause site_before site_now before now RunFault cause = never_rose cause.1
 demo_cause site_before site_now before now SinkFault cause = cause.1
-demo_cause site_before site_now before now (Limit FileSize number) cause = cause.1
+demo_cause site_before site_now before now (Limit what number) cause = cause.1
 demo_cause site_before site_now before now Memory cause = tt
 
 -- an update that didn't begin, for want of memory
@@ -256,7 +298,7 @@ prints_no_update next old before now held = record {
 pub ran_fits : (next : Next) (rules : List Rule) (old : World) (log : Log) (stopped : Option Stop) → LogFits next rules old log stopped → RanFits next rules old log.ran stopped
 ran_fits next rules old log None fits = ap (λ (l : Log). l.ran) fits
 ran_fits next rules old log (Some (StoreDamaged offset)) fits = fits.2
-ran_fits next rules old log (Some (ParseFailed fault)) fits = fits.2
+ran_fits next rules old log (Some (Sources fault)) fits = fits.2
 ran_fits next rules old log (Some (Bad rule verdict)) fits = ap (λ (l : Log). l.ran) fits
 ran_fits next rules old log (Some Run) fits = fits.ran
 ran_fits next rules old log (Some (Outside failed)) (inl empty) = no_front log.ran (names_of rules (ends next rules old)) empty.2
@@ -266,7 +308,7 @@ ran_fits next rules old log (Some (Outside failed)) (inr (asks, part)) = part.ra
 pub untold_ran : (next : Next) (rules : List Rule) (old : World) (ran : List RuleName) (stopped : Option Stop) → RanFits next rules old ran stopped → RanFits next rules old ran (Some (Outside NoMemory))
 untold_ran next rules old ran None fits = whole_front ran (names_of rules (ends next rules old)) fits
 untold_ran next rules old ran (Some (StoreDamaged offset)) fits = no_front ran (names_of rules (ends next rules old)) fits
-untold_ran next rules old ran (Some (ParseFailed fault)) fits = no_front ran (names_of rules (ends next rules old)) fits
+untold_ran next rules old ran (Some (Sources fault)) fits = no_front ran (names_of rules (ends next rules old)) fits
 untold_ran next rules old ran (Some (Bad rule verdict)) fits = whole_front ran (names_of rules (ends next rules old)) fits
 untold_ran next rules old ran (Some Run) fits = fits
 untold_ran next rules old ran (Some (Outside failed)) fits = fits
@@ -275,7 +317,7 @@ untold_ran next rules old ran (Some (Outside failed)) fits = fits
 pub untold_turns : (rules : List Rule) (ran : List RuleName) (ended : List Taken) (stopped : Option Stop) → TurnsFit rules ran ended stopped → TurnsFit rules ran ended (Some (Outside NoMemory))
 untold_turns rules ran ended None turns = (turns.0, inl turns.1)
 untold_turns rules ran ended (Some (StoreDamaged offset)) turns = no_turns rules ran ended turns.0 turns.1
-untold_turns rules ran ended (Some (ParseFailed fault)) turns = no_turns rules ran ended turns.0 turns.1
+untold_turns rules ran ended (Some (Sources fault)) turns = no_turns rules ran ended turns.0 turns.1
 untold_turns rules ran ended (Some (Bad rule verdict)) turns = (turns.0, inl turns.1)
 untold_turns rules ran ended (Some Run) turns = turns
 untold_turns rules ran ended (Some (Outside failed)) turns = turns
@@ -284,7 +326,7 @@ untold_turns rules ran ended (Some (Outside failed)) turns = turns
 pub untold_runs : (ran : List RuleName) (old new : List (Names × List ℕ)) (stopped : Option Stop) → RunsThese ran old new stopped → RunsThese ran old new (Some (Outside NoMemory))
 untold_runs ran old new None runs = inl runs
 untold_runs ran old new (Some (StoreDamaged offset)) runs = inl runs
-untold_runs ran old new (Some (ParseFailed fault)) runs = inl runs
+untold_runs ran old new (Some (Sources fault)) runs = inl runs
 untold_runs ran old new (Some (Bad rule verdict)) runs = inl runs
 untold_runs ran old new (Some Run) runs = inl runs
 untold_runs ran old new (Some (Outside Fault)) runs = inl runs

@@ -14,14 +14,15 @@ use Rattle.tup_update.specs.Log.{OfRules}
 use Rattle.tup_update.specs.Outcome.{SourcesStay, HasCause}
 use Rattle.tup_update.specs.Parts.{HasFileOf}
 use Rattle.tup_update.specs.Sources.{owned, build}
+use Rattle.tup_update.specs.declared.fault.SourcesFault.TheVariants as sources
 use Rattle.tup_update.specs.declared.stop.Stop.TheVariants.{Bad}
 use Rattle.tup_update.proofs.Beside.{left_is}
 use Rattle.tup_top.specs.Status.{came_to}
 use Rattle.tup_top.specs.Crew.{OneRose}
 use Rattle.tup_top.specs.Promise.{HasCountedCause, Counts, NothingFailed, IsClear, IsDoneOrMemory}
-use Rattle.tup_top.specs.declared.status.What.TheVariants.{FileSize}
+use Rattle.tup_top.specs.declared.status.What.TheVariants.{Files, FileSize, Commands, Links}
 use Rattle.tup_top.specs.declared.status.Status.{Status}
-use Rattle.tup_top.specs.declared.status.Status.TheVariants.{Done, Command, IllegalRead, IllegalWrite, Unwritten, TooManyReads, Usage, BadStore, Parse, SiteFault, RunFault, SinkFault, Limit, Memory}
+use Rattle.tup_top.specs.declared.status.Status.TheVariants.{Done, Command, IllegalRead, IllegalWrite, Unwritten, TooManyReads, Usage, BadStore, Parse, CircularDirs, CircularCommands, NoSuchGroup, SiteFault, RunFault, SinkFault, Limit, Memory}
 
 list_all_at : {X : Type 0} (p : X → Bool) (xs : List X) (at : ℕ) (x : X) → list_all p xs ≡ true → slice_get xs at ≡ Some x → p x ≡ true
 list_all_at p xs at x all stands =
@@ -60,11 +61,17 @@ succeeds_so next old new before now (Unwritten rule path) cause counted clear fi
 succeeds_so next old new before now (TooManyReads rule) cause counted clear fine = no_bad_rule next old new rule ReadsTooOften clear cause
 succeeds_so next old new before now (Usage place) cause counted clear fine = absurd counted
 succeeds_so next old new before now (BadStore offset) (rules, fits, damaged) counted clear fine = let reads = clear.store_reads in absurd (cc)
-succeeds_so next old new before now (Parse fault) (rules, fits, refused) counted clear fine = absurd (clear.sources_read fault refused)
+succeeds_so next old new before now (Parse fault) (rules, fits, refused) counted clear fine = absurd (clear.sources_read (sources.Parse fault) refused)
+succeeds_so next old new before now (CircularDirs cycle) (rules, fits, refused) counted clear fine = absurd (clear.sources_read (sources.CircularDirs cycle) refused)
+succeeds_so next old new before now (CircularCommands cycle) (rules, fits, refused) counted clear fine = absurd (clear.sources_read (sources.CircularCommands cycle) refused)
+succeeds_so next old new before now (NoSuchGroup group) (rules, fits, refused) counted clear fine = absurd (clear.sources_read (sources.NoSuchGroup group) refused)
 succeeds_so next old new before now SiteFault cause counted clear fine = not_rose before.site now.site fine.site fine.site_counts counted.0
 succeeds_so next old new before now RunFault cause counted clear fine = no_runner_rose before now fine counted.1
 succeeds_so next old new before now SinkFault cause counted clear fine = not_rose before.sink now.sink fine.sink fine.sink_counts counted.1
 succeeds_so next old new before now (Limit FileSize number) (rules, fits, large) counted clear fine = no_large_file next old new number clear large counted.1
+succeeds_so next old new before now (Limit Files number) (rules, fits, refused) counted clear fine = absurd (clear.sources_read (sources.TooManyFiles number) refused)
+succeeds_so next old new before now (Limit Commands number) (rules, fits, refused) counted clear fine = absurd (clear.sources_read (sources.TooManyCommands number) refused)
+succeeds_so next old new before now (Limit Links number) (rules, fits, refused) counted clear fine = absurd (clear.sources_read (sources.TooManyLinks number) refused)
 succeeds_so next old new before now Memory cause counted clear fine = tt
 
 -- where nothing was done the sources stay

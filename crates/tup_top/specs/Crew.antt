@@ -12,7 +12,7 @@ use Rattle.tup_update.specs.Ran.{RunsThese}
 use Rattle.tup_update.specs.Sources.{ends}
 use Rattle.tup_update.specs.Turns.{names_of, TurnsFit}
 use Rattle.tup_update.specs.declared.stop.Stop.{Stop}
-use Rattle.tup_update.specs.declared.stop.Stop.TheVariants.{BadStore, Parse, Bad, Run, Outside}
+use Rattle.tup_update.specs.declared.stop.Stop.TheVariants.{BadStore, Sources, Bad, Run, Outside}
 use Rattle.tup_top.specs.Order.{Wanted, IsUpdate}
 
 -- a crew has a runner, and at most 16
@@ -34,7 +34,7 @@ abbrev pub RanFits : Next → List Rule → World → List RuleName → Option S
 RanFits next rules old ran None = ran ≡ names_of rules (ends next rules old)
 RanFits next rules old ran (Some (Bad name verdict)) = ran ≡ names_of rules (ends next rules old)
 RanFits next rules old ran (Some (BadStore offset)) = ran ≡ []
-RanFits next rules old ran (Some (Parse fault)) = ran ≡ []
+RanFits next rules old ran (Some (Sources fault)) = ran ≡ []
 RanFits next rules old ran (Some Run) = IsFront ran (names_of rules (ends next rules old))
 RanFits next rules old ran (Some (Outside failed)) = IsFront ran (names_of rules (ends next rules old))
 

@@ -1,8 +1,11 @@
 -- What is printed of an update (the wording is own): a line for each thing done, and a last one for how it ended.
-use Rattle.std.specs.Prelude.{ℕ, if◌then◌else◌, List, [], ◌∷◌, ◌++◌, None, Some, slice_get, codes, decimal}
+use Rattle.std.specs.Prelude.{ℕ, if◌then◌else◌, List, [], ◌∷◌, ◌++◌, drop, fold, take, None, Some, slice_get, codes, decimal, position, unwrap_or}
 use Rattle.std.specs.List.{flat_map}
+use Rattle.std.specs.Ordering.{match_ordering}
 use Rattle.tup_path.specs.Name.{Names}
+use Rattle.tup_path.specs.Order.{by_names, same_path}
 use Rattle.tup_path.specs.Show.{show}
+use Rattle.tup_rule.specs.declared.draft.GroupRef.{GroupRef}
 use Rattle.tup_rule.specs.declared.rule.Rule.{Rule}
 use Rattle.tup_rule.specs.declared.rule.RuleName.{RuleName}
 use Rattle.tup_rule.specs.Rule.{label_of}
@@ -10,12 +13,12 @@ use Rattle.tup_access.specs.declared.verdict.Verdict.{Verdict}
 use Rattle.tup_lex.specs.ParseKind.{kind_text}
 use Rattle.tup_clean.specs.Clean.{is_good}
 use Rattle.tup_clean.specs.Taken.{Taken}
-use Rattle.tup_parse.specs.declared.fault.ParseFault.{ParseFault}
+use Rattle.tup_ask.specs.declared.fault.ParseFault.{ParseFault}
 use Rattle.tup_update.specs.declared.update.Log.{Log}
 use Rattle.tup_top.specs.declared.status.Status.{Status}
-use Rattle.tup_top.specs.declared.status.Status.TheVariants.{Done, Command, IllegalRead, IllegalWrite, Unwritten, TooManyReads, Usage, BadStore, Parse, SiteFault, RunFault, SinkFault, Limit, Memory}
+use Rattle.tup_top.specs.declared.status.Status.TheVariants.{Done, Command, IllegalRead, IllegalWrite, Unwritten, TooManyReads, Usage, BadStore, Parse, CircularDirs, CircularCommands, NoSuchGroup, SiteFault, RunFault, SinkFault, Limit, Memory}
 use Rattle.tup_top.specs.declared.status.What.{What}
-use Rattle.tup_top.specs.declared.status.What.TheVariants.{FileSize}
+use Rattle.tup_top.specs.declared.status.What.TheVariants.{Files, FileSize, Commands, Links}
 
 -- a folder whose Tupfile was read
 abbrev pub read_line : Names → List ℕ
@@ -36,7 +39,10 @@ ended_line rules one = elim (slice_get rules one.0) [ Some rule ↦ verdict_line
 
 -- what has a limit
 abbrev pub what_text : What → List ℕ
+what_text Files = codes "Files"
 what_text FileSize = codes "FileSize"
+what_text Commands = codes "Commands"
+what_text Links = codes "Links"
 
 -- a fault of the command of a rule: `DIR: COMMAND`, and what it did
 abbrev pub rule_fault : RuleName → List ℕ → List ℕ
@@ -46,6 +52,41 @@ rule_fault rule did = codes "fault: " ++ (show rule.dir ++ (codes ": " ++ (rule.
 abbrev pub parse_fault : ParseFault → List ℕ
 parse_fault fault =
     codes "fault: " ++ (show fault.file ++ (codes ":" ++ (decimal fault.line ++ (codes ": " ++ (kind_text fault.kind ++ (codes ", read for " ++ show fault.dir))))))
+
+-- each of these with an arrow behind it
+abbrev pub arrows : {A : Type 0} → (A → List ℕ) → List A → List ℕ
+arrows shown all = flat_map (λ one. shown one ++ codes " -> ") all
+
+-- a circle from its first member on, and that one again at the end
+abbrev pub circle : {A : Type 0} → (A → List ℕ) → List A → List ℕ
+circle shown [] = []
+circle shown (first ∷ rest) = arrows shown (first ∷ rest) ++ shown first
+
+-- of two folders the one that comes first
+abbrev pub first_of : Names → Names → Names
+first_of one other = match_ordering (by_names other one) other one one
+
+-- the place of the first of some folders in the order of paths
+abbrev pub place_of_first : List Names → ℕ
+place_of_first [] = 0
+place_of_first (dir ∷ dirs) = unwrap_or (position (λ other. same_path other (fold first_of dir dirs)) (dir ∷ dirs)) 0
+
+-- folders in a circle, from the first of them in the order of paths on
+abbrev pub turned : List Names → List Names
+turned dirs = drop (place_of_first dirs) dirs ++ take (place_of_first dirs) dirs
+
+-- a rule, `DIR: COMMAND`
+abbrev pub rule_text : RuleName → List ℕ
+rule_text rule = show rule.dir ++ (codes ": " ++ rule.text)
+
+-- what stands before a name in a folder; nothing for the top
+abbrev pub folder_text : Names → List ℕ
+folder_text [] = []
+folder_text (name ∷ names) = show (name ∷ names) ++ codes "/"
+
+-- a group, `<NAME>` or `DIR/<NAME>`
+abbrev pub group_text : GroupRef → List ℕ
+group_text group = folder_text group.dir ++ (codes "<" ++ (group.name ++ codes ">"))
 
 -- how an order ended
 abbrev pub status_text : Status → List ℕ
@@ -59,6 +100,9 @@ status_text (TooManyReads rule) = rule_fault rule (codes ": reads too often")
 status_text (Usage place) = codes "fault: usage, word " ++ decimal place
 status_text (BadStore offset) = codes "fault: the store is damaged at byte " ++ decimal offset
 status_text (Parse fault) = parse_fault fault
+status_text (CircularDirs cycle) = codes "fault: directories wait for each other: " ++ circle show (turned cycle)
+status_text (CircularCommands cycle) = codes "fault: commands wait for each other: " ++ circle rule_text cycle
+status_text (NoSuchGroup group) = codes "fault: no rule gives to " ++ group_text group
 status_text SiteFault = codes "fault: the file tree or the store failed"
 status_text RunFault = codes "fault: the runner failed"
 status_text SinkFault = codes "fault: the output failed"

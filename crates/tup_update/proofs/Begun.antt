@@ -11,7 +11,7 @@ use Rattle.tup_update.specs.Stopped.{stop_of_halt}
 use Rattle.tup_update.specs.declared.stop.Halt.{Halt}
 use Rattle.tup_update.specs.declared.stop.Halt.TheVariants.{Run as RunHalted, Outside as Halted}
 use Rattle.tup_update.specs.declared.stop.Stop.{Stop}
-use Rattle.tup_update.specs.declared.stop.Stop.TheVariants.{BadStore, Parse, Bad, Run, Outside}
+use Rattle.tup_update.specs.declared.stop.Stop.TheVariants.{BadStore, Sources, Bad, Run, Outside}
 
 -- nothing
 pub ran_none : (rules : List RuleName) (old : List (Names × List ℕ)) → rules ≡ [] → RanAll rules old old
@@ -29,7 +29,7 @@ ran_more rule front rules old between new before is one =
 pub ran_all_of : (rules : List RuleName) (old new : List (Names × List ℕ)) (stopped : Option Stop) → RanAll rules old new → RunsThese rules old new stopped
 ran_all_of rules old new None ran = ran
 ran_all_of rules old new (Some (BadStore offset)) ran = ran
-ran_all_of rules old new (Some (Parse fault)) ran = ran
+ran_all_of rules old new (Some (Sources fault)) ran = ran
 ran_all_of rules old new (Some (Bad name verdict)) ran = ran
 ran_all_of rules old new (Some Run) ran = ran
 ran_all_of rules old new (Some (Outside Fault)) ran = ran

@@ -13,15 +13,14 @@ use Rattle.tup_access.specs.declared.verdict.Verdict.{Verdict}
 use Rattle.tup_runner.specs.Next.{Next}
 use Rattle.tup_clean.specs.Clean.{clean}
 use Rattle.tup_clean.specs.Taken.{Taken, takes, up_to_bad}
-use Rattle.tup_parse.specs.declared.fault.ReadEnd.{ReadEnd}
-use Rattle.tup_parse.specs.declared.fault.ReadEnd.TheVariants.{Fault as ParseFailed, Memory as NotRead}
 use Rattle.tup_owned.specs.Owned.{owned_of, spelling}
 use Rattle.tup_owned.specs.Ascending.{ascending}
 use Rattle.tup_update.specs.Log.{IsFront, IsGrownByFront, IsPartOf, IsEmptyLog, IsUnused, LogFits, RulesFit, whole_log, with_read}
-use Rattle.tup_update.specs.Outcome.{Stays, Keeps, HasCause, IsListed, AllIsMade, IsLeft, NothingForgotten, SourcesStay, claimed}
-use Rattle.tup_update.specs.Parts.{Changes, SameBeside, SameBesideOutputs, IsCleared, IsRunnable, HasFileOf, HasRun, AreNoted, ArePartNoted, IsBuilt, IsProject}
-use Rattle.tup_update.specs.Sources.{owned, sources, rules_read, files_beside, ends, outputs, vanished}
-use Rattle.tup_update.specs.Stopped.{stop_of, stop_of_halt, unread_of_reading}
+use Rattle.tup_update.specs.Outcome.{Stays, Keeps, HasCause, HasCountedCause, IsListed, AllIsMade, IsLeft, NothingForgotten, SourcesStay, claimed}
+use Rattle.tup_update.specs.Outside.{HandsOn}
+use Rattle.tup_update.specs.Parts.{IsOfRules, IsRefusal, KnowsLimits, Changes, SameBeside, SameBesideOutputs, IsCleared, IsRunnable, HasFileOf, HasRun, AreNoted, ArePartNoted, IsBuilt, IsProject}
+use Rattle.tup_update.specs.Sources.{owned, sources, files_beside, ends, outputs, vanished}
+use Rattle.tup_update.specs.Stopped.{stop_of, stop_of_halt}
 use Rattle.tup_update.specs.Turns.{names_of, AreInTurn, AreBegun, TurnsFit}
 use Rattle.tup_update.specs.declared.project.Project.{Project}
 use Rattle.tup_update.specs.declared.stop.Halt.{Halt}
@@ -40,12 +39,43 @@ pub err_is : {A E : Type 0} (result : Result A E) (stop : E) → IsErrAnd result
 err_is {A} {E} (Ok value) stop is = absurd is
 err_is {A} {E} (Err given) stop is = ap (λ (e : E). Some e) is
 
--- why a project couldn't be read, where its sources are at fault
-pub reading_cause : (next : Next) (rules : List Rule) (old new : World) (r right : Result (List Rule) ReadEnd) (end : ReadEnd) → (r ≡ Err NotRead) ⊎ (r ≡ right) → r ≡ Err end → rules_read old ≡ right →
-    HasCause next rules old new (Some (stop_of (unread_of_reading end)))
-reading_cause next rules old new r right (ParseFailed found) (inl none) is same = absurd (cc (none, is))
-reading_cause next rules old new r right (ParseFailed found) (inr some) is same = same ∙ sym some ∙ is
-reading_cause next rules old new r right NotRead choice is same = tt
+-- why a project has no rules
+pub refusal_cause : (next : Next) (rules : List Rule) (old new : World) (unread : Unread) → IsRefusal old unread → HasCause next rules old new (Some (stop_of unread))
+refusal_cause next rules old new (Store offset) refused = absurd refused
+refusal_cause next rules old new (Sources fault) refused = refused
+refusal_cause next rules old new (Unlucky Fault) refused = tt
+refusal_cause next rules old new (Unlucky (TooLarge n)) refused = absurd (cc refused)
+refusal_cause next rules old new (Unlucky Memory) refused = tt
+
+-- what is told of the rules tells of no failure of the site
+pub refusal_knows : (unread : Unread) → IsOfRules unread → KnowsLimits unread
+refusal_knows (Store offset) told = absurd told
+refusal_knows (Sources fault) told = told
+refusal_knows (Unlucky failed) told = tt
+
+pub refusal_counts : (before now : ℕ) (unread : Unread) → now ≡ before → IsOfRules unread → HasCountedCause before now (Some (stop_of unread))
+refusal_counts before now (Store offset) same told = absurd told
+refusal_counts before now (Sources fault) same told = (same, told)
+refusal_counts before now (Unlucky Fault) same told = absurd (cc told)
+refusal_counts before now (Unlucky (TooLarge n)) same told = absurd (cc told)
+refusal_counts before now (Unlucky Memory) same told = same
+
+pub refusal_hands_on : {T : Type 0} (before now : ℕ) (result : Result T Unread) (unread : Unread) → IsErrAnd result (λ e. e ≡ unread) → now ≡ before → IsOfRules unread → HandsOn Unlucky before now result
+refusal_hands_on {T} before now (Ok value) unread is same told = absurd is
+refusal_hands_on {T} before now (Err given) unread is same told = record {
+  fault = λ e. let never = subst IsOfRules (cc e) (subst IsOfRules (sym is) told) in absurd (cc never);
+  steady = λ other. same;
+  too_large = λ n e. let never = subst IsOfRules (cc e) (subst IsOfRules (sym is) told) in absurd (cc never);
+}
+
+-- the counts of what stops before it begins
+pub unread_counts : {T : Type 0} (before now : ℕ) (result : Result T Unread) (unread : Unread) → result ≡ Err unread → HandsOn Unlucky before now result → KnowsLimits unread →
+    HasCountedCause before now (Some (stop_of unread))
+unread_counts before now result (Store offset) is hands limits = hands.steady (λ e. cc (is, e))
+unread_counts before now result (Sources fault) is hands limits = (hands.steady (λ e. cc (is, e)), limits)
+unread_counts before now result (Unlucky Fault) is hands limits = hands.fault is
+unread_counts before now result (Unlucky (TooLarge n)) is hands limits = (hands.steady (λ e. cc (is, e)), hands.too_large n is)
+unread_counts before now result (Unlucky Memory) is hands limits = hands.steady (λ e. cc (is, e))
 
 -- ---- an update that changed nothing
 

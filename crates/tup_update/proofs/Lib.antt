@@ -3,6 +3,7 @@ pub mod Failing
 pub mod Beside
 pub mod Fronts
 pub mod Reading
+pub mod Limits
 pub mod Running
 pub mod Begun
 pub mod Turning

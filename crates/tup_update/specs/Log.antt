@@ -8,7 +8,7 @@ use Rattle.tup_update.specs.Sources.{AsksFor, ends, folders_read, vanished}
 use Rattle.tup_update.specs.Turns.{names_of}
 use Rattle.tup_update.specs.declared.update.Log.{Log}
 use Rattle.tup_update.specs.declared.stop.Stop.{Stop}
-use Rattle.tup_update.specs.declared.stop.Stop.TheVariants.{BadStore, Parse, Bad, Run, Outside}
+use Rattle.tup_update.specs.declared.stop.Stop.TheVariants.{BadStore, Sources, Bad, Run, Outside}
 
 -- a list with which another begins
 abbrev pub IsFront : {A : Type 0} → List A → List A → Type 0
@@ -37,7 +37,7 @@ abbrev pub RulesFit : World → List Rule → Option Stop → Type 0
 RulesFit old rules None = AsksFor old rules
 RulesFit old rules (Some (Bad name verdict)) = AsksFor old rules
 RulesFit old rules (Some (BadStore offset)) = rules ≡ []
-RulesFit old rules (Some (Parse fault)) = rules ≡ []
+RulesFit old rules (Some (Sources fault)) = rules ≡ []
 RulesFit old rules (Some Run) = AsksFor old rules
 RulesFit old rules (Some (Outside failed)) = (rules ≡ []) ⊎ AsksFor old rules
 
@@ -68,6 +68,6 @@ abbrev pub LogFits : Next → List Rule → World → Log → Option Stop → Ty
 LogFits next rules old log None = log ≡ whole_log next rules old
 LogFits next rules old log (Some (Bad name verdict)) = log ≡ whole_log next rules old
 LogFits next rules old log (Some (BadStore offset)) = IsEmptyLog log
-LogFits next rules old log (Some (Parse fault)) = IsEmptyLog log
+LogFits next rules old log (Some (Sources fault)) = IsEmptyLog log
 LogFits next rules old log (Some Run) = IsPartOf log (whole_log next rules old)
 LogFits next rules old log (Some (Outside failed)) = IsEmptyLog log ⊎ (AsksFor old rules × IsPartOf log (whole_log next rules old))

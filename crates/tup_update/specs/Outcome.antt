@@ -15,10 +15,10 @@ use Rattle.tup_owned.specs.Ascending.{ascending}
 use Rattle.tup_owned.specs.Owned.{owned_of}
 use Rattle.tup_update.specs.declared.update.Log.{Log}
 use Rattle.tup_update.specs.declared.stop.Stop.{Stop}
-use Rattle.tup_update.specs.declared.stop.Stop.TheVariants.{BadStore, Parse, Bad, Run, Outside}
+use Rattle.tup_update.specs.declared.stop.Stop.TheVariants.{BadStore, Sources, Bad, Run, Outside}
 use Rattle.tup_update.specs.Log.{LogFits, RulesFit}
 use Rattle.tup_update.specs.Parts.{HasFileOf, IsBuilt, IsFirstBad}
-use Rattle.tup_update.specs.Sources.{owned, sources, files_beside, AsksFor, Refuses, build, ends, outputs}
+use Rattle.tup_update.specs.Sources.{owned, sources, files_beside, AsksFor, Refuses, PassesLimit, build, ends, outputs}
 use Rattle.tup_update.specs.Turns.{TurnsFit}
 
 -- the files are those of the clean build, which succeeds, and the store lists just the outputs
@@ -43,7 +43,7 @@ IsBadRule next rules old name verdict = IsFirstBad rules (ends next rules old) (
 -- why an update stops, where the site tells
 abbrev pub HasCause : Next → List Rule → World → World → Option Stop → Type 0
 HasCause next rules old new (Some (BadStore offset)) = owned_of old.store ≡ Err offset
-HasCause next rules old new (Some (Parse fault)) = Refuses old fault
+HasCause next rules old new (Some (Sources fault)) = Refuses old fault
 HasCause next rules old new (Some (Bad name verdict)) = IsBadRule next rules old name verdict
 HasCause next rules old new (Some Run) = ⊤
 HasCause next rules old new (Some (Outside (TooLarge n))) = HasFileOf n new.tree
@@ -58,7 +58,7 @@ HasCountedCause before now (Some (Outside (TooLarge n))) = (now ≡ before) × (
 HasCountedCause before now (Some (Outside Memory)) = now ≡ before
 HasCountedCause before now (Some (Bad name verdict)) = (now ≡ before) × (is_good (Some verdict) ≡ false)
 HasCountedCause before now (Some (BadStore offset)) = now ≡ before
-HasCountedCause before now (Some (Parse fault)) = now ≡ before
+HasCountedCause before now (Some (Sources fault)) = (now ≡ before) × PassesLimit fault
 HasCountedCause before now (Some Run) = now ≡ before
 HasCountedCause before now None = now ≡ before
 
@@ -94,7 +94,7 @@ IsLeft tells next rules old new =
 abbrev pub NothingForgotten : Bool → Next → List Rule → World → World → Option Stop → Type 0
 NothingForgotten tells next rules old new None = IsListed (ascending (outputs rules)) old new
 NothingForgotten tells next rules old new (Some (BadStore offset)) = new ≡ old
-NothingForgotten tells next rules old new (Some (Parse fault)) = new ≡ old
+NothingForgotten tells next rules old new (Some (Sources fault)) = new ≡ old
 NothingForgotten tells next rules old new (Some (Bad name verdict)) = IsListed (claimed rules old) old new
 NothingForgotten tells next rules old new (Some Run) = IsListed (claimed rules old) old new
 NothingForgotten tells next rules old new (Some (Outside (TooLarge n))) = (new ≡ old) ⊎ (AsksFor old rules × IsListed (claimed rules old) old new)

@@ -1,12 +1,14 @@
 -- What the parts of an update promise to each other.
-use Rattle.std.specs.Prelude.{◌≡◌, ◌⊎◌, ℕ, true, false, if◌then◌else◌, List, [], ◌∷◌, ◌++◌, None, Some, IsSome, IsTrue, Option, Result, Ok, Err, filter, slice_get}
+use Rattle.std.specs.Prelude.{◌≡◌, ◌⊎◌, ◌<◌, ◌≤◌, ⊤, ℕ, true, false, length, filter_map, unwrap_or, if◌then◌else◌, List, [], ◌∷◌, ◌++◌, None, Some, IsSome, IsTrue, Option, Result, Ok, Err, filter, slice_get}
 use Rattle.std.specs.FinMap as finite
-use Rattle.tup_path.specs.Name.{Names}
+use Rattle.std.specs.Result.{result_ok}
+use Rattle.tup_path.specs.Name.{Names, Content}
+use Rattle.tup_path.specs.Resolve.{above}
 use Rattle.tup_path.specs.Tree.{Tree}
 use Rattle.tup_site.specs.World.{World}
 use Rattle.tup_site.specs.Cause.{IsTooLarge}
 use Rattle.tup_site.specs.declared.fault.SiteFailed.{SiteFailed}
-use Rattle.tup_site.specs.declared.fault.SiteFailed.TheVariants.{TooLarge}
+use Rattle.tup_site.specs.declared.fault.SiteFailed.TheVariants.{TooLarge, Memory}
 use Rattle.tup_rule.specs.declared.rule.Rule.{Rule}
 use Rattle.tup_rule.specs.declared.rule.RuleName.{RuleName}
 use Rattle.tup_rule.specs.Rule.{among, is_generated, name_of}
@@ -18,9 +20,50 @@ use Rattle.tup_clean.specs.Clean.{Build, clean, is_good, succeeds, with_files}
 use Rattle.tup_clean.specs.Taken.{Taken, takes, up_to_bad}
 use Rattle.tup_owned.specs.Owned.{owned_of}
 use Rattle.tup_update.specs.Log.{IsFront}
-use Rattle.tup_update.specs.Sources.{AsksFor, sources, files_beside, folders_read}
+use Rattle.tup_update.specs.Sources.{AsksFor, Refuses, PassesLimit, sources, files_beside, folder_of_tupfile, folders_read}
 use Rattle.tup_update.specs.Turns.{names_of, EndsBadly}
+use Rattle.tup_update.specs.declared.fault.SourcesFault.TheVariants.{TooManyFiles}
+use Rattle.tup_update.specs.declared.found.Found.{Found}
 use Rattle.tup_update.specs.declared.project.Project.{Project}
+use Rattle.tup_update.specs.declared.stop.Unread.{Unread}
+use Rattle.tup_update.specs.declared.stop.Unread.TheVariants.{Store, Sources as NoRules, Outside}
+
+-- what is found in a world: what the store lists, the files among that, and the sources, which are no more files than may be
+pub record IsFound (w : World) (found : Found) : Type 0 where
+  pub owned : owned_of w.store ≡ Ok found.owned
+  pub files : found.owned_files ≡ filter (λ path. among path found.owned) (finite.keys w.tree)
+  pub few : length (finite.keys w.tree) ≤ 65536
+  pub sources : found.sources ≡ finite.entries (sources w)
+
+-- there are so many files, too many
+abbrev pub IsTooMany : ℕ → Unread → Type 0
+IsTooMany count unread = (unread ≡ NoRules (TooManyFiles count)) × (65536 < count)
+
+-- the sources ask for no rules, or there was no memory
+abbrev pub IsRefusal : World → Unread → Type 0
+IsRefusal w (Store offset) = ⊥
+IsRefusal w (NoRules fault) = Refuses w fault
+IsRefusal w (Outside failed) = failed ≡ Memory
+
+-- a limit is told only where it is passed
+abbrev pub KnowsLimits : Unread → Type 0
+KnowsLimits (Store offset) = ⊤
+KnowsLimits (NoRules fault) = PassesLimit fault
+KnowsLimits (Outside failed) = ⊤
+
+-- the folder of a path, and that of the top is the top
+abbrev pub IsFolderOf : Names → Names → Type 0
+IsFolderOf path folder = folder ≡ unwrap_or (result_ok (above path)) []
+
+-- why there are no rules, whatever is told of the sources: a limit only where it is passed, and no failure of the site
+abbrev pub IsOfRules : Unread → Type 0
+IsOfRules (Store offset) = ⊥
+IsOfRules (NoRules fault) = PassesLimit fault
+IsOfRules (Outside failed) = failed ≡ Memory
+
+-- folders, and behind them that of a path which is a Tupfile
+abbrev pub AddsFolder : Names → List Names → List Names → Type 0
+AddsFolder path old new = new ≡ old ++ filter_map folder_of_tupfile (path ∷ [])
 
 -- a project is what a world asks for, and its rules can be built
 pub record IsProject (project : Project) (w : World) : Type 0 where
@@ -29,6 +72,11 @@ pub record IsProject (project : Project) (w : World) : Type 0 where
   pub read : project.read ≡ folders_read w
   pub asked : AsksFor w project.rules
   pub buildable : IsBuildable (sources w) project.rules
+
+-- files with the one more that was found at a path, if there is one
+abbrev pub AddsFile : Names → Option Content → Tree → Tree → Type 0
+AddsFile path None old new = new ≡ old
+AddsFile path (Some content) old new = new ≡ finite.insert old path content
 
 -- a tree's files are what they are in another
 abbrev pub AgreesOnItsFiles : Tree → Tree → Type 0
