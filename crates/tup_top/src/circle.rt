@@ -81,7 +81,10 @@ fn place_of_first(folders: &[Path]) -> usize
         return 0;
     };
     let first = first(folder, others);
-    folders.iter().position(|folder| folder == first).unwrap_or(0)
+    folders
+        .iter()
+        .position(|folder| folder == first)
+        .unwrap_or(0)
 }
 
 /// The first of a folder and others in the order of paths.
