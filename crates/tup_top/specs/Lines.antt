@@ -53,14 +53,17 @@ abbrev pub parse_fault : ParseFault → List ℕ
 parse_fault fault =
     codes "fault: " ++ (show fault.file ++ (codes ":" ++ (decimal fault.line ++ (codes ": " ++ (kind_text fault.kind ++ (codes ", read for " ++ show fault.dir))))))
 
--- each of these with an arrow behind it
-abbrev pub arrows : {A : Type 0} → (A → List ℕ) → List A → List ℕ
-arrows shown all = flat_map (λ one. shown one ++ codes " -> ") all
+-- a folder, and a rule, with an arrow behind it
+abbrev pub folder_arrow : Names → List ℕ
+folder_arrow dir = show dir ++ codes " -> "
 
--- a circle from its first member on, and that one again at the end
-abbrev pub circle : {A : Type 0} → (A → List ℕ) → List A → List ℕ
-circle shown [] = []
-circle shown (first ∷ rest) = arrows shown (first ∷ rest) ++ shown first
+abbrev pub rule_arrow : RuleName → List ℕ
+rule_arrow rule = show rule.dir ++ (codes ": " ++ (rule.text ++ codes " -> "))
+
+-- rules in a circle: from the first on, and that one again at the end
+abbrev pub rules_circle : List RuleName → List ℕ
+rules_circle [] = []
+rules_circle (first ∷ rest) = flat_map rule_arrow (first ∷ rest) ++ (show first.dir ++ (codes ": " ++ first.text))
 
 -- of two folders the one that comes first
 abbrev pub first_of : Names → Names → Names
@@ -71,13 +74,13 @@ abbrev pub place_of_first : List Names → ℕ
 place_of_first [] = 0
 place_of_first (dir ∷ dirs) = unwrap_or (position (λ other. same_path other (fold first_of dir dirs)) (dir ∷ dirs)) 0
 
--- folders in a circle, from the first of them in the order of paths on
-abbrev pub turned : List Names → List Names
-turned dirs = drop (place_of_first dirs) dirs ++ take (place_of_first dirs) dirs
-
--- a rule, `DIR: COMMAND`
-abbrev pub rule_text : RuleName → List ℕ
-rule_text rule = show rule.dir ++ (codes ": " ++ rule.text)
+-- folders in a circle: from the first of them in the order of paths on, then those before it, and that one again at the end
+abbrev pub folders_circle : List Names → List ℕ
+folders_circle dirs =
+    elim (slice_get dirs (place_of_first dirs)) [
+      | Some first ↦ flat_map folder_arrow (drop (place_of_first dirs) dirs) ++ (flat_map folder_arrow (take (place_of_first dirs) dirs) ++ show first)
+      | None ↦ []
+    ]
 
 -- what stands before a name in a folder; nothing for the top
 abbrev pub folder_text : Names → List ℕ
@@ -100,8 +103,8 @@ status_text (TooManyReads rule) = rule_fault rule (codes ": reads too often")
 status_text (Usage place) = codes "fault: usage, word " ++ decimal place
 status_text (BadStore offset) = codes "fault: the store is damaged at byte " ++ decimal offset
 status_text (Parse fault) = parse_fault fault
-status_text (CircularDirs cycle) = codes "fault: directories wait for each other: " ++ circle show (turned cycle)
-status_text (CircularCommands cycle) = codes "fault: commands wait for each other: " ++ circle rule_text cycle
+status_text (CircularDirs cycle) = codes "fault: directories wait for each other: " ++ folders_circle cycle
+status_text (CircularCommands cycle) = codes "fault: commands wait for each other: " ++ rules_circle cycle
 status_text (NoSuchGroup group) = codes "fault: no rule gives to " ++ group_text group
 status_text SiteFault = codes "fault: the file tree or the store failed"
 status_text RunFault = codes "fault: the runner failed"

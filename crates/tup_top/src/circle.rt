@@ -1,8 +1,7 @@
 //! How what waits for each other, and a group, are written.
 ghost use Rattle.std.specs.Prelude.{◌≡◌, Some, fold};
-ghost use Rattle.tup_top.specs.Lines.{arrows, circle, rule_text, turned};
+ghost use Rattle.std.specs.List.{flat_map};
 ghost use Rattle.tup_top.specs.Lines as specs;
-ghost use Rattle.tup_path.specs.Show.{show};
 
 use std::fmt;
 use tup_path::Path;
@@ -23,22 +22,27 @@ pub(crate) struct Group<'a>(pub &'a GroupRef);
 
 /// Folders with an arrow behind each.
 #[derive(Drop)]
-struct Arrows<'a>(&'a [Path]);
+struct FolderArrows<'a>(&'a [Path]);
+
+/// Rules with an arrow behind each.
+#[derive(Drop)]
+struct RuleArrows<'a>(&'a [RuleName]);
 
 impl fmt::Display for Folders<'_> {
-    ghost output = { λ folders. Some (circle show (turned folders.0.now)) };
+    ghost output = { λ folders. Some (specs.folders_circle folders.0.now) };
 
     fn fmt<W: fmt::Write>(&self, f: &mut fmt::Formatter<W>) -> fmt::Result {
-        let (before, from) = self.0.split_at(place_of_first(self.0));
-        match from.first() {
-            Some(first) => write!(f, "{}{}{first}", Arrows(from), Arrows(before)),
-            None => Ok(()),
-        }
+        let at = place_of_first(self.0);
+        let Some(first) = self.0.get(at) else {
+            return Ok(());
+        };
+        let (before, from) = self.0.split_at(at);
+        write!(f, "{}{}{first}", FolderArrows(from), FolderArrows(before))
     }
 }
 
-impl fmt::Display for Arrows<'_> {
-    ghost output = { λ folders. Some (arrows show folders.0.now) };
+impl fmt::Display for FolderArrows<'_> {
+    ghost output = { λ folders. Some (flat_map specs.folder_arrow folders.0.now) };
 
     fn fmt<W: fmt::Write>(&self, f: &mut fmt::Formatter<W>) -> fmt::Result {
         for folder in self.0 {
@@ -49,16 +53,24 @@ impl fmt::Display for Arrows<'_> {
 }
 
 impl fmt::Display for Commands<'_> {
-    ghost output = { λ commands. Some (circle rule_text commands.0.now) };
+    ghost output = { λ commands. Some (specs.rules_circle commands.0.now) };
+
+    fn fmt<W: fmt::Write>(&self, f: &mut fmt::Formatter<W>) -> fmt::Result {
+        match self.0.first() {
+            Some(first) => write!(f, "{}{}: {}", RuleArrows(self.0), first.dir, first.text),
+            None => Ok(()),
+        }
+    }
+}
+
+impl fmt::Display for RuleArrows<'_> {
+    ghost output = { λ rules. Some (flat_map specs.rule_arrow rules.0.now) };
 
     fn fmt<W: fmt::Write>(&self, f: &mut fmt::Formatter<W>) -> fmt::Result {
         for rule in self.0 {
             write!(f, "{}: {} -> ", rule.dir, rule.text)?;
         }
-        match self.0.first() {
-            Some(first) => write!(f, "{}: {}", first.dir, first.text),
-            None => Ok(()),
-        }
+        Ok(())
     }
 }
 

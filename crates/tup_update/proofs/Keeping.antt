@@ -63,9 +63,9 @@ refusal_counts before now (Unlucky Memory) same told = same
 pub refusal_hands_on : {T : Type 0} (before now : ℕ) (result : Result T Unread) (unread : Unread) → IsErrAnd result (λ e. e ≡ unread) → now ≡ before → IsOfRules unread → HandsOn Unlucky before now result
 refusal_hands_on {T} before now (Ok value) unread is same told = absurd is
 refusal_hands_on {T} before now (Err given) unread is same told = record {
-  fault = λ e. let never = subst IsOfRules (cc e) (subst IsOfRules (sym is) told) in absurd (cc never);
+  fault = λ e. let it : given ≡ Unlucky Fault = cc e in let never : Fault ≡ Memory = subst IsOfRules (sym is ∙ it) told in absurd (cc never);
   steady = λ other. same;
-  too_large = λ n e. let never = subst IsOfRules (cc e) (subst IsOfRules (sym is) told) in absurd (cc never);
+  too_large = λ n e. let it : given ≡ Unlucky (TooLarge n) = cc e in let never : TooLarge n ≡ Memory = subst IsOfRules (sym is ∙ it) told in absurd (cc never);
 }
 
 -- the counts of what stops before it begins

@@ -1,8 +1,9 @@
 -- A limit of linking is told only where it is passed.
-use Rattle.std.proofs.Common.{◌≡◌, ◌⊎◌, inl, inr, ℕ, ◌+◌, ◌<◌, ◌==◌, Bool, true, false, if◌then◌else◌, nat_lt, List, [], ◌∷◌, length, Option, None, Some, Err, option_map, option_and_then, slice_get, refl, sym, subst, arith}
+use Rattle.std.proofs.Common.{◌≡◌, ◌⊎◌, inl, inr, ℕ, ◌+◌, ◌<◌, ◌==◌, Bool, true, false, if◌then◌else◌, nat_lt, List, [], ◌∷◌, length, Option, None, Some, Err, option_map, option_and_then, slice_get, refl, sym, subst}
 use Rattle.std.specs.Bool.{⊤}
 use Rattle.std.specs.List.{find}
 use Rattle.std.specs.Option.{option_or}
+use Rattle.std.proofs.lemmas.Bool.{ltb-true}
 use Rattle.tup_path.specs.Name.{Names}
 use Rattle.tup_path.specs.Tree.{Tree}
 use Rattle.tup_rule.specs.declared.question.Reading.{Reading}
@@ -48,7 +49,7 @@ commands_true : (count : ℕ) → AllTrue (too_many_commands count)
 commands_true count = by (nat_lt 65536 count) refl
   where
     by : (b : Bool) → nat_lt 65536 count ≡ b → AllTrue (if b then Some (linking.TooMany Commands count) else None)
-    by true e = omega (arith, e)
+    by true e = ltb-true 65536 count e
     by false e = tt
 
 links_true : (before : ℕ) (rules : List Rule) → AllTrue (too_many_links before rules)
@@ -56,7 +57,7 @@ links_true before [] = tt
 links_true before (rule ∷ rules) = either _ _ (by (nat_lt 4194304 (before + links rule)) refl) (links_true (before + links rule) rules)
   where
     by : (b : Bool) → nat_lt 4194304 (before + links rule) ≡ b → AllTrue (if b then Some (linking.TooMany Links (before + links rule)) else None)
-    by true e = omega (arith, e)
+    by true e = ltb-true 4194304 (before + links rule) e
     by false e = tt
 
 missing_true : (group_has : Members) (groups : List GroupRef) → AllTrue (missing_group group_has groups)
