@@ -2,7 +2,7 @@
 //!
 //! `read_all` reads the Tupfiles of all folders (`tup_folders`) and makes rules of what they read as
 //! (`tup_link`). `specs/Project.antt` says what the sources of a project come to, which is one
-//! thing. The rules can be built over the sources. No update calls it yet.
+//! thing. The rules can be built over the sources.
 #![tactic(auto)]
 
 mod fault;
