@@ -31,7 +31,7 @@ use Rattle.tup_top.specs.Lines.{lines}
 use Rattle.tup_top.specs.Crew.{OneRose, RanFits}
 use Rattle.tup_top.specs.Promise.{CountsAll, Counts, AreSteady, HasCountedCause, HasDemoCause}
 use Rattle.tup_top.specs.Printed.{IsDone, Ends, Prints, Told, PrintsUpdate}
-use Rattle.tup_top.specs.Status.{status_of, status_of_sources, came_to}
+use Rattle.tup_top.specs.Status.{status_of, status_of_sources, came_to, after_sink_fault}
 use Rattle.tup_top.specs.declared.status.Status.{Status}
 use Rattle.tup_top.specs.declared.status.Status.TheVariants.{Done, Command, IllegalRead, IllegalWrite, Unwritten, TooManyReads, Usage, BadStore, Parse, CircularDirs, CircularCommands, NoSuchGroup, SiteFault, RunFault, SinkFault, Limit, Memory}
 
@@ -176,14 +176,14 @@ counts_all next rules old before now log stopped status answer is (inr (inl e)) 
 counts_all next rules old before now log stopped status answer is (inr (inr (e, done, rose))) fits = subst (CountsAll next rules old) (sym e) tt
 
 -- where nothing was done nothing failed, and a limit that is told is passed
-counted_of_sources : {before now : Counts} (fault : SourcesFault) → AreSteady before now → PassesLimit fault → HasCountedCause before now (status_of_sources fault)
-counted_of_sources (sources.TooManyFiles number) steady passed = (steady, passed)
-counted_of_sources (sources.Parse fault) steady passed = steady
-counted_of_sources (sources.CircularDirs cycle) steady passed = steady
-counted_of_sources (sources.TooManyCommands number) steady passed = (steady, passed)
-counted_of_sources (sources.NoSuchGroup group) steady passed = steady
-counted_of_sources (sources.TooManyLinks number) steady passed = (steady, passed)
-counted_of_sources (sources.CircularCommands cycle) steady passed = steady
+counted_of_sources : (before now : Counts) (fault : SourcesFault) → AreSteady before now → PassesLimit fault → HasCountedCause before now (status_of_sources fault)
+counted_of_sources before now (sources.TooManyFiles number) steady passed = (steady, passed)
+counted_of_sources before now (sources.Parse fault) steady passed = steady
+counted_of_sources before now (sources.CircularDirs cycle) steady passed = steady
+counted_of_sources before now (sources.TooManyCommands number) steady passed = (steady, passed)
+counted_of_sources before now (sources.NoSuchGroup group) steady passed = steady
+counted_of_sources before now (sources.TooManyLinks number) steady passed = (steady, passed)
+counted_of_sources before now (sources.CircularCommands cycle) steady passed = steady
 
 -- what a site, one runner and a sink count
 abbrev pub of_one : ℕ → ℕ → ℕ → Counts
@@ -206,7 +206,7 @@ module _ (site_before site_now run_before run_now sink_before sink_now : ℕ) wh
       HasCountedCause before now (status_of log stopped)
   counted_of_stop log None sink cause run = (steady cause run, sink tt)
   counted_of_stop log (Some (StoreDamaged offset)) sink cause run = steady cause run
-  counted_of_stop log (Some (Sources fault)) sink cause run = counted_of_sources fault (steady cause.0 run) cause.1
+  counted_of_stop log (Some (Sources fault)) sink cause run = counted_of_sources before now fault (steady cause.0 run) cause.1
   counted_of_stop log (Some (Bad rule Good)) sink cause run = tt
   counted_of_stop log (Some (Bad rule (Failed status))) sink cause run = steady cause.0 run
   counted_of_stop log (Some (Bad rule (ReadsIllegally text))) sink cause run = steady cause.0 run
@@ -230,6 +230,26 @@ module _ (site_before site_now run_before run_now sink_before sink_now : ℕ) wh
       (steady (subst (StopHasCountedCause site_before site_now) none cause) (subst (HasRunCause run_before run_now) none run), rose)
 
 -- ---- what is printed
+
+-- what is answered where the sink failed
+pub ends_after : (before now : ℕ) (status : Status) → Rose before now → Ends before now status (after_sink_fault status)
+ends_after before now (Done read ran removed) rose = inr (inr (refl, tt, rose))
+ends_after before now (Command rule status) rose = inl refl
+ends_after before now (IllegalRead rule text) rose = inl refl
+ends_after before now (IllegalWrite rule text) rose = inl refl
+ends_after before now (Unwritten rule path) rose = inl refl
+ends_after before now (TooManyReads rule) rose = inl refl
+ends_after before now (Usage place) rose = inl refl
+ends_after before now (BadStore offset) rose = inl refl
+ends_after before now (Parse fault) rose = inl refl
+ends_after before now (CircularDirs cycle) rose = inl refl
+ends_after before now (CircularCommands cycle) rose = inl refl
+ends_after before now (NoSuchGroup group) rose = inl refl
+ends_after before now SiteFault rose = inl refl
+ends_after before now RunFault rose = inl refl
+ends_after before now SinkFault rose = inl refl
+ends_after before now (Limit what number) rose = inl refl
+ends_after before now Memory rose = inl refl
 
 -- nothing was printed, for want of memory
 pub prints_nothing : (text : List ℕ) (before now : ℕ) (held : List ℕ) → Prints text before now held held Memory

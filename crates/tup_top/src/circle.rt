@@ -105,9 +105,14 @@ fn first<'a>(folder: &'a Path, others: &'a [Path]) -> &'a Path
 {
     let mut first = folder;
     for other in others {
-        if other < first {
-            first = other;
-        }
+        first = earlier(first, other);
     }
     first
+}
+
+/// Of two folders the one that comes first.
+fn earlier<'a>(one: &'a Path, other: &'a Path) -> &'a Path
+    ensures { result.now ≡ specs.first_of one.now other.now }
+{
+    if other < one { other } else { one }
 }
