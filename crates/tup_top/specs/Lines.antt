@@ -1,9 +1,7 @@
 -- What is printed of an update (the wording is own): a line for each thing done, and a last one for how it ended.
-use Rattle.std.specs.Prelude.{ℕ, if◌then◌else◌, List, [], ◌∷◌, ◌++◌, drop, fold, take, None, Some, slice_get, codes, decimal, position, unwrap_or}
+use Rattle.std.specs.Prelude.{ℕ, if◌then◌else◌, List, [], ◌∷◌, ◌++◌, None, Some, slice_get, codes, decimal}
 use Rattle.std.specs.List.{flat_map}
-use Rattle.std.specs.Ordering.{match_ordering}
 use Rattle.tup_path.specs.Name.{Names}
-use Rattle.tup_path.specs.Order.{by_names, same_path}
 use Rattle.tup_path.specs.Show.{show}
 use Rattle.tup_rule.specs.declared.draft.GroupRef.{GroupRef}
 use Rattle.tup_rule.specs.declared.rule.Rule.{Rule}
@@ -65,22 +63,10 @@ abbrev pub rules_circle : List RuleName → List ℕ
 rules_circle [] = []
 rules_circle (first ∷ rest) = flat_map rule_arrow (first ∷ rest) ++ (show first.dir ++ (codes ": " ++ first.text))
 
--- of two folders the one that comes first
-abbrev pub first_of : Names → Names → Names
-first_of one other = match_ordering (by_names other one) other one one
-
--- the place of the first of some folders in the order of paths
-abbrev pub place_of_first : List Names → ℕ
-place_of_first [] = 0
-place_of_first (dir ∷ dirs) = unwrap_or (position (λ other. same_path other (fold first_of dir dirs)) (dir ∷ dirs)) 0
-
--- folders in a circle: from the first of them in the order of paths on, then those before it, and that one again at the end
+-- folders in a circle: from the first on, and that one again at the end
 abbrev pub folders_circle : List Names → List ℕ
-folders_circle dirs =
-    elim (slice_get dirs (place_of_first dirs)) [
-      | Some first ↦ flat_map folder_arrow (drop (place_of_first dirs) dirs) ++ (flat_map folder_arrow (take (place_of_first dirs) dirs) ++ show first)
-      | None ↦ []
-    ]
+folders_circle [] = []
+folders_circle (first ∷ rest) = flat_map folder_arrow (first ∷ rest) ++ show first
 
 -- what stands before a name in a folder; nothing for the top
 abbrev pub folder_text : Names → List ℕ

@@ -1,5 +1,5 @@
 //! How what waits for each other, and a group, are written.
-ghost use Rattle.std.specs.Prelude.{◌≡◌, Some, fold};
+ghost use Rattle.std.specs.Prelude.{Some};
 ghost use Rattle.std.specs.List.{flat_map};
 ghost use Rattle.tup_top.specs.Lines as specs;
 
@@ -7,8 +7,7 @@ use std::fmt;
 use tup_path::Path;
 use tup_rule::{GroupRef, RuleName};
 
-/// Folders in a circle: from the first of them in the order of paths on, and that one again at the
-/// end.
+/// Folders in a circle: from the first one on, and that one again at the end.
 #[derive(Drop)]
 pub(crate) struct Folders<'a>(pub &'a [Path]);
 
@@ -32,12 +31,10 @@ impl fmt::Display for Folders<'_> {
     ghost output = { λ folders. Some (specs.folders_circle folders.0.now) };
 
     fn fmt<W: fmt::Write>(&self, f: &mut fmt::Formatter<W>) -> fmt::Result {
-        let at = place_of_first(self.0);
-        let Some(first) = self.0.get(at) else {
-            return Ok(());
-        };
-        let (before, from) = self.0.split_at(at);
-        write!(f, "{}{}{first}", FolderArrows(from), FolderArrows(before))
+        match self.0.first() {
+            Some(first) => write!(f, "{}{first}", FolderArrows(self.0)),
+            None => Ok(()),
+        }
     }
 }
 
@@ -83,36 +80,4 @@ impl fmt::Display for Group<'_> {
         }
         write!(f, "<{}>", self.0.name)
     }
-}
-
-/// The place of the first of some folders in the order of paths.
-fn place_of_first(folders: &[Path]) -> usize
-    ensures { result ≡ specs.place_of_first folders.now }
-{
-    let Some((folder, others)) = folders.split_first() else {
-        return 0;
-    };
-    let first = first(folder, others);
-    folders
-        .iter()
-        .position(|folder| folder == first)
-        .unwrap_or(0)
-}
-
-/// The first of a folder and others in the order of paths.
-fn first<'a>(folder: &'a Path, others: &'a [Path]) -> &'a Path
-    ensures { result.now ≡ fold specs.first_of folder.now others.now }
-{
-    let mut first = folder;
-    for other in others {
-        first = earlier(first, other);
-    }
-    first
-}
-
-/// Of two folders the one that comes first.
-fn earlier<'a>(one: &'a Path, other: &'a Path) -> &'a Path
-    ensures { result.now ≡ specs.first_of one.now other.now }
-{
-    if other < one { other } else { one }
 }
