@@ -293,6 +293,30 @@ row "a folder at the store" 7 'fault: the file tree or the store failed;' upd
 said './.tup/db: a link or a special file stands here'
 gone "nothing was made" b
 
+# Names.
+project "$copy"
+touch -- 'a b' "$(printf 'n\377')" "$(printf 'tab\t')" '-n' '~' '*'
+row "files with names that tup doesn't see" 0 "$done_copy" upd
+same "they stay" "$(ls | wc -l)" 9
+wide=$(repeated 255 n | tr -d ' ')
+project ": $wide |> cp $wide b |> b" ": b |> cp b ${wide%n}o |> ${wide%n}o"
+echo long > "$wide"
+row "names of 255 bytes" 0 "read .;run .: cp $wide b;run .: cp b ${wide%n}o;done: 1 read, 2 run, 0 removed;" upd
+file "the file of such a name" "${wide%n}o" long
+project ": a |> cp a ${wide}n |> ${wide}n"
+row "a name of 256 bytes" 5 'fault: Tupfile:1: output stands elsewhere, read for .;' upd
+bad "a place that is too long for the system" "cp $(repeated 17 "$wide" | tr ' ' /)a b" 'status 1'
+project "$copy"
+mkdir "$wide"
+for i in 1 2 3 4 5 6 7 8 9 10 11 12 13 14 15 16; do mkdir w && mv "$wide" w && mv w "$wide"; done
+row "a file whose place is too long for the system" 7 'fault: the file tree or the store failed;' upd
+same "it is named" "$(sed "s/$wide/N/g" "$work/said")" "tup: ./N/N/N/N/N/N/N/N/N/N/N/N/N/N/N/N: File name too long (os error 36)"
+gone "nothing was made" b
+project "$copy"
+mkdir gone && cd gone && rmdir ../gone
+row "a folder that was removed" 7 'fault: the file tree or the store failed;' upd
+said './.tup: No such file or directory (os error 2)'
+
 # What a hurried user does wrong.
 line() {
     project "$2"
@@ -377,6 +401,17 @@ if [ "$(id -u)" = 0 ] && mkdir "$work/small" && mount -t tmpfs -o size=64k none 
     mount -o remount,size=1m "$work/small"
     row "room was made" 0 'read .;run .: cp a b;run .: cp b c;done: 1 read, 2 run, 0 removed;' upd
     same "room was made, the last file" "$(wc -c < c)" 24576
+    mount -o remount,ro "$work/small"
+    row "a disk that may only be read" 7 'fault: the file tree or the store failed;' upd
+    said './.tup/new: Read-only file system (os error 30)'
+    same "what was made stands" "$(wc -c < c)" 24576
+    project "$copy"
+    umount "$work/small"
+    mkdir .tup && mount -t tmpfs -o size=64k none .tup
+    row "the program's folder on another disk" 0 "$done_copy" upd
+    file "what was made" b hi
+    same "nothing else was" "$(ls -A | tr '\n' ' ')" '.tup Tupfile a b '
+    cd "$work" && umount "$work/$count/.tup"
 else
     echo "passed over: a full disk"
 fi
@@ -403,6 +438,15 @@ if [ "$(id -u)" = 0 ] && command -v setpriv > /dev/null; then
     chmod 777 . && mkdir -m 700 sub
     nobody "a folder that nobody may look into" 'fault: the file tree or the store failed;'
     said './sub: Permission denied (os error 13)'
+    project "$copy"
+    chmod 777 . && "$tup" > /dev/null
+    nobody "a store that the superuser made" 'read .;fault: the file tree or the store failed;'
+    said './.tup/db.new: Permission denied (os error 13)'
+    file "what was made stands" b hi
+    project "$copy"
+    chmod 777 . && chmod 600 Tupfile
+    nobody "a Tupfile without permission" 'fault: the file tree or the store failed;'
+    said './Tupfile: Permission denied (os error 13)'
 else
     echo "passed over: files without permission"
 fi

@@ -13,14 +13,14 @@ pub struct Failure {
 
 /// Why something wasn't done.
 #[derive(Drop)]
-pub(crate) enum Refused {
+pub enum Refused {
     Memory,
     Failed(Failure),
 }
 
 impl From<AllocError> for Refused {
     ghost use Rattle.std.specs.Prelude.{◌≡◌};
-    ghost use Rattle.tup_fs.specs.declared.failure.Refused.TheVariants.{Memory};
+    ghost use Rattle.tup_disk.specs.declared.failure.Refused.TheVariants.{Memory};
 
     ghost from_gives = { λ _ refused. refused ≡ Memory };
 
@@ -31,7 +31,7 @@ impl From<AllocError> for Refused {
 
 impl<T: Drop> From<AllocFailed<T>> for Refused {
     ghost use Rattle.std.specs.Prelude.{◌≡◌};
-    ghost use Rattle.tup_fs.specs.declared.failure.Refused.TheVariants.{Memory};
+    ghost use Rattle.tup_disk.specs.declared.failure.Refused.TheVariants.{Memory};
 
     ghost from_gives = { λ _ refused. refused ≡ Memory };
 
