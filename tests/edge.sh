@@ -43,7 +43,7 @@ while read -r call number; do
     "$tup" > /dev/null
     strace -o /dev/null -e trace="$call" -e inject="$call:error=ENOMEM:when=$number" "$tup" > "$work/told" 2> "$work/said"
     case "$call $? $(tail -1 "$work/said")" in
-        'close '*' 0 ' | 'flock '*' 0 ' | *' 7 tup: '*'(os error 12)' | 'write 9 ' | 'read 12 ' | 'openat 12 ') ;;
+        'close 0 ' | 'flock 0 ' | *' 7 tup: '*'(os error 12)' | 'write 9 ' | 'read 12 ' | 'openat 12 ') ;;
         *) same "$what" "$? $(tail -1 "$work/told") $(tail -1 "$work/said")" "7 and the reason" ;;
     esac
     same "$what, the source" "$(cat a)" hi
