@@ -10,7 +10,7 @@ use Rattle.std.proofs.lemmas.Option.{unwrap_or-slice_get}
 use Rattle.tup_turn.specs.declared.marks.Marks.{Marks}
 use Rattle.tup_turn.specs.Marks.{IsMarks, IsPower, IsJoint, IsFirstMark, is_marked}
 use Rattle.tup_core.specs.Waiting.{flag}
-use Rattle.tup_core.proofs.ItemLaws.{set_same, set_other, flag_within, flag_none}
+use Rattle.tup_core.proofs.ItemLaws.{set_same, set_other, flag_none}
 
 -- a flag past the end is down
 pub flag_past : (flags : List Bool) (at : ℕ) → length flags ≤ at → flag flags at ≡ false

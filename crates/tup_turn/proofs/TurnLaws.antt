@@ -126,27 +126,28 @@ turn_claims plan before after rule old new is takes kept places set = record {
         )
 
 -- ---- a rule is done: those that waited for it alone stand in its list
+
+-- what a rule that is clear waits for is clear
+clear_behind : (plan : Plan) (state : State) (rule other : Rule) (next : ℕ) → IsClear plan state rule → MakesFor plan.rules rule next → slice_get plan.rules next ≡ Some other → IsClear plan state other
+clear_behind plan state rule other next clear makes here = λ q produced. clear q (suc produced.0, (next, other, makes, here, produced.1))
+
+-- a rule that waits for one which stands in the list
+waits_on : (plan : Plan) (before : State) (core : Core) (done : ℕ) → IsCore plan core → Frees plan before done (state_of core) → before.pending done ≡ true
+    → (between x next : ℕ) (rule other : Rule) → slice_get plan.rules x ≡ Some rule → IsClear plan (state_of core) rule → MakesFor plan.rules rule next → slice_get plan.rules next ≡ Some other
+    → ProducerOver between plan.rules other done → 0 < times core.waiting.waiters.items done next → (b : Bool) → is_reached plan next ≡ b → 0 < times core.waiting.waiters.items done x
+waits_on plan before core done is frees was between x next rule other placed clear makes here rest further false unreached = is.waiting.onward done next x rule further unreached placed makes
+waits_on plan before core done is frees was between x next rule other placed clear makes here rest further true reached = elim (changed_cases before.pending done false next) [
+  | inl one ↦ is.waiting.first done x rule (frees.reached was) placed (subst (λ (n : ℕ). MakesFor plan.rules rule n) one.0 makes)
+  | inr apart ↦ absurd (true≢false (sym was ∙ frees.settled next other reached (sym apart.1 ∙ sym (frees.pending next) ∙ clear next (zero, makes)) here done (between, rest)))
+]
+
 waits_for : (plan : Plan) (before : State) (core : Core) (done : ℕ) → IsCore plan core → Frees plan before done (state_of core) → before.pending done ≡ true
     → (between x : ℕ) (rule : Rule) → slice_get plan.rules x ≡ Some rule → IsClear plan (state_of core) rule → ProducerOver between plan.rules rule done
     → 0 < times core.waiting.waiters.items done x
 waits_for plan before core done is frees was zero x rule placed clear makes = is.waiting.first done x rule (frees.reached was) placed makes
-waits_for plan before core done is frees was (suc between) x rule placed clear (next, other, makes, here, rest) = go (is_reached plan next) refl
-  where
-    clear_next : IsClear plan (state_of core) other
-    clear_next = λ q produced. clear q (suc produced.0, (next, other, makes, here, produced.1))
-
-    further : 0 < times core.waiting.waiters.items done next
-    further = waits_for plan before core done is frees was between next other here clear_next rest
-
-    down : (state_of core).pending next ≡ false
-    down = clear next (zero, makes)
-
-    go : (b : Bool) → is_reached plan next ≡ b → 0 < times core.waiting.waiters.items done x
-    go false unreached = is.waiting.onward done next x rule further unreached placed makes
-    go true reached = elim (changed_cases before.pending done false next) [
-      | inl one ↦ is.waiting.first done x rule (frees.reached was) placed (subst (λ (n : ℕ). MakesFor plan.rules rule n) one.0 makes)
-      | inr apart ↦ absurd (true≢false (sym was ∙ frees.settled next other reached (sym apart.1 ∙ sym (frees.pending next) ∙ down) here done (between, rest)))
-    ]
+waits_for plan before core done is frees was (suc between) x rule placed clear (next, other, makes, here, rest) =
+    waits_on plan before core done is frees was between x next rule other placed clear makes here rest
+    (waits_for plan before core done is frees was between next other here (clear_behind plan (state_of core) rule other next clear makes here) rest) (is_reached plan next) refl
 
 -- what was open stays so, the rule itself aside
 stays_open : (plan : Plan) (before : State) (core : Core) (done at : ℕ) → Frees plan before done (state_of core) → (at ≡ done → ⊥) → IsOpen plan before at → IsOpen plan (state_of core) at
@@ -314,8 +315,7 @@ told_more core old mid new places i place within is are kept same set = record {
 }
   where
     not_zero : (n : ℕ) → 0 < n → (n == 0) ≡ false
-    not_zero zero less = absurd (omega (arith, less))
-    not_zero (suc n) less = refl
+    not_zero n less = elim (one_or_other n 0) [ inl is ↦ absurd (let none = is.0 in omega (arith, less, none)) | inr other ↦ other.1 ]
 
     some : (at : ℕ) → at ≡ place → (count_of at (take (i + 1) places) == 0) ≡ false
     some at here = not_zero (count_of at (take (i + 1) places)) (let more = count_of-take at places i place within is in let one_more = one_if-same place at (sym here) in omega (arith, more, one_more))

@@ -1,4 +1,4 @@
-use Rattle.std.proofs.Common.{◌≡◌, ◌*◌, ◌+◌, ℕ, true, false, sym, ap, ◌∙◌, subst, arith}
+use Rattle.std.proofs.Common.{◌≡◌, ◌*◌, ◌+◌, ℕ, sym, ap, ◌∙◌, subst, arith}
 use Rattle.tup_core.specs.Waiting.{flag}
 use Rattle.tup_turn.proofs.MarksLaws.{IsLeftmost, read_flag, some_place_marked, leftmost_first, leftmost_left, leftmost_right, leftmost_last, none_marked}
 use Rattle.tup_turn.proofs.marks.Marks.first.Goals as goal
