@@ -100,7 +100,7 @@ impl<'f> Sources<'f> {
     }
 
     /// The folders that have a Tupfile.
-    pub fn tupfiles(&self) -> Result<BTreeSet<Path>, AllocError>
+    pub(crate) fn tupfiles(&self) -> Result<BTreeSet<Path>, AllocError>
         ensures { IfOk result (λ dirs. (dir : Names)
             → contains by_names dirs dir ≡ specs.is_source self.now (specs.tupfile dir)) }
     {

@@ -14,9 +14,9 @@ use tup_rule::Reading;
 #[derive(Drop)]
 pub struct Work {
     /// The folders that weren't begun.
-    pub waiting: BTreeSet<Path>,
+    pub(crate) waiting: BTreeSet<Path>,
     /// Those that were begun, each waiting for the one behind it.
-    pub under_way: Vec<Path>,
+    pub(crate) under_way: Vec<Path>,
     /// The readings of the others.
     pub readings: ByPath<Reading>,
 }
