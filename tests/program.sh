@@ -189,8 +189,10 @@ tree='read .;read lib;read src;run lib: CC list.c;run lib: CC text.c;run src: CC
 row "three folders" 0 "${tree}run .: echo app release > app.stamp;done: 3 read, 5 run, 0 removed;" upd
 file "what they give together" app "$(printf '#define SIZE 3\nint list[SIZE];\nint text;\n#define SIZE 3\nint main;')"
 file "a setting" app.stamp 'app release'
+row "they are a clean build" 0 'same;' verify
 echo '#define SIZE 4' > inc/size.h
-row "a header that was edited" 0 "${tree}run .: echo app release > app.stamp;done: 3 read, 5 run, 0 removed;" upd
+row "a header that was edited" 13 'differs: app;' verify
+row "its update" 0 "${tree}run .: echo app release > app.stamp;done: 3 read, 5 run, 0 removed;" upd
 same "what it gives" "$(head -1 app)" '#define SIZE 4'
 rm tup.config
 row "a setting that is gone" 0 "read .;read lib;read src;remove app.stamp;${tree#read .;read lib;read src;}done: 3 read, 4 run, 1 removed;" upd
@@ -211,6 +213,24 @@ project ': <g> |> cat %<g> > a.o |> a.o <h>' ': <h> |> cat %<h> > b |> b <g>'
 row "commands that wait for each other" 5 'fault: commands wait for each other: .: cat b > a.o -> .: cat a.o > b -> .: cat b > a.o;' upd
 project ': <none> |> cat %<none> > b |> b'
 row "a group that no rule gives to" 5 'fault: no rule gives to <none>;' upd
+project "$copy"
+row "verify before an update" 13 'differs: b;' verify
+gone "it makes nothing" b
+row "one rule" 0 "$done_copy" upd
+row "verify behind it" 0 'same;' verify
+echo mine > b
+row "verify of an output that was edited" 13 'differs: b;' verify
+file "it changes nothing" b mine
+rm b
+row "verify of one that was deleted" 13 'differs: b;' verify
+echo new > foreign
+row "an update with a file more" 0 "$done_copy" upd
+row "verify of a file more, which is a source" 0 'same;' verify
+: > Tupfile
+row "verify of what no rule makes any more" 13 'differs: b;' verify
+row "verify with a word more" 2 'fault: usage, word 2;' verify now
+project ': a |> fail 3 |> b'
+row "verify of a rule that fails" 1 'fault: .: fail 3: status 3;' verify
 
 # Commands that are run through another program.
 project "$copy"
