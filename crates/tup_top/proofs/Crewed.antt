@@ -1,15 +1,17 @@
 -- A crew whose first runner did all: what one runner counts and ran is what the crew does.
-use Rattle.std.proofs.Common.{◌≡◌, ℕ, zero, suc, ◌<◌, List, [], ◌∷◌, length, map, get_or, Option, None, Some, Result, IfSome, refl, ap, subst, arith}
+use Rattle.std.proofs.Common.{◌≡◌, ℕ, zero, suc, ◌<◌, List, [], ◌∷◌, length, map, get_or, Option, None, Some, Result, Err, IfSome, inl, refl, ap, subst, arith}
 use Rattle.std.specs.Prelude.{slice_get, slice_set}
 use Rattle.std.specs.Result.{result_err}
 use Rattle.tup_path.specs.Name.{Names}
 use Rattle.tup_rule.specs.declared.rule.RuleName.{RuleName}
 use Rattle.tup_runner.specs.Next.{Next}
 use Rattle.tup_site.specs.World.{World}
+use Rattle.tup_site.specs.declared.fault.SiteFailed.TheVariants.{Memory as NoMemory}
 use Rattle.tup_update.specs.Compared.{RunsToCompare}
 use Rattle.tup_update.specs.Ran.{RunsThese}
 use Rattle.tup_update.specs.declared.compare.Compared.{Compared}
 use Rattle.tup_update.specs.declared.stop.Stop.{Stop}
+use Rattle.tup_update.specs.declared.stop.Stop.TheVariants.{Outside}
 use Rattle.tup_top.specs.Crew.{OneRose, CrewRuns, CrewCompares}
 use Rattle.tup_top.specs.Promise.{Counts, AreSteady, HasCountedCause, HasComparedCause}
 use Rattle.tup_top.specs.declared.status.Status.{Status}
@@ -119,3 +121,8 @@ crew_compares {R} ran_by next w crew old now None some first runs = tt
 crew_compares {R} ran_by next w [] old now (Some compared) some first runs = absurd (omega (arith, some))
 crew_compares {R} ran_by next w (one ∷ others) old now (Some compared) some first runs =
     subst (λ (r : R). RunsToCompare next w (ran_by r) (ran_by now) (result_err compared) × (map ran_by others ≡ map ran_by others)) first (runs, refl)
+
+-- where there was no memory to begin it
+pub no_crew_ran : {R : Type 0} (ran_by : R → List (Names × List ℕ)) (next : Next) (w : World) (crew : List R) → 0 < length crew → CrewCompares next w (map ran_by crew) (map ran_by crew) (Err (Outside NoMemory))
+no_crew_ran {R} ran_by next w [] some = absurd (omega (arith, some))
+no_crew_ran {R} ran_by next w (one ∷ others) some = (inl refl, refl)

@@ -20,7 +20,7 @@ use Rattle.tup_update.specs.declared.stop.Stop.TheVariants.{Bad}
 use Rattle.tup_update.proofs.Beside.{left_is}
 use Rattle.tup_top.specs.Status.{came_to, compared_to}
 use Rattle.tup_top.specs.Crew.{OneRose}
-use Rattle.tup_top.specs.Promise.{HasCountedCause, HasComparedCause, Counts, NothingFailed, IsClear, IsDoneOrMemory, CanBeCompared, Compares}
+use Rattle.tup_top.specs.Promise.{HasCountedCause, HasComparedCause, Counts, NothingFailed, IsClear, IsDoneOrMemory, CanBeCompared, IsComparisonOrMemory}
 use Rattle.tup_top.specs.declared.status.What.TheVariants.{Files, FileSize, Commands, Links}
 use Rattle.tup_top.specs.declared.status.Status.{Status}
 use Rattle.tup_top.specs.declared.status.Status.TheVariants.{Done, Command, IllegalRead, IllegalWrite, Unwritten, TooManyReads, Usage, BadStore, Parse, CircularDirs, CircularCommands, NoSuchGroup, SiteFault, RunFault, SinkFault, Limit, Memory, Differs}
@@ -83,7 +83,7 @@ no_large w number can file large =
     let bytes = file.1.bytes in
     omega (arith, small, bytes, large)
 
-pub compares_so : (next : Next) (w : World) (before now : Counts) (status : Status) → IfSome (compared_to status) (HasCompared next w) → HasComparedCause before now status → Compares w before now status
+pub compares_so : (next : Next) (w : World) (before now : Counts) (status : Status) → IfSome (compared_to status) (HasCompared next w) → HasComparedCause before now status → CanBeCompared w → NothingFailed before now → IsComparisonOrMemory status
 compares_so next w before now (Done read ran removed) cause counted can fine = tt
 compares_so next w before now (Command rule status) cause counted can fine = tt
 compares_so next w before now (IllegalRead rule text) cause counted can fine = tt

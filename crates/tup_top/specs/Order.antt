@@ -18,6 +18,13 @@ IsUpdate (Ok Verify) = ⊥
 IsUpdate (Ok Demo) = ⊥
 IsUpdate (Err place) = ⊥
 
+-- the words ask for a comparison
+abbrev pub IsVerify : Wanted → Type 0
+IsVerify (Ok (Upd program)) = ⊥
+IsVerify (Ok Verify) = ⊤
+IsVerify (Ok Demo) = ⊥
+IsVerify (Err place) = ⊥
+
 -- the words ask for an update or a comparison, which have commands run
 abbrev pub HasCommandsRun : Wanted → Type 0
 HasCommandsRun (Ok (Upd program)) = ⊤

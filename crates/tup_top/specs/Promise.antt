@@ -15,7 +15,7 @@ use Rattle.tup_update.specs.declared.compare.Compared.{Compared}
 use Rattle.tup_update.specs.declared.fault.SourcesFault.{SourcesFault}
 use Rattle.tup_update.specs.declared.stop.Stop.{Stop}
 use Rattle.tup_top.specs.Status.{status_of, came_to, compared_to}
-use Rattle.tup_top.specs.Order.{Wanted, IsUpdate}
+use Rattle.tup_top.specs.Order.{Wanted, IsUpdate, IsVerify}
 use Rattle.tup_top.specs.Crew.{OneRose}
 use Rattle.tup_top.specs.declared.order.Order.TheVariants.{Upd, Verify, Demo}
 use Rattle.tup_top.specs.declared.status.Status.{Status}
@@ -155,5 +155,5 @@ IsComparisonOrMemory Memory = ⊤
 IsComparisonOrMemory other = ⊥
 
 -- a comparison that nothing stands in the way of is made, but for want of memory
-abbrev pub Compares : World → Counts → Counts → Status → Type 0
-Compares w before now status = CanBeCompared w → NothingFailed before now → IsComparisonOrMemory status
+abbrev pub Compares : Wanted → World → Counts → Counts → Status → Type 0
+Compares wanted w before now status = IsVerify wanted → CanBeCompared w → NothingFailed before now → IsComparisonOrMemory status

@@ -83,8 +83,7 @@ pub fn tup<S: Site, R: Runner, K: Sink>(
     ensures compares { IsTrue S.tells → IsTrue R.tells
         → let before = counts S.faults R.faults K.faults site crew.items out.old in
         let now = counts S.faults R.faults K.faults result.site result.crew.items out.new in
-        ForVerify (order words.now) result.status
-        (λ _. Compares (S.world site) before now result.status) }
+        Compares (order words.now) (S.world site) before now result.status }
     ensures told { IsTrue S.tells → IsTrue R.tells → let old = S.world site in
         ForUpdate (order words.now) result.status
         (OfRules old (λ rules _. CountsAll R.next rules old result.status)) }
