@@ -165,6 +165,76 @@ file "the own write, read back" d "$(printf 'int k;\nint h;\nint a;\ny')"
 echo '#include "h"' > inc/k
 row "files that include each other" 1 'read .;bad .: incl a b;fault: .: incl a b: status 1;' upd
 
+# The small commands line by line, each in a new folder: a holds `hi`, k `ho`, p nothing, `>` an arrow; in inc, `main` includes
+# `part`, that one k of the folder above, and `near` has lines that are almost such a line. The rule's output is b.
+small() {
+    project ": a |> $1 |> b"
+    echo ho > k && : > p && echo arrow > '>' && mkdir inc
+    printf '#include "part"\nend\n' > inc/main
+    printf '#include "../k"' > inc/part
+    printf ' #include "k"\n#include "k" \n#include  "k"\n#include ""\n#include "k"k"\n#include "k\n' > inc/near
+    printf '#include "none"\n' > inc/lost
+}
+# Its command and what its output holds, as `printf` writes it.
+good() {
+    small "$1"
+    row "$1" 0 "read .;run .: $1;done: 1 read, 1 run, 0 removed;" upd
+    same "$1, the output" "$(od -c b)" "$(printf "$2" | od -c)"
+}
+# Its status, a blank, and the command.
+ends() {
+    small "${1#* }"
+    row "${1#* }" 1 "read .;bad .: ${1#* };fault: .: ${1#* }: status ${1%% *};" upd
+    gone "${1#* }, nothing was made" b
+}
+# A write that its rule doesn't name, a blank, and the command.
+writes() {
+    small "${1#* }"
+    row "${1#* }" 1 "read .;bad .: ${1#* };fault: .: ${1#* }: writes ${1%% *};" upd
+    same "${1#* }, nothing was made" "$(ls | tr '\n' ' ')" "> Tupfile a inc k p "
+}
+good 'cp a b' 'hi\n'
+good 'cp   a  b' 'hi\n'
+good 'cp > b' 'arrow\n'
+good 'cat > b' ''
+good 'cat a > b' 'hi\n'
+good 'cat a k p a > b' 'hi\nho\nhi\n'
+good 'echo > b' '\n'
+good 'echo one  two   three > b' 'one two three\n'
+good 'incl a b' 'hi\n'
+good 'incl inc/main b' 'ho\nend\n'
+good 'incl inc/near b' ' #include "k"\n#include "k" \n#include  "k"\n#include ""\n#include "k"k"\n#include "k\n'
+good 'ifexists p a b' 'hi\n'
+good 'ifexists none a b' ''
+good 'ifexists none no b' ''
+good 'cp a b && cp k b' 'ho\n'
+good 'echo x > b && cat b k ./b > b' 'x\nho\nx\n'
+good 'echo x > b && ifexists b k b' 'ho\n'
+for text in 'cp none b' 'cat a none > b' 'incl none b' 'incl inc/lost b' 'ifexists p none b' 'fail 1' 'cp a b && cp none b'; do ends "1 $text"; done
+for text in cp 'cp a' 'cp a b b' cat 'cat a b' echo 'echo x' 'incl a' 'incl a b b' 'ifexists p a' 'ifexists p a b b' fail 'fail 3 4'; do ends "2 $text"; done
+for text in 'fail 0' 'fail 01' 'fail +1' 'fail 3x' 'fail 256' 'fail 99999999999999999999'; do ends "2 $text"; done
+for text in 'cp a > b' 'cat > a b' 'cat a > b > b' 'echo x >' 'nope > a b' '> > b'; do ends "2 $text"; done
+for text in '&&' '&& cp a b' 'cp a b &&' 'cp a b && && cp k b' 'cp a b&& fail 3'; do ends "2 $text"; done
+for text in nope 'CP a b' 'cpa b' '> b' 'b c'; do ends "127 $text"; done
+ends '7 cp a b && fail 7 && nope'
+ends '127 cp a b && nope && fail 3'
+writes 'c echo x > c'
+writes 'd cp a b && cp a d && cp a c && cp k d'
+writes 'c cp a c && cp c b'
+writes '../src/b cp a ../src/b'
+writes '.. echo x > ..'
+# Files i0 to i33, each including the next: the one at depth 32 may be there, the one at depth 33 may not.
+nested() {
+    project ": a |> incl $1 b |> b"
+    for i in $(seq 0 32); do printf '#include "i%s"\n' $((i + 1)) > "i$i"; done
+    echo end > i33
+}
+nested i1
+row "files 32 deep" 0 'read .;run .: incl i1 b;done: 1 read, 1 run, 0 removed;' upd
+file "what is included" b end
+nested i0
+row "files 33 deep" 1 'read .;bad .: incl i0 b;fault: .: incl i0 b: status 1;' upd
+
 # So many times a word.
 repeated() { awk -v n="$1" -v word="$2" 'BEGIN { for (i = 0; i < n; i++) printf "%s ", word }'; }
 project ": a |> cat $(repeated 4095 a)> b |> b"
