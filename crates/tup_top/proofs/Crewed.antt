@@ -83,8 +83,8 @@ module _ (site_before site_now run_before run_now sink_before sink_now : ℕ) (o
 
 -- so they are where the first runner of a crew did all
 module _ {R : Type 0} (count : R → ℕ) (site_before site_now sink_before sink_now : ℕ) (status : Status) (cause_of : Counts → Counts → Status → Type 0)
-  (more : (run_before run_now : ℕ) (others : List ℕ) → cause_of (of_one site_before run_before sink_before) (of_one site_now run_now sink_now) status →
-      cause_of (crew_before site_before site_now run_before run_now sink_before sink_now others) (crew_now site_before site_now run_before run_now sink_before sink_now others) status) where
+    (more : (run_before run_now : ℕ) (others : List ℕ) → cause_of (of_one site_before run_before sink_before) (of_one site_now run_now sink_now) status →
+    cause_of (crew_before site_before site_now run_before run_now sink_before sink_now others) (crew_now site_before site_now run_before run_now sink_before sink_now others) status) where
   cause_of_first : (crew : List R) (old now : R) → 0 < length crew → old ≡ get_or crew 0 old → cause_of (of_one site_before (count old) sink_before) (of_one site_now (count now) sink_now) status →
       cause_of (record { site = site_before; runners = map count crew; sink = sink_before }) (record { site = site_now; runners = map count (slice_set crew 0 now); sink = sink_now }) status
   cause_of_first [] old now some first cause = absurd (omega (arith, some))

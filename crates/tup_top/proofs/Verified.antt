@@ -131,10 +131,12 @@ module _ (site_before site_now run_before run_now sink_before sink_now : ℕ) wh
   compared_counts result status answer is (inr (inl e)) sink cause run = subst (HasComparedCause counts_before counts_now) (sym e) tt
   compared_counts result status answer is (inr (inr (e, done, rose))) sink cause run =
       let same = done_is_same result (subst IsDone is done) in
-      subst (HasComparedCause counts_before counts_now) (sym e)
-      (steady site_before site_now run_before run_now sink_before sink_now
-      (subst (λ (r : Result Compared Stop). StopHasCountedCause site_before site_now (result_err r)) same cause)
-      (subst (λ (r : Result Compared Stop). HasRunCause run_before run_now (result_err r)) same run), rose)
+      subst (HasComparedCause counts_before counts_now) (sym e) (
+        steady site_before site_now run_before run_now sink_before sink_now
+            (subst (λ (r : Result Compared Stop). StopHasCountedCause site_before site_now (result_err r)) same cause)
+            (subst (λ (r : Result Compared Stop). HasRunCause run_before run_now (result_err r)) same run),
+        rose,
+      )
 
 -- ---- what is printed
 
