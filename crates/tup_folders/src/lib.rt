@@ -20,6 +20,6 @@ pub use asked::{Asked, Stop};
 pub use fault::FoldersFault;
 pub use folders::{Came, read, read_folders};
 pub use laws::one_outcome;
-pub use settings::settings;
+pub use settings::read_settings;
 pub use sources::Sources;
 pub use work::Work;
