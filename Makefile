@@ -9,10 +9,10 @@ VERSION = $(shell sed -n 's/^const VERSION: &str = "\(.*\)";/\1/p' crates/tup/sr
 .PHONY: help build runners demo test try shell killed fmt times install uninstall clean
 
 help:
-	@echo 'make demo       builds the program and shows it on a copy of examples/hello'
+	@echo 'make demo       builds the programs and shows them on copies of examples/tree, examples/hello and examples/c'
 	@echo 'make test       the gate: every proof, every edit that must be refused, every test, the program as a user meets it'
 	@echo 'make try        the last part of the gate alone: the program over small projects, full disks, damaged stores'
-	@echo 'make shell      runs shell commands under tup_sh and builds examples/c (passed over where there is no strace)'
+	@echo 'make shell      runs shell commands under tup_sh, builds examples/c and runs hostile commands (passed over where there is no strace)'
 	@echo 'make killed     fails and kills each system call of an update in turn, and what else only strace can show (ten minutes)'
 	@echo 'make install    builds it and puts it at $(PREFIX)/bin/tup, tup_sh and tup_shim beside it, its page where `man tup` finds it'
 	@echo 'make uninstall  takes them away'
@@ -28,8 +28,9 @@ runners:
 	cd crates/tup_sh && rt run | grep '^usage'
 	cd crates/tup_shim && rt run | grep '^usage'
 
-demo: build
-	sh examples/demo.sh $(TUP)
+# The program in C at its end wants tup_sh, and says so where there is no C compiler or no strace.
+demo: build runners
+	sh examples/demo.sh $(TUP) $(SH)
 
 test:
 	.ci/run

@@ -1,14 +1,15 @@
 #!/bin/sh
-# Builds the example projects in a new folder, step by step, with the program given as the first word.
+# Builds the example projects in a new folder, step by step. Words: tup, and tup_sh for the program in C.
 set -u
 tup=$(realpath "$1")
+sh=$(realpath -m "${2:-none}")
 folder=$(mktemp -d)
 trap 'rm -rf "$folder"' EXIT
-cp -r "$(dirname "$0")"/hello "$(dirname "$0")"/tree "$folder"
+cp -r "$(dirname "$0")"/hello "$(dirname "$0")"/tree "$(dirname "$0")"/c "$folder"
 cd "$folder/tree" || exit 1
 
 say() { printf '\n-- %s\n' "$*"; }
-update() { "$tup" upd; printf '   exit %s\n' "$?"; }
+update() { "$tup" upd "$@"; printf '   exit %s\n' "$?"; }
 
 say "a project of three folders"
 find . -type f | sort
@@ -17,6 +18,9 @@ cat Tuprules.tup lib/Tupfile Tupfile
 say "its first update"
 update
 cat app app.stamp
+
+say "the files are those of a clean build"
+"$tup" verify
 
 say "without what tup.config sets"
 rm tup.config
@@ -56,3 +60,49 @@ say "an output that would overwrite a source is refused"
 echo ': head.html |> cp head.html body.html |> body.html' >> Tupfile
 update
 cat body.html
+
+cd ../c || exit 1
+say "a library and a program in C, with shell commands: tup upd --proc tup_sh"
+find . -type f | sort
+cat lib/Tupfile src/Tupfile
+if ! command -v cc > /dev/null || ! command -v ar > /dev/null; then
+    echo "   passed over: there is no C compiler (cc and ar)"
+    exit 0
+fi
+if ! strace -o /dev/null true 2> /dev/null; then
+    echo "   passed over: there is no strace, or it may not trace here"
+    exit 0
+fi
+if [ ! -x "$sh" ]; then
+    echo "   passed over: there is no tup_sh"
+    exit 0
+fi
+# Runs the program that was built: an output has the mode of a new file.
+greet() { cp src/greet "$folder/greet" && chmod +x "$folder/greet" && "$folder/greet"; }
+
+say "the first update"
+update --proc "$sh"
+greet
+
+say "a header is edited that no rule names"
+sed -i 's/Hello/Good day/' lib/words.h
+update --proc "$sh"
+greet
+
+say "another of its name stands earlier on the include path"
+echo '#define GREETING "Good morning"' > src/words.h
+update --proc "$sh"
+greet
+
+say "a header that a rule makes isn't named"
+sed -i 's/ | version.h//' src/Tupfile
+update --proc "$sh"
+
+say "its repair"
+sed -i 's/foreach \*.c/& | version.h/' src/Tupfile
+update --proc "$sh"
+
+say "a command that would overwrite a source"
+sed -i 's/-c %f -o %o/& \&\& echo x > main.c/' src/Tupfile
+update --proc "$sh"
+cat src/main.c

@@ -1,7 +1,8 @@
 #!/bin/sh
-# The program in C of examples/c, built by tup with its commands under tup_sh: as it is, with a header that is edited and one
-# that is deleted, and with rules that don't say what they read and write. Words: tup and tup_sh. It ends with 1 where
-# something else came, and says so.
+# Real programs through tup, its commands under tup_sh: the library and the program in C of examples/c, as they are, with headers
+# that are edited, deleted and found elsewhere, and with rules that don't say what they read and write; then commands that
+# would harm the sources, fail, are killed or leave something running. Words: tup and tup_sh. It ends with 1 where something
+# else came than what has to, and says so.
 set -u
 tup=$(realpath "$1")
 sh=$(realpath "$2")
@@ -10,69 +11,132 @@ if ! strace -o /dev/null true 2> /dev/null; then
     echo "passed over: there is no strace, or it may not trace"
     exit 0
 fi
-if ! command -v cc > /dev/null; then
+if ! command -v cc > /dev/null || ! command -v ar > /dev/null; then
     echo "passed over: there is no C compiler"
     exit 0
 fi
+export LC_ALL=C
 work=$(mktemp -d ${WORK:-/tmp}/c-example.XXXXXX)
 trap 'cd /; rm -rf "$work"' EXIT
 trap 'exit 1' INT TERM
 failures=0
-compile='cc -Wall -c main.c -o main.o'
+updates=0
 
 wrong() {
     failures=$((failures + 1))
     printf 'wrong: %s: %s\n' "$step" "$1"
 }
 
-# update STEP STATUS LINE: an update, its exit number and its last line.
+# What stands in the project, hidden names too, but for what was made and what tup keeps: kinds, modes, names, contents.
+sources() {
+    find . \( -name .tup -prune \) -o \( -name '*.o' -o -name '*.a' -o -name greet -o -name version.h -o -name size.h -o -name made \) -prune \
+        -o -printf '%y %m %p %l\n' -type f -exec sha256sum {} + | sort
+}
+
+# update STEP STATUS LINE: an update, its exit number and its last line. No source may change.
 update() {
     step=$1
-    "$tup" upd --proc "$sh" > "$work/out" 2> "$work/err"
+    updates=$((updates + 1))
+    before=$(sources)
+    timeout 100 "$tup" upd --proc "$sh" > "$work/out" 2> "$work/err"
     status=$?
     [ $status = "$2" ] || wrong "exit number $status, wanted $2: $(cat "$work/err")"
     last=$(tail -n 1 "$work/out")
     [ "$last" = "$3" ] || wrong "its last line is '$last', wanted '$3'"
+    [ "$(sources)" = "$before" ] || wrong "a source changed"
 }
 
-# greets TEXT: what the program that was built prints. An output has the mode of a new file.
+# greets TEXT: what the program that was built prints first. An output has the mode of a new file.
 greets() {
-    cp greet "$work/greet" && chmod +x "$work/greet"
-    said=$("$work/greet")
+    cp src/greet "$work/greet" && chmod +x "$work/greet"
+    said=$("$work/greet" | head -n 1)
     [ "$said" = "$1" ] || wrong "it prints '$said', wanted '$1'"
 }
 
+# told TEXT: what a command said on standard error.
+told() {
+    grep -q "$1" "$work/err" || wrong "it didn't say: $1"
+}
+
+all='done: 2 read, 6 run, 0 removed'
+compile='cc -Wall -I../lib -c main.c -o main.o'
 cp -r "$example" "$work/project" && cd "$work/project" || exit 1
-update 'as it is' 0 'done: 1 read, 4 run, 0 removed'
+update 'as it is' 0 "$all"
 greets 'Hello from version 1.2'
 
-# hello.h stands nowhere in the Tupfile.
-sed -i 's/Hello/Good day/' hello.h
-update 'a header is edited' 0 'done: 1 read, 4 run, 0 removed'
+# -- headers that no rule names
+sed -i 's/Hello/Good day/' lib/words.h
+update 'a header is edited' 0 "$all"
 greets 'Good day from version 1.2'
+echo '#define GREETING "Good morning"' > src/words.h
+update 'another of its name is found earlier on the include path' 0 "$all"
+greets 'Good morning from version 1.2'
+rm lib/words.h
+update 'the one behind it is deleted' 0 "$all"
+greets 'Good morning from version 1.2'
+rm src/words.h
+update 'a header is deleted' 1 "fault: src: $compile: status 1"
+told 'words.h: No such file'
+mkdir src/more && cp "$example/lib/words.h" src/more
+sed -i 's/-I/-Imore -I/' src/Tupfile
+update 'one of its name is found elsewhere' 0 "$all"
+greets 'Hello from version 1.2'
+rm -r src/more && cp "$example/src/Tupfile" src && cp "$example/lib/words.h" lib
+update 'it is put back' 0 "$all"
 
-mv hello.h "$work/hello.h"
-update 'a header is deleted' 1 "fault: .: $compile: status 1"
-grep -q 'hello.h: No such file' "$work/err" || wrong "the compiler's words are missing: $(cat "$work/err")"
-cat main.c hello.c version > /dev/null || wrong 'a source is missing'
-mv "$work/hello.h" hello.h
-update 'it is put back' 0 'done: 1 read, 4 run, 0 removed'
-greets 'Good day from version 1.2'
+# -- a header that a rule makes has to be named
+sed -i 's/ | version.h//' src/Tupfile
+update 'a made header is read and not named' 1 "fault: src: $compile: reads version.h"
+cp "$example/src/Tupfile" src
+echo ': |> echo "#define SIZE 3" > %o |> size.h' >> lib/Tupfile
+sed -i '1i #include "size.h"' src/main.c
+update 'one of another folder' 1 "fault: src: $compile: reads ../lib/size.h"
+sed -i 's/ | version.h/& ..\/lib\/size.h/' src/Tupfile
+update 'it is named' 0 'done: 2 read, 7 run, 0 removed'
+cp "$example/src/Tupfile" "$example/src/main.c" src && cp "$example/lib/Tupfile" lib
+update 'its rule vanishes' 0 'done: 2 read, 6 run, 1 removed'
 
-# version.h is made by a rule, so it has to be named.
-cp Tupfile "$work/Tupfile"
-sed -i 's/^: main.c version.h |>/: main.c |>/' Tupfile
-update 'a made header is read and not named' 1 "fault: .: $compile: reads version.h"
-cp "$work/Tupfile" Tupfile
-sed -i "s/$compile/& \&\& echo x > extra/" Tupfile
-update 'a file is written and not named' 1 "fault: .: $compile && echo x > extra: writes extra"
-[ -e extra ] && wrong 'extra is there'
-sed -i "s/ \&\& echo x > extra/; echo x >> hello.c/" Tupfile
-update 'a source is written' 1 "fault: .: $compile; echo x >> hello.c: writes hello.c"
-cmp -s hello.c "$example/hello.c" || wrong 'hello.c was changed'
-cp "$work/Tupfile" Tupfile
-update 'at the end' 0 'done: 1 read, 4 run, 0 removed'
-greets 'Good day from version 1.2'
+# -- what a command writes has to be named
+sed -i 's/-c %f -o %o/& \&\& echo x > extra/' src/Tupfile
+update 'a file is written and not named' 1 "fault: src: $compile && echo x > extra: writes extra"
+[ -e src/extra ] && wrong 'extra is there'
+sed -i 's/ && echo x > extra/; echo x >> ..\/lib\/hello.c/' src/Tupfile
+update 'a source is written' 1 "fault: src: $compile; echo x >> ../lib/hello.c: writes ../lib/hello.c"
+cp "$example/src/Tupfile" src
+update 'at the end' 0 "$all"
+greets 'Hello from version 1.2'
+cmp -s lib/hello.c "$example/lib/hello.c" || wrong 'hello.c was changed'
 
-printf '%s wrong\n' "$failures"
+# command STEP STATUS LAST TEXT: a project of two sources whose one rule has this command and the output `made`.
+command() {
+    rm -rf "$work/commands" && mkdir -p "$work/commands/src/sub" && cd "$work/commands" || exit 1
+    echo a > src/a && echo b > src/b && echo s > src/sub/s && echo o > source && echo h > .hidden && chmod 600 src/b && ln -s a src/ln
+    printf 'int main(void) { return 0 }\n' > src/wrong.c
+    printf ': a |> %s |> made\n' "$4" > src/Tupfile
+    update "$1" "$2" "$3"
+}
+
+# -- commands that would harm the sources, fail, are killed or leave something running
+bad() { command "$1" 1 "fault: src: $2: $3" "$2"; [ -e src/made ] && wrong 'made is there'; }
+bad 'all files are removed' 'rm -rf *' 'writes Tupfile'
+bad 'all files of the project are removed' 'rm -rf ../* ../.h* && echo x > made' 'writes ../source'
+bad 'a source above is written' 'echo x > ../source' 'writes ../source'
+bad 'a source is moved' 'mv a made' 'writes a'
+bad 'a source is edited in place' 'sed -i s/b/B/ b && cp b made' 'writes b'
+bad 'a syntax error' 'gcc -c wrong.c -o made' 'status 1'
+told 'error: expected'
+bad 'a signal that nothing keeps off' 'echo x > made; kill -9 $$' 'status 137'
+bad 'another signal' 'kill -TERM $$' 'status 143'
+bad 'a program that is killed' 'sh -c '\''kill -SEGV $$'\' 'status 139'
+bad 'a program that is not there' './none > made' 'status 127'
+command 'a daemon that outlives its command' 0 'done: 1 read, 1 run, 0 removed' \
+    '(setsid sh -c "sleep 2; echo late > late; echo late > made; echo late > a" &) ; echo now > made'
+sleep 3
+[ "$(cat src/made)" = now ] || wrong 'made holds something else'
+[ -e src/late ] && wrong 'late is there'
+[ "$(cat src/a)" = a ] || wrong 'a was changed'
+command 'one that holds its streams open' 0 'done: 1 read, 1 run, 0 removed' 'sleep 1000 & echo now > made'
+command 'permissions are changed' 0 'done: 1 read, 1 run, 0 removed' 'chmod 777 a b ../source && cp a made'
+
+printf '%s updates, %s wrong\n' "$updates" "$failures"
 [ "$failures" = 0 ]

@@ -165,6 +165,76 @@ file "the own write, read back" d "$(printf 'int k;\nint h;\nint a;\ny')"
 echo '#include "h"' > inc/k
 row "files that include each other" 1 'read .;bad .: incl a b;fault: .: incl a b: status 1;' upd
 
+# The small commands line by line, each in a new folder: a holds `hi`, k `ho`, p nothing, `>` an arrow; in inc, `main` includes
+# `part`, that one k of the folder above, and `near` has lines that are almost such a line. The rule's output is b.
+small() {
+    project ": a |> $1 |> b"
+    echo ho > k && : > p && echo arrow > '>' && mkdir inc
+    printf '#include "part"\nend\n' > inc/main
+    printf '#include "../k"' > inc/part
+    printf ' #include "k"\n#include "k" \n#include  "k"\n#include ""\n#include "k"k"\n#include "k\n' > inc/near
+    printf '#include "none"\n' > inc/lost
+}
+# Its command and what its output holds, as `printf` writes it.
+good() {
+    small "$1"
+    row "$1" 0 "read .;run .: $1;done: 1 read, 1 run, 0 removed;" upd
+    same "$1, the output" "$(od -c b)" "$(printf "$2" | od -c)"
+}
+# Its status, a blank, and the command.
+ends() {
+    small "${1#* }"
+    row "${1#* }" 1 "read .;bad .: ${1#* };fault: .: ${1#* }: status ${1%% *};" upd
+    gone "${1#* }, nothing was made" b
+}
+# A write that its rule doesn't name, a blank, and the command.
+writes() {
+    small "${1#* }"
+    row "${1#* }" 1 "read .;bad .: ${1#* };fault: .: ${1#* }: writes ${1%% *};" upd
+    same "${1#* }, nothing was made" "$(ls | tr '\n' ' ')" "> Tupfile a inc k p "
+}
+good 'cp a b' 'hi\n'
+good 'cp   a  b' 'hi\n'
+good 'cp > b' 'arrow\n'
+good 'cat > b' ''
+good 'cat a > b' 'hi\n'
+good 'cat a k p a > b' 'hi\nho\nhi\n'
+good 'echo > b' '\n'
+good 'echo one  two   three > b' 'one two three\n'
+good 'incl a b' 'hi\n'
+good 'incl inc/main b' 'ho\nend\n'
+good 'incl inc/near b' ' #include "k"\n#include "k" \n#include  "k"\n#include ""\n#include "k"k"\n#include "k\n'
+good 'ifexists p a b' 'hi\n'
+good 'ifexists none a b' ''
+good 'ifexists none no b' ''
+good 'cp a b && cp k b' 'ho\n'
+good 'echo x > b && cat b k ./b > b' 'x\nho\nx\n'
+good 'echo x > b && ifexists b k b' 'ho\n'
+for text in 'cp none b' 'cat a none > b' 'incl none b' 'incl inc/lost b' 'ifexists p none b' 'fail 1' 'cp a b && cp none b'; do ends "1 $text"; done
+for text in cp 'cp a' 'cp a b b' cat 'cat a b' echo 'echo x' 'incl a' 'incl a b b' 'ifexists p a' 'ifexists p a b b' fail 'fail 3 4'; do ends "2 $text"; done
+for text in 'fail 0' 'fail 01' 'fail +1' 'fail 3x' 'fail 256' 'fail 99999999999999999999'; do ends "2 $text"; done
+for text in 'cp a > b' 'cat > a b' 'cat a > b > b' 'echo x >' 'nope > a b' '> > b'; do ends "2 $text"; done
+for text in '&&' '&& cp a b' 'cp a b &&' 'cp a b && && cp k b' 'cp a b&& fail 3'; do ends "2 $text"; done
+for text in nope 'CP a b' 'cpa b' '> b' 'b c'; do ends "127 $text"; done
+ends '7 cp a b && fail 7 && nope'
+ends '127 cp a b && nope && fail 3'
+writes 'c echo x > c'
+writes 'd cp a b && cp a d && cp a c && cp k d'
+writes 'c cp a c && cp c b'
+writes '../src/b cp a ../src/b'
+writes '.. echo x > ..'
+# Files i0 to i33, each including the next: the one at depth 32 may be there, the one at depth 33 may not.
+nested() {
+    project ": a |> incl $1 b |> b"
+    for i in $(seq 0 32); do printf '#include "i%s"\n' $((i + 1)) > "i$i"; done
+    echo end > i33
+}
+nested i1
+row "files 32 deep" 0 'read .;run .: incl i1 b;done: 1 read, 1 run, 0 removed;' upd
+file "what is included" b end
+nested i0
+row "files 33 deep" 1 'read .;bad .: incl i0 b;fault: .: incl i0 b: status 1;' upd
+
 # So many times a word.
 repeated() { awk -v n="$1" -v word="$2" 'BEGIN { for (i = 0; i < n; i++) printf "%s ", word }'; }
 project ": a |> cat $(repeated 4095 a)> b |> b"
@@ -189,8 +259,10 @@ tree='read .;read lib;read src;run lib: CC list.c;run lib: CC text.c;run src: CC
 row "three folders" 0 "${tree}run .: echo app release > app.stamp;done: 3 read, 5 run, 0 removed;" upd
 file "what they give together" app "$(printf '#define SIZE 3\nint list[SIZE];\nint text;\n#define SIZE 3\nint main;')"
 file "a setting" app.stamp 'app release'
+row "they are a clean build" 0 'same;' verify
 echo '#define SIZE 4' > inc/size.h
-row "a header that was edited" 0 "${tree}run .: echo app release > app.stamp;done: 3 read, 5 run, 0 removed;" upd
+row "a header that was edited" 13 'differs: app;' verify
+row "its update" 0 "${tree}run .: echo app release > app.stamp;done: 3 read, 5 run, 0 removed;" upd
 same "what it gives" "$(head -1 app)" '#define SIZE 4'
 rm tup.config
 row "a setting that is gone" 0 "read .;read lib;read src;remove app.stamp;${tree#read .;read lib;read src;}done: 3 read, 4 run, 1 removed;" upd
@@ -207,10 +279,60 @@ row "a folder that asks for what another makes" 0 'read x;read y;run y: echo 1 >
 echo ': ../x/*.o |> cat %f > p.o |> p.o' > y/Tupfile
 row "folders that wait for each other" 5 'fault: directories wait for each other: x -> y -> x;' upd
 file "what was made stands" x/q.o 1
+project
+mkdir lib src inc
+echo '!cc = |> ^ CC %b^ incl %f %o |> %B.o' > Tuprules.tup
+printf 'include_rules\n: foreach *.c |> !cc |> ../<objs>\n' | tee lib/Tupfile > src/Tupfile
+echo ': <objs> |> cat %<objs> > %o |> app' > Tupfile
+echo '#define A' > inc/a.h
+printf '#include "../inc/a.h"\nint a;\n' > lib/a.c
+printf '#include "../inc/a.h"\nint m;\n' > src/m.c
+echo 'int n;' > src/n.c
+row "a group of two folders" 0 'read .;read lib;read src;run lib: CC a.c;run src: CC m.c;run src: CC n.c;run .: cat lib/a.o src/m.o src/n.o > app;done: 3 read, 4 run, 0 removed;' upd
+file "all that was given to it" app "$(printf '#define A\nint a;\n#define A\nint m;\nint n;')"
+row "it is a clean build" 0 'same;' verify
+project
+mkdir x y
+echo 'CONFIG_MODE=fast' > tup.config
+echo ': |> echo @(MODE) > o |> o' > x/Tupfile
+echo ': |> echo y > o |> o' > y/Tupfile
+row "a setting that one of two folders takes" 0 'read x;read y;run x: echo fast > o;run y: echo y > o;done: 2 read, 2 run, 0 removed;' upd
+file "the setting" x/o fast
+echo 'CONFIG_MODE=slow' > tup.config
+row "a setting that was edited" 13 'differs: x/o;' verify
+project 'ifdef T' ': foreach *_text.txt |> cp %f %o |> %g.bin' else 'error no T' endif
+echo 1 > a_text.txt
+echo 2 > b_text.txt
+echo CONFIG_T=y > tup.config
+row "lines where a setting is" 0 'read .;run .: cp a_text.txt a.bin;run .: cp b_text.txt b.bin;done: 1 read, 2 run, 0 removed;' upd
+echo 3 > c_text.txt
+row "verify of a file more, of which one is made" 13 'differs: c.bin;' verify
+rm tup.config
+row "lines where it is gone" 5 'fault: Tupfile:4: error: no T, read for .;' upd
+file "what was made stands" a.bin 1
+file "all of it" b.bin 2
 project ': <g> |> cat %<g> > a.o |> a.o <h>' ': <h> |> cat %<h> > b |> b <g>'
 row "commands that wait for each other" 5 'fault: commands wait for each other: .: cat b > a.o -> .: cat a.o > b -> .: cat b > a.o;' upd
 project ': <none> |> cat %<none> > b |> b'
 row "a group that no rule gives to" 5 'fault: no rule gives to <none>;' upd
+project "$copy"
+row "verify before an update" 13 'differs: b;' verify
+gone "it makes nothing" b
+row "one rule" 0 "$done_copy" upd
+row "verify behind it" 0 'same;' verify
+echo mine > b
+row "verify of an output that was edited" 13 'differs: b;' verify
+file "it changes nothing" b mine
+rm b
+row "verify of one that was deleted" 13 'differs: b;' verify
+echo new > foreign
+row "an update with a file more" 0 "$done_copy" upd
+row "verify of a file more, which is a source" 0 'same;' verify
+: > Tupfile
+row "verify of what no rule makes any more" 13 'differs: b;' verify
+row "verify with a word more" 2 'fault: usage, word 2;' verify now
+project ': a |> fail 3 |> b'
+row "verify of a rule that fails" 1 'fault: .: fail 3: status 3;' verify
 
 # Commands that are run through another program.
 project "$copy"

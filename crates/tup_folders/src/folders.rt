@@ -8,7 +8,7 @@ ghost use Rattle.tup_folders.specs.State.{IsWork, IsLast, HasCome, HasStopped, s
 
 use crate::asked::{Asked, Stop};
 use crate::fault::FoldersFault;
-use crate::settings::settings;
+use crate::settings::read_settings;
 use crate::sources::Sources;
 use crate::work::Work;
 use std::alloc::Global;
@@ -30,7 +30,7 @@ pub fn read_folders(alloc: Global, sources: &Files) -> Result<Items<(Path, Readi
     ensures { IsOutcome (finite.from_sorted sources.now) result }
 {
     let sources = Sources::new(alloc, sources)?;
-    match settings(alloc, &sources) {
+    match read_settings(alloc, &sources) {
         Ok(settings) => all_read(alloc, &sources, &settings),
         Err(fault) => Err(fault),
     }
@@ -75,23 +75,23 @@ fn advance(
 
 /// What came of the reading of a folder.
 #[derive(Drop)]
-enum Came {
+pub enum Came {
     /// It was read.
     Read(Reading),
     /// It waits for the reading of this folder.
     Waits(Path),
 }
 
-/// Reads a folder over the readings so far.
-fn read(
+/// Reads a folder, which has a Tupfile, over the readings so far.
+pub fn read(
     alloc: Global,
     sources: &Sources<'_>,
     settings: &Config,
     readings: &ByPath<Reading>,
     reader: &Path,
 ) -> Result<Came, FoldersFault>
-    requires { IsTrue (has_tupfile sources.now reader.now) }
-    ensures { HasCome sources.now settings.now readings.now reader.now result }
+    ensures { IsTrue (has_tupfile sources.now reader.now)
+        → HasCome sources.now settings.now readings.now reader.now result }
 {
     let mut asked = Asked {
         sources,

@@ -1,3 +1,0 @@
-#define GREETING "Hello"
-
-void hello(const char *version);

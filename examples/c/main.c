@@ -1,7 +1,0 @@
-#include "hello.h"
-#include "version.h"
-
-int main(void) {
-    hello(VERSION);
-    return 0;
-}
