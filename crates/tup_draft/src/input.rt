@@ -140,12 +140,36 @@ fn from_files<E: Env>(
         (specs.from_files at.now drafts.now word.now)
         (asker (E.answers env.new) (E.stopped env.new) log.new) result }
 {
+    let text = bare_text(alloc, at, word)?;
+    from_text(alloc, env, log, at, drafts, &text)
+}
+
+/// A word with its flags put in, of which only the percent sign has a meaning among inputs.
+fn bare_text(alloc: Global, at: &Spot, word: &Text) -> Result<Text, ReadEnd>
+    ensures { Gives (specs.bare_text at.now word.now) result }
+{
     let parts = bare_parts(alloc, at.dir())?;
-    let text = flagged_text(alloc, at, &parts, word)?;
+    flagged_text(alloc, at, &parts, word)
+}
+
+/// What a text gives that is no bin and no group: the files that a glob matches, or one file.
+fn from_text<E: Env>(
+    alloc: Global,
+    env: &mut E,
+    log: &mut Log,
+    at: &Spot,
+    drafts: &[Draft],
+    text: &Text,
+) -> Result<Found, ReadEnd>
+    requires { is_some (E.stopped env.old) ≡ false }
+    ensures { Went E.tells (asker (E.answers env.old) (E.stopped env.old) log.old)
+        (specs.from_text at.now drafts.now text.now)
+        (asker (E.answers env.new) (E.stopped env.new) log.new) result }
+{
     if is_glob(text.as_str()) {
-        globbed(alloc, env, log, at, drafts, &text)
+        globbed(alloc, env, log, at, drafts, text)
     } else {
-        literal(alloc, env, log, at, drafts, &text)
+        literal(alloc, env, log, at, drafts, text)
     }
 }
 
