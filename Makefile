@@ -13,7 +13,7 @@ help:
 	@echo 'make test       the gate: every proof, every edit that must be refused, every test, the program as a user meets it'
 	@echo 'make try        the last part of the gate alone: the program over small projects, full disks, damaged stores'
 	@echo 'make shell      runs shell commands under tup_sh and builds examples/c (passed over where there is no strace)'
-	@echo 'make killed     fails and kills each system call of an update in turn and looks at what is left (some minutes)'
+	@echo 'make killed     fails and kills each system call of an update in turn, and what else only strace can show (ten minutes)'
 	@echo 'make install    builds it and puts it at $(PREFIX)/bin/tup, tup_sh and tup_shim beside it, its page where `man tup` finds it'
 	@echo 'make uninstall  takes them away'
 	@echo 'make fmt        lays out every crate'
@@ -42,6 +42,9 @@ shell: build runners
 	sh tests/c-example.sh $(TUP) $(SH)
 
 killed: build
+	sh tests/edge.sh $(TUP)
+	sh tests/calls.sh $(TUP)
+	sh tests/together.sh $(TUP)
 	sh tests/killed.sh $(TUP)
 
 fmt:

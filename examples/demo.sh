@@ -1,16 +1,29 @@
 #!/bin/sh
-# Builds the example project in a new folder, step by step, with the program given as the first word.
+# Builds the example projects in a new folder, step by step, with the program given as the first word.
 set -u
 tup=$(realpath "$1")
 folder=$(mktemp -d)
 trap 'rm -rf "$folder"' EXIT
-cp "$(dirname "$0")"/hello/* "$folder"
-cd "$folder" || exit 1
+cp -r "$(dirname "$0")"/hello "$(dirname "$0")"/tree "$folder"
+cd "$folder/tree" || exit 1
 
 say() { printf '\n-- %s\n' "$*"; }
 update() { "$tup" upd; printf '   exit %s\n' "$?"; }
 
-say "the project"
+say "a project of three folders"
+find . -type f | sort
+cat Tuprules.tup lib/Tupfile Tupfile
+
+say "its first update"
+update
+cat app app.stamp
+
+say "without what tup.config sets"
+rm tup.config
+update
+
+cd ../hello || exit 1
+say "a project of one folder"
 ls
 cat Tupfile
 

@@ -2,7 +2,7 @@
 # Each system call of an update over real files is failed and killed in turn, by strace: whatever stops the program, no
 # source may be lost, and the next update has to end with `done` and leave just the files of a clean build. Before, the
 # order of its syncs is looked at: no clause speaks of what is durable. Words: the program, and the projects to try (none:
-# all). It ends with 1 where something else came, and says so. It takes some minutes, and is no part of the gate.
+# all). It ends with 1 where something else came, and says so. It takes ten minutes, and is no part of the gate.
 set -u
 tup=$(realpath "$1")
 shift
@@ -100,12 +100,17 @@ stop() {
     [ "$(ls .tup)" = db ] || wrong "more than the store is left in .tup: $(ls .tup | tr '\n' ' ')"
 }
 
-# What a trace of an update shows of its syncs: the list of owned paths is synced before it is put into its place, and its
-# folder behind that; before a new list is there, each file that was put is synced, and the folder in which names came and went.
+# What a trace of an update shows of its syncs: each file is synced before it is renamed into its place, and the list of
+# owned paths too, and its folder behind that; before a new list is there, the folder in which names came and went is synced.
 unsynced() {
     awk '
         { path = "" }
-        /^rename\("\.\/\.tup\/new", / { split($0, part, "\""); waiting[part[4]]; waiting["."] }
+        /^rename\("\.\/\.tup\/new", / {
+            split($0, part, "\"")
+            if (!("./.tup/new" in synced)) print part[4] " isn\047t durable before it is put into its place"
+            delete synced["./.tup/new"]
+            waiting["."]
+        }
         /^unlink\("\.\/[^.]/ { waiting["."] }
         /^f(data)?sync\(/ && / = 0$/ { path = $0; sub(/^[a-z]*\([0-9]*</, "", path); sub(/>\).*/, "", path); sub(/^.*\/now/, ".", path) }
         path != "" { delete waiting[path]; synced[path] }
@@ -144,11 +149,8 @@ try() {
     [ -z "$late" ] || wrong "$late"
     : > "$work/exits"
     while read -r call number; do
-        stop "$1" "$call" "$number" error=EIO
+        for error in EIO EACCES ENOSPC; do stop "$1" "$call" "$number" "error=$error"; done
         stop "$1" "$call" "$number" signal=KILL
-        case $call in
-            *write* | *copy* | sendfile | open* | mkdir* | rename* | *sync | ftruncate) stop "$1" "$call" "$number" error=ENOSPC ;;
-        esac
     done < "$work/list"
     printf '%s: %s calls, each failed and killed:\n' "$1" "$(wc -l < "$work/list")"
     sort "$work/exits" | uniq -c | sed 's/^ *\([0-9]*\) /  \1 times /'

@@ -5,6 +5,7 @@
 # built in the folder beside.
 set -u
 tup=$(realpath "$1")
+script=$(realpath "$0")
 shim=$(realpath -m "$(dirname "$tup")/../../tup_shim/out/tup_shim")
 work=$(mktemp -d)
 trap 'cd /; umount "$work/small" 2>/dev/null; rm -rf "$work"' EXIT
@@ -77,7 +78,15 @@ parse() {
     file "$1, the source" a hi
 }
 parse 'output is a source file' ': a |> cp a a |> a'
-parse 'unknown line' ': a* |> cp a b |> b'
+parse 'unknown line' 'b: a'
+parse 'a rule has two arrows' ': a > b'
+parse 'bad name' 'CONFIG_X = 1'
+parse 'unclosed bracket' 'X = $(A'
+parse 'if without endif' 'ifdef A'
+parse 'no such macro' ': a |> !cc |> b'
+parse 'include file missing' 'include none'
+parse 'nested too deep' 'include Tupfile'
+parse 'error: not here' 'error not here'
 parse 'missing input' ': c |> cp c b |> b'
 project "$copy" ': a |> cat a > b |> b'
 row "an output twice" 5 'fault: Tupfile:2: output named twice, read for .;' upd
@@ -87,7 +96,12 @@ row "a folder at the output" 5 'fault: Tupfile:1: output is a directory, read fo
 file "what it holds" b/mine mine
 project "$copy"
 mkdir sub && echo "$copy" > sub/Tupfile
-row "a Tupfile below" 5 'fault: sub/Tupfile:1: unknown line, read for sub;' upd
+row "a Tupfile below, its source missing" 5 'fault: sub/Tupfile:1: missing input, read for sub;' upd
+echo ho > sub/a
+row "a Tupfile below" 0 'read .;read sub;run .: cp a b;run sub: cp a b;done: 2 read, 2 run, 0 removed;' upd
+file "what it makes" sub/b ho
+rm -r sub
+row "it goes with its folder" 0 "$done_copy" upd
 
 project ': a |> cp a b |> b' ': b a |> cat b a > c |> c' ': |> cat > d |> d' ': a |> fail 3 |> e' ': a |> cp a f |> f'
 row "a rule that fails" 1 'read .;run .: cp a b;run .: cat b a > c;run .: cat > d;bad .: fail 3;fault: .: fail 3: status 3;' upd
@@ -167,6 +181,36 @@ project ": half |> cat half half > b |> b" ': half |> cat half half a > c |> c'
 truncate -s 8388608 half
 row "a write of more than a file may hold" 1 'read .;run .: cat half half > b;bad .: cat half half a > c;fault: .: cat half half a > c: status 5;' upd
 same "one of just so much" "$(wc -c < b)" 16777216
+
+# Several folders.
+example() { count=$((count + 1)); cp -r "$(dirname "$script")/../examples/$1" "$work/$count" && cd "$work/$count" || exit 1; }
+example tree
+tree='read .;read lib;read src;run lib: CC list.c;run lib: CC text.c;run src: CC main.c;run .: cat lib/list.o lib/text.o src/main.o > app;'
+row "three folders" 0 "${tree}run .: echo app release > app.stamp;done: 3 read, 5 run, 0 removed;" upd
+file "what they give together" app "$(printf '#define SIZE 3\nint list[SIZE];\nint text;\n#define SIZE 3\nint main;')"
+file "a setting" app.stamp 'app release'
+echo '#define SIZE 4' > inc/size.h
+row "a header that was edited" 0 "${tree}run .: echo app release > app.stamp;done: 3 read, 5 run, 0 removed;" upd
+same "what it gives" "$(head -1 app)" '#define SIZE 4'
+rm tup.config
+row "a setting that is gone" 0 "read .;read lib;read src;remove app.stamp;${tree#read .;read lib;read src;}done: 3 read, 4 run, 1 removed;" upd
+echo SIZE > tup.config
+row "settings with a fault" 5 'fault: tup.config:1: bad config line, read for .;' upd
+rm tup.config src/Tupfile
+row "a folder whose Tupfile goes" 0 'read .;read lib;remove src/main.o;run lib: CC list.c;run lib: CC text.c;run .: cat lib/list.o lib/text.o > app;done: 2 read, 3 run, 1 removed;' upd
+file "its source stays" src/main.c "$(printf '#include "../inc/size.h"\nint main;')"
+project
+mkdir x y
+echo ': ../y/*.o |> cat %f > q.o |> q.o' > x/Tupfile
+echo ': |> echo 1 > p.o |> p.o' > y/Tupfile
+row "a folder that asks for what another makes" 0 'read x;read y;run y: echo 1 > p.o;run x: cat ../y/p.o > q.o;done: 2 read, 2 run, 0 removed;' upd
+echo ': ../x/*.o |> cat %f > p.o |> p.o' > y/Tupfile
+row "folders that wait for each other" 5 'fault: directories wait for each other: x -> y -> x;' upd
+file "what was made stands" x/q.o 1
+project ': <g> |> cat %<g> > a.o |> a.o <h>' ': <h> |> cat %<h> > b |> b <g>'
+row "commands that wait for each other" 5 'fault: commands wait for each other: .: cat b > a.o -> .: cat a.o > b -> .: cat b > a.o;' upd
+project ': <none> |> cat %<none> > b |> b'
+row "a group that no rule gives to" 5 'fault: no rule gives to <none>;' upd
 
 # Commands that are run through another program.
 project "$copy"
@@ -249,24 +293,52 @@ row "a folder at the store" 7 'fault: the file tree or the store failed;' upd
 said './.tup/db: a link or a special file stands here'
 gone "nothing was made" b
 
+# Names.
+project "$copy"
+touch -- 'a b' "$(printf 'n\377')" "$(printf 'tab\t')" '-n' '~' '*'
+row "files with names that tup doesn't see" 0 "$done_copy" upd
+same "they stay" "$(ls | wc -l)" 9
+wide=$(repeated 255 n | tr -d ' ')
+project ": $wide |> cp $wide b |> b" ": b |> cp b ${wide%n}o |> ${wide%n}o"
+echo long > "$wide"
+row "names of 255 bytes" 0 "read .;run .: cp $wide b;run .: cp b ${wide%n}o;done: 1 read, 2 run, 0 removed;" upd
+file "the file of such a name" "${wide%n}o" long
+project ": a |> cp a ${wide}n |> ${wide}n"
+row "a name of 256 bytes" 5 'fault: Tupfile:1: output stands elsewhere, read for .;' upd
+bad "a place that is too long for the system" "cp $(repeated 17 "$wide" | tr ' ' /)a b" 'status 1'
+project "$copy"
+mkdir "$wide"
+for i in 1 2 3 4 5 6 7 8 9 10 11 12 13 14 15 16; do mkdir w && mv "$wide" w && mv w "$wide"; done
+row "a file whose place is too long for the system" 7 'fault: the file tree or the store failed;' upd
+same "it is named" "$(sed "s/$wide/N/g" "$work/said")" "tup: ./N/N/N/N/N/N/N/N/N/N/N/N/N/N/N/N: File name too long (os error 36)"
+gone "nothing was made" b
+project "$copy"
+mkdir gone && cd gone && rmdir ../gone
+row "a folder that was removed" 7 'fault: the file tree or the store failed;' upd
+said './.tup: No such file or directory (os error 2)'
+
 # What a hurried user does wrong.
 line() {
     project "$2"
-    row "$1" 5 'fault: Tupfile:1: unknown line, read for .;' upd
+    row "$1" 5 "fault: Tupfile:1: $3, read for .;" upd
     gone "$1, nothing was made" b
 }
-line "a shell's arrow in place of the rule's" ': a > b'
-line "no output" ': a |> cp a b |>'
-line "a rule of make" 'b: a'
-line "a tab" "$(printf ':\ta |> cp a b |> b')"
-line "line ends of another system" "$(printf ': a |> cp a b |> b\r')"
-line "a byte order mark" "$(printf '\357\273\277: a |> cp a b |> b')"
-line "an output in a folder" ': a |> cp a sub/b |> sub/b'
-line "an output above the project" ': a |> cp a ../b |> ../b'
-line "the Tupfile as an output" ': a |> cp a Tupfile |> Tupfile'
-line "two outputs" ': a |> echo x > b |> b c'
-project "$copy # a copy"
-row "a comment behind a rule" 5 'fault: Tupfile:1: unknown line, read for .;' upd
+line "a shell's arrow in place of the rule's" ': a > b' 'a rule has two arrows'
+line "a rule of make" 'b: a' 'unknown line'
+line "a byte order mark" "$(printf '\357\273\277: a |> cp a b |> b')" 'unknown line'
+line "an output in a folder" ': a |> cp a sub/b |> sub/b' 'output stands elsewhere'
+line "an output above the project" ': a |> cp a ../b |> ../b' 'output stands elsewhere'
+line "the Tupfile as an output" ': a |> cp a Tupfile |> Tupfile' 'output stands elsewhere'
+line "a comment behind a rule" "$copy # a copy" 'output is a source file'
+line "a word that isn't UTF-8" "$(printf ': a |> cp a b |> b\377')" 'not UTF-8'
+project "$(printf ':\ta |> cp a b |>\tb\r')"
+row "tabs, and line ends of another system" 0 "$done_copy" upd
+project ': a |> cp a b |>'
+row "no output" 1 'read .;bad .: cp a b;fault: .: cp a b: writes b;' upd
+gone "nothing was made" b
+project ': a |> echo x > b |> b c'
+row "an output more than is made" 1 "read .;bad .: echo x > b;fault: .: echo x > b: doesn't write c;" upd
+gone "nothing was made" b
 project ': b |> cp b c |> c' "$copy"
 row "a rule before the one that makes its input" 5 'fault: Tupfile:1: missing input, read for .;' upd
 project ': b |> cp b b |> b'
@@ -301,13 +373,13 @@ row "a word behind --version" 2 'fault: usage, word 1;' --version upd
 
 project ': big |> cp big b |> b'
 truncate -s 16777217 big
-row "a file that is too large" 11 'read .;fault: limit FileSize, 16777217;' upd
+row "a file that is too large" 11 'fault: limit FileSize, 16777217;' upd
 project
 truncate -s 16777217 Tupfile
 row "a Tupfile that is too large" 11 'fault: limit FileSize, 16777217;' upd
 project "$copy"
 truncate -s 16777217 big
-row "a large file that nobody reads" 0 "$done_copy" upd
+row "a large file that nobody asks for" 11 'fault: limit FileSize, 16777217;' upd
 
 rules=$(awk 'BEGIN { p = "a"; for (i = 1; i <= 200; i++) { printf ": %s |> cp %s f%d |> f%d\n", p, p, i, i; p = "f" i } }')
 project "$rules"
@@ -329,6 +401,17 @@ if [ "$(id -u)" = 0 ] && mkdir "$work/small" && mount -t tmpfs -o size=64k none 
     mount -o remount,size=1m "$work/small"
     row "room was made" 0 'read .;run .: cp a b;run .: cp b c;done: 1 read, 2 run, 0 removed;' upd
     same "room was made, the last file" "$(wc -c < c)" 24576
+    mount -o remount,ro "$work/small"
+    row "a disk that may only be read" 7 'fault: the file tree or the store failed;' upd
+    said './.tup/new: Read-only file system (os error 30)'
+    same "what was made stands" "$(wc -c < c)" 24576
+    project "$copy"
+    umount "$work/small"
+    mkdir .tup && mount -t tmpfs -o size=64k none .tup
+    row "the program's folder on another disk" 0 "$done_copy" upd
+    file "what was made" b hi
+    same "nothing else was" "$(ls -A | tr '\n' ' ')" '.tup Tupfile a b '
+    cd "$work" && umount "$work/$count/.tup"
 else
     echo "passed over: a full disk"
 fi
@@ -349,12 +432,21 @@ if [ "$(id -u)" = 0 ] && command -v setpriv > /dev/null; then
     file "its source" a hi
     project "$copy"
     chmod 777 . && chmod 600 a
-    nobody "a source without permission" 'read .;fault: the file tree or the store failed;'
+    nobody "a source without permission" 'fault: the file tree or the store failed;'
     said './a: Permission denied (os error 13)'
     project "$copy"
     chmod 777 . && mkdir -m 700 sub
     nobody "a folder that nobody may look into" 'fault: the file tree or the store failed;'
     said './sub: Permission denied (os error 13)'
+    project "$copy"
+    chmod 777 . && "$tup" > /dev/null
+    nobody "a store that the superuser made" 'read .;fault: the file tree or the store failed;'
+    said './.tup/db.new: Permission denied (os error 13)'
+    file "what was made stands" b hi
+    project "$copy"
+    chmod 777 . && chmod 600 Tupfile
+    nobody "a Tupfile without permission" 'fault: the file tree or the store failed;'
+    said './Tupfile: Permission denied (os error 13)'
 else
     echo "passed over: files without permission"
 fi

@@ -20,15 +20,15 @@ use tup_top::{Order, Status, Word, order_of, tup};
 use words::words;
 
 const HELP: &str = "\
-tup makes the files that the Tupfile of this folder asks for.
+tup makes the files that the Tupfiles of this folder and of those below it ask for.
 
-  tup, tup upd    update: remove the files of vanished rules, run every rule in order
+  tup, tup upd    update: remove the files of vanished rules, run every rule behind those that it waits for
   tup demo        show an update of a small project in memory
   tup --proc P    update, each command run through the program P; also tup upd --proc P
   tup --help      print this
   tup --version   print the version
 
-Exit numbers: 0 done, 1 a command's fault, 2 usage, 4 damaged store, 5 fault in a Tupfile,
+Exit numbers: 0 done, 1 a command's fault, 2 usage, 4 damaged store, 5 fault of the Tupfiles,
 7 the file tree or the store failed, 8 the runner failed, 9 the output failed, 11 over a limit, 12 no memory.
 ";
 

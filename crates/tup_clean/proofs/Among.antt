@@ -8,7 +8,7 @@ use Rattle.tup_rule.specs.declared.rule.Rule.{Rule}
 use Rattle.tup_path.proofs.Same.{same_path-decides}
 use Rattle.tup_rule.proofs.Laws.{among-decides, is_generated-at, maker-Some}
 use Rattle.tup_rule.specs.Rule.{among, writes, maker, is_generated}
-use Rattle.tup_clean.specs.InOrder.{IsOutputAt}
+use Rattle.tup_clean.specs.Buildable.{IsOutputAt}
 use Rattle.tup_clean.proofs.Places.{position_any}
 
 pub same_path-itself : (path : Names) → same_path path path ≡ true

@@ -1,5 +1,5 @@
 -- The test that counts its steps looks at all declared producers: as many steps as there are rules are enough.
-use Rattle.std.proofs.Common.{◌≡◌, ℕ, zero, suc, ◌<◌, ◌≤◌, Bool, true, false, ◌&&◌, ◌||◌, List, [], ◌∷◌, ◌++◌, length, Option, None, Some, refl, sym, ap, ◌∙◌, subst, inl, inr, arith}
+use Rattle.std.proofs.Common.{◌≡◌, ℕ, zero, suc, ◌<◌, Bool, true, false, ◌&&◌, ◌||◌, List, [], ◌∷◌, ◌++◌, length, Option, None, Some, refl, sym, ap, ◌∙◌, subst, inl, inr, arith}
 use Rattle.std.specs.Prelude.{nat_eq, slice_get}
 use Rattle.std.specs.List.{IsDistinct, AllByRecursion, list_any}
 use Rattle.std.proofs.lemmas.Bool.{true≢false, false≢true, cases_Bool, or_cases, and_parts, eqb-true}
@@ -49,7 +49,7 @@ cut rules rule first makes other next (third ∷ more) at walk distinct found =
       | inr later ↦ cut rules rule first makes walk.1.0 third more at walk.1.2 distinct.1 later
     ]
 
-none_of : (number : ℕ) (list : List ℕ) → list_any (nat_eq number) list ≡ false → AllByRecursion (λ other. nat_eq number other ≡ false) list
+pub none_of : (number : ℕ) (list : List ℕ) → list_any (nat_eq number) list ≡ false → AllByRecursion (λ other. nat_eq number other ≡ false) list
 none_of number [] apart = tt
 none_of number (other ∷ list) apart = (first (nat_eq number other) apart, none_of number list (rest (nat_eq number other) apart))
   where

@@ -1,5 +1,5 @@
 -- A command that was run over the files of a build has the verdict of its rule.
-use Rattle.std.proofs.Common.{◌≡◌, ℕ, ◌+◌, List, [], length, Option, Some, refl, sym, ap, ◌∙◌, subst, arith}
+use Rattle.std.proofs.Common.{◌≡◌, ℕ, List, [], length, Option, Some, sym, ap, ◌∙◌, subst, arith}
 use Rattle.std.proofs.lemmas.Option.{same_Some}
 use Rattle.tup_path.specs.Name.{Names, Content}
 use Rattle.tup_path.specs.Tree.{Tree}
@@ -10,8 +10,8 @@ use Rattle.tup_runner.specs.Refusal.{Refusal}
 use Rattle.tup_runner.specs.declared.fault.ViewFailed.{ViewFailed}
 use Rattle.tup_runner.specs.declared.step.Ended.{Ended}
 use Rattle.tup_access.specs.Access.{access}
-use Rattle.tup_access.specs.Answered.{AreAnswered, HasSeen}
-use Rattle.tup_access.specs.Judge.{Judged, IsJudged, bad, judge}
+use Rattle.tup_access.specs.Answered.{HasSeen}
+use Rattle.tup_access.specs.Judge.{Judged, IsJudged, judge}
 use Rattle.tup_access.specs.Verdict.{verdict}
 use Rattle.tup_access.specs.declared.verdict.Verdict.{Verdict}
 use Rattle.tup_access.specs.declared.verdict.Access.TheVariants.{No}

@@ -2,8 +2,11 @@ pub mod Places
 pub mod Among
 pub mod VerdictLaws
 pub mod FilesPut
-pub mod InOrderLaws
-pub mod CleanLaws
+pub mod Putting
+pub mod Standing
+pub mod Acyclic
+pub mod Turns
+pub mod Agreeing
 pub mod Sorted
 pub mod Growing
 pub mod Building

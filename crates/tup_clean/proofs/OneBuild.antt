@@ -23,7 +23,7 @@ use Rattle.tup_clean.specs.AnyOrder.{MakeApart, AreProducersGood, MayBeTaken, Is
 use Rattle.tup_clean.proofs.Places.{some_place, position_found, zip_first}
 use Rattle.tup_clean.proofs.Among.{is_generated-maker}
 use Rattle.tup_clean.proofs.Growing.{none_good, stays_good, was_good}
-use Rattle.tup_clean.proofs.InOrderLaws.{declared_since}
+use Rattle.tup_clean.proofs.Putting.{declared_since}
 use Rattle.tup_clean.proofs.MayTake.{IsClosed, first_may, may_first}
 use Rattle.tup_clean.proofs.Whole.{IsGoing, good_is, is_good_at, verdict_set, none_at_start, going_start, going_more, going_on, whole_over, same_after}
 
@@ -35,18 +35,18 @@ missing [] = 0
 missing (None ∷ verdicts) = suc (missing verdicts)
 missing (Some outcome ∷ verdicts) = missing verdicts
 
-missing_all : (n : ℕ) → missing (replicate n None) ≡ n
+pub missing_all : (n : ℕ) → missing (replicate n None) ≡ n
 missing_all zero = refl
 missing_all (suc n) = ap suc (missing_all n)
 
-missing_less : (verdicts : List (Option Verdict)) (at : ℕ) (outcome : Verdict) → slice_get verdicts at ≡ Some None → suc (missing (slice_set verdicts at (Some outcome))) ≡ missing verdicts
+pub missing_less : (verdicts : List (Option Verdict)) (at : ℕ) (outcome : Verdict) → slice_get verdicts at ≡ Some None → suc (missing (slice_set verdicts at (Some outcome))) ≡ missing verdicts
 missing_less [] at outcome untaken = absurd (none-some None untaken)
 missing_less (None ∷ verdicts) zero outcome untaken = refl
 missing_less (Some other ∷ verdicts) zero outcome untaken = absurd (none-some other (sym (same_Some _ _ untaken)))
 missing_less (None ∷ verdicts) (suc at) outcome untaken = ap suc (missing_less verdicts at outcome untaken)
 missing_less (Some other ∷ verdicts) (suc at) outcome untaken = missing_less verdicts at outcome untaken
 
-none_missing : (verdicts : List (Option Verdict)) (at : ℕ) → missing verdicts ≤ 0 → slice_get verdicts at ≡ Some None → ⊥
+pub none_missing : (verdicts : List (Option Verdict)) (at : ℕ) → missing verdicts ≤ 0 → slice_get verdicts at ≡ Some None → ⊥
 none_missing [] at none untaken = none-some None untaken
 none_missing (None ∷ verdicts) at none untaken = absurd (omega arith)
 none_missing (Some other ∷ verdicts) zero none untaken = none-some other (sym (same_Some _ _ untaken))

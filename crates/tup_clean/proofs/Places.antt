@@ -1,5 +1,5 @@
--- Facts about the places of lists, on which the laws of builds in order stand.
-use Rattle.std.proofs.Common.{◌≡◌, ℕ, zero, suc, ◌+◌, ◌<◌, ◌≤◌, Bool, true, false, List, [], ◌∷◌, ◌++◌, length, get_or, Some, replicate, refl, ap, arith, inl, inr}
+-- Facts about the places of lists.
+use Rattle.std.proofs.Common.{◌≡◌, ◌⊎◌, ℕ, zero, suc, ◌<◌, Bool, true, false, List, [], ◌∷◌, length, get_or, Some, replicate, refl, sym, ap, arith, inl, inr}
 use Rattle.std.proofs.lemmas.Bool.{cases_Bool, false≢true, lt-ltb}
 use Rattle.std.proofs.lemmas.Option.{same_Some, none-some, slice_get-get_or, slice_get_within, get_or_from_slice_get}
 use Rattle.std.proofs.lemmas.List.Sums.{position_or_len_is}
@@ -26,24 +26,23 @@ set_apart (y ∷ xs) zero (suc k) x apart = refl
 set_apart (y ∷ xs) (suc i) zero x apart = refl
 set_apart (y ∷ xs) (suc i) (suc k) x apart = set_apart xs i k x (λ same. apart (ap suc same))
 
--- ---- a front of one element, and then another
+-- what stands at a place after a write was written, or stood there before
+pub set_cases : {A : Type 0} (xs : List A) (i k : ℕ) (x y : A) → slice_get (slice_set xs i x) k ≡ Some y → (y ≡ x) ⊎ (slice_get xs k ≡ Some y)
+set_cases [] i k x y e = inr e
+set_cases (z ∷ xs) zero zero x y e = inl (sym (same_Some x y e))
+set_cases (z ∷ xs) zero (suc k) x y e = inr e
+set_cases (z ∷ xs) (suc i) zero x y e = inr e
+set_cases (z ∷ xs) (suc i) (suc k) x y e = set_cases xs i k x y e
 
-pub front_here : {A : Type 0} (x y : A) (n m k : ℕ) → k < n → slice_get (replicate n x ++ replicate m y) k ≡ Some x
-front_here x y zero m k below = absurd (omega arith)
-front_here x y (suc n) m zero below = refl
-front_here x y (suc n) m (suc k) below = front_here x y n m k (omega arith)
-
-pub front_past : {A : Type 0} (x y : A) (n m k : ℕ) → n ≤ k → k < n + m → slice_get (replicate n x ++ replicate m y) k ≡ Some y
-front_past x y zero zero k above below = absurd (omega arith)
-front_past x y zero (suc m) zero above below = refl
-front_past x y zero (suc m) (suc k) above below = front_past x y zero m k (omega arith) (omega arith)
-front_past x y (suc n) m zero above below = absurd (omega arith)
-front_past x y (suc n) m (suc k) above below = front_past x y n m k (omega arith) (omega arith)
-
--- the first of the others is written
-pub front_more : {A : Type 0} (x y : A) (n m : ℕ) → slice_set (replicate n x ++ replicate (suc m) y) n x ≡ replicate (suc n) x ++ replicate m y
-front_more x y zero m = refl
-front_more x y (suc n) m = ap (λ rest. x ∷ rest) (front_more x y n m)
+-- a list with one element everywhere
+pub all_replicate : {A : Type 0} (n : ℕ) (x : A) (xs : List A) → length xs ≡ n → ((k : ℕ) → k < n → slice_get xs k ≡ Some x) → xs ≡ replicate n x
+all_replicate zero x [] long each = refl
+all_replicate zero x (y ∷ ys) long each = absurd (omega (arith, long))
+all_replicate (suc n) x [] long each = absurd (omega (arith, long))
+all_replicate (suc n) x (y ∷ ys) long each =
+    let head : y ≡ x = same_Some y x (each 0 (omega arith)) in
+    let rest = all_replicate n x ys (omega (arith, long)) (λ k below. each (suc k) (omega arith)) in
+    λ i. head i ∷ rest i
 
 -- ---- the first that passes
 

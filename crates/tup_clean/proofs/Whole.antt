@@ -25,7 +25,7 @@ use Rattle.tup_clean.proofs.Places.{some_place, set_here, set_apart}
 use Rattle.tup_clean.proofs.Among.{is_generated-maker}
 use Rattle.tup_clean.proofs.VerdictLaws.{cases_Good, verdict-leaves}
 use Rattle.tup_clean.proofs.Growing.{none_good, stays_good}
-use Rattle.tup_clean.proofs.InOrderLaws.{declared_since, get-put_good, get-put_apart}
+use Rattle.tup_clean.proofs.Putting.{declared_since, get-put_good, get-put_apart}
 
 -- what a build under way is
 pub record IsGoing (next : Next) (rules : List Rule) (sources : Tree) (build : Build) : Type 0 where

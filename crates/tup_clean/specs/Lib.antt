@@ -1,9 +1,10 @@
 pub mod AnyOrder
 pub mod Clean
 pub mod Cleaned
+pub mod Taken
 pub mod Ran
 pub mod Denial
-pub mod InOrder
+pub mod Buildable
 pub mod Makers
 pub mod Queue
 pub mod Ready

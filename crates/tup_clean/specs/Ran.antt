@@ -1,11 +1,11 @@
 -- What the runner of a clean build runs, and when it is the runner that failed.
-use Rattle.std.specs.Prelude.{◌≡◌, ◌⊎◌, ℕ, zero, suc, List, [], ◌∷◌, ◌++◌, length, None, Some, Result, Ok, Err, slice_get}
+use Rattle.std.specs.Prelude.{◌≡◌, ◌⊎◌, ℕ, List, [], ◌∷◌, ◌++◌, map, Result, Ok, Err}
 use Rattle.tup_path.specs.Count.{Rose}
 use Rattle.tup_path.specs.Name.{Names}
 use Rattle.tup_path.specs.Tree.{Tree}
 use Rattle.tup_rule.specs.declared.rule.Rule.{Rule}
 use Rattle.tup_runner.specs.Next.{Next}
-use Rattle.tup_clean.specs.Clean.{Build, first_ready, given, start}
+use Rattle.tup_clean.specs.Taken.{Taken, rules_taken, takes}
 use Rattle.tup_clean.specs.declared.fault.CleanFault.{CleanFault}
 use Rattle.tup_clean.specs.declared.fault.CleanFault.TheVariants.{Run, Memory}
 
@@ -13,18 +13,13 @@ use Rattle.tup_clean.specs.declared.fault.CleanFault.TheVariants.{Run, Memory}
 abbrev pub command_of : Rule → Names × List ℕ
 command_of rule = (rule.dir, rule.text)
 
--- the commands of the rules that a build takes from here on, in their order
-abbrev pub commands_on : ℕ → Next → List Rule → Build → List (Names × List ℕ)
-commands_on zero next rules build = []
-commands_on (suc steps) next rules build =
-    elim (first_ready rules build.verdicts) [
-      | None ↦ []
-      | Some at ↦ elim (slice_get rules at) [ Some rule ↦ command_of rule ∷ commands_on steps next rules (given next rules build at rule) | None ↦ [] ]
-    ]
+-- the commands of rules that were taken, in their order
+abbrev pub commands_of : List Rule → List Taken → List (Names × List ℕ)
+commands_of rules taken = map command_of (rules_taken rules taken)
 
 -- the commands of a clean build
-unfoldable pub commands : Next → List Rule → Tree → List (Names × List ℕ)
-commands next rules sources = commands_on (length rules) next rules (start rules sources)
+abbrev pub commands : Next → List Rule → Tree → List (Names × List ℕ)
+commands next rules sources = commands_of rules (takes next rules sources)
 
 -- a run that was stopped ran its command; where there was no memory, perhaps not
 abbrev pub BeginsOne : CleanFault → Names × List ℕ → List (Names × List ℕ) → List (Names × List ℕ) → Type 0

@@ -3,7 +3,8 @@ ghost use Rattle.std.specs.Prelude.{◌≡◌, None, IsTrue, IfOk, OnOk, length,
 ghost use Rattle.std.specs.FinMap as finite;
 ghost use Rattle.tup_path.specs.Order.{by_names};
 ghost use Rattle.tup_clean.specs.Cleaned.{IsCleaned, build, builds_all};
-ghost use Rattle.tup_clean.specs.Ran.{RunsAll, CountsFaults, commands, commands_on};
+ghost use Rattle.tup_clean.specs.Ran.{RunsAll, CountsFaults, commands, commands_of};
+ghost use Rattle.tup_clean.specs.Taken.{takes_on};
 
 use crate::Cleaned;
 use crate::fault::CleanFault;
@@ -65,7 +66,8 @@ fn build_on<R: Runner>(
     ensures built { IsTrue R.tells → OnOk result (build tree.new verdicts.new
         ≡ builds_all R.next rules.now (build tree.old verdicts.old)) }
     ensures ran { IsTrue R.tells → IsTrue R.tells_ran
-        → RunsAll (commands_on (length rules.now) R.next rules.now (build tree.old verdicts.old))
+        → let all = takes_on (length rules.now) R.next rules.now (build tree.old verdicts.old) in
+        RunsAll (commands_of rules.now all)
         (R.ran runner.old) (R.ran runner.new) result }
     ensures cause { CountsFaults (R.faults runner.old) (R.faults runner.new) result }
 {

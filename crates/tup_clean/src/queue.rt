@@ -13,9 +13,9 @@ use tup_access::Verdict;
 use tup_path::Items;
 use tup_rule::Rule;
 
-/// The rules that were not taken yet.
+/// The rules of a build that were not taken yet, with what they wait for.
 #[derive(Drop)]
-pub(crate) struct Queue {
+pub struct Queue {
     /// For each rule, how many makers of what it declares aren't Good, one counted as often as it is declared.
     waits: Vec<usize>,
     /// For each rule, the rules that declare what it makes, one as often as it declares such a path.
@@ -26,7 +26,7 @@ pub(crate) struct Queue {
 
 impl Queue {
     /// The queue of all rules, none of them Good.
-    pub(crate) fn new(alloc: Global, rules: &[Rule]) -> Result<Queue, AllocError>
+    pub fn new(alloc: Global, rules: &[Rule]) -> Result<Queue, AllocError>
         ensures { IfOk result (IsWhole rules.now) }
     {
         let makers = makers(alloc, rules)?;
@@ -57,7 +57,7 @@ impl Queue {
     }
 
     /// Takes the first rule that is ready; it takes no memory.
-    pub(crate) fn next(&mut self) -> Option<usize>
+    pub fn next(&mut self) -> Option<usize>
         ensures { (rules : List RuleValue) (left good : ℕ → Bool) → IsQueue rules left good self.old
             → IsNext rules left good result self.new }
     {
@@ -65,7 +65,7 @@ impl Queue {
     }
 
     /// Notes the verdict of a rule: where it is Good, its readers wait for it no longer.
-    pub(crate) fn note(&mut self, at: usize, verdict: &Verdict) -> Result<(), AllocError>
+    pub fn note(&mut self, at: usize, verdict: &Verdict) -> Result<(), AllocError>
         requires { CanRelease at self.old }
         ensures { OnOk result (Notes at (is_good_verdict (Some verdict.now)) self.old self.new) }
     {

@@ -24,7 +24,7 @@ use Rattle.tup_core.specs.Sound.{IsQuiet}
 use Rattle.tup_core.specs.Honest.{IsHonest}
 use Rattle.tup_core.specs.Kept.{Kept}
 use Rattle.tup_core.specs.Planned.{IsPlanned, sources_of, clean_of}
-use Rattle.tup_core.proofs.Acyclic.{Passes, placed, by_producers}
+use Rattle.tup_clean.proofs.Acyclic.{Passes, placed, by_producers}
 use Rattle.tup_core.proofs.Changed.{changed_cases}
 use Rattle.tup_core.proofs.Orderly.{IsOrderly, orderly_after, orderly_opening, finished_is, claimed_stays}
 use Rattle.tup_core.proofs.NeverStuck.{Reason, by_running, by_bad, by_stop, IsAccounted, accounted_opening, accounted_run}

@@ -33,7 +33,7 @@ use Rattle.tup_core.specs.Honest.{EndsHonestly, IsHonest, stamped}
 use Rattle.tup_core.specs.Kept.{Kept}
 use Rattle.tup_core.specs.Planned.{IsPlanned, sources_of, clean_of}
 use Rattle.tup_core.specs.Laws.{EndAsIn}
-use Rattle.tup_core.proofs.Acyclic.{placed, by_producers}
+use Rattle.tup_clean.proofs.Acyclic.{placed, by_producers}
 use Rattle.tup_core.proofs.Changed.{changed_cases}
 use Rattle.tup_core.proofs.Orderly.{IsOrderly, orderly_after, orderly_opening, finished_is}
 use Rattle.tup_core.proofs.Counted.{AreCounted, counted_after}

@@ -2,7 +2,6 @@ mod Changed
 mod Orderly
 mod Places
 mod Counted
-mod Acyclic
 mod Settled
 mod Opening
 pub mod ClaimedOnce

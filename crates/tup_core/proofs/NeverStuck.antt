@@ -19,7 +19,7 @@ use Rattle.tup_core.specs.declared.running.Running.{Running}
 use Rattle.tup_core.specs.Step.{State, changed, opening, IsEnabled, asked, refused, emptied, stopped_by, ended, after}
 use Rattle.tup_core.specs.Run.{IsRun, end_of}
 use Rattle.tup_core.specs.Sound.{IsAcyclic, IsInRange, IsStuck}
-use Rattle.tup_core.proofs.Acyclic.{by_producers}
+use Rattle.tup_clean.proofs.Acyclic.{by_producers}
 use Rattle.tup_core.proofs.Changed.{changed_cases, changed_here}
 use Rattle.tup_core.proofs.Orderly.{IsOrderly, orderly_after, orderly_opening, finished_is}
 

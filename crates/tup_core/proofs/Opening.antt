@@ -26,7 +26,7 @@ use Rattle.tup_access.proofs.Steps.{verdict_after-End}
 use Rattle.tup_clean.specs.AnyOrder.{MakeApart, AreProducersGood, IsWhole}
 use Rattle.tup_clean.proofs.Among.{is_generated-maker}
 use Rattle.tup_clean.proofs.FilesPut.{each_with}
-use Rattle.tup_clean.proofs.InOrderLaws.{declared_since}
+use Rattle.tup_clean.proofs.Putting.{declared_since}
 use Rattle.tup_clean.proofs.OneBuild.{clean_whole}
 use Rattle.tup_core.specs.declared.plan.Plan.{Plan}
 use Rattle.tup_core.specs.Step.{is_reached, opening}
@@ -34,7 +34,7 @@ use Rattle.tup_core.specs.Sound.{HasOneMaker, IsAcyclic}
 use Rattle.tup_core.specs.Honest.{AreAnswered, stamped}
 use Rattle.tup_core.specs.Kept.{Kept, Owner, AreRecorded, IsTrueRecord, IsCurrent, IsKept}
 use Rattle.tup_core.specs.Planned.{IsPlanned, sources_of, clean_of}
-use Rattle.tup_core.proofs.Acyclic.{by_producers}
+use Rattle.tup_clean.proofs.Acyclic.{by_producers}
 use Rattle.tup_core.proofs.Settled.{IsSettled, IsSameAt, settled_same, each_at, stamped_each, settled_from}
 use Rattle.tup_core.proofs.Verdicts.{IsAsOver, as_many, goes_to}
 

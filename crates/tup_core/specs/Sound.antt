@@ -5,7 +5,7 @@ use Rattle.tup_path.specs.Resolve.{resolve}
 use Rattle.tup_stamp.specs.declared.Stamp.{Stamp}
 use Rattle.tup_rule.specs.declared.rule.Rule.{Rule}
 use Rattle.tup_rule.specs.Rule.{writes}
-use Rattle.tup_rule.specs.Producer.{DeclaredProducer}
+use Rattle.tup_clean.specs.Buildable.{NoneWaitsForItself}
 use Rattle.tup_access.specs.Access.{may_read}
 use Rattle.tup_core.specs.declared.plan.Plan.{Plan}
 use Rattle.tup_core.specs.Step.{State, IsReady, is_reached, told}
@@ -18,7 +18,7 @@ HasOneMaker plan =
 
 -- no rule waits for itself
 abbrev pub IsAcyclic : List Rule → Type 0
-IsAcyclic rules = (at : ℕ) (rule : Rule) → slice_get rules at ≡ Some rule → DeclaredProducer rules rule at → ⊥
+IsAcyclic rules = NoneWaitsForItself rules
 
 -- the numbers of the reach are places of rules
 abbrev pub IsInRange : Plan → Type 0

@@ -1,8 +1,8 @@
 -- What a site over real files keeps of its failures. Own.
 use Rattle.std.specs.Prelude.{Option, Some, Result, Ok, Err}
-use Rattle.tup_fs.specs.declared.failure.Failure.{Failure}
-use Rattle.tup_fs.specs.declared.failure.Refused.{Refused}
-use Rattle.tup_fs.specs.declared.failure.Refused.TheVariants.{Memory, Failed}
+use Rattle.tup_disk.specs.declared.failure.Failure.{Failure}
+use Rattle.tup_disk.specs.declared.failure.Refused.{Refused}
+use Rattle.tup_disk.specs.declared.failure.Refused.TheVariants.{Memory, Failed}
 
 -- the last failure after an answer: the one that it names, or else the one before
 abbrev pub last_after : {T : Type 0} → Result T Refused → Option Failure → Option Failure

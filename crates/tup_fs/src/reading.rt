@@ -2,12 +2,12 @@
 ghost use Rattle.std.specs.Prelude.{IfOk};
 ghost use Rattle.tup_fs.specs.Found.{IsWithin};
 
-use crate::failure::Refused;
-use crate::top::{Standing, Top};
+use crate::tree::Tree;
 use std::fs::File;
 use std::io;
 use std::io::{ErrorKind, Read};
 use std::rt::Files;
+use tup_disk::{Refused, Standing};
 use tup_path::{Bytes, Path};
 use tup_site::MAX_FILE_BYTES;
 
@@ -21,16 +21,16 @@ pub(crate) enum Found {
     TooLarge(u64),
 }
 
-impl<R: Files<File = File> + Clone + Drop> Top<R> {
+impl<R: Files<File = File> + Clone + Drop> Tree<R> {
     /// What the file at a path holds. A file that is too large isn't read.
     pub fn find(&mut self, path: &Path) -> Result<Found, Refused>
         ensures { IfOk result IsWithin }
     {
-        if self.standing_above(path)? != Standing::Folder {
+        if self.disk.standing_above(path)? != Standing::Folder {
             return Ok(Found::Nothing);
         }
-        let place = self.place(path.names())?;
-        match self.standing(place.as_str())? {
+        let place = self.disk.place(path.names())?;
+        match self.disk.standing(place.as_str())? {
             Standing::File(len) if len > MAX_FILE_BYTES => Ok(Found::TooLarge(len)),
             Standing::File(_) => self.read(place.as_str()),
             _ => Ok(Found::Nothing),
@@ -41,11 +41,10 @@ impl<R: Files<File = File> + Clone + Drop> Top<R> {
     fn read(&self, place: &str) -> Result<Found, Refused>
         ensures { IfOk result IsWithin }
     {
-        let mut bytes = Vec::new(self.alloc);
+        let mut bytes = Vec::new(self.disk.alloc);
         match self.read_into(&mut bytes, place) {
-            Ok(()) => {}
             Err(e) if e.kind() == ErrorKind::OutOfMemory => return Err(Refused::Memory),
-            Err(e) => return Err(self.refused(place, e)),
+            done => self.disk.at(place, done)?,
         }
         let len = bytes.len() as u64;
         if len > MAX_FILE_BYTES {
@@ -55,7 +54,7 @@ impl<R: Files<File = File> + Clone + Drop> Top<R> {
     }
 
     fn read_into(&self, bytes: &mut Vec<u8>, place: &str) -> io::Result<()> {
-        File::open(&self.rt, place)?
+        File::open(&self.disk.rt, place)?
             .take(MAX_FILE_BYTES + 1)
             .read_to_end(bytes)?;
         Ok(())

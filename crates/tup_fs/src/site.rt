@@ -4,12 +4,13 @@ ghost use Rattle.std.specs.FinMap as finite;
 ghost use Rattle.tup_fs.specs.Last.{last_after};
 ghost use Rattle.tup_site.specs.Cause.{CountsFaults, NeverTooLarge};
 
-use crate::failure::{Failure, Refused};
 use crate::reading::Found;
-use crate::top::Top;
+use crate::tree::Tree;
 use std::alloc::{AllocError, Global};
 use std::fs::File;
 use std::rt::Files;
+use tup_db::Store;
+use tup_disk::{Failure, Refused};
 use tup_path::{Bytes, Path, Paths};
 use tup_site::{Site, SiteFailed};
 
@@ -17,7 +18,8 @@ use tup_site::{Site, SiteFailed};
 /// faults: each failing call of the system is one.
 #[derive(Drop)]
 pub struct FsSite<R: Files<File = File> + Clone + Drop> {
-    top: Top<R>,
+    tree: Tree<R>,
+    store: Store<R>,
     lock: Option<File>,
     last: Option<Failure>,
     faults: u64,
@@ -27,8 +29,11 @@ pub struct FsSite<R: Files<File = File> + Clone + Drop> {
 impl<R: Files<File = File> + Clone + Drop> FsSite<R> {
     /// The files below this folder, which has to be there. It touches nothing yet.
     pub fn new(rt: R, alloc: Global, root: &str) -> Result<FsSite<R>, AllocError> {
+        let tree = Tree::new(rt.clone()?, alloc, root)?;
+        let store = Store::new(rt, alloc, root)?;
         Ok(FsSite {
-            top: Top::new(rt, alloc, root)?,
+            tree,
+            store,
             lock: None,
             last: None,
             faults: 0,
@@ -52,9 +57,9 @@ impl<R: Files<File = File> + Clone + Drop> FsSite<R> {
         if self.lock.is_some() {
             return Ok(());
         }
-        let lock = self.top.lock();
+        let lock = self.tree.disk.lock();
         let lock = self.told(lock)?;
-        let swept = self.top.sweep();
+        let swept = self.store.own.sweep(&self.tree.disk);
         self.told(swept)?;
         self.lock = Some(lock);
         Ok(())
@@ -110,13 +115,13 @@ impl<R: Files<File = File> + Clone + Drop + Send> Site for FsSite<R> {
 
     fn list(&mut self, _alloc: Global) -> Result<Paths, SiteFailed> {
         self.begin()?;
-        let files = self.top.files();
+        let files = self.tree.disk.files();
         Ok(Paths::from_vec(self.told(files)?))
     }
 
     fn get(&mut self, _alloc: Global, path: &Path) -> Result<Option<Bytes>, SiteFailed> {
         self.begin()?;
-        let found = self.top.find(path);
+        let found = self.tree.find(path);
         match self.told(found)? {
             Found::Nothing => Ok(None),
             Found::Content(bytes) => Ok(Some(bytes)),
@@ -126,49 +131,49 @@ impl<R: Files<File = File> + Clone + Drop + Send> Site for FsSite<R> {
 
     fn put(&mut self, _alloc: Global, path: &Path, content: &Bytes) -> Result<(), SiteFailed> {
         self.begin()?;
-        let done = self.top.put(path, content.as_slice());
+        let done = self.tree.put(&self.store.own, path, content.as_slice());
         self.told(done)
     }
 
     fn remove(&mut self, _alloc: Global, path: &Path) -> Result<(), SiteFailed> {
         self.begin()?;
-        let done = self.top.remove(path);
+        let done = self.tree.remove(path);
         self.told(done)
     }
 
     fn settle(&mut self, _alloc: Global) -> Result<(), SiteFailed> {
         self.begin()?;
-        let done = self.top.settle();
+        let done = self.tree.touched.settle(&self.tree.disk);
         self.told(done)
     }
 
     fn db_len(&mut self, _alloc: Global) -> Result<u64, SiteFailed> {
         self.begin()?;
-        let len = self.top.db_len();
+        let len = self.store.len();
         self.told(len)
     }
 
     fn db_read(&mut self, _alloc: Global, at: u64, into: &mut [u8]) -> Result<(), SiteFailed> {
         self.begin()?;
-        let done = self.top.db_read(at, into);
+        let done = self.store.read(at, into);
         self.told(done)
     }
 
     fn db_write(&mut self, _alloc: Global, at: u64, bytes: &[u8]) -> Result<(), SiteFailed> {
         self.begin()?;
-        let done = self.top.db_write(at, bytes);
+        let done = self.store.write(at, bytes);
         self.told(done)
     }
 
     fn db_sync(&mut self, _alloc: Global) -> Result<(), SiteFailed> {
         self.begin()?;
-        let done = self.top.db_sync();
+        let done = self.store.sync();
         self.told(done)
     }
 
     fn db_cut(&mut self, _alloc: Global, len: u64) -> Result<(), SiteFailed> {
         self.begin()?;
-        let done = self.top.db_cut(len);
+        let done = self.store.cut(len);
         self.told(done)
     }
 

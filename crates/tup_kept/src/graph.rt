@@ -128,7 +128,7 @@ impl Graph {
 
     /// Makes edits that the store can take, in one commit of what they change; where they change
     /// nothing, nothing is written.
-    pub(crate) fn commit_edits<S: Site>(
+    pub fn commit_edits<S: Site>(
         &mut self,
         alloc: Global,
         site: &mut S,

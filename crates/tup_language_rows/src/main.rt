@@ -8,7 +8,6 @@ mod glob;
 mod lex;
 mod link;
 mod macros;
-mod parse;
 mod project;
 mod repeated;
 mod vars;
@@ -22,6 +21,5 @@ fn main(rt: HostRuntime) -> io::Result<()> {
     glob::try_rows(&rt, alloc)?;
     flags::try_rows(&rt, alloc)?;
     macros::try_rows(&rt, alloc)?;
-    parse::try_rows(&rt, alloc)?;
     link::try_rows(&rt, alloc)
 }

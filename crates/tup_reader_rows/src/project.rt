@@ -1,5 +1,6 @@
 //! A project in memory, which answers what a reading asks.
 ghost use Rattle.std.specs.Prelude.{◌≡◌, false, IfOk, IsTrue};
+ghost use Rattle.tup_rule.specs.declared.question.Question.TheVariants as asked;
 ghost use Rattle.tup_ask.specs.Log.{fits};
 
 use std::alloc::{AllocError, Global};
@@ -71,7 +72,7 @@ impl Project {
 
     /// What a file holds, if there is one.
     fn content(&self, path: &Path) -> Result<Told, AllocError>
-        ensures { IfOk result (λ told. IsTrue (fits (QuestionValue.Content path.now) told)) }
+        ensures { IfOk result (λ told. IsTrue (fits (asked.Content path.now) told)) }
     {
         match self.files.get(path) {
             Some(content) => Ok(Told::Content(Some(content.clone()?))),
@@ -81,7 +82,7 @@ impl Project {
 
     /// What a name is set to, if it is.
     fn setting(&self, name: &Text) -> Result<Told, AllocError>
-        ensures { IfOk result (λ told. IsTrue (fits (QuestionValue.Config name.now) told)) }
+        ensures { IfOk result (λ told. IsTrue (fits (asked.Config name.now) told)) }
     {
         match self.settings.get(name) {
             Some(value) => Ok(Told::Config(Some(value.clone()?))),
@@ -91,7 +92,7 @@ impl Project {
 
     /// Which files stand in a folder.
     fn names(&self, alloc: Global, dir: &Path) -> Result<Told, AllocError>
-        ensures { IfOk result (λ told. IsTrue (fits (QuestionValue.Names dir.now) told)) }
+        ensures { IfOk result (λ told. IsTrue (fits (asked.Names dir.now) told)) }
     {
         Ok(Told::Names(self.names_in(alloc, dir)?))
     }

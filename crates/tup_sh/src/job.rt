@@ -1,18 +1,17 @@
 //! The command, run and followed.
-use crate::failure::Failure;
+use crate::entries::{Entries, Entry};
 use crate::log::asks;
 use crate::script::{INSIDE, OUTSIDE, WRAP};
 use crate::seen::Seen;
-use crate::tree::{Tree, path_of};
-use crate::words::Words;
-use crate::writes::{Entries, Entry, Writes};
+use crate::writes::Writes;
 use std::alloc::Global;
 use std::fs::File;
 use std::process::{Command, Processes};
 use std::rt::Files;
 use std::{fs, str};
 use tup_path::{Items, Path, Text};
-use tup_proc::{LogLine, write_log};
+use tup_proc::LogLine;
+use tup_started::{Failure, Tree, Words, path_of};
 use tup_trace::{Call, Token, TraceFault, calls};
 use tup_watch::{Account, Act, acts_of};
 
@@ -28,26 +27,23 @@ pub(crate) struct Job<R: Files<File = File> + Processes + Eprint + Clone + Drop>
 pub(crate) fn run<R: Files<File = File> + Processes + Eprint + Clone + Drop>(
     job: &Job<R>,
 ) -> Result<(), Failure> {
-    let dir = path_of(job.alloc, job.words.dir.as_str())?;
-    let tree = job.tree()?;
-    job.start(&tree)?;
-    job.account(tree, dir)
+    let root = job.real(job.words.root.as_str())?;
+    let stage = job.real(job.words.stage.as_str())?;
+    job.run_over(&Tree::read(job.rt.clone()?, job.alloc, root, stage)?)
 }
 
 impl<R: Files<File = File> + Processes + Eprint + Clone + Drop> Job<R> {
-    /// The project, without the rule's own outputs.
-    fn tree(&self) -> Result<Tree<R>, Failure> {
-        let root = self.real(self.words.root.as_str())?;
-        let stage = self.real(self.words.stage.as_str())?;
-        let mut tree = Tree::new(self.rt.clone()?, self.alloc, root, stage);
-        tree.read_own()?;
-        Ok(tree)
-    }
-
     /// A folder as a path without links.
     fn real(&self, place: &str) -> Result<Text, Failure> {
         let runtime = (self.rt.clone()?, self.alloc);
         Ok(Text::from_string(fs::canonicalize(&runtime, place)?.into_string()))
+    }
+
+    /// Runs the command over a project.
+    fn run_over(&self, tree: &Tree<R>) -> Result<(), Failure> {
+        let dir = path_of(self.alloc, self.words.dir.as_str())?;
+        self.start(tree)?;
+        self.account(tree, &dir)
     }
 
     /// Runs the command under the tracer. The scripts print what went wrong.
@@ -81,7 +77,7 @@ impl<R: Files<File = File> + Processes + Eprint + Clone + Drop> Job<R> {
     }
 
     /// Leaves the log of a command that was run.
-    fn account(&self, tree: Tree<R>, dir: Path) -> Result<(), Failure> {
+    fn account(&self, tree: &Tree<R>, dir: &Path) -> Result<(), Failure> {
         let trace = tree.staged_content("trace")?;
         let calls = read_calls(self.alloc, trace.as_slice())?;
         match ending(calls.as_slice()) {
@@ -91,81 +87,57 @@ impl<R: Files<File = File> + Processes + Eprint + Clone + Drop> Job<R> {
     }
 
     /// Follows what the command did.
-    fn follow(&self, tree: Tree<R>, dir: Path, calls: &[Call], status: u8) -> Result<(), Failure> {
-        let folder = tree.source(&dir)?;
+    fn follow(
+        &self,
+        tree: &Tree<R>,
+        dir: &Path,
+        calls: &[Call],
+        status: u8,
+    ) -> Result<(), Failure> {
+        let folder = tree.source(dir)?;
         let acts = acts_of(self.alloc, folder.as_bytes(), calls)?;
-        let mut seen = Seen {
-            tree,
-            account: Account::new(self.alloc),
-        };
-        self.resolve(&mut seen, acts.as_slice())?;
-        self.leave(seen, dir, status)
-    }
-
-    /// Resolves what the command did.
-    fn resolve(&self, seen: &mut Seen<R>, acts: &[Act]) -> Result<(), Failure> {
-        for act in acts {
-            seen.follow(self.alloc, act)?;
-        }
-        Ok(())
+        let account = account_of(self.alloc, tree, acts.as_slice())?;
+        self.leave(tree, dir, &account, status)
     }
 
     /// Leaves what was written, and the log with its end.
-    fn leave(&self, seen: Seen<R>, dir: Path, status: u8) -> Result<(), Failure> {
-        let log = asks(self.alloc, &seen.tree, &dir, seen.account.asks.as_slice())?;
-        let entries = self.entries(&seen.tree)?;
-        self.write(seen, dir, log, entries.as_slice(), status)
+    fn leave(
+        &self,
+        tree: &Tree<R>,
+        dir: &Path,
+        account: &Account,
+        status: u8,
+    ) -> Result<(), Failure> {
+        let mut log = asks(self.alloc, tree, dir, account.asks.as_slice())?;
+        let status = self.keep(tree, dir, account, &mut log, status)?;
+        log.push(LogLine::End { status })?;
+        tree.write_log(log.as_slice())
     }
 
-    /// What stands in the upper folder.
-    fn entries(&self, tree: &Tree<R>) -> Result<Vec<Entry>, Failure> {
+    /// Keeps what was written behind what was asked for, and gives the status in the end.
+    fn keep(
+        &self,
+        tree: &Tree<R>,
+        dir: &Path,
+        account: &Account,
+        log: &mut Items<LogLine>,
+        status: u8,
+    ) -> Result<u8, Failure> {
         let list = tree.staged_content("entries")?;
         let entries = Entries::read(self.alloc, list.as_slice())?;
-        if entries.lost > 0 {
-            self.tell_lost(entries.lost);
-        }
-        Ok(entries.list)
+        self.tell_lost(entries.lost);
+        let strange = written(self.alloc, tree, dir, account, log, entries.list.as_slice())?;
+        self.tell_strange(strange.as_slice());
+        Ok(status_with(status, strange.len()))
     }
 
     /// Tells that files weren't kept. A line that can't be printed changes nothing.
     fn tell_lost(&self, lost: u32) {
-        drop(eprintln!(self.rt;
-            "tup_sh: files with names that tup doesn't see weren't kept: {lost}"
-        ));
-    }
-
-    /// Keeps what was written behind what was asked for.
-    fn write(
-        &self,
-        seen: Seen<R>,
-        dir: Path,
-        log: Items<LogLine>,
-        entries: &[Entry],
-        status: u8,
-    ) -> Result<(), Failure> {
-        let account = seen.account;
-        let mut writes = Writes {
-            tree: seen.tree,
-            dir,
-            log,
-            count: 0,
-            strange: Items::new(self.alloc),
-        };
-        writes.add_touched(self.alloc, &account, entries)?;
-        writes.add_others(self.alloc, &account, entries)?;
-        self.close(writes, status)
-    }
-
-    /// Writes the log. What no output can be is told, and is a failure of the command.
-    fn close(&self, mut writes: Writes<R>, status: u8) -> Result<(), Failure> {
-        self.tell_strange(writes.strange.as_slice());
-        let status = if writes.strange.len() > 0 && status == 0 {
-            1
-        } else {
-            status
-        };
-        writes.log.push(LogLine::End { status })?;
-        self.write_log(&writes.tree, writes.log.as_slice())
+        if lost > 0 {
+            drop(eprintln!(self.rt;
+                "tup_sh: files with names that tup doesn't see weren't kept: {lost}"
+            ));
+        }
     }
 
     /// Tells what no output can be. A line that can't be printed changes nothing.
@@ -176,15 +148,51 @@ impl<R: Files<File = File> + Processes + Eprint + Clone + Drop> Job<R> {
             ));
         }
     }
+}
 
-    /// Writes a log into the stage.
-    fn write_log(&self, tree: &Tree<R>, log: &[LogLine]) -> Result<(), Failure> {
-        let Ok(bytes) = write_log(self.alloc, log) else {
-            return Err(Failure::Memory);
-        };
-        let place = tree.staged("log")?;
-        fs::write(&self.rt, place.as_str(), bytes.as_slice())?;
-        Ok(())
+/// What a command did, resolved.
+fn account_of<R: Files<File = File> + Clone + Drop>(
+    alloc: Global,
+    tree: &Tree<R>,
+    acts: &[Act],
+) -> Result<Account, Failure> {
+    let mut seen = Seen {
+        tree,
+        account: Account::new(alloc),
+    };
+    for act in acts {
+        seen.follow(alloc, act)?;
+    }
+    Ok(seen.account)
+}
+
+/// Adds what was written to a log, and gives what no output can be.
+fn written<R: Files<File = File> + Clone + Drop>(
+    alloc: Global,
+    tree: &Tree<R>,
+    dir: &Path,
+    account: &Account,
+    log: &mut Items<LogLine>,
+    entries: &[Entry],
+) -> Result<Items<Text>, Failure> {
+    let mut writes = Writes {
+        tree,
+        dir,
+        log,
+        count: 0,
+        strange: Items::new(alloc),
+    };
+    writes.add_touched(alloc, account, entries)?;
+    writes.add_others(alloc, account, entries)?;
+    Ok(writes.strange)
+}
+
+/// The status of a command that left so many things which no output can be: it fails.
+fn status_with(status: u8, strange: usize) -> u8 {
+    if strange > 0 && status == 0 {
+        1
+    } else {
+        status
     }
 }
 

@@ -5,20 +5,18 @@
 //! by `tup_trace` and followed by `tup_watch`, whose contracts are exact. Who starts it checks its log.
 #![tactic(auto)]
 
-mod failure;
+mod entries;
 mod job;
 mod log;
 mod script;
 mod seen;
-mod tree;
+mod upper;
 mod walk;
-mod words;
 mod writes;
 
-use failure::Failure;
 use job::{Job, run};
 use std::process::ExitCode;
-use words::read_words;
+use tup_started::{Failure, read_words};
 
 fn main(rt: HostRuntime) -> ExitCode {
     let alloc = rt.alloc();

@@ -1,12 +1,12 @@
 //! What a command did, with the links on the way to each place.
-use crate::failure::Failure;
-use crate::tree::{Standing, Tree};
+use crate::upper::{target, written};
 use crate::walk::{MAX_NAMES, Walk, path_below};
 use std::alloc::Global;
 use std::fs::File;
 use std::rt::Files;
 use std::str;
 use tup_path::{Bytes, Path};
+use tup_started::{Failure, Standing, Tree};
 use tup_watch::{Account, Act, Step};
 
 /// How many interpreters of interpreters the system starts.
@@ -14,12 +14,12 @@ const MAX_INTERPRETERS: usize = 4;
 
 /// The account of a command over a tree.
 #[derive(Drop)]
-pub(crate) struct Seen<R: Files<File = File> + Clone + Drop> {
-    pub(crate) tree: Tree<R>,
+pub(crate) struct Seen<'a, R: Files<File = File> + Clone + Drop> {
+    pub(crate) tree: &'a Tree<R>,
     pub(crate) account: Account,
 }
 
-impl<R: Files<File = File> + Clone + Drop> Seen<R> {
+impl<R: Files<File = File> + Clone + Drop> Seen<'_, R> {
     /// Adds what was done to a place.
     pub(crate) fn follow(&mut self, alloc: Global, act: &Act) -> Result<(), Failure> {
         match act {
@@ -107,7 +107,7 @@ impl<R: Files<File = File> + Clone + Drop> Seen<R> {
     /// The interpreter that a program names.
     fn interpreter(&self, alloc: Global, path: &Path) -> Result<Option<Vec<u8>>, Failure> {
         let place = self.now(path)?;
-        if self.tree.standing(place.as_str())? != Standing::File {
+        if self.tree.at(place.as_str())? != Standing::File {
             return Ok(None);
         }
         let content = self.tree.content(place.as_str())?;
@@ -120,7 +120,7 @@ impl<R: Files<File = File> + Clone + Drop> Seen<R> {
     /// The place of a path as the command sees it.
     fn now(&self, path: &Path) -> Result<String, Failure> {
         if self.account.is_own(path) {
-            self.tree.written(path)
+            written(self.tree, path)
         } else {
             self.tree.source(path)
         }
@@ -214,8 +214,8 @@ impl<R: Files<File = File> + Clone + Drop> Seen<R> {
 
     /// Where the link that stands at a place leads, if there is one.
     fn link_at(&self, place: &str) -> Result<Option<String>, Failure> {
-        match self.tree.standing(place) {
-            Ok(Standing::Link) => Ok(Some(self.tree.target(place)?)),
+        match self.tree.at(place) {
+            Ok(Standing::Link) => Ok(Some(target(self.tree, place)?)),
             _ => Ok(None),
         }
     }

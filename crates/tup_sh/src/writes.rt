@@ -1,22 +1,15 @@
 //! What a command left in the stage.
-use crate::failure::Failure;
+use crate::entries::Entry;
 use crate::log::shown;
-use crate::tree::{Standing, Tree};
+use crate::upper::{written, written_content};
 use std::alloc::Global;
+use std::fs;
 use std::fs::File;
 use std::rt::Files;
-use std::{fs, str};
-use tup_path::{Items, Path, PathFault, Text};
+use tup_path::{Items, Path, Text};
 use tup_proc::LogLine;
+use tup_started::{Failure, Standing, Tree};
 use tup_watch::Account;
-
-/// Something that stands in the upper folder.
-#[derive(Drop)]
-pub(crate) struct Entry {
-    /// The letter of its kind: a file, a folder, a link, a mark that a source was removed, or another one.
-    pub(crate) kind: u8,
-    pub(crate) path: Path,
-}
 
 /// What an entry is to the log.
 #[derive(Clone, Copy)]
@@ -30,72 +23,17 @@ enum Verdict {
 
 /// The writes of a command, as they come to the log.
 #[derive(Drop)]
-pub(crate) struct Writes<R: Files<File = File> + Clone + Drop> {
-    pub(crate) tree: Tree<R>,
-    pub(crate) dir: Path,
-    pub(crate) log: Items<LogLine>,
+pub(crate) struct Writes<'a, R: Files<File = File> + Clone + Drop> {
+    pub(crate) tree: &'a Tree<R>,
+    pub(crate) dir: &'a Path,
+    pub(crate) log: &'a mut Items<LogLine>,
     /// How many files were written.
     pub(crate) count: u32,
     /// The texts of what no output can be.
     pub(crate) strange: Items<Text>,
 }
 
-/// What stands in the upper folder.
-#[derive(Drop)]
-pub(crate) struct Entries {
-    pub(crate) list: Vec<Entry>,
-    /// How many files have names that no path has.
-    pub(crate) lost: u32,
-}
-
-impl Entries {
-    /// The entries of a list, which end with a zero byte each.
-    pub(crate) fn read(alloc: Global, list: &[u8]) -> Result<Entries, Failure> {
-        let mut entries = Entries {
-            list: Vec::new(alloc),
-            lost: 0,
-        };
-        for line in list.split(|byte| *byte == 0) {
-            entries.add(alloc, line)?;
-        }
-        Ok(entries)
-    }
-
-    /// Adds the entry that a line says.
-    fn add(&mut self, alloc: Global, line: &[u8]) -> Result<(), Failure> {
-        match entry_of(alloc, line)? {
-            Some(entry) => self.list.push(entry)?,
-            None if is_lost(line) => self.lost = self.lost.saturating_add(1),
-            None => {}
-        }
-        Ok(())
-    }
-}
-
-/// Whether a line says something that isn't kept: no folder, and no mark that a source was removed.
-fn is_lost(line: &[u8]) -> bool {
-    match line {
-        [kind, ..] => *kind != b'd' && *kind != b'c',
-        [] => false,
-    }
-}
-
-/// The entry that a line says.
-fn entry_of(alloc: Global, line: &[u8]) -> Result<Option<Entry>, Failure> {
-    let Some((kind, name)) = line.split_first() else {
-        return Ok(None);
-    };
-    let Ok(text) = str::from_utf8(name) else {
-        return Ok(None);
-    };
-    match Path::from_top(alloc, text) {
-        Ok(path) => Ok(Some(Entry { kind: *kind, path })),
-        Err(PathFault::Memory) => Err(Failure::Memory),
-        Err(_) => Ok(None),
-    }
-}
-
-impl<R: Files<File = File> + Clone + Drop> Writes<R> {
+impl<R: Files<File = File> + Clone + Drop> Writes<'_, R> {
     /// Adds what was written, in the order of the trace.
     pub(crate) fn add_touched(
         &mut self,
@@ -143,7 +81,7 @@ impl<R: Files<File = File> + Clone + Drop> Writes<R> {
 
     /// Notes what no output can be.
     fn refuse(&mut self, alloc: Global, path: &Path) -> Result<(), Failure> {
-        self.strange.push(shown(alloc, path, &self.dir)?)?;
+        self.strange.push(shown(alloc, path, self.dir)?)?;
         Ok(())
     }
 
@@ -169,21 +107,25 @@ impl<R: Files<File = File> + Clone + Drop> Writes<R> {
 
     /// A write, where the content isn't what it was.
     fn changed(&self, path: &Path) -> Result<Verdict, Failure> {
-        if self.tree.before(path)? != Standing::File {
-            return Ok(Verdict::Written);
-        }
-        let before = self.tree.source_content(path)?;
-        let now = self.tree.written_content(path)?;
-        if before == now {
+        if self.is_as_before(path)? {
             Ok(Verdict::Nothing)
         } else {
             Ok(Verdict::Written)
         }
     }
 
+    /// Whether what was written at a path is what the file there held before.
+    fn is_as_before(&self, path: &Path) -> Result<bool, Failure> {
+        if self.tree.before(path)? != Standing::File {
+            return Ok(false);
+        }
+        let before = self.tree.source_content(path)?;
+        Ok(before == written_content(self.tree, path)?)
+    }
+
     /// Keeps what was written at a path.
     fn keep(&mut self, alloc: Global, path: &Path) -> Result<(), Failure> {
-        let from = self.tree.written(path)?;
+        let from = written(self.tree, path)?;
         let to = self.next(alloc)?;
         fs::rename(&self.tree.rt, from.as_str(), to.as_str())?;
         self.note(alloc, path)
@@ -205,7 +147,7 @@ impl<R: Files<File = File> + Clone + Drop> Writes<R> {
 
     /// Adds the line of the next file.
     fn note(&mut self, alloc: Global, path: &Path) -> Result<(), Failure> {
-        let text = shown(alloc, path, &self.dir)?;
+        let text = shown(alloc, path, self.dir)?;
         let file = self.count;
         let Some(count) = file.checked_add(1) else {
             return Err(Failure::Because("too many files"));

@@ -4,15 +4,12 @@
 //! safe and was tried by hand, but it makes no promise of its own: who starts it checks its log.
 #![tactic(auto)]
 
-mod failure;
 mod job;
 mod project;
-mod words;
 
-use failure::Failure;
-use job::{Job, run};
+use job::run;
 use std::process::ExitCode;
-use words::read_words;
+use tup_started::{Failure, read_words};
 
 fn main(rt: HostRuntime) -> ExitCode {
     let alloc = rt.alloc();
@@ -21,7 +18,7 @@ fn main(rt: HostRuntime) -> ExitCode {
         drop(println!(rt; "usage: tup_shim ROOT DIR STAGE TEXT"));
         return ExitCode::from(2);
     };
-    ExitCode::from(status(rt, run(&Job { rt, alloc, words })))
+    ExitCode::from(status(rt, run(&rt, alloc, &words)))
 }
 
 /// The exit number, with the line that is printed of a failure.

@@ -1,74 +1,46 @@
 //! The files of the project, as the command sees them, and the log of what it asks.
 ghost use Rattle.std.specs.Prelude.{◌≡◌};
 
-use crate::failure::Failure;
 use std::alloc::Global;
 use std::fs::File;
-use std::io::{ErrorKind, Read};
 use std::rt::Files;
-use std::{fs, io};
 use tup_path::{Bytes, Items, Path, PathFault, Text};
 use tup_proc::LogLine;
 use tup_runner::{Answer, View, ViewFailed};
 use tup_stamp::stamp_of;
+use tup_started::{Failure, Standing, Tree};
 
 /// The files below a root as a command in a folder sees them: its own outputs aren't there.
 #[derive(Drop)]
-pub(crate) struct Project<R: Files<File = File> + Clone + Drop> {
-    pub(crate) rt: R,
-    pub(crate) root: Text,
-    pub(crate) dir: Path,
-    pub(crate) own: Vec<Path>,
+pub(crate) struct Project<'a, R: Files<File = File> + Clone + Drop> {
+    pub(crate) tree: &'a Tree<R>,
+    pub(crate) dir: &'a Path,
     pub(crate) log: Items<LogLine>,
     /// The text of a file that couldn't be read.
     pub(crate) failed: Option<Text>,
 }
 
-impl<R: Files<File = File> + Clone + Drop> Project<R> {
+impl<R: Files<File = File> + Clone + Drop> Project<'_, R> {
     /// What stands at a text. `None` where nothing does.
     fn find(&self, alloc: Global, text: &Text) -> Result<Option<Bytes>, Failure> {
-        match Path::resolve(alloc, &self.dir, text) {
-            Ok(path) if self.own.contains(&path) => Ok(None),
-            Ok(path) => self.read(alloc, &path),
+        match Path::resolve(alloc, self.dir, text) {
+            Ok(path) => self.read(&path),
             Err(PathFault::Memory) => Err(Failure::Memory),
             Err(_) => Ok(None),
         }
     }
 
     /// What the file at a path holds. A link is no file.
-    fn read(&self, alloc: Global, path: &Path) -> Result<Option<Bytes>, Failure> {
-        let place = self.place(alloc, path)?;
-        match fs::symlink_metadata(&self.rt, place.as_str()) {
-            Ok(found) if found.is_file() => {
-                let mut bytes = Vec::new(alloc);
-                self.read_into(&mut bytes, place.as_str())?;
-                Ok(Some(Bytes::new(bytes)))
-            }
-            Ok(_) => Ok(None),
-            Err(e) if is_absence(e.kind()) => Ok(None),
-            Err(e) => Err(Failure::System(e)),
+    fn read(&self, path: &Path) -> Result<Option<Bytes>, Failure> {
+        match self.tree.before(path)? {
+            Standing::File => Ok(Some(Bytes::new(self.tree.source_content(path)?))),
+            _ => Ok(None),
         }
-    }
-
-    /// Reads a file to its end.
-    fn read_into(&self, bytes: &mut Vec<u8>, place: &str) -> io::Result<()> {
-        File::open(&self.rt, place)?.read_to_end(bytes)?;
-        Ok(())
-    }
-
-    /// The place of a path below the root.
-    fn place(&self, alloc: Global, path: &Path) -> Result<String, Failure> {
-        let mut place = String::from_str(alloc, self.root.as_str())?;
-        for name in path.names() {
-            place.push('/')?;
-            place.push_str(name.as_str())?;
-        }
-        Ok(place)
     }
 
     /// Adds a line to the log.
     fn note(&mut self, text: &Text, found: &Option<Bytes>) -> Result<(), Failure>
-        ensures own { self.new.own ≡ self.old.own }
+        ensures tree { self.new.tree ≡ self.old.tree }
         ensures failed { self.new.failed ≡ self.old.failed }
     {
         let text = text.clone()?;
@@ -84,14 +56,7 @@ impl<R: Files<File = File> + Clone + Drop> Project<R> {
     }
 }
 
-/// Whether an error says that nothing stands there.
-fn is_absence(kind: ErrorKind) -> bool {
-    kind == ErrorKind::NotFound
-        || kind == ErrorKind::NotADirectory
-        || kind == ErrorKind::InvalidFilename
-}
-
-impl<R: Files<File = File> + Clone + Drop> View for Project<R> {
+impl<R: Files<File = File> + Clone + Drop> View for Project<'_, R> {
     ghost use Rattle.std.specs.Prelude.{List, [], ◌≡◌, option_map, false, refl};
     ghost use Rattle.std.proofs.Common.{◌∙◌};
     ghost use Rattle.std.proofs.lemmas.Bool.{false≢true};
@@ -107,9 +72,9 @@ impl<R: Files<File = File> + Clone + Drop> View for Project<R> {
     ghost refusal = { λ p. option_map {U = Refusal}
         (λ text. record { text = text; why = Fault }) p.failed };
 
-    ghost outputs = { λ p. p.own.items };
+    ghost outputs = { λ p. p.tree.now.own.items };
 
-    ghost same = { λ first last. last.own.items ≡ first.own.items };
+    ghost same = { λ first last. last.tree.now.own.items ≡ first.tree.now.own.items };
 
     fn ask(&mut self, alloc: Global, text: &Text) -> Result<Answer, ViewFailed> {
         let refused = text.clone()?;
@@ -127,7 +92,7 @@ impl<R: Files<File = File> + Clone + Drop> View for Project<R> {
     }
 
     fn own(&self) -> &[Path] {
-        self.own.as_slice()
+        self.tree.own.as_slice()
     }
 
     ghost stays = { λ _. tt };

@@ -1,15 +1,16 @@
 //! The calls of `kept.rows`: transactions over a site in memory.
 ghost use Rattle.std.specs.Prelude.{◌≡◌, ◌↔◌, true, All, IsTrue};
 ghost use Rattle.tup_graph.specs.Graph.{is_rule as is_rule_of};
-ghost use Rattle.tup_kept.specs.Held.{is_fresh, StandsFor};
 
 use crate::graph::store;
 use crate::say::Say;
+use crate::scan::seen;
 use crate::sites::site_with;
 use crate::transaction::{number, numbers, paths, run};
 use std::alloc::Global;
 use tup_graph::GraphFault;
 use tup_kept::Graph;
+use tup_note::note_scan;
 use tup_rows::{Answers, RowFault, Words};
 use tup_site::{MemSite, Site};
 
@@ -72,6 +73,9 @@ impl KeptGraphs {
     }
 }
 
+/// A graph that was opened, and how a transaction on it ended; or why it wasn't opened.
+type Made = Result<(Graph, Result<(), GraphFault>), GraphFault>;
+
 /// The numbers, each so much later.
 fn behind(alloc: Global, said: &Words, numbers: &[u64], calls: u64) -> Vec<u64> {
     let mut later = Vec::new(alloc);
@@ -96,11 +100,10 @@ fn make(alloc: Global, said: &Words, fails: &[u64]) -> Words {
 
 /// How a transaction ends after how many calls of the site, and the graph then.
 fn transaction_in(alloc: Global, call: &str, said: &Words, site: &mut MemSite) -> Words {
-    match Graph::open(alloc, site) {
-        Ok(mut graph) => {
-            let opened = site.calls();
-            let ended = made(alloc, call, said, &mut graph, site);
-            let mut words = Words::shown(alloc, &site.calls().saturating_sub(opened));
+    match made(alloc, call, said, site) {
+        Ok((graph, ended)) => {
+            let calls = site.calls().saturating_sub(BEFORE_A_TRANSACTION);
+            let mut words = Words::shown(alloc, &calls);
             add_end(alloc, &mut words, ended);
             with_graph(alloc, words, &graph, site)
         }
@@ -114,106 +117,113 @@ fn unopened(alloc: Global, said: &Words, fault: GraphFault) -> Words {
     refused(alloc, fault)
 }
 
-/// Makes a transaction.
-fn made<S: Site>(
-    alloc: Global,
-    call: &str,
-    said: &Words,
-    graph: &mut Graph,
-    site: &mut S,
-) -> Result<Result<(), GraphFault>, RowFault>
-    requires fresh { IsTrue (is_fresh graph.old) }
-    requires stands { IsTrue S.tells
-        → StandsFor S.world S.moment S.left_since graph.old site.old }
-{
+/// Opens the store of a site, and makes a transaction.
+fn made(alloc: Global, call: &str, said: &Words, site: &mut MemSite) -> Made {
     match call {
-        "begin" => begin(alloc, said, graph, site),
-        "finish" => finish(alloc, said, graph, site),
-        "doom" => Ok(graph.doom(alloc, site, &paths(alloc, said, said.len()))),
-        "forget" => Ok(graph.forget(alloc, site, &paths(alloc, said, said.len()))),
-        "flag" => flag(alloc, said, graph, site),
-        _ => Err(RowFault::NoSuchCall),
+        "begin" => begin(alloc, said, site),
+        "finish" => finish(alloc, said, site),
+        "doom" => doom(alloc, said, site),
+        "forget" => forget(alloc, said, site),
+        "flag" => flag(alloc, said, site),
+        "scan" => scan(alloc, said, site),
+        _ => nothing(alloc, said, site),
     }
 }
 
-/// Begins the run of a rule.
-fn begin<S: Site>(
-    alloc: Global,
-    said: &Words,
-    graph: &mut Graph,
-    site: &mut S,
-) -> Result<Result<(), GraphFault>, RowFault>
-    requires fresh { IsTrue (is_fresh graph.old) }
-    requires stands { IsTrue S.tells
-        → StandsFor S.world S.moment S.left_since graph.old site.old }
-{
+/// Opens a store, and begins the run of a rule.
+fn begin<S: Site>(alloc: Global, said: &Words, site: &mut S) -> Made {
+    let mut graph = Graph::open(alloc, site)?;
     let rule = number(said);
-    if !is_rule(graph, rule) {
-        return Err(RowFault::OtherKind);
+    if !is_rule(said, &graph, rule) {
+        return Ok((graph, Ok(())));
     }
-    Ok(graph.begin(alloc, site, rule))
+    let ended = graph.begin(alloc, site, rule);
+    Ok((graph, ended))
 }
 
-/// Ends the run of a rule well.
-fn finish<S: Site>(
-    alloc: Global,
-    said: &Words,
-    graph: &mut Graph,
-    site: &mut S,
-) -> Result<Result<(), GraphFault>, RowFault>
-    requires fresh { IsTrue (is_fresh graph.old) }
-    requires stands { IsTrue S.tells
-        → StandsFor S.world S.moment S.left_since graph.old site.old }
-{
+/// Opens a store, and ends the run of a rule well.
+fn finish<S: Site>(alloc: Global, said: &Words, site: &mut S) -> Made {
+    let mut graph = Graph::open(alloc, site)?;
     let rule = number(said);
-    if !is_rule(graph, rule) {
-        return Err(RowFault::OtherKind);
+    if !is_rule(said, &graph, rule) {
+        return Ok((graph, Ok(())));
     }
-    match run(alloc, said, said.as_slice()) {
-        Ok(run) => Ok(graph.finish(alloc, site, rule, run)),
-        Err(fault) => Err(fault),
-    }
+    let ended = match run(alloc, said, said.as_slice()) {
+        Ok(run) => graph.finish(alloc, site, rule, run),
+        Err(fault) => unmade(said, fault),
+    };
+    Ok((graph, ended))
 }
 
-/// Flags rules.
-fn flag<S: Site>(
-    alloc: Global,
-    said: &Words,
-    graph: &mut Graph,
-    site: &mut S,
-) -> Result<Result<(), GraphFault>, RowFault>
-    requires fresh { IsTrue (is_fresh graph.old) }
-    requires stands { IsTrue S.tells
-        → StandsFor S.world S.moment S.left_since graph.old site.old }
-{
+/// Opens a store, and dooms the files at paths.
+fn doom<S: Site>(alloc: Global, said: &Words, site: &mut S) -> Made {
+    let mut graph = Graph::open(alloc, site)?;
+    let ended = graph.doom(alloc, site, &paths(alloc, said, said.len()));
+    Ok((graph, ended))
+}
+
+/// Opens a store, and forgets paths.
+fn forget<S: Site>(alloc: Global, said: &Words, site: &mut S) -> Made {
+    let mut graph = Graph::open(alloc, site)?;
+    let ended = graph.forget(alloc, site, &paths(alloc, said, said.len()));
+    Ok((graph, ended))
+}
+
+/// Opens a store, and flags rules.
+fn flag<S: Site>(alloc: Global, said: &Words, site: &mut S) -> Made {
+    let mut graph = Graph::open(alloc, site)?;
     let rules = numbers(alloc, said, said.len());
-    if !are_rules(graph, &rules) {
-        return Err(RowFault::OtherKind);
+    if !are_rules(said, &graph, &rules) {
+        return Ok((graph, Ok(())));
     }
-    Ok(graph.flag(alloc, site, &rules))
+    let ended = graph.flag(alloc, site, &rules);
+    Ok((graph, ended))
 }
 
-/// Whether a number is that of a rule.
-fn is_rule(graph: &Graph, rule: u32) -> bool
+/// Opens a store, and takes note of a scan.
+fn scan<S: Site>(alloc: Global, said: &Words, site: &mut S) -> Made {
+    let mut graph = Graph::open(alloc, site)?;
+    let seen = seen(alloc, said, said.len() / 2);
+    let ended = note_scan(alloc, &mut graph, site, &seen);
+    Ok((graph, ended))
+}
+
+/// Opens a store, and makes no transaction, since there is none of this name.
+fn nothing<S: Site>(alloc: Global, said: &Words, site: &mut S) -> Made {
+    let graph = Graph::open(alloc, site)?;
+    Ok((graph, unmade(said, RowFault::NoSuchCall)))
+}
+
+/// Notes why a transaction isn't made.
+fn unmade(said: &Words, fault: RowFault) -> Result<(), GraphFault> {
+    said.fail(fault);
+    Ok(())
+}
+
+/// Whether a number is that of a rule; where it isn't the row differs.
+fn is_rule(said: &Words, graph: &Graph, rule: u32) -> bool
     ensures { result ≡ is_rule_of graph.now.nodes rule }
 {
-    (rule as usize) < graph.nodes().rules().len()
+    let is = (rule as usize) < graph.nodes().rules().len();
+    if !is {
+        said.fail(RowFault::OtherKind);
+    }
+    is
 }
 
-/// Whether all numbers are those of rules.
-fn are_rules(graph: &Graph, rules: &[u32]) -> bool
+/// Whether all numbers are those of rules; where one isn't the row differs.
+fn are_rules(said: &Words, graph: &Graph, rules: &[u32]) -> bool
     ensures { IsTrue result ↔ All (λ rule. is_rule_of graph.now.nodes rule ≡ true) rules.now }
 {
-    rules.iter().all(|rule| is_rule(graph, *rule))
+    rules.iter().all(|rule| is_rule(said, graph, *rule))
 }
 
 /// Adds how a transaction ended.
-fn add_end(alloc: Global, words: &mut Words, ended: Result<Result<(), GraphFault>, RowFault>) {
+fn add_end(alloc: Global, words: &mut Words, ended: Result<(), GraphFault>) {
     match ended {
-        Ok(Ok(())) => words.put(alloc, b"done"),
-        Ok(Err(GraphFault::Memory)) => words.fail(RowFault::Memory),
-        Ok(Err(fault)) => words.show(alloc, &fault),
-        Err(fault) => words.fail(fault),
+        Ok(()) => words.put(alloc, b"done"),
+        Err(GraphFault::Memory) => words.fail(RowFault::Memory),
+        Err(fault) => words.show(alloc, &fault),
     }
 }
 

@@ -11,6 +11,7 @@ mod kept;
 mod owned;
 mod record;
 mod say;
+mod scan;
 mod sites;
 mod table;
 mod transaction;
@@ -34,5 +35,6 @@ fn main(rt: HostRuntime) -> io::Result<()> {
     try_file(&rt, alloc, "table.rows", &mut Tables)?;
     try_file_by(&rt, alloc, "site.rows", Sites::new(alloc))?;
     try_file(&rt, alloc, "graph.rows", &mut Graphs)?;
+    try_file(&rt, alloc, "scan.rows", &mut Graphs)?;
     try_file_by(&rt, alloc, "kept.rows", KeptGraphs::new(alloc))
 }

@@ -49,7 +49,14 @@ fn spelled(alloc: Global, record: &Record, key: &Bytes, value: &Bytes) -> Words 
 
 /// What a copy of a record is spelled as.
 fn again(alloc: Global, record: &Record) -> Result<(Bytes, Bytes), RowFault> {
-    match encode(alloc, &record.clone()?) {
+    match record.clone() {
+        Ok(copy) => spelling(alloc, &copy),
+        Err(_) => Err(RowFault::Memory),
+    }
+}
+
+fn spelling(alloc: Global, record: &Record) -> Result<(Bytes, Bytes), RowFault> {
+    match encode(alloc, record) {
         Ok(spelled) => Ok(spelled),
         Err(_) => Err(RowFault::Memory),
     }

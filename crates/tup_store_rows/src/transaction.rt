@@ -1,8 +1,12 @@
 //! The calls of `graph.rows` that are transactions.
+ghost use Rattle.tup_above.specs.Readers.{AreRunsOfRules};
+
 use crate::changes::add_changes;
 use crate::field::joined;
 use crate::graph::{add_commit, add_graph, store};
+use crate::scan::scanned;
 use std::alloc::Global;
+use tup_above::runs_are_of_rules;
 use tup_field::{Field, Reader};
 use tup_graph::{Edits, GraphFault, Nodes, changes, read_graph};
 use tup_path::Path;
@@ -83,10 +87,24 @@ fn made_of(
     entries: &Entries,
     transaction: (&str, &[Vec<u8>]),
 ) -> Result<Vec<Change>, RowFault> {
+    runs_are_of_rules();
     match read_graph(alloc, entries) {
-        Ok(graph) => needed(alloc, entries, edits(alloc, said, &graph, transaction)?),
+        Ok(graph) => made_in(alloc, said, entries, &graph, transaction),
         Err(_) => Err(RowFault::OtherKind),
     }
+}
+
+/// The changes that a transaction makes to a graph.
+fn made_in(
+    alloc: Global,
+    said: &Words,
+    entries: &Entries,
+    graph: &Nodes,
+    transaction: (&str, &[Vec<u8>]),
+) -> Result<Vec<Change>, RowFault>
+    requires { AreRunsOfRules graph.now }
+{
+    needed(alloc, entries, edits(alloc, said, graph, transaction))
 }
 
 fn needed(
@@ -103,21 +121,43 @@ fn needed(
     }
 }
 
-/// The edits of a transaction.
+/// The edits of a transaction; where it is none the row differs.
 fn edits(
     alloc: Global,
     said: &Words,
     graph: &Nodes,
-    (call, arguments): (&str, &[Vec<u8>]),
-) -> Result<Result<Edits, GraphFault>, RowFault> {
-    Ok(match call {
+    transaction: (&str, &[Vec<u8>]),
+) -> Result<Edits, GraphFault>
+    requires { AreRunsOfRules graph.now }
+{
+    let (call, arguments) = transaction;
+    match call {
         "begin" => graph.begin(alloc, number(said)),
-        "finish" => graph.finish(alloc, number(said), run(alloc, said, arguments)?),
+        "finish" => finish(alloc, said, graph, arguments),
         "doom" => graph.doom(alloc, &paths(alloc, said, arguments.len())),
         "forget" => graph.forget(alloc, &paths(alloc, said, arguments.len())),
         "flag" => graph.flag(alloc, &numbers(alloc, said, arguments.len())),
-        _ => return Err(RowFault::NoSuchCall),
-    })
+        "scan" => scanned(alloc, said, graph, arguments.len()),
+        _ => none(alloc, said, RowFault::NoSuchCall),
+    }
+}
+
+fn finish(
+    alloc: Global,
+    said: &Words,
+    graph: &Nodes,
+    arguments: &[Vec<u8>],
+) -> Result<Edits, GraphFault> {
+    match run(alloc, said, arguments) {
+        Ok(run) => graph.finish(alloc, number(said), run),
+        Err(fault) => none(alloc, said, fault),
+    }
+}
+
+/// No edits, for this reason.
+fn none(alloc: Global, said: &Words, fault: RowFault) -> Result<Edits, GraphFault> {
+    said.fail(fault);
+    Ok(Edits::new(alloc))
 }
 
 /// The number that the first word is.

@@ -1,34 +1,64 @@
 -- How an order ends whose update came out so: what is promised of the update holds of the status that tells of it.
-use Rattle.std.proofs.Common.{◌≡◌, inl, inr, ℕ, zero, suc, List, [], ◌∷◌, ◌++◌, Option, None, Some, IfSome, refl, sym, ap, subst, ◌∙◌, append-nil, arith}
+use Rattle.std.proofs.Common.{◌≡◌, inl, inr, ℕ, zero, suc, Bool, not, IsTrue, List, [], ◌∷◌, Option, None, Some, Ok, IfSome, refl, sym, ap, subst, ◌∙◌, append-nil, arith}
+use Rattle.std.specs.FinMap as finite
 use Rattle.std.specs.List.{slice_get}
 use Rattle.std.proofs.lemmas.Bool.{false≢true}
 use Rattle.tup_path.specs.Count.{Rose}
 use Rattle.tup_path.specs.Name.{Names}
 use Rattle.tup_site.specs.World.{World}
 use Rattle.tup_site.specs.declared.fault.SiteFailed.TheVariants.{Fault, TooLarge, Memory as NoMemory}
+use Rattle.tup_rule.specs.declared.rule.Rule.{Rule}
 use Rattle.tup_rule.specs.declared.rule.RuleName.{RuleName}
 use Rattle.tup_runner.specs.Next.{Next}
 use Rattle.tup_access.specs.declared.verdict.Verdict.TheVariants.{Good, Failed, IllegalRead as ReadsIllegally, IllegalWrite as WritesIllegally, Unwritten as LeavesUnwritten, TooManyReads as ReadsTooOften}
-use Rattle.tup_update.specs.Log.{LogFits, IsFront, whole_log}
+use Rattle.tup_owned.specs.Ascending.{ascending}
+use Rattle.tup_owned.specs.Owned.{owned_of}
+use Rattle.tup_clean.specs.Taken.{Taken}
+use Rattle.tup_update.specs.Log.{LogFits, RulesFit, OfRules}
 use Rattle.tup_update.specs.Ran.{RunsThese}
-use Rattle.tup_update.specs.Outcome.{ExactlyTheFiles, NothingForgotten, IsLeft, HasRunCause, HasCountedCause as StopHasCountedCause}
+use Rattle.tup_update.specs.Outcome.{ExactlyTheFiles, NothingForgotten, HasRunCause, HasCountedCause as StopHasCountedCause}
+use Rattle.tup_update.specs.Sources.{sources as sources_of, files_beside, outputs, ends, PassesLimit}
+use Rattle.tup_update.specs.Turns.{names_of, TurnsFit}
+use Rattle.tup_update.proofs.Ending.{no_front, whole_front}
+use Rattle.tup_update.proofs.Keeping.{no_turns}
+use Rattle.tup_update.proofs.Known.{sources_are, among_ascending}
+use Rattle.tup_update.specs.declared.fault.SourcesFault.{SourcesFault}
+use Rattle.tup_update.specs.declared.fault.SourcesFault.TheVariants as sources
 use Rattle.tup_update.specs.declared.update.Log.{Log}
 use Rattle.tup_update.specs.declared.stop.Stop.{Stop}
-use Rattle.tup_update.specs.declared.stop.Stop.TheVariants.{BadStore as StoreDamaged, Parse as ParseFailed, Bad, Run, Outside}
+use Rattle.tup_update.specs.declared.stop.Stop.TheVariants.{BadStore as StoreDamaged, Sources, Bad, Run, Outside}
 use Rattle.tup_top.specs.Lines.{lines}
 use Rattle.tup_top.specs.Crew.{OneRose, RanFits}
 use Rattle.tup_top.specs.Promise.{CountsAll, Counts, AreSteady, HasCountedCause, HasDemoCause}
 use Rattle.tup_top.specs.Printed.{IsDone, Ends, Prints, Told, PrintsUpdate}
-use Rattle.tup_top.specs.Status.{status_of, came_to}
-use Rattle.tup_top.specs.declared.status.What.TheVariants.{FileSize}
+use Rattle.tup_top.specs.Status.{status_of, status_of_sources, came_to, after_sink_fault}
 use Rattle.tup_top.specs.declared.status.Status.{Status}
-use Rattle.tup_top.specs.declared.status.Status.TheVariants.{Done, Command, IllegalRead, IllegalWrite, Unwritten, TooManyReads, Usage, BadStore, Parse, SiteFault, RunFault, SinkFault, Limit, Memory}
+use Rattle.tup_top.specs.declared.status.Status.TheVariants.{Done, Command, IllegalRead, IllegalWrite, Unwritten, TooManyReads, Usage, BadStore, Parse, CircularDirs, CircularCommands, NoSuchGroup, SiteFault, RunFault, SinkFault, Limit, Memory}
+
+-- the status of sources that ask for no rules tells why
+came_to-sources : (fault : SourcesFault) → came_to (status_of_sources fault) ≡ Some (Some (Sources fault))
+came_to-sources (sources.TooManyFiles number) = refl
+came_to-sources (sources.Parse fault) = refl
+came_to-sources (sources.CircularDirs cycle) = refl
+came_to-sources (sources.TooManyCommands number) = refl
+came_to-sources (sources.NoSuchGroup group) = refl
+came_to-sources (sources.TooManyLinks number) = refl
+came_to-sources (sources.CircularCommands cycle) = refl
+
+sources_undone : (fault : SourcesFault) → IsDone (status_of_sources fault) → ⊥
+sources_undone (sources.TooManyFiles number) done = done
+sources_undone (sources.Parse fault) done = done
+sources_undone (sources.CircularDirs cycle) done = done
+sources_undone (sources.TooManyCommands number) done = done
+sources_undone (sources.NoSuchGroup group) done = done
+sources_undone (sources.TooManyLinks number) done = done
+sources_undone (sources.CircularCommands cycle) done = done
 
 -- the status of an update tells what the update came to
 came_to-status_of : (before now : ℕ) (log : Log) (stopped : Option Stop) → StopHasCountedCause before now stopped → came_to (status_of log stopped) ≡ Some stopped
 came_to-status_of before now log None cause = refl
 came_to-status_of before now log (Some (StoreDamaged offset)) cause = refl
-came_to-status_of before now log (Some (ParseFailed fault)) cause = refl
+came_to-status_of before now log (Some (Sources fault)) cause = came_to-sources fault
 came_to-status_of before now log (Some (Bad rule Good)) cause = absurd (false≢true (sym cause.1))
 came_to-status_of before now log (Some (Bad rule (Failed status))) cause = refl
 came_to-status_of before now log (Some (Bad rule (ReadsIllegally text))) cause = refl
@@ -44,7 +74,7 @@ came_to-status_of before now log (Some (Outside NoMemory)) cause = refl
 done_is_none : (log : Log) (stopped : Option Stop) → IsDone (status_of log stopped) → stopped ≡ None
 done_is_none log None done = refl
 done_is_none log (Some (StoreDamaged offset)) done = absurd done
-done_is_none log (Some (ParseFailed fault)) done = absurd done
+done_is_none log (Some (Sources fault)) done = absurd (sources_undone fault done)
 done_is_none log (Some (Bad rule Good)) done = absurd done
 done_is_none log (Some (Bad rule (Failed status))) done = absurd done
 done_is_none log (Some (Bad rule (ReadsIllegally text))) done = absurd done
@@ -66,40 +96,94 @@ answered P before now old new log stopped status answer is (inr (inl e)) cause p
 answered P before now old new log stopped status answer is (inr (inr (e, done, rose))) cause p memory =
     subst (λ (s : Status). IfSome (came_to s) P) (sym e) (subst P (done_is_none log stopped (subst IsDone is done)) p)
 
--- also where there was no memory for its lines
-pub untold_left : (next : Next) (old new : World) (stopped : Option Stop) → NothingForgotten next old new stopped → ExactlyTheFiles next old new stopped → IsLeft next old new
-untold_left next old new None left files = inr (inr (record { clean = files.clean; files = files.files }))
-untold_left next old new (Some (StoreDamaged offset)) same files = inr (inl (ap (λ (w : World). w.tree) same))
-untold_left next old new (Some (ParseFailed fault)) same files = inr (inl (ap (λ (w : World). w.tree) same))
-untold_left next old new (Some (Bad rule verdict)) listed files = inl listed
-untold_left next old new (Some Run) listed files = inl listed
-untold_left next old new (Some (Outside Fault)) left files = left
-untold_left next old new (Some (Outside (TooLarge number))) (inl same) files = inr (inl (ap (λ (w : World). w.tree) same))
-untold_left next old new (Some (Outside (TooLarge number))) (inr listed) files = inl listed
-untold_left next old new (Some (Outside NoMemory)) left files = left
+-- ---- the rules that were found
+
+-- also where there was no memory for its lines, its rules are those that it found
+pub untold_rules : (old : World) (rules : List Rule) (stopped : Option Stop) → RulesFit old rules stopped → RulesFit old rules (Some (Outside NoMemory))
+untold_rules old rules None fits = inr fits
+untold_rules old rules (Some (StoreDamaged offset)) fits = inl fits
+untold_rules old rules (Some (Sources fault)) fits = inl fits
+untold_rules old rules (Some (Bad rule verdict)) fits = inr fits
+untold_rules old rules (Some Run) fits = inr fits
+untold_rules old rules (Some (Outside failed)) fits = fits
+
+-- a promise of the rules that an update found is one of what is answered for it
+pub answered_of : (old : World) (promise : List Rule → Option Stop → Type 0) (rules : List Rule) (before now was is : ℕ) (log : Log) (stopped : Option Stop) (status answer : Status) →
+    status ≡ status_of log stopped → Ends before now status answer → StopHasCountedCause was is stopped → RulesFit old rules stopped → promise rules stopped → promise rules (Some (Outside NoMemory)) →
+    IfSome (came_to answer) (OfRules old promise)
+answered_of old promise rules before now was is log stopped status answer same ends cause fits kept untold =
+    answered (OfRules old promise) before now was is log stopped status answer same ends cause (rules, fits, kept) (rules, untold_rules old rules stopped fits, untold)
+
+-- what is promised of the answer itself is promised of these rules
+pub told_of : (old : World) (rules : List Rule) (promise : List Rule → Type 0) (came : Option (Option Stop)) → IfSome came (RulesFit old rules) → promise rules → IfSome came (OfRules old (λ found _. promise found))
+told_of old rules promise None fits kept = tt
+told_of old rules promise (Some stopped) fits kept = (rules, fits, kept)
+
+-- ---- what is left
+
+-- outputs in their order are the same paths
+same_listed : (paths : List Names) (w : World) → owned_of w.store ≡ Ok (ascending paths) → files_beside paths w.tree ≡ sources_of w
+same_listed paths w reads = sym (sources_are w (ascending paths) reads ∙ (λ i. finite.retain_keys w.tree (λ path. not (among_ascending paths path i))))
+
+pub untold_left : (tells : Bool) (next : Next) (rules : List Rule) (old new : World) (stopped : Option Stop) → RulesFit old rules stopped → NothingForgotten tells next rules old new stopped →
+    (IsTrue tells → ExactlyTheFiles next rules old new stopped) → NothingForgotten tells next rules old new (Some (Outside NoMemory))
+untold_left tells next rules old new None fits listed files = inr (
+  fits,
+  inr (inr (record {
+    beside = same_listed (outputs rules) new listed.listed ∙ listed.same;
+    built = λ means. let made = files means in record { clean = made.clean; files = made.files };
+  })),
+)
+untold_left tells next rules old new (Some (StoreDamaged offset)) fits same files = inl same
+untold_left tells next rules old new (Some (Sources fault)) fits same files = inl same
+untold_left tells next rules old new (Some (Bad rule verdict)) fits listed files = inr (fits, inl listed)
+untold_left tells next rules old new (Some Run) fits listed files = inr (fits, inl listed)
+untold_left tells next rules old new (Some (Outside Fault)) fits left files = left
+untold_left tells next rules old new (Some (Outside (TooLarge number))) fits (inl same) files = inl same
+untold_left tells next rules old new (Some (Outside (TooLarge number))) fits (inr (asks, listed)) files = inr (asks, inl listed)
+untold_left tells next rules old new (Some (Outside NoMemory)) fits left files = left
 
 -- ---- counts
 
-counts_of_stop : (next : Next) (old : World) (log : Log) (stopped : Option Stop) → LogFits next old log stopped → CountsAll next old (status_of log stopped)
-counts_of_stop next old log None fits = ap (λ (l : Log). status_of l None) fits
-counts_of_stop next old log (Some (StoreDamaged offset)) fits = tt
-counts_of_stop next old log (Some (ParseFailed fault)) fits = tt
-counts_of_stop next old log (Some (Bad rule Good)) fits = tt
-counts_of_stop next old log (Some (Bad rule (Failed status))) fits = tt
-counts_of_stop next old log (Some (Bad rule (ReadsIllegally text))) fits = tt
-counts_of_stop next old log (Some (Bad rule (WritesIllegally text))) fits = tt
-counts_of_stop next old log (Some (Bad rule (LeavesUnwritten path))) fits = tt
-counts_of_stop next old log (Some (Bad rule ReadsTooOften)) fits = tt
-counts_of_stop next old log (Some Run) fits = tt
-counts_of_stop next old log (Some (Outside Fault)) fits = tt
-counts_of_stop next old log (Some (Outside (TooLarge number))) fits = tt
-counts_of_stop next old log (Some (Outside NoMemory)) fits = tt
+counts_of_sources : (next : Next) (rules : List Rule) (old : World) (fault : SourcesFault) → CountsAll next rules old (status_of_sources fault)
+counts_of_sources next rules old (sources.TooManyFiles number) = tt
+counts_of_sources next rules old (sources.Parse fault) = tt
+counts_of_sources next rules old (sources.CircularDirs cycle) = tt
+counts_of_sources next rules old (sources.TooManyCommands number) = tt
+counts_of_sources next rules old (sources.NoSuchGroup group) = tt
+counts_of_sources next rules old (sources.TooManyLinks number) = tt
+counts_of_sources next rules old (sources.CircularCommands cycle) = tt
+
+counts_of_stop : (next : Next) (rules : List Rule) (old : World) (log : Log) (stopped : Option Stop) → LogFits next rules old log stopped → CountsAll next rules old (status_of log stopped)
+counts_of_stop next rules old log None fits = ap (λ (l : Log). status_of l None) fits
+counts_of_stop next rules old log (Some (StoreDamaged offset)) fits = tt
+counts_of_stop next rules old log (Some (Sources fault)) fits = counts_of_sources next rules old fault
+counts_of_stop next rules old log (Some (Bad rule Good)) fits = tt
+counts_of_stop next rules old log (Some (Bad rule (Failed status))) fits = tt
+counts_of_stop next rules old log (Some (Bad rule (ReadsIllegally text))) fits = tt
+counts_of_stop next rules old log (Some (Bad rule (WritesIllegally text))) fits = tt
+counts_of_stop next rules old log (Some (Bad rule (LeavesUnwritten path))) fits = tt
+counts_of_stop next rules old log (Some (Bad rule ReadsTooOften)) fits = tt
+counts_of_stop next rules old log (Some Run) fits = tt
+counts_of_stop next rules old log (Some (Outside Fault)) fits = tt
+counts_of_stop next rules old log (Some (Outside (TooLarge number))) fits = tt
+counts_of_stop next rules old log (Some (Outside NoMemory)) fits = tt
 
 -- what an update counts is what it had to do
-pub counts_all : (next : Next) (old : World) (before now : ℕ) (log : Log) (stopped : Option Stop) (status answer : Status) → status ≡ status_of log stopped → Ends before now status answer → LogFits next old log stopped → CountsAll next old answer
-counts_all next old before now log stopped status answer is (inl e) fits = subst (CountsAll next old) (sym (e ∙ is)) (counts_of_stop next old log stopped fits)
-counts_all next old before now log stopped status answer is (inr (inl e)) fits = subst (CountsAll next old) (sym e) tt
-counts_all next old before now log stopped status answer is (inr (inr (e, done, rose))) fits = subst (CountsAll next old) (sym e) tt
+pub counts_all : (next : Next) (rules : List Rule) (old : World) (before now : ℕ) (log : Log) (stopped : Option Stop) (status answer : Status) → status ≡ status_of log stopped → Ends before now status answer → LogFits next rules old log stopped → CountsAll next rules old answer
+counts_all next rules old before now log stopped status answer is (inl e) fits = subst (CountsAll next rules old) (sym (e ∙ is)) (counts_of_stop next rules old log stopped fits)
+counts_all next rules old before now log stopped status answer is (inr (inl e)) fits = subst (CountsAll next rules old) (sym e) tt
+counts_all next rules old before now log stopped status answer is (inr (inr (e, done, rose))) fits = subst (CountsAll next rules old) (sym e) tt
+
+-- where nothing was done nothing failed, and a limit that is told is passed
+counted_of_sources : (before now : Counts) (fault : SourcesFault) → AreSteady before now → PassesLimit fault → HasCountedCause before now (status_of_sources fault)
+counted_of_sources before now (sources.TooManyFiles number) steady passed = (steady, passed)
+counted_of_sources before now (sources.Parse fault) steady passed = steady
+counted_of_sources before now (sources.CircularDirs cycle) steady passed = steady
+counted_of_sources before now (sources.TooManyCommands number) steady passed = (steady, passed)
+counted_of_sources before now (sources.NoSuchGroup group) steady passed = steady
+counted_of_sources before now (sources.TooManyLinks number) steady passed = (steady, passed)
+counted_of_sources before now (sources.CircularCommands cycle) steady passed = steady
 
 -- what a site, one runner and a sink count
 abbrev pub of_one : ℕ → ℕ → ℕ → Counts
@@ -122,7 +206,7 @@ module _ (site_before site_now run_before run_now sink_before sink_now : ℕ) wh
       HasCountedCause before now (status_of log stopped)
   counted_of_stop log None sink cause run = (steady cause run, sink tt)
   counted_of_stop log (Some (StoreDamaged offset)) sink cause run = steady cause run
-  counted_of_stop log (Some (ParseFailed fault)) sink cause run = steady cause run
+  counted_of_stop log (Some (Sources fault)) sink cause run = counted_of_sources before now fault (steady cause.0 run) cause.1
   counted_of_stop log (Some (Bad rule Good)) sink cause run = tt
   counted_of_stop log (Some (Bad rule (Failed status))) sink cause run = steady cause.0 run
   counted_of_stop log (Some (Bad rule (ReadsIllegally text))) sink cause run = steady cause.0 run
@@ -146,6 +230,26 @@ module _ (site_before site_now run_before run_now sink_before sink_now : ℕ) wh
       (steady (subst (StopHasCountedCause site_before site_now) none cause) (subst (HasRunCause run_before run_now) none run), rose)
 
 -- ---- what is printed
+
+-- what is answered where the sink failed
+pub ends_after : (before now : ℕ) (status : Status) → Rose before now → Ends before now status (after_sink_fault status)
+ends_after before now (Done read ran removed) rose = inr (inr (refl, tt, rose))
+ends_after before now (Command rule status) rose = inl refl
+ends_after before now (IllegalRead rule text) rose = inl refl
+ends_after before now (IllegalWrite rule text) rose = inl refl
+ends_after before now (Unwritten rule path) rose = inl refl
+ends_after before now (TooManyReads rule) rose = inl refl
+ends_after before now (Usage place) rose = inl refl
+ends_after before now (BadStore offset) rose = inl refl
+ends_after before now (Parse fault) rose = inl refl
+ends_after before now (CircularDirs cycle) rose = inl refl
+ends_after before now (CircularCommands cycle) rose = inl refl
+ends_after before now (NoSuchGroup group) rose = inl refl
+ends_after before now SiteFault rose = inl refl
+ends_after before now RunFault rose = inl refl
+ends_after before now SinkFault rose = inl refl
+ends_after before now (Limit what number) rose = inl refl
+ends_after before now Memory rose = inl refl
 
 -- nothing was printed, for want of memory
 pub prints_nothing : (text : List ℕ) (before now : ℕ) (held : List ℕ) → Prints text before now held held Memory
@@ -182,25 +286,23 @@ demo_cause site_before site_now before now (TooManyReads rule) cause = tt
 demo_cause site_before site_now before now (Usage place) cause = cause
 demo_cause site_before site_now before now (BadStore offset) cause = tt
 demo_cause site_before site_now before now (Parse fault) cause = tt
+demo_cause site_before site_now before now (CircularDirs cycle) cause = tt
+demo_cause site_before site_now before now (CircularCommands cycle) cause = tt
+demo_cause site_before site_now before now (NoSuchGroup group) cause = tt
 demo_cause site_before site_now before now SiteFault cause = tt
 demo_cause site_before site_now before now RunFault cause = never_rose cause.1
 demo_cause site_before site_now before now SinkFault cause = cause.1
-demo_cause site_before site_now before now (Limit FileSize number) cause = cause.1
+demo_cause site_before site_now before now (Limit what number) cause = cause.1
 demo_cause site_before site_now before now Memory cause = tt
 
 -- an update that didn't begin, for want of memory
 abbrev pub told_nothing : (next : Next) (old : World) → Told next old
 told_nothing next old = record {
   rules = [];
-  log = record { read = []; removed = []; ran = []; verdicts = [] };
+  log = record { read = []; removed = []; ran = []; ended = [] };
   stopped = Some (Outside NoMemory);
   are_its_rules = inl refl;
-  is_its_log = record {
-    read = ((whole_log next old).read, refl);
-    removed = ((whole_log next old).removed, refl);
-    ran = ((whole_log next old).ran, refl);
-    verdicts = ((whole_log next old).verdicts, refl);
-  };
+  is_its_log = inl (refl, refl, refl, refl);
 }
 
 pub prints_no_update : (next : Next) (old : World) (before now : ℕ) (held : List ℕ) → PrintsUpdate next old before now held held Memory
@@ -213,28 +315,38 @@ prints_no_update next old before now held = record {
 -- ---- what was begun
 
 -- a log that fits tells what was begun
-pub ran_fits : (next : Next) (old : World) (log : Log) (stopped : Option Stop) → LogFits next old log stopped → RanFits next old log.ran stopped
-ran_fits next old log None fits = ap (λ (l : Log). l.ran) fits
-ran_fits next old log (Some (StoreDamaged offset)) fits = fits.2
-ran_fits next old log (Some (ParseFailed fault)) fits = fits.2
-ran_fits next old log (Some (Bad rule verdict)) fits = ap (λ (l : Log). l.ran) fits
-ran_fits next old log (Some Run) fits = fits.ran
-ran_fits next old log (Some (Outside failed)) fits = fits.ran
+pub ran_fits : (next : Next) (rules : List Rule) (old : World) (log : Log) (stopped : Option Stop) → LogFits next rules old log stopped → RanFits next rules old log.ran stopped
+ran_fits next rules old log None fits = ap (λ (l : Log). l.ran) fits
+ran_fits next rules old log (Some (StoreDamaged offset)) fits = fits.2
+ran_fits next rules old log (Some (Sources fault)) fits = fits.2
+ran_fits next rules old log (Some (Bad rule verdict)) fits = ap (λ (l : Log). l.ran) fits
+ran_fits next rules old log (Some Run) fits = fits.ran
+ran_fits next rules old log (Some (Outside failed)) (inl empty) = no_front log.ran (names_of rules (ends next rules old)) empty.2
+ran_fits next rules old log (Some (Outside failed)) (inr (asks, part)) = part.ran
 
 -- whatever it came to, a front of the rules was begun
-pub untold_ran : (next : Next) (old : World) (ran : List RuleName) (stopped : Option Stop) → RanFits next old ran stopped → IsFront ran (whole_log next old).ran
-untold_ran next old ran None fits = ([], append-nil ran ∙ fits)
-untold_ran next old ran (Some (StoreDamaged offset)) fits = ((whole_log next old).ran, ap (λ (l : List RuleName). l ++ (whole_log next old).ran) fits)
-untold_ran next old ran (Some (ParseFailed fault)) fits = ((whole_log next old).ran, ap (λ (l : List RuleName). l ++ (whole_log next old).ran) fits)
-untold_ran next old ran (Some (Bad rule verdict)) fits = ([], append-nil ran ∙ fits)
-untold_ran next old ran (Some Run) fits = fits
-untold_ran next old ran (Some (Outside failed)) fits = fits
+pub untold_ran : (next : Next) (rules : List Rule) (old : World) (ran : List RuleName) (stopped : Option Stop) → RanFits next rules old ran stopped → RanFits next rules old ran (Some (Outside NoMemory))
+untold_ran next rules old ran None fits = whole_front ran (names_of rules (ends next rules old)) fits
+untold_ran next rules old ran (Some (StoreDamaged offset)) fits = no_front ran (names_of rules (ends next rules old)) fits
+untold_ran next rules old ran (Some (Sources fault)) fits = no_front ran (names_of rules (ends next rules old)) fits
+untold_ran next rules old ran (Some (Bad rule verdict)) fits = whole_front ran (names_of rules (ends next rules old)) fits
+untold_ran next rules old ran (Some Run) fits = fits
+untold_ran next rules old ran (Some (Outside failed)) fits = fits
+
+-- in turn
+pub untold_turns : (rules : List Rule) (ran : List RuleName) (ended : List Taken) (stopped : Option Stop) → TurnsFit rules ran ended stopped → TurnsFit rules ran ended (Some (Outside NoMemory))
+untold_turns rules ran ended None turns = (turns.0, inl turns.1)
+untold_turns rules ran ended (Some (StoreDamaged offset)) turns = no_turns rules ran ended turns.0 turns.1
+untold_turns rules ran ended (Some (Sources fault)) turns = no_turns rules ran ended turns.0 turns.1
+untold_turns rules ran ended (Some (Bad rule verdict)) turns = (turns.0, inl turns.1)
+untold_turns rules ran ended (Some Run) turns = turns
+untold_turns rules ran ended (Some (Outside failed)) turns = turns
 
 -- and the runner was given what was begun, but for the last where there was no memory
 pub untold_runs : (ran : List RuleName) (old new : List (Names × List ℕ)) (stopped : Option Stop) → RunsThese ran old new stopped → RunsThese ran old new (Some (Outside NoMemory))
 untold_runs ran old new None runs = inl runs
 untold_runs ran old new (Some (StoreDamaged offset)) runs = inl runs
-untold_runs ran old new (Some (ParseFailed fault)) runs = inl runs
+untold_runs ran old new (Some (Sources fault)) runs = inl runs
 untold_runs ran old new (Some (Bad rule verdict)) runs = inl runs
 untold_runs ran old new (Some Run) runs = inl runs
 untold_runs ran old new (Some (Outside Fault)) runs = inl runs

@@ -8,8 +8,7 @@ use Rattle.tup_update.specs.declared.stop.Stop.{Stop}
 use Rattle.tup_top.specs.Crew.{OneRose, CrewRuns}
 use Rattle.tup_top.specs.Promise.{Counts, AreSteady, HasCountedCause}
 use Rattle.tup_top.specs.declared.status.Status.{Status}
-use Rattle.tup_top.specs.declared.status.Status.TheVariants.{Done, Command, IllegalRead, IllegalWrite, Unwritten, TooManyReads, Usage, BadStore, Parse, SiteFault, RunFault, SinkFault, Limit, Memory}
-use Rattle.tup_top.specs.declared.status.What.TheVariants.{FileSize}
+use Rattle.tup_top.specs.declared.status.Status.TheVariants.{Done, Command, IllegalRead, IllegalWrite, Unwritten, TooManyReads, Usage, BadStore, Parse, CircularDirs, CircularCommands, NoSuchGroup, SiteFault, RunFault, SinkFault, Limit, Memory}
 use Rattle.tup_top.proofs.Causes.{of_one}
 
 -- a count of one runner that rose is one of the crew's
@@ -44,10 +43,13 @@ module _ (site_before site_now run_before run_now sink_before sink_now : ℕ) (o
   causes_of_crew (Usage place) cause = cause
   causes_of_crew (BadStore offset) cause = steady cause
   causes_of_crew (Parse fault) cause = steady cause
+  causes_of_crew (CircularDirs cycle) cause = steady cause
+  causes_of_crew (CircularCommands cycle) cause = steady cause
+  causes_of_crew (NoSuchGroup group) cause = steady cause
   causes_of_crew SiteFault cause = (cause.0, same_runners cause.1)
   causes_of_crew RunFault cause = (cause.0, one_of_more run_before run_now others cause.1)
   causes_of_crew SinkFault cause = (steady cause.0, cause.1)
-  causes_of_crew (Limit FileSize number) cause = (steady cause.0, cause.1)
+  causes_of_crew (Limit what number) cause = (steady cause.0, cause.1)
   causes_of_crew Memory cause = tt
 
 -- so they are where the first runner of a crew did all

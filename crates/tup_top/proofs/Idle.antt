@@ -1,9 +1,11 @@
 -- A call that found no memory to read its words did nothing.
-use Rattle.std.proofs.Common.{ℕ, List, Option, Some, Ok, Err}
+use Rattle.std.proofs.Common.{ℕ, List, [], Option, Some, Ok, Err, inl, refl}
 use Rattle.tup_site.specs.World.{World}
 use Rattle.tup_site.specs.declared.fault.SiteFailed.TheVariants.{Memory as NoMemory}
+use Rattle.tup_rule.specs.declared.rule.Rule.{Rule}
 use Rattle.tup_runner.specs.Next.{Next}
 use Rattle.tup_mini.specs.Means.{mini_next}
+use Rattle.tup_update.specs.Log.{OfRules}
 use Rattle.tup_update.specs.declared.stop.Stop.{Stop}
 use Rattle.tup_update.specs.declared.stop.Stop.TheVariants.{Outside}
 use Rattle.tup_top.specs.Lines.{last_line}
@@ -25,3 +27,7 @@ pub memory_prints : (wanted : Wanted) (next : Next) (old : World) (count : ℕ) 
 memory_prints (Ok (Upd program)) next old count held = prints_no_update next old count count held
 memory_prints (Ok Demo) next old count held = prints_no_update mini_next demo_world count count held
 memory_prints (Err place) next old count held = prints_nothing (last_line (Usage place)) count count held
+
+-- what was promised of the rules that it found, where it found none
+pub memory_of : (wanted : Wanted) (old : World) (promise : List Rule → Option Stop → Type 0) → promise [] (Some (Outside NoMemory)) → ForUpdate wanted Memory (OfRules old promise)
+memory_of wanted old promise p = memory_for_update wanted (OfRules old promise) ([], inl refl, p)

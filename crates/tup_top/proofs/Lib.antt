@@ -1,3 +1,4 @@
+pub mod Told
 pub mod Causes
 pub mod Crewed
 pub mod Idle

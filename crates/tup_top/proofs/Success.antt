@@ -10,16 +10,19 @@ use Rattle.tup_access.specs.declared.verdict.Verdict.{Verdict}
 use Rattle.tup_access.specs.declared.verdict.Verdict.TheVariants.{Failed, IllegalRead as ReadsIllegally, IllegalWrite as WritesIllegally, Unwritten as LeavesUnwritten, TooManyReads as ReadsTooOften}
 use Rattle.tup_clean.specs.Clean.{is_good}
 use Rattle.tup_path.specs.Count.{Rose}
-use Rattle.tup_update.specs.Outcome.{IsBadRule, SourcesStay, HasCause}
+use Rattle.tup_update.specs.Log.{OfRules}
+use Rattle.tup_update.specs.Outcome.{SourcesStay, HasCause}
 use Rattle.tup_update.specs.Parts.{HasFileOf}
 use Rattle.tup_update.specs.Sources.{owned, build}
+use Rattle.tup_update.specs.declared.fault.SourcesFault.TheVariants as sources
+use Rattle.tup_update.specs.declared.stop.Stop.TheVariants.{Bad}
 use Rattle.tup_update.proofs.Beside.{left_is}
 use Rattle.tup_top.specs.Status.{came_to}
 use Rattle.tup_top.specs.Crew.{OneRose}
 use Rattle.tup_top.specs.Promise.{HasCountedCause, Counts, NothingFailed, IsClear, IsDoneOrMemory}
-use Rattle.tup_top.specs.declared.status.What.TheVariants.{FileSize}
+use Rattle.tup_top.specs.declared.status.What.TheVariants.{Files, FileSize, Commands, Links}
 use Rattle.tup_top.specs.declared.status.Status.{Status}
-use Rattle.tup_top.specs.declared.status.Status.TheVariants.{Done, Command, IllegalRead, IllegalWrite, Unwritten, TooManyReads, Usage, BadStore, Parse, SiteFault, RunFault, SinkFault, Limit, Memory}
+use Rattle.tup_top.specs.declared.status.Status.TheVariants.{Done, Command, IllegalRead, IllegalWrite, Unwritten, TooManyReads, Usage, BadStore, Parse, CircularDirs, CircularCommands, NoSuchGroup, SiteFault, RunFault, SinkFault, Limit, Memory}
 
 list_all_at : {X : Type 0} (p : X → Bool) (xs : List X) (at : ℕ) (x : X) → list_all p xs ≡ true → slice_get xs at ≡ Some x → p x ≡ true
 list_all_at p xs at x all stands =
@@ -28,9 +31,9 @@ list_all_at p xs at x all stands =
 true_is_not_false : (b : Bool) → b ≡ true → b ≡ false → ⊥
 true_is_not_false b is not = let no : true ≡ false = sym is ∙ not in cc
 
-no_bad_rule : (next : Next) (old new : World) (name : RuleName) (verdict : Verdict) → IsClear next old new → IsBadRule next old name verdict → ⊥
-no_bad_rule next old new name verdict clear bad =
-    true_is_not_false (is_good (Some verdict)) (list_all_at is_good (build next old).verdicts bad.first.at (Some verdict) clear.clean bad.first.given) bad.first.bad
+no_bad_rule : (next : Next) (old new : World) (name : RuleName) (verdict : Verdict) → IsClear next old new → OfRules old (λ rules. HasCause next rules old new) (Some (Bad name verdict)) → ⊥
+no_bad_rule next old new name verdict clear (rules, asks, bad) =
+    true_is_not_false (is_good (Some verdict)) (list_all_at is_good (build next rules old).verdicts bad.ending.at (Some verdict) (clear.clean rules asks) bad.given) bad.ending.bad
 
 not_rose : (before now : ℕ) → now ≡ before → now < 2 ^ 64 - 1 → Rose before now → ⊥
 not_rose before now same counts (inl more) = omega (arith, same, more)
@@ -49,7 +52,7 @@ no_runner_rose before now fine one =
     let same : Some one.is ≡ Some one.was = sym one.stands ∙ there in
     not_rose one.was one.is (cc same) (fine.runners_count one.at one.is one.stands) one.rose
 
-pub succeeds_so : (next : Next) (old new : World) (before now : Counts) (status : Status) → IfSome (came_to status) (HasCause next old new) → HasCountedCause before now status → IsClear next old new → NothingFailed before now → IsDoneOrMemory status
+pub succeeds_so : (next : Next) (old new : World) (before now : Counts) (status : Status) → IfSome (came_to status) (OfRules old (λ rules. HasCause next rules old new)) → HasCountedCause before now status → IsClear next old new → NothingFailed before now → IsDoneOrMemory status
 succeeds_so next old new before now (Done read ran removed) cause counted clear fine = tt
 succeeds_so next old new before now (Command rule status) cause counted clear fine = no_bad_rule next old new rule (Failed status) clear cause
 succeeds_so next old new before now (IllegalRead rule text) cause counted clear fine = no_bad_rule next old new rule (ReadsIllegally text) clear cause
@@ -57,12 +60,18 @@ succeeds_so next old new before now (IllegalWrite rule text) cause counted clear
 succeeds_so next old new before now (Unwritten rule path) cause counted clear fine = no_bad_rule next old new rule (LeavesUnwritten path) clear cause
 succeeds_so next old new before now (TooManyReads rule) cause counted clear fine = no_bad_rule next old new rule ReadsTooOften clear cause
 succeeds_so next old new before now (Usage place) cause counted clear fine = absurd counted
-succeeds_so next old new before now (BadStore offset) cause counted clear fine = let reads = clear.store_reads in absurd (cc)
-succeeds_so next old new before now (Parse fault) cause counted clear fine = let reads = clear.sources_read in absurd (cc)
+succeeds_so next old new before now (BadStore offset) (rules, fits, damaged) counted clear fine = let reads = clear.store_reads in absurd (cc)
+succeeds_so next old new before now (Parse fault) (rules, fits, refused) counted clear fine = absurd (clear.sources_read (sources.Parse fault) refused)
+succeeds_so next old new before now (CircularDirs cycle) (rules, fits, refused) counted clear fine = absurd (clear.sources_read (sources.CircularDirs cycle) refused)
+succeeds_so next old new before now (CircularCommands cycle) (rules, fits, refused) counted clear fine = absurd (clear.sources_read (sources.CircularCommands cycle) refused)
+succeeds_so next old new before now (NoSuchGroup group) (rules, fits, refused) counted clear fine = absurd (clear.sources_read (sources.NoSuchGroup group) refused)
 succeeds_so next old new before now SiteFault cause counted clear fine = not_rose before.site now.site fine.site fine.site_counts counted.0
 succeeds_so next old new before now RunFault cause counted clear fine = no_runner_rose before now fine counted.1
 succeeds_so next old new before now SinkFault cause counted clear fine = not_rose before.sink now.sink fine.sink fine.sink_counts counted.1
-succeeds_so next old new before now (Limit FileSize number) cause counted clear fine = no_large_file next old new number clear cause counted.1
+succeeds_so next old new before now (Limit FileSize number) (rules, fits, large) counted clear fine = no_large_file next old new number clear large counted.1
+succeeds_so next old new before now (Limit Files number) (rules, fits, refused) counted clear fine = absurd (clear.sources_read (sources.TooManyFiles number) refused)
+succeeds_so next old new before now (Limit Commands number) (rules, fits, refused) counted clear fine = absurd (clear.sources_read (sources.TooManyCommands number) refused)
+succeeds_so next old new before now (Limit Links number) (rules, fits, refused) counted clear fine = absurd (clear.sources_read (sources.TooManyLinks number) refused)
 succeeds_so next old new before now Memory cause counted clear fine = tt
 
 -- where nothing was done the sources stay

@@ -3,12 +3,16 @@ use Rattle.std.specs.Prelude.{◌≡◌, ◌<◌, ◌≤◌, ℕ, List, [], ◌�
 use Rattle.tup_path.specs.Count.{Rose}
 use Rattle.tup_path.specs.Name.{Names}
 use Rattle.tup_site.specs.World.{World}
+use Rattle.tup_rule.specs.declared.rule.Rule.{Rule}
 use Rattle.tup_rule.specs.declared.rule.RuleName.{RuleName}
 use Rattle.tup_runner.specs.Next.{Next}
-use Rattle.tup_update.specs.Log.{IsFront, whole_log}
+use Rattle.tup_clean.specs.Taken.{Taken}
+use Rattle.tup_update.specs.Log.{IsFront}
 use Rattle.tup_update.specs.Ran.{RunsThese}
+use Rattle.tup_update.specs.Sources.{ends}
+use Rattle.tup_update.specs.Turns.{names_of, TurnsFit}
 use Rattle.tup_update.specs.declared.stop.Stop.{Stop}
-use Rattle.tup_update.specs.declared.stop.Stop.TheVariants.{BadStore, Parse, Bad, Run, Outside}
+use Rattle.tup_update.specs.declared.stop.Stop.TheVariants.{BadStore, Sources, Bad, Run, Outside}
 use Rattle.tup_top.specs.Order.{Wanted, IsUpdate}
 
 -- a crew has a runner, and at most 16
@@ -24,15 +28,20 @@ pub record OneRose (before now : List ℕ) : Type 0 where
   pub stands : slice_get now at ≡ Some is
   pub rose : Rose was is
 
--- the rules that an update began are its rules in their order, each once: all of them up to the first that is bad, or as
--- many as it came to
-abbrev pub RanFits : Next → World → List RuleName → Option Stop → Type 0
-RanFits next old ran None = ran ≡ (whole_log next old).ran
-RanFits next old ran (Some (Bad name verdict)) = ran ≡ (whole_log next old).ran
-RanFits next old ran (Some (BadStore offset)) = ran ≡ []
-RanFits next old ran (Some (Parse fault)) = ran ≡ []
-RanFits next old ran (Some Run) = IsFront ran (whole_log next old).ran
-RanFits next old ran (Some (Outside failed)) = IsFront ran (whole_log next old).ran
+-- the rules that an update began are those that the clean build takes, in its order: all of them up to the first that is
+-- bad, or as many as it came to
+abbrev pub RanFits : Next → List Rule → World → List RuleName → Option Stop → Type 0
+RanFits next rules old ran None = ran ≡ names_of rules (ends next rules old)
+RanFits next rules old ran (Some (Bad name verdict)) = ran ≡ names_of rules (ends next rules old)
+RanFits next rules old ran (Some (BadStore offset)) = ran ≡ []
+RanFits next rules old ran (Some (Sources fault)) = ran ≡ []
+RanFits next rules old ran (Some Run) = IsFront ran (names_of rules (ends next rules old))
+RanFits next rules old ran (Some (Outside failed)) = IsFront ran (names_of rules (ends next rules old))
+
+-- the rules that it began, whatever its runners mean: each was the first that was ready, by the verdicts that came out, and
+-- at the end all of them are Good
+abbrev pub RanInTurn : List Rule → List RuleName → Option Stop → Type 0
+RanInTurn rules ran stopped = (ended : List Taken) × TurnsFit rules ran ended stopped
 
 -- the first runner was given the commands of these rules to run, and the others ran nothing
 abbrev pub CrewRuns : List RuleName → List (List (Names × List ℕ)) → List (List (Names × List ℕ)) → Option Stop → Type 0

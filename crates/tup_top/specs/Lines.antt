@@ -1,20 +1,22 @@
 -- What is printed of an update (the wording is own): a line for each thing done, and a last one for how it ended.
-use Rattle.std.specs.Prelude.{ℕ, if◌then◌else◌, List, [], ◌∷◌, ◌++◌, Some, codes, decimal}
-use Rattle.std.specs.List.{flat_map, zip}
+use Rattle.std.specs.Prelude.{ℕ, if◌then◌else◌, List, [], ◌∷◌, ◌++◌, None, Some, slice_get, codes, decimal}
+use Rattle.std.specs.List.{flat_map}
 use Rattle.tup_path.specs.Name.{Names}
 use Rattle.tup_path.specs.Show.{show}
+use Rattle.tup_rule.specs.declared.draft.GroupRef.{GroupRef}
 use Rattle.tup_rule.specs.declared.rule.Rule.{Rule}
 use Rattle.tup_rule.specs.declared.rule.RuleName.{RuleName}
 use Rattle.tup_rule.specs.Rule.{label_of}
 use Rattle.tup_access.specs.declared.verdict.Verdict.{Verdict}
 use Rattle.tup_lex.specs.ParseKind.{kind_text}
 use Rattle.tup_clean.specs.Clean.{is_good}
-use Rattle.tup_parse.specs.declared.fault.ParseFault.{ParseFault}
+use Rattle.tup_clean.specs.Taken.{Taken}
+use Rattle.tup_ask.specs.declared.fault.ParseFault.{ParseFault}
 use Rattle.tup_update.specs.declared.update.Log.{Log}
 use Rattle.tup_top.specs.declared.status.Status.{Status}
-use Rattle.tup_top.specs.declared.status.Status.TheVariants.{Done, Command, IllegalRead, IllegalWrite, Unwritten, TooManyReads, Usage, BadStore, Parse, SiteFault, RunFault, SinkFault, Limit, Memory}
+use Rattle.tup_top.specs.declared.status.Status.TheVariants.{Done, Command, IllegalRead, IllegalWrite, Unwritten, TooManyReads, Usage, BadStore, Parse, CircularDirs, CircularCommands, NoSuchGroup, SiteFault, RunFault, SinkFault, Limit, Memory}
 use Rattle.tup_top.specs.declared.status.What.{What}
-use Rattle.tup_top.specs.declared.status.What.TheVariants.{FileSize}
+use Rattle.tup_top.specs.declared.status.What.TheVariants.{Files, FileSize, Commands, Links}
 
 -- a folder whose Tupfile was read
 abbrev pub read_line : Names → List ℕ
@@ -25,13 +27,20 @@ abbrev pub removed_line : Names → List ℕ
 removed_line path = codes "remove " ++ (show path ++ 10 ∷ [])
 
 -- what became of a rule, `DIR: LABEL` behind it
-abbrev pub verdict_line : Rule × Verdict → List ℕ
-verdict_line p =
-    (if is_good (Some p.1) then codes "run " else codes "bad ") ++ (show p.0.dir ++ (codes ": " ++ (label_of p.0 ++ 10 ∷ [])))
+abbrev pub verdict_line : Rule → Verdict → List ℕ
+verdict_line rule verdict =
+    (if is_good (Some verdict) then codes "run " else codes "bad ") ++ (show rule.dir ++ (codes ": " ++ (label_of rule ++ 10 ∷ [])))
+
+-- so of one that was taken
+abbrev pub ended_line : List Rule → Taken → List ℕ
+ended_line rules one = elim (slice_get rules one.0) [ Some rule ↦ verdict_line rule one.1 | None ↦ [] ]
 
 -- what has a limit
 abbrev pub what_text : What → List ℕ
+what_text Files = codes "Files"
 what_text FileSize = codes "FileSize"
+what_text Commands = codes "Commands"
+what_text Links = codes "Links"
 
 -- a fault of the command of a rule: `DIR: COMMAND`, and what it did
 abbrev pub rule_fault : RuleName → List ℕ → List ℕ
@@ -41,6 +50,32 @@ rule_fault rule did = codes "fault: " ++ (show rule.dir ++ (codes ": " ++ (rule.
 abbrev pub parse_fault : ParseFault → List ℕ
 parse_fault fault =
     codes "fault: " ++ (show fault.file ++ (codes ":" ++ (decimal fault.line ++ (codes ": " ++ (kind_text fault.kind ++ (codes ", read for " ++ show fault.dir))))))
+
+-- a folder, and a rule, with an arrow behind it
+abbrev pub folder_arrow : Names → List ℕ
+folder_arrow dir = show dir ++ codes " -> "
+
+abbrev pub rule_arrow : RuleName → List ℕ
+rule_arrow rule = show rule.dir ++ (codes ": " ++ (rule.text ++ codes " -> "))
+
+-- rules in a circle: from the first on, and that one again at the end
+abbrev pub rules_circle : List RuleName → List ℕ
+rules_circle [] = []
+rules_circle (first ∷ rest) = flat_map rule_arrow (first ∷ rest) ++ (show first.dir ++ (codes ": " ++ first.text))
+
+-- folders in a circle: from the first on, and that one again at the end
+abbrev pub folders_circle : List Names → List ℕ
+folders_circle [] = []
+folders_circle (first ∷ rest) = flat_map folder_arrow (first ∷ rest) ++ show first
+
+-- what stands before a name in a folder; nothing for the top
+abbrev pub folder_text : Names → List ℕ
+folder_text [] = []
+folder_text (name ∷ names) = show (name ∷ names) ++ codes "/"
+
+-- a group, `<NAME>` or `DIR/<NAME>`
+abbrev pub group_text : GroupRef → List ℕ
+group_text group = folder_text group.dir ++ (codes "<" ++ (group.name ++ codes ">"))
 
 -- how an order ended
 abbrev pub status_text : Status → List ℕ
@@ -54,6 +89,9 @@ status_text (TooManyReads rule) = rule_fault rule (codes ": reads too often")
 status_text (Usage place) = codes "fault: usage, word " ++ decimal place
 status_text (BadStore offset) = codes "fault: the store is damaged at byte " ++ decimal offset
 status_text (Parse fault) = parse_fault fault
+status_text (CircularDirs cycle) = codes "fault: directories wait for each other: " ++ folders_circle cycle
+status_text (CircularCommands cycle) = codes "fault: commands wait for each other: " ++ rules_circle cycle
+status_text (NoSuchGroup group) = codes "fault: no rule gives to " ++ group_text group
 status_text SiteFault = codes "fault: the file tree or the store failed"
 status_text RunFault = codes "fault: the runner failed"
 status_text SinkFault = codes "fault: the output failed"
@@ -67,4 +105,4 @@ last_line status = status_text status ++ 10 ∷ []
 -- all lines of an update with these rules and this log
 abbrev pub lines : List Rule → Log → Status → List ℕ
 lines rules log status =
-    flat_map read_line log.read ++ (flat_map removed_line log.removed ++ (flat_map verdict_line (zip rules log.verdicts) ++ last_line status))
+    flat_map read_line log.read ++ (flat_map removed_line log.removed ++ (flat_map (ended_line rules) log.ended ++ last_line status))

@@ -41,7 +41,7 @@ pub record Told (next : Next) (old : World) : Type 0 where
   pub log : Log
   pub stopped : Option Stop
   pub are_its_rules : RulesFit old rules stopped
-  pub is_its_log : LogFits next old log stopped
+  pub is_its_log : LogFits next rules old log stopped
 
 -- the lines of an update of this world
 pub record PrintsUpdate (next : Next) (world : World) (before now : ℕ) (old new : List ℕ) (answer : Status) : Type 0 where

@@ -5,11 +5,13 @@ use Rattle.std.specs.FinMap as finite
 use Rattle.tup_path.specs.Count.{Rose}
 use Rattle.tup_path.specs.Name.{Names, Content}
 use Rattle.tup_site.specs.World.{World}
+use Rattle.tup_rule.specs.declared.rule.Rule.{Rule}
 use Rattle.tup_runner.specs.Next.{Next}
 use Rattle.tup_clean.specs.Clean.{succeeds}
 use Rattle.tup_owned.specs.Owned.{owned_of}
 use Rattle.tup_update.specs.Log.{whole_log}
-use Rattle.tup_update.specs.Sources.{rules_read, rules, build}
+use Rattle.tup_update.specs.Sources.{AsksFor, Refuses, build}
+use Rattle.tup_update.specs.declared.fault.SourcesFault.{SourcesFault}
 use Rattle.tup_update.specs.declared.stop.Stop.{Stop}
 use Rattle.tup_top.specs.Status.{status_of, came_to}
 use Rattle.tup_top.specs.Order.{Wanted, IsUpdate}
@@ -17,7 +19,8 @@ use Rattle.tup_top.specs.Crew.{OneRose}
 use Rattle.tup_top.specs.declared.order.Order.TheVariants.{Upd, Demo}
 use Rattle.tup_top.specs.declared.status.Status.{Status}
 use Rattle.tup_top.specs.declared.status.Status.TheVariants.{Done, Usage, SiteFault, RunFault, SinkFault, Limit, Memory}
-use Rattle.tup_top.specs.declared.status.What.TheVariants.{FileSize}
+use Rattle.tup_top.specs.declared.status.What.{What}
+use Rattle.tup_top.specs.declared.status.What.TheVariants.{Files, FileSize, Commands, Links}
 
 -- a promise of an update, of what the update came to
 abbrev pub ForUpdate : Wanted → Status → (Option Stop → Type 0) → Type 0
@@ -30,15 +33,9 @@ abbrev pub NothingDone : Wanted → World → World → Type 0
 NothingDone wanted old new = (IsUpdate wanted → ⊥) → new ≡ old
 
 -- what is counted as done is all that there was to do
-abbrev pub CountsAll : Next → World → Status → Type 0
-CountsAll next old (Done read ran removed) = Done read ran removed ≡ status_of (whole_log next old) None
-CountsAll next old other = ⊤
-
--- an update says so
-abbrev pub TellsWhatWasDone : Wanted → Next → World → Status → Type 0
-TellsWhatWasDone (Ok (Upd program)) next old status = CountsAll next old status
-TellsWhatWasDone (Ok Demo) next old status = ⊤
-TellsWhatWasDone (Err place) next old status = ⊤
+abbrev pub CountsAll : Next → List Rule → World → Status → Type 0
+CountsAll next rules old (Done read ran removed) = Done read ran removed ≡ status_of (whole_log next rules old) None
+CountsAll next rules old other = ⊤
 
 -- the failures that a site, the runners of a crew and a sink have counted
 pub record Counts : Type 0 where
@@ -54,6 +51,13 @@ counts of_site of_runner of_sink site crew sink = record { site = of_site site; 
 abbrev pub AreSteady : Counts → Counts → Type 0
 AreSteady before now = (now.site ≡ before.site) × (now.runners ≡ before.runners)
 
+-- how many of these there may be: a limit is told only where it is passed
+abbrev pub most : What → ℕ
+most Files = 65536
+most FileSize = 16777216
+most Commands = 65536
+most Links = 4194304
+
 -- the causes that every site, runner and sink shows: no count rises unseen, and a count that is blamed rose. Want of memory
 -- while lines are printed is answered in the place of all else.
 abbrev pub HasCountedCause : Counts → Counts → Status → Type 0
@@ -61,7 +65,7 @@ HasCountedCause before now (Done read ran removed) = AreSteady before now × (no
 HasCountedCause before now SinkFault = AreSteady before now × Rose before.sink now.sink
 HasCountedCause before now SiteFault = Rose before.site now.site × (now.runners ≡ before.runners)
 HasCountedCause before now RunFault = (now.site ≡ before.site) × OneRose before.runners now.runners
-HasCountedCause before now (Limit FileSize number) = AreSteady before now × (16777216 < number)
+HasCountedCause before now (Limit what number) = AreSteady before now × (most what < number)
 HasCountedCause before now (Usage place) = ⊥
 HasCountedCause before now Memory = ⊤
 HasCountedCause before now other = AreSteady before now
@@ -70,7 +74,7 @@ HasCountedCause before now other = AreSteady before now
 abbrev pub HasDemoCause : ℕ → ℕ → Status → Type 0
 HasDemoCause before now (Done read ran removed) = now ≡ before
 HasDemoCause before now SinkFault = Rose before now
-HasDemoCause before now (Limit FileSize number) = 16777216 < number
+HasDemoCause before now (Limit what number) = most what < number
 HasDemoCause before now (Usage place) = ⊥
 HasDemoCause before now RunFault = ⊥
 HasDemoCause before now other = ⊤
@@ -100,8 +104,8 @@ pub record NothingFailed (before now : Counts) : Type 0 where
 pub record IsClear (next : Next) (old new : World) : Type 0 where
   pub store : List Names
   pub store_reads : owned_of old.store ≡ Ok store
-  pub sources_read : rules_read old ≡ Ok (rules old)
-  pub clean : IsTrue (succeeds (build next old))
+  pub sources_read : (fault : SourcesFault) → Refuses old fault → ⊥
+  pub clean : (rules : List Rule) → AsksFor old rules → IsTrue (succeeds (build next rules old))
   pub small : (path : Names) (content : Content) → finite.get new.tree path ≡ Some content → length content ≤ 16777216
 
 -- an answer that is free, or says that all was done

@@ -5,12 +5,14 @@ use Rattle.tup_site.specs.declared.fault.SiteFailed.TheVariants.{Fault, TooLarge
 use Rattle.tup_rule.specs.declared.rule.RuleName.{RuleName}
 use Rattle.tup_access.specs.declared.verdict.Verdict.{Verdict}
 use Rattle.tup_access.specs.declared.verdict.Verdict.TheVariants.{Good, Failed, IllegalRead as ReadsIllegally, IllegalWrite as WritesIllegally, Unwritten as LeavesUnwritten, TooManyReads as ReadsTooOften}
+use Rattle.tup_update.specs.declared.fault.SourcesFault.{SourcesFault}
+use Rattle.tup_update.specs.declared.fault.SourcesFault.TheVariants as sources
 use Rattle.tup_update.specs.declared.update.Log.{Log}
 use Rattle.tup_update.specs.declared.stop.Stop.{Stop}
-use Rattle.tup_update.specs.declared.stop.Stop.TheVariants.{BadStore as StoreDamaged, Parse as ParseFailed, Bad, Run, Outside}
+use Rattle.tup_update.specs.declared.stop.Stop.TheVariants.{BadStore as StoreDamaged, Sources, Bad, Run, Outside}
 use Rattle.tup_top.specs.declared.status.Status.{Status}
-use Rattle.tup_top.specs.declared.status.Status.TheVariants.{Done, Command, IllegalRead, IllegalWrite, Unwritten, TooManyReads, Usage, BadStore, Parse, SiteFault, RunFault, SinkFault, Limit, Memory}
-use Rattle.tup_top.specs.declared.status.What.TheVariants.{FileSize}
+use Rattle.tup_top.specs.declared.status.Status.TheVariants.{Done, Command, IllegalRead, IllegalWrite, Unwritten, TooManyReads, Usage, BadStore, Parse, CircularDirs, CircularCommands, NoSuchGroup, SiteFault, RunFault, SinkFault, Limit, Memory}
+use Rattle.tup_top.specs.declared.status.What.TheVariants.{Files, FileSize, Commands, Links}
 
 -- the exit number of the program
 abbrev pub exit_of : Status → ℕ
@@ -23,6 +25,9 @@ exit_of (TooManyReads rule) = 1
 exit_of (Usage place) = 2
 exit_of (BadStore offset) = 4
 exit_of (Parse fault) = 5
+exit_of (CircularDirs cycle) = 5
+exit_of (CircularCommands cycle) = 5
+exit_of (NoSuchGroup group) = 5
 exit_of SiteFault = 7
 exit_of RunFault = 8
 exit_of SinkFault = 9
@@ -42,6 +47,16 @@ status_of_bad rule (WritesIllegally text) = IllegalWrite rule text
 status_of_bad rule (LeavesUnwritten path) = Unwritten rule path
 status_of_bad rule ReadsTooOften = TooManyReads rule
 
+-- the status of sources that ask for no rules
+abbrev pub status_of_sources : SourcesFault → Status
+status_of_sources (sources.TooManyFiles number) = Limit Files number
+status_of_sources (sources.Parse fault) = Parse fault
+status_of_sources (sources.CircularDirs cycle) = CircularDirs cycle
+status_of_sources (sources.TooManyCommands number) = Limit Commands number
+status_of_sources (sources.NoSuchGroup group) = NoSuchGroup group
+status_of_sources (sources.TooManyLinks number) = Limit Links number
+status_of_sources (sources.CircularCommands cycle) = CircularCommands cycle
+
 -- the status of an order that the outside stops
 abbrev pub status_of_outside : SiteFailed → Status
 status_of_outside Fault = SiteFault
@@ -50,9 +65,9 @@ status_of_outside NoMemory = Memory
 
 -- the status of an update with this log that stopped for this reason, or came to its end
 abbrev pub status_of : Log → Option Stop → Status
-status_of log None = Done (capped (length log.read)) (capped (length log.verdicts)) (capped (length log.removed))
+status_of log None = Done (capped (length log.read)) (capped (length log.ended)) (capped (length log.removed))
 status_of log (Some (StoreDamaged offset)) = BadStore offset
-status_of log (Some (ParseFailed fault)) = Parse fault
+status_of log (Some (Sources fault)) = status_of_sources fault
 status_of log (Some (Bad rule verdict)) = status_of_bad rule verdict
 status_of log (Some Run) = RunFault
 status_of log (Some (Outside failed)) = status_of_outside failed
@@ -68,10 +83,16 @@ came_to (IllegalWrite rule text) = Some (Some (Bad rule (WritesIllegally text)))
 came_to (Unwritten rule path) = Some (Some (Bad rule (LeavesUnwritten path)))
 came_to (TooManyReads rule) = Some (Some (Bad rule ReadsTooOften))
 came_to (BadStore offset) = Some (Some (StoreDamaged offset))
-came_to (Parse fault) = Some (Some (ParseFailed fault))
+came_to (Parse fault) = Some (Some (Sources (sources.Parse fault)))
+came_to (CircularDirs cycle) = Some (Some (Sources (sources.CircularDirs cycle)))
+came_to (CircularCommands cycle) = Some (Some (Sources (sources.CircularCommands cycle)))
+came_to (NoSuchGroup group) = Some (Some (Sources (sources.NoSuchGroup group)))
 came_to SiteFault = Some (Some (Outside Fault))
 came_to RunFault = Some (Some Run)
+came_to (Limit Files number) = Some (Some (Sources (sources.TooManyFiles number)))
 came_to (Limit FileSize number) = Some (Some (Outside (TooLarge number)))
+came_to (Limit Commands number) = Some (Some (Sources (sources.TooManyCommands number)))
+came_to (Limit Links number) = Some (Some (Sources (sources.TooManyLinks number)))
 came_to Memory = Some (Some (Outside NoMemory))
 came_to (Usage place) = None
 

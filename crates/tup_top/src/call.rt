@@ -1,11 +1,12 @@
 //! The top call.
 ghost use Rattle.std.specs.Prelude.{IsTrue, map};
+ghost use Rattle.tup_update.specs.Log.{OfRules};
 ghost use Rattle.tup_update.specs.Outcome.{ExactlyTheFiles, SourcesStay, NothingForgotten, HasCause};
 ghost use Rattle.tup_top.specs.Order.{order};
-ghost use Rattle.tup_top.specs.Crew.{IsCrew, CrewRuns, RanFits, NothingRun};
+ghost use Rattle.tup_top.specs.Crew.{IsCrew, CrewRuns, RanFits, RanInTurn, NothingRun};
 ghost use Rattle.tup_top.specs.Lines.{last_line as line_of};
 ghost use Rattle.tup_top.specs.Printed.{Printed, Prints};
-ghost use Rattle.tup_top.specs.Promise.{ForUpdate, NothingDone, TellsWhatWasDone, HasPlainCause, IsRefusal, Succeeds, counts};
+ghost use Rattle.tup_top.specs.Promise.{ForUpdate, NothingDone, CountsAll, HasPlainCause, IsRefusal, Succeeds, counts};
 ghost use Rattle.tup_top.specs.declared.status.Status.TheVariants.{Usage};
 
 use crate::order::{Order, OrderFault, Word, order_of};
@@ -43,22 +44,26 @@ pub fn tup<S: Site, R: Runner, K: Sink>(
     out: &mut K,
 ) -> Ran<S, R>
     requires crew { IsCrew crew.items }
-    ensures exactly_the_files { IsTrue S.tells → IsTrue R.tells
-        → ForUpdate (order words.now) result.status
-        (ExactlyTheFiles R.next (S.world site) (S.world result.site)) }
+    ensures exactly_the_files { IsTrue S.tells → IsTrue R.tells → let old = S.world site in
+        let new = S.world result.site in ForUpdate (order words.now) result.status
+        (OfRules old (λ rules. ExactlyTheFiles R.next rules old new)) }
     ensures sources_stay { IsTrue S.tells → SourcesStay (S.world site) (S.world result.site) }
-    ensures nothing_forgotten { IsTrue S.tells → IsTrue R.tells
-        → ForUpdate (order words.now) result.status
-        (NothingForgotten R.next (S.world site) (S.world result.site)) }
+    ensures nothing_forgotten { IsTrue S.tells → let old = S.world site in
+        let new = S.world result.site in ForUpdate (order words.now) result.status
+        (OfRules old (λ rules. NothingForgotten R.tells R.next rules old new)) }
     ensures nothing_done { IsTrue S.tells
         → NothingDone (order words.now) (S.world site) (S.world result.site) }
     ensures nothing_run { NothingRun (order words.now) crew.items result.crew.items result.ran }
-    ensures begun { IsTrue S.tells → IsTrue R.tells
-        → ForUpdate (order words.now) result.status (RanFits R.next (S.world site) result.ran) }
+    ensures begun { IsTrue S.tells → IsTrue R.tells → let old = S.world site in
+        ForUpdate (order words.now) result.status
+        (OfRules old (λ rules. RanFits R.next rules old result.ran)) }
+    ensures in_turn { IsTrue S.tells → ForUpdate (order words.now) result.status
+        (OfRules (S.world site) (λ rules. RanInTurn rules result.ran)) }
     ensures ran { IsTrue R.tells_ran → ForUpdate (order words.now) result.status
         (CrewRuns result.ran (map R.ran crew.items) (map R.ran result.crew.items)) }
-    ensures cause { IsTrue S.tells → IsTrue R.tells → ForUpdate (order words.now) result.status
-        (HasCause R.next (S.world site) (S.world result.site)) }
+    ensures cause { IsTrue S.tells → IsTrue R.tells → let old = S.world site in
+        let new = S.world result.site in ForUpdate (order words.now) result.status
+        (OfRules old (λ rules. HasCause R.next rules old new)) }
     ensures plain_cause { let before = counts S.faults R.faults K.faults site crew.items out.old in
         let now = counts S.faults R.faults K.faults result.site result.crew.items out.new in
         HasPlainCause (order words.now) before now result.status }
@@ -67,8 +72,9 @@ pub fn tup<S: Site, R: Runner, K: Sink>(
         let now = counts S.faults R.faults K.faults result.site result.crew.items out.new in
         let new = S.world result.site in
         Succeeds (order words.now) R.next (S.world site) new before now result.status }
-    ensures told { IsTrue S.tells → IsTrue R.tells
-        → TellsWhatWasDone (order words.now) R.next (S.world site) result.status }
+    ensures told { IsTrue S.tells → IsTrue R.tells → let old = S.world site in
+        ForUpdate (order words.now) result.status
+        (OfRules old (λ rules _. CountsAll R.next rules old result.status)) }
     ensures printed { IsTrue S.tells → IsTrue R.tells → IsTrue K.tells
         → let before = K.faults out.old in let now = K.faults out.new in
         let new = K.held out.new in

@@ -6,6 +6,7 @@
 #![tactic(auto)]
 
 mod call;
+mod circle;
 mod order;
 mod print;
 mod status;

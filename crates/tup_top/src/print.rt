@@ -1,6 +1,6 @@
 //! What is printed of an order, and how it is handed to a sink.
 ghost use Rattle.std.specs.Prelude.{◌≡◌, ◌++◌, IsTrue, IfOk, OnOk, string_bytes};
-ghost use Rattle.std.specs.List.{flat_map, zip};
+ghost use Rattle.std.specs.List.{flat_map};
 ghost use Rattle.tup_top.specs.Lines as specs;
 ghost use Rattle.tup_top.specs.Printed.{Ends, Prints, IsDone};
 ghost use Rattle.tup_top.specs.Status.{after_sink_fault as spec_after};
@@ -25,7 +25,7 @@ pub(crate) fn lines(
     let mut text = String::new(alloc);
     add_read(&mut text, log.read.as_slice())?;
     add_removed(&mut text, log.removed.as_slice())?;
-    add_verdicts(&mut text, rules, log.verdicts.as_slice())?;
+    add_ended(&mut text, rules, log.ended.as_slice())?;
     writeln!(text, "{status}")?;
     Ok(Bytes::new(text.into_bytes()))
 }
@@ -60,20 +60,40 @@ fn add_removed(text: &mut String, paths: &[Path]) -> Result<(), AllocError>
     Ok(())
 }
 
-/// Adds a line for each rule that was run.
-fn add_verdicts(text: &mut String, rules: &[Rule], verdicts: &[Verdict]) -> Result<(), AllocError>
-    ensures { let told = flat_map specs.verdict_line (zip rules.now verdicts.now) in
+/// Adds a line for each rule that ended.
+fn add_ended(
+    text: &mut String,
+    rules: &[Rule],
+    ended: &[(usize, Verdict)],
+) -> Result<(), AllocError>
+    ensures { let told = flat_map (specs.ended_line rules.now) ended.now in
         OnOk result (string_bytes text.new ≡ string_bytes text.old ++ told) }
 {
-    for (rule, verdict) in rules.iter().zip(verdicts) {
-        add_verdict(text, rule, verdict)?;
+    for (at, verdict) in ended {
+        add_line(text, rules, *at, verdict)?;
     }
     Ok(())
 }
 
-/// Adds the line of a rule that was run.
+/// Adds the line of the rule at a place.
+fn add_line(
+    text: &mut String,
+    rules: &[Rule],
+    at: usize,
+    verdict: &Verdict,
+) -> Result<(), AllocError>
+    ensures { let told = specs.ended_line rules.now (at, verdict.now) in
+        OnOk result (string_bytes text.new ≡ string_bytes text.old ++ told) }
+{
+    match rules.get(at) {
+        Some(rule) => add_verdict(text, rule, verdict),
+        None => Ok(()),
+    }
+}
+
+/// Adds the line of a rule that ended.
 fn add_verdict(text: &mut String, rule: &Rule, verdict: &Verdict) -> Result<(), AllocError>
-    ensures { let told = specs.verdict_line (rule.now, verdict.now) in
+    ensures { let told = specs.verdict_line rule.now verdict.now in
         OnOk result (string_bytes text.new ≡ string_bytes text.old ++ told) }
 {
     let what = match verdict {

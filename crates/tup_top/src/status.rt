@@ -2,20 +2,29 @@
 ghost use Rattle.std.specs.Prelude.{◌≡◌, Some};
 ghost use Rattle.tup_top.specs.Lines.{status_text, what_text};
 ghost use Rattle.tup_top.specs.Status as specs;
+ghost use Rattle.tup_top.specs.declared.status.Status.TheVariants.{Limit};
 
+use crate::circle::{Commands, Folders, Group};
 use std::fmt;
 use tup_access::Verdict;
-use tup_parse::ParseFault;
-use tup_path::{Path, Text};
-use tup_rule::RuleName;
+use tup_ask::ParseFault;
+use tup_link::RuleNames;
+use tup_path::{Path, Paths, Text};
+use tup_rule::{GroupRef, RuleName};
 use tup_site::SiteFailed;
-use tup_update::{Log, Stop};
+use tup_update::{Log, SourcesFault, Stop};
 
 /// What has a limit.
 #[derive(Clone, Copy, Debug, PartialEq, Eq)]
 pub enum What {
+    /// The files of the tree.
+    Files,
     /// The bytes of one file.
     FileSize,
+    /// The rules.
+    Commands,
+    /// The inputs that all rules declare.
+    Links,
 }
 
 /// How an order ended.
@@ -37,8 +46,16 @@ pub enum Status {
     Usage { place: u32 },
     /// The store doesn't read from this byte on. Nothing was done.
     BadStore { offset: u64 },
-    /// The sources ask for no rules, for this fault. Nothing was done.
+    /// A file that says what to build has this fault. Nothing was done.
     Parse { fault: ParseFault },
+    /// These folders wait for each other: each for the next one, and the last one for the first.
+    /// Nothing was done.
+    CircularDirs { cycle: Paths },
+    /// These rules wait for each other: each for the next one, and the last one for the first. Nothing
+    /// was done.
+    CircularCommands { cycle: RuleNames },
+    /// A rule takes this group, and no rule gives to it. Nothing was done.
+    NoSuchGroup { group: GroupRef },
     /// The file tree or the store failed.
     SiteFault,
     /// A runner failed.
@@ -65,7 +82,10 @@ impl Status {
             | Status::TooManyReads { .. } => 1,
             Status::Usage { .. } => 2,
             Status::BadStore { .. } => 4,
-            Status::Parse { .. } => 5,
+            Status::Parse { .. }
+            | Status::CircularDirs { .. }
+            | Status::CircularCommands { .. }
+            | Status::NoSuchGroup { .. } => 5,
             Status::SiteFault => 7,
             Status::RunFault => 8,
             Status::SinkFault => 9,
@@ -82,15 +102,37 @@ pub(crate) fn status_of(log: &Log, stopped: Option<Stop>) -> Status
     match stopped {
         None => Status::Done {
             read: capped(log.read.len()),
-            ran: capped(log.verdicts.len()),
+            ran: capped(log.ended.len()),
             removed: capped(log.removed.len()),
         },
         Some(Stop::BadStore(offset)) => Status::BadStore { offset },
-        Some(Stop::Parse(fault)) => Status::Parse { fault },
+        Some(Stop::Sources(fault)) => status_of_sources(fault),
         Some(Stop::Bad(rule, verdict)) => status_of_bad(rule, verdict),
         Some(Stop::Run) => Status::RunFault,
         Some(Stop::Outside(failed)) => status_of_outside(failed),
     }
+}
+
+/// Why the sources ask for no rules.
+fn status_of_sources(fault: SourcesFault) -> Status
+    ensures { result ≡ specs.status_of_sources fault }
+{
+    match fault {
+        SourcesFault::TooManyFiles(number) => over(What::Files, number),
+        SourcesFault::Parse(fault) => Status::Parse { fault },
+        SourcesFault::CircularDirs(cycle) => Status::CircularDirs { cycle },
+        SourcesFault::TooManyCommands(number) => over(What::Commands, number),
+        SourcesFault::NoSuchGroup(group) => Status::NoSuchGroup { group },
+        SourcesFault::TooManyLinks(number) => over(What::Links, number),
+        SourcesFault::CircularCommands(cycle) => Status::CircularCommands { cycle },
+    }
+}
+
+/// So many of these are too many.
+fn over(what: What, number: u64) -> Status
+    ensures { result ≡ Limit what number }
+{
+    Status::Limit { what, number }
 }
 
 /// An update stops at no Good verdict.
@@ -113,10 +155,7 @@ fn status_of_outside(failed: SiteFailed) -> Status
 {
     match failed {
         SiteFailed::Fault => Status::SiteFault,
-        SiteFailed::TooLarge(number) => Status::Limit {
-            what: What::FileSize,
-            number,
-        },
+        SiteFailed::TooLarge(number) => over(What::FileSize, number),
         SiteFailed::Memory => Status::Memory,
     }
 }
@@ -133,7 +172,10 @@ impl fmt::Display for What {
 
     fn fmt<W: fmt::Write>(&self, f: &mut fmt::Formatter<W>) -> fmt::Result {
         f.write_str(match self {
+            What::Files => "Files",
             What::FileSize => "FileSize",
+            What::Commands => "Commands",
+            What::Links => "Links",
         })
     }
 }
@@ -184,6 +226,17 @@ impl fmt::Display for Status {
                     fault.file, fault.line, fault.kind, fault.dir
                 )
             }
+            Status::CircularDirs { cycle } => write!(
+                f,
+                "fault: directories wait for each other: {}",
+                Folders(cycle.as_slice())
+            ),
+            Status::CircularCommands { cycle } => write!(
+                f,
+                "fault: commands wait for each other: {}",
+                Commands(cycle.as_slice())
+            ),
+            Status::NoSuchGroup { group } => write!(f, "fault: no rule gives to {}", Group(group)),
             Status::SiteFault => f.write_str("fault: the file tree or the store failed"),
             Status::RunFault => f.write_str("fault: the runner failed"),
             Status::SinkFault => f.write_str("fault: the output failed"),

@@ -3,9 +3,10 @@ ghost use Rattle.std.specs.Prelude.{◌≡◌, [], ◌∷◌, IsTrue, IfSome, Ok
 ghost use Rattle.tup_path.specs.Resolve.{resolve};
 ghost use Rattle.tup_site.specs.Memory.{world_in};
 ghost use Rattle.tup_mini.specs.Means.{mini_next};
+ghost use Rattle.tup_update.specs.Log.{OfRules};
 ghost use Rattle.tup_update.specs.Ran.{RunsThese};
 ghost use Rattle.tup_update.specs.Outcome.{ExactlyTheFiles, SourcesStay, NothingForgotten, HasCause};
-ghost use Rattle.tup_top.specs.Crew.{RanFits};
+ghost use Rattle.tup_top.specs.Crew.{RanFits, RanInTurn};
 ghost use Rattle.tup_top.specs.Printed.{PrintsUpdate, demo_world};
 ghost use Rattle.tup_top.specs.Promise.{CountsAll, HasCountedCause, HasDemoCause, counts};
 ghost use Rattle.tup_top.specs.Status.{came_to};
@@ -35,22 +36,28 @@ pub(crate) fn update<S: Site, R: Runner, K: Sink>(
     runner: &mut R,
     out: &mut K,
 ) -> Updated
-    ensures exactly_the_files { IsTrue S.tells → IsTrue R.tells → IfSome (came_to result.status)
-        (ExactlyTheFiles R.next (S.world site.old) (S.world site.new)) }
+    ensures exactly_the_files { IsTrue S.tells → IsTrue R.tells → let old = S.world site.old in
+        IfSome (came_to result.status)
+        (OfRules old (λ rules. ExactlyTheFiles R.next rules old (S.world site.new))) }
     ensures sources_stay { IsTrue S.tells → SourcesStay (S.world site.old) (S.world site.new) }
-    ensures nothing_forgotten { IsTrue S.tells → IsTrue R.tells → IfSome (came_to result.status)
-        (NothingForgotten R.next (S.world site.old) (S.world site.new)) }
-    ensures cause { IsTrue S.tells → IsTrue R.tells → IfSome (came_to result.status)
-        (HasCause R.next (S.world site.old) (S.world site.new)) }
+    ensures nothing_forgotten { IsTrue S.tells → let old = S.world site.old in
+        IfSome (came_to result.status)
+        (OfRules old (λ rules. NothingForgotten R.tells R.next rules old (S.world site.new))) }
+    ensures cause { IsTrue S.tells → IsTrue R.tells → let old = S.world site.old in
+        IfSome (came_to result.status)
+        (OfRules old (λ rules. HasCause R.next rules old (S.world site.new))) }
     ensures counted_cause { let before = counts S.faults R.faults K.faults site.old (runner.old ∷ []) out.old in
         let now = counts S.faults R.faults K.faults site.new (runner.new ∷ []) out.new in
         HasCountedCause before now result.status }
-    ensures begun { IsTrue S.tells → IsTrue R.tells
-        → IfSome (came_to result.status) (RanFits R.next (S.world site.old) result.ran) }
+    ensures begun { IsTrue S.tells → IsTrue R.tells → let old = S.world site.old in
+        IfSome (came_to result.status) (OfRules old (λ rules. RanFits R.next rules old result.ran)) }
+    ensures in_turn { IsTrue S.tells → let old = S.world site.old in
+        IfSome (came_to result.status) (OfRules old (λ rules. RanInTurn rules result.ran)) }
     ensures ran { IsTrue R.tells_ran → IfSome (came_to result.status)
         (RunsThese result.ran (R.ran runner.old) (R.ran runner.new)) }
-    ensures told { IsTrue S.tells → IsTrue R.tells
-        → CountsAll R.next (S.world site.old) result.status }
+    ensures told { IsTrue S.tells → IsTrue R.tells → let old = S.world site.old in
+        IfSome (came_to result.status)
+        (OfRules old (λ rules _. CountsAll R.next rules old result.status)) }
     ensures printed { IsTrue S.tells → IsTrue R.tells → IsTrue K.tells
         → let before = K.faults out.old in let now = K.faults out.new in
         PrintsUpdate R.next (S.world site.old) before now (K.held out.old) (K.held out.new)

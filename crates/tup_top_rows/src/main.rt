@@ -5,14 +5,21 @@ mod failing;
 mod session;
 
 use session::Session;
+use std::alloc::Global;
+use std::fs::Files;
 use std::io;
 use tup_rows::try_file_by;
 
 /// Tries the rows.
 fn main(rt: HostRuntime) -> io::Result<()> {
-    let alloc = rt.alloc();
+    try_rows(&rt, rt.alloc(), "tup.rows")?;
+    try_rows(&rt, rt.alloc(), "folders.rows")
+}
+
+/// Tries the rows of a file, from an empty project on.
+fn try_rows<R: Files + Print>(rt: &R, alloc: Global, name: &str) -> io::Result<()> {
     match Session::new(alloc, 0, 0) {
-        Ok(session) => try_file_by(&rt, alloc, "tup.rows", session),
-        Err(fault) => println!(rt; "tup.rows: {fault}"),
+        Ok(session) => try_file_by(rt, alloc, name, session),
+        Err(fault) => println!(rt; "{name}: {fault}"),
     }
 }

@@ -1,5 +1,5 @@
 -- Why a site gave no file, as its refusal tells it, and what becomes of a command then.
-use Rattle.std.proofs.Common.{◌≡◌, ℕ, Bool, true, IsTrue, IsSome, IfOk, List, [], Result, Err, Option, None, Some, refl, sym, ◌∙◌, ap, subst}
+use Rattle.std.proofs.Common.{◌≡◌, ℕ, Bool, IsTrue, IsSome, IfOk, List, [], Result, Err, Option, None, Some, refl, sym, ◌∙◌, ap, subst}
 use Rattle.std.proofs.lemmas.Bool.{false≢true}
 use Rattle.std.proofs.lemmas.Option.{same_Some}
 use Rattle.tup_path.specs.Name.{Names, Content}

@@ -1,5 +1,5 @@
 -- What an update promises, for each way in which it can come out.
-use Rattle.std.proofs.Common.{◌≡◌, ◌≢◌, ◌⊎◌, inl, inr, ℕ, ◌++◌, [], List, Option, None, Some, Result, Ok, Err, refl, sym, ◌∙◌, ap, subst}
+use Rattle.std.proofs.Common.{◌≡◌, ◌≢◌, ◌⊎◌, inl, inr, ℕ, Bool, IsTrue, ◌++◌, [], List, None, Some, Result, Ok, Err, refl, sym, ◌∙◌, ap, subst}
 use Rattle.std.specs.Result.{result_err, IsErrAnd}
 use Rattle.std.specs.FinMap as finite
 use Rattle.tup_path.specs.Name.{Names}
@@ -11,86 +11,121 @@ use Rattle.tup_rule.specs.declared.rule.Rule.{Rule}
 use Rattle.tup_rule.specs.declared.rule.RuleName.{RuleName}
 use Rattle.tup_access.specs.declared.verdict.Verdict.{Verdict}
 use Rattle.tup_runner.specs.Next.{Next}
-use Rattle.tup_clean.specs.Clean.{Build, clean}
-use Rattle.tup_parse.specs.declared.fault.ReadEnd.{ReadEnd}
-use Rattle.tup_parse.specs.declared.fault.ReadEnd.TheVariants.{Fault as ParseFailed, Memory as NotRead}
+use Rattle.tup_clean.specs.Clean.{clean}
+use Rattle.tup_clean.specs.Taken.{Taken, takes, up_to_bad}
 use Rattle.tup_owned.specs.Owned.{owned_of, spelling}
 use Rattle.tup_owned.specs.Ascending.{ascending}
-use Rattle.tup_update.specs.Log.{begun, up_to_first_bad, IsFront, IsGrownByFront, IsPartOf, IsEmptyLog, IsUnused, LogFits, RulesFit, whole_log, with_read}
-use Rattle.tup_update.specs.Outcome.{Stays, Keeps, HasCause, IsListed, IsLeft, NothingForgotten, SourcesStay, claimed}
-use Rattle.tup_update.specs.Parts.{Changes, SameBeside, SameBesideOutputs, HasFileOf, IsBuilt, IsFirstBad, IsProject}
-use Rattle.tup_update.specs.Sources.{owned, rules_read, rules, build, build_beside, files_beside, outputs, vanished, gone, left_over}
-use Rattle.tup_update.specs.Stopped.{stop_of, stop_of_halt, unread_of_reading}
+use Rattle.tup_update.specs.Log.{IsFront, IsGrownByFront, IsPartOf, IsEmptyLog, IsUnused, LogFits, RulesFit, whole_log, with_read}
+use Rattle.tup_update.specs.Outcome.{Stays, Keeps, HasCause, HasCountedCause, IsListed, AllIsMade, IsLeft, NothingForgotten, SourcesStay, claimed}
+use Rattle.tup_update.specs.Outside.{HandsOn}
+use Rattle.tup_update.specs.Parts.{IsOfRules, IsRefusal, KnowsLimits, Changes, SameBeside, SameBesideOutputs, IsCleared, IsRunnable, HasFileOf, HasRun, AreNoted, ArePartNoted, IsBuilt, IsProject}
+use Rattle.tup_update.specs.Sources.{owned, sources, files_beside, ends, outputs, vanished}
+use Rattle.tup_update.specs.Stopped.{stop_of, stop_of_halt}
+use Rattle.tup_update.specs.Turns.{names_of, AreInTurn, AreBegun, TurnsFit}
 use Rattle.tup_update.specs.declared.project.Project.{Project}
 use Rattle.tup_update.specs.declared.stop.Halt.{Halt}
 use Rattle.tup_update.specs.declared.stop.Halt.TheVariants.{Run as RunHalted, Outside as Halted}
-use Rattle.tup_update.specs.declared.stop.Stop.{Stop}
-use Rattle.tup_update.specs.declared.stop.Stop.TheVariants.{Bad, Run, Outside}
+use Rattle.tup_update.specs.declared.stop.Stop.TheVariants.{Bad, Outside}
 use Rattle.tup_update.specs.declared.stop.Unread.{Unread}
 use Rattle.tup_update.specs.declared.stop.Unread.TheVariants.{Store, Sources, Outside as Unlucky}
 use Rattle.tup_update.specs.declared.update.Log.{Log}
 use Rattle.tup_update.proofs.Beside.{left_is}
-use Rattle.tup_update.proofs.Ending.{sources_are_kept, read_is, rules_read_is, folders_are, rules_are, gone_are, vanished_are, no_front, whole_front, grown_from_nothing}
-use Rattle.tup_update.proofs.Known.{build_is, claimed_known, made_known}
-use Rattle.tup_update.proofs.Preparing.{same_sources, changes, listed_reads}
+use Rattle.tup_update.proofs.Ending.{sources_are_kept, project_owns, project_builds, gone_are, vanished_are, no_front, whole_front, grown_from_nothing}
+use Rattle.tup_update.proofs.Known.{sources_are, claimed_known, beside_outputs, beside_ascending}
+use Rattle.tup_update.proofs.Preparing.{same_sources, changes, listed_reads, runnable}
 
 -- the stop that a result carries
 pub err_is : {A E : Type 0} (result : Result A E) (stop : E) → IsErrAnd result (λ e. e ≡ stop) → result_err result ≡ Some stop
 err_is {A} {E} (Ok value) stop is = absurd is
 err_is {A} {E} (Err given) stop is = ap (λ (e : E). Some e) is
 
--- why a project couldn't be read, where its sources are at fault
-pub reading_cause : (next : Next) (old new : World) (r right : Result (List Rule) ReadEnd) (end : ReadEnd) → (r ≡ Err NotRead) ⊎ (r ≡ right) → r ≡ Err end → rules_read old ≡ right →
-    HasCause next old new (Some (stop_of (unread_of_reading end)))
-reading_cause next old new r right (ParseFailed found) (inl none) is same = absurd (cc (none, is))
-reading_cause next old new r right (ParseFailed found) (inr some) is same = same ∙ sym some ∙ is
-reading_cause next old new r right NotRead choice is same = tt
+-- why a project has no rules
+pub refusal_cause : (next : Next) (rules : List Rule) (old new : World) (unread : Unread) → IsRefusal old unread → HasCause next rules old new (Some (stop_of unread))
+refusal_cause next rules old new (Store offset) refused = absurd refused
+refusal_cause next rules old new (Sources fault) refused = refused
+refusal_cause next rules old new (Unlucky Fault) refused = tt
+refusal_cause next rules old new (Unlucky (TooLarge n)) refused = absurd (cc refused)
+refusal_cause next rules old new (Unlucky Memory) refused = tt
+
+-- what is told of the rules tells of no failure of the site
+pub refusal_knows : (unread : Unread) → IsOfRules unread → KnowsLimits unread
+refusal_knows (Store offset) told = absurd told
+refusal_knows (Sources fault) told = told
+refusal_knows (Unlucky failed) told = tt
+
+pub refusal_counts : (before now : ℕ) (unread : Unread) → now ≡ before → IsOfRules unread → HasCountedCause before now (Some (stop_of unread))
+refusal_counts before now (Store offset) same told = absurd told
+refusal_counts before now (Sources fault) same told = (same, told)
+refusal_counts before now (Unlucky Fault) same told = absurd (cc told)
+refusal_counts before now (Unlucky (TooLarge n)) same told = absurd (cc told)
+refusal_counts before now (Unlucky Memory) same told = same
+
+pub refusal_hands_on : {T : Type 0} (before now : ℕ) (result : Result T Unread) (unread : Unread) → IsErrAnd result (λ e. e ≡ unread) → now ≡ before → IsOfRules unread → HandsOn Unlucky before now result
+refusal_hands_on {T} before now (Ok value) unread is same told = absurd is
+refusal_hands_on {T} before now (Err given) unread is same told = record {
+  fault = λ e. let it : given ≡ Unlucky Fault = cc e in let never : Fault ≡ Memory = subst IsOfRules (sym is ∙ it) told in absurd (cc never);
+  steady = λ other. same;
+  too_large = λ n e. let it : given ≡ Unlucky (TooLarge n) = cc e in let never : TooLarge n ≡ Memory = subst IsOfRules (sym is ∙ it) told in absurd (cc never);
+}
+
+-- the counts of what stops before it begins
+pub unread_counts : {T : Type 0} (before now : ℕ) (result : Result T Unread) (unread : Unread) → result ≡ Err unread → HandsOn Unlucky before now result → KnowsLimits unread →
+    HasCountedCause before now (Some (stop_of unread))
+unread_counts before now result (Store offset) is hands limits = hands.steady (λ e. cc (is, e))
+unread_counts before now result (Sources fault) is hands limits = (hands.steady (λ e. cc (is, e)), limits)
+unread_counts before now result (Unlucky Fault) is hands limits = hands.fault is
+unread_counts before now result (Unlucky (TooLarge n)) is hands limits = (hands.steady (λ e. cc (is, e)), hands.too_large n is)
+unread_counts before now result (Unlucky Memory) is hands limits = hands.steady (λ e. cc (is, e))
 
 -- ---- an update that changed nothing
 
 unchanged_sources : (old new : World) → new ≡ old → SourcesStay old new
 unchanged_sources old new same path there = ap (λ (w : World). finite.get w.tree path) same ∙ sym (left_is (owned old) old.tree path there).1
 
-unchanged_left : (next : Next) (old new : World) → new ≡ old → IsLeft next old new
-unchanged_left next old new same = inr (inl (ap (λ (w : World). w.tree) same))
-
-nothing_done : (next : Next) (w : World) (log : Log) → IsEmptyLog log → IsPartOf log (whole_log next w)
-nothing_done next w log empty = record {
-  read = no_front log.read (whole_log next w).read empty.0;
-  removed = no_front log.removed (whole_log next w).removed empty.1;
-  ran = no_front log.ran (whole_log next w).ran empty.2;
-  verdicts = no_front log.verdicts (whole_log next w).verdicts empty.3;
-}
+-- where nothing was run nothing was run out of turn
+pub no_turns : (rules : List Rule) (ran : List RuleName) (ended : List Taken) → ran ≡ [] → ended ≡ [] → AreInTurn rules ended × AreBegun rules ran ended
+no_turns rules ran ended nothing none =
+    subst (λ (l : List Taken). AreInTurn rules l × AreBegun rules ran l) (sym none) ((tt, refl), inl nothing)
 
 -- where the project couldn't be read
-pub unread_stays : (old new : World) (found : List Rule) (unread : Unread) → new ≡ old → found ≡ [] → Stays old new found (Some (stop_of unread))
-unread_stays old new found unread same none = record { sources_stay = unchanged_sources old new same; rules_fit = fit unread }
+pub unread_stays : (tells : Bool) (next : Next) (rules : List Rule) (old new : World) (log : Log) (unread : Unread) → new ≡ old → rules ≡ [] → IsEmptyLog log →
+    Stays tells next rules old new log (Some (stop_of unread))
+unread_stays tells next rules old new log unread same none empty = record {
+  sources_stay = unchanged_sources old new same;
+  rules_fit = fit unread;
+  nothing_forgotten = forgotten unread;
+  turns_fit = turns unread;
+}
   where
-    fit : (unread : Unread) → RulesFit old found (Some (stop_of unread))
+    fit : (unread : Unread) → RulesFit old rules (Some (stop_of unread))
     fit (Store offset) = none
     fit (Sources fault) = none
     fit (Unlucky failed) = inl none
 
-pub unread_keeps : (next : Next) (old new : World) (log : Log) (unread : Unread) → new ≡ old → HasCause next old new (Some (stop_of unread)) → IsEmptyLog log →
-    Keeps next old new log (Some (stop_of unread))
-unread_keeps next old new log unread same why empty = record {
+    forgotten : (unread : Unread) → NothingForgotten tells next rules old new (Some (stop_of unread))
+    forgotten (Store offset) = same
+    forgotten (Sources fault) = same
+    forgotten (Unlucky Fault) = inl same
+    forgotten (Unlucky (TooLarge n)) = inl same
+    forgotten (Unlucky Memory) = inl same
+
+    turns : (unread : Unread) → TurnsFit rules log.ran log.ended (Some (stop_of unread))
+    turns (Store offset) = (empty.2, empty.3)
+    turns (Sources fault) = (empty.2, empty.3)
+    turns (Unlucky failed) = no_turns rules log.ran log.ended empty.2 empty.3
+
+pub unread_keeps : (next : Next) (rules : List Rule) (old new : World) (log : Log) (unread : Unread) → HasCause next rules old new (Some (stop_of unread)) → IsEmptyLog log →
+    Keeps next rules old new log (Some (stop_of unread))
+unread_keeps next rules old new log unread why empty = record {
   exactly_the_files = tt;
-  nothing_forgotten = forgotten unread;
   cause = why;
   log_fits = logged unread;
 }
   where
-    forgotten : (unread : Unread) → NothingForgotten next old new (Some (stop_of unread))
-    forgotten (Store offset) = same
-    forgotten (Sources fault) = same
-    forgotten (Unlucky Fault) = unchanged_left next old new same
-    forgotten (Unlucky (TooLarge n)) = inl same
-    forgotten (Unlucky Memory) = unchanged_left next old new same
-
-    logged : (unread : Unread) → LogFits next old log (Some (stop_of unread))
+    logged : (unread : Unread) → LogFits next rules old log (Some (stop_of unread))
     logged (Store offset) = empty
     logged (Sources fault) = empty
-    logged (Unlucky failed) = nothing_done next old log empty
+    logged (Unlucky failed) = inl empty
 
 -- ---- an update that made files, to its end or not
 
@@ -102,215 +137,243 @@ pub small_failure : {A : Type 0} (called : Result A SiteFailed) (failed : SiteFa
 small_failure {A} called failed is never n e = never n (is ∙ ap (λ (f : SiteFailed). Err f) e)
 
 -- what is left where the outside stops the making
-pub left_forgets_nothing : (next : Next) (old new : World) (failed : SiteFailed) → IsSmallFailure failed → IsLeft next old new → NothingForgotten next old new (Some (Outside failed))
-left_forgets_nothing next old new Fault small left = left
-left_forgets_nothing next old new (TooLarge n) small left = absurd (small n refl)
-left_forgets_nothing next old new Memory small left = left
+left_forgets_nothing : (tells : Bool) (next : Next) (rules : List Rule) (old new : World) (failed : SiteFailed) → IsSmallFailure failed → IsLeft tells next rules old new →
+    NothingForgotten tells next rules old new (Some (Outside failed))
+left_forgets_nothing tells next rules old new Fault small left = inr left
+left_forgets_nothing tells next rules old new (TooLarge n) small left = absurd (small n refl)
+left_forgets_nothing tells next rules old new Memory small left = inr left
 
--- and where the rules are halted
-pub listed_forgets_nothing : (next : Next) (old new : World) (halt : Halt) → IsListed (claimed old) old new → NothingForgotten next old new (Some (stop_of_halt halt))
-listed_forgets_nothing next old new RunHalted listed = listed
-listed_forgets_nothing next old new (Halted Fault) listed = inl listed
-listed_forgets_nothing next old new (Halted (TooLarge n)) listed = inr listed
-listed_forgets_nothing next old new (Halted Memory) listed = inl listed
+small_cause : (next : Next) (rules : List Rule) (old new : World) (failed : SiteFailed) → IsSmallFailure failed → HasCause next rules old new (Some (Outside failed))
+small_cause next rules old new Fault small = tt
+small_cause next rules old new (TooLarge n) small = absurd (small n refl)
+small_cause next rules old new Memory small = tt
 
-pub small_cause : (next : Next) (old new : World) (failed : SiteFailed) → IsSmallFailure failed → HasCause next old new (Some (Outside failed))
-small_cause next old new Fault small = tt
-small_cause next old new (TooLarge n) small = absurd (small n refl)
-small_cause next old new Memory small = tt
+large_cause : (next : Next) (rules : List Rule) (old new : World) (halt : Halt) → ((n : ℕ) → halt ≡ Halted (TooLarge n) → HasFileOf n new.tree) → HasCause next rules old new (Some (stop_of_halt halt))
+large_cause next rules old new RunHalted large = tt
+large_cause next rules old new (Halted Fault) large = tt
+large_cause next rules old new (Halted (TooLarge n)) large = large n refl
+large_cause next rules old new (Halted Memory) large = tt
 
-pub large_cause : (next : Next) (old new : World) (halt : Halt) → ((n : ℕ) → halt ≡ Halted (TooLarge n) → HasFileOf n new.tree) → HasCause next old new (Some (stop_of_halt halt))
-large_cause next old new RunHalted large = tt
-large_cause next old new (Halted Fault) large = tt
-large_cause next old new (Halted (TooLarge n)) large = large n refl
-large_cause next old new (Halted Memory) large = tt
+-- what was planned for a project of a world, and the world from which files of vanished rules are taken
+pub record IsUnderWay (project : Project) (old mid : World) (vanishing claiming : List Names) : Type 0 where
+  pub is : IsProject project old
+  pub vanishes : vanishing ≡ vanished project.rules old
+  pub claims : claiming ≡ claimed project.rules old
+  pub beside : SameBeside vanishing old.tree mid.tree
 
--- the rules of a project that was read are those that are told of
-pub project_rules : (old : World) (project : Project) (halt : Halt) → IsProject project old → RulesFit old project.rules (Some (stop_of_halt halt))
-project_rules old project RunHalted is = read_is project old is
-project_rules old project (Halted failed) is = inr (read_is project old is)
+module _ (project : Project) (old : World) (is : IsProject project old) where
+  -- the rules of a project that was read are those that are told of
+  rules_fit : (halt : Halt) → RulesFit old project.rules (Some (stop_of_halt halt))
+  rules_fit RunHalted = is.asked
+  rules_fit (Halted failed) = inr is.asked
 
--- the making was stopped under way
-pub halted_keeps : (next : Next) (old new : World) (project : Project) (log : Log) (halt : Halt) → IsProject project old →
-    NothingForgotten next old new (Some (stop_of_halt halt)) → HasCause next old new (Some (stop_of_halt halt)) →
-    IsFront log.removed (vanished old) → IsFront log.ran (begun (rules old) (build next old)) → IsFront log.verdicts (up_to_first_bad (build next old).verdicts) →
-    Keeps next old new (with_read project.read log) (Some (stop_of_halt halt))
-halted_keeps next old new project log halt is forgotten why removed ran verdicts = by halt forgotten why
-  where
-    part : IsPartOf (with_read project.read log) (whole_log next old)
-    part = record { read = whole_front project.read (whole_log next old).read (folders_are project old is); removed = removed; ran = ran; verdicts = verdicts }
+  -- the making was stopped under way
+  halted_keeps : (next : Next) (new : World) (log : Log) (halt : Halt) → HasCause next project.rules old new (Some (stop_of_halt halt)) →
+      IsFront log.removed (vanished project.rules old) → ArePartNoted project.rules (ends next project.rules old) log.ran log.ended →
+      Keeps next project.rules old new (with_read project.read log) (Some (stop_of_halt halt))
+  halted_keeps next new log halt why removed noted = record { exactly_the_files = tt; cause = why; log_fits = fits halt }
+    where
+      part : IsPartOf (with_read project.read log) (whole_log next project.rules old)
+      part = record { read = whole_front project.read (whole_log next project.rules old).read is.read; removed = removed; ran = noted.0; ended = noted.1 }
 
-    by : (halt : Halt) → NothingForgotten next old new (Some (stop_of_halt halt)) → HasCause next old new (Some (stop_of_halt halt)) → Keeps next old new (with_read project.read log) (Some (stop_of_halt halt))
-    by RunHalted forgotten why = record { exactly_the_files = tt; nothing_forgotten = forgotten; cause = why; log_fits = part }
-    by (Halted failed) forgotten why = record { exactly_the_files = tt; nothing_forgotten = forgotten; cause = why; log_fits = part }
+      fits : (halt : Halt) → LogFits next project.rules old (with_read project.read log) (Some (stop_of_halt halt))
+      fits RunHalted = part
+      fits (Halted failed) = inr (is.asked, part)
 
--- before it began
-pub unplanned_stays : (old : World) (project : Project) → IsProject project old → Stays old old project.rules (Some (Outside Memory))
-unplanned_stays old project is = record { sources_stay = unchanged_sources old old refl; rules_fit = inr (read_is project old is) }
+  -- nothing was noted
+  none_noted : (next : Next) (ran : List RuleName) (ended : List Taken) → ran ≡ [] → ended ≡ [] → ArePartNoted project.rules (ends next project.rules old) ran ended
+  none_noted next ran ended nothing none = (no_front ran (names_of project.rules (ends next project.rules old)) nothing, no_front ended (ends next project.rules old) none)
 
-pub unplanned_keeps : (next : Next) (old : World) (project : Project) (log : Log) → IsProject project old → IsUnused log →
-    Keeps next old old (with_read project.read log) (Some (Outside Memory))
-unplanned_keeps next old project log is unused =
-    halted_keeps next old old project log (Halted Memory) is (unchanged_left next old old refl) tt
-    (no_front log.removed (vanished old) unused.0) (no_front log.ran (begun (rules old) (build next old)) unused.1) (no_front log.verdicts (up_to_first_bad (build next old).verdicts) unused.2)
+  -- before it began
+  pub unplanned_stays : (tells : Bool) (next : Next) (log : Log) → IsUnused log → Stays tells next project.rules old old (with_read project.read log) (Some (Outside Memory))
+  unplanned_stays tells next log unused = record {
+    sources_stay = unchanged_sources old old refl;
+    rules_fit = inr is.asked;
+    nothing_forgotten = inl refl;
+    turns_fit = no_turns project.rules log.ran log.ended unused.1 unused.2;
+  }
 
--- what stays beside owned files and outputs
-pub stay : (old new : World) (project : Project) → IsProject project old → Changes project.owned project.rules old.tree new.tree → SourcesStay old new
-stay old new project is changes = sources_are_kept old project.owned project.rules new.tree is.owned is.buildable changes
-
-pub claimed_is : (old new : World) (project : Project) → IsProject project old → Changes project.owned project.rules old.tree new.tree →
-    new.store ≡ spelling (ascending (project.owned ++ outputs project.rules)) → IsListed (claimed old) old new
-claimed_is old new project is changes stored = claimed_known old new project.owned project.rules is.owned is.rules is.buildable changes stored
-
--- the rules of the sources are those of the project
-their_rules : (old : World) (project : Project) → IsProject project old → rules old ≡ project.rules
-their_rules old project is = rules_are old project.owned project.rules is.owned is.rules
-
-whole : (next : Next) (old : World) (project : Project) (log : Log) → IsProject project old → log.removed ≡ vanished old → log.ran ≡ begun (rules old) (build next old) →
-    log.verdicts ≡ up_to_first_bad (build next old).verdicts → with_read project.read log ≡ whole_log next old
-whole next old project log is removed ran verdicts = λ i. record { read = folders_are project old is i; removed = removed i; ran = ran i; verdicts = verdicts i }
-
--- a rule was bad
-pub bad_keeps : (next : Next) (old new : World) (project : Project) (log : Log) (name : RuleName) (verdict : Verdict) → IsProject project old → Changes project.owned project.rules old.tree new.tree →
-    new.store ≡ spelling (ascending (project.owned ++ outputs project.rules)) → IsFirstBad project.rules (build next old) name verdict →
-    with_read project.read log ≡ whole_log next old → Keeps next old new (with_read project.read log) (Some (Bad name verdict))
-bad_keeps next old new project log name verdict is changes stored first told = record {
-  exactly_the_files = tt;
-  nothing_forgotten = claimed_is old new project is changes stored;
-  cause = record {
-    read = rules_read_is project old is;
-    first = subst (λ (r : List Rule). IsFirstBad r (build next old) name verdict) (sym (their_rules old project is)) first;
-  };
-  log_fits = told;
-}
-
--- all was made, and the outputs are owned
-pub made_keeps : (next : Next) (old new : World) (project : Project) (log : Log) → IsProject project old →
-    IsBuilt (build next old) new.tree → owned_of new.store ≡ Ok (ascending (outputs project.rules)) →
-    with_read project.read log ≡ whole_log next old → Keeps next old new (with_read project.read log) None
-made_keeps next old new project log is built reads told = record {
-  exactly_the_files = record {
-    read = rules_read_is project old is;
-    clean = built.clean;
-    files = built.files;
-    listed = reads ∙ ap (λ (r : List Rule). Ok (ascending (outputs r))) (sym (their_rules old project is));
-  };
-  nothing_forgotten =
-      let here : IsBuilt (build_beside next project.owned project.rules old.tree) new.tree =
-      subst (λ (b : Build). IsBuilt b new.tree) (sym (build_is next old project.owned project.rules is.owned is.rules)) built in
-      made_known next old new project.owned project.rules is.owned is.rules is.buildable here.clean here.files reads;
-  cause = tt;
-  log_fits = told;
-}
+  pub unplanned_keeps : (next : Next) (log : Log) → IsUnused log → Keeps next project.rules old old (with_read project.read log) (Some (Outside Memory))
+  unplanned_keeps next log unused =
+      halted_keeps next old log (Halted Memory) tt (no_front log.removed (vanished project.rules old) unused.0) (none_noted next log.ran log.ended unused.1 unused.2)
 
 -- ---- the making, from the first writing of the store on
 
--- what was planned for a project of a world, and the tree from which files of vanished rules are taken
-pub record IsUnderWay (project : Project) (old mid : World) (vanishing claiming : List Names) : Type 0 where
-  pub is : IsProject project old
-  pub vanishes : vanishing ≡ left_over project.owned_files project.rules
-  pub claims : claiming ≡ ascending (project.owned ++ outputs project.rules)
-  pub beside : SameBeside vanishing old.tree mid.tree
-
 module _ (project : Project) (old mid : World) (vanishing claiming : List Names) (way : IsUnderWay project old mid vanishing claiming) where
-  -- only files of vanished rules were touched
-  beside_gone : SameBeside (gone project.owned (finite.keys old.tree) project.rules) old.tree mid.tree
-  beside_gone = subst (λ (l : List Names). SameBeside l old.tree mid.tree) (way.vanishes ∙ gone_are project old way.is) way.beside
+  -- only files of vanished rules were touched, so the sources are the same
+  beside_gone : SameBeside (vanished project.rules old) old.tree mid.tree
+  beside_gone = subst (λ (l : List Names). SameBeside l old.tree mid.tree) way.vanishes way.beside
 
-  -- so the clean build is the same
-  same_build : (next : Next) → build_beside next project.owned project.rules mid.tree ≡ build next old
-  same_build next =
-      ap (λ (t : Tree). clean next project.rules t) (same_sources project.owned (finite.keys old.tree) project.rules old.tree mid.tree beside_gone)
-      ∙ build_is next old project.owned project.rules way.is.owned way.is.rules
+  same_left : files_beside (owned old) mid.tree ≡ sources old
+  same_left = same_sources (owned old) (finite.keys old.tree) project.rules old.tree mid.tree beside_gone
 
-  -- and where only outputs are touched behind it, nothing but owned files and outputs changes
-  changed : (now : World) → SameBesideOutputs project.rules mid.tree now.tree → Changes project.owned project.rules old.tree now.tree
-  changed now behind = changes project.owned (finite.keys old.tree) project.rules old.tree mid.tree now.tree beside_gone behind
+  same_run : files_beside project.owned mid.tree ≡ sources old
+  same_run = ap (λ (p : List Names). files_beside p mid.tree) (sym (project_owns project old way.is)) ∙ same_left
 
-  -- so the sources stay, whatever the rules do
-  pub way_stays : (ran now : World) (stopped : Option Stop) → SameBesideOutputs project.rules mid.tree ran.tree → TreeStays ran now → RulesFit old project.rules stopped → Stays old now project.rules stopped
-  way_stays ran now stopped behind same fits = record {
-    sources_stay = stay old now project way.is (subst (λ (t : Tree). Changes project.owned project.rules old.tree t) (sym same) (changed ran behind));
-    rules_fit = fits;
+  same_ends : (next : Next) → up_to_bad (takes next project.rules (files_beside project.owned mid.tree)) ≡ ends next project.rules old
+  same_ends next = ap (λ (t : Tree). up_to_bad (takes next project.rules t)) same_run
+
+  -- what is left of the owned files the rules make
+  pub way_runnable : IsCleared vanishing old.tree mid.tree → IsRunnable project.owned project.rules mid.tree
+  way_runnable cleared =
+      let is_gone = way.vanishes ∙ sym (vanished_are project old way.is) ∙ gone_are project old way.is in
+      runnable project.owned (finite.keys old.tree) project.rules old.tree mid.tree refl (project_builds project old way.is)
+      (subst (λ (l : List Names). IsCleared l old.tree mid.tree) is_gone cleared) (subst (λ (l : List Names). SameBeside l old.tree mid.tree) is_gone way.beside)
+
+  owned_runnable : IsCleared vanishing old.tree mid.tree → IsRunnable (owned old) project.rules mid.tree
+  owned_runnable cleared = subst (λ (p : List Names). IsRunnable p project.rules mid.tree) (sym (project_owns project old way.is)) (way_runnable cleared)
+
+  -- where only outputs are touched behind it, nothing but owned files and outputs changes
+  changed : (now : World) → SameBesideOutputs project.rules mid.tree now.tree → Changes (owned old) project.rules old.tree now.tree
+  changed now behind = changes (owned old) (finite.keys old.tree) project.rules old.tree mid.tree now.tree beside_gone behind
+
+  stay : (ran now : World) → SameBesideOutputs project.rules mid.tree ran.tree → TreeStays ran now → SourcesStay old now
+  stay ran now behind same =
+      sources_are_kept old project.rules now.tree way.is.buildable (subst (λ (t : Tree). Changes (owned old) project.rules old.tree t) (sym same) (changed ran behind))
+
+  -- all that was claimed is listed
+  listed : (now : World) → SameBesideOutputs project.rules mid.tree now.tree → now.store ≡ spelling claiming → IsListed (claimed project.rules old) old now
+  listed now behind stored = claimed_known old now project.owned project.rules way.is.owned way.is.buildable (changed now behind) (stored ∙ ap spelling way.claims)
+
+  -- ---- the outside stopped what comes before the rules
+
+  pub unprepared_stays : (tells : Bool) (next : Next) (log : Log) (failed : SiteFailed) → (mid.store ≡ spelling claiming) ⊎ TreeStays old mid → IsSmallFailure failed →
+      log.ran ≡ [] → log.ended ≡ [] → Stays tells next project.rules old mid (with_read project.read log) (Some (Outside failed))
+  unprepared_stays tells next log failed left small nothing none = record {
+    sources_stay = stay mid mid (λ path unmade. refl) refl;
+    rules_fit = inr way.is.asked;
+    nothing_forgotten = left_forgets_nothing tells next project.rules old mid failed small (way.is.asked, by left);
+    turns_fit = no_turns project.rules log.ran log.ended nothing none;
   }
-
-  removed_whole : (before removed : List Names) → before ≡ [] → removed ≡ before ++ vanishing → removed ≡ vanished old
-  removed_whole before removed none grown =
-      grown ∙ ap (λ (l : List Names). l ++ vanishing) none ∙ way.vanishes ∙ gone_are project old way.is ∙ vanished_are project old way.is
-
-  removed_part : (before removed : List Names) → before ≡ [] → IsGrownByFront before removed vanishing → IsFront removed (vanished old)
-  removed_part before removed none grown =
-      subst (IsFront removed) (way.vanishes ∙ gone_are project old way.is ∙ vanished_are project old way.is) (grown_from_nothing before removed vanishing none grown)
-
-  -- what is noted of a build over the tree of the way is noted of the build
-  begun_same : (next : Next) → begun project.rules (build_beside next project.owned project.rules mid.tree) ≡ begun (rules old) (build next old)
-  begun_same next = λ i. begun (sym (their_rules old project way.is) i) (same_build next i)
-
-  verdicts_same : (next : Next) → up_to_first_bad (build_beside next project.owned project.rules mid.tree).verdicts ≡ up_to_first_bad (build next old).verdicts
-  verdicts_same next = ap (λ (b : Build). up_to_first_bad b.verdicts) (same_build next)
-
-  -- the outside stopped what comes before the rules
-  pub unprepared_keeps : (next : Next) (before : List Names) (log : Log) (failed : SiteFailed) → (mid.store ≡ spelling claiming) ⊎ TreeStays old mid → IsSmallFailure failed →
-      before ≡ [] → IsGrownByFront before log.removed vanishing → log.ran ≡ [] → log.verdicts ≡ [] →
-      Keeps next old mid (with_read project.read log) (Some (Outside failed))
-  unprepared_keeps next before log failed left small none removed ran verdicts =
-      halted_keeps next old mid project log (Halted failed) way.is (left_forgets_nothing next old mid failed small (by left)) (small_cause next old mid failed small)
-      (removed_part before log.removed none removed) (no_front log.ran (begun (rules old) (build next old)) ran) (no_front log.verdicts (up_to_first_bad (build next old).verdicts) verdicts)
     where
-      by : (mid.store ≡ spelling claiming) ⊎ TreeStays old mid → IsLeft next old mid
-      by (inl stored) = inl (claimed_is old mid project way.is (changed mid (λ path unmade. refl)) (stored ∙ ap spelling way.claims))
+      by : (mid.store ≡ spelling claiming) ⊎ TreeStays old mid → IsListed (claimed project.rules old) old mid ⊎ (mid.tree ≡ old.tree) ⊎ AllIsMade tells next project.rules old mid
+      by (inl stored) = inl (listed mid (λ path unmade. refl) stored)
       by (inr same) = inr (inl same)
 
-  -- the rules were halted
-  pub unrun_keeps : (next : Next) (now : World) (before : List Names) (log : Log) (halt : Halt) → SameBesideOutputs project.rules mid.tree now.tree → now.store ≡ spelling claiming →
-      ((n : ℕ) → halt ≡ Halted (TooLarge n) → HasFileOf n now.tree) → before ≡ [] → log.removed ≡ before ++ vanishing →
-      IsFront log.ran (begun project.rules (build_beside next project.owned project.rules mid.tree)) × IsFront log.verdicts (up_to_first_bad (build_beside next project.owned project.rules mid.tree).verdicts) →
-      Keeps next old now (with_read project.read log) (Some (stop_of_halt halt))
-  unrun_keeps next now before log halt behind stored large none removed noted =
-      halted_keeps next old now project log halt way.is
-      (listed_forgets_nothing next old now halt (claimed_is old now project way.is (changed now behind) (stored ∙ ap spelling way.claims))) (large_cause next old now halt large)
-      (whole_front log.removed (vanished old) (removed_whole before log.removed none removed))
-      (subst (IsFront log.ran) (begun_same next) noted.0) (subst (IsFront log.verdicts) (verdicts_same next) noted.1)
+  removed_whole : (before removed : List Names) → before ≡ [] → removed ≡ before ++ vanishing → removed ≡ vanished project.rules old
+  removed_whole before removed none grown = grown ∙ ap (λ (l : List Names). l ++ vanishing) none ∙ way.vanishes
 
-  -- the log of rules that were run to their end
+  pub unprepared_keeps : (next : Next) (before : List Names) (log : Log) (failed : SiteFailed) → IsSmallFailure failed → before ≡ [] → IsGrownByFront before log.removed vanishing →
+      log.ran ≡ [] → log.ended ≡ [] → Keeps next project.rules old mid (with_read project.read log) (Some (Outside failed))
+  unprepared_keeps next before log failed small empty removed nothing none =
+      halted_keeps project old way.is next mid log (Halted failed) (small_cause next project.rules old mid failed small)
+      (subst (IsFront log.removed) way.vanishes (grown_from_nothing before log.removed vanishing empty removed)) (none_noted project old way.is next log.ran log.ended nothing none)
+
+  -- ---- the rules were halted
+
+  pub unrun_stays : (tells : Bool) (next : Next) (now : World) (log : Log) (halt : Halt) → SameBesideOutputs project.rules mid.tree now.tree → now.store ≡ spelling claiming →
+      TurnsFit project.rules log.ran log.ended (Some (stop_of_halt halt)) → Stays tells next project.rules old now (with_read project.read log) (Some (stop_of_halt halt))
+  unrun_stays tells next now log halt behind stored turns = record {
+    sources_stay = stay now now behind refl;
+    rules_fit = rules_fit project old way.is halt;
+    nothing_forgotten = by halt;
+    turns_fit = turns;
+  }
+    where
+      by : (halt : Halt) → NothingForgotten tells next project.rules old now (Some (stop_of_halt halt))
+      by RunHalted = listed now behind stored
+      by (Halted Fault) = inr (way.is.asked, inl (listed now behind stored))
+      by (Halted (TooLarge n)) = inr (way.is.asked, listed now behind stored)
+      by (Halted Memory) = inr (way.is.asked, inl (listed now behind stored))
+
+  pub unrun_keeps : (next : Next) (now : World) (before : List Names) (log : Log) (halt : Halt) → ((n : ℕ) → halt ≡ Halted (TooLarge n) → HasFileOf n now.tree) → before ≡ [] →
+      log.removed ≡ before ++ vanishing → ArePartNoted project.rules (up_to_bad (takes next project.rules (files_beside project.owned mid.tree))) log.ran log.ended →
+      Keeps next project.rules old now (with_read project.read log) (Some (stop_of_halt halt))
+  unrun_keeps next now before log halt large none removed noted =
+      halted_keeps project old way.is next now log halt (large_cause next project.rules old now halt large)
+      (whole_front log.removed (vanished project.rules old) (removed_whole before log.removed none removed))
+      (subst (λ (l : List Taken). ArePartNoted project.rules l log.ran log.ended) (same_ends next) noted)
+
+  -- ---- the rules were run to their end
+
+  -- the log tells of all of them
   told_whole : (next : Next) (before : List Names) (log : Log) → before ≡ [] → log.removed ≡ before ++ vanishing →
-      (log.ran ≡ begun project.rules (build_beside next project.owned project.rules mid.tree)) × (log.verdicts ≡ up_to_first_bad (build_beside next project.owned project.rules mid.tree).verdicts) →
-      with_read project.read log ≡ whole_log next old
+      AreNoted project.rules (up_to_bad (takes next project.rules (files_beside project.owned mid.tree))) log.ran log.ended → with_read project.read log ≡ whole_log next project.rules old
   told_whole next before log none removed noted =
-      whole next old project log way.is (removed_whole before log.removed none removed) (noted.0 ∙ begun_same next) (noted.1 ∙ verdicts_same next)
+      let names = noted.0 ∙ ap (names_of project.rules) (same_ends next) in
+      let all = noted.1 ∙ same_ends next in
+      let gone = removed_whole before log.removed none removed in
+      λ i. record { read = way.is.read i; removed = gone i; ran = names i; ended = all i }
 
   -- a rule was bad
-  pub bad_run_keeps : (next : Next) (now : World) (before : List Names) (log : Log) (name : RuleName) (verdict : Verdict) → SameBesideOutputs project.rules mid.tree now.tree → now.store ≡ spelling claiming →
-      IsFirstBad project.rules (build_beside next project.owned project.rules mid.tree) name verdict → before ≡ [] → log.removed ≡ before ++ vanishing →
-      (log.ran ≡ begun project.rules (build_beside next project.owned project.rules mid.tree)) × (log.verdicts ≡ up_to_first_bad (build_beside next project.owned project.rules mid.tree).verdicts) →
-      Keeps next old now (with_read project.read log) (Some (Bad name verdict))
-  bad_run_keeps next now before log name verdict behind stored first none removed noted =
-      bad_keeps next old now project log name verdict way.is (changed now behind) (stored ∙ ap spelling way.claims)
-      (subst (λ (b : Build). IsFirstBad project.rules b name verdict) (same_build next) first) (told_whole next before log none removed noted)
+  pub bad_stays : (tells : Bool) (next : Next) (now : World) (log : Log) (name : RuleName) (verdict : Verdict) → SameBesideOutputs project.rules mid.tree now.tree → now.store ≡ spelling claiming →
+      TurnsFit project.rules log.ran log.ended (Some (Bad name verdict)) → Stays tells next project.rules old now (with_read project.read log) (Some (Bad name verdict))
+  bad_stays tells next now log name verdict behind stored turns = record {
+    sources_stay = stay now now behind refl;
+    rules_fit = way.is.asked;
+    nothing_forgotten = listed now behind stored;
+    turns_fit = turns;
+  }
 
-  -- the files are those of the clean build
-  is_built : (next : Next) (ran new : World) → IsBuilt (build_beside next project.owned project.rules mid.tree) ran.tree → TreeStays ran new → IsBuilt (build next old) new.tree
+  pub bad_keeps : (next : Next) (now : World) (before : List Names) (log : Log) (name : RuleName) (verdict : Verdict) →
+      HasRun next project.rules (files_beside project.owned mid.tree) now.tree (Some (name, verdict)) → before ≡ [] → log.removed ≡ before ++ vanishing →
+      AreNoted project.rules (up_to_bad (takes next project.rules (files_beside project.owned mid.tree))) log.ran log.ended →
+      Keeps next project.rules old now (with_read project.read log) (Some (Bad name verdict))
+  bad_keeps next now before log name verdict first none removed noted = record {
+    exactly_the_files = tt;
+    cause = subst (λ (t : Tree). HasRun next project.rules t now.tree (Some (name, verdict))) same_run first;
+    log_fits = told_whole next before log none removed noted;
+  }
+
+  is_built : (next : Next) (ran new : World) → HasRun next project.rules (files_beside project.owned mid.tree) ran.tree None → TreeStays ran new → IsBuilt (clean next project.rules (sources old)) new.tree
   is_built next ran new built same =
-      subst (λ (t : Tree). IsBuilt (build next old) t) (sym same) (subst (λ (b : Build). IsBuilt b ran.tree) (same_build next) built)
+      subst (λ (t : Tree). IsBuilt (clean next project.rules (sources old)) t) (sym same) (subst (λ (t : Tree). HasRun next project.rules t ran.tree None) same_run built)
 
   -- all was made, and the outside stopped what comes behind the rules
-  pub unfinished_keeps : (next : Next) (ran new : World) (before : List Names) (log : Log) (failed : SiteFailed) →
-      IsBuilt (build_beside next project.owned project.rules mid.tree) ran.tree → TreeStays ran new → IsSmallFailure failed → before ≡ [] → log.removed ≡ before ++ vanishing →
-      (log.ran ≡ begun project.rules (build_beside next project.owned project.rules mid.tree)) × (log.verdicts ≡ up_to_first_bad (build_beside next project.owned project.rules mid.tree).verdicts) →
-      Keeps next old new (with_read project.read log) (Some (Outside failed))
-  unfinished_keeps next ran new before log failed built same small none removed noted =
-      halted_keeps next old new project log (Halted failed) way.is
-      (left_forgets_nothing next old new failed small (inr (inr (is_built next ran new built same)))) (small_cause next old new failed small)
-      (whole_front log.removed (vanished old) (removed_whole before log.removed none removed))
-      (whole_front log.ran (begun (rules old) (build next old)) (noted.0 ∙ begun_same next))
-      (whole_front log.verdicts (up_to_first_bad (build next old).verdicts) (noted.1 ∙ verdicts_same next))
+  pub unfinished_stays : (tells : Bool) (next : Next) (ran new : World) (log : Log) (failed : SiteFailed) → IsCleared vanishing old.tree mid.tree → SameBesideOutputs project.rules mid.tree ran.tree → TreeStays ran new →
+      IsSmallFailure failed → (IsTrue tells → HasRun next project.rules (files_beside project.owned mid.tree) ran.tree None) → TurnsFit project.rules log.ran log.ended None →
+      Stays tells next project.rules old new (with_read project.read log) (Some (Outside failed))
+  unfinished_stays tells next ran new log failed cleared behind same small built turns = record {
+    sources_stay = stay ran new behind same;
+    rules_fit = inr way.is.asked;
+    nothing_forgotten = left_forgets_nothing tells next project.rules old new failed small (
+      way.is.asked,
+      inr (inr (record {
+        beside = ap (files_beside (outputs project.rules)) same ∙ beside_outputs (owned old) project.rules old.tree mid.tree ran.tree way.is.buildable same_left (owned_runnable cleared) behind;
+        built = λ means. is_built next ran new (built means) same;
+      })),
+    );
+    turns_fit = (turns.0, inl turns.1);
+  }
+
+  pub unfinished_keeps : (next : Next) (new : World) (before : List Names) (log : Log) (failed : SiteFailed) → IsSmallFailure failed → before ≡ [] → log.removed ≡ before ++ vanishing →
+      AreNoted project.rules (up_to_bad (takes next project.rules (files_beside project.owned mid.tree))) log.ran log.ended →
+      Keeps next project.rules old new (with_read project.read log) (Some (Outside failed))
+  unfinished_keeps next new before log failed small none removed noted =
+      halted_keeps project old way.is next new log (Halted failed) (small_cause next project.rules old new failed small)
+      (whole_front log.removed (vanished project.rules old) (removed_whole before log.removed none removed)) (
+        whole_front log.ran (names_of project.rules (ends next project.rules old)) (noted.0 ∙ ap (names_of project.rules) (same_ends next)),
+        whole_front log.ended (ends next project.rules old) (noted.1 ∙ same_ends next),
+      )
 
   -- all was made and the outputs are owned
-  pub finished_keeps : (next : Next) (ran new : World) (before listed : List Names) (log : Log) →
-      IsBuilt (build_beside next project.owned project.rules mid.tree) ran.tree → TreeStays ran new → new.store ≡ spelling listed → listed ≡ ascending (outputs project.rules) →
-      before ≡ [] → log.removed ≡ before ++ vanishing →
-      (log.ran ≡ begun project.rules (build_beside next project.owned project.rules mid.tree)) × (log.verdicts ≡ up_to_first_bad (build_beside next project.owned project.rules mid.tree).verdicts) →
-      Keeps next old new (with_read project.read log) None
-  finished_keeps next ran new before listed log built same stored lists none removed noted =
-      made_keeps next old new project log way.is (is_built next ran new built same)
-      (ap owned_of (stored ∙ ap spelling lists) ∙ listed_reads (files_beside project.owned old.tree) project.rules way.is.buildable) (told_whole next before log none removed noted)
+  made_reads : (new : World) (listing : List Names) → new.store ≡ spelling listing → listing ≡ ascending (outputs project.rules) → owned_of new.store ≡ Ok (ascending (outputs project.rules))
+  made_reads new listing stored lists = ap owned_of (stored ∙ ap spelling lists) ∙ listed_reads (sources old) project.rules way.is.buildable
+
+  pub finished_stays : (tells : Bool) (next : Next) (ran new : World) (listing : List Names) (log : Log) → IsCleared vanishing old.tree mid.tree → SameBesideOutputs project.rules mid.tree ran.tree → TreeStays ran new →
+      new.store ≡ spelling listing → listing ≡ ascending (outputs project.rules) → TurnsFit project.rules log.ran log.ended None →
+      Stays tells next project.rules old new (with_read project.read log) None
+  finished_stays tells next ran new listing log cleared behind same stored lists turns =
+      let reads = made_reads new listing stored lists in
+      record {
+        sources_stay = stay ran new behind same;
+        rules_fit = way.is.asked;
+        nothing_forgotten = record {
+          listed = reads;
+          same =
+              sources_are new (ascending (outputs project.rules)) reads ∙ ap (files_beside (ascending (outputs project.rules))) same
+              ∙ beside_ascending (owned old) project.rules old.tree mid.tree ran.tree way.is.buildable same_left (owned_runnable cleared) behind;
+        };
+        turns_fit = turns;
+      }
+
+  pub finished_keeps : (next : Next) (ran new : World) (before listing : List Names) (log : Log) → HasRun next project.rules (files_beside project.owned mid.tree) ran.tree None → TreeStays ran new →
+      new.store ≡ spelling listing → listing ≡ ascending (outputs project.rules) → before ≡ [] → log.removed ≡ before ++ vanishing →
+      AreNoted project.rules (up_to_bad (takes next project.rules (files_beside project.owned mid.tree))) log.ran log.ended → Keeps next project.rules old new (with_read project.read log) None
+  finished_keeps next ran new before listing log built same stored lists none removed noted =
+      let made = is_built next ran new built same in
+      record {
+        exactly_the_files = record { clean = made.clean; files = made.files; listed = made_reads new listing stored lists };
+        cause = tt;
+        log_fits = told_whole next before log none removed noted;
+      }

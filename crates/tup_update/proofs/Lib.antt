@@ -3,8 +3,10 @@ pub mod Failing
 pub mod Beside
 pub mod Fronts
 pub mod Reading
+pub mod Limits
 pub mod Running
 pub mod Begun
+pub mod Turning
 pub mod Preparing
 pub mod Trees
 pub mod Known

@@ -14,7 +14,7 @@ use Rattle.tup_path.specs.Tree.{Tree}
 use Rattle.tup_path.proofs.Same.{same_tree}
 use Rattle.tup_rule.specs.declared.rule.Rule.{Rule}
 use Rattle.tup_rule.specs.Rule.{among, is_generated}
-use Rattle.tup_clean.specs.InOrder.{IsBuildable}
+use Rattle.tup_clean.specs.Buildable.{IsBuildable}
 use Rattle.tup_update.specs.Sources.{files_beside, outputs, gone}
 use Rattle.tup_update.specs.Parts.{IsCleared, SameBeside, SameBesideOutputs, IsRunnable, Changes}
 use Rattle.tup_update.proofs.Fronts.{among_filter, among_outputs}

@@ -1,21 +1,33 @@
--- The sources of a tree: their keys, and that they are a tree themselves.
-use Rattle.std.proofs.Common.{◌≡◌, T, ◌⊎◌, inl, inr, is_some, Result, Ok, Err, Bool, true, false, cond, not, filter, List, [], ◌∷◌, Option, None, Some, IsSome, map, All, refl, sym, ◌∙◌, ap, subst}
-use Rattle.std.specs.List.{list_any}
-use Rattle.std.specs.Ordering.{eq_by_cmp}
-use Rattle.std.specs.Cmp.{eq_by_cmp_equiv}
-use Rattle.std.proofs.lemmas.Bool.{false≢true}
+-- The sources of a tree: their keys, that they are a tree themselves, how they are read and what they are read as.
+use Rattle.std.proofs.Common.{◌≡◌, ◌≢◌, T, ℕ, ◌+◌, ◌<◌, is_some, Result, Err, Bool, true, false, cond, if◌then◌else◌, not, ◌||◌, filter, List, [], ◌∷◌, ◌++◌, length, take, get_or, codes, bytes_eq, Option, None, Some, IsSome, option_map, unwrap_or, map, All, refl, sym, ◌∙◌, ap, subst}
+use Rattle.std.specs.List.{list_any, filter_map, cons_option}
+use Rattle.std.specs.Result.{result_ok}
+use Rattle.std.specs.Map.{keys_of}
+use Rattle.std.proofs.lemmas.List.{map_more}
+use Rattle.std.proofs.lemmas.Bool.{false≢true, or_right}
+use Rattle.std.proofs.lemmas.List.Folds.{list_any_more}
 use Rattle.std.specs.FinMap as finite
 use Rattle.std.specs.FinMap.Entries.{where_key, is_sorted, is_sorted-where_key, find-where_key}
 use Rattle.std.specs.declared.cmp.Ordering.TheVariants.{Equal}
-use Rattle.std.proofs.lemmas.List.Elements.{All-filter}
+use Rattle.std.proofs.lemmas.List.Elements.{All-filter, filter_map-append}
 use Rattle.tup_path.specs.Name.{Names, Content, IsPath}
 use Rattle.tup_path.specs.Order.{by_names, same_path, same_path-by_names, by_names-antisymmetric, by_names-total}
 use Rattle.tup_path.specs.Tree.{Tree, IsTree}
+use Rattle.tup_path.specs.Resolve.{above}
+use Rattle.tup_path.specs.declared.fault.PathFault.{PathFault}
+use Rattle.tup_path.proofs.Walks.{above_last}
+use Rattle.tup_path.proofs.Same.{same_path-decides, same_tree, get_inserted, get_inserted_elsewhere}
 use Rattle.tup_rule.specs.Rule.{among}
 use Rattle.tup_rule.specs.declared.rule.Rule.{Rule}
-use Rattle.tup_parse.specs.declared.fault.ReadEnd.{ReadEnd}
-use Rattle.tup_parse.specs.declared.fault.ReadEnd.TheVariants.{Memory}
-use Rattle.tup_update.specs.Sources.{files_beside}
+use Rattle.tup_site.specs.World.{World}
+use Rattle.tup_link.specs.declared.fault.What.TheVariants.{Commands, Links}
+use Rattle.tup_whole.specs.Project.{ComeTo}
+use Rattle.tup_whole.specs.declared.fault.ProjectFault.{ProjectFault}
+use Rattle.tup_whole.specs.declared.fault.ProjectFault.TheVariants as project
+use Rattle.tup_update.specs.Parts.{AddsFile, AgreesOnItsFiles, IsFolderOf, IsFound, IsRefusal}
+use Rattle.tup_update.specs.Sources.{files_beside, folder_of_tupfile, owned, sources, ReadAs}
+use Rattle.tup_update.specs.Stopped.{unread_of_project}
+use Rattle.tup_update.specs.declared.found.Found.{Found}
 use Rattle.tup_update.proofs.Beside.{get_beside, left_is}
 
 keys-where_key : (p : Names → Bool) (entries : List (Names × Content)) →
@@ -65,27 +77,6 @@ is_tree_beside paths tree is = record {
     none_either true found e = e
     none_either false found e = refl
 
--- whether a path is among the keys
-among_keys : (tree : Tree) (path : Names) → list_any (λ other. same_path other path) (finite.keys tree) ≡ is_some (finite.get tree path)
-among_keys tree path =
-    let turned : (other : Names) → same_path other path ≡ eq_by_cmp by_names path other = λ other. same_path-by_names other path ∙ (eq_by_cmp_equiv by_names-total).symm other path in
-    (λ i. list_any (λ other. turned other i) (finite.keys tree)) ∙ sym (finite.contains_key-keys tree path)
-
-found_or_not : (found : Option Content) → is_some found ≡ false → found ≡ None
-found_or_not None e = refl
-found_or_not (Some content) e = absurd (false≢true (sym e))
-
-pub absent : (tree : Tree) (sources slice : List Names) (path named : Names) (found : Bool) → finite.keys tree ≡ sources → slice ≡ sources → path ≡ named →
-    found ≡ list_any (λ other. same_path other path) slice → found ≡ false → None ≡ finite.get tree named
-absent tree sources slice path named found keys same is tells missing =
-    sym (found_or_not (finite.get tree named)
-    (ap (λ (p : Names). is_some (finite.get tree p)) (sym is) ∙ sym (among_keys tree path) ∙ ap (list_any (λ other. same_path other path)) (keys ∙ sym same) ∙ sym tells ∙ missing))
-
-pub present : (tree : Tree) (sources slice : List Names) (path named : Names) (found : Bool) → finite.keys tree ≡ sources → slice ≡ sources → path ≡ named →
-    found ≡ list_any (λ other. same_path other path) slice → found ≡ true → IsSome (finite.get tree named)
-present tree sources slice path named found keys same is tells there =
-    ap (λ (p : Names). is_some (finite.get tree p)) (sym is) ∙ sym (among_keys tree path) ∙ ap (list_any (λ other. same_path other path)) (keys ∙ sym same) ∙ sym tells ∙ there
-
 -- the paths of the sources are the keys of what is left
 pub sources_are : (owned files sources : List Names) (inside : Names → Bool) (tree : Tree) → ((path : Names) → inside path ≡ among path owned) → files ≡ finite.keys tree →
     sources ≡ filter (λ path. not (inside path)) files → finite.keys (files_beside owned tree) ≡ sources
@@ -94,11 +85,137 @@ sources_are owned files sources inside tree tests keys is =
     ∙ (λ i. filter (λ path. not (sym (tests path) i)) (sym keys i))
     ∙ sym is
 
--- what the reading gave that had the choice between want of memory and its answer
-pub read_ok : (r right : Result (List Rule) ReadEnd) (rules : List Rule) → (r ≡ Err Memory) ⊎ (r ≡ right) → r ≡ Ok rules → right ≡ Ok rules
-read_ok r right rules (inl none) is = absurd (cc (none, is))
-read_ok r right rules (inr some) is = sym some ∙ is
-
 -- a path is one of the keys where a file is
 pub among_their_keys : (tree : Tree) (path : Names) → among path (finite.keys tree) ≡ is_some (finite.get tree path)
 among_their_keys tree path = (λ i. list_any (λ other. same_path-by_names path other i) (finite.keys tree)) ∙ sym (finite.contains_key-keys tree path)
+
+-- ---- files that are looked for one after another
+
+-- of these paths all files of a tree were found
+abbrev pub HasFilesAt : Tree → List Names → Tree → Type 0
+HasFilesAt tree paths files = (path : Names) → finite.get files path ≡ cond (among path paths) (finite.get tree path) None
+
+-- none yet
+pub none_found : (tree : Tree) → HasFilesAt tree [] finite.empty
+none_found tree path = finite.get-empty by_names path
+
+nothing_either : (b : Bool) (found : Option Content) → found ≡ None → cond b found None ≡ None
+nothing_either true found e = e
+nothing_either false found e = refl
+
+-- a path at which a file was found, or none is
+module _ (tree old new : Tree) (key path : Names) (before now : Bool) (is : finite.get old path ≡ cond before (finite.get tree path) None) where
+  elsewhere : same_path path key ≡ false → now ≡ (before || same_path path key) → finite.get new path ≡ finite.get old path → finite.get new path ≡ cond now (finite.get tree path) None
+  elsewhere other more same =
+      same ∙ is ∙ ap (λ (b : Bool). cond b (finite.get tree path) None) (sym (or_false before) ∙ ap (λ (b : Bool). before || b) (sym other) ∙ sym more)
+    where
+      or_false : (b : Bool) → (b || false) ≡ b
+      or_false true = refl
+      or_false false = refl
+
+  here : same_path path key ≡ true → now ≡ (before || same_path path key) → finite.get new key ≡ finite.get tree key → finite.get new path ≡ cond now (finite.get tree path) None
+  here same more found =
+      let at : path ≡ key = (same_path-decides path key).0 same in
+      ap (finite.get new) at ∙ found ∙ ap (finite.get tree) (sym at)
+      ∙ ap (λ (b : Bool). cond b (finite.get tree path) None) (sym (more ∙ ap (λ (b : Bool). before || b) same ∙ or_right before true refl))
+
+  apart : same_path path key ≡ false → path ≢ key
+  apart other at = false≢true (sym other ∙ (same_path-decides path key).1 at)
+
+  pub one_looked_for : (found : Option Content) → finite.get tree key ≡ found → AddsFile key found old new → now ≡ (before || same_path path key) → finite.get new path ≡ cond now (finite.get tree path) None
+  one_looked_for None none same more = by (same_path path key) refl
+    where
+      by : (b : Bool) → same_path path key ≡ b → finite.get new path ≡ cond now (finite.get tree path) None
+      by true e =
+          let nothing : finite.get tree path ≡ None = ap (finite.get tree) ((same_path-decides path key).0 e) ∙ none in
+          ap (λ (t : Tree). finite.get t path) same ∙ is ∙ nothing_either before _ nothing ∙ sym (nothing_either now _ nothing)
+      by false e = elsewhere e more (ap (λ (t : Tree). finite.get t path) same)
+  one_looked_for (Some content) some put more = by (same_path path key) refl
+    where
+      by : (b : Bool) → same_path path key ≡ b → finite.get new path ≡ cond now (finite.get tree path) None
+      by true e = here e more (ap (λ (t : Tree). finite.get t key) put ∙ get_inserted old key content ∙ sym some)
+      by false e = elsewhere e more (ap (λ (t : Tree). finite.get t path) put ∙ get_inserted_elsewhere old key path content (apart e))
+
+-- one more path was looked for
+pub next_looked_for : (tree old new : Tree) (paths : List Names) (at : ℕ) (key : Names) → at < length paths → key ≡ get_or paths at key →
+    HasFilesAt tree (take at paths) old → AddsFile key (finite.get tree key) old new → HasFilesAt tree (take (at + 1) paths) new
+next_looked_for tree old new paths at key within here before adds path =
+    one_looked_for tree old new key path (among path (take at paths)) (among path (take (at + 1) paths)) (before path) (finite.get tree key) refl adds
+    (list_any_more (same_path path) paths at key within ∙ ap (λ (k : Names). among path (take at paths) || same_path path k) (sym here))
+
+-- so all files of a part of a tree were found
+pub all_found : (tree part files : Tree) (paths : List Names) → finite.keys part ≡ paths → AgreesOnItsFiles part tree → HasFilesAt tree paths files → files ≡ part
+all_found tree part files paths keys agrees has = same_tree files part (λ path. has path ∙ by path (finite.get part path) refl)
+  where
+    tested : (path : Names) → among path paths ≡ is_some (finite.get part path)
+    tested path = ap (among path) (sym keys) ∙ among_their_keys part path
+
+    by : (path : Names) (found : Option Content) → finite.get part path ≡ found → cond (among path paths) (finite.get tree path) None ≡ finite.get part path
+    by path (Some content) e =
+        ap (λ (b : Bool). cond b (finite.get tree path) None) (tested path ∙ ap (λ (f : Option Content). is_some f) e)
+        ∙ sym (agrees path (ap (λ (f : Option Content). is_some f) e))
+    by path None e =
+        ap (λ (b : Bool). cond b (finite.get tree path) None) (tested path ∙ ap (λ (f : Option Content). is_some f) e) ∙ sym e
+
+-- ---- what is read of them
+
+-- the sources are a tree of files
+pub is_tree_of_sources : (w : World) (found : Found) → IsTree w.tree → IsFound w found → IsTree (sources w)
+is_tree_of_sources w found tree is = is_tree_beside (owned w) w.tree tree
+
+-- the files that were found are the sources
+pub sources_read : (w : World) (found : Found) → IsFound w found → finite.from_sorted {R = by_names} found.sources ≡ sources w
+sources_read w found is =
+    ap (λ (l : List (Names × Content)). finite.from_sorted {R = by_names} l) is.sources
+    ∙ finite.same_entries_map _ _ (finite.entries-from_sorted by_names (finite.entries (sources w)) (finite.entries_sorted (sources w)))
+
+pub read_as : (w : World) (found : Found) (result : Result (List Rule) ProjectFault) → IsFound w found → ComeTo (finite.from_sorted {R = by_names} found.sources) result → ReadAs w result
+read_as w found result is come = record {
+  few = is.few;
+  come_to = subst (λ (t : Tree). ComeTo t result) (sources_read w found is) come;
+}
+
+-- a fault of the project is one of the sources, or there was no memory
+pub refused_as : (w : World) (found : Found) (fault : ProjectFault) → IsFound w found → ComeTo (finite.from_sorted {R = by_names} found.sources) (Err fault) → IsRefusal w (unread_of_project fault)
+refused_as w found (project.Parse fault) is come = read_as w found _ is come
+refused_as w found (project.CircularDirs dirs) is come = read_as w found _ is come
+refused_as w found (project.NoSuchGroup group) is come = read_as w found _ is come
+refused_as w found (project.CircularCommands names) is come = read_as w found _ is come
+refused_as w found (project.TooMany Commands number) is come = read_as w found _ is come
+refused_as w found (project.TooMany Links number) is come = read_as w found _ is come
+refused_as w found project.Memory is come = refl
+
+-- ---- the folders of Tupfiles
+
+-- a path by its folder and its name
+below : (first : List ℕ) (folder : Names) (b : Bool) → option_map (λ (l : Names). first ∷ l) (if b then Some folder else None) ≡ (if b then Some (first ∷ folder) else None)
+below first folder true = refl
+below first folder false = refl
+
+pub tupfile_last : (folder : Names) (name : List ℕ) → folder_of_tupfile (folder ++ name ∷ []) ≡ (if bytes_eq name (codes "Tupfile") then Some folder else None)
+tupfile_last [] name = refl
+tupfile_last (first ∷ []) name = below first [] (bytes_eq name (codes "Tupfile"))
+tupfile_last (first ∷ next ∷ folder) name = ap (option_map (λ (l : Names). first ∷ l)) (tupfile_last (next ∷ folder) name) ∙ below first (next ∷ folder) (bytes_eq name (codes "Tupfile"))
+
+-- a Tupfile gives its folder, and another file none
+pub folder_listed : (path front : Names) (name : List ℕ) (folder : Names) → path ≡ front ++ name ∷ [] → bytes_eq name (codes "Tupfile") ≡ true → IsFolderOf path folder → filter_map folder_of_tupfile (path ∷ []) ≡ folder ∷ []
+folder_listed path front name folder is named of =
+    let found : folder_of_tupfile path ≡ Some front = ap folder_of_tupfile is ∙ tupfile_last front name ∙ ap (λ (b : Bool). if b then Some front else None) named in
+    let same : folder ≡ front = of ∙ ap (λ (p : Names). unwrap_or (result_ok (above p)) []) is ∙ ap (λ (r : Result Names PathFault). unwrap_or (result_ok r) []) (above_last front name) in
+    ap (λ (o : Option Names). cons_option o []) found ∙ ap (λ (f : Names). f ∷ []) (sym same)
+
+pub none_listed : (path front : Names) (name : List ℕ) → path ≡ front ++ name ∷ [] → bytes_eq name (codes "Tupfile") ≡ false → filter_map folder_of_tupfile (path ∷ []) ≡ []
+none_listed path front name is named =
+    ap (λ (o : Option Names). cons_option o []) (ap folder_of_tupfile is ∙ tupfile_last front name ∙ ap (λ (b : Bool). if b then Some front else None) named)
+
+-- one source more
+pub folders_more : (sources : List (Names × Content)) (at : ℕ) (file : Names × Content) → at < length sources → get_or sources at file ≡ file →
+    filter_map folder_of_tupfile (keys_of (take (at + 1) sources)) ≡ filter_map folder_of_tupfile (keys_of (take at sources)) ++ filter_map folder_of_tupfile (file.0 ∷ [])
+folders_more sources at file within here =
+    ap (filter_map folder_of_tupfile)
+    (map_more (λ (f : Names × Content). f.0) sources at file within ∙ ap (λ (f : Names × Content). keys_of (take at sources) ++ f.0 ∷ []) here)
+    ∙ filter_map-append folder_of_tupfile (keys_of (take at sources)) (file.0 ∷ [])
+
+pub from_T : (b : Bool) → T b → b ≡ true
+from_T true h = refl
+from_T false h = absurd h

@@ -1,4 +1,5 @@
 pub mod Sources
+pub mod Turns
 pub mod Log
 pub mod Outside
 pub mod Stopped

@@ -1,6 +1,6 @@
--- What an update promises, each promise a word and a table: the site before, the site after, and why the update stopped
--- before its end, if it did.
-use Rattle.std.specs.Prelude.{◌≡◌, ◌⊎◌, ◌++◌, ◌<◌, ⊤, ℕ, false, List, Option, None, Some, IsSome, IsTrue, Ok, Err}
+-- What an update promises, each promise a word and a table: the site before, the site after, the rules that it found, and why
+-- it stopped before its end, if it did.
+use Rattle.std.specs.Prelude.{◌≡◌, ◌⊎◌, ◌++◌, ◌<◌, ⊤, ℕ, Bool, false, List, Option, None, Some, IsSome, IsTrue, Ok, Err}
 use Rattle.std.specs.FinMap as finite
 use Rattle.tup_path.specs.Count.{Rose}
 use Rattle.tup_path.specs.Name.{Names}
@@ -11,47 +11,45 @@ use Rattle.tup_rule.specs.declared.rule.RuleName.{RuleName}
 use Rattle.tup_runner.specs.Next.{Next}
 use Rattle.tup_access.specs.declared.verdict.Verdict.{Verdict}
 use Rattle.tup_clean.specs.Clean.{succeeds, is_good}
-use Rattle.tup_parse.specs.declared.fault.ReadEnd.TheVariants.{Fault}
 use Rattle.tup_owned.specs.Ascending.{ascending}
 use Rattle.tup_owned.specs.Owned.{owned_of}
 use Rattle.tup_update.specs.declared.update.Log.{Log}
 use Rattle.tup_update.specs.declared.stop.Stop.{Stop}
-use Rattle.tup_update.specs.declared.stop.Stop.TheVariants.{BadStore, Parse, Bad, Run, Outside}
+use Rattle.tup_update.specs.declared.stop.Stop.TheVariants.{BadStore, Sources, Bad, Run, Outside}
 use Rattle.tup_update.specs.Log.{LogFits, RulesFit}
 use Rattle.tup_update.specs.Parts.{HasFileOf, IsBuilt, IsFirstBad}
-use Rattle.tup_update.specs.Sources.{owned, sources, rules_read, rules, build, outputs}
+use Rattle.tup_update.specs.Sources.{owned, sources, files_beside, AsksFor, Refuses, PassesLimit, build, ends, outputs}
+use Rattle.tup_update.specs.Turns.{TurnsFit}
 
 -- the files are those of the clean build, which succeeds, and the store lists just the outputs
-pub record IsMade (next : Next) (old new : World) : Type 0 where
-  pub read : rules_read old ≡ Ok (rules old)
-  pub clean : IsTrue (succeeds (build next old))
-  pub files : new.tree ≡ (build next old).tree
-  pub listed : owned_of new.store ≡ Ok (ascending (outputs (rules old)))
+pub record IsMade (next : Next) (rules : List Rule) (old new : World) : Type 0 where
+  pub clean : IsTrue (succeeds (build next rules old))
+  pub files : new.tree ≡ (build next rules old).tree
+  pub listed : owned_of new.store ≡ Ok (ascending (outputs rules))
 
 -- an update that came to its end has made exactly the files
-abbrev pub ExactlyTheFiles : Next → World → World → Option Stop → Type 0
-ExactlyTheFiles next old new None = IsMade next old new
-ExactlyTheFiles next old new (Some stop) = ⊤
+abbrev pub ExactlyTheFiles : Next → List Rule → World → World → Option Stop → Type 0
+ExactlyTheFiles next rules old new None = IsMade next rules old new
+ExactlyTheFiles next rules old new (Some stop) = ⊤
 
 -- every file that was a source is what it was
 abbrev pub SourcesStay : World → World → Type 0
 SourcesStay old new = (path : Names) → IsSome (finite.get (sources old) path) → finite.get new.tree path ≡ finite.get (sources old) path
 
--- a rule that isn't Good in the clean build, the first such
-pub record IsBadRule (next : Next) (old : World) (name : RuleName) (verdict : Verdict) : Type 0 where
-  pub read : rules_read old ≡ Ok (rules old)
-  pub first : IsFirstBad (rules old) (build next old) name verdict
+-- a rule that isn't Good, the first that is run and isn't, and its verdict in the clean build
+abbrev pub IsBadRule : Next → List Rule → World → RuleName → Verdict → Type 0
+IsBadRule next rules old name verdict = IsFirstBad rules (ends next rules old) (build next rules old) name verdict
 
 -- why an update stops, where the site tells
-abbrev pub HasCause : Next → World → World → Option Stop → Type 0
-HasCause next old new (Some (BadStore offset)) = owned_of old.store ≡ Err offset
-HasCause next old new (Some (Parse fault)) = rules_read old ≡ Err (Fault fault)
-HasCause next old new (Some (Bad name verdict)) = IsBadRule next old name verdict
-HasCause next old new (Some Run) = ⊤
-HasCause next old new (Some (Outside (TooLarge n))) = HasFileOf n new.tree
-HasCause next old new (Some (Outside SiteFault)) = ⊤
-HasCause next old new (Some (Outside Memory)) = ⊤
-HasCause next old new None = ⊤
+abbrev pub HasCause : Next → List Rule → World → World → Option Stop → Type 0
+HasCause next rules old new (Some (BadStore offset)) = owned_of old.store ≡ Err offset
+HasCause next rules old new (Some (Sources fault)) = Refuses old fault
+HasCause next rules old new (Some (Bad name verdict)) = IsBadRule next rules old name verdict
+HasCause next rules old new (Some Run) = ⊤
+HasCause next rules old new (Some (Outside (TooLarge n))) = HasFileOf n new.tree
+HasCause next rules old new (Some (Outside SiteFault)) = ⊤
+HasCause next rules old new (Some (Outside Memory)) = ⊤
+HasCause next rules old new None = ⊤
 
 -- why an update stops, by what every site counts: its count rises where it is blamed, and nowhere else
 abbrev pub HasCountedCause : ℕ → ℕ → Option Stop → Type 0
@@ -60,7 +58,7 @@ HasCountedCause before now (Some (Outside (TooLarge n))) = (now ≡ before) × (
 HasCountedCause before now (Some (Outside Memory)) = now ≡ before
 HasCountedCause before now (Some (Bad name verdict)) = (now ≡ before) × (is_good (Some verdict) ≡ false)
 HasCountedCause before now (Some (BadStore offset)) = now ≡ before
-HasCountedCause before now (Some (Parse fault)) = now ≡ before
+HasCountedCause before now (Some (Sources fault)) = (now ≡ before) × PassesLimit fault
 HasCountedCause before now (Some Run) = now ≡ before
 HasCountedCause before now None = now ≡ before
 
@@ -70,8 +68,8 @@ HasRunCause before now (Some Run) = Rose before now
 HasRunCause before now stopped = now ≡ before
 
 -- what the store lists while files are made: what it listed before, and what the rules make
-abbrev pub claimed : World → List Names
-claimed w = ascending (owned w ++ outputs (rules w))
+abbrev pub claimed : List Rule → World → List Names
+claimed rules w = ascending (owned w ++ outputs rules)
 
 -- the store lists these paths, and beside them the tree has the sources of before: every other file is listed, no source
 -- is, and the next update asks for the same rules
@@ -79,31 +77,40 @@ pub record IsListed (paths : List Names) (old new : World) : Type 0 where
   pub listed : owned_of new.store ≡ Ok paths
   pub same : sources new ≡ sources old
 
--- what is left where the outside stops an update: all that was claimed is listed. Only a writing of the store that
--- failed half way may leave a store that lists anything; then no file was touched yet, or all were made.
-abbrev pub IsLeft : Next → World → World → Type 0
-IsLeft next old new = IsListed (claimed old) old new ⊎ (new.tree ≡ old.tree) ⊎ IsBuilt (build next old) new.tree
+-- all was made, whatever the store lists: beside the outputs the tree has the sources of before, and the outputs are those
+-- of the clean build, where the runner tells
+pub record AllIsMade (tells : Bool) (next : Next) (rules : List Rule) (old new : World) : Type 0 where
+  pub beside : files_beside (outputs rules) new.tree ≡ sources old
+  pub built : IsTrue tells → IsBuilt (build next rules old) new.tree
+
+-- what is left where the outside stops an update whose rules were read: all that was claimed is listed. Only a writing of
+-- the store that failed half way may leave a store that lists anything; then no file was touched yet, or all were made.
+abbrev pub IsLeft : Bool → Next → List Rule → World → World → Type 0
+IsLeft tells next rules old new =
+    AsksFor old rules × (IsListed (claimed rules old) old new ⊎ (new.tree ≡ old.tree) ⊎ AllIsMade tells next rules old new)
 
 -- nothing is forgotten, wherever an update stops: what wasn't a source before is owned by the next update too. Where the
 -- store or the sources couldn't be read, nothing was changed.
-abbrev pub NothingForgotten : Next → World → World → Option Stop → Type 0
-NothingForgotten next old new None = IsListed (ascending (outputs (rules old))) old new
-NothingForgotten next old new (Some (BadStore offset)) = new ≡ old
-NothingForgotten next old new (Some (Parse fault)) = new ≡ old
-NothingForgotten next old new (Some (Bad name verdict)) = IsListed (claimed old) old new
-NothingForgotten next old new (Some Run) = IsListed (claimed old) old new
-NothingForgotten next old new (Some (Outside (TooLarge n))) = (new ≡ old) ⊎ IsListed (claimed old) old new
-NothingForgotten next old new (Some (Outside SiteFault)) = IsLeft next old new
-NothingForgotten next old new (Some (Outside Memory)) = IsLeft next old new
+abbrev pub NothingForgotten : Bool → Next → List Rule → World → World → Option Stop → Type 0
+NothingForgotten tells next rules old new None = IsListed (ascending (outputs rules)) old new
+NothingForgotten tells next rules old new (Some (BadStore offset)) = new ≡ old
+NothingForgotten tells next rules old new (Some (Sources fault)) = new ≡ old
+NothingForgotten tells next rules old new (Some (Bad name verdict)) = IsListed (claimed rules old) old new
+NothingForgotten tells next rules old new (Some Run) = IsListed (claimed rules old) old new
+NothingForgotten tells next rules old new (Some (Outside (TooLarge n))) = (new ≡ old) ⊎ (AsksFor old rules × IsListed (claimed rules old) old new)
+NothingForgotten tells next rules old new (Some (Outside SiteFault)) = (new ≡ old) ⊎ IsLeft tells next rules old new
+NothingForgotten tells next rules old new (Some (Outside Memory)) = (new ≡ old) ⊎ IsLeft tells next rules old new
 
--- what an update promises where the site tells, whatever its runner does; with the rules that it tells of
-pub record Stays (old new : World) (found : List Rule) (stopped : Option Stop) : Type 0 where
+-- what an update promises where the site tells, whatever its runner does; with the rules that it found, and the log that it
+-- tells of itself
+pub record Stays (tells : Bool) (next : Next) (rules : List Rule) (old new : World) (log : Log) (stopped : Option Stop) : Type 0 where
   pub sources_stay : SourcesStay old new
-  pub rules_fit : RulesFit old found stopped
+  pub rules_fit : RulesFit old rules stopped
+  pub nothing_forgotten : NothingForgotten tells next rules old new stopped
+  pub turns_fit : TurnsFit rules log.ran log.ended stopped
 
--- all that it promises where the runner tells what it means too, with the log that it tells of itself
-pub record Keeps (next : Next) (old new : World) (log : Log) (stopped : Option Stop) : Type 0 where
-  pub exactly_the_files : ExactlyTheFiles next old new stopped
-  pub nothing_forgotten : NothingForgotten next old new stopped
-  pub cause : HasCause next old new stopped
-  pub log_fits : LogFits next old log stopped
+-- all that it promises where the runner tells what it means too
+pub record Keeps (next : Next) (rules : List Rule) (old new : World) (log : Log) (stopped : Option Stop) : Type 0 where
+  pub exactly_the_files : ExactlyTheFiles next rules old new stopped
+  pub cause : HasCause next rules old new stopped
+  pub log_fits : LogFits next rules old log stopped

@@ -1,32 +1,82 @@
 -- What the parts of an update promise to each other.
-use Rattle.std.specs.Prelude.{◌≡◌, ◌<◌, ℕ, true, false, if◌then◌else◌, List, None, Some, IsSome, IsTrue, Option, Result, Ok, Err, filter, slice_get}
+use Rattle.std.specs.Prelude.{◌≡◌, ◌⊎◌, ◌<◌, ◌≤◌, ⊤, ℕ, true, false, length, filter_map, unwrap_or, if◌then◌else◌, List, [], ◌∷◌, ◌++◌, None, Some, IsSome, IsTrue, Option, Result, Ok, Err, filter, slice_get}
 use Rattle.std.specs.FinMap as finite
-use Rattle.tup_path.specs.Name.{Names}
+use Rattle.std.specs.Result.{result_ok}
+use Rattle.tup_path.specs.Name.{Names, Content}
+use Rattle.tup_path.specs.Resolve.{above}
 use Rattle.tup_path.specs.Tree.{Tree}
 use Rattle.tup_site.specs.World.{World}
 use Rattle.tup_site.specs.Cause.{IsTooLarge}
 use Rattle.tup_site.specs.declared.fault.SiteFailed.{SiteFailed}
-use Rattle.tup_site.specs.declared.fault.SiteFailed.TheVariants.{TooLarge}
+use Rattle.tup_site.specs.declared.fault.SiteFailed.TheVariants.{TooLarge, Memory}
 use Rattle.tup_rule.specs.declared.rule.Rule.{Rule}
 use Rattle.tup_rule.specs.declared.rule.RuleName.{RuleName}
 use Rattle.tup_rule.specs.Rule.{among, is_generated, name_of}
 use Rattle.tup_access.specs.declared.verdict.Verdict.{Verdict}
 use Rattle.tup_access.specs.Judge.{Judged}
-use Rattle.tup_clean.specs.Clean.{Build, is_good, good_at, succeeds, with_files}
-use Rattle.tup_clean.specs.InOrder.{IsBuildable}
+use Rattle.tup_runner.specs.Next.{Next}
+use Rattle.tup_clean.specs.Buildable.{IsBuildable}
+use Rattle.tup_clean.specs.Clean.{Build, clean, is_good, succeeds, with_files}
+use Rattle.tup_clean.specs.Taken.{Taken, takes, up_to_bad}
 use Rattle.tup_owned.specs.Owned.{owned_of}
-use Rattle.tup_parse.specs.Reading.{top_tupfile}
-use Rattle.tup_update.specs.Log.{begun, up_to_first_bad, IsFront}
-use Rattle.tup_update.specs.Sources.{files_beside, rules_beside, folders_of}
+use Rattle.tup_update.specs.Log.{IsFront}
+use Rattle.tup_update.specs.Sources.{AsksFor, Refuses, PassesLimit, sources, files_beside, folder_of_tupfile, folders_read}
+use Rattle.tup_update.specs.Turns.{names_of, EndsBadly}
+use Rattle.tup_update.specs.declared.fault.SourcesFault.TheVariants.{TooManyFiles}
+use Rattle.tup_update.specs.declared.found.Found.{Found}
 use Rattle.tup_update.specs.declared.project.Project.{Project}
+use Rattle.tup_update.specs.declared.stop.Unread.{Unread}
+use Rattle.tup_update.specs.declared.stop.Unread.TheVariants.{Store, Sources as NoRules, Outside}
+
+-- what is found in a world: what the store lists, the files among that, and the sources, which are no more files than may be
+pub record IsFound (w : World) (found : Found) : Type 0 where
+  pub owned : owned_of w.store ≡ Ok found.owned
+  pub files : found.owned_files ≡ filter (λ path. among path found.owned) (finite.keys w.tree)
+  pub few : length (finite.keys w.tree) ≤ 65536
+  pub sources : found.sources ≡ finite.entries (sources w)
+
+-- there are so many files, too many
+abbrev pub IsTooMany : ℕ → Unread → Type 0
+IsTooMany count unread = (unread ≡ NoRules (TooManyFiles count)) × (65536 < count)
+
+-- the sources ask for no rules, or there was no memory
+abbrev pub IsRefusal : World → Unread → Type 0
+IsRefusal w (Store offset) = ⊥
+IsRefusal w (NoRules fault) = Refuses w fault
+IsRefusal w (Outside failed) = failed ≡ Memory
+
+-- a limit is told only where it is passed
+abbrev pub KnowsLimits : Unread → Type 0
+KnowsLimits (Store offset) = ⊤
+KnowsLimits (NoRules fault) = PassesLimit fault
+KnowsLimits (Outside failed) = ⊤
+
+-- the folder of a path, and that of the top is the top
+abbrev pub IsFolderOf : Names → Names → Type 0
+IsFolderOf path folder = folder ≡ unwrap_or (result_ok (above path)) []
+
+-- why there are no rules, whatever is told of the sources: a limit only where it is passed, and no failure of the site
+abbrev pub IsOfRules : Unread → Type 0
+IsOfRules (Store offset) = ⊥
+IsOfRules (NoRules fault) = PassesLimit fault
+IsOfRules (Outside failed) = failed ≡ Memory
+
+-- folders, and behind them that of a path which is a Tupfile
+abbrev pub AddsFolder : Names → List Names → List Names → Type 0
+AddsFolder path old new = new ≡ old ++ filter_map folder_of_tupfile (path ∷ [])
 
 -- a project is what a world asks for, and its rules can be built
 pub record IsProject (project : Project) (w : World) : Type 0 where
   pub owned : owned_of w.store ≡ Ok project.owned
   pub files : project.owned_files ≡ filter (λ path. among path project.owned) (finite.keys w.tree)
-  pub read : project.read ≡ folders_of (finite.get (files_beside project.owned w.tree) top_tupfile)
-  pub rules : rules_beside project.owned w.tree ≡ Ok project.rules
-  pub buildable : IsBuildable (files_beside project.owned w.tree) project.rules
+  pub read : project.read ≡ folders_read w
+  pub asked : AsksFor w project.rules
+  pub buildable : IsBuildable (sources w) project.rules
+
+-- files with the one more that was found at a path, if there is one
+abbrev pub AddsFile : Names → Option Content → Tree → Tree → Type 0
+AddsFile path None old new = new ≡ old
+AddsFile path (Some content) old new = new ≡ finite.insert old path content
 
 -- a tree's files are what they are in another
 abbrev pub AgreesOnItsFiles : Tree → Tree → Type 0
@@ -65,33 +115,40 @@ pub record Leaves (judged : Judged) (old new : Tree) (verdict : Verdict) : Type 
 abbrev pub bad_of : Rule → Verdict → Option (RuleName × Verdict)
 bad_of rule verdict = if is_good (Some verdict) then None else Some (name_of rule, verdict)
 
--- the first rule that isn't Good in a build, with its verdict
-pub record IsFirstBad (rules : List Rule) (build : Build) (name : RuleName) (verdict : Verdict) : Type 0 where
-  pub at : ℕ
-  pub rule : Rule
-  pub stands : slice_get rules at ≡ Some rule
-  pub named : name ≡ name_of rule
-  pub given : slice_get build.verdicts at ≡ Some (Some verdict)
-  pub bad : is_good (Some verdict) ≡ false
-  pub first : (before : ℕ) → before < at → IsTrue (good_at build.verdicts before)
+-- a rule that was run ended: it is noted with its verdict, of which this is so, and named where it isn't Good
+pub record Ends (at : ℕ) (rule : Rule) (leaves : Verdict → Type 0) (old new : List Taken) (bad : Option (RuleName × Verdict)) : Type 0 where
+  pub verdict : Verdict
+  pub noted : new ≡ old ++ (at, verdict) ∷ []
+  pub named : bad ≡ bad_of rule verdict
+  pub left : leaves verdict
+
+-- a rule was begun, or couldn't be
+abbrev pub BeginsIt : Rule → List RuleName → List RuleName → Type 0
+BeginsIt rule old new = (new ≡ old) ⊎ (new ≡ old ++ name_of rule ∷ [])
+
+-- the rule that isn't Good among those that are run in turn, with its verdict: the last of them
+pub record IsFirstBad (rules : List Rule) (ends : List Taken) (build : Build) (name : RuleName) (verdict : Verdict) : Type 0 where
+  pub ending : EndsBadly rules ends name verdict
+  -- the clean build has this verdict of it
+  pub given : slice_get build.verdicts ending.at ≡ Some (Some verdict)
 
 -- the files are those of a build that succeeds
 pub record IsBuilt (build : Build) (tree : Tree) : Type 0 where
   pub clean : IsTrue (succeeds build)
   pub files : tree ≡ build.tree
 
--- the rules were run, up to the first bad one
-abbrev pub HasRun : List Rule → Build → Tree → Option (RuleName × Verdict) → Type 0
-HasRun rules build tree None = IsBuilt build tree
-HasRun rules build tree (Some bad) = IsFirstBad rules build bad.0 bad.1
+-- the rules were run in turn, up to the first bad one
+abbrev pub HasRun : Next → List Rule → Tree → Tree → Option (RuleName × Verdict) → Type 0
+HasRun next rules sources tree None = IsBuilt (clean next rules sources) tree
+HasRun next rules sources tree (Some bad) = IsFirstBad rules (up_to_bad (takes next rules sources)) (clean next rules sources) bad.0 bad.1
 
--- what is noted of rules that are run: the names of those that were begun, and the verdicts
-abbrev pub AreNoted : List Rule → Build → List RuleName → List Verdict → Type 0
-AreNoted rules build ran verdicts = (ran ≡ begun rules build) × (verdicts ≡ up_to_first_bad build.verdicts)
+-- what is noted of rules that are run: the names of those that were begun, and the verdicts of those that ended
+abbrev pub AreNoted : List Rule → List Taken → List RuleName → List Taken → Type 0
+AreNoted rules ends ran ended = (ran ≡ names_of rules ends) × (ended ≡ ends)
 
 -- or as far as it came
-abbrev pub ArePartNoted : List Rule → Build → List RuleName → List Verdict → Type 0
-ArePartNoted rules build ran verdicts = IsFront ran (begun rules build) × IsFront verdicts (up_to_first_bad build.verdicts)
+abbrev pub ArePartNoted : List Rule → List Taken → List RuleName → List Taken → Type 0
+ArePartNoted rules ends ran ended = IsFront ran (names_of rules ends) × IsFront ended ends
 
 -- the rules can be run over a tree: each of its files is a source or an output of theirs
 pub record IsRunnable (owned : List Names) (rules : List Rule) (tree : Tree) : Type 0 where

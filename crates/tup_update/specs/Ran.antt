@@ -4,10 +4,11 @@ use Rattle.tup_path.specs.Count.{Rose}
 use Rattle.tup_path.specs.Name.{Names}
 use Rattle.tup_site.specs.declared.fault.SiteFailed.TheVariants.{Memory}
 use Rattle.tup_rule.specs.declared.rule.RuleName.{RuleName}
+use Rattle.tup_access.specs.declared.verdict.Verdict.{Verdict}
 use Rattle.tup_update.specs.declared.stop.Halt.{Halt}
 use Rattle.tup_update.specs.declared.stop.Halt.TheVariants.{Run as RunHalted, Outside as Halted}
 use Rattle.tup_update.specs.declared.stop.Stop.{Stop}
-use Rattle.tup_update.specs.declared.stop.Stop.TheVariants.{Outside}
+use Rattle.tup_update.specs.declared.stop.Stop.TheVariants.{Bad, Outside}
 use Rattle.tup_update.specs.Stopped.{stop_of_halt}
 
 -- what a runner is given of a rule: its folder and its command
@@ -27,10 +28,16 @@ abbrev pub RunsThese : List RuleName → List (Names × List ℕ) → List (Name
 RunsThese rules old new (Some (Outside Memory)) = RanAll rules old new ⊎ RanAllButLast rules old new
 RunsThese rules old new stopped = RanAll rules old new
 
--- what stops an update whose rules come to this
+-- what stops an update of which a part comes to this
 abbrev pub stopped_by : {T : Type 0} → Result T Halt → Option Stop
 stopped_by (Ok value) = None
 stopped_by (Err halt) = Some (stop_of_halt halt)
+
+-- and where it is the running of rules, which names the first bad one
+abbrev pub comes_to : Result (Option (RuleName × Verdict)) Halt → Option Stop
+comes_to (Ok None) = None
+comes_to (Ok (Some bad)) = Some (Bad bad.0 bad.1)
+comes_to (Err halt) = Some (stop_of_halt halt)
 
 -- a rule was begun, and its command was run; where there was no memory perhaps not
 abbrev pub BeginsOne : Halt → RuleName → List (Names × List ℕ) → List (Names × List ℕ) → Type 0

@@ -9,7 +9,6 @@ use Rattle.tup_access.specs.Answered.{HasSeen}
 use Rattle.tup_access.proofs.Asked.{seen_none, seen_on}
 use Rattle.tup_update.specs.declared.view.Sight.{Sight}
 use Rattle.tup_update.specs.declared.view.Refused.{Refused}
-use Rattle.tup_site.specs.declared.fault.SiteFailed.{SiteFailed}
 use Rattle.tup_update.specs.declared.view.Refused.TheVariants.{Denied, Failed}
 use Rattle.tup_update.specs.Parts.{NamesALargeFile}
 use Rattle.tup_update.specs.Seeing.{Counts, KeepsCount}

@@ -1,18 +1,23 @@
 -- What a site's world holds as an update sees it: which files are owned, which are sources, and what these ask for.
-use Rattle.std.specs.Prelude.{Bool, not, if◌then◌else◌, is_some, List, [], ◌∷◌, filter, Option, Ok, Err, Result}
+use Rattle.std.specs.Prelude.{◌≡◌, ◌<◌, ◌≤◌, not, if◌then◌else◌, ⊤, ℕ, List, [], ◌∷◌, length, codes, bytes_eq, filter, filter_map, Option, None, Some, option_map, Ok, Err, Result}
 use Rattle.std.specs.List.{flat_map}
 use Rattle.std.specs.FinMap as finite
-use Rattle.tup_path.specs.Name.{Names, Content}
+use Rattle.tup_path.specs.Name.{Names}
 use Rattle.tup_path.specs.Tree.{Tree}
 use Rattle.tup_site.specs.World.{World}
 use Rattle.tup_rule.specs.declared.rule.Rule.{Rule}
 use Rattle.tup_rule.specs.Rule.{among}
 use Rattle.tup_runner.specs.Next.{Next}
 use Rattle.tup_clean.specs.Clean.{Build, clean}
-use Rattle.tup_parse.specs.declared.fault.ReadEnd.{ReadEnd}
-use Rattle.tup_parse.specs.Reading.{top_tupfile}
-use Rattle.tup_project.specs.Project.{rules_of}
+use Rattle.tup_clean.specs.Taken.{Taken, takes, up_to_bad}
+use Rattle.tup_link.specs.declared.fault.What.TheVariants.{Commands, Links}
+use Rattle.tup_whole.specs.Project.{ComeTo}
+use Rattle.tup_whole.specs.declared.fault.ProjectFault.{ProjectFault}
+use Rattle.tup_whole.specs.declared.fault.ProjectFault.TheVariants as project
+use Rattle.tup_owned.specs.Ascending.{ascending}
 use Rattle.tup_owned.specs.Owned.{owned_of}
+use Rattle.tup_update.specs.declared.fault.SourcesFault.{SourcesFault}
+use Rattle.tup_update.specs.declared.fault.SourcesFault.TheVariants.{TooManyFiles, Parse, CircularDirs, TooManyCommands, NoSuchGroup, TooManyLinks, CircularCommands}
 
 -- the paths that the program owns: those that the store lists
 abbrev pub owned : World → List Names
@@ -26,40 +31,62 @@ files_beside paths tree = finite.retain_keys tree (λ path. not (among path path
 abbrev pub sources : World → Tree
 sources w = files_beside (owned w) w.tree
 
--- the rules of the files of a tree that aren't owned, or the first fault in them
-abbrev pub rules_beside : List Names → Tree → Result (List Rule) ReadEnd
-rules_beside paths tree = rules_of (finite.keys (files_beside paths tree)) (finite.get (files_beside paths tree) top_tupfile)
+-- the sources come to these rules, or to this fault, and there are no more files than may be read
+pub record ReadAs (w : World) (result : Result (List Rule) ProjectFault) : Type 0 where
+  pub few : length (finite.keys w.tree) ≤ 65536
+  pub come_to : ComeTo (sources w) result
 
--- the rules of the present sources
-abbrev pub rules_read : World → Result (List Rule) ReadEnd
-rules_read w = rules_beside (owned w) w.tree
+-- there are so many files in the tree, too many
+pub record HasTooMany (w : World) (number : ℕ) : Type 0 where
+  pub files : number ≡ length (finite.keys w.tree)
+  pub many : 65536 < number
 
-abbrev pub rules : World → List Rule
-rules w = elim (rules_read w) [ Ok found ↦ found | Err end ↦ [] ]
+-- the present sources ask for these rules
+abbrev pub AsksFor : World → List Rule → Type 0
+AsksFor w rules = ReadAs w (Ok rules)
 
--- the clean build of the files of a tree that aren't owned, by what a runner means
-abbrev pub build_beside : Next → List Names → List Rule → Tree → Build
-build_beside next owned rules tree = clean next rules (files_beside owned tree)
+-- the present sources ask for no rules, for this fault
+abbrev pub Refuses : World → SourcesFault → Type 0
+Refuses w (TooManyFiles number) = HasTooMany w number
+Refuses w (Parse fault) = ReadAs w (Err (project.Parse fault))
+Refuses w (CircularDirs dirs) = ReadAs w (Err (project.CircularDirs dirs))
+Refuses w (TooManyCommands number) = ReadAs w (Err (project.TooMany Commands number))
+Refuses w (NoSuchGroup group) = ReadAs w (Err (project.NoSuchGroup group))
+Refuses w (TooManyLinks number) = ReadAs w (Err (project.TooMany Links number))
+Refuses w (CircularCommands names) = ReadAs w (Err (project.CircularCommands names))
 
--- the clean build of the present sources
-abbrev pub build : Next → World → Build
-build next w = build_beside next (owned w) (rules w) w.tree
+-- a limit is passed only by what is more than it
+abbrev pub PassesLimit : SourcesFault → Type 0
+PassesLimit (TooManyFiles number) = 65536 < number
+PassesLimit (TooManyCommands number) = 65536 < number
+PassesLimit (TooManyLinks number) = 4194304 < number
+PassesLimit fault = ⊤
+
+-- the clean build of rules over the present sources, by what a runner means
+abbrev pub build : Next → List Rule → World → Build
+build next rules w = clean next rules (sources w)
+
+-- the rules that are run in turn, with their verdicts: those of the clean build, up to the first that isn't Good
+abbrev pub ends : Next → List Rule → World → List Taken
+ends next rules w = up_to_bad (takes next rules (sources w))
 
 -- all outputs of some rules, in the order of the rules
 abbrev pub outputs : List Rule → List Names
 outputs rules = flat_map (λ (rule : Rule). rule.outputs) rules
 
--- the top folder, where it has a Tupfile
-abbrev pub folders_of_top : Bool → List Names
-folders_of_top has_tupfile = if has_tupfile then [] ∷ [] else []
+-- the folder of a path that is a Tupfile
+abbrev pub folder_of_tupfile : Names → Option Names
+folder_of_tupfile [] = None
+folder_of_tupfile (name ∷ []) = if bytes_eq name (codes "Tupfile") then Some [] else None
+folder_of_tupfile (name ∷ next ∷ path) = option_map (λ folder. name ∷ folder) (folder_of_tupfile (next ∷ path))
 
--- the folders that are read, by the Tupfile of the top
-abbrev pub folders_of : Option Content → List Names
-folders_of tupfile = folders_of_top (is_some tupfile)
+-- the folders whose Tupfile is among some paths, in the order of paths
+abbrev pub folders_of : List Names → List Names
+folders_of paths = ascending (filter_map folder_of_tupfile paths)
 
--- the folders whose Tupfile is read: the top, where it has one
+-- the folders whose Tupfile is read: those that have one among the sources
 abbrev pub folders_read : World → List Names
-folders_read w = folders_of (finite.get (sources w) top_tupfile)
+folders_read w = folders_of (finite.keys (sources w))
 
 -- the paths that no rule makes any more
 abbrev pub left_over : List Names → List Rule → List Names
@@ -69,5 +96,5 @@ left_over paths rules = filter (λ path. not (among path (outputs rules))) paths
 abbrev pub gone : List Names → List Names → List Rule → List Names
 gone owned files rules = left_over (filter (λ path. among path owned) files) rules
 
-abbrev pub vanished : World → List Names
-vanished w = gone (owned w) (finite.keys w.tree) (rules w)
+abbrev pub vanished : List Rule → World → List Names
+vanished rules w = gone (owned w) (finite.keys w.tree) rules

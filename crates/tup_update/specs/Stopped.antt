@@ -1,11 +1,16 @@
 -- What a refusal of a part becomes for the reading of a project or the running of its rules, and for the whole update.
+use Rattle.std.specs.Prelude.{ℕ}
 use Rattle.tup_site.specs.declared.fault.SiteFailed.TheVariants.{Memory}
-use Rattle.tup_parse.specs.declared.fault.ReadEnd.{ReadEnd}
-use Rattle.tup_parse.specs.declared.fault.ReadEnd.TheVariants.{Fault, Memory as NoMemory}
+use Rattle.tup_link.specs.declared.fault.What.{What}
+use Rattle.tup_link.specs.declared.fault.What.TheVariants.{Commands, Links}
+use Rattle.tup_whole.specs.declared.fault.ProjectFault.{ProjectFault}
+use Rattle.tup_whole.specs.declared.fault.ProjectFault.TheVariants as project
 use Rattle.tup_owned.specs.declared.fault.OwnedFault.{OwnedFault}
 use Rattle.tup_owned.specs.declared.fault.OwnedFault.TheVariants.{Damaged, Memory as NoRoom}
+use Rattle.tup_update.specs.declared.fault.SourcesFault.{SourcesFault}
+use Rattle.tup_update.specs.declared.fault.SourcesFault.TheVariants.{Parse, CircularDirs, TooManyCommands, NoSuchGroup, TooManyLinks, CircularCommands}
 use Rattle.tup_update.specs.declared.stop.Stop.{Stop}
-use Rattle.tup_update.specs.declared.stop.Stop.TheVariants.{BadStore, Parse, Run, Outside as Stopped}
+use Rattle.tup_update.specs.declared.stop.Stop.TheVariants.{BadStore, Sources as NoRules, Run, Outside as Stopped}
 use Rattle.tup_update.specs.declared.stop.Halt.{Halt}
 use Rattle.tup_update.specs.declared.stop.Halt.TheVariants.{Run as RunHalted, Outside as Halted}
 use Rattle.tup_update.specs.declared.stop.Unread.{Unread}
@@ -14,7 +19,7 @@ use Rattle.tup_update.specs.declared.stop.Unread.TheVariants.{Store, Sources, Ou
 -- what stops the reading stops the update
 abbrev pub stop_of : Unread → Stop
 stop_of (Store offset) = BadStore offset
-stop_of (Sources fault) = Parse fault
+stop_of (Sources fault) = NoRules fault
 stop_of (Outside failed) = Stopped failed
 
 -- what halts the rules stops the update
@@ -22,10 +27,19 @@ abbrev pub stop_of_halt : Halt → Stop
 stop_of_halt RunHalted = Run
 stop_of_halt (Halted failed) = Stopped failed
 
+-- a limit of linking that is passed
+abbrev pub too_many : What → ℕ → SourcesFault
+too_many Commands number = TooManyCommands number
+too_many Links number = TooManyLinks number
+
 -- what the reading of the sources ends with
-abbrev pub unread_of_reading : ReadEnd → Unread
-unread_of_reading (Fault fault) = Sources fault
-unread_of_reading NoMemory = Outside Memory
+abbrev pub unread_of_project : ProjectFault → Unread
+unread_of_project (project.Parse fault) = Sources (Parse fault)
+unread_of_project (project.CircularDirs dirs) = Sources (CircularDirs dirs)
+unread_of_project (project.NoSuchGroup group) = Sources (NoSuchGroup group)
+unread_of_project (project.CircularCommands rules) = Sources (CircularCommands rules)
+unread_of_project (project.TooMany what number) = Sources (too_many what number)
+unread_of_project project.Memory = Outside Memory
 
 -- what the reading of the store ends with
 abbrev pub unread_of_owned : OwnedFault → Unread

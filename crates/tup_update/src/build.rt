@@ -99,10 +99,12 @@ impl Project {
     ) -> Result<(), Stop>
         requires project { IsTrue S.tells → IsProject self.now (S.world site.old) }
         requires unused { IsUnused log.old }
-        ensures stays { IsTrue S.tells
-            → Stays (S.world site.old) (S.world site.new) self.now.rules (result_err result) }
+        ensures stays { IsTrue S.tells → let told = with_read self.now.read log.new in
+            Stays R.tells R.next
+            self.now.rules (S.world site.old) (S.world site.new) told (result_err result) }
         ensures kept { IsTrue S.tells → IsTrue R.tells → let told = with_read self.now.read log.new in
-            Keeps R.next (S.world site.old) (S.world site.new) told (result_err result) }
+            Keeps R.next
+            self.now.rules (S.world site.old) (S.world site.new) told (result_err result) }
         ensures ran { IsTrue R.tells_ran
             → RunsThese log.new.ran (R.ran runner.old) (R.ran runner.new) (result_err result) }
         ensures counted { let stopped = result_err result in
@@ -118,7 +120,7 @@ impl Project {
             runner,
             &plan.made,
             &mut log.ran,
-            &mut log.verdicts,
+            &mut log.ended,
         )? {
             Some((name, verdict)) => Err(Stop::Bad(name, verdict)),
             None => Ok(finish(alloc, site, plan.listed.as_slice())?),

@@ -1,17 +1,20 @@
-//! One update of a project with one Tupfile, over any site.
+//! One update of a project, over any site.
 //!
-//! Read `update`, which reads the `project` that the site asks for and makes its files: `build`
-//! owns what may be written, removes what no rule makes any more and runs the rules (`run`), each a
+//! Read `update`, which reads the `project` that the site asks for, by the sources that are `found`
+//! there, and makes its files: `build` owns what may be written, removes what no rule makes any more and runs the rules (`run`), each a
 //! `command` over the site's files.
 #![tactic(auto)]
 
 mod build;
 mod command;
+mod fault;
+mod found;
 mod project;
 mod run;
 mod stop;
 mod update;
 mod view;
 
+pub use fault::SourcesFault;
 pub use stop::Stop;
 pub use update::{Log, Update, update_site};

@@ -1,29 +1,27 @@
-//! What a site asks for: its owned files, its sources and their rules.
-ghost use Rattle.std.specs.Prelude.{◌≡◌, ◌<◌, ◌^◌, ℕ, List, length, not, filter, IsTrue, IsSome, IfOk, IfErr, Some, None};
-ghost use Rattle.std.specs.FinMap as finite;
+//! What a site asks for: its owned files, and the rules of its sources.
+ghost use Rattle.std.specs.Prelude.{◌≡◌, List, not, filter, IsTrue, IfOk, IfErr, OnOk, Some};
 ghost use Rattle.std.specs.BTreeSet.{contains};
+ghost use Rattle.std.specs.Map.{keys_of};
 ghost use Rattle.tup_path.specs.Name.{Names};
 ghost use Rattle.tup_path.specs.Order.{by_names};
-ghost use Rattle.tup_path.specs.Tree.{Tree};
-ghost use Rattle.tup_site.specs.Cause.{CountsFaults, NeverTooLarge, OnlyLarge};
 ghost use Rattle.tup_rule.specs.Rule.{among};
+ghost use Rattle.tup_rule.specs.declared.rule.Rule.{Rule as RuleValue};
 ghost use Rattle.tup_runner.specs.Next.{Next};
-ghost use Rattle.tup_parse.specs.Reading.{top_tupfile};
 ghost use Rattle.tup_update.specs.Outcome.{HasCause};
 ghost use Rattle.tup_update.specs.Outside.{HandsOn};
-ghost use Rattle.tup_update.specs.Parts.{IsProject, NamesALargeFile, AgreesOnItsFiles};
-ghost use Rattle.tup_update.specs.Sources.{folders_of_top};
+ghost use Rattle.tup_update.specs.Parts.{IsProject, IsFolderOf, KnowsLimits, AddsFolder};
+ghost use Rattle.tup_update.specs.Sources as specs;
 ghost use Rattle.tup_update.specs.Stopped.{stop_of};
 ghost use Rattle.tup_update.specs.declared.stop.Unread.TheVariants.{Outside};
 
+use crate::found::Found;
 use crate::stop::Unread;
 use std::alloc::{AllocError, Global};
 use std::collections::BTreeSet;
-use tup_owned::read_owned;
-use tup_path::{Bytes, Path, Paths, Text};
-use tup_project::read_rules;
+use tup_owned::sorted;
+use tup_path::{Bytes, Path, Paths};
 use tup_rule::Rules;
-use tup_site::{Site, SiteFailed};
+use tup_site::Site;
 
 /// What a site asks for.
 #[derive(Debug, Drop)]
@@ -32,7 +30,7 @@ pub(crate) struct Project {
     pub owned: Paths,
     /// The files among them.
     pub owned_files: Paths,
-    /// The folders whose Tupfile was read.
+    /// The folders whose Tupfile was read, in the order of paths.
     pub read: Paths,
     /// The rules of all other files, the sources.
     pub rules: Rules,
@@ -43,83 +41,59 @@ impl Project {
     pub(crate) fn read<S: Site>(alloc: Global, site: &mut S) -> Result<Project, Unread>
         ensures project { IsTrue S.tells
             → IfOk result (λ project. IsProject project (S.world site.old)) }
-        ensures cause { IsTrue S.tells → IfErr result (λ unread. (next : Next)
-            → HasCause next (S.world site.old) (S.world site.new) (Some (stop_of unread))) }
+        ensures cause { IsTrue S.tells → IfErr result (λ unread. (next : Next) (rules : List RuleValue)
+            → HasCause next rules (S.world site.old) (S.world site.new) (Some (stop_of unread))) }
+        ensures limits { IfErr result KnowsLimits }
         ensures same { IsTrue S.tells → S.world site.new ≡ S.world site.old }
         ensures counted { HandsOn Outside (S.faults site.old) (S.faults site.new) result }
     {
-        let store = read_store(alloc, site)?;
-        let owned = read_owned(alloc, &store)?;
-        let files = site.list(alloc)?;
-        let apart = path_set(alloc, owned.as_slice())?;
-        let (owned_files, sources) = parted(alloc, files.as_slice(), &apart)?;
-        let tupfile = top_file(alloc, site, &sources)?;
-        let read = folders_read(alloc, tupfile.is_some())?;
-        let rules = read_rules(alloc, &sources, tupfile.as_ref())?;
+        let found = Found::read(alloc, site)?;
+        let read = folders_read(alloc, found.sources.as_slice())?;
+        let rules = found.rules(alloc)?;
         Ok(Project {
-            owned,
-            owned_files,
+            owned: found.owned,
+            owned_files: found.owned_files,
             read,
             rules,
         })
     }
 }
 
-/// The bytes of the store.
-fn read_store<S: Site>(alloc: Global, site: &mut S) -> Result<Vec<u8>, SiteFailed>
-    ensures bytes { IsTrue S.tells → IfOk result (λ bytes. bytes.items ≡ (S.world site.old).store) }
-    ensures same { IsTrue S.tells → S.world site.new ≡ S.world site.old }
-    ensures never_too_large { NeverTooLarge result }
-    ensures counted { CountsFaults (S.faults site.old) (S.faults site.new) result }
+/// The folders whose Tupfile is among the sources, in the order of paths.
+fn folders_read(alloc: Global, sources: &[(Path, Bytes)]) -> Result<Paths, AllocError>
+    ensures { IfOk result (λ read. read ≡ specs.folders_of (keys_of sources.now)) }
 {
-    let len = site.db_len(alloc)?;
-    let mut bytes = vec![in alloc; 0; len as usize]?;
-    site.db_read(alloc, 0, &mut bytes)?;
-    Ok(bytes)
-}
-
-/// The content of the top's Tupfile, where it is among the sources.
-fn top_file<S: Site>(
-    alloc: Global,
-    site: &mut S,
-    sources: &Paths,
-) -> Result<Option<Bytes>, SiteFailed>
-    ensures content { IsTrue S.tells → (beside : Tree) → finite.keys beside ≡ sources.now
-        → AgreesOnItsFiles beside (S.world site.old).tree
-        → IfOk result (λ content. content ≡ finite.get beside top_tupfile) }
-    ensures small { IfOk result
-        (λ content. (bytes : List ℕ) → content ≡ Some bytes → length bytes < 2 ^ 32) }
-    ensures same { IsTrue S.tells → S.world site.new ≡ S.world site.old }
-    ensures large { IsTrue S.tells → NamesALargeFile (S.world site.new).tree result }
-    ensures only_large { OnlyLarge result }
-    ensures counted { CountsFaults (S.faults site.old) (S.faults site.new) result }
-{
-    let path = tupfile_path(alloc)?;
-    if !sources.as_slice().contains(&path) {
-        return Ok(None);
+    let mut folders = Vec::new(alloc);
+    for (path, _) in sources {
+        add_folder(alloc, &mut folders, path)?;
     }
-    site.get(alloc, &path)
-}
-
-/// `Tupfile` at the top.
-fn tupfile_path(alloc: Global) -> Result<Path, AllocError>
-    ensures { IfOk result (λ path. path ≡ top_tupfile) }
-{
-    match Path::top(alloc).join(alloc, &Text::from_str(alloc, "Tupfile")?) {
-        Ok(path) => Ok(path),
+    match sorted(alloc, &folders) {
+        Ok(read) => Ok(read),
         Err(_) => Err(AllocError),
     }
 }
 
-/// The top folder, where its Tupfile was read.
-fn folders_read(alloc: Global, has_tupfile: bool) -> Result<Paths, AllocError>
-    ensures { IfOk result (λ read. read ≡ folders_of_top has_tupfile) }
+/// Adds the folder of a path that is a Tupfile.
+fn add_folder(alloc: Global, folders: &mut Vec<Path>, path: &Path) -> Result<(), AllocError>
+    ensures { OnOk result (AddsFolder path.now folders.old.items folders.new.items) }
 {
-    let mut read = Paths::new(alloc);
-    if has_tupfile {
-        read.push(Path::top(alloc))?;
+    if let Some((name, _)) = path.names().split_last() {
+        if name.as_str() == "Tupfile" {
+            folders.push(folder(alloc, path)?)?;
+        }
     }
-    Ok(read)
+    Ok(())
+}
+
+/// The folder in which a path lies; that of the top is the top.
+fn folder(alloc: Global, path: &Path) -> Result<Path, AllocError>
+    ensures { IfOk result (λ folder. IsFolderOf path.now folder) }
+{
+    match path.parent(alloc) {
+        Ok(Some(folder)) => Ok(folder),
+        Ok(None) => Ok(Path::top(alloc)),
+        Err(_) => Err(AllocError),
+    }
 }
 
 /// The set of these paths, for quick look-ups.

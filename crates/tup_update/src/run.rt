@@ -1,16 +1,19 @@
 //! The running of rules.
-ghost use Rattle.std.specs.Prelude.{◌≡◌, ◌++◌, [], ◌∷◌, map, false, IsTrue, IfOk, IfSome, Some, OnOk, OnErr};
+ghost use Rattle.std.specs.Prelude.{◌≡◌, ◌++◌, [], ◌∷◌, ℕ, List, map, false, IsTrue, IfOk, IfSome, Some, OnOk, OnErr};
+ghost use Rattle.tup_path.specs.Name.{Names};
 ghost use Rattle.tup_site.specs.World.{StoreStays};
 ghost use Rattle.tup_site.specs.Cause.{CountsFaults, NeverTooLarge};
 ghost use Rattle.tup_rule.specs.Rule.{name_of};
 ghost use Rattle.tup_access.specs.Generated.{IsGenerated};
 ghost use Rattle.tup_access.specs.Verdict as specs;
 ghost use Rattle.tup_clean.specs.Clean.{is_good, with_files};
-ghost use Rattle.tup_update.specs.Sources.{build_beside};
+ghost use Rattle.tup_clean.specs.Taken.{takes, up_to_bad};
+ghost use Rattle.tup_update.specs.Sources.{files_beside};
 ghost use Rattle.tup_update.specs.Outside.{HandsOn, HandsOnLarge};
 ghost use Rattle.tup_update.specs.Put.{HasRoom};
-ghost use Rattle.tup_update.specs.Parts.{HasRun, AreNoted, ArePartNoted, Leaves, SameBeside, SameBesideOutputs, IsRunnable, bad_of};
-ghost use Rattle.tup_update.specs.Ran.{RunsOne, RunsThese, CountsRuns, stopped_by};
+ghost use Rattle.tup_update.specs.Parts.{HasRun, AreNoted, ArePartNoted, Ends, BeginsIt, Leaves, SameBeside, SameBesideOutputs, IsRunnable, bad_of};
+ghost use Rattle.tup_update.specs.Ran.{RanAll, RunsOne, RunsThese, CountsRuns, stopped_by, comes_to};
+ghost use Rattle.tup_update.specs.Turns.{TurnsFit};
 ghost use Rattle.tup_update.specs.declared.stop.Halt.TheVariants.{Outside};
 
 use crate::command::run;
@@ -19,6 +22,7 @@ use crate::stop::Halt;
 use std::alloc::{AllocError, Global};
 use std::collections::BTreeSet;
 use tup_access::Verdict;
+use tup_clean::Queue;
 use tup_path::{Bytes, Items, Path};
 use tup_rule::{Rule, RuleName};
 use tup_runner::Runner;
@@ -27,9 +31,12 @@ use tup_site::{Site, SiteFailed};
 /// A rule that isn't Good, with its verdict.
 pub(crate) type BadRule = (RuleName, Verdict);
 
+/// Rules that ended: the place of each, and its verdict.
+pub(crate) type Ended = Items<(usize, Verdict)>;
+
 impl Project {
-    /// Runs all rules in their order up to the first that is bad, which it names. It notes the rules
-    /// that are begun, and their verdicts.
+    /// Runs the rules in turn, the first that is ready again and again, up to the first that is bad,
+    /// which it names. It notes the rules that are begun, and what becomes of them.
     pub(crate) fn run<S: Site, R: Runner>(
         &self,
         alloc: Global,
@@ -37,30 +44,31 @@ impl Project {
         runner: &mut R,
         made: &BTreeSet<Path>,
         ran: &mut Items<RuleName>,
-        verdicts: &mut Items<Verdict>,
+        ended: &mut Ended,
     ) -> Result<Option<BadRule>, Halt>
         requires made { IsGenerated self.now.rules made.now }
         requires runnable { IsTrue S.tells
             → IsRunnable self.now.owned self.now.rules (S.world site.old).tree }
-        requires unused { (ran.old ≡ []) × (verdicts.old ≡ []) }
+        requires unused { (ran.old ≡ []) × (ended.old ≡ []) }
         ensures run { IsTrue S.tells → IsTrue R.tells
-            → let tree = (S.world site.old).tree in
-            let built = build_beside R.next self.now.owned self.now.rules tree in
-            IfOk result (HasRun self.now.rules built (S.world site.new).tree) }
+            → let sources = files_beside self.now.owned (S.world site.old).tree in
+            IfOk result (HasRun R.next self.now.rules sources (S.world site.new).tree) }
         ensures bad { IfOk result (λ found. IfSome found (λ bad. is_good (Some bad.1) ≡ false)) }
         ensures others { IsTrue S.tells
             → SameBesideOutputs self.now.rules (S.world site.old).tree (S.world site.new).tree }
         ensures store { IsTrue S.tells → StoreStays (S.world site.old) (S.world site.new) }
 
         // Rules and verdicts are noted, where the run is halted as far as it came.
+        ensures in_turn { IsTrue S.tells
+            → TurnsFit self.now.rules ran.new ended.new (comes_to result) }
         ensures noted { IsTrue S.tells → IsTrue R.tells
-            → let tree = (S.world site.old).tree in
-            let built = build_beside R.next self.now.owned self.now.rules tree in
-            OnOk result (AreNoted self.now.rules built ran.new verdicts.new) }
+            → let sources = files_beside self.now.owned (S.world site.old).tree in
+            let ends = up_to_bad (takes R.next self.now.rules sources) in
+            OnOk result (AreNoted self.now.rules ends ran.new ended.new) }
         ensures part { IsTrue S.tells → IsTrue R.tells
-            → let tree = (S.world site.old).tree in
-            let built = build_beside R.next self.now.owned self.now.rules tree in
-            ArePartNoted self.now.rules built ran.new verdicts.new }
+            → let sources = files_beside self.now.owned (S.world site.old).tree in
+            let ends = up_to_bad (takes R.next self.now.rules sources) in
+            ArePartNoted self.now.rules ends ran.new ended.new }
         ensures ran { IsTrue R.tells_ran
             → RunsThese ran.new (R.ran runner.old) (R.ran runner.new) (stopped_by result) }
 
@@ -68,15 +76,56 @@ impl Project {
         ensures cause { HandsOn Outside (S.faults site.old) (S.faults site.new) result }
         ensures run_cause { CountsRuns (R.faults runner.old) (R.faults runner.new) result }
     {
-        for rule in self.rules.as_slice() {
-            begin(alloc, rule, ran)?;
-            let verdict = self.run_rule(alloc, site, runner, made, rule)?;
-            let bad = noted(alloc, rule, verdict, verdicts)?;
+        let rules = self.rules.as_slice();
+        let mut queue = Queue::new(alloc, rules)?;
+        for _ in 0..rules.len() {
+            let Some(at) = queue.next() else {
+                return Ok(None);
+            };
+            let bad = self.take(alloc, site, runner, made, at, &rules[at], ran, ended)?;
             if bad.is_some() {
                 return Ok(bad);
             }
+            queue.note(at, &Verdict::Good)?;
         }
         Ok(None)
+    }
+
+    /// Runs the rule at a place, and names it where it isn't Good. It notes that it is begun, and what
+    /// becomes of it.
+    fn take<S: Site, R: Runner>(
+        &self,
+        alloc: Global,
+        site: &mut S,
+        runner: &mut R,
+        made: &BTreeSet<Path>,
+        at: usize,
+        rule: &Rule,
+        ran: &mut Items<RuleName>,
+        ended: &mut Ended,
+    ) -> Result<Option<BadRule>, Halt>
+        requires made { IsGenerated self.now.rules made.now }
+        requires room { IsTrue S.tells → HasRoom (S.world site.old).tree rule.now.outputs }
+        ensures ends { let old = (S.world site.old).tree in
+            let leaves = Leaves (specs.verdict R.next self.now.rules rule.now old) old (S.world site.new).tree in
+            IfOk result (Ends at rule.now (λ verdict. IsTrue S.tells → IsTrue R.tells → leaves verdict)
+            ended.old ended.new) }
+        ensures unended { OnErr result (ended.new ≡ ended.old) }
+        ensures begins { OnOk result (ran.new ≡ ran.old ++ name_of rule.now ∷ []) }
+        ensures begins_it { BeginsIt rule.now ran.old ran.new }
+        ensures others { IsTrue S.tells
+            → SameBeside rule.now.outputs (S.world site.old).tree (S.world site.new).tree }
+        ensures store { IsTrue S.tells → StoreStays (S.world site.old) (S.world site.new) }
+        ensures ran { IsTrue R.tells_ran → (first : List (Names × List ℕ))
+            → RanAll ran.old first (R.ran runner.old)
+            → RunsThese ran.new first (R.ran runner.new) (stopped_by result) }
+        ensures large { IsTrue S.tells → HandsOnLarge Outside (S.world site.new).tree result }
+        ensures cause { HandsOn Outside (S.faults site.old) (S.faults site.new) result }
+        ensures run_cause { CountsRuns (R.faults runner.old) (R.faults runner.new) result }
+    {
+        begin(alloc, rule, ran)?;
+        let verdict = self.run_rule(alloc, site, runner, made, rule)?;
+        Ok(noted(alloc, at, rule, verdict, ended)?)
     }
 
     /// Runs one rule, and puts the files of a Good command.
@@ -120,25 +169,26 @@ fn begin(alloc: Global, rule: &Rule, ran: &mut Items<RuleName>) -> Result<(), Al
     Ok(())
 }
 
-/// Notes the verdict of a rule, and names the rule where it isn't Good.
+/// Notes the verdict of the rule at a place, and names the rule where it isn't Good.
 fn noted(
     alloc: Global,
+    at: usize,
     rule: &Rule,
     verdict: Verdict,
-    verdicts: &mut Items<Verdict>,
+    ended: &mut Ended,
 ) -> Result<Option<BadRule>, AllocError>
     ensures bad { IfOk result (λ bad. bad ≡ bad_of rule.now verdict) }
-    ensures noted { OnOk result (verdicts.new ≡ verdicts.old ++ verdict ∷ []) }
-    ensures unnoted { OnErr result (verdicts.new ≡ verdicts.old) }
+    ensures noted { OnOk result (ended.new ≡ ended.old ++ (at, verdict) ∷ []) }
+    ensures unnoted { OnErr result (ended.new ≡ ended.old) }
 {
     if matches!(verdict, Verdict::Good) {
-        verdicts.push(verdict)?;
+        ended.push((at, verdict))?;
         return Ok(None);
     }
     let Ok(name) = rule.name(alloc) else {
         return Err(AllocError);
     };
-    verdicts.push(verdict.clone()?)?;
+    ended.push((at, verdict.clone()?))?;
     Ok(Some((name, verdict)))
 }
 

@@ -1,11 +1,16 @@
 //! Why an update stops before its end.
+ghost use Rattle.std.specs.Prelude.{◌≡◌};
+ghost use Rattle.tup_update.specs.Stopped as specs;
+
+use crate::fault::SourcesFault;
 use std::alloc::AllocError;
 use thiserror::Error;
 use tup_access::Verdict;
+use tup_link::What;
 use tup_owned::OwnedFault;
-use tup_parse::{ParseFault, ReadEnd};
 use tup_rule::RuleName;
 use tup_site::SiteFailed;
+use tup_whole::ProjectFault;
 
 /// Why an update stopped.
 #[derive(Debug, Drop, Error)]
@@ -15,7 +20,7 @@ pub enum Stop {
     BadStore(u64),
     /// The sources ask for no rules, for this fault. Nothing was changed.
     #[error("the sources ask for no rules")]
-    Parse(ParseFault),
+    Sources(SourcesFault),
     /// This rule came to a bad verdict; what ran before it stands.
     #[error("a command of the sources is bad")]
     Bad(RuleName, Verdict),
@@ -35,7 +40,7 @@ pub(crate) enum Unread {
     Store(u64),
     /// The sources ask for no rules, for this fault.
     #[error("the sources ask for no rules")]
-    Sources(ParseFault),
+    Sources(SourcesFault),
     /// The site failed, or a file to be read is too large, or there was no memory.
     #[error("{0}")]
     Outside(SiteFailed),
@@ -61,7 +66,7 @@ impl From<Unread> for Stop {
     fn from(unread: Unread) -> Stop {
         match unread {
             Unread::Store(offset) => Stop::BadStore(offset),
-            Unread::Sources(fault) => Stop::Parse(fault),
+            Unread::Sources(fault) => Stop::Sources(fault),
             Unread::Outside(failed) => Stop::Outside(failed),
         }
     }
@@ -164,16 +169,30 @@ impl From<OwnedFault> for Unread {
     }
 }
 
-impl From<ReadEnd> for Unread {
+impl From<ProjectFault> for Unread {
     ghost use Rattle.std.specs.Prelude.{◌≡◌};
-    ghost use Rattle.tup_update.specs.Stopped.{unread_of_reading};
+    ghost use Rattle.tup_update.specs.Stopped.{unread_of_project};
 
-    ghost from_gives = { λ end unread. unread ≡ unread_of_reading end };
+    ghost from_gives = { λ fault unread. unread ≡ unread_of_project fault };
 
-    fn from(end: ReadEnd) -> Unread {
-        match end {
-            ReadEnd::Fault(fault) => Unread::Sources(fault),
-            ReadEnd::Memory => Unread::Outside(SiteFailed::Memory),
-        }
+    fn from(fault: ProjectFault) -> Unread {
+        Unread::Sources(match fault {
+            ProjectFault::Parse(fault) => SourcesFault::Parse(fault),
+            ProjectFault::CircularDirs(dirs) => SourcesFault::CircularDirs(dirs),
+            ProjectFault::NoSuchGroup(group) => SourcesFault::NoSuchGroup(group),
+            ProjectFault::CircularCommands(rules) => SourcesFault::CircularCommands(rules),
+            ProjectFault::TooMany { what, number } => too_many(what, number),
+            ProjectFault::Memory => return Unread::Outside(SiteFailed::Memory),
+        })
+    }
+}
+
+/// The fault of a limit that is passed.
+fn too_many(what: What, number: u64) -> SourcesFault
+    ensures { result ≡ specs.too_many what number }
+{
+    match what {
+        What::Commands => SourcesFault::TooManyCommands(number),
+        What::Links => SourcesFault::TooManyLinks(number),
     }
 }

@@ -4,6 +4,7 @@ ghost use Rattle.std.specs.Result.{result_err};
 ghost use Rattle.tup_update.specs.Log.{IsEmptyLog, LogFits, RulesFit};
 ghost use Rattle.tup_update.specs.Outcome.{Keeps, Stays, ExactlyTheFiles, SourcesStay, NothingForgotten, HasCause, HasCountedCause, HasRunCause};
 ghost use Rattle.tup_update.specs.Ran.{RunsThese};
+ghost use Rattle.tup_update.specs.Turns.{TurnsFit};
 
 use crate::project::Project;
 use crate::stop::Stop;
@@ -23,8 +24,9 @@ pub struct Log {
     pub removed: Paths,
     /// The rules that were begun.
     pub ran: Items<RuleName>,
-    /// What became of them; the last one has none where the update was stopped while it ran.
-    pub verdicts: Items<Verdict>,
+    /// What became of them: the place of each among the rules of the sources, and its verdict. The last one that
+    /// was begun isn't here where the update was stopped while it ran.
+    pub ended: Items<(usize, Verdict)>,
 }
 
 impl Log {
@@ -36,7 +38,7 @@ impl Log {
             read: Paths::new(alloc),
             removed: Paths::new(alloc),
             ran: Items::new(alloc),
-            verdicts: Items::new(alloc),
+            ended: Items::new(alloc),
         }
     }
 }
@@ -51,22 +53,25 @@ pub struct Update {
 }
 
 /// Updates the files of a site: reads the store and the sources, removes the files of vanished
-/// rules, and has the runner run every rule in order up to the first that is bad.
+/// rules, and has the runner run the rules in turn, the first that is ready again and again, up to
+/// the first that is bad.
 pub fn update_site<S: Site, R: Runner>(alloc: Global, site: &mut S, runner: &mut R) -> Update
-    ensures exactly_the_files { IsTrue S.tells → IsTrue R.tells
-        → ExactlyTheFiles R.next (S.world site.old) (S.world site.new) result.stopped }
+    ensures exactly_the_files { IsTrue S.tells → IsTrue R.tells → ExactlyTheFiles R.next
+        result.rules (S.world site.old) (S.world site.new) result.stopped }
     ensures sources_stay { IsTrue S.tells → SourcesStay (S.world site.old) (S.world site.new) }
-    ensures nothing_forgotten { IsTrue S.tells → IsTrue R.tells
-        → NothingForgotten R.next (S.world site.old) (S.world site.new) result.stopped }
-    ensures cause { IsTrue S.tells → IsTrue R.tells
-        → HasCause R.next (S.world site.old) (S.world site.new) result.stopped }
+    ensures nothing_forgotten { IsTrue S.tells → NothingForgotten R.tells R.next
+        result.rules (S.world site.old) (S.world site.new) result.stopped }
+    ensures cause { IsTrue S.tells → IsTrue R.tells → HasCause R.next
+        result.rules (S.world site.old) (S.world site.new) result.stopped }
     ensures counted_cause { HasCountedCause (S.faults site.old) (S.faults site.new) result.stopped }
     ensures run_cause { HasRunCause (R.faults runner.old) (R.faults runner.new) result.stopped }
     ensures ran { IsTrue R.tells_ran
         → RunsThese result.log.ran (R.ran runner.old) (R.ran runner.new) result.stopped }
+    ensures in_turn { IsTrue S.tells
+        → TurnsFit result.rules result.log.ran result.log.ended result.stopped }
     ensures rules { IsTrue S.tells → RulesFit (S.world site.old) result.rules result.stopped }
     ensures logged { IsTrue S.tells → IsTrue R.tells
-        → LogFits R.next (S.world site.old) result.log result.stopped }
+        → LogFits R.next result.rules (S.world site.old) result.log result.stopped }
 {
     let mut rules = Rules::new(alloc);
     let mut log = Log::new(alloc);
@@ -88,10 +93,10 @@ fn carry_out<S: Site, R: Runner>(
 ) -> Result<(), Stop>
     requires rules { rules.old ≡ [] }
     requires log { IsEmptyLog log.old }
-    ensures stays { IsTrue S.tells
-        → Stays (S.world site.old) (S.world site.new) rules.new (result_err result) }
-    ensures kept { IsTrue S.tells → IsTrue R.tells
-        → Keeps R.next (S.world site.old) (S.world site.new) log.new (result_err result) }
+    ensures stays { IsTrue S.tells → Stays R.tells R.next
+        rules.new (S.world site.old) (S.world site.new) log.new (result_err result) }
+    ensures kept { IsTrue S.tells → IsTrue R.tells → Keeps R.next
+        rules.new (S.world site.old) (S.world site.new) log.new (result_err result) }
     ensures ran { IsTrue R.tells_ran
         → RunsThese log.new.ran (R.ran runner.old) (R.ran runner.new) (result_err result) }
     ensures counted { HasCountedCause (S.faults site.old) (S.faults site.new) (result_err result) }

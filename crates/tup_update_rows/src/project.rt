@@ -1,7 +1,7 @@
 //! A project for rows: the records of its store, and its files.
 use std::alloc::Global;
 use tup_path::{Bytes, Items, Path, Paths};
-use tup_record::{OwnedState, Record, encode};
+use tup_record::{OwnedState, Record, RunRecord, encode};
 use tup_rows::{RowFault, Words};
 use tup_rule::Rule;
 use tup_site::{MemSite, Site};
@@ -63,6 +63,19 @@ impl Project {
                 rule,
             },
         )
+    }
+
+    /// A run of a rule, which asked these paths and found nothing.
+    pub fn ran(&mut self, alloc: Global, said: &Words) -> Words {
+        let number = number_at(said, 0);
+        let run = run(alloc, said);
+        self.record(alloc, said, Record::Run { number, run })
+    }
+
+    /// A rule that is to be run.
+    pub fn flag(&mut self, alloc: Global, said: &Words) -> Words {
+        let number = number_at(said, 0);
+        self.record(alloc, said, Record::Modify { number })
     }
 
     /// A file of the tree.
@@ -135,6 +148,18 @@ fn rule(alloc: Global, said: &Words) -> Rule {
         inputs: Paths::new(alloc),
         order: Paths::new(alloc),
         outputs,
+    }
+}
+
+/// A run that asked the paths behind the first word.
+fn run(alloc: Global, said: &Words) -> RunRecord {
+    let mut asks = Items::new(alloc);
+    for at in 1..said.len() {
+        said.list(&mut asks, (said.path_at(alloc, at), None));
+    }
+    RunRecord {
+        asks,
+        writes: Items::new(alloc),
     }
 }
 

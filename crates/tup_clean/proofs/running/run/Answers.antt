@@ -1,4 +1,4 @@
-use Rattle.std.proofs.Common.{◌≡◌, ◌∙◌, sym, subst}
+use Rattle.std.proofs.Common.{◌≡◌, subst}
 use Rattle.tup_access.specs.Access.{access}
 use Rattle.tup_access.specs.declared.verdict.Access.TheVariants.{No}
 use Rattle.tup_clean.specs.declared.view.Sight.{Sight}

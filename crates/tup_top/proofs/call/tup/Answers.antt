@@ -1,13 +1,17 @@
-use Rattle.std.proofs.Common.{◌++◌, List, map, Ok, sym, ap, subst}
+use Rattle.std.proofs.Common.{[], map, Ok, inl, refl, sym, subst}
 use Rattle.std.specs.Prelude.{slice_set}
-use Rattle.tup_rule.specs.declared.rule.RuleName.{RuleName}
-use Rattle.tup_update.specs.Log.{whole_log}
-use Rattle.tup_top.specs.Crew.{RanFits, CrewRuns}
+use Rattle.tup_update.specs.Outcome.{ExactlyTheFiles, NothingForgotten, HasCause}
+use Rattle.tup_update.specs.Sources.{ends}
+use Rattle.tup_update.specs.Turns.{names_of}
+use Rattle.tup_update.proofs.Ending.{no_front}
+use Rattle.tup_update.proofs.Keeping.{no_turns}
+use Rattle.tup_top.specs.Crew.{RanFits, RanInTurn, CrewRuns}
 use Rattle.tup_top.specs.Order.{Wanted, order}
-use Rattle.tup_top.specs.Promise.{ForUpdate, HasPlainCause, counts}
+use Rattle.tup_top.specs.Promise.{ForUpdate, CountsAll, HasPlainCause, counts}
 use Rattle.tup_top.specs.Status.{came_to}
+use Rattle.tup_top.specs.declared.status.Status.TheVariants.{Memory}
 use Rattle.tup_top.proofs.Crewed.{crew_cause, crew_runs}
-use Rattle.tup_top.proofs.Idle.{memory_for_update, memory_prints}
+use Rattle.tup_top.proofs.Idle.{memory_of, memory_prints}
 use Rattle.tup_top.proofs.Success.{succeeds_so, sources_stay_so}
 use Rattle.tup_top.proofs.call.tup.Goals as goal
 
@@ -49,10 +53,36 @@ returns-in-Err-Usage-clause-sources_stay g c = λ _. sources_stay_so (g.S.Site.w
 pub returns-clause-sources_stay : goal.returns-clause-sources_stay
 returns-clause-sources_stay g c = λ _. sources_stay_so (g.S.Site.world c.args.site)
 
+pub returns-clause-exactly_the_files : goal.returns-clause-exactly_the_files
+returns-clause-exactly_the_files g c = λ _ _.
+    let world = g.S.Site.world c.args.site in
+    memory_of (order c.args.words.now) world (λ rules. ExactlyTheFiles g.R.Runner.next rules world world) tt
+
+pub returns-clause-nothing_forgotten : goal.returns-clause-nothing_forgotten
+returns-clause-nothing_forgotten g c = λ _.
+    let world = g.S.Site.world c.args.site in
+    memory_of (order c.args.words.now) world (λ rules. NothingForgotten g.R.Runner.tells g.R.Runner.next rules world world) (inl refl)
+
+pub returns-clause-cause : goal.returns-clause-cause
+returns-clause-cause g c = λ _ _.
+    let world = g.S.Site.world c.args.site in
+    memory_of (order c.args.words.now) world (λ rules. HasCause g.R.Runner.next rules world world) tt
+
 pub returns-clause-begun : goal.returns-clause-begun
 returns-clause-begun g c = λ _ _.
-    let whole = (whole_log g.R.Runner.next (g.S.Site.world c.args.site)).ran in
-    memory_for_update (order c.args.words.now) (RanFits g.R.Runner.next (g.S.Site.world c.args.site) c.new-in-Err-Memory.result) (whole, ap (λ (l : List RuleName). l ++ whole) c.new-in-Err-Memory.ensures)
+    let world = g.S.Site.world c.args.site in
+    let ran = c.new-in-Err-Memory.result in
+    memory_of (order c.args.words.now) world (λ rules. RanFits g.R.Runner.next rules world ran) (no_front ran (names_of [] (ends g.R.Runner.next [] world)) c.new-in-Err-Memory.ensures)
+
+pub returns-clause-in_turn : goal.returns-clause-in_turn
+returns-clause-in_turn g c = λ _.
+    let ran = c.new-in-Err-Memory.result in
+    memory_of (order c.args.words.now) (g.S.Site.world c.args.site) (λ rules. RanInTurn rules ran) ([], no_turns [] ran [] c.new-in-Err-Memory.ensures refl)
+
+pub returns-clause-told : goal.returns-clause-told
+returns-clause-told g c = λ _ _.
+    let world = g.S.Site.world c.args.site in
+    memory_of (order c.args.words.now) world (λ rules _. CountsAll g.R.Runner.next rules world Memory) tt
 
 pub returns-clause-printed : goal.returns-clause-printed
 returns-clause-printed g c = λ _ _ _. memory_prints (order c.args.words.now) g.R.Runner.next (g.S.Site.world c.args.site) (g.K.Sink.faults c.args.out.now) (g.K.Sink.held c.args.out.now)

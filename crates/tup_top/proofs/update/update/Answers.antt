@@ -1,25 +1,53 @@
 use Rattle.std.proofs.Common.{rules, inl, inr, refl}
+use Rattle.tup_update.specs.Log.{RulesFit}
 use Rattle.tup_update.specs.Outcome.{ExactlyTheFiles, NothingForgotten, HasCause}
 use Rattle.tup_update.specs.Ran.{RunsThese}
-use Rattle.tup_top.specs.Crew.{RanFits}
-use Rattle.tup_top.proofs.Causes.{answered, untold_left, untold_ran, untold_runs, ran_fits, counts_all, counted_cause, prints_nothing, prints_update}
+use Rattle.tup_top.specs.Crew.{RanFits, RanInTurn}
+use Rattle.tup_top.specs.Promise.{CountsAll}
+use Rattle.tup_top.specs.Status.{came_to}
+use Rattle.tup_top.specs.declared.status.Status.TheVariants.{Memory}
+use Rattle.tup_top.proofs.Causes.{answered, answered_of, told_of, untold_rules, untold_left, untold_ran, untold_turns, untold_runs, ran_fits, counts_all, counted_cause, prints_nothing, prints_update}
 use Rattle.tup_top.proofs.update.update.Goals as goal
 
-pub returns-in_default-clause-nothing_forgotten : goal.returns-in_default-clause-nothing_forgotten
-returns-in_default-clause-nothing_forgotten g c = λ tells means.
+-- ---- no memory for its lines
+
+pub returns-in_default-clause-exactly_the_files : goal.returns-in_default-clause-exactly_the_files
+returns-in_default-clause-exactly_the_files g c = λ tells means.
     let update = c.update_site-rules in
-    untold_left g.R.Runner.next _ _ update.result.stopped (update.ensures.nothing_forgotten tells means) (update.ensures.exactly_the_files tells means)
+    (update.result.rules, untold_rules (g.S.Site.world c.args.site.now) c.update_site-rules.result.rules update.result.stopped (update.ensures.rules tells), tt)
+
+pub returns-in_default-clause-nothing_forgotten : goal.returns-in_default-clause-nothing_forgotten
+returns-in_default-clause-nothing_forgotten g c = λ tells.
+    let update = c.update_site-rules in
+    let fits = update.ensures.rules tells in
+    (update.result.rules, untold_rules (g.S.Site.world c.args.site.now) c.update_site-rules.result.rules update.result.stopped fits, untold_left g.R.Runner.tells g.R.Runner.next _ _ _ update.result.stopped fits (update.ensures.nothing_forgotten tells) (λ means. update.ensures.exactly_the_files tells means))
+
+pub returns-in_default-clause-cause : goal.returns-in_default-clause-cause
+returns-in_default-clause-cause g c = λ tells means.
+    let update = c.update_site-rules in
+    (update.result.rules, untold_rules (g.S.Site.world c.args.site.now) c.update_site-rules.result.rules update.result.stopped (update.ensures.rules tells), tt)
 
 pub returns-in_default-clause-begun : goal.returns-in_default-clause-begun
 returns-in_default-clause-begun g c = λ tells means.
     let update = c.update_site-rules in
     let old = g.S.Site.world c.args.site.now in
-    untold_ran g.R.Runner.next old update.result.log.ran update.result.stopped (ran_fits g.R.Runner.next old update.result.log update.result.stopped (update.ensures.logged tells means))
+    let rules = update.result.rules in
+    (rules, untold_rules (g.S.Site.world c.args.site.now) c.update_site-rules.result.rules update.result.stopped (update.ensures.rules tells), untold_ran g.R.Runner.next rules old update.result.log.ran update.result.stopped (ran_fits g.R.Runner.next rules old update.result.log update.result.stopped (update.ensures.logged tells means)))
+
+pub returns-in_default-clause-in_turn : goal.returns-in_default-clause-in_turn
+returns-in_default-clause-in_turn g c = λ tells.
+    let update = c.update_site-rules in
+    (update.result.rules, untold_rules (g.S.Site.world c.args.site.now) c.update_site-rules.result.rules update.result.stopped (update.ensures.rules tells), (update.result.log.ended, untold_turns _ _ _ update.result.stopped (update.ensures.in_turn tells)))
 
 pub returns-in_default-clause-ran : goal.returns-in_default-clause-ran
 returns-in_default-clause-ran g c = λ tells.
     let update = c.update_site-rules in
     untold_runs _ _ _ update.result.stopped (update.ensures.ran tells)
+
+pub returns-in_default-clause-told : goal.returns-in_default-clause-told
+returns-in_default-clause-told g c = λ tells means.
+    let update = c.update_site-rules in
+    (update.result.rules, untold_rules (g.S.Site.world c.args.site.now) c.update_site-rules.result.rules update.result.stopped (update.ensures.rules tells), tt)
 
 pub returns-in_default-clause-printed : goal.returns-in_default-clause-printed
 returns-in_default-clause-printed g c = λ tells means _. record {
@@ -34,31 +62,47 @@ returns-in_default-clause-printed g c = λ tells means _. record {
   prints = prints_nothing _ _ _ _;
 }
 
+-- ---- its lines were printed, or not
+
 pub returns-clause-exactly_the_files : goal.returns-clause-exactly_the_files
 returns-clause-exactly_the_files g c = λ tells means.
     let update = c.update_site-rules in
-    answered (ExactlyTheFiles g.R.Runner.next (g.S.Site.world c.args.site.now) (g.S.Site.world update.new.site)) _ _ _ _ update.result.log update.result.stopped _ _ c.status_of-status.ensures c.print-status.ensures.ends
-    update.ensures.counted_cause (update.ensures.exactly_the_files tells means) tt
+    let old = g.S.Site.world c.args.site.now in
+    answered_of old (λ rules. ExactlyTheFiles g.R.Runner.next rules old (g.S.Site.world update.new.site)) update.result.rules _ _ _ _ update.result.log update.result.stopped _ _ c.status_of-status.ensures c.print-status.ensures.ends
+    update.ensures.counted_cause (update.ensures.rules tells) (update.ensures.exactly_the_files tells means) tt
 
 pub returns-clause-nothing_forgotten : goal.returns-clause-nothing_forgotten
-returns-clause-nothing_forgotten g c = λ tells means.
+returns-clause-nothing_forgotten g c = λ tells.
     let update = c.update_site-rules in
-    answered (NothingForgotten g.R.Runner.next (g.S.Site.world c.args.site.now) (g.S.Site.world update.new.site)) _ _ _ _ update.result.log update.result.stopped _ _ c.status_of-status.ensures c.print-status.ensures.ends
-    update.ensures.counted_cause (update.ensures.nothing_forgotten tells means)
-    (untold_left g.R.Runner.next _ _ update.result.stopped (update.ensures.nothing_forgotten tells means) (update.ensures.exactly_the_files tells means))
+    let old = g.S.Site.world c.args.site.now in
+    let fits = update.ensures.rules tells in
+    answered_of old (λ rules. NothingForgotten g.R.Runner.tells g.R.Runner.next rules old (g.S.Site.world update.new.site)) update.result.rules _ _ _ _ update.result.log update.result.stopped _ _ c.status_of-status.ensures c.print-status.ensures.ends
+    update.ensures.counted_cause fits (update.ensures.nothing_forgotten tells)
+    (untold_left g.R.Runner.tells g.R.Runner.next _ _ _ update.result.stopped fits (update.ensures.nothing_forgotten tells) (λ means. update.ensures.exactly_the_files tells means))
 
 pub returns-clause-cause : goal.returns-clause-cause
 returns-clause-cause g c = λ tells means.
     let update = c.update_site-rules in
-    answered (HasCause g.R.Runner.next (g.S.Site.world c.args.site.now) (g.S.Site.world update.new.site)) _ _ _ _ update.result.log update.result.stopped _ _ c.status_of-status.ensures c.print-status.ensures.ends
-    update.ensures.counted_cause (update.ensures.cause tells means) tt
+    let old = g.S.Site.world c.args.site.now in
+    answered_of old (λ rules. HasCause g.R.Runner.next rules old (g.S.Site.world update.new.site)) update.result.rules _ _ _ _ update.result.log update.result.stopped _ _ c.status_of-status.ensures c.print-status.ensures.ends
+    update.ensures.counted_cause (update.ensures.rules tells) (update.ensures.cause tells means) tt
 
 pub returns-clause-begun : goal.returns-clause-begun
 returns-clause-begun g c = λ tells means.
     let update = c.update_site-rules in
-    let fits = ran_fits g.R.Runner.next (g.S.Site.world c.args.site.now) update.result.log update.result.stopped (update.ensures.logged tells means) in
-    answered (RanFits g.R.Runner.next (g.S.Site.world c.args.site.now) update.result.log.ran) _ _ _ _ update.result.log update.result.stopped _ _ c.status_of-status.ensures c.print-status.ensures.ends
-    update.ensures.counted_cause fits (untold_ran g.R.Runner.next (g.S.Site.world c.args.site.now) update.result.log.ran update.result.stopped fits)
+    let old = g.S.Site.world c.args.site.now in
+    let rules = update.result.rules in
+    let fits = ran_fits g.R.Runner.next rules old update.result.log update.result.stopped (update.ensures.logged tells means) in
+    answered_of old (λ found. RanFits g.R.Runner.next found old update.result.log.ran) rules _ _ _ _ update.result.log update.result.stopped _ _ c.status_of-status.ensures c.print-status.ensures.ends
+    update.ensures.counted_cause (update.ensures.rules tells) fits (untold_ran g.R.Runner.next rules old update.result.log.ran update.result.stopped fits)
+
+pub returns-clause-in_turn : goal.returns-clause-in_turn
+returns-clause-in_turn g c = λ tells.
+    let update = c.update_site-rules in
+    let old = g.S.Site.world c.args.site.now in
+    let turns = update.ensures.in_turn tells in
+    answered_of old (λ found. RanInTurn found update.result.log.ran) update.result.rules _ _ _ _ update.result.log update.result.stopped _ _ c.status_of-status.ensures c.print-status.ensures.ends
+    update.ensures.counted_cause (update.ensures.rules tells) (update.result.log.ended, turns) (update.result.log.ended, untold_turns _ _ _ update.result.stopped turns)
 
 pub returns-clause-ran : goal.returns-clause-ran
 returns-clause-ran g c = λ tells.
@@ -69,7 +113,12 @@ returns-clause-ran g c = λ tells.
 pub returns-clause-told : goal.returns-clause-told
 returns-clause-told g c = λ tells means.
     let update = c.update_site-rules in
-    counts_all g.R.Runner.next (g.S.Site.world c.args.site.now) _ _ update.result.log update.result.stopped _ _ c.status_of-status.ensures c.print-status.ensures.ends (update.ensures.logged tells means)
+    let old = g.S.Site.world c.args.site.now in
+    let rules = update.result.rules in
+    let fits = update.ensures.rules tells in
+    told_of old rules (λ found. CountsAll g.R.Runner.next found old c.print-status.result) (came_to c.print-status.result)
+    (answered (RulesFit old rules) _ _ _ _ update.result.log update.result.stopped _ _ c.status_of-status.ensures c.print-status.ensures.ends update.ensures.counted_cause fits (untold_rules old rules update.result.stopped fits))
+    (counts_all g.R.Runner.next rules old _ _ update.result.log update.result.stopped _ _ c.status_of-status.ensures c.print-status.ensures.ends (update.ensures.logged tells means))
 
 pub returns-clause-counted_cause : goal.returns-clause-counted_cause
 returns-clause-counted_cause g c =

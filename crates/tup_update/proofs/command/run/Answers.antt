@@ -1,4 +1,4 @@
-use Rattle.std.proofs.Common.{rules, ◌≡◌, IsSome, refl, subst}
+use Rattle.std.proofs.Common.{rules, ◌≡◌, IsSome, subst}
 use Rattle.tup_clean.proofs.Denying.{judged_ends}
 use Rattle.tup_access.proofs.Outputs.{judge-LeavesOutputs}
 use Rattle.tup_access.specs.Access.{access}

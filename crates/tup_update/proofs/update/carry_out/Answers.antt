@@ -10,16 +10,16 @@ returns-in_err-project-clause-stays g c = λ tells.
     let old = g.S.Site.world c.args.site.now in
     let new = g.S.Site.world c.read.new.site in
     let unread = c.in_err-project.field-0.0 in
-    subst (Stays old new c.args.rules.now) (sym (err_is c.from_residual.result (stop_of unread) c.from_residual.ensures.1))
-    (unread_stays old new c.args.rules.now unread (c.read.ensures.same tells) c.requires.rules)
+    subst (Stays g.R.Runner.tells g.R.Runner.next c.args.rules.now old new c.args.log.now) (sym (err_is c.from_residual.result (stop_of unread) c.from_residual.ensures.1))
+    (unread_stays g.R.Runner.tells g.R.Runner.next c.args.rules.now old new c.args.log.now unread (c.read.ensures.same tells) c.requires.rules c.requires.log)
 
 pub returns-in_err-project-clause-kept : goal.returns-in_err-project-clause-kept
 returns-in_err-project-clause-kept g c = λ tells means.
     let old = g.S.Site.world c.args.site.now in
     let new = g.S.Site.world c.read.new.site in
     let unread = c.in_err-project.field-0.0 in
-    subst (Keeps g.R.Runner.next old new c.args.log.now) (sym (err_is c.from_residual.result (stop_of unread) c.from_residual.ensures.1))
-    (unread_keeps g.R.Runner.next old new c.args.log.now unread (c.read.ensures.same tells) (c.in_err-project.ensures.cause tells g.R.Runner.next) c.requires.log)
+    subst (Keeps g.R.Runner.next c.args.rules.now old new c.args.log.now) (sym (err_is c.from_residual.result (stop_of unread) c.from_residual.ensures.1))
+    (unread_keeps g.R.Runner.next c.args.rules.now old new c.args.log.now unread (c.in_err-project.ensures.cause tells g.R.Runner.next c.args.rules.now) c.requires.log)
 
 pub returns-in_err-project-clause-ran : goal.returns-in_err-project-clause-ran
 returns-in_err-project-clause-ran g c = λ tells. ran_all_of c.args.log.now.ran _ _ _ (ran_none c.args.log.now.ran _ c.requires.log.2)

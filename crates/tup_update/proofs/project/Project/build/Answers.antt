@@ -1,22 +1,19 @@
-use Rattle.std.proofs.Common.{List, Err, refl, sym, ◌∙◌, ap, subst, inl, inr}
-use Rattle.std.specs.FinMap as finite
-use Rattle.tup_path.specs.Name.{Names}
+use Rattle.std.proofs.Common.{Ok, Err, sym, ◌∙◌, ap, subst}
 use Rattle.tup_owned.specs.Owned.{spelling}
-use Rattle.tup_site.specs.declared.fault.SiteFailed.{SiteFailed}
 use Rattle.tup_site.specs.declared.fault.SiteFailed.TheVariants.{Memory}
 use Rattle.tup_update.specs.Log.{with_read}
 use Rattle.tup_update.specs.Outcome.{Keeps, Stays}
-use Rattle.tup_update.specs.Parts.{HasRun, IsCleared, SameBeside}
-use Rattle.tup_update.specs.Ran.{RunsThese, stopped_by}
-use Rattle.tup_update.specs.Sources.{build_beside}
+use Rattle.tup_update.specs.Parts.{HasRun}
+use Rattle.tup_update.specs.Ran.{RunsThese, stopped_by, comes_to}
+use Rattle.tup_update.specs.Sources.{files_beside}
 use Rattle.tup_update.specs.Stopped.{stop_of_halt}
+use Rattle.tup_update.specs.Turns.{TurnsFit}
 use Rattle.tup_update.specs.declared.stop.Halt.{Halt}
 use Rattle.tup_update.specs.declared.stop.Stop.TheVariants.{Outside}
 use Rattle.tup_update.specs.declared.update.Log.{Log}
 use Rattle.tup_update.proofs.Begun.{ran_none, ran_all_of}
-use Rattle.tup_update.proofs.Ending.{gone_are, read_is}
-use Rattle.tup_update.proofs.Preparing.{runnable}
-use Rattle.tup_update.proofs.Keeping.{IsUnderWay, err_is, small_failure, project_rules, unplanned_stays, way_stays, unplanned_keeps, unprepared_keeps, unrun_keeps, bad_run_keeps, unfinished_keeps, finished_keeps}
+use Rattle.tup_update.proofs.Ending.{vanished_are, claimed_are}
+use Rattle.tup_update.proofs.Keeping.{IsUnderWay, err_is, small_failure, way_runnable, unplanned_stays, unplanned_keeps, unprepared_stays, unprepared_keeps, unrun_stays, unrun_keeps, bad_stays, bad_keeps, unfinished_stays, unfinished_keeps, finished_stays, finished_keeps}
 use Rattle.tup_update.proofs.project.Project.build.Goals as goal
 
 -- ---- what could not be planned
@@ -25,15 +22,15 @@ pub returns-in_err-plan-clause-stays : goal.returns-in_err-plan-clause-stays
 returns-in_err-plan-clause-stays g c = λ tells.
     let old = g.S.Site.world c.args.site.now in
     let project = c.args.self.now in
-    subst (Stays old old project.rules) (sym (err_is c.from_residual.result (Outside Memory) c.from_residual.ensures.1))
-    (unplanned_stays old project (c.requires.project tells))
+    subst (Stays g.R.Runner.tells g.R.Runner.next project.rules old old (with_read project.read c.args.log.now)) (sym (err_is c.from_residual.result (Outside Memory) c.from_residual.ensures.1))
+    (unplanned_stays project old (c.requires.project tells) g.R.Runner.tells g.R.Runner.next c.args.log.now c.requires.unused)
 
 pub returns-in_err-plan-clause-kept : goal.returns-in_err-plan-clause-kept
 returns-in_err-plan-clause-kept g c = λ tells means.
     let old = g.S.Site.world c.args.site.now in
     let project = c.args.self.now in
-    subst (Keeps g.R.Runner.next old old (with_read project.read c.args.log.now)) (sym (err_is c.from_residual.result (Outside Memory) c.from_residual.ensures.1))
-    (unplanned_keeps g.R.Runner.next old project c.args.log.now (c.requires.project tells) c.requires.unused)
+    subst (Keeps g.R.Runner.next project.rules old old (with_read project.read c.args.log.now)) (sym (err_is c.from_residual.result (Outside Memory) c.from_residual.ensures.1))
+    (unplanned_keeps project old (c.requires.project tells) g.R.Runner.next c.args.log.now c.requires.unused)
 
 pub returns-in_err-plan-clause-ran : goal.returns-in_err-plan-clause-ran
 returns-in_err-plan-clause-ran g c = λ _.
@@ -49,13 +46,15 @@ returns-in_err-prepare-clause-stays g c = λ tells.
     let plan = c.in_ok-plan.plan in
     let way : IsUnderWay project old mid plan.vanished plan.claimed = record {
       is = c.requires.project tells;
-      vanishes = c.in_ok-plan.ensures.vanished;
-      claims = c.in_ok-plan.ensures.claimed;
+      vanishes = c.in_ok-plan.ensures.vanished ∙ vanished_are project old (c.requires.project tells);
+      claims = c.in_ok-plan.ensures.claimed ∙ claimed_are project old (c.requires.project tells);
       beside = c.prepare.ensures.others tells;
     } in
+    let log : Log = record { read = c.args.log.now.read; removed = c.prepare.new.removed; ran = c.args.log.now.ran; ended = c.args.log.now.ended } in
     let failed = c.in_err-prepare.field-0.0 in
-    subst (Stays old mid project.rules) (sym (err_is c.from_residual-in_err-prepare.result (Outside failed) c.from_residual-in_err-prepare.ensures.1))
-    (way_stays project old mid plan.vanished plan.claimed way mid mid _ (λ path unmade. refl) refl (inr (read_is project old (c.requires.project tells))))
+    subst (Stays g.R.Runner.tells g.R.Runner.next project.rules old mid (with_read project.read log)) (sym (err_is c.from_residual-in_err-prepare.result (Outside failed) c.from_residual-in_err-prepare.ensures.1))
+    (unprepared_stays project old mid plan.vanished plan.claimed way g.R.Runner.tells g.R.Runner.next log failed (c.prepare.ensures.unclaimed tells)
+    (small_failure c.prepare.result failed c.in_err-prepare.was c.prepare.ensures.never_too_large) c.requires.unused.1 c.requires.unused.2)
 
 pub returns-in_err-prepare-clause-kept : goal.returns-in_err-prepare-clause-kept
 returns-in_err-prepare-clause-kept g c = λ tells means.
@@ -65,14 +64,14 @@ returns-in_err-prepare-clause-kept g c = λ tells means.
     let plan = c.in_ok-plan.plan in
     let way : IsUnderWay project old mid plan.vanished plan.claimed = record {
       is = c.requires.project tells;
-      vanishes = c.in_ok-plan.ensures.vanished;
-      claims = c.in_ok-plan.ensures.claimed;
+      vanishes = c.in_ok-plan.ensures.vanished ∙ vanished_are project old (c.requires.project tells);
+      claims = c.in_ok-plan.ensures.claimed ∙ claimed_are project old (c.requires.project tells);
       beside = c.prepare.ensures.others tells;
     } in
+    let log : Log = record { read = c.args.log.now.read; removed = c.prepare.new.removed; ran = c.args.log.now.ran; ended = c.args.log.now.ended } in
     let failed = c.in_err-prepare.field-0.0 in
-    let log : Log = record { read = c.args.log.now.read; removed = c.prepare.new.removed; ran = c.args.log.now.ran; verdicts = c.args.log.now.verdicts } in
-    subst (Keeps g.R.Runner.next old mid (with_read project.read log)) (sym (err_is c.from_residual-in_err-prepare.result (Outside failed) c.from_residual-in_err-prepare.ensures.1))
-    (unprepared_keeps project old mid plan.vanished plan.claimed way g.R.Runner.next c.args.log.now.removed log failed (c.prepare.ensures.unclaimed tells)
+    subst (Keeps g.R.Runner.next project.rules old mid (with_read project.read log)) (sym (err_is c.from_residual-in_err-prepare.result (Outside failed) c.from_residual-in_err-prepare.ensures.1))
+    (unprepared_keeps project old mid plan.vanished plan.claimed way g.R.Runner.next c.args.log.now.removed log failed
     (small_failure c.prepare.result failed c.in_err-prepare.was c.prepare.ensures.never_too_large) c.requires.unused.0 c.prepare.ensures.part c.requires.unused.1 c.requires.unused.2)
 
 pub returns-in_err-prepare-clause-ran : goal.returns-in_err-prepare-clause-ran
@@ -89,14 +88,16 @@ returns-in_err-name-clause-stays g c = λ tells.
     let plan = c.in_ok-plan.plan in
     let way : IsUnderWay project old mid plan.vanished plan.claimed = record {
       is = c.requires.project tells;
-      vanishes = c.in_ok-plan.ensures.vanished;
-      claims = c.in_ok-plan.ensures.claimed;
+      vanishes = c.in_ok-plan.ensures.vanished ∙ vanished_are project old (c.requires.project tells);
+      claims = c.in_ok-plan.ensures.claimed ∙ claimed_are project old (c.requires.project tells);
       beside = c.prepare.ensures.others tells;
     } in
+    let log : Log = record { read = c.args.log.now.read; removed = c.prepare.new.removed; ran = c.run.new.ran; ended = c.run.new.ended } in
     let ran = g.S.Site.world c.run.new.site in
     let halt = c.in_err-name.field-0.0 in
-    subst (Stays old ran project.rules) (sym (err_is c.from_residual-in_err-name.result (stop_of_halt halt) c.from_residual-in_err-name.ensures.1))
-    (way_stays project old mid plan.vanished plan.claimed way ran ran _ (c.run.ensures.others tells) refl (project_rules old project halt (c.requires.project tells)))
+    subst (Stays g.R.Runner.tells g.R.Runner.next project.rules old ran (with_read project.read log)) (sym (err_is c.from_residual-in_err-name.result (stop_of_halt halt) c.from_residual-in_err-name.ensures.1))
+    (unrun_stays project old mid plan.vanished plan.claimed way g.R.Runner.tells g.R.Runner.next ran log halt (c.run.ensures.others tells) (c.run.ensures.store tells ∙ c.in_ok-prepare.ensures.claimed tells)
+    (subst (TurnsFit project.rules log.ran log.ended) (ap comes_to c.in_err-name.was) (c.run.ensures.in_turn tells)))
 
 pub returns-in_err-name-clause-kept : goal.returns-in_err-name-clause-kept
 returns-in_err-name-clause-kept g c = λ tells means.
@@ -106,16 +107,15 @@ returns-in_err-name-clause-kept g c = λ tells means.
     let plan = c.in_ok-plan.plan in
     let way : IsUnderWay project old mid plan.vanished plan.claimed = record {
       is = c.requires.project tells;
-      vanishes = c.in_ok-plan.ensures.vanished;
-      claims = c.in_ok-plan.ensures.claimed;
+      vanishes = c.in_ok-plan.ensures.vanished ∙ vanished_are project old (c.requires.project tells);
+      claims = c.in_ok-plan.ensures.claimed ∙ claimed_are project old (c.requires.project tells);
       beside = c.prepare.ensures.others tells;
     } in
-    let log : Log = record { read = c.args.log.now.read; removed = c.prepare.new.removed; ran = c.run.new.ran; verdicts = c.run.new.verdicts } in
+    let log : Log = record { read = c.args.log.now.read; removed = c.prepare.new.removed; ran = c.run.new.ran; ended = c.run.new.ended } in
     let ran = g.S.Site.world c.run.new.site in
-    let stored = c.run.ensures.store tells ∙ c.in_ok-prepare.ensures.claimed tells in
     let halt = c.in_err-name.field-0.0 in
-    subst (Keeps g.R.Runner.next old ran (with_read project.read log)) (sym (err_is c.from_residual-in_err-name.result (stop_of_halt halt) c.from_residual-in_err-name.ensures.1))
-    (unrun_keeps project old mid plan.vanished plan.claimed way g.R.Runner.next ran c.args.log.now.removed log halt (c.run.ensures.others tells) stored
+    subst (Keeps g.R.Runner.next project.rules old ran (with_read project.read log)) (sym (err_is c.from_residual-in_err-name.result (stop_of_halt halt) c.from_residual-in_err-name.ensures.1))
+    (unrun_keeps project old mid plan.vanished plan.claimed way g.R.Runner.next ran c.args.log.now.removed log halt
     (λ n e. c.run.ensures.large tells n (c.in_err-name.was ∙ ap (λ (h : Halt). Err h) e)) c.requires.unused.0 c.in_ok-prepare.ensures.removed
     (c.run.ensures.part tells means))
 
@@ -136,12 +136,14 @@ returns-in-Some-clause-stays g c = λ tells.
     let plan = c.in_ok-plan.plan in
     let way : IsUnderWay project old mid plan.vanished plan.claimed = record {
       is = c.requires.project tells;
-      vanishes = c.in_ok-plan.ensures.vanished;
-      claims = c.in_ok-plan.ensures.claimed;
+      vanishes = c.in_ok-plan.ensures.vanished ∙ vanished_are project old (c.requires.project tells);
+      claims = c.in_ok-plan.ensures.claimed ∙ claimed_are project old (c.requires.project tells);
       beside = c.prepare.ensures.others tells;
     } in
+    let log : Log = record { read = c.args.log.now.read; removed = c.prepare.new.removed; ran = c.run.new.ran; ended = c.run.new.ended } in
     let ran = g.S.Site.world c.run.new.site in
-    way_stays project old mid plan.vanished plan.claimed way ran ran _ (c.run.ensures.others tells) refl (read_is project old (c.requires.project tells))
+    bad_stays project old mid plan.vanished plan.claimed way g.R.Runner.tells g.R.Runner.next ran log c.in-Some.name c.in-Some.verdict (c.run.ensures.others tells) (c.run.ensures.store tells ∙ c.in_ok-prepare.ensures.claimed tells)
+    (subst (TurnsFit project.rules log.ran log.ended) (ap comes_to (c.in_ok-name.was ∙ ap (λ o. Ok o) c.in-Some.is)) (c.run.ensures.in_turn tells))
 
 pub returns-in-Some-clause-kept : goal.returns-in-Some-clause-kept
 returns-in-Some-clause-kept g c = λ tells means.
@@ -151,16 +153,15 @@ returns-in-Some-clause-kept g c = λ tells means.
     let plan = c.in_ok-plan.plan in
     let way : IsUnderWay project old mid plan.vanished plan.claimed = record {
       is = c.requires.project tells;
-      vanishes = c.in_ok-plan.ensures.vanished;
-      claims = c.in_ok-plan.ensures.claimed;
+      vanishes = c.in_ok-plan.ensures.vanished ∙ vanished_are project old (c.requires.project tells);
+      claims = c.in_ok-plan.ensures.claimed ∙ claimed_are project old (c.requires.project tells);
       beside = c.prepare.ensures.others tells;
     } in
-    let log : Log = record { read = c.args.log.now.read; removed = c.prepare.new.removed; ran = c.run.new.ran; verdicts = c.run.new.verdicts } in
+    let log : Log = record { read = c.args.log.now.read; removed = c.prepare.new.removed; ran = c.run.new.ran; ended = c.run.new.ended } in
     let ran = g.S.Site.world c.run.new.site in
-    let stored = c.run.ensures.store tells ∙ c.in_ok-prepare.ensures.claimed tells in
-    let built = build_beside g.R.Runner.next project.owned project.rules mid.tree in
-    bad_run_keeps project old mid plan.vanished plan.claimed way g.R.Runner.next ran c.args.log.now.removed log c.in-Some.name c.in-Some.verdict (c.run.ensures.others tells) stored
-    (subst (HasRun project.rules built ran.tree) c.in-Some.is (c.in_ok-name.ensures.run tells means)) c.requires.unused.0 c.in_ok-prepare.ensures.removed
+    let sources = files_beside project.owned mid.tree in
+    bad_keeps project old mid plan.vanished plan.claimed way g.R.Runner.next ran c.args.log.now.removed log c.in-Some.name c.in-Some.verdict
+    (subst (HasRun g.R.Runner.next project.rules sources ran.tree) c.in-Some.is (c.in_ok-name.ensures.run tells means)) c.requires.unused.0 c.in_ok-prepare.ensures.removed
     (c.in_ok-name.ensures.noted tells means)
 
 pub returns-in-Some-clause-ran : goal.returns-in-Some-clause-ran
@@ -177,15 +178,20 @@ returns-in_err-finish-in-None-clause-stays g c = λ tells.
     let plan = c.in_ok-plan.plan in
     let way : IsUnderWay project old mid plan.vanished plan.claimed = record {
       is = c.requires.project tells;
-      vanishes = c.in_ok-plan.ensures.vanished;
-      claims = c.in_ok-plan.ensures.claimed;
+      vanishes = c.in_ok-plan.ensures.vanished ∙ vanished_are project old (c.requires.project tells);
+      claims = c.in_ok-plan.ensures.claimed ∙ claimed_are project old (c.requires.project tells);
       beside = c.prepare.ensures.others tells;
     } in
+    let log : Log = record { read = c.args.log.now.read; removed = c.prepare.new.removed; ran = c.run.new.ran; ended = c.run.new.ended } in
     let ran = g.S.Site.world c.run.new.site in
     let new = g.S.Site.world c.finish.new.site in
     let failed = c.in_err-finish-in-None.field-0.0 in
-    subst (Stays old new project.rules) (sym (err_is c.from_residual-in_err-finish-in-None.result (Outside failed) c.from_residual-in_err-finish-in-None.ensures.1))
-    (way_stays project old mid plan.vanished plan.claimed way ran new _ (c.run.ensures.others tells) (c.finish.ensures.tree tells) (inr (read_is project old (c.requires.project tells))))
+    let sources = files_beside project.owned mid.tree in
+    subst (Stays g.R.Runner.tells g.R.Runner.next project.rules old new (with_read project.read log)) (sym (err_is c.from_residual-in_err-finish-in-None.result (Outside failed) c.from_residual-in_err-finish-in-None.ensures.1))
+    (unfinished_stays project old mid plan.vanished plan.claimed way g.R.Runner.tells g.R.Runner.next ran new log failed (c.in_ok-prepare.ensures.cleared tells) (c.run.ensures.others tells) (c.finish.ensures.tree tells)
+    (small_failure c.finish.result failed c.in_err-finish-in-None.was c.finish.ensures.never_too_large)
+    (λ means. subst (HasRun g.R.Runner.next project.rules sources ran.tree) c.in-None.is (c.in_ok-name.ensures.run tells means))
+    (subst (TurnsFit project.rules log.ran log.ended) (ap comes_to (c.in_ok-name.was ∙ ap (λ o. Ok o) c.in-None.is)) (c.run.ensures.in_turn tells)))
 
 pub returns-in_err-finish-in-None-clause-kept : goal.returns-in_err-finish-in-None-clause-kept
 returns-in_err-finish-in-None-clause-kept g c = λ tells means.
@@ -195,19 +201,16 @@ returns-in_err-finish-in-None-clause-kept g c = λ tells means.
     let plan = c.in_ok-plan.plan in
     let way : IsUnderWay project old mid plan.vanished plan.claimed = record {
       is = c.requires.project tells;
-      vanishes = c.in_ok-plan.ensures.vanished;
-      claims = c.in_ok-plan.ensures.claimed;
+      vanishes = c.in_ok-plan.ensures.vanished ∙ vanished_are project old (c.requires.project tells);
+      claims = c.in_ok-plan.ensures.claimed ∙ claimed_are project old (c.requires.project tells);
       beside = c.prepare.ensures.others tells;
     } in
-    let log : Log = record { read = c.args.log.now.read; removed = c.prepare.new.removed; ran = c.run.new.ran; verdicts = c.run.new.verdicts } in
-    let ran = g.S.Site.world c.run.new.site in
+    let log : Log = record { read = c.args.log.now.read; removed = c.prepare.new.removed; ran = c.run.new.ran; ended = c.run.new.ended } in
     let new = g.S.Site.world c.finish.new.site in
-    let built_by = build_beside g.R.Runner.next project.owned project.rules mid.tree in
-    let built = subst (HasRun project.rules built_by ran.tree) c.in-None.is (c.in_ok-name.ensures.run tells means) in
     let failed = c.in_err-finish-in-None.field-0.0 in
-    subst (Keeps g.R.Runner.next old new (with_read project.read log)) (sym (err_is c.from_residual-in_err-finish-in-None.result (Outside failed) c.from_residual-in_err-finish-in-None.ensures.1))
-    (unfinished_keeps project old mid plan.vanished plan.claimed way g.R.Runner.next ran new c.args.log.now.removed log failed
-    built (c.finish.ensures.tree tells) (small_failure c.finish.result failed c.in_err-finish-in-None.was c.finish.ensures.never_too_large)
+    subst (Keeps g.R.Runner.next project.rules old new (with_read project.read log)) (sym (err_is c.from_residual-in_err-finish-in-None.result (Outside failed) c.from_residual-in_err-finish-in-None.ensures.1))
+    (unfinished_keeps project old mid plan.vanished plan.claimed way g.R.Runner.next new c.args.log.now.removed log failed
+    (small_failure c.finish.result failed c.in_err-finish-in-None.was c.finish.ensures.never_too_large)
     c.requires.unused.0 c.in_ok-prepare.ensures.removed (c.in_ok-name.ensures.noted tells means))
 
 pub returns-in_err-finish-in-None-clause-ran : goal.returns-in_err-finish-in-None-clause-ran
@@ -223,13 +226,16 @@ returns-clause-stays g c = λ tells.
     let plan = c.in_ok-plan.plan in
     let way : IsUnderWay project old mid plan.vanished plan.claimed = record {
       is = c.requires.project tells;
-      vanishes = c.in_ok-plan.ensures.vanished;
-      claims = c.in_ok-plan.ensures.claimed;
+      vanishes = c.in_ok-plan.ensures.vanished ∙ vanished_are project old (c.requires.project tells);
+      claims = c.in_ok-plan.ensures.claimed ∙ claimed_are project old (c.requires.project tells);
       beside = c.prepare.ensures.others tells;
     } in
+    let log : Log = record { read = c.args.log.now.read; removed = c.prepare.new.removed; ran = c.run.new.ran; ended = c.run.new.ended } in
     let ran = g.S.Site.world c.run.new.site in
     let new = g.S.Site.world c.finish.new.site in
-    way_stays project old mid plan.vanished plan.claimed way ran new _ (c.run.ensures.others tells) (c.finish.ensures.tree tells) (read_is project old (c.requires.project tells))
+    finished_stays project old mid plan.vanished plan.claimed way g.R.Runner.tells g.R.Runner.next ran new plan.listed log (c.in_ok-prepare.ensures.cleared tells) (c.run.ensures.others tells) (c.finish.ensures.tree tells)
+    (c.in_ok-finish-in-None.ensures.listed tells ∙ ap spelling c.as_slice.ensures) c.in_ok-plan.ensures.listed
+    (subst (TurnsFit project.rules log.ran log.ended) (ap comes_to (c.in_ok-name.was ∙ ap (λ o. Ok o) c.in-None.is)) (c.run.ensures.in_turn tells))
 
 pub returns-clause-kept : goal.returns-clause-kept
 returns-clause-kept g c = λ tells means.
@@ -239,17 +245,17 @@ returns-clause-kept g c = λ tells means.
     let plan = c.in_ok-plan.plan in
     let way : IsUnderWay project old mid plan.vanished plan.claimed = record {
       is = c.requires.project tells;
-      vanishes = c.in_ok-plan.ensures.vanished;
-      claims = c.in_ok-plan.ensures.claimed;
+      vanishes = c.in_ok-plan.ensures.vanished ∙ vanished_are project old (c.requires.project tells);
+      claims = c.in_ok-plan.ensures.claimed ∙ claimed_are project old (c.requires.project tells);
       beside = c.prepare.ensures.others tells;
     } in
-    let log : Log = record { read = c.args.log.now.read; removed = c.prepare.new.removed; ran = c.run.new.ran; verdicts = c.run.new.verdicts } in
+    let log : Log = record { read = c.args.log.now.read; removed = c.prepare.new.removed; ran = c.run.new.ran; ended = c.run.new.ended } in
     let ran = g.S.Site.world c.run.new.site in
     let new = g.S.Site.world c.finish.new.site in
-    let built_by = build_beside g.R.Runner.next project.owned project.rules mid.tree in
-    let built = subst (HasRun project.rules built_by ran.tree) c.in-None.is (c.in_ok-name.ensures.run tells means) in
+    let sources = files_beside project.owned mid.tree in
     finished_keeps project old mid plan.vanished plan.claimed way g.R.Runner.next ran new c.args.log.now.removed plan.listed log
-    built (c.finish.ensures.tree tells) (c.in_ok-finish-in-None.ensures.listed tells ∙ ap spelling c.as_slice.ensures) c.in_ok-plan.ensures.listed
+    (subst (HasRun g.R.Runner.next project.rules sources ran.tree) c.in-None.is (c.in_ok-name.ensures.run tells means)) (c.finish.ensures.tree tells)
+    (c.in_ok-finish-in-None.ensures.listed tells ∙ ap spelling c.as_slice.ensures) c.in_ok-plan.ensures.listed
     c.requires.unused.0 c.in_ok-prepare.ensures.removed (c.in_ok-name.ensures.noted tells means)
 
 pub returns-clause-ran : goal.returns-clause-ran
@@ -262,8 +268,10 @@ run-requires-clause-runnable g c κs = λ lives tells.
     let mid = g.S.Site.world c.prepare.new.site in
     let project = c.args.self.now in
     let plan = c.in_ok-plan.plan in
-    let is = c.requires.project tells in
-    let gone_is = c.in_ok-plan.ensures.vanished ∙ gone_are project old is in
-    runnable project.owned (finite.keys old.tree) project.rules old.tree mid.tree refl is.buildable
-    (subst (λ (l : List Names). IsCleared l old.tree mid.tree) gone_is (c.in_ok-prepare.ensures.cleared tells))
-    (subst (λ (l : List Names). SameBeside l old.tree mid.tree) gone_is (c.prepare.ensures.others tells))
+    let way : IsUnderWay project old mid plan.vanished plan.claimed = record {
+      is = c.requires.project tells;
+      vanishes = c.in_ok-plan.ensures.vanished ∙ vanished_are project old (c.requires.project tells);
+      claims = c.in_ok-plan.ensures.claimed ∙ claimed_are project old (c.requires.project tells);
+      beside = c.prepare.ensures.others tells;
+    } in
+    way_runnable project old mid plan.vanished plan.claimed way (c.in_ok-prepare.ensures.cleared tells)

@@ -1,172 +1,357 @@
-use Rattle.std.proofs.Common.{◌≡◌, ◌+◌, ◌++◌, [], ◌∷◌, ℕ, suc, List, length, replicate, refl, sym, ◌∙◌, ap, subst, arith}
+use Rattle.std.proofs.Common.{rules, ◌<◌, ◌≤◌, ◌+◌, List, length, Some, Ok, refl, sym, ◌∙◌, ap, subst, inl}
+use Rattle.std.proofs.lemmas.Option.{slice_get_within}
 use Rattle.tup_rule.specs.declared.rule.Rule.{Rule}
-use Rattle.tup_rule.specs.declared.rule.RuleName.{RuleName}
 use Rattle.tup_rule.specs.Rule.{name_of}
 use Rattle.tup_access.specs.declared.verdict.Verdict.{Verdict}
-use Rattle.tup_access.specs.declared.verdict.Verdict.TheVariants.{Good}
-use Rattle.tup_clean.proofs.InOrderLaws.{good_none}
-use Rattle.tup_clean.proofs.CleanLaws.{clean_tree_of_good, clean_succeeds}
-use Rattle.tup_update.specs.Sources.{files_beside, build_beside}
-use Rattle.tup_update.specs.Ran.{RanAll, RunsOne, RunsThese}
-use Rattle.tup_update.proofs.Begun.{begun_more, part_noted, noted_bad, noted_whole, noted_part, ran_none, ran_more, ran_all_of, ran_to_halt, stopped_err}
-use Rattle.tup_update.proofs.Running.{CarriesOn, rule_here, room_for, agrees_at_first, beside_all, carried_on, replicate_more, noted_more, named_bad, unnamed_good, stops_at}
+use Rattle.tup_clean.specs.Clean.{good_at, is_good}
+use Rattle.tup_clean.specs.Queue.{IsWhole}
+use Rattle.tup_clean.specs.Taken.{Taken, verdicts_of, takes, up_to_bad}
+use Rattle.tup_clean.proofs.Agreeing.{make_apart, agrees_first}
+use Rattle.tup_clean.proofs.Taking.{IsQueued, is_left, taken_at, can_note, ready_is, none_ready, queued_start, queued_more}
+use Rattle.tup_update.specs.Sources.{files_beside}
+use Rattle.tup_update.specs.Parts.{HasRun, ArePartNoted}
+use Rattle.tup_update.specs.Ran.{RunsThese, stopped_by, comes_to}
+use Rattle.tup_update.specs.Turns.{TurnsFit}
+use Rattle.tup_update.proofs.Begun.{ran_none, ran_all_of, stopped_err, comes_err}
+use Rattle.tup_update.proofs.Running.{room_for, beside_made, beside_all, named_bad, unnamed_good}
+use Rattle.tup_site.specs.declared.fault.SiteFailed.TheVariants.{Memory}
+use Rattle.tup_update.specs.declared.stop.Halt.TheVariants.{Outside as Halted}
+use Rattle.tup_update.proofs.Turning.{rule_here, notes_of, verdicts_of_more, none_at_end, taken_none, turned_halted, turned_all, begun_next, taken_next, turned_bad, building_none, ended_front, begun_front, building_next, noted_bad, first_bad, noted_all, built_all, noted_part}
 use Rattle.tup_update.proofs.project.Project.run.Goals as goal
 
-pub loop-rule-init : goal.loop-rule-init
-loop-rule-init g c = record {
-  begun = c.requires.unused.0;
-  noted = c.requires.unused.1;
-  carries = λ tells means. record {
-    good = good_none g.R.Runner.next c.args.self.now.rules _;
-    agrees = agrees_at_first g.R.Runner.next c.args.self.now.owned c.args.self.now.rules _ (c.requires.runnable tells);
-  };
-  others = λ tells path unmade. refl;
-  store = λ tells. refl;
-  runs = λ tells. ran_none c.args.ran.now _ c.requires.unused.0;
-  counted = refl;
-  counted_runs = refl;
-}
+-- ---- no memory for a queue
 
-pub run_rule-requires-clause-room : goal.run_rule-requires-clause-room
-run_rule-requires-clause-room g c κs = λ lives tells.
-    room_for c.args.self.now.owned c.args.self.now.rules (g.S.Site.world c.args.site.now).tree _ c.loop-rule.rule-index c.rule-item.result
-    (rule_here c.args.self.now.rules _ c.loop-rule.rule-index c.rule-item.result c.as_slice-rule-items.ensures c.loop-rule-test.true c.rule-item.is)
-    (c.requires.runnable tells) (c.loop-rule.invariant.others tells)
+pub returns-in_err-queue-clause-in_turn : goal.returns-in_err-queue-clause-in_turn
+returns-in_err-queue-clause-in_turn g c = λ tells.
+    let all = c.args.self.now.rules in
+    let has = taken_none all c.args.ran.now c.args.ended.now c.requires.unused.0 c.requires.unused.1 in
+    subst (TurnsFit all c.args.ran.now c.args.ended.now) (comes_err c.from_residual.result _ c.from_residual.ensures.1)
+    (turned_halted all 0 c.args.ran.now c.args.ended.now has (Halted Memory) c.args.ran.now (inl has.begun))
 
--- ---- no memory to begin a rule
+pub returns-in_err-queue-clause-part : goal.returns-in_err-queue-clause-part
+returns-in_err-queue-clause-part g c = λ tells means.
+    let all = c.args.self.now.rules in
+    let has = taken_none all c.args.ran.now c.args.ended.now c.requires.unused.0 c.requires.unused.1 in
+    let tree = (g.S.Site.world c.args.site.now).tree in
+    ended_front g.R.Runner.next all (files_beside c.args.self.now.owned (g.S.Site.world c.args.site.now).tree) 0 c.args.ended.now tree (building_none g.R.Runner.next all (files_beside c.args.self.now.owned (g.S.Site.world c.args.site.now).tree) tree c.args.ended.now c.requires.unused.1 (agrees_first all (files_beside c.args.self.now.owned (g.S.Site.world c.args.site.now).tree) tree (λ path unmade. beside_made c.args.self.now.owned all tree path (c.requires.runnable tells) unmade)))
+    has.good c.args.ran.now has.begun
 
-pub returns-in_err-begin-clause-part : goal.returns-in_err-begin-clause-part
-returns-in_err-begin-clause-part g c = λ tells means.
-    let here = rule_here c.args.self.now.rules _ c.loop-rule.rule-index c.rule-item.result c.as_slice-rule-items.ensures c.loop-rule-test.true c.rule-item.is in
-    part_noted g.R.Runner.next c.loop-rule.rule-index c.args.self.now.owned c.args.self.now.rules (g.S.Site.world c.args.site.now).tree _ c.rule-item.result c.loop-rule.rule-index
-    (c.requires.runnable tells) here (c.loop-rule.invariant.carries tells means) (omega arith) _ _ (c.in_err-begin.ensures.unnoted ∙ c.loop-rule.invariant.begun) c.loop-rule.invariant.noted
+pub returns-in_err-queue-clause-ran : goal.returns-in_err-queue-clause-ran
+returns-in_err-queue-clause-ran g c = λ tells. ran_all_of _ _ _ _ (ran_none c.args.ran.now _ c.requires.unused.0)
 
-pub returns-in_err-begin-clause-ran : goal.returns-in_err-begin-clause-ran
-returns-in_err-begin-clause-ran g c = λ tells.
-    ran_all_of _ _ _ _ (subst (λ (l : List RuleName). RanAll l (g.R.Runner.ran c.args.runner.now) (g.R.Runner.ran c.loop-rule.runner)) (sym c.in_err-begin.ensures.unnoted) (c.loop-rule.invariant.runs tells))
+-- ---- the loop
+
+pub loop-init : goal.loop-init
+loop-init g c =
+    let all = c.args.self.now.rules in
+    let tree = (g.S.Site.world c.args.site.now).tree in
+    record {
+      queued = queued_start all _ c.in_ok-queue.queue (ap (verdicts_of all) c.requires.unused.1) (subst (λ (l : List Rule). IsWhole l c.in_ok-queue.queue) c.as_slice-rules.ensures c.in_ok-queue.ensures);
+      has = taken_none all c.args.ran.now c.args.ended.now c.requires.unused.0 c.requires.unused.1;
+      builds = λ tells means. building_none g.R.Runner.next all (files_beside c.args.self.now.owned (g.S.Site.world c.args.site.now).tree) tree c.args.ended.now c.requires.unused.1 (agrees_first all (files_beside c.args.self.now.owned (g.S.Site.world c.args.site.now).tree) tree (λ path unmade. beside_made c.args.self.now.owned all tree path (c.requires.runnable tells) unmade));
+      others = λ tells path unmade. refl;
+      store = λ tells. refl;
+      runs = λ tells. ran_none c.args.ran.now _ c.requires.unused.0;
+      counted = refl;
+      counted_runs = refl;
+    }
+
+pub bounds-rules-at : goal.bounds-rules-at
+bounds-rules-at g c =
+    let all = c.args.self.now.rules in
+    let verdicts = verdicts_of all c.loop.ended in
+    let at = c.in-Some.at in
+    let next = c.in-Some.ensures all (is_left verdicts) (good_at verdicts) c.loop.invariant.queued.waiting in
+    let taken = taken_at all verdicts at _ next in
+    subst (λ (l : List Rule). at < length l) (sym c.as_slice-rules.ensures) (slice_get_within all at taken.rule taken.here)
+
+pub offset_bounds-rules-at : goal.offset_bounds-rules-at
+offset_bounds-rules-at g c =
+    let all = c.args.self.now.rules in
+    let verdicts = verdicts_of all c.loop.ended in
+    let next = c.in-Some.ensures all (is_left verdicts) (good_at verdicts) c.loop.invariant.queued.waiting in
+    let taken = taken_at all verdicts c.in-Some.at _ next in
+    let within = subst (λ (l : List Rule). c.in-Some.at < length l) (sym c.as_slice-rules.ensures) (slice_get_within all c.in-Some.at taken.rule taken.here) in
+    search (rules, within)
+
+pub take-requires-clause-room : goal.take-requires-clause-room
+take-requires-clause-room g c κs = λ lives tells.
+    let all = c.args.self.now.rules in
+    let verdicts = verdicts_of all c.loop.ended in
+    let at = c.in-Some.at in
+    let next = c.in-Some.ensures all (is_left verdicts) (good_at verdicts) c.loop.invariant.queued.waiting in
+    let taken = taken_at all verdicts at _ next in
+    let rule = c.index-rules-at.result in
+    let here = rule_here all c.as_slice-rules.result.now at rule c.as_slice-rules.ensures taken.rule taken.here c.index-rules-at.is in
+    room_for c.args.self.now.owned all (g.S.Site.world c.args.site.now).tree _ at rule here (c.requires.runnable tells) (c.loop.invariant.others tells)
+
+pub note-requires : goal.note-requires
+note-requires g c =
+    let all = c.args.self.now.rules in
+    let verdicts = verdicts_of all c.loop.ended in
+    let at = c.in-Some.at in
+    let next = c.in-Some.ensures all (is_left verdicts) (good_at verdicts) c.loop.invariant.queued.waiting in
+    let taken = taken_at all verdicts at _ next in
+    can_note all verdicts at _ next
 
 -- ---- the rule was halted
 
-pub returns-in_err-verdict-clause-others : goal.returns-in_err-verdict-clause-others
-returns-in_err-verdict-clause-others g c = λ tells. beside_all c.args.self.now.rules c.loop-rule.rule-index c.rule-item.result _ _ _
-    (rule_here c.args.self.now.rules _ c.loop-rule.rule-index c.rule-item.result c.as_slice-rule-items.ensures c.loop-rule-test.true c.rule-item.is)
-    (c.loop-rule.invariant.others tells) (c.run_rule.ensures.others tells)
-
-pub returns-in_err-verdict-clause-part : goal.returns-in_err-verdict-clause-part
-returns-in_err-verdict-clause-part g c = λ tells means.
-    let here = rule_here c.args.self.now.rules _ c.loop-rule.rule-index c.rule-item.result c.as_slice-rule-items.ensures c.loop-rule-test.true c.rule-item.is in
-    part_noted g.R.Runner.next c.loop-rule.rule-index c.args.self.now.owned c.args.self.now.rules (g.S.Site.world c.args.site.now).tree _ c.rule-item.result (c.loop-rule.rule-index + 1)
-    (c.requires.runnable tells) here (c.loop-rule.invariant.carries tells means) (omega arith) _ _
-    (begun_more c.args.self.now.rules c.loop-rule.rule-index c.rule-item.result _ _ here c.loop-rule.invariant.begun c.in_ok-begin.ensures.noted) c.loop-rule.invariant.noted
-
-pub returns-in_err-verdict-clause-ran : goal.returns-in_err-verdict-clause-ran
-returns-in_err-verdict-clause-ran g c = λ tells.
-    let halt = c.in_err-verdict.field-0.0 in
-    let one = subst (RunsOne (name_of c.rule-item.result) (g.R.Runner.ran c.loop-rule.runner) (g.R.Runner.ran c.run_rule.new.runner)) c.in_err-verdict.was (c.run_rule.ensures.ran tells) in
-    subst (RunsThese c.begin.new.ran (g.R.Runner.ran c.args.runner.now) (g.R.Runner.ran c.run_rule.new.runner)) (stopped_err c.from_residual-in_err-verdict.result halt c.from_residual-in_err-verdict.ensures.1)
-    (ran_to_halt halt (name_of c.rule-item.result) _ _ _ _ _ (c.loop-rule.invariant.runs tells) c.in_ok-begin.ensures.noted one)
-
--- ---- no memory to note its verdict
-
 pub returns-in_err-bad-clause-others : goal.returns-in_err-bad-clause-others
-returns-in_err-bad-clause-others g c = λ tells. beside_all c.args.self.now.rules c.loop-rule.rule-index c.rule-item.result _ _ _
-    (rule_here c.args.self.now.rules _ c.loop-rule.rule-index c.rule-item.result c.as_slice-rule-items.ensures c.loop-rule-test.true c.rule-item.is)
-    (c.loop-rule.invariant.others tells) (c.run_rule.ensures.others tells)
+returns-in_err-bad-clause-others g c = λ tells.
+    let all = c.args.self.now.rules in
+    let verdicts = verdicts_of all c.loop.ended in
+    let at = c.in-Some.at in
+    let next = c.in-Some.ensures all (is_left verdicts) (good_at verdicts) c.loop.invariant.queued.waiting in
+    let taken = taken_at all verdicts at _ next in
+    let rule = c.index-rules-at.result in
+    let here = rule_here all c.as_slice-rules.result.now at rule c.as_slice-rules.ensures taken.rule taken.here c.index-rules-at.is in
+    beside_all all at rule _ _ _ here (c.loop.invariant.others tells) (c.take.ensures.others tells)
+
+pub returns-in_err-bad-clause-in_turn : goal.returns-in_err-bad-clause-in_turn
+returns-in_err-bad-clause-in_turn g c = λ tells.
+    let all = c.args.self.now.rules in
+    let verdicts = verdicts_of all c.loop.ended in
+    let at = c.in-Some.at in
+    let next = c.in-Some.ensures all (is_left verdicts) (good_at verdicts) c.loop.invariant.queued.waiting in
+    let taken = taken_at all verdicts at _ next in
+    let ready = ready_is all verdicts at _ next c.loop.queue c.loop.invariant.queued in
+    let rule = c.index-rules-at.result in
+    let here = rule_here all c.as_slice-rules.result.now at rule c.as_slice-rules.ensures taken.rule taken.here c.index-rules-at.is in
+    subst (λ (l : List Taken). TurnsFit all c.take.new.ran l (comes_to c.from_residual-in_err-bad.result)) (sym c.in_err-bad.ensures.unended)
+    (subst (TurnsFit all c.take.new.ran c.loop.ended) (comes_err c.from_residual-in_err-bad.result _ c.from_residual-in_err-bad.ensures.1)
+    (turned_halted all c.loop.counter c.loop.ran c.loop.ended c.loop.invariant.has c.in_err-bad.field-0.0 c.take.new.ran (begun_next all c.loop.counter c.loop.ran c.loop.ended c.loop.invariant.has at rule ready here c.take.new.ran c.take.ensures.begins_it)))
 
 pub returns-in_err-bad-clause-part : goal.returns-in_err-bad-clause-part
 returns-in_err-bad-clause-part g c = λ tells means.
-    let here = rule_here c.args.self.now.rules _ c.loop-rule.rule-index c.rule-item.result c.as_slice-rule-items.ensures c.loop-rule-test.true c.rule-item.is in
-    part_noted g.R.Runner.next c.loop-rule.rule-index c.args.self.now.owned c.args.self.now.rules (g.S.Site.world c.args.site.now).tree _ c.rule-item.result (c.loop-rule.rule-index + 1)
-    (c.requires.runnable tells) here (c.loop-rule.invariant.carries tells means) (omega arith) _ _
-    (begun_more c.args.self.now.rules c.loop-rule.rule-index c.rule-item.result _ _ here c.loop-rule.invariant.begun c.in_ok-begin.ensures.noted) (c.in_err-bad.ensures.unnoted ∙ c.loop-rule.invariant.noted)
+    let all = c.args.self.now.rules in
+    let verdicts = verdicts_of all c.loop.ended in
+    let at = c.in-Some.at in
+    let next = c.in-Some.ensures all (is_left verdicts) (good_at verdicts) c.loop.invariant.queued.waiting in
+    let taken = taken_at all verdicts at _ next in
+    let ready = ready_is all verdicts at _ next c.loop.queue c.loop.invariant.queued in
+    let rule = c.index-rules-at.result in
+    let here = rule_here all c.as_slice-rules.result.now at rule c.as_slice-rules.ensures taken.rule taken.here c.index-rules-at.is in
+    let within = subst (λ (l : List Rule). c.loop.counter < length l) c.as_slice-rules.ensures c.loop-test.true in
+    subst (ArePartNoted all (up_to_bad (takes g.R.Runner.next all (files_beside c.args.self.now.owned (g.S.Site.world c.args.site.now).tree))) c.take.new.ran) (sym c.in_err-bad.ensures.unended)
+    (begun_front g.R.Runner.next all (files_beside c.args.self.now.owned (g.S.Site.world c.args.site.now).tree) c.loop.counter c.loop.ended (g.S.Site.world c.loop.site).tree (c.loop.invariant.builds tells means) at rule within ready here c.loop.invariant.has.good c.loop.ran c.take.new.ran c.loop.invariant.has.begun c.take.ensures.begins_it)
 
 pub returns-in_err-bad-clause-ran : goal.returns-in_err-bad-clause-ran
 returns-in_err-bad-clause-ran g c = λ tells.
-    ran_all_of _ _ _ _ (ran_more (name_of c.rule-item.result) _ _ _ _ _ (c.loop-rule.invariant.runs tells) c.in_ok-begin.ensures.noted (c.in_ok-verdict.ensures.ran tells))
+    subst (RunsThese c.take.new.ran (g.R.Runner.ran c.args.runner.now) (g.R.Runner.ran c.take.new.runner)) (ap (λ r. stopped_by r) c.in_err-bad.was ∙ stopped_err c.from_residual-in_err-bad.result _ c.from_residual-in_err-bad.ensures.1)
+    (c.take.ensures.ran tells (g.R.Runner.ran c.args.runner.now) (c.loop.invariant.runs tells))
 
 -- ---- a bad rule
 
 pub returns-then-is_some-clause-others : goal.returns-then-is_some-clause-others
-returns-then-is_some-clause-others g c = λ tells. beside_all c.args.self.now.rules c.loop-rule.rule-index c.rule-item.result _ _ _
-    (rule_here c.args.self.now.rules _ c.loop-rule.rule-index c.rule-item.result c.as_slice-rule-items.ensures c.loop-rule-test.true c.rule-item.is)
-    (c.loop-rule.invariant.others tells) (c.run_rule.ensures.others tells)
+returns-then-is_some-clause-others g c = λ tells.
+    let all = c.args.self.now.rules in
+    let verdicts = verdicts_of all c.loop.ended in
+    let at = c.in-Some.at in
+    let next = c.in-Some.ensures all (is_left verdicts) (good_at verdicts) c.loop.invariant.queued.waiting in
+    let taken = taken_at all verdicts at _ next in
+    let rule = c.index-rules-at.result in
+    let here = rule_here all c.as_slice-rules.result.now at rule c.as_slice-rules.ensures taken.rule taken.here c.index-rules-at.is in
+    beside_all all at rule _ _ _ here (c.loop.invariant.others tells) (c.take.ensures.others tells)
 
 pub returns-then-is_some-clause-run : goal.returns-then-is_some-clause-run
 returns-then-is_some-clause-run g c = λ tells means.
-    stops_at g.R.Runner.next c.loop-rule.rule-index c.args.self.now.owned c.args.self.now.rules (g.S.Site.world c.args.site.now).tree _ _ c.rule-item.result c.in_ok-verdict.verdict c.in_ok-bad.bad (c.requires.runnable tells)
-    (rule_here c.args.self.now.rules _ c.loop-rule.rule-index c.rule-item.result c.as_slice-rule-items.ensures c.loop-rule-test.true c.rule-item.is)
-    (c.loop-rule.invariant.carries tells means) (c.in_ok-verdict.ensures.leaves tells means).is c.in_ok-bad.ensures.bad (sym c.is_some.ensures ∙ c.if-is_some.true)
+    let all = c.args.self.now.rules in
+    let verdicts = verdicts_of all c.loop.ended in
+    let at = c.in-Some.at in
+    let next = c.in-Some.ensures all (is_left verdicts) (good_at verdicts) c.loop.invariant.queued.waiting in
+    let taken = taken_at all verdicts at _ next in
+    let ready = ready_is all verdicts at _ next c.loop.queue c.loop.invariant.queued in
+    let rule = c.index-rules-at.result in
+    let here = rule_here all c.as_slice-rules.result.now at rule c.as_slice-rules.ensures taken.rule taken.here c.index-rules-at.is in
+    let within = subst (λ (l : List Rule). c.loop.counter < length l) c.as_slice-rules.ensures c.loop-test.true in
+    let ends = c.in_ok-bad.ensures.ends in
+    let bad = named_bad rule ends.verdict c.in_ok-bad.bad ends.named (sym c.is_some.ensures ∙ c.if-is_some.true) in
+    subst (HasRun g.R.Runner.next all (files_beside c.args.self.now.owned (g.S.Site.world c.args.site.now).tree) (g.S.Site.world c.take.new.site).tree) (sym bad.0)
+    (first_bad g.R.Runner.next all (files_beside c.args.self.now.owned (g.S.Site.world c.args.site.now).tree) c.loop.counter c.loop.ended (g.S.Site.world c.loop.site).tree (c.loop.invariant.builds tells means) at rule within ready here (make_apart _ all (c.requires.runnable tells).buildable) _ ends.verdict (ends.left tells means) c.loop.invariant.has.good bad.1 (name_of rule) refl)
+
+pub returns-then-is_some-clause-in_turn : goal.returns-then-is_some-clause-in_turn
+returns-then-is_some-clause-in_turn g c = λ tells.
+    let all = c.args.self.now.rules in
+    let verdicts = verdicts_of all c.loop.ended in
+    let at = c.in-Some.at in
+    let next = c.in-Some.ensures all (is_left verdicts) (good_at verdicts) c.loop.invariant.queued.waiting in
+    let taken = taken_at all verdicts at _ next in
+    let ready = ready_is all verdicts at _ next c.loop.queue c.loop.invariant.queued in
+    let rule = c.index-rules-at.result in
+    let here = rule_here all c.as_slice-rules.result.now at rule c.as_slice-rules.ensures taken.rule taken.here c.index-rules-at.is in
+    let ends = c.in_ok-bad.ensures.ends in
+    let bad = named_bad rule ends.verdict c.in_ok-bad.bad ends.named (sym c.is_some.ensures ∙ c.if-is_some.true) in
+    subst (λ o. TurnsFit all c.take.new.ran c.take.new.ended (comes_to (Ok o))) (sym bad.0)
+    (turned_bad all c.loop.counter c.loop.ran c.loop.ended c.loop.invariant.has at rule ready here ends.verdict c.take.new.ran c.take.new.ended (name_of rule) c.in_ok-bad.ensures.begins ends.noted bad.1 refl)
 
 pub returns-then-is_some-clause-noted : goal.returns-then-is_some-clause-noted
 returns-then-is_some-clause-noted g c = λ tells means.
-    let here = rule_here c.args.self.now.rules _ c.loop-rule.rule-index c.rule-item.result c.as_slice-rule-items.ensures c.loop-rule-test.true c.rule-item.is in
-    noted_bad g.R.Runner.next c.loop-rule.rule-index c.args.self.now.owned c.args.self.now.rules (g.S.Site.world c.args.site.now).tree _ c.rule-item.result c.in_ok-verdict.verdict (c.requires.runnable tells) here
-    (c.loop-rule.invariant.carries tells means) (c.in_ok-verdict.ensures.leaves tells means).is
-    (named_bad c.rule-item.result c.in_ok-verdict.verdict c.in_ok-bad.bad c.in_ok-bad.ensures.bad (sym c.is_some.ensures ∙ c.if-is_some.true)).1 _ _
-    (begun_more c.args.self.now.rules c.loop-rule.rule-index c.rule-item.result _ _ here c.loop-rule.invariant.begun c.in_ok-begin.ensures.noted)
-    (noted_more c.loop-rule.rule-index c.in_ok-verdict.verdict _ _ c.loop-rule.invariant.noted c.in_ok-bad.ensures.noted)
+    let all = c.args.self.now.rules in
+    let verdicts = verdicts_of all c.loop.ended in
+    let at = c.in-Some.at in
+    let next = c.in-Some.ensures all (is_left verdicts) (good_at verdicts) c.loop.invariant.queued.waiting in
+    let taken = taken_at all verdicts at _ next in
+    let ready = ready_is all verdicts at _ next c.loop.queue c.loop.invariant.queued in
+    let rule = c.index-rules-at.result in
+    let here = rule_here all c.as_slice-rules.result.now at rule c.as_slice-rules.ensures taken.rule taken.here c.index-rules-at.is in
+    let within = subst (λ (l : List Rule). c.loop.counter < length l) c.as_slice-rules.ensures c.loop-test.true in
+    let ends = c.in_ok-bad.ensures.ends in
+    let bad = named_bad rule ends.verdict c.in_ok-bad.bad ends.named (sym c.is_some.ensures ∙ c.if-is_some.true) in
+    noted_bad g.R.Runner.next all (files_beside c.args.self.now.owned (g.S.Site.world c.args.site.now).tree) c.loop.counter c.loop.ended (g.S.Site.world c.loop.site).tree (c.loop.invariant.builds tells means) at rule within ready here (make_apart _ all (c.requires.runnable tells).buildable) _ ends.verdict (ends.left tells means) c.loop.invariant.has.good bad.1 c.loop.ran c.take.new.ran c.take.new.ended c.loop.invariant.has.begun c.in_ok-bad.ensures.begins ends.noted
 
 pub returns-then-is_some-clause-part : goal.returns-then-is_some-clause-part
 returns-then-is_some-clause-part g c = λ tells means.
-    let here = rule_here c.args.self.now.rules _ c.loop-rule.rule-index c.rule-item.result c.as_slice-rule-items.ensures c.loop-rule-test.true c.rule-item.is in
-    noted_part c.args.self.now.rules (build_beside g.R.Runner.next c.args.self.now.owned c.args.self.now.rules (g.S.Site.world c.args.site.now).tree) _ _
-    (noted_bad g.R.Runner.next c.loop-rule.rule-index c.args.self.now.owned c.args.self.now.rules (g.S.Site.world c.args.site.now).tree _ c.rule-item.result c.in_ok-verdict.verdict (c.requires.runnable tells) here
-    (c.loop-rule.invariant.carries tells means) (c.in_ok-verdict.ensures.leaves tells means).is
-    (named_bad c.rule-item.result c.in_ok-verdict.verdict c.in_ok-bad.bad c.in_ok-bad.ensures.bad (sym c.is_some.ensures ∙ c.if-is_some.true)).1 _ _
-    (begun_more c.args.self.now.rules c.loop-rule.rule-index c.rule-item.result _ _ here c.loop-rule.invariant.begun c.in_ok-begin.ensures.noted)
-    (noted_more c.loop-rule.rule-index c.in_ok-verdict.verdict _ _ c.loop-rule.invariant.noted c.in_ok-bad.ensures.noted))
+    let all = c.args.self.now.rules in
+    let verdicts = verdicts_of all c.loop.ended in
+    let at = c.in-Some.at in
+    let next = c.in-Some.ensures all (is_left verdicts) (good_at verdicts) c.loop.invariant.queued.waiting in
+    let taken = taken_at all verdicts at _ next in
+    let ready = ready_is all verdicts at _ next c.loop.queue c.loop.invariant.queued in
+    let rule = c.index-rules-at.result in
+    let here = rule_here all c.as_slice-rules.result.now at rule c.as_slice-rules.ensures taken.rule taken.here c.index-rules-at.is in
+    let within = subst (λ (l : List Rule). c.loop.counter < length l) c.as_slice-rules.ensures c.loop-test.true in
+    let ends = c.in_ok-bad.ensures.ends in
+    let bad = named_bad rule ends.verdict c.in_ok-bad.bad ends.named (sym c.is_some.ensures ∙ c.if-is_some.true) in
+    noted_part all (up_to_bad (takes g.R.Runner.next all (files_beside c.args.self.now.owned (g.S.Site.world c.args.site.now).tree))) c.take.new.ran c.take.new.ended
+    (noted_bad g.R.Runner.next all (files_beside c.args.self.now.owned (g.S.Site.world c.args.site.now).tree) c.loop.counter c.loop.ended (g.S.Site.world c.loop.site).tree (c.loop.invariant.builds tells means) at rule within ready here (make_apart _ all (c.requires.runnable tells).buildable) _ ends.verdict (ends.left tells means) c.loop.invariant.has.good bad.1 c.loop.ran c.take.new.ran c.take.new.ended c.loop.invariant.has.begun c.in_ok-bad.ensures.begins ends.noted)
 
 pub returns-then-is_some-clause-ran : goal.returns-then-is_some-clause-ran
 returns-then-is_some-clause-ran g c = λ tells.
-    ran_more (name_of c.rule-item.result) _ _ _ _ _ (c.loop-rule.invariant.runs tells) c.in_ok-begin.ensures.noted (c.in_ok-verdict.ensures.ran tells)
+    subst (λ r. RunsThese c.take.new.ran (g.R.Runner.ran c.args.runner.now) (g.R.Runner.ran c.take.new.runner) (stopped_by r)) c.in_ok-bad.was (c.take.ensures.ran tells (g.R.Runner.ran c.args.runner.now) (c.loop.invariant.runs tells))
 
--- ---- a good rule, and the end
+-- ---- a good rule
 
-pub loop-rule-preserved : goal.loop-rule-preserved
-loop-rule-preserved g c =
-    let at = c.loop-rule.rule-index in
-    let rules = c.args.self.now.rules in
-    let next : suc at ≡ at + 1 = omega arith in
-    let here = rule_here rules _ at c.rule-item.result c.as_slice-rule-items.ensures c.loop-rule-test.true c.rule-item.is in
-    let good = unnamed_good c.rule-item.result c.in_ok-verdict.verdict c.in_ok-bad.bad c.in_ok-bad.ensures.bad (sym c.is_some.ensures ∙ c.if-is_some.false) in
+pub returns-in_err-note-clause-others : goal.returns-in_err-note-clause-others
+returns-in_err-note-clause-others g c = λ tells.
+    let all = c.args.self.now.rules in
+    let verdicts = verdicts_of all c.loop.ended in
+    let at = c.in-Some.at in
+    let next = c.in-Some.ensures all (is_left verdicts) (good_at verdicts) c.loop.invariant.queued.waiting in
+    let taken = taken_at all verdicts at _ next in
+    let rule = c.index-rules-at.result in
+    let here = rule_here all c.as_slice-rules.result.now at rule c.as_slice-rules.ensures taken.rule taken.here c.index-rules-at.is in
+    beside_all all at rule _ _ _ here (c.loop.invariant.others tells) (c.take.ensures.others tells)
+
+pub returns-in_err-note-clause-in_turn : goal.returns-in_err-note-clause-in_turn
+returns-in_err-note-clause-in_turn g c = λ tells.
+    let all = c.args.self.now.rules in
+    let verdicts = verdicts_of all c.loop.ended in
+    let at = c.in-Some.at in
+    let next = c.in-Some.ensures all (is_left verdicts) (good_at verdicts) c.loop.invariant.queued.waiting in
+    let taken = taken_at all verdicts at _ next in
+    let ready = ready_is all verdicts at _ next c.loop.queue c.loop.invariant.queued in
+    let rule = c.index-rules-at.result in
+    let here = rule_here all c.as_slice-rules.result.now at rule c.as_slice-rules.ensures taken.rule taken.here c.index-rules-at.is in
+    let ends = c.in_ok-bad.ensures.ends in
+    let good = unnamed_good rule ends.verdict c.in_ok-bad.bad ends.named (sym c.is_some.ensures ∙ c.if-is_some.false) in
+    let is = ap (λ (v : Verdict). is_good (Some v)) good in
+    let has = taken_next all c.loop.counter c.loop.ran c.loop.ended c.loop.invariant.has at rule ready here ends.verdict c.take.new.ran c.take.new.ended c.in_ok-bad.ensures.begins ends.noted is in
+    subst (TurnsFit all c.take.new.ran c.take.new.ended) (comes_err c.from_residual-in_err-note.result _ c.from_residual-in_err-note.ensures.1)
+    (turned_halted all (c.loop.counter + 1) c.take.new.ran c.take.new.ended has (Halted Memory) c.take.new.ran (inl has.begun))
+
+pub returns-in_err-note-clause-part : goal.returns-in_err-note-clause-part
+returns-in_err-note-clause-part g c = λ tells means.
+    let all = c.args.self.now.rules in
+    let verdicts = verdicts_of all c.loop.ended in
+    let at = c.in-Some.at in
+    let next = c.in-Some.ensures all (is_left verdicts) (good_at verdicts) c.loop.invariant.queued.waiting in
+    let taken = taken_at all verdicts at _ next in
+    let ready = ready_is all verdicts at _ next c.loop.queue c.loop.invariant.queued in
+    let rule = c.index-rules-at.result in
+    let here = rule_here all c.as_slice-rules.result.now at rule c.as_slice-rules.ensures taken.rule taken.here c.index-rules-at.is in
+    let within = subst (λ (l : List Rule). c.loop.counter < length l) c.as_slice-rules.ensures c.loop-test.true in
+    let ends = c.in_ok-bad.ensures.ends in
+    let good = unnamed_good rule ends.verdict c.in_ok-bad.bad ends.named (sym c.is_some.ensures ∙ c.if-is_some.false) in
+    let is = ap (λ (v : Verdict). is_good (Some v)) good in
+    let has = taken_next all c.loop.counter c.loop.ran c.loop.ended c.loop.invariant.has at rule ready here ends.verdict c.take.new.ran c.take.new.ended c.in_ok-bad.ensures.begins ends.noted is in
+    ended_front g.R.Runner.next all (files_beside c.args.self.now.owned (g.S.Site.world c.args.site.now).tree) (c.loop.counter + 1) c.take.new.ended (g.S.Site.world c.take.new.site).tree
+    (building_next g.R.Runner.next all (files_beside c.args.self.now.owned (g.S.Site.world c.args.site.now).tree) c.loop.counter c.loop.ended (g.S.Site.world c.loop.site).tree (c.loop.invariant.builds tells means) at rule within ready here (make_apart _ all (c.requires.runnable tells).buildable) _ ends.verdict (ends.left tells means) c.take.new.ended ends.noted good) has.good c.take.new.ran has.begun
+
+pub returns-in_err-note-clause-ran : goal.returns-in_err-note-clause-ran
+returns-in_err-note-clause-ran g c = λ tells.
+    ran_all_of _ _ _ _ (subst (λ r. RunsThese c.take.new.ran (g.R.Runner.ran c.args.runner.now) (g.R.Runner.ran c.take.new.runner) (stopped_by r)) c.in_ok-bad.was (c.take.ensures.ran tells (g.R.Runner.ran c.args.runner.now) (c.loop.invariant.runs tells)))
+
+pub loop-preserved : goal.loop-preserved
+loop-preserved g c =
+    let all = c.args.self.now.rules in
+    let verdicts = verdicts_of all c.loop.ended in
+    let at = c.in-Some.at in
+    let next = c.in-Some.ensures all (is_left verdicts) (good_at verdicts) c.loop.invariant.queued.waiting in
+    let taken = taken_at all verdicts at _ next in
+    let ready = ready_is all verdicts at _ next c.loop.queue c.loop.invariant.queued in
+    let rule = c.index-rules-at.result in
+    let here = rule_here all c.as_slice-rules.result.now at rule c.as_slice-rules.ensures taken.rule taken.here c.index-rules-at.is in
+    let within = subst (λ (l : List Rule). c.loop.counter < length l) c.as_slice-rules.ensures c.loop-test.true in
+    let ends = c.in_ok-bad.ensures.ends in
+    let good = unnamed_good rule ends.verdict c.in_ok-bad.bad ends.named (sym c.is_some.ensures ∙ c.if-is_some.false) in
+    let is = ap (λ (v : Verdict). is_good (Some v)) good in
     record {
-      begun = begun_more rules at c.rule-item.result _ _ here c.loop-rule.invariant.begun c.in_ok-begin.ensures.noted;
-      noted = noted_more at c.in_ok-verdict.verdict _ _ c.loop-rule.invariant.noted c.in_ok-bad.ensures.noted
-          ∙ ap (λ (v : Verdict). replicate at Good ++ v ∷ []) good ∙ replicate_more at Good;
-      carries = λ tells means. subst (λ (n : ℕ). CarriesOn g.R.Runner.next n rules (files_beside c.args.self.now.owned (g.S.Site.world c.args.site.now).tree) (g.S.Site.world c.run_rule.new.site).tree) next
-          (carried_on g.R.Runner.next at rules _ _ _ c.rule-item.result c.in_ok-verdict.verdict (c.requires.runnable tells).buildable here
-          (c.loop-rule.invariant.carries tells means) (c.in_ok-verdict.ensures.leaves tells means) good);
-      others = λ tells. beside_all rules at c.rule-item.result _ _ _ here (c.loop-rule.invariant.others tells) (c.run_rule.ensures.others tells);
-      store = λ tells. c.run_rule.ensures.store tells ∙ c.loop-rule.invariant.store tells;
-      runs = λ tells. ran_more (name_of c.rule-item.result) _ _ _ _ _ (c.loop-rule.invariant.runs tells) c.in_ok-begin.ensures.noted (c.in_ok-verdict.ensures.ran tells);
-      counted = c.run_rule.ensures.cause.steady (λ e. cc (c.in_ok-verdict.was, e)) ∙ c.loop-rule.invariant.counted;
-      counted_runs = c.in_ok-verdict.ensures.run_cause ∙ c.loop-rule.invariant.counted_runs;
+      queued = subst (λ v. IsQueued all v c.note.new.self) (sym (verdicts_of_more all c.loop.ended at ends.verdict c.take.new.ended ends.noted))
+          (queued_more all verdicts at _ next rule ends.verdict c.loop.queue c.note.new.self c.loop.invariant.queued here (notes_of at ends.verdict _ _ good c.in_ok-note.ensures));
+      has = taken_next all c.loop.counter c.loop.ran c.loop.ended c.loop.invariant.has at rule ready here ends.verdict c.take.new.ran c.take.new.ended c.in_ok-bad.ensures.begins ends.noted is;
+      builds = λ tells means. building_next g.R.Runner.next all (files_beside c.args.self.now.owned (g.S.Site.world c.args.site.now).tree) c.loop.counter c.loop.ended (g.S.Site.world c.loop.site).tree (c.loop.invariant.builds tells means) at rule within ready here (make_apart _ all (c.requires.runnable tells).buildable) _ ends.verdict (ends.left tells means) c.take.new.ended ends.noted good;
+      others = λ tells. beside_all all at rule _ _ _ here (c.loop.invariant.others tells) (c.take.ensures.others tells);
+      store = λ tells. c.take.ensures.store tells ∙ c.loop.invariant.store tells;
+      runs = λ tells. subst (λ r. RunsThese c.take.new.ran (g.R.Runner.ran c.args.runner.now) (g.R.Runner.ran c.take.new.runner) (stopped_by r)) c.in_ok-bad.was (c.take.ensures.ran tells (g.R.Runner.ran c.args.runner.now) (c.loop.invariant.runs tells));
+      counted = c.take.ensures.cause.steady (λ e. cc (c.in_ok-bad.was, e)) ∙ c.loop.invariant.counted;
+      counted_runs = c.in_ok-bad.ensures.run_cause ∙ c.loop.invariant.counted_runs;
     }
+
+-- ---- all were run
+
+pub returns-in_default-clause-in_turn : goal.returns-in_default-clause-in_turn
+returns-in_default-clause-in_turn g c = λ tells.
+    let all = c.args.self.now.rules in
+    let verdicts = verdicts_of all c.loop.ended in
+    let none = none_ready all verdicts c.loop.queue c.loop.queue c.loop.invariant.queued (c.in_default.ensures all (is_left verdicts) (good_at verdicts) c.loop.invariant.queued.waiting) in
+    turned_all all c.loop.counter c.loop.ran c.loop.ended c.loop.invariant.has (c.requires.runnable tells).buildable.none_waits none
+
+pub returns-in_default-clause-run : goal.returns-in_default-clause-run
+returns-in_default-clause-run g c = λ tells means.
+    let all = c.args.self.now.rules in
+    let verdicts = verdicts_of all c.loop.ended in
+    let none = none_ready all verdicts c.loop.queue c.loop.queue c.loop.invariant.queued (c.in_default.ensures all (is_left verdicts) (good_at verdicts) c.loop.invariant.queued.waiting) in
+    let done = turned_all all c.loop.counter c.loop.ran c.loop.ended c.loop.invariant.has (c.requires.runnable tells).buildable.none_waits none in
+    built_all g.R.Runner.next all (files_beside c.args.self.now.owned (g.S.Site.world c.args.site.now).tree) c.loop.counter c.loop.ended (g.S.Site.world c.loop.site).tree (c.loop.invariant.builds tells means) c.loop.invariant.has.good none done.2
+
+pub returns-in_default-clause-noted : goal.returns-in_default-clause-noted
+returns-in_default-clause-noted g c = λ tells means.
+    let all = c.args.self.now.rules in
+    let verdicts = verdicts_of all c.loop.ended in
+    let none = none_ready all verdicts c.loop.queue c.loop.queue c.loop.invariant.queued (c.in_default.ensures all (is_left verdicts) (good_at verdicts) c.loop.invariant.queued.waiting) in
+    noted_all g.R.Runner.next all (files_beside c.args.self.now.owned (g.S.Site.world c.args.site.now).tree) c.loop.counter c.loop.ended (g.S.Site.world c.loop.site).tree (c.loop.invariant.builds tells means) c.loop.invariant.has.good none c.loop.ran c.loop.invariant.has.begun
+
+pub returns-in_default-clause-part : goal.returns-in_default-clause-part
+returns-in_default-clause-part g c = λ tells means.
+    let all = c.args.self.now.rules in
+    ended_front g.R.Runner.next all (files_beside c.args.self.now.owned (g.S.Site.world c.args.site.now).tree) c.loop.counter c.loop.ended (g.S.Site.world c.loop.site).tree (c.loop.invariant.builds tells means) c.loop.invariant.has.good c.loop.ran c.loop.invariant.has.begun
+
+pub returns-in_default-clause-ran : goal.returns-in_default-clause-ran
+returns-in_default-clause-ran g c = λ tells. c.loop.invariant.runs tells
+
+pub returns-clause-in_turn : goal.returns-clause-in_turn
+returns-clause-in_turn g c = λ tells.
+    let all = c.args.self.now.rules in
+    let none = none_at_end all c.loop.counter c.loop.ran c.loop.ended c.loop.invariant.has (subst (λ (l : List Rule). length l ≤ c.loop.counter) c.as_slice-rules.ensures c.loop-test.false) in
+    turned_all all c.loop.counter c.loop.ran c.loop.ended c.loop.invariant.has (c.requires.runnable tells).buildable.none_waits none
 
 pub returns-clause-run : goal.returns-clause-run
 returns-clause-run g c = λ tells means.
-    let rules = c.args.self.now.rules in
-    let all : c.loop-rule.rule-index ≡ length rules = omega (arith, ap (λ (l : List Rule). length l) c.as_slice-rule-items.ensures) in
-    let run = subst (λ (n : ℕ). CarriesOn g.R.Runner.next n rules (files_beside c.args.self.now.owned (g.S.Site.world c.args.site.now).tree) (g.S.Site.world c.loop-rule.site).tree) all (c.loop-rule.invariant.carries tells means) in
-    record {
-      clean = clean_succeeds g.R.Runner.next rules _ (c.requires.runnable tells).buildable run.good;
-      files = clean_tree_of_good g.R.Runner.next rules _ _ (c.requires.runnable tells).buildable run.good run.agrees;
-    }
+    let all = c.args.self.now.rules in
+    let none = none_at_end all c.loop.counter c.loop.ran c.loop.ended c.loop.invariant.has (subst (λ (l : List Rule). length l ≤ c.loop.counter) c.as_slice-rules.ensures c.loop-test.false) in
+    let done = turned_all all c.loop.counter c.loop.ran c.loop.ended c.loop.invariant.has (c.requires.runnable tells).buildable.none_waits none in
+    built_all g.R.Runner.next all (files_beside c.args.self.now.owned (g.S.Site.world c.args.site.now).tree) c.loop.counter c.loop.ended (g.S.Site.world c.loop.site).tree (c.loop.invariant.builds tells means) c.loop.invariant.has.good none done.2
 
 pub returns-clause-noted : goal.returns-clause-noted
 returns-clause-noted g c = λ tells means.
-    let rules = c.args.self.now.rules in
-    let all : c.loop-rule.rule-index ≡ length rules = omega (arith, ap (λ (l : List Rule). length l) c.as_slice-rule-items.ensures) in
-    noted_whole g.R.Runner.next c.loop-rule.rule-index c.args.self.now.owned rules (g.S.Site.world c.args.site.now).tree _ all (c.requires.runnable tells) (c.loop-rule.invariant.carries tells means) _ _
-    c.loop-rule.invariant.begun c.loop-rule.invariant.noted
+    let all = c.args.self.now.rules in
+    let none = none_at_end all c.loop.counter c.loop.ran c.loop.ended c.loop.invariant.has (subst (λ (l : List Rule). length l ≤ c.loop.counter) c.as_slice-rules.ensures c.loop-test.false) in
+    noted_all g.R.Runner.next all (files_beside c.args.self.now.owned (g.S.Site.world c.args.site.now).tree) c.loop.counter c.loop.ended (g.S.Site.world c.loop.site).tree (c.loop.invariant.builds tells means) c.loop.invariant.has.good none c.loop.ran c.loop.invariant.has.begun
 
 pub returns-clause-part : goal.returns-clause-part
 returns-clause-part g c = λ tells means.
-    let rules = c.args.self.now.rules in
-    let all : c.loop-rule.rule-index ≡ length rules = omega (arith, ap (λ (l : List Rule). length l) c.as_slice-rule-items.ensures) in
-    noted_part c.args.self.now.rules (build_beside g.R.Runner.next c.args.self.now.owned c.args.self.now.rules (g.S.Site.world c.args.site.now).tree) _ _
-    (noted_whole g.R.Runner.next c.loop-rule.rule-index c.args.self.now.owned rules (g.S.Site.world c.args.site.now).tree _ all (c.requires.runnable tells) (c.loop-rule.invariant.carries tells means) _ _
-    c.loop-rule.invariant.begun c.loop-rule.invariant.noted)
+    let all = c.args.self.now.rules in
+    ended_front g.R.Runner.next all (files_beside c.args.self.now.owned (g.S.Site.world c.args.site.now).tree) c.loop.counter c.loop.ended (g.S.Site.world c.loop.site).tree (c.loop.invariant.builds tells means) c.loop.invariant.has.good c.loop.ran c.loop.invariant.has.begun
 
 pub returns-clause-ran : goal.returns-clause-ran
-returns-clause-ran g c = λ tells. c.loop-rule.invariant.runs tells
+returns-clause-ran g c = λ tells. c.loop.invariant.runs tells

@@ -1,0 +1,11 @@
+//! The program's own folder, `.tup`, and the store in it: the file `.tup/db`.
+//!
+//! What is proved is safety, and that after a failed sync no later one succeeds; what the system
+//! does is tested.
+#![tactic(auto)]
+
+mod own;
+mod store;
+
+pub use own::Own;
+pub use store::Store;

@@ -1,0 +1,178 @@
+//! The store's file. What isn't synced yet stands in a file beside it, which `sync` makes durable
+//! and puts into its place: so whatever stops the program, the store is the old one or the new one,
+//! whole.
+ghost use Rattle.std.specs.Prelude.{◌≡◌, false, IfOk, OnErr, IsErr, IsTrue};
+
+use crate::own::Own;
+use std::alloc::{AllocError, Global};
+use std::fs::{File, OpenOptions};
+use std::os::unix::fs::FileExt;
+use std::rt::Files;
+use std::{fs, io};
+use tup_disk::{Disk, Refused, Standing};
+
+/// The store as this process sees it.
+#[derive(Drop)]
+pub struct Store<R: Files<File = File> + Clone + Drop> {
+    disk: Disk<R>,
+    pub own: Own,
+    aside: Option<File>,
+    is_lost: bool,
+    was_synced: bool,
+}
+
+impl<R: Files<File = File> + Clone + Drop> Store<R> {
+    /// The store below a folder, of which no sync has failed.
+    pub fn new(rt: R, alloc: Global, root: &str) -> Result<Store<R>, AllocError>
+        ensures { IfOk result (λ store. store.is_lost ≡ false) }
+    {
+        Ok(Store {
+            disk: Disk::new(rt, alloc, root)?,
+            own: Own::new(alloc, root)?,
+            aside: None,
+            is_lost: false,
+            was_synced: false,
+        })
+    }
+
+    /// The length of the store; 0 where there is none.
+    pub fn len(&self) -> Result<u64, Refused> {
+        match &self.aside {
+            Some(file) => self.aside_len(file),
+            None => Ok(self.stored_len()?.unwrap_or(0)),
+        }
+    }
+
+    fn aside_len(&self, file: &File) -> Result<u64, Refused> {
+        let aside = self.own.aside.as_str();
+        Ok(self.disk.at(aside, file.metadata())?.len())
+    }
+
+    /// Fills the buffer from a place on.
+    pub fn read(&self, at: u64, into: &mut [u8]) -> Result<(), Refused> {
+        match &self.aside {
+            Some(file) => {
+                let done = file.read_exact_at(into, at);
+                self.disk.at(self.own.aside.as_str(), done)
+            }
+            None => self.read_stored(at, into),
+        }
+    }
+
+    /// Writes from a place on.
+    pub fn write(&mut self, at: u64, bytes: &[u8]) -> Result<(), Refused>
+        ensures { self.new.is_lost ≡ self.old.is_lost }
+    {
+        let file = self.take_aside()?;
+        let done = file.write_all_at(bytes, at);
+        self.aside = Some(file);
+        self.disk.at(self.own.aside.as_str(), done)
+    }
+
+    /// Cuts the store; one that is no longer stays.
+    pub fn cut(&mut self, to: u64) -> Result<(), Refused>
+        ensures { self.new.is_lost ≡ self.old.is_lost }
+    {
+        if self.len()? <= to {
+            return Ok(());
+        }
+        let file = self.take_aside()?;
+        let done = file.set_len(to);
+        self.aside = Some(file);
+        self.disk.at(self.own.aside.as_str(), done)
+    }
+
+    /// Makes durable what was written and cut. The system tells a lost write but once: so after a
+    /// failure no later sync succeeds.
+    pub fn sync(&mut self) -> Result<(), Refused>
+        ensures lost { OnErr result (IsTrue self.new.is_lost) }
+        ensures for_good { IsTrue self.old.is_lost → IsErr result }
+    {
+        if self.is_lost {
+            return Err(self.disk.lost(self.own.store.as_str()));
+        }
+        self.is_lost = true;
+        self.put_into_place()?;
+        self.aside = None;
+        self.sync_folders()?;
+        self.was_synced = true;
+        self.is_lost = false;
+        Ok(())
+    }
+
+    // Syncs the bytes of the store; those that were written aside take its place.
+    fn put_into_place(&self) -> Result<(), Refused> {
+        match &self.aside {
+            Some(file) => self.rename(file),
+            None => self.disk.sync(self.own.store.as_str()),
+        }
+    }
+
+    fn rename(&self, file: &File) -> Result<(), Refused> {
+        let (store, aside) = (self.own.store.as_str(), self.own.aside.as_str());
+        self.disk.at(aside, file.sync_all())?;
+        self.disk.at(store, fs::rename(&self.disk.rt, aside, store))
+    }
+
+    // The first sync of a process makes the own folder durable too, whoever made it.
+    fn sync_folders(&self) -> Result<(), Refused> {
+        self.disk.sync(self.own.folder.as_str())?;
+        if self.was_synced {
+            return Ok(());
+        }
+        self.disk.sync(self.disk.root())
+    }
+
+    // The length of the store's file. Anything else that stands in its place is a failure.
+    fn stored_len(&self) -> Result<Option<u64>, Refused> {
+        let store = self.own.store.as_str();
+        match self.disk.standing(store)? {
+            Standing::File(len) => Ok(Some(len)),
+            Standing::Nothing => Ok(None),
+            _ => Err(self.disk.in_the_way(store)),
+        }
+    }
+
+    fn read_stored(&self, at: u64, into: &mut [u8]) -> Result<(), Refused> {
+        if self.stored_len()?.is_none() && into.is_empty() {
+            return Ok(());
+        }
+        let store = self.own.store.as_str();
+        let file = self.disk.at(store, File::open(&self.disk.rt, store))?;
+        self.disk.at(store, file.read_exact_at(into, at))
+    }
+
+    // The file aside, begun as a copy of the store where there is none yet.
+    fn take_aside(&mut self) -> Result<File, Refused>
+        ensures { self.new.is_lost ≡ self.old.is_lost }
+    {
+        match self.aside.take() {
+            Some(file) => Ok(file),
+            None => self.open_aside(),
+        }
+    }
+
+    fn open_aside(&mut self) -> Result<File, Refused>
+        ensures { self.new.is_lost ≡ self.old.is_lost }
+    {
+        self.own.make(&mut self.disk)?;
+        let is_there = self.stored_len()?.is_some();
+        let opened = self.copy_aside(is_there);
+        if opened.is_err() {
+            let _ = fs::remove_file(&self.disk.rt, self.own.aside.as_str());
+        }
+        self.disk.at(self.own.aside.as_str(), opened)
+    }
+
+    fn copy_aside(&self, is_there: bool) -> io::Result<File> {
+        let aside = self.own.aside.as_str();
+        if is_there {
+            fs::copy(&self.disk.rt, self.own.store.as_str(), aside)?;
+        }
+        OpenOptions::new()
+            .read(true)
+            .write(true)
+            .create(true)
+            .open(&self.disk.rt, aside)
+    }
+}

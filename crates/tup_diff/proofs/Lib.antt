@@ -1,0 +1,13 @@
+pub mod Sets
+pub mod Stamped
+pub mod Paths
+pub mod Indexed
+pub mod Ordered
+pub mod Named
+pub mod Answered
+pub mod Staled
+pub mod Editing
+pub mod Noting
+pub mod Rooted
+pub mod Founding
+pub mod Scanned

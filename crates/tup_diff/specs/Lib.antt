@@ -1,0 +1,9 @@
+pub mod Sets
+pub mod Present
+pub mod Settings
+pub mod Index
+pub mod Names
+pub mod Told
+pub mod Stale
+pub mod Edits
+pub mod Touched

@@ -1,0 +1,27 @@
+//! What a scan changes.
+ghost use Rattle.std.specs.Prelude.{◌≡◌, IfOk, IfErr};
+ghost use Rattle.tup_above.specs.Readers.{AreRunsOfRules};
+ghost use Rattle.tup_diff.specs.Edits.{AreScanEdits};
+
+use crate::present::Present;
+use std::alloc::Global;
+use tup_graph::{Edits, GraphFault, Nodes};
+use tup_scan::Seen;
+
+/// What taking note of a scan does to a graph: files are seen with the stamps that the scan found, and no others are;
+/// rules that recorded reads lead to from one that is flagged, or whose run asked (own outputs aside) or wrote another
+/// content, are to be run; and folders are to be read that have a Tupfile and no reading, or a reading and no Tupfile, or
+/// whose reading was told what isn't so any more. What tup.config sets is read in the one that the scan found, and where
+/// that has a fault each folder that asked it is to be read.
+///
+/// Of each key there is one edit, and none that changes nothing.
+pub fn note_scan(alloc: Global, nodes: &Nodes, seen: &Seen) -> Result<Edits, GraphFault>
+    requires runs { AreRunsOfRules nodes.now }
+    ensures edits { IfOk result (AreScanEdits nodes.now seen.now.files seen.now.config) }
+    ensures memory { IfErr result (λ fault. fault ≡ GraphFault.Memory) }
+{
+    let present = Present::new(alloc, nodes, seen)?;
+    let dirs = present.stale(alloc)?;
+    let numbers = present.to_run(alloc)?;
+    present.edits(alloc, &dirs, numbers.as_slice())
+}

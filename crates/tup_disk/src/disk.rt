@@ -1,0 +1,123 @@
+//! The folder below which all lies, and the places there.
+ghost use Rattle.std.specs.Prelude.{◌≡◌, ◌-◌, length, take, map, IfOk, string_bytes};
+ghost use Rattle.tup_disk.specs.Place.{place_of, places_to};
+ghost use Rattle.tup_disk.specs.Told.{IsTold, IsFailure};
+
+use crate::failure::{Failure, Refused};
+use std::alloc::{AllocError, Global};
+use std::collections::BTreeSet;
+use std::fs::{File, TryLockError};
+use std::io;
+use std::rt::Files;
+use tup_path::{Path, Text};
+
+/// The folder below which all lies and the way to it, and the folders that were seen there.
+#[derive(Drop)]
+pub struct Disk<R: Files<File = File> + Clone + Drop> {
+    pub rt: R,
+    pub alloc: Global,
+    root: String,
+    pub(crate) folders: BTreeSet<String>,
+}
+
+impl<R: Files<File = File> + Clone + Drop> Disk<R> {
+    /// The files below this folder. It touches nothing yet.
+    pub fn new(rt: R, alloc: Global, root: &str) -> Result<Disk<R>, AllocError>
+        ensures { IfOk result (λ disk. string_bytes disk.root ≡ root.now) }
+    {
+        Ok(Disk {
+            rt,
+            alloc,
+            root: String::from_str(alloc, root)?,
+            folders: BTreeSet::new(alloc),
+        })
+    }
+
+    /// The place of the folder below which all lies.
+    pub fn root(&self) -> &str
+        ensures { result.now ≡ string_bytes self.now.root }
+    {
+        self.root.as_str()
+    }
+
+    /// The place of these names, as the system names it.
+    pub fn place(&self, names: &[Text]) -> Result<String, AllocError>
+        ensures { IfOk result
+            (λ place. string_bytes place ≡ place_of (string_bytes self.now.root) names.now) }
+    {
+        let mut place = String::from_str(self.alloc, self.root.as_str())?;
+        for name in names {
+            place.push('/')?;
+            place.push_str(name.as_str())?;
+        }
+        Ok(place)
+    }
+
+    /// The places of the folders above a path, from the top down, without the top itself.
+    pub fn folders_above(&self, path: &Path) -> Result<Vec<String>, AllocError>
+        ensures { IfOk result (λ folders. map string_bytes folders.items
+            ≡ places_to (string_bytes self.now.root) (take (length path.now - 1) path.now)) }
+    {
+        let mut folders = Vec::new(self.alloc);
+        for last in 0..path.depth().saturating_sub(1) {
+            folders.push(self.place(&path.names()[..=last])?)?;
+        }
+        Ok(folders)
+    }
+
+    /// The place of the folder that a path is in.
+    pub fn folder_of(&self, path: &Path) -> Result<String, AllocError>
+        ensures { IfOk result (λ place. string_bytes place
+            ≡ place_of (string_bytes self.now.root) (take (length path.now - 1) path.now)) }
+    {
+        let depth = path.depth().saturating_sub(1);
+        self.place(&path.names()[..depth])
+    }
+
+    /// The lock on the top folder, held as long as the file is. Where the file system knows no
+    /// locks nothing keeps another process away.
+    pub fn lock(&self) -> Result<File, Refused> {
+        let root = self.root.as_str();
+        let file = self.at(root, File::open(&self.rt, root))?;
+        match file.try_lock() {
+            Err(TryLockError::WouldBlock) => {
+                Err(self.refused(root, io::Error::other("another tup is at work here")))
+            }
+            _ => Ok(file),
+        }
+    }
+
+    /// An answer of the system, with its place if it is a failure.
+    pub fn at<T>(&self, place: &str, answer: io::Result<T>) -> Result<T, Refused>
+        ensures { IsTold place.now answer result }
+    {
+        match answer {
+            Ok(value) => Ok(value),
+            Err(error) => Err(self.refused(place, error)),
+        }
+    }
+
+    /// A failure at a place; where there is no memory for the place, it isn't named.
+    pub fn refused(&self, place: &str, error: io::Error) -> Refused
+        ensures { IsFailure place.now error result }
+    {
+        let place = match String::from_str(self.alloc, place) {
+            Ok(place) => place,
+            Err(_) => String::new(self.alloc),
+        };
+        Refused::Failed(Failure { place, error })
+    }
+
+    /// The failure that something stands here which is neither a file nor a folder of the project.
+    pub fn in_the_way(&self, place: &str) -> Refused {
+        self.refused(
+            place,
+            io::Error::other("a link or a special file stands here"),
+        )
+    }
+
+    /// The failure of every sync after one that failed.
+    pub fn lost(&self, place: &str) -> Refused {
+        self.refused(place, io::Error::other("an earlier write was lost"))
+    }
+}

@@ -1,0 +1,15 @@
+//! The real files below a folder: their places, what stands there, and all of them in order.
+//!
+//! The files are the regular files all of whose names are visible, at most 32 names deep. No link
+//! is followed. What is proved is which place belongs to which path, that the files come in order,
+//! and that each refusal of the system is told as such; what stands on the disk no clause says.
+#![tactic(auto)]
+
+mod disk;
+mod failure;
+mod listing;
+mod standing;
+
+pub use disk::Disk;
+pub use failure::{Failure, Refused};
+pub use standing::{Standing, is_absence};

@@ -1,0 +1,117 @@
+//! All files below the folder.
+ghost use Rattle.std.specs.Prelude.{IfOk};
+ghost use Rattle.std.specs.List.Sorted.{IsSorted};
+ghost use Rattle.tup_path.specs.Order.{by_names};
+
+use crate::disk::Disk;
+use crate::failure::Refused;
+use crate::standing::Standing;
+use std::alloc::Global;
+use std::fs::{DirEntry, File};
+use std::io::ErrorKind;
+use std::rt::Files;
+use std::{fs, io};
+use tup_path::{MAX_DEPTH, Path, PathFault, Text};
+
+/// The files that were found, and the folders that are to be looked into.
+#[derive(Drop)]
+struct Found {
+    files: Vec<Path>,
+    folders: Vec<Path>,
+}
+
+impl<R: Files<File = File> + Clone + Drop> Disk<R> {
+    /// The regular files below the top whose names are all visible, in the order of paths.
+    pub fn files(&mut self) -> Result<Vec<Path>, Refused>
+        ensures { IfOk result (λ files. IsSorted by_names files.items) }
+    {
+        let mut files = self.walk()?.files;
+        files.sort()?;
+        Ok(files)
+    }
+
+    // From the top down, one folder after another.
+    fn walk(&mut self) -> Result<Found, Refused> {
+        let mut found = Found {
+            files: Vec::new(self.alloc),
+            folders: vec![in self.alloc; Path::top(self.alloc)]?,
+        };
+        for _ in 0..u64::MAX {
+            let Some(folder) = found.folders.pop() else {
+                break;
+            };
+            self.look_in(&folder, &mut found)?;
+        }
+        Ok(found)
+    }
+
+    // Sorts in what stands in a folder.
+    fn look_in(&mut self, folder: &Path, found: &mut Found) -> Result<(), Refused> {
+        let place = self.place(folder.names())?;
+        for name in self.names_in(place.as_str())? {
+            self.sort_in(folder, &name, found)?;
+        }
+        self.folders.insert(place)?;
+        Ok(())
+    }
+
+    // Sorts in what stands in a folder under a name, if that is visible and not too deep.
+    fn sort_in(&self, folder: &Path, name: &Text, found: &mut Found) -> Result<(), Refused> {
+        match folder.join(self.alloc, name) {
+            Ok(path) => self.sort(path, name, found),
+            Err(PathFault::Memory) => Err(Refused::Memory),
+            Err(_) => Ok(()),
+        }
+    }
+
+    fn sort(&self, path: Path, name: &Text, found: &mut Found) -> Result<(), Refused> {
+        let place = self.place(path.names())?;
+        match self.found_at(place.as_str())? {
+            Standing::File(_) => found.files.push(path)?,
+            Standing::Folder if path.depth() < MAX_DEPTH => found.folders.push(path)?,
+            Standing::Other if is_read_by_name(name) => {
+                return Err(self.in_the_way(place.as_str()));
+            }
+            _ => {}
+        }
+        Ok(())
+    }
+
+    // What stands where a name was found. What went meanwhile is passed over; where the place is too
+    // long for the system, that is a failure, as something stands there.
+    fn found_at(&self, place: &str) -> Result<Standing, Refused> {
+        match self.look(place) {
+            Err(e) if e.kind() == ErrorKind::NotFound => Ok(Standing::Nothing),
+            found => self.at(place, found),
+        }
+    }
+
+    /// The names in a folder; one that isn't a text is passed over.
+    pub fn names_in(&self, folder: &str) -> Result<Vec<Text>, Refused> {
+        let runtime = (self.rt.clone()?, self.alloc);
+        let mut names = Vec::new(self.alloc);
+        for entry in self.at(folder, fs::read_dir(&runtime, folder))? {
+            self.add_name(folder, &mut names, entry)?;
+        }
+        Ok(names)
+    }
+
+    fn add_name(
+        &self,
+        folder: &str,
+        names: &mut Vec<Text>,
+        entry: io::Result<DirEntry<(R, Global)>>,
+    ) -> Result<(), Refused> {
+        match entry {
+            Ok(entry) => names.push(Text::from_str(self.alloc, entry.file_name())?)?,
+            Err(e) if e.kind() == ErrorKind::InvalidFilename => {}
+            Err(e) => return Err(self.refused(folder, e)),
+        }
+        Ok(())
+    }
+}
+
+// Whether a file of this name says what is to be built: it isn't passed over in silence.
+fn is_read_by_name(name: &Text) -> bool {
+    matches!(name.as_str(), "Tupfile" | "Tuprules.tup" | "tup.config")
+}

@@ -1,0 +1,124 @@
+//! What stands at a place.
+ghost use Rattle.std.specs.Prelude.{◌≡◌, ◌⊎◌, ◌↔◌, IsTrue};
+ghost use Rattle.std.specs.declared.io.ErrorKind.TheVariants.{NotFound, NotADirectory, InvalidFilename};
+
+use crate::disk::Disk;
+use crate::failure::Refused;
+use std::fs::{File, Metadata};
+use std::io::ErrorKind;
+use std::rt::Files;
+use std::{fs, io};
+use tup_path::Path;
+
+/// What stands at a place. A link is `Other`, wherever it leads.
+#[derive(Clone, Copy, PartialEq, Eq)]
+pub enum Standing {
+    Nothing,
+    /// A regular file of so many bytes.
+    File(u64),
+    Folder,
+    Other,
+}
+
+impl<R: Files<File = File> + Clone + Drop> Disk<R> {
+    /// What stands at a place; no link is followed at its end. Where a name is longer than a name
+    /// may be nothing stands.
+    pub fn standing(&self, place: &str) -> Result<Standing, Refused> {
+        match self.look(place) {
+            Err(e) if is_absence(e.kind()) => Ok(Standing::Nothing),
+            found => self.at(place, found),
+        }
+    }
+
+    /// What stands at a place; it is a failure that nothing does.
+    pub(crate) fn look(&self, place: &str) -> io::Result<Standing> {
+        Ok(kind_of(&fs::symlink_metadata(&self.rt, place)?))
+    }
+
+    /// What stands above a path: a folder if all is, or else the first that is none. A folder that
+    /// was seen isn't looked at again.
+    pub fn standing_above(&mut self, path: &Path) -> Result<Standing, Refused> {
+        for folder in self.folders_above(path)? {
+            let standing = self.standing_of_folder(folder)?;
+            if standing != Standing::Folder {
+                return Ok(standing);
+            }
+        }
+        Ok(Standing::Folder)
+    }
+
+    // What stands where a folder is wanted. One that is there is noted.
+    fn standing_of_folder(&mut self, folder: String) -> Result<Standing, Refused> {
+        if self.folders.contains(&folder) {
+            return Ok(Standing::Folder);
+        }
+        let standing = self.standing(folder.as_str())?;
+        if standing == Standing::Folder {
+            self.folders.insert(folder)?;
+        }
+        Ok(standing)
+    }
+
+    /// Makes a folder unless there is one. All else that stands there is a failure.
+    pub fn make_folder(&mut self, folder: String) -> Result<(), Refused> {
+        if self.folders.contains(&folder) {
+            return Ok(());
+        }
+        self.make_unless_there(folder.as_str())?;
+        self.folders.insert(folder)?;
+        Ok(())
+    }
+
+    fn make_unless_there(&self, folder: &str) -> Result<(), Refused> {
+        match self.standing(folder)? {
+            Standing::Folder => Ok(()),
+            Standing::Nothing => self.at(folder, fs::create_dir(&self.rt, folder)),
+            _ => Err(self.in_the_way(folder)),
+        }
+    }
+
+    /// Removes a folder, which has to be empty.
+    pub fn remove_folder(&mut self, folder: &String) -> io::Result<()> {
+        self.folders.remove(folder);
+        fs::remove_dir(&self.rt, folder.as_str())
+    }
+
+    /// Removes a file unless there is none.
+    pub fn clear(&self, place: &str) -> Result<(), Refused> {
+        match fs::remove_file(&self.rt, place) {
+            Err(e) if is_absence(e.kind()) => Ok(()),
+            done => self.at(place, done),
+        }
+    }
+
+    /// Makes a file or a folder durable. What went again needs no more than its folder.
+    pub fn sync(&self, place: &str) -> Result<(), Refused> {
+        match File::open(&self.rt, place) {
+            Ok(file) => self.at(place, file.sync_all()),
+            Err(e) if is_absence(e.kind()) => Ok(()),
+            Err(e) => Err(self.refused(place, e)),
+        }
+    }
+}
+
+fn kind_of(found: &Metadata) -> Standing {
+    if found.is_file() {
+        Standing::File(found.len())
+    } else if found.is_dir() {
+        Standing::Folder
+    } else {
+        Standing::Other
+    }
+}
+
+/// Whether an error says that nothing stands at the place, as where its name is longer than a name
+/// may be.
+pub fn is_absence(kind: ErrorKind) -> bool
+    ensures { IsTrue result
+        ↔ ((kind ≡ NotFound) ⊎ (kind ≡ NotADirectory) ⊎ (kind ≡ InvalidFilename)) }
+{
+    matches!(
+        kind,
+        ErrorKind::NotFound | ErrorKind::NotADirectory | ErrorKind::InvalidFilename
+    )
+}

@@ -1,0 +1,15 @@
+pub mod Below
+pub mod Search
+pub mod Indexed
+pub mod Logs
+pub mod Waits
+pub mod Answered
+pub mod Stops
+pub mod Told
+pub mod Lines
+pub mod More
+pub mod Working
+pub mod Alike
+pub mod One
+pub mod Leading
+pub mod Outcomes

@@ -1,0 +1,20 @@
+//! The readings of all folders of some sources.
+//!
+//! A folder's reading may ask about the files of another folder, generated ones included. Then that
+//! folder is read first, and the reading that asked is begun again. Folders that wait for each
+//! other in a circle are told, each by its path. `specs/Answers.antt` says what a reading is told,
+//! `specs/Readings.antt` what the readings of a project are.
+#![tactic(auto)]
+
+mod asked;
+mod fault;
+mod folders;
+mod laws;
+mod parted;
+mod settings;
+mod sources;
+mod work;
+
+pub use fault::FoldersFault;
+pub use folders::read_folders;
+pub use laws::one_outcome;

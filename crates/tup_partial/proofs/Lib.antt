@@ -1,0 +1,4 @@
+mod Flags
+mod Flagged
+mod Reach
+mod Copied

@@ -1,0 +1,21 @@
+use Rattle.std.proofs.Common.{◌≡◌, ◌↔◌, ℕ, true, List, Contains, sym, subst}
+use Rattle.tup_graph.specs.Above.{IsAbove}
+use Rattle.tup_graph.specs.Graph.{is_flagged}
+use Rattle.tup_partial.specs.Plan.{IsToRun}
+use Rattle.tup_partial.proofs.Reach.{above_others, in_other_words}
+use Rattle.tup_partial.proofs.planning.reach.Goals as goal
+
+pub above-requires-clause-roots : goal.above-requires-clause-roots
+above-requires-clause-roots c = λ root inside.
+    c.requires.flags root ((c.in_ok-flagged.ensures.flagged root).0 (subst (λ (ns : List ℕ). Contains ns root) c.as_slice.ensures inside))
+
+pub returns-clause-reach : goal.returns-clause-reach
+returns-clause-reach c =
+    let g = c.args.graph.now in
+    let roots = c.as_slice.result.now in
+    let flagged = c.in_ok-flagged.ensures.flagged in
+    in_other_words (λ (numbers : List ℕ). (n : ℕ) → Contains numbers n ↔ IsAbove g (Contains roots) n) (λ (numbers : List ℕ). (n : ℕ) → Contains numbers n ↔ IsToRun g n) c.above.result
+    (λ numbers are n. (
+      λ inside. above_others g (Contains roots) (λ root. is_flagged g root ≡ true) (λ root there. (flagged root).0 (subst (λ (ns : List ℕ). Contains ns root) c.as_slice.ensures there)) n ((are n).0 inside),
+      λ is. (are n).1 (above_others g (λ root. is_flagged g root ≡ true) (Contains roots) (λ root up. subst (λ (ns : List ℕ). Contains ns root) (sym c.as_slice.ensures) ((flagged root).1 up)) n is),
+    )) c.above.ensures.above

@@ -1,0 +1,94 @@
+//! The plan of an update.
+ghost use Rattle.std.specs.Prelude.{◌≡◌, ◌↔◌, ℕ, true, Contains, IfOk, IfErr};
+ghost use Rattle.std.specs.List.Sorted.{IsStrictlySortedBy};
+ghost use Rattle.std.specs.Ordering.{nat_cmp};
+ghost use Rattle.tup_graph.specs.Above.{IsAbove};
+ghost use Rattle.tup_graph.specs.Graph.{is_rule, is_flagged};
+ghost use Rattle.tup_core.specs.Sound.{IsInRange};
+ghost use Rattle.tup_above.specs.Readers.{AreRunsOfRules};
+ghost use Rattle.tup_partial.specs.Plan.{AreFlagsOfRules, IsToRun};
+
+use crate::fault::PartialFault;
+use std::alloc::{AllocError, Global};
+use tup_above::rule_count;
+use tup_core::{Numbers, Plan};
+use tup_graph::Nodes;
+use tup_rule::{Rule, Rules};
+
+/// These rules and all that recorded reads lead to from them, over any number of reads, in ascending order: the rules that
+/// asked an output of one of these, those that asked an output of such a one, and so on.
+pub fn above(alloc: Global, graph: &Nodes, roots: &[u32]) -> Result<Numbers, PartialFault>
+    requires runs { AreRunsOfRules graph.now }
+    requires roots { (root : ℕ) → Contains roots.now root → is_rule graph.now root ≡ true }
+
+    ensures above { IfOk result (λ numbers. (number : ℕ)
+        → Contains numbers number ↔ IsAbove graph.now (Contains roots.now) number) }
+    ensures ascending { IfOk result (λ numbers. IsStrictlySortedBy nat_cmp numbers) }
+    ensures memory { IfErr result (λ fault. fault ≡ PartialFault.Memory) }
+{
+    Ok(tup_above::above(alloc, graph, roots)?)
+}
+
+/// The plan of an update: the rules of the graph in their order, and of these the flagged ones and all above them are to be
+/// run.
+pub fn plan_of(alloc: Global, graph: &Nodes, keep_going: bool) -> Result<Plan, PartialFault>
+    // Both hold of each graph that a store stands for.
+    requires runs { AreRunsOfRules graph.now }
+    requires flags { AreFlagsOfRules graph.now }
+
+    ensures rules { IfOk result (λ plan. plan.rules ≡ graph.now.rules) }
+    ensures reach { IfOk result (λ plan. (number : ℕ)
+        → Contains plan.reach number ↔ IsToRun graph.now number) }
+    ensures ascending { IfOk result (λ plan. IsStrictlySortedBy nat_cmp plan.reach) }
+    ensures range { IfOk result IsInRange }
+    ensures keep_going { IfOk result (λ plan. plan.keep_going ≡ keep_going) }
+    ensures memory { IfErr result (λ fault. fault ≡ PartialFault.Memory) }
+{
+    let reach = reach(alloc, graph)?;
+    let rules = copies(alloc, graph.rules())?;
+    Ok(Plan {
+        rules,
+        reach,
+        keep_going,
+    })
+}
+
+/// The flagged rules and all above them.
+fn reach(alloc: Global, graph: &Nodes) -> Result<Numbers, PartialFault>
+    requires runs { AreRunsOfRules graph.now }
+    requires flags { AreFlagsOfRules graph.now }
+    ensures reach { IfOk result (λ numbers. (number : ℕ)
+        → Contains numbers number ↔ IsToRun graph.now number) }
+    ensures ascending { IfOk result (λ numbers. IsStrictlySortedBy nat_cmp numbers) }
+    ensures memory { IfErr result (λ fault. fault ≡ PartialFault.Memory) }
+{
+    let flagged = flagged(alloc, graph)?;
+    above(alloc, graph, flagged.as_slice())
+}
+
+/// The flagged rules.
+fn flagged(alloc: Global, graph: &Nodes) -> Result<Numbers, PartialFault>
+    requires { AreFlagsOfRules graph.now }
+    ensures flagged { IfOk result (λ numbers. (number : ℕ)
+        → Contains numbers number ↔ (is_flagged graph.now number ≡ true)) }
+    ensures memory { IfErr result (λ fault. fault ≡ PartialFault.Memory) }
+{
+    let mut numbers = Numbers::new(alloc);
+    for number in 0..rule_count(graph)? {
+        if graph.flagged(number) {
+            numbers.push(number)?;
+        }
+    }
+    Ok(numbers)
+}
+
+/// The same rules again.
+fn copies(alloc: Global, rules: &[Rule]) -> Result<Rules, AllocError>
+    ensures { IfOk result (λ copies. copies ≡ rules.now) }
+{
+    let mut copies = Rules::new(alloc);
+    for rule in rules {
+        copies.push(rule.clone()?)?;
+    }
+    Ok(copies)
+}

@@ -1,3 +1,0 @@
-pub mod Repeats
-pub mod Buildable
-pub mod Whole

@@ -1,0 +1,33 @@
+//! The folder above the sources that has what the command wrote.
+use std::fs;
+use std::fs::File;
+use std::rt::Files;
+use tup_path::Path;
+use tup_started::{Failure, Tree};
+
+/// The place of what was written at a path.
+pub(crate) fn written<R: Files<File = File> + Clone + Drop>(
+    tree: &Tree<R>,
+    path: &Path,
+) -> Result<String, Failure> {
+    let up = tree.staged("up")?;
+    tree.below(up.as_str(), path)
+}
+
+/// What was written at a path.
+pub(crate) fn written_content<R: Files<File = File> + Clone + Drop>(
+    tree: &Tree<R>,
+    path: &Path,
+) -> Result<Vec<u8>, Failure> {
+    let place = written(tree, path)?;
+    tree.content(place.as_str())
+}
+
+/// Where the link at a place leads.
+pub(crate) fn target<R: Files<File = File> + Clone + Drop>(
+    tree: &Tree<R>,
+    place: &str,
+) -> Result<String, Failure> {
+    let runtime = (tree.rt.clone()?, tree.alloc);
+    Ok(fs::read_link(&runtime, place)?.into_string())
+}

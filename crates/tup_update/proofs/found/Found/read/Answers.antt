@@ -1,0 +1,33 @@
+use Rattle.std.proofs.Common.{◌≡◌, filter, sym, ◌∙◌, ap}
+use Rattle.std.specs.BTreeSet.{contains}
+use Rattle.std.specs.FinMap as finite
+use Rattle.tup_path.specs.Name.{Names}
+use Rattle.tup_path.specs.Order.{by_names}
+use Rattle.tup_path.specs.Tree.{Tree}
+use Rattle.tup_site.specs.World.{World}
+use Rattle.tup_rule.specs.Rule.{among}
+use Rattle.tup_owned.specs.Owned.{owned_of}
+use Rattle.tup_update.specs.Sources.{files_beside}
+use Rattle.tup_update.proofs.Beside.{left_is}
+use Rattle.tup_update.proofs.Known.{sources_are as sources_of}
+use Rattle.tup_update.proofs.Reading.{sources_are}
+use Rattle.tup_update.proofs.found.Found.read.Goals as goal
+
+pub returns-clause-found : goal.returns-clause-found
+returns-clause-found g c = λ tells.
+    let old = g.S.Site.world c.args.site.now in
+    let owned = c.in_ok-owned.owned in
+    let beside = files_beside owned old.tree in
+    let inside : (path : Names) → contains by_names c.in_ok-apart.apart path ≡ among path owned = λ path. c.in_ok-apart.ensures path ∙ ap (among path) c.as_slice.ensures in
+    let files = c.as_slice-2.ensures ∙ c.in_ok-files.ensures.paths tells ∙ ap (λ (w : World). finite.keys w.tree) (c.in_ok-store.ensures.same tells) in
+    let keys : finite.keys beside ≡ c.in_ok-owned_files.sources =
+    sources_are owned _ c.in_ok-owned_files.sources (λ path. contains by_names c.in_ok-apart.apart path) old.tree inside files c.in_ok-owned_files.ensures.outside in
+    let content = c.in_ok-sources.ensures.files tells beside (keys ∙ sym c.as_slice-3.ensures)
+    (λ path there. (left_is owned old.tree path there).1 ∙ ap (λ (w : World). finite.get w.tree path) (sym (c.in_ok-files.ensures.same tells ∙ c.in_ok-store.ensures.same tells))) in
+    let owns = ap owned_of (sym (c.in_ok-store.ensures.bytes tells)) ∙ ap owned_of (sym c.deref.ensures.value) ∙ c.in_ok-owned.ensures.owned in
+    record {
+      owned = owns;
+      files = c.in_ok-owned_files.ensures.inside ∙ (λ i. filter (λ path. inside path i) (files i));
+      few = rw (sym files) (rw c.as_slice-2.ensures c.in_ok-few.ensures.few);
+      sources = content ∙ ap (λ (t : Tree). finite.entries t) (sym (sources_of old owned owns));
+    }

@@ -1,0 +1,146 @@
+//! What a site holds: which paths are owned, and the sources with their contents.
+ghost use Rattle.std.specs.Prelude.{◌≡◌, ◌≤◌, List, length, IsTrue, IfOk, IfErr, OnOk, Some};
+ghost use Rattle.std.specs.FinMap as finite;
+ghost use Rattle.tup_path.specs.Order.{by_names};
+ghost use Rattle.tup_path.specs.Tree.{Tree, IsTree};
+ghost use Rattle.tup_site.specs.World.{World};
+ghost use Rattle.tup_site.specs.Cause.{CountsFaults, NeverTooLarge, OnlyLarge};
+ghost use Rattle.tup_rule.specs.declared.rule.Rule.{Rule as RuleValue};
+ghost use Rattle.tup_runner.specs.Next.{Next};
+ghost use Rattle.tup_clean.specs.Buildable.{IsBuildable};
+ghost use Rattle.tup_update.specs.Outcome.{HasCause};
+ghost use Rattle.tup_update.specs.Outside.{HandsOn};
+ghost use Rattle.tup_update.specs.Parts.{AddsFile, IsFound, IsOfRules, IsRefusal, KnowsLimits, IsTooMany, NamesALargeFile, AgreesOnItsFiles};
+ghost use Rattle.tup_update.specs.Sources as specs;
+ghost use Rattle.tup_update.specs.Sources.{AsksFor};
+ghost use Rattle.tup_update.specs.Stopped.{stop_of};
+ghost use Rattle.tup_update.specs.declared.stop.Unread.TheVariants.{Outside};
+
+use crate::fault::SourcesFault;
+use crate::project::{parted, path_set};
+use crate::stop::Unread;
+use std::alloc::Global;
+use tup_map::ByPath;
+use tup_owned::read_owned;
+use tup_path::{Bytes, Files, Path, Paths};
+use tup_rule::Rules;
+use tup_scan::MAX_FILES;
+use tup_site::{Site, SiteFailed};
+use tup_whole::read_all;
+
+/// What a site holds.
+#[derive(Debug, Drop)]
+pub(crate) struct Found {
+    /// The paths that the store lists.
+    pub owned: Paths,
+    /// The files among them.
+    pub owned_files: Paths,
+    /// All other files, the sources, in the order of paths.
+    pub sources: Files,
+}
+
+impl Found {
+    /// Reads what a site holds, and changes nothing.
+    pub(crate) fn read<S: Site>(alloc: Global, site: &mut S) -> Result<Found, Unread>
+        ensures found { IsTrue S.tells → IfOk result (IsFound (S.world site.old)) }
+        ensures sorted { IfOk result (λ found. IsTrue (finite.is_sorted by_names found.sources)) }
+        ensures cause { IsTrue S.tells → IfErr result (λ unread. (next : Next) (rules : List RuleValue)
+            → HasCause next rules (S.world site.old) (S.world site.new) (Some (stop_of unread))) }
+        ensures limits { IfErr result KnowsLimits }
+        ensures same { IsTrue S.tells → S.world site.new ≡ S.world site.old }
+        ensures counted { HandsOn Outside (S.faults site.old) (S.faults site.new) result }
+    {
+        let store = read_store(alloc, site)?;
+        let owned = read_owned(alloc, &store)?;
+        let files = site.list(alloc)?;
+        few(&files)?;
+        let apart = path_set(alloc, owned.as_slice())?;
+        let (owned_files, sources) = parted(alloc, files.as_slice(), &apart)?;
+        let sources = contents(alloc, site, sources.as_slice())?;
+        Ok(Found {
+            owned,
+            owned_files,
+            sources,
+        })
+    }
+
+    /// The rules of the sources.
+    pub(crate) fn rules(&self, alloc: Global) -> Result<Rules, Unread>
+        requires { IsTrue (finite.is_sorted by_names self.now.sources) }
+        ensures asked { (w : World) → IsFound w self.now → IfOk result (AsksFor w) }
+        ensures buildable { (w : World) → IsTree w.tree → IsFound w self.now
+            → IfOk result (IsBuildable (specs.sources w)) }
+        ensures refused { (w : World) → IsFound w self.now → IfErr result (IsRefusal w) }
+        ensures fault { IfErr result IsOfRules }
+    {
+        Ok(read_all(alloc, &self.sources)?)
+    }
+}
+
+/// The bytes of the store.
+fn read_store<S: Site>(alloc: Global, site: &mut S) -> Result<Vec<u8>, SiteFailed>
+    ensures bytes { IsTrue S.tells → IfOk result (λ bytes. bytes.items ≡ (S.world site.old).store) }
+    ensures same { IsTrue S.tells → S.world site.new ≡ S.world site.old }
+    ensures never_too_large { NeverTooLarge result }
+    ensures counted { CountsFaults (S.faults site.old) (S.faults site.new) result }
+{
+    let len = site.db_len(alloc)?;
+    let mut bytes = vec![in alloc; 0; len as usize]?;
+    site.db_read(alloc, 0, &mut bytes)?;
+    Ok(bytes)
+}
+
+/// Whether there are no more files than a project may have.
+fn few(files: &Paths) -> Result<(), Unread>
+    ensures few { OnOk result (length files.now ≤ 65536) }
+    ensures many { IfErr result (IsTooMany (length files.now)) }
+{
+    let count = files.len() as u64;
+    if count > MAX_FILES {
+        return Err(Unread::Sources(SourcesFault::TooManyFiles(count)));
+    }
+    Ok(())
+}
+
+/// The files at these paths with their contents, in the order of paths; one that isn't there any
+/// more is left out.
+pub(crate) fn contents<S: Site>(
+    alloc: Global,
+    site: &mut S,
+    paths: &[Path],
+) -> Result<Files, SiteFailed>
+    ensures files { IsTrue S.tells → (part : Tree) → finite.keys part ≡ paths.now
+        → AgreesOnItsFiles part (S.world site.old).tree
+        → IfOk result (λ files. files ≡ finite.entries part) }
+    ensures sorted { IfOk result (λ files. IsTrue (finite.is_sorted by_names files)) }
+    ensures same { IsTrue S.tells → S.world site.new ≡ S.world site.old }
+    ensures large { IsTrue S.tells → NamesALargeFile (S.world site.new).tree result }
+    ensures only_large { OnlyLarge result }
+    ensures counted { CountsFaults (S.faults site.old) (S.faults site.new) result }
+{
+    let mut files = ByPath::new(alloc);
+    for path in paths {
+        add(alloc, site, &mut files, path)?;
+    }
+    Ok(files.into_items(alloc)?)
+}
+
+/// Adds the file at a path, if it is there.
+fn add<S: Site>(
+    alloc: Global,
+    site: &mut S,
+    files: &mut ByPath<Bytes>,
+    path: &Path,
+) -> Result<(), SiteFailed>
+    ensures added { IsTrue S.tells → let found = finite.get (S.world site.old).tree path.now in
+        OnOk result (AddsFile path.now found files.old files.new) }
+    ensures same { IsTrue S.tells → S.world site.new ≡ S.world site.old }
+    ensures large { IsTrue S.tells → NamesALargeFile (S.world site.new).tree result }
+    ensures only_large { OnlyLarge result }
+    ensures counted { CountsFaults (S.faults site.old) (S.faults site.new) result }
+{
+    match site.get(alloc, path)? {
+        Some(content) => Ok(files.insert(path.clone()?, content)?),
+        None => Ok(()),
+    }
+}

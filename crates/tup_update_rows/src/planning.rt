@@ -1,0 +1,140 @@
+//! The calls of `partial.rows`.
+ghost use Rattle.std.specs.Prelude.{◌≡◌, ◌↔◌, true, All, IsTrue};
+ghost use Rattle.tup_graph.specs.Graph.{is_rule as is_rule_of};
+ghost use Rattle.tup_above.specs.Readers.{AreRunsOfRules};
+ghost use Rattle.tup_kept.specs.Held.{is_fresh};
+ghost use Rattle.tup_partial.specs.Plan.{AreFlagsOfRules};
+
+use crate::project::{Project, number_at};
+use std::alloc::Global;
+use tup_above::runs_are_of_rules;
+use tup_core::{Numbers, Plan};
+use tup_graph::{GraphFault, Nodes};
+use tup_kept::Graph;
+use tup_partial::{PartialFault, above, flags_are_of_rules, plan_of};
+use tup_rows::{Answers, RowFault, Words};
+use tup_site::MemSite;
+
+/// A project whose graph is asked what is to be run.
+#[derive(Drop)]
+pub(crate) struct Plans {
+    project: Project,
+}
+
+impl Answers for Plans {
+    fn answer(&mut self, alloc: Global, call: &str, said: &Words) -> Result<Words, RowFault> {
+        Ok(match call {
+            "begin" => self.begin(alloc),
+            "rule" => self.project.rule(alloc, said),
+            "ran" => self.project.ran(alloc, said),
+            "flag" => self.project.flag(alloc, said),
+            _ => self.asked(alloc, call, said),
+        })
+    }
+}
+
+impl Plans {
+    /// No project.
+    pub fn new(alloc: Global) -> Plans {
+        Plans {
+            project: Project::new(alloc),
+        }
+    }
+
+    fn begin(&mut self, alloc: Global) -> Words {
+        self.project = Project::new(alloc);
+        Words::done(alloc)
+    }
+
+    /// Opens the store of the project, and asks its graph.
+    fn asked(&self, alloc: Global, call: &str, said: &Words) -> Words {
+        match self.project.site(alloc) {
+            Ok(mut site) => asked_in(alloc, call, said, &mut site),
+            Err(fault) => Words::none(alloc, fault),
+        }
+    }
+}
+
+fn asked_in(alloc: Global, call: &str, said: &Words, site: &mut MemSite) -> Words {
+    match Graph::open(alloc, site) {
+        Ok(graph) => answer_of(alloc, call, said, &graph),
+        Err(GraphFault::Memory) => Words::none(alloc, RowFault::Memory),
+        Err(fault) => Words::refusal(alloc, &fault),
+    }
+}
+
+fn answer_of(alloc: Global, call: &str, said: &Words, graph: &Graph) -> Words
+    requires { IsTrue (is_fresh graph.now) }
+{
+    runs_are_of_rules();
+    flags_are_of_rules();
+    match call {
+        "above" => above_of(alloc, said, graph.nodes()),
+        "plan" => plan(alloc, said.number_at(0) == 1, graph.nodes()),
+        _ => Words::none(alloc, RowFault::NoSuchCall),
+    }
+}
+
+/// The rules that are above some rules.
+fn above_of(alloc: Global, said: &Words, nodes: &Nodes) -> Words
+    requires { AreRunsOfRules nodes.now }
+{
+    let roots = numbers(alloc, said);
+    if !are_rules(nodes, &roots) {
+        return Words::none(alloc, RowFault::OtherKind);
+    }
+    let mut words = Words::new(alloc);
+    match above(alloc, nodes, &roots) {
+        Ok(numbers) => add_numbers(alloc, &mut words, &numbers),
+        Err(PartialFault::Memory) => words.fail(RowFault::Memory),
+    }
+    words
+}
+
+fn numbers(alloc: Global, said: &Words) -> Vec<u32> {
+    let mut numbers = Vec::new(alloc);
+    for at in 0..said.len() {
+        if numbers.push(number_at(said, at)).is_err() {
+            said.fail(RowFault::Memory);
+        }
+    }
+    numbers
+}
+
+/// Whether all numbers are those of rules.
+fn are_rules(nodes: &Nodes, numbers: &[u32]) -> bool
+    ensures { IsTrue result ↔ All (λ number. is_rule_of nodes.now number ≡ true) numbers.now }
+{
+    numbers.iter().all(|number| is_rule(nodes, *number))
+}
+
+fn is_rule(nodes: &Nodes, number: u32) -> bool
+    ensures { result ≡ is_rule_of nodes.now number }
+{
+    (number as usize) < nodes.rules().len()
+}
+
+/// The plan of a graph.
+fn plan(alloc: Global, keep_going: bool, nodes: &Nodes) -> Words
+    requires runs { AreRunsOfRules nodes.now }
+    requires flags { AreFlagsOfRules nodes.now }
+{
+    match plan_of(alloc, nodes, keep_going) {
+        Ok(plan) => words_of(alloc, &plan),
+        Err(PartialFault::Memory) => Words::none(alloc, RowFault::Memory),
+    }
+}
+
+/// How many rules a plan has, whether it keeps going, and which of the rules are to be run.
+fn words_of(alloc: Global, plan: &Plan) -> Words {
+    let mut words = Words::shown(alloc, &plan.rules.len());
+    words.put(alloc, if plan.keep_going { b"goes" } else { b"stops" });
+    add_numbers(alloc, &mut words, &plan.reach);
+    words
+}
+
+fn add_numbers(alloc: Global, words: &mut Words, numbers: &Numbers) {
+    for number in numbers.as_slice() {
+        words.show(alloc, number);
+    }
+}

@@ -1,0 +1,4 @@
+pub mod Fault
+pub mod Project
+pub mod Paths
+pub mod Laws

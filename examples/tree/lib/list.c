@@ -1,0 +1,2 @@
+#include "../inc/size.h"
+int list[SIZE];
