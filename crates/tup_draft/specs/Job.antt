@@ -131,7 +131,11 @@ abbrev pub with_gifts : GiftsTo (List ℕ) → Option (List ℕ) → List Names 
 with_gifts bins None outputs = bins
 with_gifts bins (Some name) outputs = fold (λ all path. with_gift bytes_eq all name path) bins outputs
 
--- the state with one more rule, whose outputs go to its bin
+-- the state with one more rule
+abbrev pub with_made : State → Draft → State
+with_made state draft = record state { drafts = state.drafts ++ draft ∷ [] }
+
+-- the same, and its outputs go to its bin
 abbrev pub with_draft : State → Option (List ℕ) → Draft → State
 with_draft state bin draft = record state { bins = with_gifts state.bins bin draft.outputs; drafts = state.drafts ++ draft ∷ [] }
 

@@ -7,6 +7,7 @@ ghost use Rattle.tup_ask.specs.Went.{Went, asker, Gives};
 use crate::caret::{Command, command_of};
 use crate::flagged::flagged;
 use crate::job::{Job, Sources, Spoken};
+use crate::made::Made;
 use crate::output::from_outputs;
 use crate::state::State;
 use crate::words::Words;
@@ -57,8 +58,7 @@ fn with_job<E: Env>(
         (specs.with_job at.now words.now sources.now state job.now)
         (asker (E.answers env.new) (E.stopped env.new) log.new) result }
 {
-    let drafts = state.drafts.as_slice();
-    let draft = drafted(alloc, env, log, at, words, sources, drafts, job)?;
+    let draft = drafted(alloc, env, log, at, words, sources, &state.drafts, job)?;
     Ok(with_draft(state, &words.bin, draft)?)
 }
 
@@ -70,7 +70,7 @@ fn drafted<E: Env>(
     at: &Spot,
     words: &Words,
     sources: &Sources,
-    drafts: &[Draft],
+    drafts: &Made,
     job: &Job,
 ) -> Result<Draft, ReadEnd>
     requires { is_some (E.stopped env.old) ≡ false }
@@ -90,7 +90,7 @@ fn with_outputs<E: Env>(
     at: &Spot,
     words: &Words,
     group: &Option<GroupRef>,
-    drafts: &[Draft],
+    drafts: &Made,
     parts: FlagParts,
 ) -> Result<Draft, ReadEnd>
     requires { is_some (E.stopped env.old) ≡ false }
@@ -113,7 +113,7 @@ fn with_extra<E: Env>(
     at: &Spot,
     words: &Words,
     group: &Option<GroupRef>,
-    drafts: &[Draft],
+    drafts: &Made,
     parts: FlagParts,
 ) -> Result<Draft, ReadEnd>
     requires { is_some (E.stopped env.old) ≡ false }
@@ -280,17 +280,27 @@ fn with_draft(state: State, bin: &Option<Text>, draft: Draft) -> Result<State, A
     ensures { IfOk result (λ next. next ≡ specs.with_draft state bin.now draft) }
 {
     let mut state = state;
-    add_draft(&mut state, bin, draft)?;
-    Ok(state)
+    give(&mut state.bins, bin, draft.outputs.as_slice())?;
+    with_made(state, draft)
 }
 
-/// Adds a rule, whose outputs go to its bin.
-fn add_draft(state: &mut State, bin: &Option<Text>, draft: Draft) -> Result<(), AllocError>
-    ensures { OnOk result (state.new ≡ specs.with_draft state.old bin.now draft) }
+/// The state with one more rule.
+fn with_made(state: State, draft: Draft) -> Result<State, AllocError>
+    ensures { IfOk result (λ next. next ≡ specs.with_made state draft) }
 {
-    give(&mut state.bins, bin, draft.outputs.as_slice())?;
-    state.drafts.push(draft)?;
-    Ok(())
+    let State {
+        variables,
+        macros,
+        bins,
+        drafts,
+    } = state;
+    let drafts = drafts.with(draft)?;
+    Ok(State {
+        variables,
+        macros,
+        bins,
+        drafts,
+    })
 }
 
 /// Gives paths to a bin, if there is one.

@@ -53,7 +53,7 @@ fn drafts_in<E: Env>(
 {
     let state = State::new(alloc)?;
     let state = with_file(alloc, env, log, ROOM, dir, &held.path, state, &held.content)?;
-    Ok(state.drafts)
+    Ok(state.drafts.into_drafts())
 }
 
 /// A file that is read for a folder, where so many more may be open.

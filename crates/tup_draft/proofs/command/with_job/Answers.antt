@@ -7,8 +7,7 @@ pub returns-in_err-draft : goal.returns-in_err-draft
 returns-in_err-draft g c =
     let a = c.args in
     let p = err_from_is_err_and c.from_residual.result c.from_residual.ensures.1 in
-    let failed = rw c.as_slice-drafts.ensures at c.in_err-draft.ensures in
-    rw (p.1, p.2) (went_along _ _ (job_by a.at.now a.words.now a.sources.now a.state a.job.now) (went_err (behind_draft a.state a.words.now.bin) failed))
+    rw (p.1, p.2) (went_along _ _ (job_by a.at.now a.words.now a.sources.now a.state a.job.now) (went_err (behind_draft a.state a.words.now.bin) c.in_err-draft.ensures))
 
 pub returns-in_err-with_draft : goal.returns-in_err-with_draft
 returns-in_err-with_draft g c =
@@ -18,6 +17,6 @@ returns-in_err-with_draft g c =
 pub returns : goal.returns
 returns g c =
     let a = c.args in
-    let done = rw c.as_slice-drafts.ensures at c.in_ok-draft.ensures in
+    let done = c.in_ok-draft.ensures in
     rw c.in_ok-with_draft.ensures
     (went_along _ _ (job_by a.at.now a.words.now a.sources.now a.state a.job.now) (went_then (behind_draft a.state a.words.now.bin) done (went_gives _ _ _ done.stopped)))
