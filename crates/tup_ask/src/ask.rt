@@ -24,7 +24,7 @@ fn ask<E: Env>(
         (asker (E.answers env.new) (E.stopped env.new) log.new) result }
 {
     let key = Key { question };
-    if let Some(told) = log.before(&key) {
+    if let Some(told) = log.answer_to(&key) {
         return Ok(told.clone()?);
     }
     let told = env.answer(alloc, &key.question)?;

@@ -35,7 +35,7 @@ impl Log {
     }
 
     /// What was told to a question before.
-    pub(crate) fn before(&self, question: &Key) -> Option<&Told>
+    pub(crate) fn answer_to(&self, question: &Key) -> Option<&Told>
         ensures { option_map (λ told. told.now) result ≡ told_before self.now question.now }
     {
         self.told.get(question)

@@ -2,7 +2,7 @@
 ghost use Rattle.std.specs.Prelude.{◌≡◌, ◌++◌, ◌∷◌, [], IfOk, OnOk, fold};
 ghost use Rattle.tup_path.specs.Order.{same_path};
 ghost use Rattle.tup_rule.specs.Rule.{among};
-ghost use Rattle.tup_draft.specs.State.{is_made};
+ghost use Rattle.tup_draft.specs.Making.{is_made};
 ghost use Rattle.indexmap.specs.IndexSet.{insert_key};
 
 use indexmap::IndexSet;
@@ -22,7 +22,7 @@ pub struct Made {
 impl Model for Made {
     ghost use Rattle.std.specs.Prelude.{List};
     ghost use Rattle.tup_rule.specs.declared.draft.Draft.{Draft as Rule};
-    ghost use Rattle.tup_draft.specs.State.{Knows};
+    ghost use Rattle.tup_draft.specs.Making.{Knows};
 
     ghost Value = { List Rule };
 

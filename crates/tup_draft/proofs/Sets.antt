@@ -7,7 +7,7 @@ use Rattle.tup_path.specs.Order.{same_path}
 use Rattle.tup_path.proofs.Same.{same_path-decides}
 use Rattle.tup_rule.specs.Rule.{among}
 use Rattle.tup_rule.specs.declared.draft.Draft.{Draft}
-use Rattle.tup_draft.specs.State.{is_made, Knows}
+use Rattle.tup_draft.specs.Making.{is_made, Knows}
 
 -- a path that is there already adds nothing to a set
 there : (keys : List Names) (added path : Names) → among added keys ≡ true → among path keys ≡ (same_path path added || among path keys)
