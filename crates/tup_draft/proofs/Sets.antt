@@ -34,7 +34,8 @@ one_more keys added path = by (among added keys) refl
 or_turned : (a b c : Bool) → (a || (b || c)) ≡ ((b || a) || c)
 or_turned true true c = refl
 or_turned true false c = refl
-or_turned false b c = refl
+or_turned false true c = refl
+or_turned false false c = refl
 
 -- more paths in a set
 pub all_more : (keys paths : List Names) (path : Names) → among path (fold (insert_key same_path) keys paths) ≡ (among path paths || among path keys)

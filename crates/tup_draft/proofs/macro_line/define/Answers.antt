@@ -14,5 +14,5 @@ pub returns-in-Err-DefinedTwice : goal.returns-in-Err-DefinedTwice
 returns-in-Err-DefinedTwice c =
     let a = c.args in
     let twice = rw c.in_ok-name.ensures at c.in-Err-DefinedTwice.ensures.twice in
-    gives_along _ _ (Err c.refuse-in-Err-DefinedTwice.result) (more-twice a.at.now a.macros.now a.name.now a.body (twice.0 (ap Err c.in-Err-DefinedTwice.field-0-is)))
-    (gives_refusal Definitions a.at.now DefinedTwice c.refuse-in-Err-DefinedTwice.result c.refuse-in-Err-DefinedTwice.ensures)
+    gives_along _ _ (Err c.refuse.result) (more-twice a.at.now a.macros.now a.name.now a.body (twice.0 (ap Err c.in-Err-DefinedTwice.field-0-is)))
+    (gives_refusal Definitions a.at.now DefinedTwice c.refuse.result c.refuse.ensures)
