@@ -28,3 +28,8 @@ pub returns-in-Ok-clause-printed : goal.returns-in-Ok-clause-printed
 returns-in-Ok-clause-printed g c = λ tells means shows.
     let compared = c.compare_site in
     prints_compared g.R.Runner.next _ _ _ _ _ compared.result _ _ _ (compared.ensures.compared tells means) c.status_of_compared-status.ensures (search rules) c.print.ensures.ends (c.print.ensures.prints shows)
+
+-- no memory for its line
+pub returns-in-Err-clause-ran : goal.returns-in-Err-clause-ran
+returns-in-Err-clause-ran g c = λ tells means shows.
+    untold_compared g.R.Runner.next (g.S.Site.world c.args.site.now) _ _ (result_err c.compare_site.result) (c.compare_site.ensures.ran tells means shows)
