@@ -1,9 +1,9 @@
 #!/bin/sh
 # The edge of the program, where only strace can show it: which folders a removal makes durable, that no want of memory in a
-# call that may have changed something passes for a mere want of memory, how a file comes to its place where `.tup` is on
-# another disk, what a file system that doesn't tell case apart would do, that a second update looks at nothing, and streams
-# and limits that a user's shell may take away. Word: the program. It ends with 1 where something else came. It is no part
-# of the gate.
+# call that may have changed something passes for a mere want of memory, what a program that gets too little of it leaves, how
+# a file comes to its place where `.tup` is on another disk, what a file system that doesn't tell case apart would do, that a
+# second update looks at nothing, and streams and limits that a user's shell may take away. Word: the program. It ends with
+# 1 where something else came. It is no part of the gate.
 set -u
 tup=$(realpath "$1")
 if ! strace -o /dev/null true 2> /dev/null; then
@@ -50,6 +50,24 @@ while read -r call number; do
     same "$what, the next update" "$("$tup" | tail -1)" 'done: 1 read, 1 run, 0 removed'
 done < "$work/list"
 [ -s "$work/list" ] || same "calls of an update" none some
+
+# Less and less memory for the program itself: an update is done, or it ends with 12 and leaves the old output or the new one
+# (with 127 it didn't even begin).
+wanted_large=$(head -c 1000000 /dev/zero | tr '\0' x | cksum)
+for limit in $(seq 2000 250 9000); do
+    what="$limit kilobytes of memory"
+    project "$copy"
+    "$tup" > /dev/null
+    head -c 1000000 /dev/zero | tr '\0' x > a
+    prlimit --as=$((limit * 1024)) "$tup" > "$work/told" 2> /dev/null
+    case "$? $(tail -1 "$work/told")" in
+        '0 done: 1 read, 1 run, 0 removed' | '12 fault: no memory' | '12 ' | '127 ') ;;
+        *) same "$what" "$? $(tail -1 "$work/told")" "done, or no memory" ;;
+    esac
+    same "$what, the source" "$(cksum < a)" "$wanted_large"
+    case "$(cksum < b)" in "$wanted_large" | "$(echo hi | cksum)") ;; *) same "$what, the output" torn whole ;; esac
+    same "$what, the next update" "$("$tup" | tail -1)" 'done: 1 read, 1 run, 0 removed'
+done
 
 # A removal that a killed update left where no sync came: the next one syncs the folder before its list forgets the file.
 project "$copy"
