@@ -7,8 +7,8 @@ ghost use Rattle.tup_folders.specs.Sources.{has_tupfile};
 ghost use Rattle.tup_folders.specs.State.{IsWork, IsLast, HasCome, HasStopped, steps_left};
 
 use crate::asked::{Asked, Stop};
+use crate::config::settings;
 use crate::fault::FoldersFault;
-use crate::settings::settings;
 use crate::sources::Sources;
 use crate::work::Work;
 use std::alloc::Global;
