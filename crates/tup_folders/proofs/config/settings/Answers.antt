@@ -1,6 +1,6 @@
 use Rattle.std.proofs.Common.{refl, Some, None, ◌∙◌}
 use Rattle.tup_folders.proofs.Told.{settings_given}
-use Rattle.tup_folders.proofs.settings.read_settings.Goals as goal
+use Rattle.tup_folders.proofs.config.settings.Goals as goal
 
 pub returns-in-Some : goal.returns-in-Some
 returns-in-Some c = settings_given c.args.sources.now c.in_ok-path.path (Some c.in-Some.content.now) c.in-Some.content.now c.read.result c.in_ok-path.ensures.path c.in-Some.ensures refl c.read.ensures

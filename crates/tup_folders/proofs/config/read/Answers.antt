@@ -1,6 +1,6 @@
 use Rattle.tup_folders.proofs.Told.{config_told}
 use Rattle.tup_vars.specs.Config.{config_of}
-use Rattle.tup_folders.proofs.settings.read.Goals as goal
+use Rattle.tup_folders.proofs.config.read.Goals as goal
 
 pub returns-in-Err-At : goal.returns-in-Err-At
 returns-in-Err-At c =

@@ -12,7 +12,7 @@ use tup_path::{Bytes, Path};
 use tup_vars::{Config, ConfigFault, read_config};
 
 /// What tup.config sets; without the file nothing is set.
-pub fn read_settings(alloc: Global, sources: &Sources<'_>) -> Result<Config, FoldersFault>
+pub fn settings(alloc: Global, sources: &Sources<'_>) -> Result<Config, FoldersFault>
     ensures { IsConfig (settings_of sources.now) result }
 {
     let path = config_path(alloc)?;
