@@ -7,8 +7,8 @@ ghost use Rattle.tup_folders.specs.Sources.{has_tupfile};
 ghost use Rattle.tup_folders.specs.State.{IsWork, IsLast, HasCome, HasStopped, steps_left};
 
 use crate::asked::{Asked, Stop};
+use crate::config::settings;
 use crate::fault::FoldersFault;
-use crate::settings::read_settings;
 use crate::sources::Sources;
 use crate::work::Work;
 use std::alloc::Global;
@@ -30,7 +30,7 @@ pub fn read_folders(alloc: Global, sources: &Files) -> Result<Items<(Path, Readi
     ensures { IsOutcome (finite.from_sorted sources.now) result }
 {
     let sources = Sources::new(alloc, sources)?;
-    match read_settings(alloc, &sources) {
+    match settings(alloc, &sources) {
         Ok(settings) => all_read(alloc, &sources, &settings),
         Err(fault) => Err(fault),
     }

@@ -8,18 +8,18 @@
 #![tactic(auto)]
 
 mod asked;
+mod config;
 mod fault;
 mod folders;
 mod laws;
 mod parted;
-mod settings;
 mod sources;
 mod work;
 
 pub use asked::{Asked, Stop};
+pub use config::settings;
 pub use fault::FoldersFault;
 pub use folders::{Came, read, read_folders};
 pub use laws::one_outcome;
-pub use settings::read_settings;
 pub use sources::Sources;
 pub use work::Work;

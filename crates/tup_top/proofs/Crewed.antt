@@ -96,14 +96,14 @@ pub crew_cause : {R : Type 0} (count : R → ℕ) (crew : List R) (old now : R) 
     HasCountedCause (of_one site_before (count old) sink_before) (of_one site_now (count now) sink_now) status →
     HasCountedCause (record { site = site_before; runners = map count crew; sink = sink_before }) (record { site = site_now; runners = map count (slice_set crew 0 now); sink = sink_now }) status
 crew_cause {R} count crew old now site_before site_now sink_before sink_now status some first cause =
-    cause_of_first {R} count site_before site_now sink_before sink_now status HasCountedCause
+    cause_of_first count site_before site_now sink_before sink_now status HasCountedCause
     (λ run_before run_now others. causes_of_crew site_before site_now run_before run_now sink_before sink_now others status) crew old now some first cause
 
 pub crew_compared : {R : Type 0} (count : R → ℕ) (crew : List R) (old now : R) (site_before site_now sink_before sink_now : ℕ) (status : Status) → 0 < length crew → old ≡ get_or crew 0 old →
     HasComparedCause (of_one site_before (count old) sink_before) (of_one site_now (count now) sink_now) status →
     HasComparedCause (record { site = site_before; runners = map count crew; sink = sink_before }) (record { site = site_now; runners = map count (slice_set crew 0 now); sink = sink_now }) status
 crew_compared {R} count crew old now site_before site_now sink_before sink_now status some first cause =
-    cause_of_first {R} count site_before site_now sink_before sink_now status HasComparedCause
+    cause_of_first count site_before site_now sink_before sink_now status HasComparedCause
     (λ run_before run_now others. compared_of_crew site_before site_now run_before run_now sink_before sink_now others status) crew old now some first cause
 
 -- and what it ran is what the crew ran
