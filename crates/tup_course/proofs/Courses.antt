@@ -1,15 +1,14 @@
 -- A course goes on: what is kept of it after each event.
-use Rattle.std.proofs.Common.{◌≡◌, ℕ, ◌+◌, ◌<◌, ◌≤◌, ◌⊎◌, Bool, true, false, List, [], ◌∷◌, ◌++◌, length, Option, None, Some, refl, sym, ap, ◌∙◌, subst, inl, inr, arith}
+use Rattle.std.proofs.Common.{◌≡◌, ℕ, ◌+◌, ◌<◌, ◌≤◌, ◌⊎◌, List, [], ◌∷◌, ◌++◌, length, Option, None, Some, refl, sym, ap, ◌∙◌, subst, inl, inr, arith}
 use Rattle.std.specs.Prelude.{Result, Ok, Err, slice_set}
 use Rattle.std.specs.Option.{option_map}
-use Rattle.std.proofs.lemmas.List.{length_push, length-set}
+use Rattle.std.proofs.lemmas.List.{length_push}
 use Rattle.tup_access.specs.declared.verdict.Verdict.{Verdict}
 use Rattle.tup_access.specs.declared.verdict.Verdict.TheVariants.{Good, Failed, IllegalRead, IllegalWrite, Unwritten, TooManyReads}
-use Rattle.tup_rule.specs.declared.rule.Rule.{Rule}
 use Rattle.tup_path.specs.Name.{Names}
 use Rattle.tup_stamp.specs.declared.Stamp.{Stamp}
 use Rattle.tup_core.specs.declared.event.CoreEvent.{CoreEvent}
-use Rattle.tup_core.specs.declared.event.CoreEvent.TheVariants.{Claim, Ask, Deny, Finish, Stop}
+use Rattle.tup_core.specs.declared.event.CoreEvent.TheVariants.{Finish}
 use Rattle.tup_core.specs.declared.fault.CoreFault.{CoreFault}
 use Rattle.tup_core.specs.declared.fault.CoreFault.TheVariants.{NotEnabled, Memory}
 use Rattle.tup_core.specs.declared.running.Running.{Running}
@@ -18,7 +17,7 @@ use Rattle.tup_core.specs.declared.plan.Plan.{Plan}
 use Rattle.tup_turn.specs.declared.turn.Turn.{Turn}
 use Rattle.tup_core.specs.Machine.{entry, state_of, IsCore, Answers, TakesMemory}
 use Rattle.tup_core.specs.Run.{IsRun, end_of}
-use Rattle.tup_core.specs.Step.{State, IsEnabled, FitsEnd, Runs, after, changed, emptied}
+use Rattle.tup_core.specs.Step.{State, IsEnabled, FitsEnd, after, changed, emptied}
 use Rattle.tup_core.proofs.Changed.{changed_cases}
 use Rattle.tup_core.proofs.ItemLaws.{items_set}
 use Rattle.tup_core.proofs.Orderly.{finished_is, seats_ended}

@@ -1,11 +1,10 @@
 -- What is kept of a course after each of its calls, told over plain values: the core and the history that took one event.
-use Rattle.std.proofs.Common.{◌≡◌, ℕ, zero, suc, ◌+◌, ◌*◌, ◌<◌, ◌≤◌, ◌⊎◌, Bool, true, false, List, [], ◌∷◌, ◌++◌, length, replicate, Option, None, Some, refl, sym, ap, ◌∙◌, subst, inl, inr, arith}
-use Rattle.std.specs.Prelude.{if◌then◌else◌, slice_get, slice_set}
+use Rattle.std.proofs.Common.{◌≡◌, ℕ, zero, suc, ◌+◌, ◌*◌, ◌<◌, ◌≤◌, true, false, List, [], ◌∷◌, ◌++◌, length, replicate, Option, None, Some, refl, sym, ap, ◌∙◌, subst, inl, inr, arith}
+use Rattle.std.specs.Prelude.{if◌then◌else◌, slice_set}
 use Rattle.std.specs.Option.{option_map}
 use Rattle.std.proofs.lemmas.List.{length-set, length-replicate, length_push}
 use Rattle.tup_path.specs.Name.{Names}
 use Rattle.tup_stamp.specs.declared.Stamp.{Stamp}
-use Rattle.tup_rule.specs.declared.rule.Rule.{Rule}
 use Rattle.tup_access.specs.declared.verdict.Verdict.{Verdict}
 use Rattle.tup_access.specs.declared.verdict.Verdict.TheVariants.{Good, Failed, IllegalRead, IllegalWrite, Unwritten, TooManyReads}
 use Rattle.tup_access.proofs.Permitted.{access-No}
@@ -17,18 +16,17 @@ use Rattle.tup_core.specs.declared.machine.Core.{Core}
 use Rattle.tup_core.specs.declared.plan.Plan.{Plan}
 use Rattle.tup_core.specs.declared.running.Running.{Running}
 use Rattle.tup_core.specs.Machine.{entry, state_of, IsCore}
-use Rattle.tup_core.specs.Run.{IsRun, end_of}
-use Rattle.tup_core.specs.Step.{State, IsEnabled, Runs, after, asked, refused, changed, emptied, ended, finished, is_reached, opening, stopped_by}
+use Rattle.tup_core.specs.Step.{State, IsEnabled, after, asked, refused, changed, emptied, ended, is_reached, opening, stopped_by}
 use Rattle.tup_core.proofs.Changed.{changed_cases}
 use Rattle.tup_core.proofs.Counted.{all_counted}
 use Rattle.tup_core.proofs.Orderly.{finished_is}
 use Rattle.tup_turn.specs.declared.turn.Turn.{Turn}
 use Rattle.tup_turn.specs.Turn.{IsTurn, IsSettledIn, IsSameTurn, Frees, Takes}
 use Rattle.tup_turn.proofs.TurnLaws.{turn_stays, settled_of}
-use Rattle.tup_course.specs.Course.{CourseState, IsCourse, GoesOn, WasDenied, KeepsBeside, first, now, with_events, end_at}
+use Rattle.tup_course.specs.Course.{CourseState, IsCourse, GoesOn, WasDenied, KeepsBeside, now, end_at}
 use Rattle.tup_course.specs.Room.{to_come}
-use Rattle.tup_course.proofs.Courses.{course_more, ends_changed, ends_kept, denied_can, seats_finished}
-use Rattle.tup_course.proofs.Rooms.{claim_costs, ask_costs, deny_costs, finish_costs, stop_costs, few_come, opening_come}
+use Rattle.tup_course.proofs.Courses.{course_more, ends_changed, ends_kept, seats_finished}
+use Rattle.tup_course.proofs.Rooms.{claim_costs, finish_costs, stop_costs, opening_come}
 
 -- a core took an event that might happen, and so did the history
 pub record Moves (course : CourseState) (event : CoreEvent) (old new : Core) (items : List CoreEvent) : Type 0 where

@@ -1,9 +1,7 @@
 -- What is kept of a course at the end of each of its calls, from what its callers see and what the code did.
-use Rattle.std.proofs.Common.{◌≡◌, ℕ, ◌+◌, ◌<◌, ◌≤◌, List, [], ◌∷◌, ◌++◌, length, Option, None, Some, refl, sym, ap, ◌∙◌, subst}
+use Rattle.std.proofs.Common.{◌≡◌, ℕ, ◌+◌, ◌<◌, ◌≤◌, List, [], ◌∷◌, ◌++◌, length, Option, None, Some, sym, ap, ◌∙◌, subst}
 use Rattle.std.specs.Prelude.{IfOk, OnOk, OnErr, Result, Ok, Err, slice_get, slice_set}
 use Rattle.std.proofs.lemmas.Option.{same_Some, slice_get_within}
-use Rattle.tup_path.specs.Name.{Names}
-use Rattle.tup_stamp.specs.declared.Stamp.{Stamp}
 use Rattle.tup_rule.specs.declared.rule.Rule.{Rule}
 use Rattle.tup_access.specs.Access.{access}
 use Rattle.tup_access.specs.declared.verdict.Access.{Access}
@@ -24,7 +22,7 @@ use Rattle.tup_course.specs.Course.{CourseState, IsCourse, RunsRule, GoesOn, Was
 use Rattle.tup_course.specs.Room.{to_come}
 use Rattle.tup_course.proofs.Courses.{denied_can, denied_end, denied_free}
 use Rattle.tup_course.proofs.Going.{Moves, course_claims, course_stops, course_denied, course_ends_well, course_goes_on, course_denies, course_same}
-use Rattle.tup_course.proofs.Views.{now_is, from_now, plan_here, moves_here, finish_fits, seen_more, seen_same}
+use Rattle.tup_course.proofs.Views.{from_now, plan_here, moves_here, finish_fits, seen_more, seen_same}
 
 module _ (course given : CourseState) (old : Core) (turn : Turn) (ends : List (Option CoreEvent)) (capacity : ℕ)
     (is : IsCourse course old turn ends capacity) (view : course ≡ given) (plan : Plan) (plan_is : plan ≡ given.plan) where

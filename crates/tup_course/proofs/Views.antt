@@ -1,12 +1,12 @@
 -- What is said of a course as its callers see it, said of what the code has: its core, its plan, its history.
-use Rattle.std.proofs.Common.{◌≡◌, ℕ, ◌+◌, ◌<◌, ◌≤◌, ◌⊎◌, List, [], ◌∷◌, ◌++◌, length, Option, None, Some, refl, sym, ap, ◌∙◌, subst, arith}
+use Rattle.std.proofs.Common.{◌≡◌, ℕ, ◌<◌, List, [], ◌∷◌, ◌++◌, length, Option, None, Some, refl, sym, ap, ◌∙◌, subst, arith}
 use Rattle.std.specs.Prelude.{is_some}
 use Rattle.tup_path.specs.Name.{Names}
 use Rattle.tup_stamp.specs.declared.Stamp.{Stamp}
 use Rattle.tup_access.specs.declared.verdict.Verdict.{Verdict}
 use Rattle.tup_core.specs.declared.event.Cause.{Cause}
 use Rattle.tup_core.specs.declared.event.CoreEvent.{CoreEvent}
-use Rattle.tup_core.specs.declared.event.CoreEvent.TheVariants.{Claim, Finish, Stop}
+use Rattle.tup_core.specs.declared.event.CoreEvent.TheVariants.{Claim}
 use Rattle.tup_core.specs.declared.machine.Core.{Core}
 use Rattle.tup_core.specs.declared.plan.Plan.{Plan}
 use Rattle.tup_core.specs.declared.running.Running.{Running}
@@ -15,7 +15,6 @@ use Rattle.tup_core.specs.Step.{State, IsEnabled, IsReady, after}
 use Rattle.tup_turn.specs.declared.turn.Turn.{Turn}
 use Rattle.tup_turn.specs.Turn.{IsTurn, IsFirstReady}
 use Rattle.tup_course.specs.Course.{CourseState, IsCourse, IsStopped, NoneReady, now, with_events}
-use Rattle.tup_course.specs.Room.{to_come}
 use Rattle.tup_course.proofs.Going.{Moves, now_reached}
 use Rattle.tup_course.proofs.Rooms.{claim_costs, finish_costs, stop_costs}
 

@@ -4,7 +4,7 @@ use Rattle.tup_core.specs.declared.event.CoreEvent.TheVariants.{Deny}
 use Rattle.tup_core.specs.Step.{IsEnabled}
 use Rattle.tup_course.specs.Course.{now}
 use Rattle.tup_course.proofs.Kept.{deny_done, same_kept}
-use Rattle.tup_course.proofs.Views.{from_now, core_here, seen_more, seen_same}
+use Rattle.tup_course.proofs.Views.{from_now, core_here, seen_more}
 use Rattle.tup_course.proofs.course.Course.deny.Goals as goal
 
 pub try_take-requires-clause-core : goal.try_take-requires-clause-core

@@ -3,7 +3,7 @@ use Rattle.std.proofs.lemmas.Option.{slice_get_within}
 use Rattle.tup_core.specs.declared.event.CoreEvent.TheVariants.{Claim}
 use Rattle.tup_core.specs.Step.{IsEnabled}
 use Rattle.tup_course.proofs.Kept.{claim_kept}
-use Rattle.tup_course.proofs.Views.{now_is, from_now, core_here, turn_here, claim_fits, seen_more}
+use Rattle.tup_course.proofs.Views.{from_now, core_here, turn_here, claim_fits, seen_more}
 use Rattle.tup_course.proofs.course.Course.give.Goals as goal
 
 pub take-requires-clause-core : goal.take-requires-clause-core
