@@ -1,0 +1,127 @@
+-- What a crash leaves of the sources, step by step.
+use Rattle.std.proofs.Common.{◌≡◌, ℕ, ◌≤◌, List, Result, Ok, inl, inr, ⊎_elim, refl, sym, ap, subst, ◌∙◌, arith}
+use Rattle.tup_path.specs.Tree.{Tree}
+use Rattle.tup_site.specs.Crash.{Follows, GoesOn, NoStep, PinsTree, LeavesOnly}
+use Rattle.tup_site.specs.World.{World, TreeStays}
+use Rattle.tup_table.specs.Entries.{Standing}
+use Rattle.tup_table.specs.Images.{Leaves, OpenStep}
+use Rattle.tup_table.specs.Reading.{opened_of}
+use Rattle.tup_table.specs.Table.{entries_in, StandsFor}
+use Rattle.tup_table.specs.declared.fault.TableFault.{TableFault}
+use Rattle.tup_table.specs.declared.opened.Opened.{Opened}
+use Rattle.tup_table.specs.declared.table.Table.{Table}
+use Rattle.tup_table.proofs.Going.{IsEarlier, as_step, nothing_then}
+use Rattle.tup_table.proofs.Stores.{reads_one}
+use Rattle.tup_graph.specs.Graph.{GraphState}
+use Rattle.tup_graph.specs.Opening.{IsGraphOf}
+use Rattle.tup_graph.proofs.OneWay.{one_graph}
+use Rattle.tup_kept.specs.Crash.{IsStoreOf, HasEither, GraphStep, LeavesEither}
+use Rattle.tup_kept.proofs.Crashes.{as_it_was}
+use Rattle.tup_ledger.specs.Sources.{sources_of, HasSources, Guards, IsDurable, OwnedStep}
+use Rattle.tup_ledger.proofs.Trees.{own_same}
+
+-- ---- a store is of one graph
+entries_one : (bytes : List ℕ) (es fs : Standing) → Leaves es bytes → Leaves fs bytes → es ≡ fs
+entries_one bytes es fs one other =
+    let read : ◌≡◌ {A = Result Opened TableFault} (Ok (opened_of one.0)) (Ok (opened_of other.0)) =
+    reads_one bytes (Ok (opened_of one.0)) (Ok (opened_of other.0)) (one.0, one.1, refl) (other.0, other.1, refl) in
+    let same : opened_of one.0 ≡ opened_of other.0 = cc in
+    one.2 ∙ ap (λ (o : Opened). o.entries) same ∙ sym other.2
+
+pub one_store : (bytes : List ℕ) (g h : GraphState) → IsStoreOf g bytes → IsStoreOf h bytes → g ≡ h
+one_store bytes g h one other =
+    one_graph other.entries g h (subst (λ (es : Standing). IsGraphOf es g) (entries_one bytes one.entries other.entries one.leaves other.leaves) one.stands) other.stands
+
+module _ {S : Type 0} (world : S → World) (moment : S → ℕ) (left_since : S → ℕ → World → Type 0) where
+  -- ---- what stands for a store, a crash leaves
+  module _ (table : Table) (g : GraphState) (site : S) (stands : StandsFor world moment left_since table site) (is : IsGraphOf (entries_in table) g) where
+    stored : (w : World) → left_since site (moment site) w → IsStoreOf g w.store
+    stored w left = ⊎_elim (λ store. store) (λ store. store) ((as_it_was world moment left_since table g site stands is g).only.each w left)
+
+    guarded : (kept : Tree) → Guards (left_since site (moment site)) g kept → (w : World) → left_since site (moment site) w → HasSources kept w
+    guarded kept guards w left = record { graph = g; store = stored w left; sources = guards w left }
+
+    -- a transaction goes on from here
+    pub either_from : (new : S) (h : GraphState) → GoesOn moment left_since site new (GraphStep g h) → LeavesEither moment left_since site new g h
+    either_from new h on = record {
+      only = record {
+        later = on.later;
+        each = λ w left. ⊎_elim (λ before. inl (stored w before)) (λ from. from.2.store) (on.since (moment site) w (omega arith) left);
+        before = λ t w le left. ⊎_elim inl (λ from. inr from.2.store) (on.since t w le left);
+      };
+      on = on;
+    }
+
+    -- a step from here that leaves the sources
+    only_from : (kept : Tree) (new : S) (step : World → World → Type 0) → Guards (left_since site (moment site)) g kept
+        → ((v w : World) → left_since site (moment site) v → step v w → HasSources kept w) → GoesOn moment left_since site new step → LeavesOnly moment left_since site new (HasSources kept)
+    only_from kept new step guards has on = record {
+      later = on.later;
+      each = λ w left. ⊎_elim (guarded kept guards w) (λ from. has from.0 w from.1 from.2) (on.since (moment site) w (omega arith) left);
+      before = λ t w le left. ⊎_elim inl (λ from. inr (has from.0 w from.1 from.2)) (on.since t w le left);
+    }
+
+    -- nothing is added
+    pub nothing_keeps : (kept : Tree) (new : S) → Guards (left_since site (moment site)) g kept → GoesOn moment left_since site new NoStep → LeavesOnly moment left_since site new (HasSources kept)
+    nothing_keeps kept new guards on = only_from kept new NoStep guards (λ v w left none. absurd none) on
+
+    -- a transaction that leaves a graph which guards the same sources
+    pub commit_keeps : (kept : Tree) (new : S) (h : GraphState) → Guards (left_since site (moment site)) g kept → Guards (left_since site (moment site)) h kept
+        → LeavesEither moment left_since site new g h → LeavesOnly moment left_since site new (HasSources kept)
+    commit_keeps kept new h guards then leaves =
+        only_from kept new (GraphStep g h) guards
+        (λ v w left step.
+        ⊎_elim (λ (store : IsStoreOf g w.store). (let has : HasSources kept w = record { graph = g; store = store; sources = ap (sources_of g) step.tree ∙ guards v left } in has))
+        (λ (store : IsStoreOf h w.store). (let has : HasSources kept w = record { graph = h; store = store; sources = ap (sources_of h) step.tree ∙ then v left } in has)) step.store) leaves.on
+
+    -- files at owned paths change
+    pub files_keep : (kept : Tree) (new : S) → Guards (left_since site (moment site)) g kept → GoesOn moment left_since site new (OwnedStep g) → LeavesOnly moment left_since site new (HasSources kept)
+    files_keep kept new guards on =
+        only_from kept new (OwnedStep g) guards
+        (λ v w left step. (let has : HasSources kept w = record {
+          graph = g;
+          store = subst (IsStoreOf g) (sym step.store) (stored v left);
+          sources = own_same g v.tree w.tree step.others ∙ guards v left;
+        } in has)) on
+
+    -- where a crash since an earlier moment leaves these sources, the graph that stands for the store now guards them
+    pub guards_now : (kept : Tree) (old : S) → IsEarlier moment left_since site → LeavesOnly moment left_since old site (HasSources kept) → Guards (left_since site (moment site)) g kept
+    guards_now kept old earlier only w left =
+        let has = only.each w (earlier (moment old) (moment site) w only.later left) in
+        sym (ap (λ (k : GraphState). sources_of k w.tree) (one_store w.store has.graph g has.store (stored w left))) ∙ has.sources
+
+    -- and where the tree is settled as well, it leaves just what is there
+    pub durable_now : (pins : PinsTree (left_since site (moment site)) (world site)) → IsDurable (left_since site (moment site)) (world site)
+    durable_now pins w left = λ i. record { tree = pins w left i; store = stands.rests.durable w left i }
+
+  -- ---- an opening
+  pub opening_keeps : (kept : Tree) (old new : S) → ((w : World) → left_since old (moment old) w → HasSources kept w) → GoesOn moment left_since old new OpenStep
+      → LeavesOnly moment left_since old new (HasSources kept)
+  opening_keeps kept old new had on = record {
+    later = on.later;
+    each = λ w left. ⊎_elim (had w) (opened w) (on.since (moment old) w (omega arith) left);
+    before = λ t w le left. ⊎_elim inl (λ from. inr (opened w from)) (on.since t w le left);
+  }
+    where
+      opened : (w : World) → Follows OpenStep (left_since old (moment old)) w → HasSources kept w
+      opened w from =
+          let has = had from.0 from.1 in
+          let step = from.2 in
+          record {
+            graph = has.graph;
+            store = record {
+              entries = step.entries;
+              leaves = step.after;
+              stands = subst (λ (es : Standing). IsGraphOf es has.graph) (entries_one from.0.store has.store.entries step.entries has.store.leaves step.before) has.store.stands;
+            };
+            sources = ap (sources_of has.graph) step.tree ∙ has.sources;
+          }
+
+-- ---- one step behind another
+module _ {S : Type 0} (moment : S → ℕ) (left_since : S → ℕ → World → Type 0) (P : World → Type 0) where
+  pub in_turn : (old mid new : S) → LeavesOnly moment left_since old mid P → LeavesOnly moment left_since mid new P → LeavesOnly moment left_since old new P
+  in_turn old mid new first last = record {
+    later = omega (arith, first.later, last.later);
+    each = λ w left. ⊎_elim (first.each w) (λ p. p) (last.before (moment old) w first.later left);
+    before = λ t w le left. ⊎_elim (first.before t w le) inr (last.before t w (omega (arith, le, first.later)) left);
+  }
