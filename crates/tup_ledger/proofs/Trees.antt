@@ -1,11 +1,13 @@
 -- What the sources of a tree are where other paths are owned, and where other files stand.
-use Rattle.std.proofs.Common.{◌≡◌, Bool, true, false, cond, not, ◌||◌, is_some, List, [], ◌∷◌, fold, Option, None, Some, refl, sym, ap, ◌∙◌}
+use Rattle.std.proofs.Common.{◌≡◌, Bool, true, false, cond, not, ◌||◌, is_some, List, [], ◌∷◌, fold, Option, None, Some, All, refl, sym, ap, ◌∙◌}
 use Rattle.std.specs.FinMap as finite
+use Rattle.std.proofs.lemmas.List.Elements.{All-contains}
 use Rattle.tup_path.specs.Name.{Names, Content}
 use Rattle.tup_path.specs.Order.{by_names, same_path, same_path-by_names, by_names-total, by_names-antisymmetric}
 use Rattle.tup_path.specs.Tree.{Tree}
 use Rattle.tup_path.proofs.Same.{same_tree}
 use Rattle.tup_rule.specs.Rule.{among}
+use Rattle.tup_rule.proofs.Laws.{among-decides}
 use Rattle.tup_record.specs.declared.owned.OwnedState.TheVariants.{Unsure}
 use Rattle.tup_graph.specs.declared.owned.Owned.{Owned}
 use Rattle.tup_graph.specs.Graph.{GraphState, is_owned}
@@ -30,7 +32,7 @@ module _ (g : GraphState) where
   owned_more (path ∷ paths) owned q =
       owned_more paths (with_own g owned path) q
       ∙ ap (λ (found : Option Owned). among q paths || is_some found)
-          (finite.get-insert by_names-total owned path (unsure path) q ∙ ap (λ (b : Bool). cond b (Some (unsure path)) (finite.get owned q)) (sym (same_path-by_names q path)))
+      (finite.get-insert by_names-total owned path (unsure path) q ∙ ap (λ (b : Bool). cond b (Some (unsure path)) (finite.get owned q)) (sym (same_path-by_names q path)))
       ∙ either (same_path q path) (among q paths) (unsure path) (finite.get owned q)
 
 or_false : (a b : Bool) → (a || b) ≡ false → (a ≡ false) × (b ≡ false)
@@ -53,6 +55,9 @@ get_source g tree q =
 alike : (g h : GraphState) (t u : Tree) → ((q : Names) → cond (not (is_owned g q)) (finite.get t q) None ≡ cond (not (is_owned h q)) (finite.get u q) None) → sources_of g t ≡ sources_of h u
 alike g h t u each = same_tree (sources_of g t) (sources_of h u) (λ q. get_source g t q ∙ each q ∙ sym (get_source h u q))
 
+none_at : (tree : Tree) (paths : List Names) (q : Names) → HaveNoFiles tree paths → among q paths ≡ true → finite.get tree q ≡ None
+none_at tree paths q none is = All-contains (λ path. finite.get tree path ≡ None) paths q none ((among-decides q paths).0 is)
+
 nothing : (b : Bool) → ◌≡◌ {A = Option Content} (cond (not b) None None) None
 nothing true = refl
 nothing false = refl
@@ -64,7 +69,7 @@ own_more g tree kept paths is none = alike (with_owned g paths) g tree tree (λ 
     by : (q : Names) (b : Bool) → among q paths ≡ b → cond (not (is_owned (with_owned g paths) q)) (finite.get tree q) None ≡ cond (not (is_owned g q)) (finite.get tree q) None
     by q true e =
         ap (λ (owned : Bool). cond (not owned) (finite.get tree q) None) (owned_more g paths g.owned q ∙ ap (λ (b : Bool). b || is_owned g q) e)
-        ∙ sym (sym (get_source g tree q) ∙ ap (λ (k : Tree). finite.get k q) is ∙ none q e)
+        ∙ sym (sym (get_source g tree q) ∙ ap (λ (k : Tree). finite.get k q) is ∙ none_at kept paths q none e)
     by q false e =
         ap (λ (owned : Bool). cond (not owned) (finite.get tree q) None) (owned_more g paths g.owned q ∙ ap (λ (b : Bool). b || is_owned g q) e)
 
@@ -74,8 +79,8 @@ own_less g tree paths none = alike (with_forgotten g paths) g tree tree (λ q. b
   where
     by : (q : Names) (b : Bool) → among q paths ≡ b → cond (not (is_owned (with_forgotten g paths) q)) (finite.get tree q) None ≡ cond (not (is_owned g q)) (finite.get tree q) None
     by q true e =
-        ap (λ (found : Option Content). cond (not (is_owned (with_forgotten g paths) q)) found None) (none q e) ∙ nothing (is_owned (with_forgotten g paths) q)
-        ∙ sym (ap (λ (found : Option Content). cond (not (is_owned g q)) found None) (none q e) ∙ nothing (is_owned g q))
+        ap (λ (found : Option Content). cond (not (is_owned (with_forgotten g paths) q)) found None) (none_at tree paths q none e) ∙ nothing (is_owned (with_forgotten g paths) q)
+        ∙ sym (ap (λ (found : Option Content). cond (not (is_owned g q)) found None) (none_at tree paths q none e) ∙ nothing (is_owned g q))
     by q false e = ap (λ (found : Option Owned). cond (not (is_some found)) (finite.get tree q) None) (left_elsewhere paths g.owned q e)
 
 -- other files stand at owned paths

@@ -1,11 +1,10 @@
 -- Which files are sources, and what a crash leaves of them (own).
-use Rattle.std.specs.Prelude.{◌≡◌, ℕ, true, false, not, List, None}
+use Rattle.std.specs.Prelude.{◌≡◌, ℕ, false, not, List, None, All}
 use Rattle.std.specs.FinMap as finite
 use Rattle.tup_path.specs.Name.{Names}
 use Rattle.tup_path.specs.Tree.{Tree}
 use Rattle.tup_site.specs.Crash.{LeavesOnly}
 use Rattle.tup_site.specs.World.{World, StoreStays}
-use Rattle.tup_rule.specs.Rule.{among}
 use Rattle.tup_graph.specs.Graph.{GraphState, is_owned}
 use Rattle.tup_kept.specs.Crash.{IsStoreOf}
 
@@ -15,7 +14,7 @@ sources_of g tree = finite.retain_keys tree (λ path. not (is_owned g path))
 
 -- no file stands at some paths
 abbrev pub HaveNoFiles : Tree → List Names → Type 0
-HaveNoFiles tree paths = (path : Names) → among path paths ≡ true → finite.get tree path ≡ None
+HaveNoFiles tree paths = All (λ path. finite.get tree path ≡ None) paths
 
 -- a world whose store reads, and that has these sources: every other file is owned
 pub record HasSources (kept : Tree) (w : World) : Type 0 where
