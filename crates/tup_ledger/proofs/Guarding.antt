@@ -1,5 +1,6 @@
 -- What a crash leaves of the sources, step by step.
 use Rattle.std.proofs.Common.{◌≡◌, ℕ, ◌≤◌, List, Result, Ok, inl, inr, ⊎_elim, refl, sym, ap, subst, ◌∙◌, arith}
+use Rattle.tup_path.specs.Name.{Names}
 use Rattle.tup_path.specs.Tree.{Tree}
 use Rattle.tup_site.specs.Crash.{Follows, GoesOn, NoStep, PinsTree, LeavesOnly}
 use Rattle.tup_site.specs.World.{World, TreeStays}
@@ -14,11 +15,13 @@ use Rattle.tup_table.proofs.Going.{IsEarlier, as_step, nothing_then}
 use Rattle.tup_table.proofs.Stores.{reads_one}
 use Rattle.tup_graph.specs.Graph.{GraphState}
 use Rattle.tup_graph.specs.Opening.{IsGraphOf}
+use Rattle.tup_graph.specs.Transactions.{with_forgotten}
 use Rattle.tup_graph.proofs.OneWay.{one_graph}
 use Rattle.tup_kept.specs.Crash.{IsStoreOf, HasEither, GraphStep, LeavesEither}
 use Rattle.tup_kept.proofs.Crashes.{as_it_was}
-use Rattle.tup_ledger.specs.Sources.{sources_of, HasSources, Guards, IsDurable, OwnedStep}
-use Rattle.tup_ledger.proofs.Trees.{own_same}
+use Rattle.tup_ledger.specs.Owned.{with_owned}
+use Rattle.tup_ledger.specs.Sources.{sources_of, HasSources, HaveNoFiles, Guards, IsDurable, OwnedStep}
+use Rattle.tup_ledger.proofs.Trees.{own_more, own_less, own_same}
 
 -- ---- a store is of one graph
 entries_one : (bytes : List ℕ) (es fs : Standing) → Leaves es bytes → Leaves fs bytes → es ≡ fs
@@ -31,6 +34,20 @@ entries_one bytes es fs one other =
 pub one_store : (bytes : List ℕ) (g h : GraphState) → IsStoreOf g bytes → IsStoreOf h bytes → g ≡ h
 one_store bytes g h one other =
     one_graph other.entries g h (subst (λ (es : Standing). IsGraphOf es g) (entries_one bytes one.entries other.entries one.leaves other.leaves) one.stands) other.stands
+
+-- ---- one step behind another
+module _ {S : Type 0} (moment : S → ℕ) (left_since : S → ℕ → World → Type 0) (P : World → Type 0) where
+  pub in_turn : (old mid new : S) → LeavesOnly moment left_since old mid P → LeavesOnly moment left_since mid new P → LeavesOnly moment left_since old new P
+  in_turn old mid new first last = record {
+    later = omega (arith, first.later, last.later);
+    each = λ w left. ⊎_elim (first.each w) (λ p. p) (last.before (moment old) w first.later left);
+    before = λ t w le left. ⊎_elim (first.before t w le) inr (last.before t w (omega (arith, le, first.later)) left);
+  }
+
+module _ {S : Type 0} (moment : S → ℕ) (left_since : S → ℕ → World → Type 0) where
+  -- nothing was done
+  pub at_rest : (site : S) → GoesOn moment left_since site site NoStep
+  at_rest site = record { later = omega arith; kept = λ t w le left. left; since = λ t w le left. inl left }
 
 module _ {S : Type 0} (world : S → World) (moment : S → ℕ) (left_since : S → ℕ → World → Type 0) where
   -- ---- what stands for a store, a crash leaves
@@ -90,9 +107,44 @@ module _ {S : Type 0} (world : S → World) (moment : S → ℕ) (left_since : S
         let has = only.each w (earlier (moment old) (moment site) w only.later left) in
         sym (ap (λ (k : GraphState). sources_of k w.tree) (one_store w.store has.graph g has.store (stored w left))) ∙ has.sources
 
-    -- and where the tree is settled as well, it leaves just what is there
-    pub durable_now : (pins : PinsTree (left_since site (moment site)) (world site)) → IsDurable (left_since site (moment site)) (world site)
-    durable_now pins w left = λ i. record { tree = pins w left i; store = stands.rests.durable w left i }
+    -- a call that adds nothing, and such a call before a transaction
+    pub either_quiet : (new : S) (h : GraphState) → GoesOn moment left_since site new NoStep → LeavesEither moment left_since site new g h
+    either_quiet new h on = either_from new h (as_step moment left_since site new NoStep (GraphStep g h) (λ v w left none. absurd none) on)
+
+    pub either_settled : (mid new : S) (h : GraphState) → IsEarlier moment left_since mid → GoesOn moment left_since site mid NoStep → LeavesEither moment left_since mid new g h → LeavesEither moment left_since site new g h
+    either_settled mid new h earlier quiet leaves = either_from new h (nothing_then moment left_since site mid new (GraphStep g h) earlier quiet leaves.on)
+
+    -- paths at which no source stands become owned
+    pub own_keeps : (kept : Tree) (new : S) (paths : List Names) → Guards (left_since site (moment site)) g kept → HaveNoFiles kept paths
+        → LeavesEither moment left_since site new g (with_owned g paths) → LeavesOnly moment left_since site new (HasSources kept)
+    own_keeps kept new paths guards none leaves = commit_keeps kept new (with_owned g paths) guards (λ w left. own_more g w.tree kept paths (guards w left) none) leaves
+
+  -- where a table stands for the store and the tree is settled, a crash leaves just what is there
+  pub durable_now : (table : Table) (site : S) → StandsFor world moment left_since table site → PinsTree (left_since site (moment site)) (world site) → IsDurable (left_since site (moment site)) (world site)
+  durable_now table site stands pins w left = λ i. record { tree = pins w left i; store = stands.rests.durable w left i }
+
+  -- a settled tree stays so while the store is written
+  pub pins_on : (g h : GraphState) (old new : S) → IsEarlier moment left_since new → PinsTree (left_since old (moment old)) (world old) → TreeStays (world old) (world new)
+      → LeavesEither moment left_since old new g h → PinsTree (left_since new (moment new)) (world new)
+  pins_on g h old new earlier pins same leaves w left =
+      ⊎_elim (λ (before : left_since old (moment old) w). pins w before ∙ sym same) (λ from. from.2.tree ∙ pins from.0 from.1 ∙ sym same)
+      (leaves.on.since (moment old) w (omega arith) (earlier (moment old) (moment new) w leaves.on.later left))
+
+  -- the tree is settled, and paths at which no file stands are forgotten
+  pub forget_keeps : (table : Table) (g : GraphState) (kept : Tree) (paths : List Names) (old mid new : S) → StandsFor world moment left_since table old → StandsFor world moment left_since table mid → IsGraphOf (entries_in table) g
+      → IsEarlier moment left_since mid → Guards (left_since old (moment old)) g kept → HaveNoFiles (world old).tree paths → world mid ≡ world old → GoesOn moment left_since old mid NoStep
+      → PinsTree (left_since mid (moment mid)) (world mid) → LeavesEither moment left_since mid new g (with_forgotten g paths) → LeavesOnly moment left_since old new (HasSources kept)
+  forget_keeps table g kept paths old mid new stands settled is earlier guards none same quiet pins leaves =
+      in_turn moment left_since (HasSources kept) old mid new first (commit_keeps table g mid settled is kept new (with_forgotten g paths) guarding (λ w left. own_less g w.tree paths (gone w left) ∙ guarding w left) leaves)
+    where
+      first : LeavesOnly moment left_since old mid (HasSources kept)
+      first = nothing_keeps table g old stands is kept mid guards quiet
+
+      guarding : Guards (left_since mid (moment mid)) g kept
+      guarding = guards_now table g mid settled is kept old earlier first
+
+      gone : (w : World) → left_since mid (moment mid) w → HaveNoFiles w.tree paths
+      gone w left = subst (λ (t : Tree). HaveNoFiles t paths) (sym (pins w left ∙ ap (λ (v : World). v.tree) same)) none
 
   -- ---- an opening
   pub opening_keeps : (kept : Tree) (old new : S) → ((w : World) → left_since old (moment old) w → HasSources kept w) → GoesOn moment left_since old new OpenStep
@@ -116,12 +168,3 @@ module _ {S : Type 0} (world : S → World) (moment : S → ℕ) (left_since : S
             };
             sources = ap (sources_of has.graph) step.tree ∙ has.sources;
           }
-
--- ---- one step behind another
-module _ {S : Type 0} (moment : S → ℕ) (left_since : S → ℕ → World → Type 0) (P : World → Type 0) where
-  pub in_turn : (old mid new : S) → LeavesOnly moment left_since old mid P → LeavesOnly moment left_since mid new P → LeavesOnly moment left_since old new P
-  in_turn old mid new first last = record {
-    later = omega (arith, first.later, last.later);
-    each = λ w left. ⊎_elim (first.each w) (λ p. p) (last.before (moment old) w first.later left);
-    before = λ t w le left. ⊎_elim (first.before t w le) inr (last.before t w (omega (arith, le, first.later)) left);
-  }

@@ -17,6 +17,10 @@ use Rattle.tup_graph.proofs.Leading.{edits_read}
 use Rattle.tup_graph.proofs.Needed.{needed_read}
 use Rattle.tup_ledger.specs.Owned.{maker_in, owning, own_edits, with_own, with_owned}
 
+-- the paths of entries
+abbrev pub paths_of : List (Names × Owned) → List Names
+paths_of entries = map (λ (entry : Names × Owned). entry.0) entries
+
 pub own_leaves : (g : GraphState) (paths : List Names) → edited_by g (own_edits g paths) ≡ with_owned g paths
 own_leaves g paths = more g paths
   where

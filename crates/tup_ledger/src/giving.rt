@@ -48,9 +48,10 @@ pub fn give_up<S: Site>(
     ensures known { IsTrue S.tells → S.known site.new ≡ S.known site.old }
     ensures cause { CountsFaults (S.faults site.old) (S.faults site.new) result }
 {
+    // A law, here and at the end: while the graph is fresh, the store stands for its nodes.
+    let _ = graph.nodes();
     settle(alloc, site)?;
     let ended = graph.forget(alloc, site, paths);
-    // A law: while the graph is fresh, the store stands for its nodes.
     let _ = graph.nodes();
     ended
 }
