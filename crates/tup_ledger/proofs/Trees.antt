@@ -1,6 +1,7 @@
 -- What the sources of a tree are where other paths are owned, and where other files stand.
 use Rattle.std.proofs.Common.{◌≡◌, Bool, true, false, cond, not, ◌||◌, is_some, List, [], ◌∷◌, fold, Option, None, Some, All, refl, sym, ap, ◌∙◌}
 use Rattle.std.specs.FinMap as finite
+use Rattle.std.specs.Ordering.{eq_by_cmp}
 use Rattle.std.proofs.lemmas.List.Elements.{All-contains}
 use Rattle.tup_path.specs.Name.{Names, Content}
 use Rattle.tup_path.specs.Order.{by_names, same_path, same_path-by_names, by_names-total, by_names-antisymmetric}
@@ -13,7 +14,7 @@ use Rattle.tup_graph.specs.declared.owned.Owned.{Owned}
 use Rattle.tup_graph.specs.Graph.{GraphState, is_owned}
 use Rattle.tup_graph.specs.Transactions.{with_forgotten}
 use Rattle.tup_ledger.specs.Owned.{maker_in, with_own, with_owned}
-use Rattle.tup_ledger.specs.Sources.{sources_of, HaveNoFiles}
+use Rattle.tup_ledger.specs.Sources.{sources_of, HaveNoFiles, OwnsOnly}
 
 -- ---- what is owned
 either : (a b : Bool) (one : Owned) (found : Option Owned) → (b || is_some (cond a (Some one) found)) ≡ ((a || b) || is_some found)
@@ -46,6 +47,28 @@ left_elsewhere (path ∷ paths) owned q other =
     let parts = or_false (same_path q path) (among q paths) other in
     left_elsewhere paths (finite.remove owned path) q parts.1 ∙ finite.get-remove by_names-total owned path q
     ∙ ap (λ (b : Bool). cond b None (finite.get owned q)) (sym (same_path-by_names q path) ∙ parts.0)
+
+-- and one that is owned still was owned
+still_owned : (paths : List Names) (owned : finite.FinMap by_names Owned) (q : Names) → is_some (finite.get (fold finite.remove owned paths) q) ≡ true → is_some (finite.get owned q) ≡ true
+still_owned [] owned q is = is
+still_owned (path ∷ paths) owned q is =
+    left_some (eq_by_cmp by_names q path) (finite.get owned q)
+    (sym (ap (λ (found : Option Owned). is_some found) (finite.get-remove by_names-total owned path q)) ∙ still_owned paths (finite.remove owned path) q is)
+  where
+    left_some : (b : Bool) (found : Option Owned) → is_some (cond b None found) ≡ true → is_some found ≡ true
+    left_some true found is = absurd (cc)
+    left_some false found is = is
+
+-- ---- which paths are owned
+pub owns_more : (g : GraphState) (paths : List Names) (may : Names → Bool) → OwnsOnly may g → All (λ path. may path ≡ true) paths → OwnsOnly may (with_owned g paths)
+owns_more g paths may only all path is = by (among path paths) refl (sym (owned_more g paths g.owned path) ∙ is)
+  where
+    by : (b : Bool) → among path paths ≡ b → (among path paths || is_owned g path) ≡ true → may path ≡ true
+    by true e either = All-contains (λ path. may path ≡ true) paths path all ((among-decides path paths).0 e)
+    by false e either = only path (sym (ap (λ (b : Bool). b || is_owned g path) e) ∙ either)
+
+pub owns_less : (g : GraphState) (paths : List Names) (may : Names → Bool) → OwnsOnly may g → OwnsOnly may (with_forgotten g paths)
+owns_less g paths may only path is = only path (still_owned paths g.owned path is)
 
 -- ---- what is a source
 get_source : (g : GraphState) (tree : Tree) (q : Names) → finite.get (sources_of g tree) q ≡ cond (not (is_owned g q)) (finite.get tree q) None

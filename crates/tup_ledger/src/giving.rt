@@ -1,6 +1,5 @@
 //! Paths are owned no longer.
 ghost use Rattle.std.specs.Prelude.{◌≡◌, IsTrue, OnOk};
-ghost use Rattle.tup_path.specs.Tree.{Tree};
 ghost use Rattle.tup_site.specs.Crash.{GoesOn, NoStep, PinsTree};
 ghost use Rattle.tup_site.specs.World.{TreeStays};
 ghost use Rattle.tup_graph.specs.Transactions.{forget_edits, with_forgotten};
@@ -9,7 +8,7 @@ ghost use Rattle.tup_kept.specs.Crash.{LeavesEither};
 ghost use Rattle.tup_kept.specs.Held.{is_fresh, StandsFor};
 ghost use Rattle.tup_kept.specs.Transaction.{IsFull};
 ghost use Rattle.tup_ledger.specs.Given.{GivesUp, IsRefused};
-ghost use Rattle.tup_ledger.specs.Sources.{Guards, HaveNoFiles, IsDurable, KeepsSources};
+ghost use Rattle.tup_ledger.specs.Sources.{Guards, HaveNoFiles, IsDurable, Kept, KeepsSources};
 
 use std::alloc::Global;
 use tup_graph::GraphFault;
@@ -41,7 +40,7 @@ pub fn give_up<S: Site>(
         (IsDurable (S.left_since site.new (S.moment site.new)) (S.world site.new)) }
     ensures crash { IsTrue S.tells → LeavesEither S.moment S.left_since site.old site.new
         graph.old.nodes (with_forgotten graph.old.nodes paths.now) }
-    ensures sources { IsTrue S.tells → (kept : Tree)
+    ensures sources { IsTrue S.tells → (kept : Kept)
         → Guards (S.left_since site.old (S.moment site.old)) graph.old.nodes kept
         → KeepsSources S.moment S.left_since site.old site.new
         kept (IsTrue (is_fresh graph.new)) graph.new.nodes }

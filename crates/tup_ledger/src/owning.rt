@@ -1,14 +1,13 @@
 //! Paths become owned.
-ghost use Rattle.std.specs.Prelude.{◌≡◌, IsTrue, IfOk, Ok, Err};
+ghost use Rattle.std.specs.Prelude.{◌≡◌, true, All, IsTrue, IfOk, Ok, Err};
 ghost use Rattle.tup_path.specs.Gives.{GivesUnless};
-ghost use Rattle.tup_path.specs.Tree.{Tree};
 ghost use Rattle.tup_site.specs.World.{TreeStays};
 ghost use Rattle.tup_kept.specs.Cause.{CountsFaults};
 ghost use Rattle.tup_kept.specs.Crash.{LeavesEither};
 ghost use Rattle.tup_kept.specs.Held.{is_fresh, StandsFor};
 ghost use Rattle.tup_kept.specs.Transaction.{Leaves, IsFull};
 ghost use Rattle.tup_ledger.specs.Owned.{owned_in, maker_in, owning as owning_of, own_edits, with_owned};
-ghost use Rattle.tup_ledger.specs.Sources.{Guards, HaveNoFiles, KeepsSources};
+ghost use Rattle.tup_ledger.specs.Sources.{Guards, HaveNoFiles, Kept, KeepsSources};
 
 use std::alloc::{AllocError, Global};
 use tup_graph::{Edit, Edits, GraphFault, Nodes};
@@ -50,10 +49,10 @@ pub fn own<S: Site>(
     ensures tree { IsTrue S.tells → TreeStays (S.world site.old) (S.world site.new) }
     ensures crash { IsTrue S.tells → LeavesEither S.moment S.left_since site.old site.new
         graph.old.nodes (with_owned graph.old.nodes paths.now) }
-    // No source is among the paths: then a crash leaves all of them, and so does this call.
-    ensures sources { IsTrue S.tells → (kept : Tree)
+    // Where no source is among the paths, a crash leaves all of them, and owned is only what may be.
+    ensures sources { IsTrue S.tells → (kept : Kept)
         → Guards (S.left_since site.old (S.moment site.old)) graph.old.nodes kept
-        → HaveNoFiles kept paths.now
+        → HaveNoFiles kept.sources paths.now → All (λ path. kept.may path ≡ true) paths.now
         → KeepsSources S.moment S.left_since site.old site.new
         kept (IsTrue (is_fresh graph.new)) graph.new.nodes }
     ensures known { IsTrue S.tells → S.known site.new ≡ S.known site.old }

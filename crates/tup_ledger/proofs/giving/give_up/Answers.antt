@@ -35,7 +35,7 @@ returns-in_err-settle-clause-sources g c = λ tells kept guards.
     record {
       images = images;
       guards = λ fresh.
-          guards_now g.S.Site.world g.S.Site.moment g.S.Site.left_since old.table old.nodes mid stands is kept c.args.site.now (λ t u w le left. site_laws.earlier mid t u w tells le left) images;
+          guards_now g.S.Site.world g.S.Site.moment g.S.Site.left_since old.table old.nodes mid stands is kept c.args.site.now (λ t u w le left. site_laws.earlier mid t u w tells le left) (site_laws.present mid tells) images;
     }
 
 pub forget-ended-requires-clause-stands : goal.forget-ended-requires-clause-stands
@@ -80,11 +80,11 @@ returns-clause-sources g c = λ tells kept guards.
     stands_on g.S.Site.world g.S.Site.moment g.S.Site.left_since old.table c.args.site.now mid NoStep (λ v w none. absurd none)
     (λ t u w le left. site_laws.earlier mid t u w tells le left) (c.settle.ensures.crash tells) (ap (λ (w : World). w.store) (c.settle.ensures.same tells)) (c.requires.stands tells) in
     let images =
-    forget_keeps g.S.Site.world g.S.Site.moment g.S.Site.left_since old.table old.nodes kept c.args.paths.now c.args.site.now mid end (c.requires.stands tells) stands is (λ t u w le left. site_laws.earlier mid t u w tells le left)
+    forget_keeps g.S.Site.world g.S.Site.moment g.S.Site.left_since old.table old.nodes kept c.args.paths.now c.args.site.now mid end (c.requires.stands tells) stands is (λ t u w le left. site_laws.earlier mid t u w tells le left) (site_laws.present mid tells)
     guards (c.requires.gone tells) (c.settle.ensures.same tells) (c.settle.ensures.crash tells) (c.in_ok-settle.ensures.durable tells) (c.forget-ended.ensures.crash tells) in
     record {
       images = images;
       guards = λ fresh.
           guards_now g.S.Site.world g.S.Site.moment g.S.Site.left_since new.table new.nodes end (c.forget-ended.ensures.stands tells fresh)
-          (subst (IsGraphOf (entries_in new.table)) c.nodes-2.ensures.value (c.nodes-2.ensures.graph fresh)) kept c.args.site.now (λ t u w le left. site_laws.earlier end t u w tells le left) images;
+          (subst (IsGraphOf (entries_in new.table)) c.nodes-2.ensures.value (c.nodes-2.ensures.graph fresh)) kept c.args.site.now (λ t u w le left. site_laws.earlier end t u w tells le left) (site_laws.present end tells) images;
     }

@@ -33,7 +33,7 @@ returns-clause-crash g c = λ tells.
     (c.commit_edits-ended.ensures.crash tells)
 
 pub returns-clause-sources : goal.returns-clause-sources
-returns-clause-sources g c = λ tells kept guards none.
+returns-clause-sources g c = λ tells kept guards none may.
     let site_laws = g.met.S.Site g.world.𝓛 g.world.𝓜 g.world.𝓡 ((λ s x. x), (λ x. x), (λ x. x), λ x. x) in
     let old = c.args.graph.now in
     let new = c.commit_edits-ended.new.self in
@@ -44,12 +44,12 @@ returns-clause-sources g c = λ tells kept guards none.
     let crash =
     as_crashed c.in_ok-edits.edits (own_edits old.nodes paths) old.nodes (with_owned old.nodes paths) same (own_leaves old.nodes paths) g.S.Site.moment g.S.Site.left_since c.args.site.now end old.nodes
     (c.commit_edits-ended.ensures.crash tells) in
-    let images = own_keeps g.S.Site.world g.S.Site.moment g.S.Site.left_since old.table old.nodes c.args.site.now (c.requires.stands tells) is kept end paths guards none crash in
+    let images = own_keeps g.S.Site.world g.S.Site.moment g.S.Site.left_since old.table old.nodes c.args.site.now (c.requires.stands tells) is kept end paths guards none may crash in
     record {
       images = images;
       guards = λ fresh.
           guards_now g.S.Site.world g.S.Site.moment g.S.Site.left_since new.table new.nodes end (c.commit_edits-ended.ensures.stands tells fresh)
-          (subst (IsGraphOf (entries_in new.table)) c.nodes-2.ensures.value (c.nodes-2.ensures.graph fresh)) kept c.args.site.now (λ t u w le left. site_laws.earlier end t u w tells le left) images;
+          (subst (IsGraphOf (entries_in new.table)) c.nodes-2.ensures.value (c.nodes-2.ensures.graph fresh)) kept c.args.site.now (λ t u w le left. site_laws.earlier end t u w tells le left) (site_laws.present end tells) images;
     }
 
 pub returns-in_err-edits-clause-crash : goal.returns-in_err-edits-clause-crash
@@ -59,7 +59,7 @@ returns-in_err-edits-clause-crash g c = λ tells.
     as_it_was g.S.Site.world g.S.Site.moment g.S.Site.left_since old.table old.nodes c.args.site.now (c.requires.stands tells) is (with_owned old.nodes c.args.paths.now)
 
 pub returns-in_err-edits-clause-sources : goal.returns-in_err-edits-clause-sources
-returns-in_err-edits-clause-sources g c = λ tells kept guards none.
+returns-in_err-edits-clause-sources g c = λ tells kept guards none may.
     let old = c.args.graph.now in
     let site = c.args.site.now in
     let is = subst (IsGraphOf (entries_in old.table)) c.nodes.ensures.value (c.nodes.ensures.graph c.requires.fresh) in
