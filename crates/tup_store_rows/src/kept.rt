@@ -1,5 +1,6 @@
 //! The calls of `kept.rows`: transactions over a site in memory.
-ghost use Rattle.std.specs.Prelude.{◌≡◌, ◌↔◌, true, All, IsTrue};
+ghost use Rattle.std.specs.Prelude.{◌≡◌, ◌↔◌, true, None, All, IsTrue};
+ghost use Rattle.std.specs.FinMap as finite;
 ghost use Rattle.tup_graph.specs.Graph.{is_rule as is_rule_of};
 ghost use Rattle.tup_ledger.specs.Sources.{HaveNoFiles};
 ghost use Rattle.tup_site.specs.Memory.{tree_in};
@@ -251,7 +252,14 @@ fn give_up_paths(alloc: Global, said: &Words, site: &mut MemSite) -> Made {
 fn have_no_files(site: &MemSite, paths: &[Path]) -> bool
     ensures { IsTrue result ↔ HaveNoFiles (tree_in site.now) paths.now }
 {
-    paths.iter().all(|path| site.file(path).is_none())
+    paths.iter().all(|path| has_no_file(site, path))
+}
+
+/// Whether no file stands at a path.
+fn has_no_file(site: &MemSite, path: &Path) -> bool
+    ensures { IsTrue result ↔ (finite.get (tree_in site.now) path.now ≡ None) }
+{
+    site.file(path).is_none()
 }
 
 /// Opens a store, and makes no transaction, since there is none of this name.
