@@ -1,5 +1,5 @@
 -- What a crash leaves of the sources, step by step.
-use Rattle.std.proofs.Common.{◌≡◌, ℕ, ◌≤◌, true, List, Result, Ok, All, inl, inr, ⊎_elim, refl, sym, ap, subst, ◌∙◌, arith}
+use Rattle.std.proofs.Common.{◌≡◌, ℕ, true, List, Result, Ok, All, inl, inr, ⊎_elim, refl, sym, ap, subst, ◌∙◌, arith}
 use Rattle.std.proofs.lemmas.Bool.{false≢true}
 use Rattle.tup_path.specs.Name.{Names, Content}
 use Rattle.tup_path.specs.Tree.{Tree}
@@ -18,7 +18,7 @@ use Rattle.tup_graph.specs.Graph.{GraphState, is_owned}
 use Rattle.tup_graph.specs.Opening.{IsGraphOf}
 use Rattle.tup_graph.specs.Transactions.{with_forgotten}
 use Rattle.tup_graph.proofs.OneWay.{one_graph}
-use Rattle.tup_kept.specs.Crash.{IsStoreOf, HasEither, GraphStep, LeavesEither}
+use Rattle.tup_kept.specs.Crash.{IsStoreOf, GraphStep, LeavesEither}
 use Rattle.tup_kept.proofs.Crashes.{as_it_was}
 use Rattle.tup_ledger.specs.Owned.{with_owned}
 use Rattle.tup_ledger.specs.Sources.{sources_of, Kept, HasSources, HaveNoFiles, Guards, IsDurable, OwnedStep, OwnsOnly}

@@ -2,4 +2,3 @@ pub mod Trees
 pub mod Guarding
 pub mod Owned
 pub mod Given
-pub mod Opening

@@ -1,4 +1,3 @@
 pub mod Owned
 pub mod Sources
 pub mod Given
-pub mod Begin
