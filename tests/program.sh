@@ -259,8 +259,10 @@ tree='read .;read lib;read src;run lib: CC list.c;run lib: CC text.c;run src: CC
 row "three folders" 0 "${tree}run .: echo app release > app.stamp;done: 3 read, 5 run, 0 removed;" upd
 file "what they give together" app "$(printf '#define SIZE 3\nint list[SIZE];\nint text;\n#define SIZE 3\nint main;')"
 file "a setting" app.stamp 'app release'
+row "they are a clean build" 0 'same;' verify
 echo '#define SIZE 4' > inc/size.h
-row "a header that was edited" 0 "${tree}run .: echo app release > app.stamp;done: 3 read, 5 run, 0 removed;" upd
+row "a header that was edited" 13 'differs: app;' verify
+row "its update" 0 "${tree}run .: echo app release > app.stamp;done: 3 read, 5 run, 0 removed;" upd
 same "what it gives" "$(head -1 app)" '#define SIZE 4'
 rm tup.config
 row "a setting that is gone" 0 "read .;read lib;read src;remove app.stamp;${tree#read .;read lib;read src;}done: 3 read, 4 run, 1 removed;" upd
@@ -277,10 +279,60 @@ row "a folder that asks for what another makes" 0 'read x;read y;run y: echo 1 >
 echo ': ../x/*.o |> cat %f > p.o |> p.o' > y/Tupfile
 row "folders that wait for each other" 5 'fault: directories wait for each other: x -> y -> x;' upd
 file "what was made stands" x/q.o 1
+project
+mkdir lib src inc
+echo '!cc = |> ^ CC %b^ incl %f %o |> %B.o' > Tuprules.tup
+printf 'include_rules\n: foreach *.c |> !cc |> ../<objs>\n' | tee lib/Tupfile > src/Tupfile
+echo ': <objs> |> cat %<objs> > %o |> app' > Tupfile
+echo '#define A' > inc/a.h
+printf '#include "../inc/a.h"\nint a;\n' > lib/a.c
+printf '#include "../inc/a.h"\nint m;\n' > src/m.c
+echo 'int n;' > src/n.c
+row "a group of two folders" 0 'read .;read lib;read src;run lib: CC a.c;run src: CC m.c;run src: CC n.c;run .: cat lib/a.o src/m.o src/n.o > app;done: 3 read, 4 run, 0 removed;' upd
+file "all that was given to it" app "$(printf '#define A\nint a;\n#define A\nint m;\nint n;')"
+row "it is a clean build" 0 'same;' verify
+project
+mkdir x y
+echo 'CONFIG_MODE=fast' > tup.config
+echo ': |> echo @(MODE) > o |> o' > x/Tupfile
+echo ': |> echo y > o |> o' > y/Tupfile
+row "a setting that one of two folders takes" 0 'read x;read y;run x: echo fast > o;run y: echo y > o;done: 2 read, 2 run, 0 removed;' upd
+file "the setting" x/o fast
+echo 'CONFIG_MODE=slow' > tup.config
+row "a setting that was edited" 13 'differs: x/o;' verify
+project 'ifdef T' ': foreach *_text.txt |> cp %f %o |> %g.bin' else 'error no T' endif
+echo 1 > a_text.txt
+echo 2 > b_text.txt
+echo CONFIG_T=y > tup.config
+row "lines where a setting is" 0 'read .;run .: cp a_text.txt a.bin;run .: cp b_text.txt b.bin;done: 1 read, 2 run, 0 removed;' upd
+echo 3 > c_text.txt
+row "verify of a file more, of which one is made" 13 'differs: c.bin;' verify
+rm tup.config
+row "lines where it is gone" 5 'fault: Tupfile:4: error: no T, read for .;' upd
+file "what was made stands" a.bin 1
+file "all of it" b.bin 2
 project ': <g> |> cat %<g> > a.o |> a.o <h>' ': <h> |> cat %<h> > b |> b <g>'
 row "commands that wait for each other" 5 'fault: commands wait for each other: .: cat b > a.o -> .: cat a.o > b -> .: cat b > a.o;' upd
 project ': <none> |> cat %<none> > b |> b'
 row "a group that no rule gives to" 5 'fault: no rule gives to <none>;' upd
+project "$copy"
+row "verify before an update" 13 'differs: b;' verify
+gone "it makes nothing" b
+row "one rule" 0 "$done_copy" upd
+row "verify behind it" 0 'same;' verify
+echo mine > b
+row "verify of an output that was edited" 13 'differs: b;' verify
+file "it changes nothing" b mine
+rm b
+row "verify of one that was deleted" 13 'differs: b;' verify
+echo new > foreign
+row "an update with a file more" 0 "$done_copy" upd
+row "verify of a file more, which is a source" 0 'same;' verify
+: > Tupfile
+row "verify of what no rule makes any more" 13 'differs: b;' verify
+row "verify with a word more" 2 'fault: usage, word 2;' verify now
+project ': a |> fail 3 |> b'
+row "verify of a rule that fails" 1 'fault: .: fail 3: status 3;' verify
 
 # Commands that are run through another program.
 project "$copy"
