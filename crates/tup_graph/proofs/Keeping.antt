@@ -218,7 +218,7 @@ gone_either true false z = refl
 gone_either false true z = refl
 gone_either false false z = refl
 
-get_removed : {X : Type 0} (paths : List Names) (m : finite.FinMap by_names X) (q : Names) → finite.get (fold finite.remove m paths) q ≡ cond (among q paths) None (finite.get m q)
+pub get_removed : {X : Type 0} (paths : List Names) (m : finite.FinMap by_names X) (q : Names) → finite.get (fold finite.remove m paths) q ≡ cond (among q paths) None (finite.get m q)
 get_removed [] m q = refl
 get_removed (path ∷ paths) m q =
     get_removed paths (finite.remove m path) q

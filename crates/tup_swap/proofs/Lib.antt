@@ -1,0 +1,4 @@
+mod Puts
+mod Leaving
+mod Swapping
+mod Taking
