@@ -28,13 +28,13 @@ use Rattle.tup_above.proofs.Members.{number-decides}
 use Rattle.tup_swap.specs.Edits.{unflag, uncreate, unown, unrun, clear_edits, unread, read_so, reading_edits, less_edits, rule_less, more_edits, rule_more, place_behind, run_so, own_so, led_by}
 use Rattle.tup_swap.proofs.Puts.{put_one, take_one, all_taken, all_put}
 
-abbrev Runs : Type 0
+abbrev pub Runs : Type 0
 Runs = finite.FinMap nat_cmp RunRecord
 
-abbrev Owners : Type 0
+abbrev pub Owners : Type 0
 Owners = finite.FinMap by_names Owned
 
-abbrev Readings : Type 0
+abbrev pub Readings : Type 0
 Readings = finite.FinMap by_names Reading
 
 -- ---- two lists of edits, one behind the other
@@ -154,11 +154,11 @@ runs_after runs = fold (put_one nat_cmp_total nat_cmp-IsAntisymmetric number-dec
 abbrev pub flags_after : List ℕ → finite.FinMap nat_cmp (Unit {0})
 flags_after numbers = fold (put_one nat_cmp_total nat_cmp-IsAntisymmetric number-decides) finite.empty (map (λ (n : ℕ). (n, tt)) numbers)
 
-run_leaves : (h : GraphState) (runs : List (ℕ × RunRecord)) → edited_by h (map run_so runs) ≡ record h { runs = fold (put_one nat_cmp_total nat_cmp-IsAntisymmetric number-decides) h.runs runs }
+pub run_leaves : (h : GraphState) (runs : List (ℕ × RunRecord)) → edited_by h (map run_so runs) ≡ record h { runs = fold (put_one nat_cmp_total nat_cmp-IsAntisymmetric number-decides) h.runs runs }
 run_leaves h [] = refl
 run_leaves h (run ∷ runs) = run_leaves (edited h (run_so run)) runs
 
-own_leaves : (h : GraphState) (owned : List (Names × Owned)) → edited_by h (map own_so owned) ≡ record h { owned = fold (put_one by_names-total by_names-antisymmetric by_names-decides) h.owned owned }
+pub own_leaves : (h : GraphState) (owned : List (Names × Owned)) → edited_by h (map own_so owned) ≡ record h { owned = fold (put_one by_names-total by_names-antisymmetric by_names-decides) h.owned owned }
 own_leaves h [] = refl
 own_leaves h (one ∷ owned) = own_leaves (edited h (own_so one)) owned
 

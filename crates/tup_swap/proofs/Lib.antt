@@ -2,3 +2,8 @@ mod Puts
 mod Leaving
 mod Swapping
 mod Taking
+mod Numbered
+mod Looked
+mod Owning
+mod Kept
+mod Placing

@@ -49,11 +49,11 @@ module _ {K X : Type 0} {R : K → K → Ordering} (o : IsTotalOrder R) (exact :
       ∙ nothing_left (find R q (finite.entries m)) ∙ sym (finite.get-empty R q))
 
   -- ---- each key is put once
-  pub Once : List (K × X) → Type 0
+  abbrev pub Once : List (K × X) → Type 0
   Once [] = Unit {0}
   Once (e ∷ es) = (find R e.0 es ≡ None) × Once es
 
-  abbrev first_or : Option X → Option X → Option X
+  abbrev pub first_or : Option X → Option X → Option X
   first_or (Some x) got = Some x
   first_or None got = got
 
@@ -88,13 +88,16 @@ module _ {K X : Type 0} {R : K → K → Ordering} (o : IsTotalOrder R) (exact :
       let parts = both_true (below_all R e.0 es) (is_sorted R es) up in
       (none_below e.0 es parts.0, sorted_once es parts.1)
 
-  or_none : (found : Option X) → first_or found None ≡ found
+  pub once_sorted : (m : FinMap R X) → Once (finite.entries m)
+  once_sorted m = sorted_once (finite.entries m) (t_true (is_sorted R (finite.entries m)) (finite.entries_sorted m))
+
+  pub or_none : (found : Option X) → first_or found None ≡ found
   or_none None = refl
   or_none (Some x) = refl
 
   pub all_put : (m : FinMap R X) → fold put_one finite.empty (finite.entries m) ≡ m
   all_put m = finite.same_map o exact _ _ (λ q.
-      get_put (finite.entries m) (sorted_once (finite.entries m) (t_true (is_sorted R (finite.entries m)) (finite.entries_sorted m))) finite.empty q
+      get_put (finite.entries m) (once_sorted m) finite.empty q
       ∙ ap (first_or (find R q (finite.entries m))) (finite.get-empty R q) ∙ or_none (find R q (finite.entries m)) ∙ sym (finite.get-entries m q))
 
   -- ---- what was put is there

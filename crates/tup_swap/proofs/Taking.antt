@@ -155,7 +155,7 @@ at_next (z ∷ xs) ys x y = at_next xs ys x y
 last_is : {X : Type 0} (xs : List X) (x : X) → last_of (xs ++ x ∷ []) ≡ Some x
 last_is xs x = ap (slice_get (xs ++ x ∷ [])) (omega (arith, length-append xs (x ∷ []))) ∙ at_front xs [] x
 
-one_more : (p : Rule → Bool) (xs : List Rule) (x : Rule) → count_by p (xs ++ x ∷ []) ≡ count_by p xs + cond (p x) 1 0
+pub one_more : (p : Rule → Bool) (xs : List Rule) (x : Rule) → count_by p (xs ++ x ∷ []) ≡ count_by p xs + cond (p x) 1 0
 one_more p [] x = by (p x)
   where
     by : (b : Bool) → cond b 1 0 ≡ cond b 1 0

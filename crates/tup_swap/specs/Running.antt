@@ -1,5 +1,5 @@
 -- What rules keep by the numbers that they had, and who reads what new ones make (own).
-use Rattle.std.specs.Prelude.{ℕ, suc, Bool, true, false, List, [], ◌∷◌, ◌++◌, Option, None, Some, is_none, option_map, option_to_list, unwrap_or, slice_get, if◌then◌else◌}
+use Rattle.std.specs.Prelude.{ℕ, Bool, true, false, List, [], ◌∷◌, Option, None, Some, is_none, option_map, option_to_list, unwrap_or, slice_get, if◌then◌else◌}
 use Rattle.std.specs.List.{flat_map}
 use Rattle.std.specs.FinMap as finite
 use Rattle.tup_path.specs.Name.{Names}
@@ -14,32 +14,23 @@ abbrev pub run_at : GraphState → ℕ → Option ℕ → List (ℕ × RunRecord
 run_at g number None = []
 run_at g number (Some before) = option_to_list (option_map (λ (run : RunRecord). (number, run)) (finite.get g.runs before))
 
--- the records of rules, the first of which has this number
-abbrev pub runs_from : GraphState → ℕ → List (Option ℕ) → List (ℕ × RunRecord)
-runs_from g number [] = []
-runs_from g number (before ∷ befores) = run_at g number before ++ runs_from g (suc number) befores
-
 -- whether a rule that had this number is new, or was flagged
 abbrev pub was_flagged : GraphState → Option ℕ → Bool
 was_flagged g None = true
 was_flagged g (Some before) = is_flagged g before
 
--- the numbers of those that are, where the first of all has this number
-abbrev pub flagged_from : GraphState → ℕ → List (Option ℕ) → List ℕ
-flagged_from g number [] = []
-flagged_from g number (before ∷ befores) = (if was_flagged g before then number ∷ [] else []) ++ flagged_from g (suc number) befores
+-- the number of a rule, if it is so
+abbrev pub flag_at : GraphState → ℕ → Option ℕ → List ℕ
+flag_at g number before = if was_flagged g before then number ∷ [] else []
 
--- whether the rule at a place is new
+-- whether the rule of a number is new
 abbrev pub is_new_at : List (Option ℕ) → ℕ → Bool
-is_new_at befores at = unwrap_or (option_map is_none (slice_get befores at)) false
+is_new_at befores number = unwrap_or (option_map is_none (slice_get befores number)) false
 
 -- the rules whose records ask one of some paths
 abbrev pub readers_of : Readers → List Names → List ℕ
 readers_of readers paths = flat_map (list_of readers.lists) paths
 
--- those whose records ask an output of a new rule
-abbrev pub readers_of_new : Readers → List Rule → List (Option ℕ) → List ℕ
-readers_of_new readers [] befores = []
-readers_of_new readers (rule ∷ rules) [] = []
-readers_of_new readers (rule ∷ rules) (None ∷ befores) = readers_of readers rule.outputs ++ readers_of_new readers rules befores
-readers_of_new readers (rule ∷ rules) (Some before ∷ befores) = readers_of_new readers rules befores
+-- those whose records ask an output of a rule, if it is new
+abbrev pub readers_at : Readers → List (Option ℕ) → ℕ → Rule → List ℕ
+readers_at readers befores number rule = if is_new_at befores number then readers_of readers rule.outputs else []

@@ -3,7 +3,8 @@ ghost use Rattle.std.specs.Prelude.{◌≡◌, ◌↔◌, ◌++◌, ℕ, Contain
 ghost use Rattle.tup_above.specs.Readers.{AreRunsOfRules};
 ghost use Rattle.tup_swap.specs.Before.{AreNumbersBefore};
 ghost use Rattle.tup_swap.specs.Edits.{IsToRun, led_by};
-ghost use Rattle.tup_swap.specs.Running.{flagged_from, is_new_at, readers_of, readers_of_new as readers_of_new_of, run_at, runs_from, was_flagged};
+ghost use Rattle.tup_swap.specs.Numbered.{numbered};
+ghost use Rattle.tup_swap.specs.Running.{flag_at, is_new_at, readers_at, readers_of, run_at, was_flagged};
 
 use crate::before::number_of;
 use crate::putting::{push_more, push_runs};
@@ -20,7 +21,7 @@ pub(crate) fn runs_now(
     nodes: &Nodes,
     befores: &[Option<u32>],
 ) -> Result<Items<(u32, RunRecord)>, GraphFault>
-    ensures runs { IfOk result (λ runs. runs ≡ runs_from nodes.now 0 befores.now) }
+    ensures runs { IfOk result (λ runs. runs ≡ numbered (run_at nodes.now) 0 befores.now) }
     ensures memory { IfErr result (λ fault. fault ≡ GraphFault.Memory) }
 {
     let mut runs = Items::new(alloc);
@@ -94,16 +95,32 @@ fn readers_of_new(
     befores: &[Option<u32>],
 ) -> Result<Items<u32>, GraphFault>
     ensures ok { IfOk result (λ found. found
-        ≡ readers_of_new_of readers.now rules.now befores.now) }
+        ≡ numbered (readers_at readers.now befores.now) 0 rules.now) }
     ensures err { IfErr result (λ fault. fault ≡ GraphFault.Memory) }
 {
     let mut found = Items::new(alloc);
     for (at, rule) in rules.iter().enumerate() {
-        if is_new(befores, at) {
-            push_readers(&mut found, readers, rule.outputs.as_slice())?;
-        }
+        push_if_new(&mut found, readers, befores, at, rule)?;
     }
     Ok(found)
+}
+
+/// The rules whose records ask an output of the rule at a place, if that is new.
+fn push_if_new(
+    found: &mut Items<u32>,
+    readers: &Readers,
+    befores: &[Option<u32>],
+    at: usize,
+    rule: &Rule,
+) -> Result<(), GraphFault>
+    ensures ok { OnOk result (found.new
+        ≡ found.old ++ readers_at readers.now befores.now at rule.now) }
+    ensures err { IfErr result (λ fault. fault ≡ GraphFault.Memory) }
+{
+    if is_new(befores, at) {
+        push_readers(found, readers, rule.outputs.as_slice())?;
+    }
+    Ok(())
 }
 
 /// Whether the rule at a place is new.
@@ -147,13 +164,28 @@ fn push_flagged(
     nodes: &Nodes,
     befores: &[Option<u32>],
 ) -> Result<(), GraphFault>
-    ensures ok { OnOk result (flags.new ≡ flags.old ++ flagged_from nodes.now 0 befores.now) }
+    ensures ok { OnOk result (flags.new
+        ≡ flags.old ++ numbered (flag_at nodes.now) 0 befores.now) }
     ensures err { IfErr result (λ fault. fault ≡ GraphFault.Memory) }
 {
     for (at, before) in befores.iter().enumerate() {
-        if is_flagged(nodes, *before) {
-            flags.push(number_of(at)?)?;
-        }
+        push_if_flagged(flags, nodes, *before, number_of(at)?)?;
+    }
+    Ok(())
+}
+
+/// A rule, if it is new or was flagged.
+fn push_if_flagged(
+    flags: &mut Items<u32>,
+    nodes: &Nodes,
+    before: Option<u32>,
+    number: u32,
+) -> Result<(), GraphFault>
+    ensures ok { OnOk result (flags.new ≡ flags.old ++ flag_at nodes.now number before) }
+    ensures err { IfErr result (λ fault. fault ≡ GraphFault.Memory) }
+{
+    if is_flagged(nodes, before) {
+        flags.push(number)?;
     }
     Ok(())
 }

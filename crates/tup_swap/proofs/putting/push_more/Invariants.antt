@@ -1,0 +1,12 @@
+use Rattle.std.proofs.Common.{◌≡◌, ◌++◌, ℕ, [], take, count_by, unwrap_or}
+use Rattle.std.specs.FinMap as finite
+use Rattle.tup_path.specs.Name.{Names}
+use Rattle.tup_swap.specs.Edits.{more_edits}
+use Rattle.tup_swap.proofs.Placing.{ArePlaces}
+use Rattle.tup_swap.proofs.putting.push_more.Given as goal
+
+abbrev pub invariant-loop-at : goal.invariant-loop-at
+invariant-loop-at l = record {
+  edits : l.edits ≡ l.fn.edits ++ more_edits [] (take l.at l.rules);
+  places : ArePlaces (take l.at l.rules) l.places;
+}
