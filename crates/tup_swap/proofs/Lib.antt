@@ -1,9 +1,0 @@
-mod Puts
-mod Leaving
-mod Swapping
-mod Taking
-mod Numbered
-mod Looked
-mod Owning
-mod Kept
-mod Placing
