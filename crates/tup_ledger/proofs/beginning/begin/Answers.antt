@@ -1,4 +1,4 @@
-use Rattle.std.proofs.Common.{◌≡◌, IsTrue, Result, Ok, Err, sym, subst}
+use Rattle.std.proofs.Common.{rules, ◌≡◌, ◌≢◌, IsTrue, Result, Ok, Err, sym, subst}
 use Rattle.std.specs.Result.{IfOk}
 use Rattle.tup_site.specs.Crash.{GoesOn}
 use Rattle.tup_site.specs.World.{World}
@@ -31,11 +31,16 @@ returns-clause-begins g c = λ tells.
           let begins : Begins v (world mid) (Ok WasThere) = (graph.nodes, opened_store v.store (world mid).store graph opens is.1, stored world g.S.Site.moment g.S.Site.left_since graph.table graph.nodes mid stands is.1 (world mid) (site_laws.present mid tells)) in
           subst (λ (s : g.row.S.Denot). Begins v (world s) c.match-open.result) (sym w.site-is) (subst (λ (r : Result Begun GraphFault). Begins v (world mid) r) (sym w.result-is) begins)
       | in-Err-NotThere w ↦
-          let empty = subst (λ (r : Result Held GraphFault). OpensAs v.store (world mid).store r) w.in-Err-NotThere.is (c.open.ensures.opens tells) in
+          let told = subst (λ (r : Result Held GraphFault). OpensAs v.store (world mid).store r) w.in-Err-NotThere.is (c.open.ensures.opens tells) in
+          let empty = subst (λ (f : GraphFault). OpensAs v.store (world mid).store (Err f)) w.in-Err-NotThere.field-0-is told in
           let end = w.make.new.site in
           let begins = begins_made v (world end) empty.0 w.make.result w.make.ensures.made (w.make.ensures.store tells) w.make.ensures.outside in
           subst (λ (s : g.row.S.Denot). Begins v (world s) c.match-open.result) (sym w.site-is) (subst (λ (r : Result Begun GraphFault). Begins v (world end) r) (sym w.result-is) begins)
-      | in-Err w ↦ ?
+      | in-Err w ↦
+          let opens = subst (λ (r : Result Held GraphFault). OpensAs v.store (world mid).store r) w.in-Err.is (c.open.ensures.opens tells) in
+          let other : w.in-Err.fault ≢ NotThere = search rules in
+          let begins = begins_not v (world mid) w.in-Err.fault other opens in
+          subst (λ (s : g.row.S.Denot). Begins v (world s) c.match-open.result) (sym w.site-is) (subst (λ (r : Result Begun GraphFault). Begins v (world mid) r) (sym w.result-is) begins)
     ]
 
 pub returns-clause-crash : goal.returns-clause-crash
@@ -47,7 +52,8 @@ returns-clause-crash g c = λ tells.
     elim c.match-open.branch [
       | in-Ok w ↦ subst (λ (s : g.row.S.Denot). GoesOn g.S.Site.moment g.S.Site.left_since c.args.site.now s (BeginStep first)) (sym w.site-is) opened
       | in-Err-NotThere w ↦
-          let empty = subst (λ (r : Result Held GraphFault). OpensAs first.store (g.S.Site.world mid).store r) w.in-Err-NotThere.is (c.open.ensures.opens tells) in
+          let told = subst (λ (r : Result Held GraphFault). OpensAs first.store (g.S.Site.world mid).store r) w.in-Err-NotThere.is (c.open.ensures.opens tells) in
+          let empty = subst (λ (f : GraphFault). OpensAs first.store (g.S.Site.world mid).store (Err f)) w.in-Err-NotThere.field-0-is told in
           subst (λ (s : g.row.S.Denot). GoesOn g.S.Site.moment g.S.Site.left_since c.args.site.now s (BeginStep first)) (sym w.site-is)
           (made_on g.S.Site.moment g.S.Site.left_since first c.args.site.now mid w.make.new.site (λ t u w le left. site_laws.earlier mid t u w tells le left) empty.0 (c.open.ensures.crash tells) (w.make.ensures.crash tells))
       | in-Err w ↦ subst (λ (s : g.row.S.Denot). GoesOn g.S.Site.moment g.S.Site.left_since c.args.site.now s (BeginStep first)) (sym w.site-is) opened
