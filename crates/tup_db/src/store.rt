@@ -1,7 +1,7 @@
 //! The store's file. What isn't synced yet stands in a file beside it, which `sync` makes durable
 //! and puts into its place: so whatever stops the program, the store is the old one or the new one,
 //! whole.
-ghost use Rattle.std.specs.Prelude.{◌≡◌, false, IfOk, OnErr, IsErr, IsTrue};
+ghost use Rattle.std.specs.Prelude.{◌≡◌, false, IfOk, OnOk, OnErr, IsErr, IsTrue};
 
 use crate::own::Own;
 use std::alloc::{AllocError, Global};
@@ -86,6 +86,7 @@ impl<R: Files<File = File> + Clone + Drop> Store<R> {
     /// failure no later sync succeeds.
     pub fn sync(&mut self) -> Result<(), Refused>
         ensures lost { OnErr result (IsTrue self.new.is_lost) }
+        ensures none_lost { OnOk result (self.new.is_lost ≡ false) }
         ensures for_good { IsTrue self.old.is_lost → IsErr result }
     {
         if self.is_lost {

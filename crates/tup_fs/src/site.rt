@@ -1,5 +1,5 @@
 //! The site over real files.
-ghost use Rattle.std.specs.Prelude.{◌≡◌, [], false, Ok, IfOk, OnOk, is_some, nat_lt};
+ghost use Rattle.std.specs.Prelude.{◌≡◌, [], false, Ok, IfOk, OnOk, IsErr, IsTrue, is_some, nat_lt};
 ghost use Rattle.std.specs.FinMap as finite;
 ghost use Rattle.tup_fs.specs.Last.{last_after};
 ghost use Rattle.tup_site.specs.Cause.{CountsFaults, NeverTooLarge};
@@ -53,6 +53,8 @@ impl<R: Files<File = File> + Clone + Drop> FsSite<R> {
         ensures cause { CountsFaults self.old.faults self.new.faults result }
         ensures never_too_large { NeverTooLarge result }
         ensures last { OnOk result (self.new.last ≡ self.old.last) }
+        ensures tree { self.new.tree ≡ self.old.tree }
+        ensures store { self.new.store ≡ self.old.store }
     {
         if self.lock.is_some() {
             return Ok(());
@@ -71,6 +73,8 @@ impl<R: Files<File = File> + Clone + Drop> FsSite<R> {
         ensures never_too_large { NeverTooLarge result }
         ensures value { IfOk result (λ value. answer ≡ Ok value) }
         ensures last { self.new.last ≡ last_after answer self.old.last }
+        ensures tree { self.new.tree ≡ self.old.tree }
+        ensures store { self.new.store ≡ self.old.store }
     {
         match answer {
             Ok(value) => Ok(value),
@@ -141,7 +145,13 @@ impl<R: Files<File = File> + Clone + Drop + Send> Site for FsSite<R> {
         self.told(done)
     }
 
-    fn settle(&mut self, _alloc: Global) -> Result<(), SiteFailed> {
+    // A lost write is told but once: after a settle that failed none succeeds.
+    fn settle(&mut self, _alloc: Global) -> Result<(), SiteFailed>
+        ensures none_lost { OnOk result (self.new.tree.touched.is_lost ≡ false) }
+        ensures for_good { IsTrue self.old.tree.touched.is_lost → IsErr result }
+        ensures cause { CountsFaults self.old.faults self.new.faults result }
+        ensures never_too_large { NeverTooLarge result }
+    {
         self.begin()?;
         let done = self.tree.touched.settle(&self.tree.disk);
         self.told(done)
@@ -165,7 +175,13 @@ impl<R: Files<File = File> + Clone + Drop + Send> Site for FsSite<R> {
         self.told(done)
     }
 
-    fn db_sync(&mut self, _alloc: Global) -> Result<(), SiteFailed> {
+    // The same of the store.
+    fn db_sync(&mut self, _alloc: Global) -> Result<(), SiteFailed>
+        ensures none_lost { OnOk result (self.new.store.is_lost ≡ false) }
+        ensures for_good { IsTrue self.old.store.is_lost → IsErr result }
+        ensures cause { CountsFaults self.old.faults self.new.faults result }
+        ensures never_too_large { NeverTooLarge result }
+    {
         self.begin()?;
         let done = self.store.sync();
         self.told(done)

@@ -1,5 +1,5 @@
 //! What isn't durable yet.
-ghost use Rattle.std.specs.Prelude.{◌≡◌, OnErr, IsErr, IsTrue};
+ghost use Rattle.std.specs.Prelude.{◌≡◌, false, OnOk, OnErr, IsErr, IsTrue};
 
 use std::alloc::Global;
 use std::collections::BTreeSet;
@@ -37,6 +37,7 @@ impl Touched {
         disk: &Disk<R>,
     ) -> Result<(), Refused>
         ensures lost { OnErr result (IsTrue self.new.is_lost) }
+        ensures none_lost { OnOk result (self.new.is_lost ≡ false) }
         ensures for_good { IsTrue self.old.is_lost → IsErr result }
     {
         if self.is_lost {
