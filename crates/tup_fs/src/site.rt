@@ -1,8 +1,11 @@
 //! The site over real files.
-ghost use Rattle.std.specs.Prelude.{◌≡◌, [], false, Ok, IfOk, OnOk, IsErr, IsTrue, is_some, nat_lt};
+ghost use Rattle.std.specs.Prelude.{◌≡◌, [], false, Ok, IfOk, OnOk, OnErr, IsErr, IsTrue, is_some, nat_lt, string_bytes};
+ghost use Rattle.std.specs.BTreeSet.{IsEmpty};
 ghost use Rattle.std.specs.FinMap as finite;
-ghost use Rattle.tup_fs.specs.Last.{last_after};
-ghost use Rattle.tup_site.specs.Cause.{CountsFaults, NeverTooLarge};
+ghost use Rattle.tup_db.specs.Own.{IsOwnBelow};
+ghost use Rattle.tup_disk.specs.Marked.{AllMarked, StayMarked, places_above};
+ghost use Rattle.tup_fs.specs.Last.{last_after, CountsPlainly};
+ghost use Rattle.tup_site.specs.Cause.{CountsFaults, OnlyLarge, IsSmall};
 
 use crate::reading::Found;
 use crate::tree::Tree;
@@ -10,7 +13,7 @@ use std::alloc::{AllocError, Global};
 use std::fs::File;
 use std::rt::Files;
 use tup_db::Store;
-use tup_disk::{Failure, Refused};
+use tup_disk::{Failure, Refused, Touched};
 use tup_path::{Bytes, Path, Paths};
 use tup_site::{Site, SiteFailed};
 
@@ -19,6 +22,7 @@ use tup_site::{Site, SiteFailed};
 #[derive(Drop)]
 pub struct FsSite<R: Files<File = File> + Clone + Drop> {
     tree: Tree<R>,
+    touched: Touched<R>,
     store: Store<R>,
     lock: Option<File>,
     last: Option<Failure>,
@@ -28,11 +32,21 @@ pub struct FsSite<R: Files<File = File> + Clone + Drop> {
 
 impl<R: Files<File = File> + Clone + Drop> FsSite<R> {
     /// The files below this folder, which has to be there. It touches nothing yet.
-    pub fn new(rt: R, alloc: Global, root: &str) -> Result<FsSite<R>, AllocError> {
+    pub fn new(rt: R, alloc: Global, root: &str) -> Result<FsSite<R>, AllocError>
+        ensures root { IfOk result (λ site. string_bytes site.touched.disk.root ≡ root.now) }
+        ensures own { IfOk result (λ site. IsOwnBelow root.now site.store.own) }
+        ensures touched { IfOk result (λ site. IsEmpty site.touched.folders) }
+        ensures settles { IfOk result (λ site. site.touched.is_lost ≡ false) }
+        ensures syncs { IfOk result (λ site. site.store.is_lost ≡ false) }
+        ensures lock { IfOk result (λ site. is_some site.lock ≡ false) }
+        ensures faults { IfOk result (λ site. site.faults ≡ 0) }
+    {
         let tree = Tree::new(rt.clone()?, alloc, root)?;
+        let touched = Touched::new(rt.clone()?, alloc, root)?;
         let store = Store::new(rt, alloc, root)?;
         Ok(FsSite {
             tree,
+            touched,
             store,
             lock: None,
             last: None,
@@ -50,10 +64,10 @@ impl<R: Files<File = File> + Clone + Drop> FsSite<R> {
 
     // Before anything else the first call takes the lock, and removes what a run that died has left.
     fn begin(&mut self) -> Result<(), SiteFailed>
-        ensures cause { CountsFaults self.old.faults self.new.faults result }
-        ensures never_too_large { NeverTooLarge result }
+        ensures locked { OnOk result (IsTrue (is_some self.new.lock)) }
+        ensures cause { CountsPlainly self.old.faults self.new.faults result }
         ensures last { OnOk result (self.new.last ≡ self.old.last) }
-        ensures tree { self.new.tree ≡ self.old.tree }
+        ensures touched { self.new.touched ≡ self.old.touched }
         ensures store { self.new.store ≡ self.old.store }
     {
         if self.lock.is_some() {
@@ -67,13 +81,29 @@ impl<R: Files<File = File> + Clone + Drop> FsSite<R> {
         Ok(())
     }
 
+    // What comes before every change of a file.
+    fn touch(&mut self, path: &Path) -> Result<(), SiteFailed>
+        ensures locked { OnOk result (IsTrue (is_some self.new.lock)) }
+        ensures touched { OnOk result (AllMarked self.new.touched.folders
+            (places_above (string_bytes self.old.touched.disk.root) path.now)) }
+        ensures keeps { StayMarked self.old.touched.folders self.new.touched.folders }
+        ensures lost { self.new.touched.is_lost ≡ self.old.touched.is_lost }
+        ensures root { self.new.touched.disk ≡ self.old.touched.disk }
+        ensures cause { CountsPlainly self.old.faults self.new.faults result }
+        ensures store { self.new.store ≡ self.old.store }
+    {
+        self.begin()?;
+        let done = self.touched.add(path);
+        self.told(done)
+    }
+
     // An answer as the site gives it. Each failure is counted and kept.
     fn told<T>(&mut self, answer: Result<T, Refused>) -> Result<T, SiteFailed>
-        ensures cause { CountsFaults self.old.faults self.new.faults result }
-        ensures never_too_large { NeverTooLarge result }
+        ensures cause { CountsPlainly self.old.faults self.new.faults result }
         ensures value { IfOk result (λ value. answer ≡ Ok value) }
         ensures last { self.new.last ≡ last_after answer self.old.last }
-        ensures tree { self.new.tree ≡ self.old.tree }
+        ensures lock { self.new.lock ≡ self.old.lock }
+        ensures touched { self.new.touched ≡ self.old.touched }
         ensures store { self.new.store ≡ self.old.store }
     {
         match answer {
@@ -117,13 +147,25 @@ impl<R: Files<File = File> + Clone + Drop + Send> Site for FsSite<R> {
 
     ghost leaves_known = { λ site w no left. Prim.cc };
 
-    fn list(&mut self, _alloc: Global) -> Result<Paths, SiteFailed> {
+    fn list(&mut self, _alloc: Global) -> Result<Paths, SiteFailed>
+        ensures locked { OnOk result (IsTrue (is_some self.new.lock)) }
+        ensures cause { CountsPlainly self.old.faults self.new.faults result }
+        ensures touched { self.new.touched ≡ self.old.touched }
+        ensures store { self.new.store ≡ self.old.store }
+    {
         self.begin()?;
         let files = self.tree.disk.files();
         Ok(Paths::from_vec(self.told(files)?))
     }
 
-    fn get(&mut self, _alloc: Global, path: &Path) -> Result<Option<Bytes>, SiteFailed> {
+    fn get(&mut self, _alloc: Global, path: &Path) -> Result<Option<Bytes>, SiteFailed>
+        ensures locked { OnOk result (IsTrue (is_some self.new.lock)) }
+        ensures small { IfOk result IsSmall }
+        ensures too_large { OnlyLarge result }
+        ensures cause { CountsFaults self.old.faults self.new.faults result }
+        ensures touched { self.new.touched ≡ self.old.touched }
+        ensures store { self.new.store ≡ self.old.store }
+    {
         self.begin()?;
         let found = self.tree.find(path);
         match self.told(found)? {
@@ -133,43 +175,85 @@ impl<R: Files<File = File> + Clone + Drop + Send> Site for FsSite<R> {
         }
     }
 
-    fn put(&mut self, _alloc: Global, path: &Path, content: &Bytes) -> Result<(), SiteFailed> {
-        self.begin()?;
+    fn put(&mut self, _alloc: Global, path: &Path, content: &Bytes) -> Result<(), SiteFailed>
+        ensures locked { OnOk result (IsTrue (is_some self.new.lock)) }
+        ensures cause { CountsPlainly self.old.faults self.new.faults result }
+        ensures touched { OnOk result (AllMarked self.new.touched.folders
+            (places_above (string_bytes self.old.touched.disk.root) path.now)) }
+        ensures keeps { StayMarked self.old.touched.folders self.new.touched.folders }
+        ensures lost { self.new.touched.is_lost ≡ self.old.touched.is_lost }
+        ensures root { self.new.touched.disk ≡ self.old.touched.disk }
+        ensures store { self.new.store ≡ self.old.store }
+    {
+        self.touch(path)?;
         let done = self.tree.put(&self.store.own, path, content.as_slice());
         self.told(done)
     }
 
-    fn remove(&mut self, _alloc: Global, path: &Path) -> Result<(), SiteFailed> {
-        self.begin()?;
+    // Also where there is no file: an earlier run's removal may not be durable.
+    fn remove(&mut self, _alloc: Global, path: &Path) -> Result<(), SiteFailed>
+        ensures locked { OnOk result (IsTrue (is_some self.new.lock)) }
+        ensures cause { CountsPlainly self.old.faults self.new.faults result }
+        ensures touched { OnOk result (AllMarked self.new.touched.folders
+            (places_above (string_bytes self.old.touched.disk.root) path.now)) }
+        ensures keeps { StayMarked self.old.touched.folders self.new.touched.folders }
+        ensures lost { self.new.touched.is_lost ≡ self.old.touched.is_lost }
+        ensures root { self.new.touched.disk ≡ self.old.touched.disk }
+        ensures store { self.new.store ≡ self.old.store }
+    {
+        self.touch(path)?;
         let done = self.tree.remove(path);
         self.told(done)
     }
 
     // A lost write is told but once: after a settle that failed none succeeds.
     fn settle(&mut self, _alloc: Global) -> Result<(), SiteFailed>
-        ensures none_lost { OnOk result (self.new.tree.touched.is_lost ≡ false) }
-        ensures for_good { IsTrue self.old.tree.touched.is_lost → IsErr result }
-        ensures cause { CountsFaults self.old.faults self.new.faults result }
-        ensures never_too_large { NeverTooLarge result }
+        ensures locked { OnOk result (IsTrue (is_some self.new.lock)) }
+        ensures cause { CountsPlainly self.old.faults self.new.faults result }
+        ensures settled { OnOk result (IsEmpty self.new.touched.folders) }
+        ensures kept { OnErr result (self.new.touched.folders ≡ self.old.touched.folders) }
+        ensures none_lost { OnOk result (self.new.touched.is_lost ≡ false) }
+        ensures for_good { IsTrue self.old.touched.is_lost → IsErr result }
+        ensures root { self.new.touched.disk ≡ self.old.touched.disk }
+        ensures store { self.new.store ≡ self.old.store }
     {
         self.begin()?;
-        let done = self.tree.touched.settle(&self.tree.disk);
+        let done = self.touched.settle();
         self.told(done)
     }
 
-    fn db_len(&mut self, _alloc: Global) -> Result<u64, SiteFailed> {
+    fn db_len(&mut self, _alloc: Global) -> Result<u64, SiteFailed>
+        ensures locked { OnOk result (IsTrue (is_some self.new.lock)) }
+        ensures cause { CountsPlainly self.old.faults self.new.faults result }
+        ensures touched { self.new.touched ≡ self.old.touched }
+        ensures store { self.new.store ≡ self.old.store }
+    {
         self.begin()?;
         let len = self.store.len();
         self.told(len)
     }
 
-    fn db_read(&mut self, _alloc: Global, at: u64, into: &mut [u8]) -> Result<(), SiteFailed> {
+    fn db_read(&mut self, _alloc: Global, at: u64, into: &mut [u8]) -> Result<(), SiteFailed>
+        ensures locked { OnOk result (IsTrue (is_some self.new.lock)) }
+        ensures cause { CountsPlainly self.old.faults self.new.faults result }
+        ensures touched { self.new.touched ≡ self.old.touched }
+        ensures store { self.new.store ≡ self.old.store }
+    {
         self.begin()?;
         let done = self.store.read(at, into);
         self.told(done)
     }
 
-    fn db_write(&mut self, _alloc: Global, at: u64, bytes: &[u8]) -> Result<(), SiteFailed> {
+    fn db_write(&mut self, _alloc: Global, at: u64, bytes: &[u8]) -> Result<(), SiteFailed>
+        ensures locked { OnOk result (IsTrue (is_some self.new.lock)) }
+        ensures cause { CountsPlainly self.old.faults self.new.faults result }
+        ensures aside { OnOk result (IsTrue (is_some self.new.store.aside)) }
+        ensures kept { IsTrue (is_some self.old.store.aside)
+            → IsTrue (is_some self.new.store.aside) }
+        ensures lost { self.new.store.is_lost ≡ self.old.store.is_lost }
+        ensures own { self.new.store.own ≡ self.old.store.own }
+        ensures touched { self.new.touched ≡ self.old.touched }
+    {
         self.begin()?;
         let done = self.store.write(at, bytes);
         self.told(done)
@@ -177,17 +261,28 @@ impl<R: Files<File = File> + Clone + Drop + Send> Site for FsSite<R> {
 
     // The same of the store.
     fn db_sync(&mut self, _alloc: Global) -> Result<(), SiteFailed>
+        ensures locked { OnOk result (IsTrue (is_some self.new.lock)) }
+        ensures cause { CountsPlainly self.old.faults self.new.faults result }
+        ensures aside { OnOk result (is_some self.new.store.aside ≡ false) }
         ensures none_lost { OnOk result (self.new.store.is_lost ≡ false) }
         ensures for_good { IsTrue self.old.store.is_lost → IsErr result }
-        ensures cause { CountsFaults self.old.faults self.new.faults result }
-        ensures never_too_large { NeverTooLarge result }
+        ensures own { self.new.store.own ≡ self.old.store.own }
+        ensures touched { self.new.touched ≡ self.old.touched }
     {
         self.begin()?;
         let done = self.store.sync();
         self.told(done)
     }
 
-    fn db_cut(&mut self, _alloc: Global, len: u64) -> Result<(), SiteFailed> {
+    fn db_cut(&mut self, _alloc: Global, len: u64) -> Result<(), SiteFailed>
+        ensures locked { OnOk result (IsTrue (is_some self.new.lock)) }
+        ensures cause { CountsPlainly self.old.faults self.new.faults result }
+        ensures kept { IsTrue (is_some self.old.store.aside)
+            → IsTrue (is_some self.new.store.aside) }
+        ensures lost { self.new.store.is_lost ≡ self.old.store.is_lost }
+        ensures own { self.new.store.own ≡ self.old.store.own }
+        ensures touched { self.new.touched ≡ self.old.touched }
+    {
         self.begin()?;
         let done = self.store.cut(len);
         self.told(done)
