@@ -7,6 +7,7 @@
 //! system does is tested.
 #![tactic(auto)]
 
+mod failures;
 mod reading;
 mod site;
 mod tree;

@@ -1,19 +1,20 @@
 //! The site over real files.
-ghost use Rattle.std.specs.Prelude.{◌≡◌, [], false, Ok, IfOk, OnOk, OnErr, IsErr, IsTrue, is_some, nat_lt, string_bytes};
+ghost use Rattle.std.specs.Prelude.{◌≡◌, [], false, IfOk, OnOk, OnErr, IsErr, IsTrue, is_some, nat_lt, string_bytes};
 ghost use Rattle.std.specs.BTreeSet.{IsEmpty};
 ghost use Rattle.std.specs.FinMap as finite;
 ghost use Rattle.tup_db.specs.Own.{IsOwnBelow};
 ghost use Rattle.tup_disk.specs.Marked.{AllMarked, StayMarked, places_above};
-ghost use Rattle.tup_fs.specs.Last.{last_after, CountsPlainly};
-ghost use Rattle.tup_site.specs.Cause.{CountsFaults, OnlyLarge, IsSmall};
+ghost use Rattle.tup_fs.specs.Last.{CountsOnce, CountsPlainly};
+ghost use Rattle.tup_site.specs.Cause.{OnlyLarge, IsSmall};
 
+use crate::failures::Failures;
 use crate::reading::Found;
 use crate::tree::Tree;
 use std::alloc::{AllocError, Global};
 use std::fs::File;
 use std::rt::Files;
 use tup_db::Store;
-use tup_disk::{Failure, Refused, Touched};
+use tup_disk::{Failure, Touched};
 use tup_path::{Bytes, Path, Paths};
 use tup_site::{Site, SiteFailed};
 
@@ -25,9 +26,7 @@ pub struct FsSite<R: Files<File = File> + Clone + Drop> {
     touched: Touched<R>,
     store: Store<R>,
     lock: Option<File>,
-    last: Option<Failure>,
-    faults: u64,
-    ghost keeps_last: { is_some last ≡ nat_lt 0 faults },
+    failures: Failures,
 }
 
 impl<R: Files<File = File> + Clone + Drop> FsSite<R> {
@@ -39,7 +38,7 @@ impl<R: Files<File = File> + Clone + Drop> FsSite<R> {
         ensures settles { IfOk result (λ site. site.touched.is_lost ≡ false) }
         ensures syncs { IfOk result (λ site. site.store.is_lost ≡ false) }
         ensures lock { IfOk result (λ site. is_some site.lock ≡ false) }
-        ensures faults { IfOk result (λ site. site.faults ≡ 0) }
+        ensures faults { IfOk result (λ site. site.failures.count ≡ 0) }
     {
         let tree = Tree::new(rt.clone()?, alloc, root)?;
         let touched = Touched::new(rt.clone()?, alloc, root)?;
@@ -49,24 +48,22 @@ impl<R: Files<File = File> + Clone + Drop> FsSite<R> {
             touched,
             store,
             lock: None,
-            last: None,
-            faults: 0,
+            failures: Failures::none(),
         })
     }
 
     /// The last failure: its place, and what the system said. There is one just where the site has
     /// counted a fault.
     pub fn last(&self) -> Option<&Failure>
-        ensures { is_some result ≡ nat_lt 0 self.now.faults }
+        ensures { is_some result ≡ nat_lt 0 self.now.failures.count }
     {
-        self.last.as_ref()
+        self.failures.last()
     }
 
     // Before anything else the first call takes the lock, and removes what a run that died has left.
     fn begin(&mut self) -> Result<(), SiteFailed>
         ensures locked { OnOk result (IsTrue (is_some self.new.lock)) }
-        ensures cause { CountsPlainly self.old.faults self.new.faults result }
-        ensures last { OnOk result (self.new.last ≡ self.old.last) }
+        ensures cause { CountsPlainly self.old.failures.count self.new.failures.count result }
         ensures touched { self.new.touched ≡ self.old.touched }
         ensures store { self.new.store ≡ self.old.store }
     {
@@ -74,9 +71,9 @@ impl<R: Files<File = File> + Clone + Drop> FsSite<R> {
             return Ok(());
         }
         let lock = self.tree.disk.lock();
-        let lock = self.told(lock)?;
+        let lock = self.failures.told(lock)?;
         let swept = self.store.own.sweep(&self.tree.disk);
-        self.told(swept)?;
+        self.failures.told(swept)?;
         self.lock = Some(lock);
         Ok(())
     }
@@ -89,32 +86,12 @@ impl<R: Files<File = File> + Clone + Drop> FsSite<R> {
         ensures keeps { StayMarked self.old.touched.folders self.new.touched.folders }
         ensures lost { self.new.touched.is_lost ≡ self.old.touched.is_lost }
         ensures root { self.new.touched.disk ≡ self.old.touched.disk }
-        ensures cause { CountsPlainly self.old.faults self.new.faults result }
+        ensures cause { CountsPlainly self.old.failures.count self.new.failures.count result }
         ensures store { self.new.store ≡ self.old.store }
     {
         self.begin()?;
         let done = self.touched.add(path);
-        self.told(done)
-    }
-
-    // An answer as the site gives it. Each failure is counted and kept.
-    fn told<T>(&mut self, answer: Result<T, Refused>) -> Result<T, SiteFailed>
-        ensures cause { CountsPlainly self.old.faults self.new.faults result }
-        ensures value { IfOk result (λ value. answer ≡ Ok value) }
-        ensures last { self.new.last ≡ last_after answer self.old.last }
-        ensures lock { self.new.lock ≡ self.old.lock }
-        ensures touched { self.new.touched ≡ self.old.touched }
-        ensures store { self.new.store ≡ self.old.store }
-    {
-        match answer {
-            Ok(value) => Ok(value),
-            Err(Refused::Memory) => Err(SiteFailed::Memory),
-            Err(Refused::Failed(failure)) => {
-                self.last = Some(failure);
-                self.faults = self.faults.saturating_add(1);
-                Err(SiteFailed::Fault)
-            }
-        }
+        self.failures.told(done)
     }
 }
 
@@ -131,7 +108,7 @@ impl<R: Files<File = File> + Clone + Drop + Send> Site for FsSite<R> {
 
     ghost left_since = { λ _ _ _. ⊥ };
 
-    ghost faults = { λ site. site.faults };
+    ghost faults = { λ site. site.failures.count };
 
     ghost is_tree = { λ site no. Prim.cc };
 
@@ -149,26 +126,26 @@ impl<R: Files<File = File> + Clone + Drop + Send> Site for FsSite<R> {
 
     fn list(&mut self, _alloc: Global) -> Result<Paths, SiteFailed>
         ensures locked { OnOk result (IsTrue (is_some self.new.lock)) }
-        ensures cause { CountsPlainly self.old.faults self.new.faults result }
+        ensures cause { CountsPlainly self.old.failures.count self.new.failures.count result }
         ensures touched { self.new.touched ≡ self.old.touched }
         ensures store { self.new.store ≡ self.old.store }
     {
         self.begin()?;
         let files = self.tree.disk.files();
-        Ok(Paths::from_vec(self.told(files)?))
+        Ok(Paths::from_vec(self.failures.told(files)?))
     }
 
     fn get(&mut self, _alloc: Global, path: &Path) -> Result<Option<Bytes>, SiteFailed>
         ensures locked { OnOk result (IsTrue (is_some self.new.lock)) }
         ensures small { IfOk result IsSmall }
         ensures too_large { OnlyLarge result }
-        ensures cause { CountsFaults self.old.faults self.new.faults result }
+        ensures cause { CountsOnce self.old.failures.count self.new.failures.count result }
         ensures touched { self.new.touched ≡ self.old.touched }
         ensures store { self.new.store ≡ self.old.store }
     {
         self.begin()?;
         let found = self.tree.find(path);
-        match self.told(found)? {
+        match self.failures.told(found)? {
             Found::Nothing => Ok(None),
             Found::Content(bytes) => Ok(Some(bytes)),
             Found::TooLarge(len) => Err(SiteFailed::TooLarge(len)),
@@ -177,7 +154,7 @@ impl<R: Files<File = File> + Clone + Drop + Send> Site for FsSite<R> {
 
     fn put(&mut self, _alloc: Global, path: &Path, content: &Bytes) -> Result<(), SiteFailed>
         ensures locked { OnOk result (IsTrue (is_some self.new.lock)) }
-        ensures cause { CountsPlainly self.old.faults self.new.faults result }
+        ensures cause { CountsPlainly self.old.failures.count self.new.failures.count result }
         ensures touched { OnOk result (AllMarked self.new.touched.folders
             (places_above (string_bytes self.old.touched.disk.root) path.now)) }
         ensures keeps { StayMarked self.old.touched.folders self.new.touched.folders }
@@ -187,13 +164,13 @@ impl<R: Files<File = File> + Clone + Drop + Send> Site for FsSite<R> {
     {
         self.touch(path)?;
         let done = self.tree.put(&self.store.own, path, content.as_slice());
-        self.told(done)
+        self.failures.told(done)
     }
 
     // Also where there is no file: an earlier run's removal may not be durable.
     fn remove(&mut self, _alloc: Global, path: &Path) -> Result<(), SiteFailed>
         ensures locked { OnOk result (IsTrue (is_some self.new.lock)) }
-        ensures cause { CountsPlainly self.old.faults self.new.faults result }
+        ensures cause { CountsPlainly self.old.failures.count self.new.failures.count result }
         ensures touched { OnOk result (AllMarked self.new.touched.folders
             (places_above (string_bytes self.old.touched.disk.root) path.now)) }
         ensures keeps { StayMarked self.old.touched.folders self.new.touched.folders }
@@ -203,13 +180,13 @@ impl<R: Files<File = File> + Clone + Drop + Send> Site for FsSite<R> {
     {
         self.touch(path)?;
         let done = self.tree.remove(path);
-        self.told(done)
+        self.failures.told(done)
     }
 
     // A lost write is told but once: after a settle that failed none succeeds.
     fn settle(&mut self, _alloc: Global) -> Result<(), SiteFailed>
         ensures locked { OnOk result (IsTrue (is_some self.new.lock)) }
-        ensures cause { CountsPlainly self.old.faults self.new.faults result }
+        ensures cause { CountsPlainly self.old.failures.count self.new.failures.count result }
         ensures settled { OnOk result (IsEmpty self.new.touched.folders) }
         ensures kept { OnErr result (self.new.touched.folders ≡ self.old.touched.folders) }
         ensures none_lost { OnOk result (self.new.touched.is_lost ≡ false) }
@@ -219,76 +196,71 @@ impl<R: Files<File = File> + Clone + Drop + Send> Site for FsSite<R> {
     {
         self.begin()?;
         let done = self.touched.settle();
-        self.told(done)
+        self.failures.told(done)
     }
 
     fn db_len(&mut self, _alloc: Global) -> Result<u64, SiteFailed>
         ensures locked { OnOk result (IsTrue (is_some self.new.lock)) }
-        ensures cause { CountsPlainly self.old.faults self.new.faults result }
+        ensures cause { CountsPlainly self.old.failures.count self.new.failures.count result }
         ensures touched { self.new.touched ≡ self.old.touched }
         ensures store { self.new.store ≡ self.old.store }
     {
         self.begin()?;
         let len = self.store.len();
-        self.told(len)
+        self.failures.told(len)
     }
 
     fn db_read(&mut self, _alloc: Global, at: u64, into: &mut [u8]) -> Result<(), SiteFailed>
         ensures locked { OnOk result (IsTrue (is_some self.new.lock)) }
-        ensures cause { CountsPlainly self.old.faults self.new.faults result }
+        ensures cause { CountsPlainly self.old.failures.count self.new.failures.count result }
         ensures touched { self.new.touched ≡ self.old.touched }
         ensures store { self.new.store ≡ self.old.store }
     {
         self.begin()?;
         let done = self.store.read(at, into);
-        self.told(done)
+        self.failures.told(done)
     }
 
     fn db_write(&mut self, _alloc: Global, at: u64, bytes: &[u8]) -> Result<(), SiteFailed>
         ensures locked { OnOk result (IsTrue (is_some self.new.lock)) }
-        ensures cause { CountsPlainly self.old.faults self.new.faults result }
+        ensures cause { CountsPlainly self.old.failures.count self.new.failures.count result }
         ensures aside { OnOk result (IsTrue (is_some self.new.store.aside)) }
-        ensures kept { IsTrue (is_some self.old.store.aside)
-            → IsTrue (is_some self.new.store.aside) }
+        ensures kept { IsTrue (is_some self.old.store.aside) → IsTrue (is_some self.new.store.aside) }
         ensures lost { self.new.store.is_lost ≡ self.old.store.is_lost }
-        ensures own { self.new.store.own ≡ self.old.store.own }
         ensures touched { self.new.touched ≡ self.old.touched }
     {
         self.begin()?;
         let done = self.store.write(at, bytes);
-        self.told(done)
+        self.failures.told(done)
     }
 
     // The same of the store.
     fn db_sync(&mut self, _alloc: Global) -> Result<(), SiteFailed>
         ensures locked { OnOk result (IsTrue (is_some self.new.lock)) }
-        ensures cause { CountsPlainly self.old.faults self.new.faults result }
+        ensures cause { CountsPlainly self.old.failures.count self.new.failures.count result }
         ensures aside { OnOk result (is_some self.new.store.aside ≡ false) }
         ensures none_lost { OnOk result (self.new.store.is_lost ≡ false) }
         ensures for_good { IsTrue self.old.store.is_lost → IsErr result }
-        ensures own { self.new.store.own ≡ self.old.store.own }
         ensures touched { self.new.touched ≡ self.old.touched }
     {
         self.begin()?;
         let done = self.store.sync();
-        self.told(done)
+        self.failures.told(done)
     }
 
     fn db_cut(&mut self, _alloc: Global, len: u64) -> Result<(), SiteFailed>
         ensures locked { OnOk result (IsTrue (is_some self.new.lock)) }
-        ensures cause { CountsPlainly self.old.faults self.new.faults result }
-        ensures kept { IsTrue (is_some self.old.store.aside)
-            → IsTrue (is_some self.new.store.aside) }
+        ensures cause { CountsPlainly self.old.failures.count self.new.failures.count result }
+        ensures kept { IsTrue (is_some self.old.store.aside) → IsTrue (is_some self.new.store.aside) }
         ensures lost { self.new.store.is_lost ≡ self.old.store.is_lost }
-        ensures own { self.new.store.own ≡ self.old.store.own }
         ensures touched { self.new.touched ≡ self.old.touched }
     {
         self.begin()?;
         let done = self.store.cut(len);
-        self.told(done)
+        self.failures.told(done)
     }
 
     fn faults(&self) -> u64 {
-        self.faults
+        self.failures.count()
     }
 }
