@@ -30,6 +30,8 @@ impl<R: Files<File = File> + Processes + Clone + Drop> ProcRunner<R> {
     pub fn new(rt: R, root: Text, program: Text, stage: Text) -> ProcRunner<R>
         ensures unnamed { result.last ≡ None }
         ensures uncounted { result.faults ≡ 0 }
+        ensures words { (result.root ≡ root) × (result.program ≡ program) }
+        ensures stage { result.stage.folder ≡ stage }
     {
         ProcRunner {
             root,
