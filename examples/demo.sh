@@ -19,6 +19,9 @@ say "its first update"
 update
 cat app app.stamp
 
+say "the files are those of a clean build"
+"$tup" verify
+
 say "without what tup.config sets"
 rm tup.config
 update

@@ -1,10 +1,12 @@
 #!/bin/sh
-# The edge of the program, where only strace or the superuser can show it: which folders a removal makes durable, that no
-# want of memory in a call that may have changed something passes for a mere want of memory, what a file system that doesn't
-# tell case apart would do, and streams and limits that a user's shell may take away. Word: the program. It ends with 1
-# where something else came. It is no part of the gate.
+# The edge of the program, where only strace can show it: which folders a removal makes durable, that no want of memory in a
+# call that may have changed something passes for a mere want of memory, what a program that gets too little of it leaves, how
+# a file comes to its place where `.tup` is on another disk, what a file system that doesn't tell case apart would do, that a
+# second update looks at nothing, and streams and limits that a user's shell may take away. Word: the program. It ends with
+# 1 where something else came. It is no part of the gate.
 set -u
 tup=$(realpath "$1")
+tests=$(realpath "$(dirname "$0")")
 if ! strace -o /dev/null true 2> /dev/null; then
     echo "passed over: there is no strace, or it may not trace"
     exit 0
@@ -30,24 +32,43 @@ same() {
 copy=': a |> cp a b |> b'
 
 # An update once more, in which one call is refused for want of memory: it ends with 7 and the reason; what only reads may
-# end with 12, as the system then changed nothing, and what prints with 9.
+# end with 12, as the system then changed nothing, and what prints with 9. Without a lock it goes on, and closing a file that
+# was read or synced is nothing.
 project "$copy"
 "$tup" > /dev/null
 strace -o "$work/trace" "$tup" > /dev/null
-awk '{ name = $0; sub(/\(.*/, "", name); count[name]++ } /"\.\// { begun = 1 } begun && name ~ /^[a-z]/ && name !~ /^mmap|^exit/ { print name, count[name] }' "$work/trace" > "$work/list"
+awk '{ name = $0; sub(/\(.*/, "", name); count[name]++ } /"\.["\/]/ { begun = 1 } begun && name ~ /^[a-z]/ && name !~ /^mmap|^exit/ { print name, count[name] }' "$work/trace" > "$work/list"
 while read -r call number; do
     what="$call number $number without memory"
     project "$copy"
     "$tup" > /dev/null
     strace -o /dev/null -e trace="$call" -e inject="$call:error=ENOMEM:when=$number" "$tup" > "$work/told" 2> "$work/said"
     case "$call $? $(tail -1 "$work/said")" in
-        *' 0 ' | *' 7 tup: '*'(os error 12)' | 'write 9 ' | 'read 12 ' | 'openat 12 ') ;;
+        'close 0 ' | 'flock 0 ' | *' 7 tup: '*'(os error 12)' | 'write 9 ' | 'read 12 ' | 'openat 12 ') ;;
         *) same "$what" "$? $(tail -1 "$work/told") $(tail -1 "$work/said")" "7 and the reason" ;;
     esac
     same "$what, the source" "$(cat a)" hi
     same "$what, the next update" "$("$tup" | tail -1)" 'done: 1 read, 1 run, 0 removed'
 done < "$work/list"
 [ -s "$work/list" ] || same "calls of an update" none some
+
+# Less and less memory for the program itself: an update is done, or it ends with 12 and leaves the old output or the new one
+# (with 127 it didn't even begin).
+wanted_large=$(head -c 1000000 /dev/zero | tr '\0' x | cksum)
+for limit in $(seq 2000 250 9000); do
+    what="$limit kilobytes of memory"
+    project "$copy"
+    "$tup" > /dev/null
+    head -c 1000000 /dev/zero | tr '\0' x > a
+    prlimit --as=$((limit * 1024)) "$tup" > "$work/told" 2> /dev/null
+    case "$? $(tail -1 "$work/told")" in
+        '0 done: 1 read, 1 run, 0 removed' | '12 fault: no memory' | '12 ' | '127 ') ;;
+        *) same "$what" "$? $(tail -1 "$work/told")" "done, or no memory" ;;
+    esac
+    same "$what, the source" "$(cksum < a)" "$wanted_large"
+    case "$(cksum < b)" in "$wanted_large" | "$(echo hi | cksum)") ;; *) same "$what, the output" torn whole ;; esac
+    same "$what, the next update" "$("$tup" | tail -1)" 'done: 1 read, 1 run, 0 removed'
+done
 
 # A removal that a killed update left where no sync came: the next one syncs the folder before its list forgets the file.
 project "$copy"
@@ -65,12 +86,109 @@ same "its folder is synced in time" "$(awk '
     /^rename\("\.\/\.tup\/db\.new"/ { last = synced }
     END { print last }' "$work/trace")" 1
 
+# An output that is made anew where `.tup` is on another disk: what is written beside it under a hidden name takes its place.
+# Each call of that is failed and killed: the old output or the new one stands there, and of what was written nothing stays
+# but what a killed update left, which the next one takes away.
+other_disk=rename:error=EXDEV:when=2
+made_anew() {
+    project "$copy"
+    "$tup" > /dev/null
+    printf 'ho\n' > a
+}
+made_anew
+strace -o "$work/trace" -e trace=%file,%desc -e inject="$other_disk" "$tup" > "$work/told"
+same "another disk" "$(tail -1 "$work/told") $(cat b) $(ls -A . .tup | tr '\n' ' ')" 'done: 1 read, 1 run, 0 removed ho .: .tup Tupfile a b  .tup: db '
+awk '
+    { name = $0; sub(/\(.*/, "", name); count[name]++ }
+    begun && name ~ /^[a-z]/ { print name, count[name] }
+    /^rename/ { begun = / EXDEV / }' "$work/trace" > "$work/list"
+same "what is written beside an output" "$(sed -n 's/^\(openat\|write\|fsync\|rename\) .*/\1/p' "$work/list" | tr '\n' ' ')" 'openat write fsync rename '
+while read -r call number; do
+    what="another disk, $call number $number"
+    made_anew
+    case $call in rename) fault=rename:error=EXDEV:when=2..3 ;; *) fault=$call:error=EIO:when=$number ;; esac
+    strace -o /dev/null -e trace=rename,"$call" -e inject="$other_disk" -e inject="$fault" "$tup" > "$work/told" 2> "$work/said"
+    case "$call $? $(cat b) $(cat "$work/said")" in
+        'close 0 ho ' | 'unlink 0 ho ') ;;
+        *' 7 hi tup: ./'*'(os error '*')') ;;
+        *) same "$what failed" "$? $(cat b) $(cat "$work/said")" "7, the old output and the reason" ;;
+    esac
+    same "$what failed, the source" "$(cat a)" ho
+    same "$what failed, what is left" "$(ls -A | tr '\n' ' ')" '.tup Tupfile a b '
+    made_anew
+    case $call in rename) fault=rename:error=EXDEV:signal=KILL:when=3 ;; *) fault=$call:signal=KILL:when=$number ;; esac
+    strace -o /dev/null -e trace=rename,"$call" -e inject="$other_disk" -e inject="$fault" "$tup" > /dev/null 2>&1
+    same "$what killed" "$?" 137
+    case $(cat b) in hi | ho) ;; *) same "$what killed, its output" "$(cat b)" "hi or ho" ;; esac
+    strace -o /dev/null -e trace=rename -e inject="$other_disk" "$tup" > "$work/told"
+    same "$what killed, the next update" "$(tail -1 "$work/told") $(cat b)" 'done: 1 read, 1 run, 0 removed ho'
+    same "$what killed, what is left then" "$(ls -A . .tup | tr '\n' ' ')" '.: .tup Tupfile a b  .tup: db '
+done < "$work/list"
+
 # A file system that doesn't tell case apart shows a file under a name that its folder doesn't list.
 project "$copy" && "$tup" > /dev/null && mkdir .TUP
 listings=$(strace -e trace=getdents64 "$tup" 2>&1 > /dev/null | grep -c '^getdents64')
 strace -o /dev/null -e trace=getdents64 -e inject=getdents64:retval=0:when=$((listings - 1)) "$tup" > "$work/told" 2> "$work/said"
 same "a file of another spelling" "$?: $(cat "$work/said")" '7: tup: ./b: a file of another spelling stands here'
 same "it stays" "$(cat b)" hi
+project && mkdir sub && printf 'ho\n' > sub/a && echo "$copy" > sub/Tupfile && "$tup" > /dev/null && mkdir .TUP
+listings=$(strace -e trace=getdents64 "$tup" 2>&1 > /dev/null | grep -c '^getdents64')
+strace -o /dev/null -e trace=getdents64 -e inject=getdents64:retval=0:when=$((listings - 3)) "$tup" > "$work/told" 2> "$work/said"
+same "a file below a folder of another spelling" "$?: $(cat "$work/said")" '7: tup: ./sub/b: a file of another spelling stands here'
+same "it stays" "$(cat sub/b)" ho
+
+# The same over a library that lets the calls ignore case, for the program and for its site alone.
+if cc -O1 -shared -fPIC -o "$work/ignores-case.so" "$tests/ignores-case.c" 2> /dev/null; then
+    ignoring() { LD_PRELOAD=$work/ignores-case.so "$@"; }
+    project "$copy"
+    same "its own spelling" "$(ignoring "$tup" | tail -1) $(ignoring "$tup" | tail -1)" 'done: 1 read, 1 run, 0 removed done: 1 read, 1 run, 0 removed'
+    mv b x && mv x B && echo mine > B
+    same "an output that was renamed by case" "$(ignoring "$tup" 2>&1 | tail -1): $(cat B)" 'tup: ./b: a file of another spelling stands here: mine'
+    : > Tupfile
+    same "its rule is gone" "$(ignoring "$tup" 2>&1 | tail -1): $(cat B)" 'done: 1 read, 0 run, 0 removed: mine'
+    rows=$(realpath -m "$(dirname "$tup")/../../tup_outside_rows/out/tup_outside_rows")
+    if [ -x "$rows" ]; then
+        project && : > memory.rows
+        sed 's/^ *//' > fs.rows << 'END'
+            # a folder above a file was renamed by case: what is in it is another's now
+            begin folder = ok
+            put Sub/x one = ok
+            settle = ok
+            shell "mv Sub y && mv y sub" = ok
+            again = ok
+            remove Sub/x = fault
+            said = "folder/Sub/x: a file of another spelling stands here"
+            put Sub/x other = fault
+            file sub/x = one
+            put sub/x other = ok
+            file sub/x = other
+            remove sub/x = ok
+            stands sub/x = no
+            # before there is a folder of the program
+            begin first = ok
+            write b mine = ok
+            remove B = fault
+            file b = mine
+            put B x = fault
+            file b = mine
+            remove b = ok
+            put B x = ok
+            list = B
+END
+        same "the rows of the site" "$(ignoring "$rows" | head -1)" 'fs.rows: 22 rows, 0 differ'
+    else
+        echo "passed over: rows of the site, as tup_outside_rows isn't built in the folder beside"
+    fi
+else
+    echo "passed over: a library that ignores case, as there is no compiler for C"
+fi
+
+# A second update looks at nothing: somebody holds the lock of the folder.
+project "$copy"
+flock . strace -o "$work/trace" -e trace=%file,%desc "$tup" > "$work/told" 2> "$work/said"
+same "a second update" "$?: $(cat "$work/told") $(cat "$work/said")" '7: fault: the file tree or the store failed tup: .: another tup is at work here'
+same "it looks at nothing" "$(grep -c '"\./' "$work/trace")" 0
+same "it makes nothing" "$(ls -A | tr '\n' ' ')" 'Tupfile a '
 
 # Closed streams, and few open files.
 project "$copy"

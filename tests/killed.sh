@@ -1,8 +1,9 @@
 #!/bin/sh
 # Each system call of an update over real files is failed and killed in turn, by strace: whatever stops the program, no
-# source may be lost, and the next update has to end with `done` and leave just the files of a clean build. Before, the
-# order of its syncs is looked at: no clause speaks of what is durable. Words: the program, and the projects to try (none:
-# all). It ends with 1 where something else came, and says so. It takes ten minutes, and is no part of the gate.
+# source may be lost, and the next update has to end with `done` and leave just the files of a clean build. A call that
+# failed is told with its error; only where nothing is lost by it may the update go on. Before, the order of its syncs is
+# looked at: no clause speaks of what is durable. Words: the program, and the projects to try (none: all). It ends with 1
+# where something else came, and says so. It takes a quarter of an hour, and is no part of the gate.
 set -u
 tup=$(realpath "$1")
 shift
@@ -60,19 +61,46 @@ after_a_kill() {
     printf '%s\n' ': body |> cp body page |> page' > Tupfile
 }
 
-# The files that aren't the program's, with their contents: all but the outputs of now and before.
-sources() {
-    for file in *; do
-        case $file in
-            top | page | index | old | a | az) ;;
-            *) printf '%s: ' "$file"; cat "$file" ;;
-        esac
-    done
+# Folders below the top: one whose file changes, and one that loses its Tupfile and so its only file.
+folders_below() {
+    mkdir -p kept/deep gone/deep
+    printf 'body\n' > kept/deep/body
+    printf 'head\n' > gone/deep/head
+    printf '%s\n' ': body |> cp body page |> page' > kept/deep/Tupfile
+    printf '%s\n' ': head |> cp head top |> top' > gone/deep/Tupfile
+    "$tup" > /dev/null
+    printf 'new body\n' > kept/deep/body
+    rm gone/deep/head gone/deep/Tupfile
 }
 
-files() {
-    for file in *; do printf '%s: ' "$file"; cat "$file"; done
+# All files but the program's own, hidden ones too.
+names() { find . -path ./.tup -prune -o ! -type d -print | sort; }
+
+# The names without the outputs of now and before.
+names_of_sources() { names | grep -v '/\(top\|page\|index\|old\|a\|az\)$'; }
+
+# The files of these names, with their contents.
+contents() { while read -r file; do printf '%s: ' "$file"; cat "$file"; done; }
+sources() { names_of_sources | contents; }
+files() { names | contents; }
+
+# What an update says that ends because of this error.
+told_why() {
+    case $1 in EIO) errno=5 ;; EACCES) errno=13 ;; ENOSPC) errno=28 ;; esac
+    [ "$(tail -1 "$work/told")" = 'fault: the file tree or the store failed' ] || wrong "exit 7, and it prints: $(tail -1 "$work/told")"
+    grep -q "^tup: .*(os error $errno)\$" "$work/said" || wrong "exit 7, and nobody says why: $(cat "$work/said")"
 }
+
+# Calls by whose failure nothing is lost: a file is closed that was only read, or synced before; a lock isn't to be had; an
+# empty folder stays.
+may_go_on() {
+    case $1 in
+        close | flock | rmdir) ;;
+        *) wrong "exit 0, though this call failed" ;;
+    esac
+}
+
+made_all() { [ "$(files)" = "$wanted_files" ] || wrong "exit $exit, and the files aren't those of a clean build"; }
 
 # Stops the update of a project at one call, and looks at what is left. Words: the project, the call, its number, what is done to it.
 stop() {
@@ -81,13 +109,14 @@ stop() {
     strace -o /dev/null -e trace="$2" -e inject="$2:$4:when=$3" "$tup" > "$work/told" 2> "$work/said"
     exit=$?
     all=$((all + 1))
-    printf '%s exit %s\n' "$4" "$exit" >> "$work/exits"
+    case $4 in error*) what_was_done=failed ;; *) what_was_done=killed ;; esac
+    printf '%s, exit %s\n' "$what_was_done" "$exit" >> "$work/exits"
     [ "$(sources)" = "$wanted_sources" ] || wrong "a source is lost"
-    case "$4 $exit" in
-        signal*' 137') ;;
-        error*' 0') [ "$(files)" = "$wanted_files" ] || wrong "exit 0, and the files aren't those of a clean build" ;;
-        error*' 7') grep -q '^tup: .*(os error [0-9]*)$' "$work/said" || wrong "exit 7, and nobody says why: $(cat "$work/said")" ;;
-        error*' 9') [ "$(files)" = "$wanted_files" ] || wrong "exit 9, and the files aren't those of a clean build" ;;
+    case "$2 $4 $exit" in
+        *' signal=KILL 137') ;;
+        *' error='*' 7') told_why "${4#error=}" ;;
+        *' error='*' 0') may_go_on "$2" && made_all ;;
+        'write error='*' 9') made_all ;;
         *) wrong "exit $exit: $(tail -1 "$work/told")" ;;
     esac
     next=$("$tup" 2>&1)
@@ -100,26 +129,38 @@ stop() {
     [ "$(ls .tup)" = db ] || wrong "more than the store is left in .tup: $(ls .tup | tr '\n' ' ')"
 }
 
-# What a trace of an update shows of its syncs: each file is synced before it is renamed into its place, and the list of
-# owned paths too, and its folder behind that; before a new list is there, the folder in which names came and went is synced.
+# What a trace of an update shows of its syncs. Before a file comes or goes the first list is durable, with its folder and the
+# one above. Each file is synced before it is renamed into its place, and so is a list; before the second list is there, all
+# folders above a name that came or went are synced. Behind each list its folder is.
 unsynced() {
     awk '
-        { path = "" }
-        /^rename\("\.\/\.tup\/new", / {
-            split($0, part, "\"")
-            if (!("./.tup/new" in synced)) print part[4] " isn\047t durable before it is put into its place"
-            delete synced["./.tup/new"]
-            waiting["."]
+        function above(path) { while (sub(/\/[^\/]*$/, "", path)) waiting[path] }
+        function file_changes(path) {
+            if (!("./.tup" in synced) || !("." in synced)) print path " comes or goes before the list is durable"
+            above(path)
         }
-        /^unlink\("\.\/[^.]/ { waiting["."] }
-        /^f(data)?sync\(/ && / = 0$/ { path = $0; sub(/^[a-z]*\([0-9]*</, "", path); sub(/>\).*/, "", path); sub(/^.*\/now/, ".", path) }
-        path != "" { delete waiting[path]; synced[path] }
+        function replaces(new, path) {
+            if (!(new in synced)) print path " isn\047t durable before it is put into its place"
+            delete synced[new]
+        }
+        !/ = 0$/ { next }
+        { split($0, part, "\"") }
+        /^rename\("\.\/\.tup\/new", / { replaces("./.tup/new", part[4]); file_changes(part[4]) }
+        /^unlink\("\.\/[^.]/ { file_changes(part[2]) }
+        /^rmdir\(/ { above(part[2]); delete waiting[part[2]] }
+        /^f(data)?sync\(/ {
+            path = $0
+            sub(/^[a-z]*\([0-9]*</, "", path)
+            sub(/>\).*/, "", path)
+            sub(/^.*\/now/, ".", path)
+            delete waiting[path]
+            synced[path]
+        }
         /^rename\("\.\/\.tup\/db\.new", / {
             for (path in waiting) print path " isn\047t durable before the new list is there"
-            if (!("./.tup/db.new" in synced)) print "the new list isn\047t durable before it is put into its place"
-            delete synced["./.tup/db.new"]
+            replaces("./.tup/db.new", "the list")
             delete synced["./.tup"]
-            lists++
+            if (!lists++) delete synced["."]
         }
         END {
             if (lists != 2) print lists + 0 " lists were put into their place, not 2"
@@ -127,22 +168,17 @@ unsynced() {
         }' "$work/trace"
 }
 
-# All calls of the update of a project, from the first that names one of its files on.
+# All calls of the update of a project, from the first that names its folder on.
 try() {
     rm -rf "$work/project" "$work/clean" && mkdir "$work/project" "$work/clean" && cd "$work/project" || exit 1
     "$1"
     wanted_sources=$(sources)
-    for file in *; do
-        case $file in
-            top | page | index | old | a | az) ;;
-            *) cp "$file" "$work/clean" ;;
-        esac
-    done
+    names_of_sources | xargs -d '\n' cp --parents -t "$work/clean"
     cd "$work/clean" && "$tup" > /dev/null || echo "the clean build of $1 isn't done"
     wanted_files=$(files)
     rm -rf "$work/now" && cp -a "$work/project" "$work/now" && cd "$work/now" || exit 1
     strace -y -o "$work/trace" -e trace="$calls" "$tup" > /dev/null
-    awk '{ name = $0; sub(/\(.*/, "", name); count[name]++ } /"\.\// { begun = 1 } begun && name ~ /^[a-z]/ && name !~ /^mmap/ { print name, count[name] }' "$work/trace" > "$work/list"
+    awk '{ name = $0; sub(/\(.*/, "", name); count[name]++ } /"\.["\/]/ { begun = 1 } begun && name ~ /^[a-z]/ && name !~ /^mmap/ { print name, count[name] }' "$work/trace" > "$work/list"
     what=$1
     [ -s "$work/list" ] || wrong "no call of the update was found"
     late=$(unsynced)
@@ -152,11 +188,11 @@ try() {
         for error in EIO EACCES ENOSPC; do stop "$1" "$call" "$number" "error=$error"; done
         stop "$1" "$call" "$number" signal=KILL
     done < "$work/list"
-    printf '%s: %s calls, each failed and killed:\n' "$1" "$(wc -l < "$work/list")"
+    printf '%s: %s calls, each failed by three errors and killed:\n' "$1" "$(wc -l < "$work/list")"
     sort "$work/exits" | uniq -c | sed 's/^ *\([0-9]*\) /  \1 times /'
 }
 
-for project in ${*:-three_rules after_changes shorter_list after_a_kill}; do try "$project"; done
+for project in ${*:-three_rules after_changes shorter_list after_a_kill folders_below}; do try "$project"; done
 
 if [ "$failures" -gt 0 ]; then
     echo "$failures of $all updates that were stopped went wrong"

@@ -50,6 +50,7 @@ while [ "$turn" -lt "$times" ]; do
     cd "$work" && rm -rf "${work:?}/$turn"
 done
 
+[ "$refused" -gt 0 ] || wrong "none ever came while another was at work"
 if [ "$failures" -gt 0 ]; then
     echo "$failures things went wrong in $times times"
     exit 1

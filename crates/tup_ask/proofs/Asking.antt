@@ -1,25 +1,16 @@
 -- A log with one more answer.
 use Rattle.std.proofs.Common.{◌≡◌, ◌⊎◌, inl, inr, Bool, true, false, cond, IsTrue, [], ◌∷◌, ◌++◌, Option, Some, None, is_some, Ok, Err, refl, sym, ap, ◌∙◌, subst}
-use Rattle.std.proofs.lemmas.Slice.Eq.{bytes_eq-Decides}
-use Rattle.tup_path.proofs.Same.{same_path-decides}
 use Rattle.tup_rule.specs.declared.question.Question.{Question}
-use Rattle.tup_rule.specs.declared.question.Question.TheVariants as question
 use Rattle.tup_rule.specs.declared.question.Told.{Told}
 use Rattle.tup_ask.specs.declared.fault.ParseFault.{ParseFault}
 use Rattle.tup_ask.specs.declared.fault.ReadEnd.{ReadEnd}
 use Rattle.tup_ask.specs.declared.fault.ReadEnd.TheVariants.{Fault, Stopped, Memory}
 use Rattle.tup_ask.specs.Reads.{Reads, gives, and_then}
 use Rattle.tup_ask.specs.Log.{Log, same_question, fits, StopsAt, told_before, Step, Ran, Says}
+use Rattle.tup_ask.specs.Key.{same_question-true}
 use Rattle.tup_ask.specs.Ask.{asks}
 use Rattle.tup_ask.specs.Went.{Asker, asker, Comes, Went}
 use Rattle.tup_ask.proofs.Went.{went_then, went_err, went_gives}
-
-same_question-true : (one other : Question) → same_question one other ≡ true → one ≡ other
-same_question-true (question.Content one) (question.Content other) e = ap (λ p. question.Content p) ((same_path-decides one other).0 e)
-same_question-true (question.Config one) (question.Config other) e = ap (λ n. question.Config n) ((bytes_eq-Decides one other).0 e)
-same_question-true (question.Names one) (question.Names other) e = ap (λ p. question.Names p) ((same_path-decides one other).0 e)
-same_question-true (question.Kind one) (question.Kind other) e = ap (λ p. question.Kind p) ((same_path-decides one other).0 e)
-same_question-true one other e = cc
 
 -- what a longer log tells it told before, or it is the last answer
 pub told_push : (log : Log) (asked other : Question) (told found : Told) → told_before (log ++ (asked, told) ∷ []) other ≡ Some found

@@ -1,17 +1,15 @@
 //! Questions, each asked once.
-ghost use Rattle.std.specs.Prelude.{◌≡◌, false, option_map, is_some};
+ghost use Rattle.std.specs.Prelude.{◌≡◌, false, is_some};
 ghost use Rattle.tup_ask.specs.Ask as specs;
-ghost use Rattle.tup_ask.specs.Log.{same_question, told_before as before};
 ghost use Rattle.tup_ask.specs.Went.{Went, asker};
 
 use crate::env::Env;
 use crate::fault::ReadEnd;
+use crate::key::Key;
+use crate::log::Log;
 use std::alloc::Global;
-use tup_path::{Bytes, Items, Path, Text, Texts};
+use tup_path::{Bytes, Path, Text, Texts};
 use tup_rule::{Kind, Question, Told};
-
-/// Questions with what was told, in the order of first asking.
-pub type Log = Items<(Question, Told)>;
 
 /// Asks a question, unless the log has it; then what was told before is the answer.
 fn ask<E: Env>(
@@ -25,37 +23,13 @@ fn ask<E: Env>(
         (specs.asks question)
         (asker (E.answers env.new) (E.stopped env.new) log.new) result }
 {
-    if let Some(told) = told_before(log.as_slice(), &question) {
+    let key = Key { question };
+    if let Some(told) = log.answer_to(&key) {
         return Ok(told.clone()?);
     }
-    let told = env.answer(alloc, &question)?;
-    log.push((question, told.clone()?))?;
+    let told = env.answer(alloc, &key.question)?;
+    log.add(key, told.clone()?)?;
     Ok(told)
-}
-
-/// What was told to a question before.
-fn told_before<'l>(log: &'l [(Question, Told)], question: &Question) -> Option<&'l Told>
-    ensures { option_map (λ told. told.now) result ≡ before log.now question.now }
-{
-    for (asked, told) in log {
-        if same(question, asked) {
-            return Some(told);
-        }
-    }
-    None
-}
-
-/// Whether two questions are the same.
-fn same(one: &Question, other: &Question) -> bool
-    ensures { result ≡ same_question one.now other.now }
-{
-    match (one, other) {
-        (Question::Content(one), Question::Content(other)) => one == other,
-        (Question::Config(one), Question::Config(other)) => one == other,
-        (Question::Names(one), Question::Names(other)) => one == other,
-        (Question::Kind(one), Question::Kind(other)) => one == other,
-        _ => false,
-    }
 }
 
 /// What the source file at a path holds, in bytes; `None` where there is none.

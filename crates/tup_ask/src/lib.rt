@@ -11,12 +11,15 @@
 mod ask;
 mod env;
 mod fault;
+mod key;
+mod log;
 mod settings;
 mod spot;
 mod text;
 
-pub use ask::{Log, content_at, kind_at, names_at, setting_of};
+pub use ask::{content_at, kind_at, names_at, setting_of};
 pub use env::Env;
 pub use fault::{ParseFault, ReadEnd};
+pub use log::Log;
 pub use spot::Spot;
 pub use text::{expanded, var_end};

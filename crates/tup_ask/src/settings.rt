@@ -4,9 +4,10 @@ ghost use Rattle.tup_ask.specs.Ask as specs;
 ghost use Rattle.tup_ask.specs.Text.{value_among};
 ghost use Rattle.tup_ask.specs.Went.{Went, asker};
 
-use crate::ask::{Log, setting_of};
+use crate::ask::setting_of;
 use crate::env::Env;
 use crate::fault::ReadEnd;
+use crate::log::Log;
 use std::alloc::{AllocError, Global};
 use tup_path::{Items, Text};
 use tup_vars::{Lookup, Stopped};

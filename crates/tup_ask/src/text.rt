@@ -4,9 +4,9 @@ ghost use Rattle.tup_ask.specs.Text as specs;
 ghost use Rattle.tup_ask.specs.Went.{Went, asker, IsRefusal};
 ghost use Rattle.tup_ask.specs.declared.fault.ReadEnd.TheVariants.{Memory};
 
-use crate::ask::Log;
 use crate::env::Env;
 use crate::fault::ReadEnd;
+use crate::log::Log;
 use crate::settings::{Settings, settings_of};
 use crate::spot::Spot;
 use std::alloc::Global;

@@ -1,7 +1,7 @@
-mod Changed
-mod Orderly
+pub mod Changed
+pub mod Orderly
 mod Places
-mod Counted
+pub mod Counted
 mod Settled
 mod Opening
 pub mod ClaimedOnce
@@ -11,10 +11,11 @@ pub mod Verdicts
 pub mod CleanRuns
 pub mod AllClaimed
 pub mod Example
-mod ItemLaws
+pub mod ItemLaws
 mod WalkLaws
-mod WaitingLaws
+pub mod WaitingLaws
 mod FilesLaws
 mod MachineLaws
 mod StepLaws
 mod SameLaws
+pub mod ReadingLaws

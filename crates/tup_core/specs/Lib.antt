@@ -10,3 +10,4 @@ pub mod Waiting
 pub mod Walk
 pub mod Ending
 pub mod Machine
+pub mod Reading

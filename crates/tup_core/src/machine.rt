@@ -10,6 +10,8 @@ ghost use Rattle.tup_core.specs.Sound.{IsInRange};
 ghost use Rattle.tup_core.specs.Waiting.{flag, CanRelease};
 ghost use Rattle.tup_core.specs.Machine.{state_of, ready_test, IsCore, Answers, Takes, Completes, MayEnd};
 
+mod reading;
+
 use crate::ending::{ended_badly, may_end};
 use crate::event::{Cause, CoreEvent, Stamps};
 use crate::fault::CoreFault;

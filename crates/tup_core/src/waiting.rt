@@ -46,6 +46,15 @@ impl Waiting {
         self.waits.get(at).copied().unwrap_or(0) == 0
     }
 
+    /// Those that wait for a rule, or waited for it.
+    pub(crate) fn waiters(&self, at: usize) -> &[usize]
+        requires { at < length self.now.waiters.items }
+        ensures { (other : ℕ) → count_of other result.now
+            ≡ specs.times self.now.waiters.items at other }
+    {
+        self.waiters[at].as_slice()
+    }
+
     /// Those that wait for a rule do so no longer; it takes no memory.
     pub(crate) fn release(&mut self, at: usize)
         requires { CanRelease at self.old }

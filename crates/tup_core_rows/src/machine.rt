@@ -4,8 +4,11 @@ ghost use Rattle.tup_core.specs.Sound.{IsInRange};
 ghost use Rattle.tup_core_rows.specs.Machine.{IsOfPlan};
 
 use std::alloc::Global;
+use tup_access::Access;
 use tup_core::{Core, CoreEvent, CoreFault, Plan, Stamps};
+use tup_path::Text;
 use tup_rows::{RowFault, Words};
+use tup_turn::Turn;
 
 /// A core, and the plan that it is told at each call.
 #[derive(Drop)]
@@ -53,6 +56,42 @@ impl Machine {
         None
     }
 
+    /// The same, by the marks of those whose turn it is.
+    pub(crate) fn first_turn(&self, alloc: Global) -> Result<Option<u32>, RowFault>
+        requires { IsOfPlan self.now }
+    {
+        match Turn::new(alloc, &self.plan, &self.core) {
+            Ok(turn) => Ok(turn.first_ready(&self.plan, &self.core)),
+            Err(_) => Err(RowFault::Memory),
+        }
+    }
+
+    /// What becomes of an ask of the command that a seat runs, if it runs one.
+    pub(crate) fn allows(
+        &self,
+        alloc: Global,
+        seat: u32,
+        text: &Text,
+    ) -> Result<Option<Access>, RowFault>
+        requires { IsOfPlan self.now }
+    {
+        let Some(running) = self.core.running(seat) else {
+            return Ok(None);
+        };
+        match self.core.allows(alloc, &self.plan, running, text) {
+            Ok(given) => Ok(Some(given)),
+            Err(_) => Err(RowFault::Memory),
+        }
+    }
+
+    /// Whether no seat runs anything, whether a verdict was bad, and whether all is stopped.
+    pub(crate) fn state(&self, alloc: Global) -> Words {
+        let mut words = Words::yes_or_no(alloc, self.core.is_idle());
+        words.put(alloc, yes_or_no(self.core.has_bad()));
+        words.put(alloc, yes_or_no(self.core.stopped().is_some()));
+        words
+    }
+
     /// Adds the number of each rule that is ready.
     pub(crate) fn add_ready(&self, alloc: Global, words: &mut Words)
         requires { IsOfPlan self.now }
@@ -63,6 +102,11 @@ impl Machine {
             }
         }
     }
+}
+
+/// How a row says yes and no.
+fn yes_or_no(yes: bool) -> &'static [u8] {
+    if yes { b"yes" } else { b"no" }
 }
 
 /// Whether the numbers of the reach are places of rules.

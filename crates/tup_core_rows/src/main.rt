@@ -9,6 +9,7 @@ mod project;
 mod rows;
 mod run;
 mod sources;
+mod told;
 mod update;
 
 use project::Project;

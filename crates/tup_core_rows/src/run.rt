@@ -37,7 +37,7 @@ fn ready(alloc: Global, machine: &Machine, mut words: Words) -> Words
 }
 
 /// The number of the first event that isn't enabled, from 1 on.
-fn first_refused(
+pub(crate) fn first_refused(
     alloc: Global,
     machine: &mut Machine,
     words: &[Vec<u8>],

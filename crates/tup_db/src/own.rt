@@ -1,4 +1,6 @@
 //! The program's own folder, in which nothing is a file of the tree.
+ghost use Rattle.std.specs.Prelude.{◌≡◌, ◌++◌, IfOk, codes, string_bytes};
+
 use std::alloc::{AllocError, Global};
 use std::fs::File;
 use std::rt::Files;
@@ -17,7 +19,16 @@ pub struct Own {
 
 impl Own {
     /// The places below a folder.
-    pub fn new(alloc: Global, root: &str) -> Result<Own, AllocError> {
+    pub fn new(alloc: Global, root: &str) -> Result<Own, AllocError>
+        ensures folder { IfOk result
+            (λ own. string_bytes own.folder ≡ root.now ++ codes "/.tup") }
+        ensures store { IfOk result
+            (λ own. string_bytes own.store ≡ root.now ++ codes "/.tup/db") }
+        ensures aside { IfOk result
+            (λ own. string_bytes own.aside ≡ root.now ++ codes "/.tup/db.new") }
+        ensures new { IfOk result
+            (λ own. string_bytes own.new ≡ root.now ++ codes "/.tup/new") }
+    {
         Ok(Own {
             folder: format!(in alloc; "{root}/.tup")?,
             store: format!(in alloc; "{root}/.tup/db")?,

@@ -1,7 +1,7 @@
 //! The folder below which all lies, and the places there.
 ghost use Rattle.std.specs.Prelude.{◌≡◌, ◌-◌, length, take, map, IfOk, string_bytes};
 ghost use Rattle.tup_disk.specs.Place.{place_of, places_to};
-ghost use Rattle.tup_disk.specs.Told.{IsTold, IsFailure};
+ghost use Rattle.tup_disk.specs.Told.{IsTold, IsFailure, IsNamed};
 
 use crate::failure::{Failure, Refused};
 use std::alloc::{AllocError, Global};
@@ -109,7 +109,9 @@ impl<R: Files<File = File> + Clone + Drop> Disk<R> {
     }
 
     /// The failure that something stands here which is neither a file nor a folder of the project.
-    pub fn in_the_way(&self, place: &str) -> Refused {
+    pub fn in_the_way(&self, place: &str) -> Refused
+        ensures { IsNamed place.now result }
+    {
         self.refused(
             place,
             io::Error::other("a link or a special file stands here"),
@@ -117,7 +119,9 @@ impl<R: Files<File = File> + Clone + Drop> Disk<R> {
     }
 
     /// The failure of every sync after one that failed.
-    pub fn lost(&self, place: &str) -> Refused {
+    pub fn lost(&self, place: &str) -> Refused
+        ensures { IsNamed place.now result }
+    {
         self.refused(place, io::Error::other("an earlier write was lost"))
     }
 }

@@ -12,11 +12,10 @@ use Rattle.tup_draft.specs.declared.state.State.{State}
 use Rattle.tup_ask.specs.Reads.{Reads, gives, and_then}
 use Rattle.tup_ask.specs.Spot.{Spot, refused}
 use Rattle.tup_draft.specs.State.{is_made}
-use Rattle.tup_draft.specs.Flagged.{bare_parts, flagged_text}
 use Rattle.tup_draft.specs.Folder.{bin_name, is_group}
 use Rattle.tup_draft.specs.Found.{input, inputs_alone, one_input, with_found}
 use Rattle.tup_draft.specs.Glob.{is_glob, globbed}
-use Rattle.tup_draft.specs.Input.{is_file, known_input, literal, from_bin, from_group, from_files, from_other, from_word, from_words}
+use Rattle.tup_draft.specs.Input.{is_file, known_input, literal, from_bin, from_group, bare_text, from_text, from_files, from_other, from_word, from_words}
 
 pub inputs_more : (at : Spot) (state : State) (found : Found) (words : List (List ℕ)) (index : ℕ) (word : List ℕ) → index < length words → word ≡ get_or words index word
     → from_words at state found (drop index words) ≡ and_then (from_word at state word) (λ next. from_words at state (with_found found next) (drop (index + 1) words))
@@ -69,16 +68,12 @@ known-there at drafts path kind e = ap (λ b. if b then gives (one_input path) e
 pub known-missing : (at : Spot) (drafts : List Draft) (path : Names) (kind : Kind) → (is_file kind || is_made drafts path) ≡ false → known_input at drafts path kind ≡ refused at MissingInput
 known-missing at drafts path kind e = ap (λ b. if b then gives (one_input path) else refused at MissingInput) e
 
--- what is made of a text with its flags put in
-abbrev pub of_text : Spot → List Draft → List ℕ → Reads ParseFault Found
-of_text at drafts text = if is_glob text then globbed at drafts text else literal at drafts text
-
-pub text-glob : (at : Spot) (drafts : List Draft) (text : List ℕ) → is_glob text ≡ true → of_text at drafts text ≡ globbed at drafts text
+pub text-glob : (at : Spot) (drafts : List Draft) (text : List ℕ) → is_glob text ≡ true → from_text at drafts text ≡ globbed at drafts text
 text-glob at drafts text e = ap (λ b. if b then globbed at drafts text else literal at drafts text) e
 
-pub text-literal : (at : Spot) (drafts : List Draft) (text : List ℕ) → is_glob text ≡ false → of_text at drafts text ≡ literal at drafts text
+pub text-literal : (at : Spot) (drafts : List Draft) (text : List ℕ) → is_glob text ≡ false → from_text at drafts text ≡ literal at drafts text
 text-literal at drafts text e = ap (λ b. if b then globbed at drafts text else literal at drafts text) e
 
-pub files_by : (at : Spot) (drafts : List Draft) (word : List ℕ) → from_files at drafts word ≡ and_then (flagged_text at (bare_parts at.dir) word) (of_text at drafts)
+pub files_by : (at : Spot) (drafts : List Draft) (word : List ℕ) → from_files at drafts word ≡ and_then (bare_text at word) (from_text at drafts)
 unfolding from_files
 files_by at drafts word = refl

@@ -2,6 +2,7 @@ pub mod Ends
 pub mod Pieces
 pub mod Folders
 pub mod Outputs
+pub mod Sets
 pub mod Inputs
 pub mod Jobs
 pub mod Globs

@@ -20,6 +20,7 @@ use Rattle.tup_lex.specs.declared.kind.ParseKind.{ParseKind}
 use Rattle.tup_lex.specs.declared.kind.ParseKind.TheVariants as fault
 use Rattle.tup_rule.specs.Rule.{among}
 use Rattle.tup_rule.specs.declared.draft.Draft.{Draft}
+use Rattle.tup_rule.specs.declared.draft.GroupRef.{GroupRef}
 use Rattle.tup_rule.specs.declared.question.Kind.{Kind}
 use Rattle.tup_rule.specs.declared.question.Kind.TheVariants.{File, Dir, Nothing}
 use Rattle.tup_rule.specs.declared.question.Question.{Question}
@@ -28,18 +29,15 @@ use Rattle.tup_rule.specs.declared.question.Told.{Told}
 use Rattle.tup_glob.specs.Match.{matches}
 use Rattle.tup_glob.specs.declared.symbol.Symbol.{Symbol}
 use Rattle.tup_flags.specs.declared.parts.FlagParts.{FlagParts}
-use Rattle.tup_flags.specs.declared.parts.Place.TheVariants as place
 use Rattle.tup_macro.specs.Gifts.{GiftsTo, members_of, with_gift}
-use Rattle.tup_vars.specs.Name.{is_name}
 use Rattle.tup_vars.specs.Branches.{left}
-use Rattle.tup_macro.specs.Macros.{macro_of}
+use Rattle.tup_macro.specs.declared.macros.Macro.{Macro}
 use Rattle.tup_ask.specs.declared.fault.ParseFault.{ParseFault}
 use Rattle.tup_draft.specs.declared.found.Found.{Found}
 use Rattle.tup_draft.specs.declared.found.Input.{Input}
 use Rattle.tup_draft.specs.declared.job.Job.{Job}
-use Rattle.tup_draft.specs.declared.job.Outputs.{Outputs}
+use Rattle.tup_draft.specs.declared.job.Plan.{Plan}
 use Rattle.tup_draft.specs.declared.job.Sources.{Sources}
-use Rattle.tup_draft.specs.declared.job.Spoken.{Spoken}
 use Rattle.tup_draft.specs.declared.state.State.{State}
 use Rattle.tup_draft.specs.declared.words.Words.{Words}
 use Rattle.tup_ask.specs.Reads.{Reads, Ends, Asks, gives, and_then, outcome}
@@ -52,14 +50,12 @@ use Rattle.tup_draft.specs.Output.{may_make, is_reserved, new_output, known_outp
 use Rattle.tup_draft.specs.Found.{input, inputs_alone, one_input, one_group, nothing_found, paths_of, with_input, has_path, with_found}
 use Rattle.tup_draft.specs.Glob.{is_glob, in_order, names_among, names_of_files, matched_input, matching, glob_of, matched_in, globbed}
 use Rattle.tup_draft.specs.Input.{is_file, known_input, literal, from_bin, from_group, from_files, from_other, from_word, from_words}
-use Rattle.tup_draft.specs.Job.{one_job, whole_job, gives_nothing, jobs_of, flag_parts, outputs_of, spoken, draft_of, with_gifts, with_draft, with_job, with_jobs}
-use Rattle.tup_draft.specs.RuleLine.{given_to, sources_of, with_files, with_words, ruled}
-use Rattle.tup_ask.specs.Text.{expanded}
-use Rattle.tup_draft.specs.Words.{cut, words_of}
-use Rattle.tup_draft.specs.MacroLine.{is_body, body_of, with_body, named_macro, defined}
+use Rattle.tup_draft.specs.Job.{one_job, whole_job, gives_nothing, jobs_of, flag_parts, in_extra, in_command, spoken, draft_of, with_text, with_extra, with_outputs, drafted, with_gifts, with_draft, with_job, with_jobs}
+use Rattle.tup_draft.specs.RuleLine.{given_to, plan_with, plan_of, planned, with_words, words_in, ruled}
+use Rattle.tup_draft.specs.MacroLine.{body_in, one_more, with_body, defined}
 use Rattle.tup_draft.specs.Sound.{told_at, NamesFiles, MayTake, MayMake, IsSound, AreSound}
 use Rattle.tup_draft.proofs.Folders.{name_in_some, name_in_none, below-ok}
-use Rattle.tup_draft.proofs.Rules.{behind_group, behind_order, behind_inputs, behind_words, behind_line, by_there, behind_cut, behind_body}
+use Rattle.tup_draft.proofs.Rules.{behind_group, behind_order, behind_inputs, behind_plan, behind_words, behind_body, behind_macros}
 
 -- ---- what a process gives where each question is answered so
 abbrev pub Brings : {A : Type 0} → (Question → Told) → Reads ParseFault A → (A → Type 0) → Type 0
@@ -277,20 +273,33 @@ brings_outputs answers at parts drafts outputs (word ∷ more) all =
     (brings_output answers at parts drafts outputs word)
     (λ path may. brings_outputs answers at parts drafts (outputs ++ path ∷ []) more (All-push (MayMake answers at.dir drafts) outputs path all may))
 
-abbrev MakesAll : (Question → Told) → Names → List Draft → Outputs → Type 0
-MakesAll answers dir drafts outputs = All (MayMake answers dir drafts) outputs.all
+-- a command keeps to it, whatever it says
+brings_text : (answers : Question → Told) (at : Spot) (words : Words) (group : Option GroupRef) (drafts : List Draft) (parts : FlagParts) (outputs : List Names)
+    → All (MayTake answers drafts) parts.inputs → All (MayTake answers drafts) parts.order → All (MayMake answers at.dir drafts) outputs
+    → Brings answers (with_text at words group parts outputs) (IsSound answers at.dir drafts)
+unfolding with_text
+brings_text answers at words group drafts parts outputs takes order makes =
+    brings_behind answers (spoken at parts words.command) (λ said. gives (draft_of at group parts outputs said)) (IsSound answers at.dir drafts)
+    (λ said. brings_gives answers (draft_of at group parts outputs said) (IsSound answers at.dir drafts) (record { inputs = takes; order = order; outputs = makes }))
 
-brings_made : (answers : Question → Told) (at : Spot) (words : Words) (sources : Sources) (drafts : List Draft) (job : Job) → Brings answers (outputs_of at words sources drafts job) (MakesAll answers at.dir drafts)
-unfolding outputs_of
-brings_made answers at words sources drafts job =
-    brings_then answers (from_outputs at (flag_parts at words.foreach sources job [] place.Outputs) drafts [] words.outputs)
-    (λ plain. and_then (from_outputs at (flag_parts at words.foreach sources job plain place.Extra) drafts plain words.extra) (λ all. gives (record { plain = plain; all = all })))
-    (All (MayMake answers at.dir drafts)) (MakesAll answers at.dir drafts)
-    (brings_outputs answers at (flag_parts at words.foreach sources job [] place.Outputs) drafts [] words.outputs (All-nil (MayMake answers at.dir drafts)))
-    (λ plain some. brings_then answers (from_outputs at (flag_parts at words.foreach sources job plain place.Extra) drafts plain words.extra) (λ all. gives (record { plain = plain; all = all }))
-    (All (MayMake answers at.dir drafts)) (MakesAll answers at.dir drafts)
-    (brings_outputs answers at (flag_parts at words.foreach sources job plain place.Extra) drafts plain words.extra some)
-    (λ all made. brings_gives answers (record { plain = plain; all = all }) (MakesAll answers at.dir drafts) made))
+brings_extra : (answers : Question → Told) (at : Spot) (words : Words) (group : Option GroupRef) (drafts : List Draft) (parts : FlagParts)
+    → All (MayTake answers drafts) parts.inputs → All (MayTake answers drafts) parts.order → All (MayMake answers at.dir drafts) parts.outputs
+    → Brings answers (with_extra at words group drafts parts) (IsSound answers at.dir drafts)
+unfolding with_extra
+brings_extra answers at words group drafts parts takes order some =
+    brings_then answers (from_outputs at parts drafts parts.outputs words.extra) (λ all. with_text at words group (in_command parts) all) (All (MayMake answers at.dir drafts)) (IsSound answers at.dir drafts)
+    (brings_outputs answers at parts drafts parts.outputs words.extra some)
+    (λ all makes. brings_text answers at words group drafts (in_command parts) all takes order makes)
+
+brings_drafted : (answers : Question → Told) (at : Spot) (words : Words) (sources : Sources) (drafts : List Draft) (job : Job)
+    → All (MayTake answers drafts) job.inputs → All (MayTake answers drafts) sources.order
+    → Brings answers (drafted at words sources drafts job) (IsSound answers at.dir drafts)
+unfolding drafted with_outputs
+brings_drafted answers at words sources drafts job takes order =
+    let parts = flag_parts at words.foreach sources job in
+    brings_then answers (from_outputs at parts drafts [] words.outputs) (λ plain. with_extra at words sources.gives drafts (in_extra parts plain)) (All (MayMake answers at.dir drafts)) (IsSound answers at.dir drafts)
+    (brings_outputs answers at parts drafts [] words.outputs (All-nil (MayMake answers at.dir drafts)))
+    (λ plain some. brings_extra answers at words sources.gives drafts (in_extra parts plain) takes order some)
 
 -- ---- inputs
 -- all that was found may be taken
@@ -458,17 +467,15 @@ jobs-all answers drafts words inputs all = by words.foreach (gives_nothing words
     by false true = All-nil (TakesJob answers drafts)
     by false false = All-cons (TakesJob answers drafts) (whole_job inputs) [] (paths-all (MayTake answers drafts) inputs all) (All-nil (TakesJob answers drafts))
 
-drafted : (answers : Question → Told) (at : Spot) (words : Words) (sources : Sources) (state : State) (job : Job) (outputs : Outputs) (said : Spoken)
-    → IsSoundState answers at.dir state → All (MayTake answers state.drafts) sources.order → TakesJob answers state.drafts job → MakesAll answers at.dir state.drafts outputs
-    → IsSoundState answers at.dir (with_draft state words.bin (draft_of at sources job outputs.all said))
-drafted answers at words sources state job outputs said is order takes makes =
-    let draft = draft_of at sources job outputs.all said in
+kept-sound : (answers : Question → Told) (dir : Names) (bin : Option (List ℕ)) (state : State) (draft : Draft) → IsSoundState answers dir state → IsSound answers dir state.drafts draft
+    → IsSoundState answers dir (with_draft state bin draft)
+kept-sound answers dir bin state draft is sound =
     record {
-      drafts = sound_more answers at.dir [] state.drafts draft is.drafts (record { inputs = takes; order = order; outputs = makes });
-      bins = bin-given (λ path. is_made (state.drafts ++ draft ∷ []) path ≡ true) words.bin state.bins outputs.all
+      drafts = sound_more answers dir [] state.drafts draft is.drafts sound;
+      bins = bin-given (λ path. is_made (state.drafts ++ draft ∷ []) path ≡ true) bin state.bins draft.outputs
           (All-weaker (λ (g : List ℕ × List Names). All (λ path. is_made state.drafts path ≡ true) g.1) (λ (g : List ℕ × List Names). All (λ path. is_made (state.drafts ++ draft ∷ []) path ≡ true) g.1)
           (λ g all. All-weaker (λ path. is_made state.drafts path ≡ true) (λ path. is_made (state.drafts ++ draft ∷ []) path ≡ true) (made_more state.drafts draft) g.1 all) state.bins is.bins)
-          (All-weaker (λ path. among path outputs.all ≡ true) (λ path. is_made (state.drafts ++ draft ∷ []) path ≡ true) (made_last state.drafts draft) outputs.all (all_among outputs.all));
+          (All-weaker (λ path. among path draft.outputs ≡ true) (λ path. is_made (state.drafts ++ draft ∷ []) path ≡ true) (made_last state.drafts draft) draft.outputs (all_among draft.outputs));
     }
 
 -- what is left of a rule's commands: what they take may be taken behind each state that is reached
@@ -482,18 +489,14 @@ brings_job : (answers : Question → Told) (at : Spot) (words : Words) (sources 
     → Brings answers (with_job at words sources state job) (GoesOn answers at.dir sources more)
 unfolding with_job
 brings_job answers at words sources state job more (is, order, jobs) =
-    brings_then answers (outputs_of at words sources state.drafts job)
-    (λ outputs. and_then (spoken at (flag_parts at words.foreach sources job outputs.plain place.Command) words.command) (λ said. gives (with_draft state words.bin (draft_of at sources job outputs.all said))))
-    (MakesAll answers at.dir state.drafts) (GoesOn answers at.dir sources more)
-    (brings_made answers at words sources state.drafts job)
-    (λ outputs makes. brings_behind answers (spoken at (flag_parts at words.foreach sources job outputs.plain place.Command) words.command) (λ said. gives (with_draft state words.bin (draft_of at sources job outputs.all said)))
-    (GoesOn answers at.dir sources more)
-    (λ said. brings_gives answers (with_draft state words.bin (draft_of at sources job outputs.all said)) (GoesOn answers at.dir sources more) (
-      drafted answers at words sources state job outputs said is order (All-head (TakesJob answers state.drafts) job more jobs) makes,
-      more-taken answers state.drafts (draft_of at sources job outputs.all said) sources.order order,
-      All-weaker (TakesJob answers state.drafts) (TakesJob answers (state.drafts ++ draft_of at sources job outputs.all said ∷ []))
-          (λ j takes. more-taken answers state.drafts (draft_of at sources job outputs.all said) j.inputs takes) more (All-tail (TakesJob answers state.drafts) job more jobs),
-    )))
+    brings_then answers (drafted at words sources state.drafts job) (λ draft. gives (with_draft state words.bin draft)) (IsSound answers at.dir state.drafts) (GoesOn answers at.dir sources more)
+    (brings_drafted answers at words sources state.drafts job (All-head (TakesJob answers state.drafts) job more jobs) order)
+    (λ draft sound. brings_gives answers (with_draft state words.bin draft) (GoesOn answers at.dir sources more) (
+      kept-sound answers at.dir words.bin state draft is sound,
+      more-taken answers state.drafts draft sources.order order,
+      All-weaker (TakesJob answers state.drafts) (TakesJob answers (state.drafts ++ draft ∷ []))
+          (λ j takes. more-taken answers state.drafts draft j.inputs takes) more (All-tail (TakesJob answers state.drafts) job more jobs),
+    ))
 
 brings_jobs : (answers : Question → Told) (at : Spot) (words : Words) (sources : Sources) (state : State) (jobs : List Job) → GoesOn answers at.dir sources jobs state
     → Brings answers (with_jobs at words sources state jobs) (IsSoundState answers at.dir)
@@ -504,18 +507,28 @@ brings_jobs answers at words sources state (job ∷ more) goes =
     (brings_job answers at words sources state job more goes) (λ next on. brings_jobs answers at words sources next more on)
 
 -- ---- lines
-pub brings_ruled : (answers : Question → Told) (at : Spot) (state : State) (line : List ℕ) → NamesFiles answers → IsSoundState answers at.dir state → Brings answers (ruled at state line) (IsSoundState answers at.dir)
-unfolding ruled with_words with_files
-brings_ruled answers at state line files is =
-    brings_behind answers (expanded at state.variables line) (behind_line at state) (IsSoundState answers at.dir)
-    (λ text. brings_behind answers (words_of at state.macros text) (behind_words at state) (IsSoundState answers at.dir)
-    (λ words. brings_then answers (from_words at state nothing_found words.inputs) (behind_inputs at state words) (TakesFound answers state.drafts) (IsSoundState answers at.dir)
+-- all that a rule's commands take may be taken
+abbrev TakesPlan : (Question → Told) → List Draft → Plan → Type 0
+TakesPlan answers drafts plan = All (MayTake answers drafts) plan.sources.order × All (TakesJob answers drafts) plan.jobs
+
+brings_plan : (answers : Question → Told) (at : Spot) (state : State) (words : Words) → NamesFiles answers → IsSoundState answers at.dir state → Brings answers (planned at state words) (TakesPlan answers state.drafts)
+unfolding planned plan_of
+brings_plan answers at state words files is =
+    brings_then answers (from_words at state nothing_found words.inputs) (behind_inputs at state words) (TakesFound answers state.drafts) (TakesPlan answers state.drafts)
     (brings_words answers at state nothing_found words.inputs files is (All-nil (λ (i : Input). MayTake answers state.drafts i.path)))
-    (λ inputs takes. brings_then answers (from_words at state nothing_found words.order) (behind_order at state words inputs) (TakesFound answers state.drafts) (IsSoundState answers at.dir)
+    (λ inputs takes. brings_then answers (from_words at state nothing_found words.order) (behind_order at words inputs) (TakesFound answers state.drafts) (TakesPlan answers state.drafts)
     (brings_words answers at state nothing_found words.order files is (All-nil (λ (i : Input). MayTake answers state.drafts i.path)))
-    (λ order may. brings_behind answers (given_to at words.group) (behind_group at state words inputs order) (IsSoundState answers at.dir)
-    (λ group. brings_jobs answers at words (sources_of inputs order group) state (jobs_of words inputs.inputs)
-    (is, paths-all (MayTake answers state.drafts) order.inputs may, jobs-all answers state.drafts words inputs.inputs takes))))))
+    (λ order may. brings_behind answers (given_to at words.group) (behind_group words inputs order) (TakesPlan answers state.drafts)
+    (λ group. brings_gives answers (plan_with words inputs order group) (TakesPlan answers state.drafts)
+    (paths-all (MayTake answers state.drafts) order.inputs may, jobs-all answers state.drafts words inputs.inputs takes))))
+
+pub brings_ruled : (answers : Question → Told) (at : Spot) (state : State) (line : List ℕ) → NamesFiles answers → IsSoundState answers at.dir state → Brings answers (ruled at state line) (IsSoundState answers at.dir)
+unfolding ruled with_words
+brings_ruled answers at state line files is =
+    brings_behind answers (words_in at state line) (behind_words at state) (IsSoundState answers at.dir)
+    (λ words. brings_then answers (planned at state words) (behind_plan at state words) (TakesPlan answers state.drafts) (IsSoundState answers at.dir)
+    (brings_plan answers at state words files is)
+    (λ plan takes. brings_jobs answers at words plan.sources state plan.jobs (is, takes.0, takes.1)))
 
 -- a line that makes no rule and gives nothing to a bin
 pub same-sound : (answers : Question → Told) (dir : Names) (state next : State) → next.drafts ≡ state.drafts → next.bins ≡ state.bins → IsSoundState answers dir state → IsSoundState answers dir next
@@ -524,22 +537,13 @@ same-sound answers dir state next drafts bins is = record {
   bins = subst (λ (d : List Draft). AllGiven (λ path. is_made d path ≡ true) next.bins) (sym drafts) (subst (AllGiven (λ path. is_made state.drafts path ≡ true)) (sym bins) is.bins);
 }
 
-brings_body : (answers : Question → Told) (at : Spot) (state : State) (name : List ℕ) (words : Words) → IsSoundState answers at.dir state → Brings answers (with_body at state name words) (IsSoundState answers at.dir)
+brings_body : (answers : Question → Told) (at : Spot) (state : State) (name : List ℕ) (body : Macro) → IsSoundState answers at.dir state → Brings answers (with_body at state name body) (IsSoundState answers at.dir)
 unfolding with_body
-brings_body answers at state name words is = by (is_body words) (is_some (macro_of state.macros name))
-  where
-    by : (good there : Bool) → Brings answers (if good then by_there at state name words there else refused at fault.BadBrace) (IsSoundState answers at.dir)
-    by false there = brings_refused State answers at fault.BadBrace (IsSoundState answers at.dir)
-    by true true = brings_refused State answers at fault.DefinedTwice (IsSoundState answers at.dir)
-    by true false =
-        brings_gives answers (record state { macros = state.macros ++ (name, body_of words) ∷ [] }) (IsSoundState answers at.dir)
-        (same-sound answers at.dir state (record state { macros = state.macros ++ (name, body_of words) ∷ [] }) refl refl is)
+brings_body answers at state name body is =
+    brings_behind answers (one_more at state.macros name body) (behind_macros state) (IsSoundState answers at.dir)
+    (λ macros. brings_gives answers (record state { macros = macros }) (IsSoundState answers at.dir) (same-sound answers at.dir state (record state { macros = macros }) refl refl is))
 
 pub brings_defined : (answers : Question → Told) (at : Spot) (state : State) (left right : List ℕ) → IsSoundState answers at.dir state → Brings answers (defined at state left right) (IsSoundState answers at.dir)
-unfolding defined named_macro
+unfolding defined
 brings_defined answers at state left right is =
-    brings_behind answers (expanded at state.variables right) (behind_body at state left) (IsSoundState answers at.dir) (λ text. by text (is_name (trim left)))
-  where
-    by : (text : List ℕ) (good : Bool) → Brings answers (if good then and_then (cut at text) (behind_cut at state (trim left)) else refused at fault.BadName) (IsSoundState answers at.dir)
-    by text false = brings_refused State answers at fault.BadName (IsSoundState answers at.dir)
-    by text true = brings_behind answers (cut at text) (behind_cut at state (trim left)) (IsSoundState answers at.dir) (λ words. brings_body answers at state (trim left) words is)
+    brings_behind answers (body_in at state.variables (trim left) right) (behind_body at state (trim left)) (IsSoundState answers at.dir) (λ body. brings_body answers at state (trim left) body is)

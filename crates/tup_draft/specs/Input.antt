@@ -44,10 +44,17 @@ from_bin at bins name = elim (members_of bytes_eq bins name) [
 unfoldable pub from_group : Spot → List ℕ → Reads ParseFault Found
 from_group at word = and_then (led_to_folder at MissingInput word) (λ dir. gives (one_group (group_in dir word)))
 
+-- a word with its flags put in
+abbrev pub bare_text : Spot → List ℕ → Reads ParseFault (List ℕ)
+bare_text at word = flagged_text at (bare_parts at.dir) word
+
+-- what a text gives then: the files that a glob matches, or one file
+abbrev pub from_text : Spot → List Draft → List ℕ → Reads ParseFault Found
+from_text at drafts text = if is_glob text then globbed at drafts text else literal at drafts text
+
 -- a word that is no bin and no group, once its flags are put in
 unfoldable pub from_files : Spot → List Draft → List ℕ → Reads ParseFault Found
-from_files at drafts word =
-    and_then (flagged_text at (bare_parts at.dir) word) (λ text. if is_glob text then globbed at drafts text else literal at drafts text)
+from_files at drafts word = and_then (bare_text at word) (λ text. from_text at drafts text)
 
 -- what an input word gives that is no bin
 unfoldable pub from_other : Spot → List Draft → List ℕ → Reads ParseFault Found

@@ -4,9 +4,9 @@ use Rattle.std.specs.List.{list_any}
 use Rattle.tup_path.specs.Name.{Names}
 use Rattle.tup_lex.specs.declared.kind.ParseKind.TheVariants.{BadCaret}
 use Rattle.tup_rule.specs.declared.draft.Draft.{Draft}
+use Rattle.tup_rule.specs.declared.draft.GroupRef.{GroupRef}
 use Rattle.tup_rule.specs.declared.draft.Piece.{Piece}
 use Rattle.tup_flags.specs.declared.parts.FlagParts.{FlagParts}
-use Rattle.tup_flags.specs.declared.parts.Place.{Place}
 use Rattle.tup_flags.specs.declared.parts.Place.TheVariants as place
 use Rattle.tup_macro.specs.Gifts.{GiftsTo, with_gift}
 use Rattle.tup_ask.specs.declared.fault.ParseFault.{ParseFault}
@@ -14,7 +14,6 @@ use Rattle.tup_draft.specs.declared.caret.Command.{Command}
 use Rattle.tup_draft.specs.declared.found.Input.{Input}
 use Rattle.tup_draft.specs.declared.job.Job.{Job}
 use Rattle.tup_draft.specs.declared.job.Sources.{Sources}
-use Rattle.tup_draft.specs.declared.job.Outputs.{Outputs}
 use Rattle.tup_draft.specs.declared.job.Spoken.{Spoken}
 use Rattle.tup_draft.specs.declared.state.State.{State}
 use Rattle.tup_draft.specs.declared.words.Words.{Words}
@@ -50,26 +49,27 @@ jobs_of words inputs =
     else if gives_nothing words.inputs inputs then []
     else whole_job inputs ∷ []
 
--- what flags stand for in a command with these outputs
-abbrev pub flag_parts : Spot → Bool → Sources → Job → List Names → Place → FlagParts
-flag_parts at foreach sources job outputs where_ =
+-- what flags stand for in a command before it has outputs
+abbrev pub flag_parts : Spot → Bool → Sources → Job → FlagParts
+flag_parts at foreach sources job =
     record {
       dir = at.dir;
       inputs = job.inputs;
       order = sources.order;
-      outputs = outputs;
+      outputs = [];
       foreach = foreach;
       glob = job.glob;
       groups = sources.groups;
-      place = where_;
+      place = place.Outputs;
     }
 
--- the outputs of a command, and behind them its extra ones
-unfoldable pub outputs_of : Spot → Words → Sources → List Draft → Job → Reads ParseFault Outputs
-outputs_of at words sources drafts job =
-    and_then (from_outputs at (flag_parts at words.foreach sources job [] place.Outputs) drafts [] words.outputs)
-    (λ plain. and_then (from_outputs at (flag_parts at words.foreach sources job plain place.Extra) drafts plain words.extra)
-    (λ all. gives (record { plain = plain; all = all })))
+-- what they stand for among its extra outputs, behind its outputs
+abbrev pub in_extra : FlagParts → List Names → FlagParts
+in_extra parts outputs = record parts { outputs = outputs; place = place.Extra }
+
+-- what they stand for in its text
+abbrev pub in_command : FlagParts → FlagParts
+in_command parts = record parts { place = place.Command }
 
 -- the command of a rule behind its carets
 unfoldable pub with_carets : Spot → List ℕ → Reads ParseFault Command
@@ -88,37 +88,61 @@ spoken at parts text =
     (λ pieces. and_then (shown at parts command.display)
     (λ display. gives (record { pieces = pieces; display = display; compare = command.compare }))))
 
--- a command as a draft
-abbrev pub draft_of : Spot → Sources → Job → List Names → Spoken → Draft
-draft_of at sources job outputs spoken =
+-- a command as a draft, by the file and the line of its rule, the group to which it gives, what its flags stand for, its
+-- outputs and what it says
+abbrev pub draft_in : Names → ℕ → Option GroupRef → FlagParts → List Names → Spoken → Draft
+draft_in file line group parts outputs spoken =
     record {
-      file = at.file;
-      line = at.line;
+      file = file;
+      line = line;
       pieces = spoken.pieces;
       display = spoken.display;
       compare = spoken.compare;
-      inputs = job.inputs;
-      order = sources.order;
+      inputs = parts.inputs;
+      order = parts.order;
       outputs = outputs;
-      groups = sources.groups;
-      gives = sources.gives;
+      groups = parts.groups;
+      gives = group;
     }
+
+abbrev pub draft_of : Spot → Option GroupRef → FlagParts → List Names → Spoken → Draft
+draft_of at group parts outputs spoken = draft_in at.file at.line group parts outputs spoken
+
+-- a command as a draft, by what its flags stand for in its text, and all its outputs
+unfoldable pub with_text : Spot → Words → Option GroupRef → FlagParts → List Names → Reads ParseFault Draft
+with_text at words group parts outputs = and_then (spoken at parts words.command) (λ said. gives (draft_of at group parts outputs said))
+
+-- by what they stand for among its extra outputs, which come behind its outputs
+unfoldable pub with_extra : Spot → Words → Option GroupRef → List Draft → FlagParts → Reads ParseFault Draft
+with_extra at words group drafts parts =
+    and_then (from_outputs at parts drafts parts.outputs words.extra) (λ all. with_text at words group (in_command parts) all)
+
+-- by what they stand for before it has outputs
+unfoldable pub with_outputs : Spot → Words → Option GroupRef → List Draft → FlagParts → Reads ParseFault Draft
+with_outputs at words group drafts parts =
+    and_then (from_outputs at parts drafts [] words.outputs) (λ plain. with_extra at words group drafts (in_extra parts plain))
+
+-- a command as a draft: its outputs, its extra outputs, its text, what is shown
+unfoldable pub drafted : Spot → Words → Sources → List Draft → Job → Reads ParseFault Draft
+drafted at words sources drafts job = with_outputs at words sources.gives drafts (flag_parts at words.foreach sources job)
 
 -- the bins with the outputs of a command given to one of them
 abbrev pub with_gifts : GiftsTo (List ℕ) → Option (List ℕ) → List Names → GiftsTo (List ℕ)
 with_gifts bins None outputs = bins
 with_gifts bins (Some name) outputs = fold (λ all path. with_gift bytes_eq all name path) bins outputs
 
--- the state with one more rule, whose outputs go to its bin
+-- the state with one more rule
+abbrev pub with_made : State → Draft → State
+with_made state draft = record state { drafts = state.drafts ++ draft ∷ [] }
+
+-- the same, and its outputs go to its bin
 abbrev pub with_draft : State → Option (List ℕ) → Draft → State
 with_draft state bin draft = record state { bins = with_gifts state.bins bin draft.outputs; drafts = state.drafts ++ draft ∷ [] }
 
--- the state with one command: its outputs, its extra outputs, its text, what is shown
+-- the state with one command
 unfoldable pub with_job : Spot → Words → Sources → State → Job → Reads ParseFault State
 with_job at words sources state job =
-    and_then (outputs_of at words sources state.drafts job)
-    (λ outputs. and_then (spoken at (flag_parts at words.foreach sources job outputs.plain place.Command) words.command)
-    (λ said. gives (with_draft state words.bin (draft_of at sources job outputs.all said))))
+    and_then (drafted at words sources state.drafts job) (λ draft. gives (with_draft state words.bin draft))
 
 -- the state with commands one after another
 unfoldable pub with_jobs : Spot → Words → Sources → State → List Job → Reads ParseFault State

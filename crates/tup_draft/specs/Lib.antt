@@ -1,4 +1,5 @@
 pub mod Last
+pub mod Making
 pub mod State
 pub mod Caret
 pub mod Cut

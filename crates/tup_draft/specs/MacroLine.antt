@@ -4,7 +4,8 @@ use Rattle.std.specs.List.{list_any}
 use Rattle.tup_lex.specs.Blank.{trim}
 use Rattle.tup_lex.specs.declared.kind.ParseKind.TheVariants.{BadName, BadBrace, DefinedTwice}
 use Rattle.tup_vars.specs.Name.{is_name}
-use Rattle.tup_macro.specs.Macros.{macro_of}
+use Rattle.tup_vars.specs.Table.{Entries}
+use Rattle.tup_macro.specs.Macros.{Definitions, macro_of}
 use Rattle.tup_macro.specs.declared.macros.Macro.{Macro}
 use Rattle.tup_ask.specs.declared.fault.ParseFault.{ParseFault}
 use Rattle.tup_draft.specs.declared.state.State.{State}
@@ -29,18 +30,26 @@ is_body words =
 abbrev pub body_of : Words → Macro
 body_of words = record { order = words.order; command = words.command; outputs = words.outputs; extra = words.extra }
 
--- the state with one more macro
-unfoldable pub with_body : Spot → State → List ℕ → Words → Reads ParseFault State
-with_body at state name words =
-    if is_body words
-    then (if is_some (macro_of state.macros name) then refused at DefinedTwice
-    else gives (record state { macros = state.macros ++ (name, body_of words) ∷ [] }))
-    else refused at BadBrace
+-- the macro that words are, unless they have what no macro has
+unfoldable pub only_body : Spot → Words → Reads ParseFault Macro
+only_body at words = if is_body words then gives (body_of words) else refused at BadBrace
 
--- the state with a macro of a name, by its text
-unfoldable pub named_macro : Spot → State → List ℕ → List ℕ → Reads ParseFault State
-named_macro at state name text = if is_name name then and_then (cut at text) (λ words. with_body at state name words) else refused at BadName
+-- the macro of a name, by its text
+unfoldable pub named_body : Spot → List ℕ → List ℕ → Reads ParseFault Macro
+named_body at name text = if is_name name then and_then (cut at text) (λ words. only_body at words) else refused at BadName
+
+-- the same, by what stands behind its `=`
+unfoldable pub body_in : Spot → Entries → List ℕ → List ℕ → Reads ParseFault Macro
+body_in at variables name right = and_then (expanded at variables right) (λ text. named_body at name text)
+
+-- macros with one more, unless its name has one
+unfoldable pub one_more : Spot → Definitions → List ℕ → Macro → Reads ParseFault Definitions
+one_more at macros name body = if is_some (macro_of macros name) then refused at DefinedTwice else gives (macros ++ (name, body) ∷ [])
+
+-- the state with one more macro
+unfoldable pub with_body : Spot → State → List ℕ → Macro → Reads ParseFault State
+with_body at state name body = and_then (one_more at state.macros name body) (λ macros. gives (record state { macros = macros }))
 
 -- a macro line: what stands before its first `=`, and behind it
 unfoldable pub defined : Spot → State → List ℕ → List ℕ → Reads ParseFault State
-defined at state left right = and_then (expanded at state.variables right) (λ text. named_macro at state (trim left) text)
+defined at state left right = and_then (body_in at state.variables (trim left) right) (λ body. with_body at state (trim left) body)

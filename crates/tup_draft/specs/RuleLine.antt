@@ -5,6 +5,7 @@ use Rattle.tup_rule.specs.declared.draft.GroupRef.{GroupRef}
 use Rattle.tup_ask.specs.declared.fault.ParseFault.{ParseFault}
 use Rattle.tup_draft.specs.declared.found.Found.{Found}
 use Rattle.tup_draft.specs.declared.job.Sources.{Sources}
+use Rattle.tup_draft.specs.declared.job.Plan.{Plan}
 use Rattle.tup_draft.specs.declared.state.State.{State}
 use Rattle.tup_draft.specs.declared.words.Words.{Words}
 use Rattle.tup_ask.specs.Reads.{Reads, gives, and_then}
@@ -25,21 +26,27 @@ given_to at (Some word) = and_then (led_to_folder at ForeignOutput word) (λ dir
 abbrev pub sources_of : Found → Found → Option GroupRef → Sources
 sources_of inputs order group = record { order = paths_of order.inputs; groups = inputs.groups ++ order.groups; gives = group }
 
--- the state with a rule's commands, by what its input words and its order-only words give
-unfoldable pub with_files : Spot → State → Words → Found → Found → Reads ParseFault State
-with_files at state words inputs order =
-    and_then (given_to at words.group) (λ group. with_jobs at words (sources_of inputs order group) state (jobs_of words inputs.inputs))
+-- what a rule's commands share, and the commands, by what its words give and the group to which it gives its outputs
+abbrev pub plan_with : Words → Found → Found → Option GroupRef → Plan
+plan_with words inputs order group = record { sources = sources_of inputs order group; jobs = jobs_of words inputs.inputs }
+
+unfoldable pub plan_of : Spot → Words → Found → Found → Reads ParseFault Plan
+plan_of at words inputs order = and_then (given_to at words.group) (λ group. gives (plan_with words inputs order group))
+
+-- the same by its parts: its input words, its order-only words, and its group are looked up in this order
+unfoldable pub planned : Spot → State → Words → Reads ParseFault Plan
+planned at state words =
+    and_then (from_words at state nothing_found words.inputs)
+    (λ inputs. and_then (from_words at state nothing_found words.order) (λ order. plan_of at words inputs order))
 
 -- the state with a rule's commands, by its parts
 unfoldable pub with_words : Spot → State → Words → Reads ParseFault State
-with_words at state words =
-    and_then (from_words at state nothing_found words.inputs)
-    (λ inputs. and_then (from_words at state nothing_found words.order)
-    (λ order. with_files at state words inputs order))
+with_words at state words = and_then (planned at state words) (λ plan. with_jobs at words plan.sources state plan.jobs)
+
+-- the parts of a rule line, with its variables put in and its macro filled in
+unfoldable pub words_in : Spot → State → List ℕ → Reads ParseFault Words
+words_in at state line = and_then (expanded at state.variables line) (λ text. words_of at state.macros text)
 
 -- a rule line behind its colon
 unfoldable pub ruled : Spot → State → List ℕ → Reads ParseFault State
-ruled at state line =
-    and_then (expanded at state.variables line)
-    (λ text. and_then (words_of at state.macros text)
-    (λ words. with_words at state words))
+ruled at state line = and_then (words_in at state line) (λ words. with_words at state words)

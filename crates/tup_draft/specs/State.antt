@@ -1,19 +1,8 @@
 -- What the lines of a Tupfile before a line have set (own).
-use Rattle.std.specs.Prelude.{Bool, List, []}
-use Rattle.std.specs.List.{flat_map, list_any}
-use Rattle.tup_path.specs.Name.{Names}
-use Rattle.tup_rule.specs.Rule.{among}
-use Rattle.tup_rule.specs.declared.draft.Draft.{Draft}
+pub use Rattle.tup_draft.specs.Making.{made_by, is_made}
+use Rattle.std.specs.Prelude.{[]}
 use Rattle.tup_draft.specs.declared.state.State.{State}
 
 -- the state before the first line
 abbrev pub fresh : State
 fresh = record { variables = []; macros = []; bins = []; drafts = [] }
-
--- the outputs of rules
-abbrev pub made_by : List Draft → List Names
-made_by drafts = flat_map (λ (draft : Draft). draft.outputs) drafts
-
--- whether a path is an output of one of these rules
-abbrev pub is_made : List Draft → Names → Bool
-is_made drafts path = list_any (λ (draft : Draft). among path draft.outputs) drafts

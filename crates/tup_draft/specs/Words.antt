@@ -47,15 +47,17 @@ abbrev pub or_else : List (List ℕ) → List (List ℕ) → List (List ℕ)
 or_else [] others = others
 or_else (word ∷ words) others = word ∷ words
 
+-- a rule with a macro's command, and its order-only inputs behind those of the rule
+abbrev pub with_taken : Words → Macro → Words
+with_taken words body = record words { order = words.order ++ body.order; command = body.command }
+
+-- a rule with a macro's outputs, or its extra outputs, where it names none
+abbrev pub with_given : Words → Macro → Words
+with_given words body = record words { outputs = or_else words.outputs body.outputs; extra = or_else words.extra body.extra }
+
 -- a rule with what a macro says
 abbrev pub filled : Words → Macro → Words
-filled words body =
-    record words {
-      order = words.order ++ body.order;
-      command = body.command;
-      outputs = or_else words.outputs body.outputs;
-      extra = or_else words.extra body.extra;
-    }
+filled words body = with_given (with_taken words body) body
 
 -- the name of the macro that a command is
 abbrev pub macro_name : List ℕ → Option (List ℕ)

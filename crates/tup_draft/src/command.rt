@@ -2,12 +2,12 @@
 ghost use Rattle.std.specs.Prelude.{◌≡◌, false, IfOk, OnOk, fold, bytes_eq, is_some};
 ghost use Rattle.tup_macro.specs.Gifts.{with_gift};
 ghost use Rattle.tup_draft.specs.Job as specs;
-ghost use Rattle.tup_draft.specs.Output.{from_outputs};
 ghost use Rattle.tup_ask.specs.Went.{Went, asker, Gives};
 
 use crate::caret::{Command, command_of};
 use crate::flagged::flagged;
-use crate::job::{Job, Outputs, Sources, Spoken};
+use crate::job::{Job, Sources, Spoken};
+use crate::made::Made;
 use crate::output::from_outputs;
 use crate::state::State;
 use crate::words::Words;
@@ -17,7 +17,7 @@ use tup_flags::{FlagParts, Place};
 use tup_lex::ParseKind;
 use tup_macro::Bins;
 use tup_path::{Path, Paths, Text};
-use tup_rule::{Draft, Pieces};
+use tup_rule::{Draft, GroupRef, Pieces};
 
 /// The state with commands one after another.
 pub(crate) fn with_jobs<E: Env>(
@@ -58,78 +58,88 @@ fn with_job<E: Env>(
         (specs.with_job at.now words.now sources.now state job.now)
         (asker (E.answers env.new) (E.stopped env.new) log.new) result }
 {
-    let drafts = state.drafts.as_slice();
-    let outputs = outputs_of(alloc, env, log, at, words, sources, drafts, job)?;
-    let Outputs { plain, all } = outputs;
-    let parts = flag_parts(
-        alloc,
-        at,
-        words.foreach,
-        sources,
-        job,
-        plain,
-        Place::Command,
-    )?;
-    let said = spoken(alloc, at, &parts, words.command.as_str())?;
-    let draft = draft_of(at, sources, job, all, said)?;
+    let draft = drafted(alloc, env, log, at, words, sources, &state.drafts, job)?;
     Ok(with_draft(state, &words.bin, draft)?)
 }
 
-/// The outputs of a command, and behind them its extra ones.
-fn outputs_of<E: Env>(
+/// A command as a draft.
+fn drafted<E: Env>(
     alloc: Global,
     env: &mut E,
     log: &mut Log,
     at: &Spot,
     words: &Words,
     sources: &Sources,
-    drafts: &[Draft],
+    drafts: &Made,
     job: &Job,
-) -> Result<Outputs, ReadEnd>
+) -> Result<Draft, ReadEnd>
     requires { is_some (E.stopped env.old) ≡ false }
     ensures { Went E.tells (asker (E.answers env.old) (E.stopped env.old) log.old)
-        (specs.outputs_of at.now words.now sources.now drafts.now job.now)
+        (specs.drafted at.now words.now sources.now drafts.now job.now)
+        (asker (E.answers env.new) (E.stopped env.new) log.new) result }
+{
+    let parts = flag_parts(alloc, at, words.foreach, sources, job)?;
+    with_outputs(alloc, env, log, at, words, &sources.gives, drafts, parts)
+}
+
+/// A command as a draft, by what its flags stand for before it has outputs.
+fn with_outputs<E: Env>(
+    alloc: Global,
+    env: &mut E,
+    log: &mut Log,
+    at: &Spot,
+    words: &Words,
+    group: &Option<GroupRef>,
+    drafts: &Made,
+    parts: FlagParts,
+) -> Result<Draft, ReadEnd>
+    requires { is_some (E.stopped env.old) ≡ false }
+    ensures { Went E.tells (asker (E.answers env.old) (E.stopped env.old) log.old)
+        (specs.with_outputs at.now words.now group.now drafts.now parts)
         (asker (E.answers env.new) (E.stopped env.new) log.new) result }
 {
     let none = Paths::new(alloc);
     let named = words.outputs.as_slice();
-    let place = Place::Outputs;
-    let plain = named_outputs(
-        alloc, env, log, at, words, sources, drafts, job, place, &none, named,
-    )?;
-    let named = words.extra.as_slice();
-    let place = Place::Extra;
-    let all = named_outputs(
-        alloc, env, log, at, words, sources, drafts, job, place, &plain, named,
-    )?;
-    Ok(Outputs { plain, all })
+    let plain = from_outputs(alloc, env, log, at, &parts, drafts, none, named)?;
+    let parts = in_extra(parts, plain);
+    with_extra(alloc, env, log, at, words, group, drafts, parts)
 }
 
-/// The outputs that words of one place name, behind those that are known.
-fn named_outputs<E: Env>(
+/// A command as a draft, by what its flags stand for among its extra outputs.
+fn with_extra<E: Env>(
     alloc: Global,
     env: &mut E,
     log: &mut Log,
     at: &Spot,
     words: &Words,
-    sources: &Sources,
-    drafts: &[Draft],
-    job: &Job,
-    place: Place,
-    known: &Paths,
-    named: &[Text],
-) -> Result<Paths, ReadEnd>
+    group: &Option<GroupRef>,
+    drafts: &Made,
+    parts: FlagParts,
+) -> Result<Draft, ReadEnd>
     requires { is_some (E.stopped env.old) ≡ false }
     ensures { Went E.tells (asker (E.answers env.old) (E.stopped env.old) log.old)
-        (from_outputs at.now
-        (specs.flag_parts at.now words.now.foreach sources.now job.now known.now place)
-        drafts.now known.now named.now)
+        (specs.with_extra at.now words.now group.now drafts.now parts)
         (asker (E.answers env.new) (E.stopped env.new) log.new) result }
 {
-    let outputs = copied(known)?;
-    let parts = flag_parts(alloc, at, words.foreach, sources, job, outputs, place)?;
-    let before = copied(known)?;
-    from_outputs(alloc, env, log, at, &parts, drafts, before, named)
+    let plain = copied(&parts.outputs)?;
+    let named = words.extra.as_slice();
+    let all = from_outputs(alloc, env, log, at, &parts, drafts, plain, named)?;
+    with_text(alloc, at, words, group, in_command(parts), all)
+}
+
+/// A command as a draft, by what its flags stand for in its text, and all its outputs.
+fn with_text(
+    alloc: Global,
+    at: &Spot,
+    words: &Words,
+    group: &Option<GroupRef>,
+    parts: FlagParts,
+    outputs: Paths,
+) -> Result<Draft, ReadEnd>
+    ensures { Gives (specs.with_text at.now words.now group.now parts outputs) result }
+{
+    let said = spoken(alloc, at, &parts, words.command.as_str())?;
+    Ok(draft_of(at, group, parts, outputs, said)?)
 }
 
 /// A copy of paths.
@@ -139,29 +149,46 @@ fn copied(paths: &Paths) -> Result<Paths, AllocError>
     paths.clone()
 }
 
-/// What flags stand for in a command with these outputs.
+/// What flags stand for in a command before it has outputs.
 fn flag_parts(
     alloc: Global,
     at: &Spot,
     foreach: bool,
     sources: &Sources,
     job: &Job,
-    outputs: Paths,
-    place: Place,
 ) -> Result<FlagParts, AllocError>
     ensures { IfOk result (λ parts.
-        parts ≡ specs.flag_parts at.now foreach sources.now job.now outputs place) }
+        parts ≡ specs.flag_parts at.now foreach sources.now job.now) }
 {
     Ok(FlagParts {
         dir: at.dir().clone()?,
         inputs: job.inputs.clone()?,
         order: sources.order.clone()?,
-        outputs,
+        outputs: Paths::new(alloc),
         foreach,
         glob: job.glob.clone()?,
         groups: sources.groups.clone()?,
-        place,
+        place: Place::Outputs,
     })
+}
+
+/// What they stand for among its extra outputs, behind its outputs.
+fn in_extra(parts: FlagParts, outputs: Paths) -> FlagParts
+    ensures { result ≡ specs.in_extra parts outputs }
+{
+    let mut parts = parts;
+    parts.outputs = outputs;
+    parts.place = Place::Extra;
+    parts
+}
+
+/// What they stand for in its text.
+fn in_command(parts: FlagParts) -> FlagParts
+    ensures { result ≡ specs.in_command parts }
+{
+    let mut parts = parts;
+    parts.place = Place::Command;
+    parts
 }
 
 /// What a command says, and what is shown in its place.
@@ -207,48 +234,67 @@ fn shown(
     }
 }
 
-/// A command as a draft.
+/// A command as a draft, by what its flags stand for, its outputs and what it says.
 fn draft_of(
     at: &Spot,
-    sources: &Sources,
-    job: &Job,
+    group: &Option<GroupRef>,
+    parts: FlagParts,
     outputs: Paths,
     said: Spoken,
 ) -> Result<Draft, AllocError>
     ensures { IfOk result (λ draft.
-        draft ≡ specs.draft_of at.now sources.now job.now outputs said) }
+        draft ≡ specs.draft_of at.now group.now parts outputs said) }
 {
-    let Spoken {
-        pieces,
-        display,
-        compare,
-    } = said;
-    Ok(Draft {
-        file: at.file().clone()?,
-        line: at.line(),
-        pieces,
-        display,
-        compare,
-        inputs: job.inputs.clone()?,
-        order: sources.order.clone()?,
+    let file = at.file().clone()?;
+    let gives = group.clone()?;
+    Ok(draft_in(file, at.line(), gives, parts, outputs, said))
+}
+
+/// The same by the file and the line in which its rule stands.
+fn draft_in(
+    file: Path,
+    line: u32,
+    gives: Option<GroupRef>,
+    parts: FlagParts,
+    outputs: Paths,
+    said: Spoken,
+) -> Draft
+    ensures { result ≡ specs.draft_in file line gives parts outputs said }
+{
+    Draft {
+        file,
+        line,
+        pieces: said.pieces,
+        display: said.display,
+        compare: said.compare,
+        inputs: parts.inputs,
+        order: parts.order,
         outputs,
-        groups: sources.groups.clone()?,
-        gives: sources.gives.clone()?,
-    })
+        groups: parts.groups,
+        gives,
+    }
 }
 
 /// The state with one more rule, whose outputs go to its bin.
 fn with_draft(state: State, bin: &Option<Text>, draft: Draft) -> Result<State, AllocError>
     ensures { IfOk result (λ next. next ≡ specs.with_draft state bin.now draft) }
 {
+    let mut state = state;
+    give(&mut state.bins, bin, draft.outputs.as_slice())?;
+    with_made(state, draft)
+}
+
+/// The state with one more rule.
+fn with_made(state: State, draft: Draft) -> Result<State, AllocError>
+    ensures { IfOk result (λ next. next ≡ specs.with_made state draft) }
+{
     let State {
         variables,
         macros,
-        mut bins,
-        mut drafts,
+        bins,
+        drafts,
     } = state;
-    give(&mut bins, bin, draft.outputs.as_slice())?;
-    drafts.push(draft)?;
+    let drafts = drafts.with(draft)?;
     Ok(State {
         variables,
         macros,

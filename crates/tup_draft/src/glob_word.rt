@@ -12,6 +12,7 @@ ghost use Rattle.tup_ask.specs.declared.fault.ReadEnd.TheVariants.{Memory};
 
 use crate::folder::{file_in, last_name, led_to_folder, name_in};
 use crate::found::{Found, Input, Inputs};
+use crate::made::Made;
 use crate::span_text::text_at;
 use std::alloc::{AllocError, Global};
 use std::collections::BTreeSet;
@@ -44,7 +45,7 @@ pub(crate) fn globbed<E: Env>(
     env: &mut E,
     log: &mut Log,
     at: &Spot,
-    drafts: &[Draft],
+    drafts: &Made,
     word: &Text,
 ) -> Result<Found, ReadEnd>
     requires { is_some (E.stopped env.old) ≡ false }
@@ -84,7 +85,7 @@ fn matched_in<E: Env>(
     alloc: Global,
     env: &mut E,
     log: &mut Log,
-    drafts: &[Draft],
+    drafts: &Made,
     glob: &Glob,
     dir: &Path,
 ) -> Result<Found, ReadEnd>
@@ -103,7 +104,7 @@ fn matched_in<E: Env>(
 /// rules.
 fn names_of_files(
     alloc: Global,
-    drafts: &[Draft],
+    drafts: &Made,
     dir: &Path,
     told: Texts,
 ) -> Result<BTreeSet<Text>, AllocError>
@@ -111,7 +112,7 @@ fn names_of_files(
         names.keys ≡ specs.in_order (told ++ specs.names_among dir.now (made_by drafts.now))) }
 {
     let mut names = in_order(alloc, told)?;
-    add_made(&mut names, dir, drafts)?;
+    add_made(&mut names, dir, drafts.as_slice())?;
     Ok(names)
 }
 

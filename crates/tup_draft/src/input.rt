@@ -10,14 +10,14 @@ use crate::flagged::{bare_parts, flagged_text};
 use crate::folder::{bin_name, group_in, is_group, led, led_to_folder};
 use crate::found::{Found, Input, Inputs};
 use crate::glob_word::{globbed, is_glob};
-use crate::made::is_made;
+use crate::made::Made;
 use crate::state::State;
 use std::alloc::{AllocError, Global};
 use tup_ask::{Env, Log, ReadEnd, Spot, kind_at};
 use tup_lex::ParseKind;
 use tup_macro::{Bins, MacroFault};
 use tup_path::{Path, Paths, Text};
-use tup_rule::{Draft, Kind};
+use tup_rule::Kind;
 
 /// What input words give.
 pub(crate) fn from_words<E: Env>(
@@ -57,7 +57,7 @@ fn from_word<E: Env>(
 {
     match bin_name(word.as_str()) {
         Some(name) => from_bin(alloc, at, &state.bins, name),
-        None => from_other(alloc, env, log, at, state.drafts.as_slice(), word),
+        None => from_other(alloc, env, log, at, &state.drafts, word),
     }
 }
 
@@ -67,7 +67,7 @@ fn from_other<E: Env>(
     env: &mut E,
     log: &mut Log,
     at: &Spot,
-    drafts: &[Draft],
+    drafts: &Made,
     word: &Text,
 ) -> Result<Found, ReadEnd>
     requires { is_some (E.stopped env.old) ≡ false }
@@ -132,7 +132,7 @@ fn from_files<E: Env>(
     env: &mut E,
     log: &mut Log,
     at: &Spot,
-    drafts: &[Draft],
+    drafts: &Made,
     word: &Text,
 ) -> Result<Found, ReadEnd>
     requires { is_some (E.stopped env.old) ≡ false }
@@ -140,12 +140,36 @@ fn from_files<E: Env>(
         (specs.from_files at.now drafts.now word.now)
         (asker (E.answers env.new) (E.stopped env.new) log.new) result }
 {
+    let text = bare_text(alloc, at, word)?;
+    from_text(alloc, env, log, at, drafts, &text)
+}
+
+/// A word with its flags put in, of which only the percent sign has a meaning among inputs.
+fn bare_text(alloc: Global, at: &Spot, word: &Text) -> Result<Text, ReadEnd>
+    ensures { Gives (specs.bare_text at.now word.now) result }
+{
     let parts = bare_parts(alloc, at.dir())?;
-    let text = flagged_text(alloc, at, &parts, word)?;
+    flagged_text(alloc, at, &parts, word)
+}
+
+/// What a text gives that is no bin and no group: the files that a glob matches, or one file.
+fn from_text<E: Env>(
+    alloc: Global,
+    env: &mut E,
+    log: &mut Log,
+    at: &Spot,
+    drafts: &Made,
+    text: &Text,
+) -> Result<Found, ReadEnd>
+    requires { is_some (E.stopped env.old) ≡ false }
+    ensures { Went E.tells (asker (E.answers env.old) (E.stopped env.old) log.old)
+        (specs.from_text at.now drafts.now text.now)
+        (asker (E.answers env.new) (E.stopped env.new) log.new) result }
+{
     if is_glob(text.as_str()) {
-        globbed(alloc, env, log, at, drafts, &text)
+        globbed(alloc, env, log, at, drafts, text)
     } else {
-        literal(alloc, env, log, at, drafts, &text)
+        literal(alloc, env, log, at, drafts, text)
     }
 }
 
@@ -155,7 +179,7 @@ fn literal<E: Env>(
     env: &mut E,
     log: &mut Log,
     at: &Spot,
-    drafts: &[Draft],
+    drafts: &Made,
     word: &Text,
 ) -> Result<Found, ReadEnd>
     requires { is_some (E.stopped env.old) ≡ false }
@@ -172,7 +196,7 @@ fn literal<E: Env>(
 fn known_input(
     alloc: Global,
     at: &Spot,
-    drafts: &[Draft],
+    drafts: &Made,
     path: Path,
     kind: Kind,
 ) -> Result<Found, ReadEnd>
@@ -185,10 +209,10 @@ fn known_input(
 }
 
 /// Whether a file stands at a path, or is made there.
-fn is_there(drafts: &[Draft], path: &Path, kind: Kind) -> bool
+fn is_there(drafts: &Made, path: &Path, kind: Kind) -> bool
     ensures { result ≡ (specs.is_file kind || made.is_made drafts.now path.now) }
 {
-    is_file(kind) || is_made(drafts, path)
+    is_file(kind) || drafts.has(path)
 }
 
 /// Whether a file stands there.

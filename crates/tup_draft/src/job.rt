@@ -1,5 +1,5 @@
 //! The commands of a rule line.
-use tup_path::{Paths, Text};
+use tup_path::{Items, Paths, Text};
 use tup_rule::{GroupRef, GroupRefs, Pieces};
 
 /// The files of one command, and what a glob matched where one gave the only file.
@@ -17,11 +17,11 @@ pub(crate) struct Sources {
     pub(crate) gives: Option<GroupRef>,
 }
 
-/// The outputs of a command without its extra ones, and all of them.
+/// What all commands of a rule line share, and these.
 #[derive(Drop)]
-pub(crate) struct Outputs {
-    pub(crate) plain: Paths,
-    pub(crate) all: Paths,
+pub(crate) struct Plan {
+    pub(crate) sources: Sources,
+    pub(crate) jobs: Items<Job>,
 }
 
 /// What a command says, and what is shown in its place.

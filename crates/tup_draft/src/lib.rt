@@ -26,7 +26,7 @@ pub use folder::{file_in, led};
 pub use glob_word::add_made;
 pub use last::before_last;
 pub use macro_line::defined;
-pub use made::is_made;
+pub use made::{Made, is_made};
 pub use rule_line::ruled;
 pub use state::State;
 pub use words::lex_end;

@@ -1,5 +1,5 @@
 //! Macro lines.
-ghost use Rattle.std.specs.Prelude.{◌≡◌, ◌<◌, ◌^◌, false, length, is_some};
+ghost use Rattle.std.specs.Prelude.{◌≡◌, ◌<◌, ◌^◌, false, Ok, Err, MatchResult, length, is_some};
 ghost use Rattle.std.specs.List.{list_any};
 ghost use Rattle.tup_draft.specs.MacroLine as specs;
 ghost use Rattle.tup_ask.specs.Went.{Went, asker, Gives};
@@ -10,9 +10,9 @@ use crate::words::{Words, cut};
 use std::alloc::{AllocError, Global};
 use tup_ask::{Env, Log, ReadEnd, Spot, expanded};
 use tup_lex::{ParseKind, trimmed};
-use tup_macro::{Macro, MacroFault};
+use tup_macro::{Macro, MacroFault, Macros};
 use tup_path::Text;
-use tup_vars::is_name;
+use tup_vars::{Vars, is_name};
 
 /// The state with a macro line, by what stands before its first `=` and behind it.
 ///
@@ -32,39 +32,82 @@ pub fn defined<E: Env>(
         (specs.defined at.now state left.now right.now)
         (asker (E.answers env.new) (E.stopped env.new) log.new) result }
 {
-    let text = expanded(alloc, env, log, at, &state.variables, right)?;
-    named_macro(alloc, at, state, trimmed(left), &text)
+    let name = trimmed(left);
+    let body = body_in(alloc, env, log, at, &state.variables, name, right)?;
+    with_body(alloc, at, state, name, body)
 }
 
-/// The state with a macro of a name, by its text.
-fn named_macro(
+/// The macro of a name, by what stands behind its `=`.
+fn body_in<E: Env>(
     alloc: Global,
+    env: &mut E,
+    log: &mut Log,
     at: &Spot,
-    state: State,
+    variables: &Vars,
     name: &str,
-    text: &Text,
-) -> Result<State, ReadEnd>
+    right: &str,
+) -> Result<Macro, ReadEnd>
+    requires { is_some (E.stopped env.old) ≡ false }
+    ensures { Went E.tells (asker (E.answers env.old) (E.stopped env.old) log.old)
+        (specs.body_in at.now variables.now name.now right.now)
+        (asker (E.answers env.new) (E.stopped env.new) log.new) result }
+{
+    let text = expanded(alloc, env, log, at, variables, right)?;
+    named_body(alloc, at, name, &text)
+}
+
+/// The same once its variables are put in.
+fn named_body(alloc: Global, at: &Spot, name: &str, text: &Text) -> Result<Macro, ReadEnd>
     requires { length text.now < 2 ^ 32 }
-    ensures { Gives (specs.named_macro at.now state name.now text.now) result }
+    ensures { Gives (specs.named_body at.now name.now text.now) result }
 {
     if !is_name(name) {
         return Err(at.refuse(ParseKind::BadName));
     }
-    let name = Text::from_str(alloc, name)?;
     let words = cut(alloc, at, text)?;
-    with_body(at, state, &name, words)
+    only_body(at, words)
 }
 
-/// The state with one more macro.
-fn with_body(at: &Spot, state: State, name: &Text, words: Words) -> Result<State, ReadEnd>
-    ensures { Gives (specs.with_body at.now state name.now words) result }
+/// The macro that words are, unless they have what no macro has.
+fn only_body(at: &Spot, words: Words) -> Result<Macro, ReadEnd>
+    ensures { Gives (specs.only_body at.now words) result }
 {
     if !is_body(&words) {
         return Err(at.refuse(ParseKind::BadBrace));
     }
+    Ok(body_of(words))
+}
+
+/// The state with one more macro.
+fn with_body(
+    alloc: Global,
+    at: &Spot,
+    state: State,
+    name: &str,
+    body: Macro,
+) -> Result<State, ReadEnd>
+    ensures { Gives (specs.with_body at.now state name.now body) result }
+{
     let mut state = state;
-    match state.macros.define(name, body_of(words)) {
-        Ok(()) => Ok(state),
+    define(alloc, at, &mut state.macros, name, body)?;
+    Ok(state)
+}
+
+/// Adds a macro, unless its name has one.
+fn define(
+    alloc: Global,
+    at: &Spot,
+    macros: &mut Macros,
+    name: &str,
+    body: Macro,
+) -> Result<(), ReadEnd>
+    ensures { MatchResult result
+        (λ _. Gives (specs.one_more at.now macros.old name.now body) (Ok macros.new))
+        (λ end. Gives (specs.one_more at.now macros.old name.now body) (Err end)) }
+{
+    let name = Text::from_str(alloc, name)?;
+    match macros.define(&name, body) {
+        Ok(()) => Ok(()),
         Err(MacroFault::DefinedTwice) => Err(at.refuse(ParseKind::DefinedTwice)),
         Err(_) => Err(ReadEnd::Memory),
     }

@@ -7,13 +7,13 @@ ghost use Rattle.tup_ask.specs.Went.{Went, asker, Gives};
 
 use crate::flagged::flagged_text;
 use crate::folder::{led, name_in};
-use crate::made::{is_among, is_made};
+use crate::made::{Made, is_among};
 use std::alloc::Global;
 use tup_ask::{Env, Log, ReadEnd, Spot, kind_at};
 use tup_flags::FlagParts;
 use tup_lex::ParseKind;
 use tup_path::{Path, Paths, Text};
-use tup_rule::{Draft, Kind};
+use tup_rule::Kind;
 
 /// The outputs that words name, behind those before them in the rule.
 pub(crate) fn from_outputs<E: Env>(
@@ -22,7 +22,7 @@ pub(crate) fn from_outputs<E: Env>(
     log: &mut Log,
     at: &Spot,
     parts: &FlagParts,
-    drafts: &[Draft],
+    drafts: &Made,
     before: Paths,
     words: &[Text],
 ) -> Result<Paths, ReadEnd>
@@ -46,7 +46,7 @@ fn from_output<E: Env>(
     log: &mut Log,
     at: &Spot,
     parts: &FlagParts,
-    drafts: &[Draft],
+    drafts: &Made,
     outputs: &[Path],
     word: &Text,
 ) -> Result<Path, ReadEnd>
@@ -66,7 +66,7 @@ fn known_output<E: Env>(
     env: &mut E,
     log: &mut Log,
     at: &Spot,
-    drafts: &[Draft],
+    drafts: &Made,
     outputs: &[Path],
     path: Path,
 ) -> Result<Path, ReadEnd>
@@ -85,7 +85,7 @@ fn known_output<E: Env>(
 /// An output by what stands at its path: no output before it, no source and no folder.
 fn new_output(
     at: &Spot,
-    drafts: &[Draft],
+    drafts: &Made,
     outputs: &[Path],
     path: Path,
     kind: Kind,
@@ -103,11 +103,11 @@ fn new_output(
 }
 
 /// Whether a path is an output already.
-fn is_taken(drafts: &[Draft], outputs: &[Path], path: &Path) -> bool
+fn is_taken(drafts: &Made, outputs: &[Path], path: &Path) -> bool
     ensures { result
         ≡ (made.is_made drafts.now path.now || among path.now outputs.now) }
 {
-    is_made(drafts, path) || is_among(outputs, path)
+    drafts.has(path) || is_among(outputs, path)
 }
 
 /// Whether a rule of a folder may make a path.

@@ -11,7 +11,7 @@ use crate::command::with_jobs;
 use crate::folder::{group_in, is_group, led_to_folder};
 use crate::found::{Found, Input, Inputs, add_groups};
 use crate::input::from_words;
-use crate::job::{Job, Sources};
+use crate::job::{Job, Plan, Sources};
 use crate::state::State;
 use crate::words::{Words, words_of};
 use std::alloc::{AllocError, Global};
@@ -39,9 +39,26 @@ pub fn ruled<E: Env>(
         (specs.ruled at.now state line.now)
         (asker (E.answers env.new) (E.stopped env.new) log.new) result }
 {
-    let text = expanded(alloc, env, log, at, &state.variables, line)?;
-    let words = words_of(alloc, at, &state.macros, &text)?;
+    let words = words_in(alloc, env, log, at, &state, line)?;
     with_words(alloc, env, log, at, state, &words)
+}
+
+/// The parts of a rule line, with its variables put in and its macro filled in.
+fn words_in<E: Env>(
+    alloc: Global,
+    env: &mut E,
+    log: &mut Log,
+    at: &Spot,
+    state: &State,
+    line: &str,
+) -> Result<Words, ReadEnd>
+    requires { is_some (E.stopped env.old) ≡ false }
+    ensures { Went E.tells (asker (E.answers env.old) (E.stopped env.old) log.old)
+        (specs.words_in at.now state.now line.now)
+        (asker (E.answers env.new) (E.stopped env.new) log.new) result }
+{
+    let text = expanded(alloc, env, log, at, &state.variables, line)?;
+    words_of(alloc, at, &state.macros, &text)
 }
 
 /// The state with a rule's commands, by its parts.
@@ -58,31 +75,57 @@ fn with_words<E: Env>(
         (specs.with_words at.now state words.now)
         (asker (E.answers env.new) (E.stopped env.new) log.new) result }
 {
-    let inputs = from_words(alloc, env, log, at, &state, words.inputs.as_slice())?;
-    let order = from_words(alloc, env, log, at, &state, words.order.as_slice())?;
-    with_files(alloc, env, log, at, state, words, inputs, order)
+    let plan = planned(alloc, env, log, at, &state, words)?;
+    let jobs = plan.jobs.as_slice();
+    with_jobs(alloc, env, log, at, words, &plan.sources, state, jobs)
 }
 
-/// The state with a rule's commands, by what its words give.
-fn with_files<E: Env>(
+/// What a rule's commands share, and the commands, by its parts.
+fn planned<E: Env>(
     alloc: Global,
     env: &mut E,
     log: &mut Log,
     at: &Spot,
-    state: State,
+    state: &State,
+    words: &Words,
+) -> Result<Plan, ReadEnd>
+    requires { is_some (E.stopped env.old) ≡ false }
+    ensures { Went E.tells (asker (E.answers env.old) (E.stopped env.old) log.old)
+        (specs.planned at.now state.now words.now)
+        (asker (E.answers env.new) (E.stopped env.new) log.new) result }
+{
+    let inputs = from_words(alloc, env, log, at, state, words.inputs.as_slice())?;
+    let order = from_words(alloc, env, log, at, state, words.order.as_slice())?;
+    plan_of(alloc, at, words, inputs, order)
+}
+
+/// The same by what its words give.
+fn plan_of(
+    alloc: Global,
+    at: &Spot,
     words: &Words,
     inputs: Found,
     order: Found,
-) -> Result<State, ReadEnd>
-    requires { is_some (E.stopped env.old) ≡ false }
-    ensures { Went E.tells (asker (E.answers env.old) (E.stopped env.old) log.old)
-        (specs.with_files at.now state words.now inputs order)
-        (asker (E.answers env.new) (E.stopped env.new) log.new) result }
+) -> Result<Plan, ReadEnd>
+    ensures { Gives (specs.plan_of at.now words.now inputs order) result }
 {
     let group = given_to(alloc, at, &words.group)?;
+    Ok(plan_with(alloc, words, inputs, order, group)?)
+}
+
+/// The same by the group to which it gives its outputs.
+fn plan_with(
+    alloc: Global,
+    words: &Words,
+    inputs: Found,
+    order: Found,
+    group: Option<GroupRef>,
+) -> Result<Plan, AllocError>
+    ensures { IfOk result (λ plan. plan ≡ specs.plan_with words.now inputs order group) }
+{
     let jobs = jobs_of(alloc, words, &inputs.inputs)?;
     let sources = sources_of(alloc, inputs.groups, order, group)?;
-    with_jobs(alloc, env, log, at, words, &sources, state, jobs.as_slice())
+    Ok(Plan { sources, jobs })
 }
 
 /// The group to which a rule gives its outputs.

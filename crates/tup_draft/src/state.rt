@@ -3,10 +3,10 @@ ghost use Rattle.std.specs.Prelude.{◌≡◌, ◌⊎◌, [], Ok, Err};
 ghost use Rattle.tup_draft.specs.State.{fresh};
 ghost use Rattle.tup_ask.specs.declared.fault.ReadEnd.TheVariants.{Memory};
 
+use crate::made::Made;
 use std::alloc::Global;
 use tup_ask::ReadEnd;
 use tup_macro::{Bins, Macros};
-use tup_rule::Drafts;
 use tup_vars::Vars;
 
 /// Variables, macros, bins and rules so far.
@@ -19,7 +19,7 @@ pub struct State {
     /// The bins, each with the outputs that were given to it.
     pub bins: Bins,
     /// The rules, in the order of their lines.
-    pub drafts: Drafts,
+    pub drafts: Made,
 }
 
 impl State {
@@ -31,7 +31,7 @@ impl State {
             variables: no_variables(alloc)?,
             macros: no_macros(alloc)?,
             bins: no_bins(alloc)?,
-            drafts: Drafts::new(alloc),
+            drafts: Made::new(alloc),
         })
     }
 }

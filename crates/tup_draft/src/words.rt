@@ -145,11 +145,27 @@ fn filled(words: Words, body: &Macro) -> Result<Words, AllocError>
     ensures { IfOk result (λ all. all ≡ specs.filled words body.now) }
 {
     let mut words = words;
+    fill_taken(&mut words, body)?;
+    fill_given(&mut words, body)?;
+    Ok(words)
+}
+
+/// Puts a macro's command in place of its name, and its order-only inputs behind those of the rule.
+fn fill_taken(words: &mut Words, body: &Macro) -> Result<(), AllocError>
+    ensures { OnOk result (words.new ≡ specs.with_taken words.old body.now) }
+{
     add_texts(&mut words.order, body.order.as_slice())?;
     words.command = body.command.clone()?;
+    Ok(())
+}
+
+/// Takes a macro's outputs, or its extra outputs, where the rule names none.
+fn fill_given(words: &mut Words, body: &Macro) -> Result<(), AllocError>
+    ensures { OnOk result (words.new ≡ specs.with_given words.old body.now) }
+{
     fill(&mut words.outputs, &body.outputs)?;
     fill(&mut words.extra, &body.extra)?;
-    Ok(words)
+    Ok(())
 }
 
 /// Adds texts at the end.

@@ -319,6 +319,11 @@ pub no_more : (old new : Work) → BeginsFirst old new → steps_left new ≤ st
 no_more old new (inl same) = let e : steps_left new ≡ steps_left old = ap steps_left same.0 in omega (arith, e)
 no_more old new (inr begins) = let less = fewer_begun old new begins.1.0 begins.1.1 in omega (arith, less)
 
+-- and no reading more is noted
+pub no_reading : (old new : Work) → BeginsFirst old new → new.readings ≡ old.readings
+no_reading old new (inl same) = ap (λ (w : Work). w.readings) same.0
+no_reading old new (inr begins) = begins.1.1.readings
+
 -- where none is under way then none waits
 pub all_done : (old new : Work) → BeginsFirst old new → length new.under_way.items ≡ 0 → IsLast None new
 all_done old new (inl same) none = elim same.1 [

@@ -61,6 +61,7 @@ pub record IsStart (sources : Tree) (work : Work) : Type 0 where
 -- where all folders were read
 pub record IsNext (dir : Option Names) (old new : Work) : Type 0 where
   pub work : (sources : Tree) (settings : Entries) → IsWork sources settings old → IsWork sources settings new
+  pub readings : new.readings ≡ old.readings
   pub left : steps_left new ≤ steps_left old
   pub last : IsLast dir new
 

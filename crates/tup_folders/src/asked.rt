@@ -20,7 +20,7 @@ use tup_vars::{Config, Stopped};
 
 /// Why a question isn't answered.
 #[derive(Drop)]
-pub(crate) enum Stop {
+pub enum Stop {
     /// The answer waits for the reading of this folder.
     Awaits(Path),
     /// There was no memory.
@@ -51,18 +51,18 @@ impl<T: Drop> From<AllocFailed<T>> for Stop {
 
 /// Answers the reading of one folder, by the sources and by the readings of other folders.
 #[derive(Drop)]
-pub(crate) struct Asked<'a, 'f> {
-    pub(crate) sources: &'a Sources<'f>,
-    pub(crate) settings: &'a Config,
-    pub(crate) readings: &'a ByPath<Reading>,
-    pub(crate) reader: &'a Path,
+pub struct Asked<'a, 'f> {
+    pub sources: &'a Sources<'f>,
+    pub settings: &'a Config,
+    pub readings: &'a ByPath<Reading>,
+    pub reader: &'a Path,
     /// Why the last question wasn't answered.
-    pub(crate) stop: Option<Stop>,
+    pub stop: Option<Stop>,
 }
 
 impl Asked<'_, '_> {
     /// What is told, where the answer waits for no reading.
-    fn told(&self, alloc: Global, question: &Question) -> Result<Told, Stop>
+    pub fn told(&self, alloc: Global, question: &Question) -> Result<Told, Stop>
         ensures told { IfOk result (λ told. told ≡ specs.answer self.now.sources.now
             self.now.settings.now self.now.readings.now self.now.reader.now question.now) }
         ensures ready { IfOk result (λ told. specs.awaited self.now.sources.now

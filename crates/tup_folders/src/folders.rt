@@ -7,8 +7,8 @@ ghost use Rattle.tup_folders.specs.Sources.{has_tupfile};
 ghost use Rattle.tup_folders.specs.State.{IsWork, IsLast, HasCome, HasStopped, steps_left};
 
 use crate::asked::{Asked, Stop};
+use crate::config::settings;
 use crate::fault::FoldersFault;
-use crate::settings::settings;
 use crate::sources::Sources;
 use crate::work::Work;
 use std::alloc::Global;
@@ -75,23 +75,23 @@ fn advance(
 
 /// What came of the reading of a folder.
 #[derive(Drop)]
-enum Came {
+pub enum Came {
     /// It was read.
     Read(Reading),
     /// It waits for the reading of this folder.
     Waits(Path),
 }
 
-/// Reads a folder over the readings so far.
-fn read(
+/// Reads a folder, which has a Tupfile, over the readings so far.
+pub fn read(
     alloc: Global,
     sources: &Sources<'_>,
     settings: &Config,
     readings: &ByPath<Reading>,
     reader: &Path,
 ) -> Result<Came, FoldersFault>
-    requires { IsTrue (has_tupfile sources.now reader.now) }
-    ensures { HasCome sources.now settings.now readings.now reader.now result }
+    ensures { IsTrue (has_tupfile sources.now reader.now)
+        → HasCome sources.now settings.now readings.now reader.now result }
 {
     let mut asked = Asked {
         sources,

@@ -20,7 +20,7 @@ type Folders = BTreeMap<Path, BTreeSet<Text>>;
 
 /// The sources of a project. Contracts see the tree.
 #[derive(Drop)]
-pub(crate) struct Sources<'f> {
+pub struct Sources<'f> {
     /// The files in the order of their paths.
     files: &'f [(Path, Bytes)],
     /// Each folder that has a file below it, with the names of the files in it.
@@ -50,7 +50,7 @@ impl<'f> Model for Sources<'f> {
 
 impl<'f> Sources<'f> {
     /// The sources that these files are, which stand in the order of their paths.
-    pub(crate) fn new(alloc: Global, files: &'f Files) -> Result<Sources<'f>, AllocError>
+    pub fn new(alloc: Global, files: &'f Files) -> Result<Sources<'f>, AllocError>
         requires { IsTrue (finite.is_sorted by_names files.now) }
         ensures { IfOk result (λ sources. sources ≡ finite.from_sorted files.now) }
     {
@@ -93,7 +93,7 @@ impl<'f> Sources<'f> {
     }
 
     /// Whether a folder has a Tupfile.
-    pub(crate) fn has_tupfile(&self, dir: &Path) -> bool
+    pub fn has_tupfile(&self, dir: &Path) -> bool
         ensures { result ≡ specs.is_source self.now (specs.tupfile dir.now) }
     {
         self.tupfiles.contains(dir)

@@ -12,18 +12,18 @@ use tup_rule::Reading;
 
 /// The folders of a project, while they are read.
 #[derive(Drop)]
-pub(crate) struct Work {
+pub struct Work {
     /// The folders that weren't begun.
     pub(crate) waiting: BTreeSet<Path>,
     /// Those that were begun, each waiting for the one behind it.
     pub(crate) under_way: Vec<Path>,
     /// The readings of the others.
-    pub(crate) readings: ByPath<Reading>,
+    pub readings: ByPath<Reading>,
 }
 
 impl Work {
     /// The folders before the first one is begun.
-    pub(crate) fn new(alloc: Global, sources: &Sources<'_>) -> Result<Work, AllocError>
+    pub fn new(alloc: Global, sources: &Sources<'_>) -> Result<Work, AllocError>
         ensures { IfOk result (IsStart sources.now) }
     {
         Ok(Work {
@@ -35,7 +35,7 @@ impl Work {
 
     /// The folder to be read: the last one that was begun, else the first that wasn't. None where
     /// all are read.
-    pub(crate) fn next(&mut self) -> Result<Option<Path>, AllocError>
+    pub fn next(&mut self) -> Result<Option<Path>, AllocError>
         ensures { IfOk result (λ dir. IsNext dir self.old self.new) }
     {
         self.begin_first()?;
@@ -59,7 +59,7 @@ impl Work {
     }
 
     /// Notes the reading of the last folder that was begun.
-    pub(crate) fn note(&mut self, dir: Path, reading: Reading) -> Result<(), AllocError>
+    pub fn note(&mut self, dir: Path, reading: Reading) -> Result<(), AllocError>
         requires { IsLast (Some dir) self.old }
         ensures { OnOk result (Notes dir reading self.old self.new) }
     {
@@ -69,7 +69,7 @@ impl Work {
     }
 
     /// Begins a folder for which the last one waits. One that was begun before closes a circle.
-    pub(crate) fn wait(&mut self, alloc: Global, next: Path) -> Result<(), FoldersFault>
+    pub fn wait(&mut self, alloc: Global, next: Path) -> Result<(), FoldersFault>
         ensures begins { OnOk result (Begins next self.old self.new) }
         ensures closes { IfErr result (Closes next self.old) }
     {

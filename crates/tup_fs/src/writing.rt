@@ -1,4 +1,6 @@
 //! One file, written as a whole or removed. All memory is taken before the tree changes.
+ghost use Rattle.std.specs.Prelude.{◌<◌, length};
+
 use crate::tree::Tree;
 use std::alloc::AllocError;
 use std::fs::File;
@@ -72,23 +74,44 @@ impl<R: Files<File = File> + Clone + Drop> Tree<R> {
         Ok(())
     }
 
-    // Whether the folder of a path has just its name.
+    // Whether each folder on the way has just the name that comes next.
     fn is_spelled(&self, path: &Path) -> Result<bool, Refused> {
-        let folder = self.disk.folder_of(path)?;
-        let names = self.disk.names_in(folder.as_str())?;
-        Ok(path.names().last().is_none_or(|name| names.contains(name)))
+        for depth in 0..path.depth() {
+            if !self.has_name(path, depth)? {
+                return Ok(false);
+            }
+        }
+        Ok(true)
     }
 
-    // Whether the file system may not tell case apart; it is asked once.
+    // Whether the folder so many names down has just the name that comes next.
+    fn has_name(&self, path: &Path, depth: usize) -> Result<bool, Refused>
+        requires { depth < length path.now }
+    {
+        let folder = self.disk.place(&path.names()[..depth])?;
+        let names = self.disk.names_in(folder.as_str())?;
+        Ok(names.contains(&path.names()[depth]))
+    }
+
+    // Whether the file system may not tell case apart. Till the own folder is there, by which it
+    // is asked, that is so.
     fn ignores_case(&mut self) -> Result<bool, Refused> {
         if let Some(ignores) = self.ignores_case {
             return Ok(ignores);
         }
-        let root = self.disk.root();
-        let other = format!(in self.disk.alloc; "{root}/.TUP")?;
-        let ignores = self.disk.standing(other.as_str())? == Standing::Folder;
+        if !self.has_folder(".tup")? {
+            return Ok(true);
+        }
+        let ignores = self.has_folder(".TUP")?;
         self.ignores_case = Some(ignores);
         Ok(ignores)
+    }
+
+    // Whether a folder stands under a name in the top.
+    fn has_folder(&self, name: &str) -> Result<bool, Refused> {
+        let root = self.disk.root();
+        let place = format!(in self.disk.alloc; "{root}/{name}")?;
+        Ok(self.disk.standing(place.as_str())? == Standing::Folder)
     }
 
     // Writes the file aside and renames it into its place, where that is on another mount from

@@ -1,5 +1,5 @@
 -- What conditionals and assignments come to, case by case.
-use Rattle.std.proofs.Common.{◌≡◌, ◌⊎◌, inl, inr, Bool, true, false, if◌then◌else◌, ℕ, List, Option, Some, None, Result, Ok, Err, ap, sym, ◌∙◌, is_some}
+use Rattle.std.proofs.Common.{◌≡◌, ◌⊎◌, inl, inr, Bool, true, false, if◌then◌else◌, ℕ, List, Option, Some, None, Result, Ok, Err, refl, ap, sym, ◌∙◌, is_some}
 use Rattle.tup_lex.specs.Blank.{trim}
 use Rattle.tup_lex.specs.declared.kind.ParseKind.TheVariants.{BadName, Unclosed}
 use Rattle.tup_vars.specs.Name.{is_name, is_free}
@@ -15,7 +15,7 @@ use Rattle.tup_ask.specs.Ask.{setting_of}
 use Rattle.tup_ask.specs.Spot.{Spot, refused}
 use Rattle.tup_ask.specs.Text.{var_kind, taken, expanded}
 use Rattle.tup_reader.specs.Conditional.{agrees, looked_up, sides, compared, compares}
-use Rattle.tup_reader.specs.Setting.{put_value, set_name, goes_on, with_value, assigned}
+use Rattle.tup_reader.specs.Setting.{put_value, set_name, goes_on, with_value, value_of, assigned}
 use Rattle.tup_ask.specs.Went.{Gives, IsRefusal}
 use Rattle.tup_ask.proofs.Went.{refusal_of}
 
@@ -52,13 +52,18 @@ with_value-refused at state name more value fault end is memory (inl e) = refusa
 with_value-refused at state name more value fault end is memory (inr e) = refusal_of (with_value at state name more value) at (var_kind fault) end is (inr (with_value-err at state name more value fault e))
 
 -- ---- assignments
-pub assigned-bad : (at : Spot) (state : State) (left right : List ℕ) → is_free (set_name left) ≡ false → assigned at state left right ≡ refused at BadName
-unfolding assigned
-assigned-bad at state left right e = ap (λ b. if b then and_then (expanded at state.variables (trim right)) (λ value. with_value at state (set_name left) (goes_on left) value) else refused at BadName) e
+pub value-bad : (at : Spot) (variables : Entries) (name text : List ℕ) → is_free name ≡ false → value_of at variables name text ≡ refused at BadName
+unfolding value_of
+value-bad at variables name text e = ap (λ b. if b then expanded at variables text else refused at BadName) e
 
-pub assigned-free : (at : Spot) (state : State) (left right text : List ℕ) → is_free (set_name left) ≡ true → text ≡ trim right
-    → assigned at state left right ≡ and_then (expanded at state.variables text) (λ value. with_value at state (set_name left) (goes_on left) value)
+pub value-free : (at : Spot) (variables : Entries) (name text : List ℕ) → is_free name ≡ true → value_of at variables name text ≡ expanded at variables text
+unfolding value_of
+value-free at variables name text e = ap (λ b. if b then expanded at variables text else refused at BadName) e
+
+-- what comes of a value
+abbrev pub behind_value : Spot → State → List ℕ → List ℕ → Reads ParseFault State
+behind_value at state left value = with_value at state (set_name left) (goes_on left) value
+
+pub assigned_by : (at : Spot) (state : State) (left right : List ℕ) → assigned at state left right ≡ and_then (value_of at state.variables (set_name left) (trim right)) (behind_value at state left)
 unfolding assigned
-assigned-free at state left right text e is =
-    ap (λ b. if b then and_then (expanded at state.variables (trim right)) (λ value. with_value at state (set_name left) (goes_on left) value) else refused at BadName) e
-    ∙ ap (λ (t : List ℕ). and_then (expanded at state.variables t) (λ value. with_value at state (set_name left) (goes_on left) value)) (sym is)
+assigned_by at state left right = refl

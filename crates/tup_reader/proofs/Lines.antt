@@ -7,6 +7,7 @@ use Rattle.tup_lex.specs.declared.line.Line.{Line}
 use Rattle.tup_lex.specs.declared.kind.ParseKind.TheVariants as kind
 use Rattle.tup_rule.specs.declared.draft.Draft.{Draft}
 use Rattle.tup_vars.specs.Branches.{turned, left, all_on}
+use Rattle.tup_vars.specs.Table.{Entries}
 use Rattle.tup_ask.specs.declared.fault.ParseFault.{ParseFault}
 use Rattle.tup_ask.specs.declared.fault.ReadEnd.{ReadEnd}
 use Rattle.tup_ask.specs.declared.fault.ReadEnd.TheVariants.{Memory}
@@ -122,7 +123,7 @@ kind-other opener at before (slices.Sets name value) compares looks else_ endif 
 kind-other opener at before slices.Unknown compares looks else_ endif = refl
 
 -- ---- one line that is stated, by its kind
-pub stated-complains : (opener : Opener) (at : Spot) (state : State) (line : Kind) (text : List ℕ) → line ≡ Complains text → stated opener at state line ≡ complained at state text
+pub stated-complains : (opener : Opener) (at : Spot) (state : State) (line : Kind) (text : List ℕ) → line ≡ Complains text → stated opener at state line ≡ complained at state.variables text
 unfolding stated
 stated-complains opener at state line text e = ap (stated opener at state) e
 
@@ -191,9 +192,9 @@ down_by opener at state = refl
 abbrev pub behind_said : Spot → List ℕ → Reads ParseFault State
 behind_said at said = refused at (kind.UserError said)
 
-pub complained_by : (at : Spot) (state : State) (text : List ℕ) → complained at state text ≡ and_then (expanded at state.variables text) (behind_said at)
+pub complained_by : (at : Spot) (variables : Entries) (text : List ℕ) → complained at variables text ≡ and_then (expanded at variables text) (behind_said at)
 unfolding complained
-complained_by at state text = refl
+complained_by at variables text = refl
 
 -- ---- the Tupfile
 pub new-state : (state : State) (made : Result State ReadEnd) → made ≡ Ok state → (made ≡ Err Memory) ⊎ (made ≡ Ok fresh) → state ≡ fresh

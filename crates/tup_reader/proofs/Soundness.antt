@@ -9,7 +9,7 @@ use Rattle.tup_rule.specs.declared.question.Kind.{Kind}
 use Rattle.tup_rule.specs.declared.question.Question.{Question}
 use Rattle.tup_rule.specs.declared.question.Told.{Told}
 use Rattle.tup_vars.specs.declared.fault.VarFault.{VarFault}
-use Rattle.tup_vars.specs.Name.{is_free}
+use Rattle.tup_vars.specs.Table.{Entries}
 use Rattle.tup_vars.specs.declared.branches.Level.{Level}
 use Rattle.tup_vars.specs.Branches.{entered, turned, left, all_on}
 use Rattle.tup_ask.specs.declared.fault.ParseFault.{ParseFault}
@@ -23,7 +23,7 @@ use Rattle.tup_ask.specs.Text.{taken}
 use Rattle.tup_draft.specs.State.{fresh}
 use Rattle.tup_ask.specs.Spot.{spot}
 use Rattle.tup_ask.specs.Text.{var_kind, expanded}
-use Rattle.tup_reader.specs.Setting.{set_name, goes_on, put_value, with_value, assigned}
+use Rattle.tup_reader.specs.Setting.{set_name, goes_on, put_value, with_value, value_of, assigned}
 use Rattle.tup_reader.specs.Conditional.{compares, looked_up}
 use Rattle.tup_reader.specs.Opening.{along, at_levels, opening}
 use Rattle.tup_reader.specs.File.{held_in, included_file, lines_of, ended}
@@ -39,15 +39,10 @@ use Rattle.tup_draft.proofs.Soundness.{Brings, IsSoundState, brings_then, brings
 -- ---- lines
 brings_assigned : (answers : Question → Told) (at : Spot) (state : State) (left right : List ℕ) → IsSoundState answers at.dir state → Brings answers (assigned at state left right) (IsSoundState answers at.dir)
 unfolding assigned with_value
-brings_assigned answers at state left right is = by (is_free (set_name left))
-  where
-    by : (free : Bool)
-        → Brings answers (if free then and_then (expanded at state.variables (trim right)) (λ value. with_value at state (set_name left) (goes_on left) value) else refused at fault.BadName) (IsSoundState answers at.dir)
-    by false = brings_refused State answers at fault.BadName (IsSoundState answers at.dir)
-    by true =
-        brings_behind answers (expanded at state.variables (trim right)) (λ value. with_value at state (set_name left) (goes_on left) value) (IsSoundState answers at.dir)
-        (λ value. brings_behind answers (taken at var_kind (put_value state.variables (set_name left) (goes_on left) value)) (λ variables. gives (record state { variables = variables })) (IsSoundState answers at.dir)
-        (λ variables. brings_gives answers (record state { variables = variables }) (IsSoundState answers at.dir) (same-sound answers at.dir state (record state { variables = variables }) refl refl is)))
+brings_assigned answers at state left right is =
+    brings_behind answers (value_of at state.variables (set_name left) (trim right)) (λ value. with_value at state (set_name left) (goes_on left) value) (IsSoundState answers at.dir)
+    (λ value. brings_behind answers (taken at var_kind (put_value state.variables (set_name left) (goes_on left) value)) (λ variables. gives (record state { variables = variables })) (IsSoundState answers at.dir)
+    (λ variables. brings_gives answers (record state { variables = variables }) (IsSoundState answers at.dir) (same-sound answers at.dir state (record state { variables = variables }) refl refl is)))
 
 -- ---- files
 -- an included file is read so
@@ -92,15 +87,15 @@ brings_down answers opener at state opens is =
     brings_then answers (ruled_by opener at state []) (behind_top opener at) (IsSoundState answers at.dir) (IsSoundState answers at.dir)
     (brings_ruled_by answers opener at state [] opens is) (λ next on. brings_below answers opener at next [] at.dir opens on)
 
-brings_complained : (answers : Question → Told) (at : Spot) (state : State) (text : List ℕ) → Brings answers (complained at state text) (IsSoundState answers at.dir)
+brings_complained : (answers : Question → Told) (at : Spot) (variables : Entries) (text : List ℕ) → Brings answers (complained at variables text) (IsSoundState answers at.dir)
 unfolding complained
-brings_complained answers at state text =
-    brings_behind answers (expanded at state.variables text) (behind_said at) (IsSoundState answers at.dir) (λ said. brings_refused State answers at (fault.UserError said) (IsSoundState answers at.dir))
+brings_complained answers at variables text =
+    brings_behind answers (expanded at variables text) (behind_said at) (IsSoundState answers at.dir) (λ said. brings_refused State answers at (fault.UserError said) (IsSoundState answers at.dir))
 
 brings_stated : (answers : Question → Told) (opener : Opener) (at : Spot) (state : State) (text : kinds.Kind) → NamesFiles answers → OpensSound answers at.dir opener → IsSoundState answers at.dir state
     → Brings answers (stated opener at state text) (IsSoundState answers at.dir)
 unfolding stated
-brings_stated answers opener at state (Complains text) files opens is = brings_complained answers at state text
+brings_stated answers opener at state (Complains text) files opens is = brings_complained answers at state.variables text
 brings_stated answers opener at state IncludesRules files opens is = brings_down answers opener at state opens is
 brings_stated answers opener at state (Includes text) files opens is = brings_included answers opener at state text opens is
 brings_stated answers opener at state (Rules text) files opens is = brings_ruled answers at state text files is

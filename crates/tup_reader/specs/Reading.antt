@@ -6,6 +6,7 @@ use Rattle.tup_lex.specs.declared.line.Line.{Line}
 use Rattle.tup_lex.specs.declared.kind.ParseKind.TheVariants as kind
 use Rattle.tup_rule.specs.declared.draft.Draft.{Draft}
 use Rattle.tup_vars.specs.Branches.{turned, left, all_on}
+use Rattle.tup_vars.specs.Table.{Entries}
 use Rattle.tup_ask.specs.declared.fault.ParseFault.{ParseFault}
 use Rattle.tup_reader.specs.declared.file.Held.{Held}
 use Rattle.tup_reader.specs.declared.opening.Along.{Along}
@@ -51,12 +52,12 @@ unfoldable pub ruled_down : Opener → Spot → State → Reads ParseFault State
 ruled_down opener at state = and_then (ruled_by opener at state []) (λ next. ruled_below opener at next [] at.dir)
 
 -- what a user says is wrong
-unfoldable pub complained : Spot → State → List ℕ → Reads ParseFault State
-complained at state text = and_then (expanded at state.variables text) (λ said. refused at (kind.UserError said))
+unfoldable pub complained : Spot → Entries → List ℕ → Reads ParseFault State
+complained at variables text = and_then (expanded at variables text) (λ said. refused at (kind.UserError said))
 
 -- a line where the conditionals are on, but no conditional itself
 unfoldable pub stated : Opener → Spot → State → Kind → Reads ParseFault State
-stated opener at state (Complains text) = complained at state text
+stated opener at state (Complains text) = complained at state.variables text
 stated opener at state IncludesRules = ruled_down opener at state
 stated opener at state (Includes text) = included opener at state text
 stated opener at state (Rules text) = ruled at state text

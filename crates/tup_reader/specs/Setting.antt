@@ -34,9 +34,11 @@ unfoldable pub with_value : Spot → State → List ℕ → Bool → List ℕ �
 with_value at state name more value =
     and_then (taken at var_kind (put_value state.variables name more value)) (λ variables. gives (record state { variables = variables }))
 
--- an assignment: the name's fault comes before those of the value
+-- what a text stands for that is set to a name: the name's fault comes before those of the value
+unfoldable pub value_of : Spot → Entries → List ℕ → List ℕ → Reads ParseFault (List ℕ)
+value_of at variables name text = if is_free name then expanded at variables text else refused at BadName
+
+-- an assignment
 unfoldable pub assigned : Spot → State → List ℕ → List ℕ → Reads ParseFault State
 assigned at state left right =
-    if is_free (set_name left)
-    then and_then (expanded at state.variables (trim right)) (λ value. with_value at state (set_name left) (goes_on left) value)
-    else refused at BadName
+    and_then (value_of at state.variables (set_name left) (trim right)) (λ value. with_value at state (set_name left) (goes_on left) value)

@@ -1,15 +1,14 @@
 //! The call that reads a folder's Tupfile.
-ghost use Rattle.std.specs.Prelude.{◌≡◌, false, IfOk, IsTrue, is_some};
-ghost use Rattle.tup_ask.specs.Log.{noted_log};
+ghost use Rattle.std.specs.Prelude.{◌≡◌, false, IsTrue, is_some};
 ghost use Rattle.tup_reader.specs.Read.{IsReading, IsToldBy, Agrees};
 ghost use Rattle.tup_reader.specs.Reading.{reading};
 ghost use Rattle.tup_ask.specs.Went.{is_stopped};
 
 use crate::reading::drafts_of;
-use std::alloc::{AllocError, Global};
+use std::alloc::Global;
 use tup_ask::{Env, Log, ReadEnd};
 use tup_path::Path;
-use tup_rule::{Questions, Reading};
+use tup_rule::Reading;
 
 /// The reading of a folder's Tupfile: its rules, and what it asked, each question once in the order
 /// of first asking.
@@ -26,17 +25,6 @@ pub fn read_tupfile<E: Env>(alloc: Global, dir: &Path, env: &mut E) -> Result<Re
 {
     let mut log = Log::new(alloc);
     let drafts = drafts_of(alloc, env, &mut log, dir)?;
-    let asked = noted(alloc, log)?;
+    let asked = log.noted(alloc)?;
     Ok(Reading { drafts, asked })
-}
-
-/// A log as it is kept: a content by its stamp.
-fn noted(alloc: Global, log: Log) -> Result<Questions, AllocError>
-    ensures { IfOk result (λ asked. asked ≡ noted_log log) }
-{
-    let mut asked = Questions::new(alloc);
-    for (question, told) in log.into_vec() {
-        asked.push((question, told.noted()))?;
-    }
-    Ok(asked)
 }

@@ -14,7 +14,7 @@ use tup_draft::{State, defined, ruled};
 use tup_lex::ParseKind;
 use tup_path::{Bytes, Path};
 use tup_rule::Drafts;
-use tup_vars::Branches;
+use tup_vars::{Branches, Vars};
 
 /// How many files more may be open beside the Tupfile.
 const ROOM: u32 = 63;
@@ -53,7 +53,7 @@ fn drafts_in<E: Env>(
 {
     let state = State::new(alloc)?;
     let state = with_file(alloc, env, log, ROOM, dir, &held.path, state, &held.content)?;
-    Ok(state.drafts)
+    Ok(state.drafts.into_drafts())
 }
 
 /// A file that is read for a folder, where so many more may be open.
@@ -152,7 +152,7 @@ fn stated<E: Env>(
         (asker (E.answers env.new) (E.stopped env.new) log.new) result }
 {
     match line {
-        LineKind::Complains(text) => complained(alloc, env, log, at, state, text),
+        LineKind::Complains(text) => complained(alloc, env, log, at, &state.variables, text),
         LineKind::IncludesRules => ruled_down(alloc, env, log, room, at, state),
         LineKind::Includes(text) => included(alloc, env, log, room, at, state, text),
         LineKind::Rules(text) => ruled(alloc, env, log, at, state, text),
@@ -168,15 +168,15 @@ fn complained<E: Env>(
     env: &mut E,
     log: &mut Log,
     at: &Spot,
-    state: State,
+    variables: &Vars,
     text: &str,
 ) -> Result<State, ReadEnd>
     requires { is_some (E.stopped env.old) ≡ false }
     ensures { Went E.tells (asker (E.answers env.old) (E.stopped env.old) log.old)
-        (specs.complained at.now state text.now)
+        (specs.complained at.now variables.now text.now)
         (asker (E.answers env.new) (E.stopped env.new) log.new) result }
 {
-    let said = expanded(alloc, env, log, at, &state.variables, text)?;
+    let said = expanded(alloc, env, log, at, variables, text)?;
     Err(at.refuse(ParseKind::UserError(said)))
 }
 

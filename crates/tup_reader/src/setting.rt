@@ -26,12 +26,29 @@ pub(crate) fn assigned<E: Env>(
         (asker (E.answers env.new) (E.stopped env.new) log.new) result }
 {
     let name = set_name(left);
+    let value = value_of(alloc, env, log, at, &state.variables, name, trimmed(right))?;
+    with_value(alloc, at, state, name, goes_on(left), value)
+}
+
+/// What a text stands for that is set to a name; the name has to be one that may be set.
+fn value_of<E: Env>(
+    alloc: Global,
+    env: &mut E,
+    log: &mut Log,
+    at: &Spot,
+    variables: &Vars,
+    name: &str,
+    text: &str,
+) -> Result<Text, ReadEnd>
+    requires { is_some (E.stopped env.old) ≡ false }
+    ensures { Went E.tells (asker (E.answers env.old) (E.stopped env.old) log.old)
+        (specs.value_of at.now variables.now name.now text.now)
+        (asker (E.answers env.new) (E.stopped env.new) log.new) result }
+{
     if !is_free(name) {
         return Err(at.refuse(ParseKind::BadName));
     }
-    let name = Text::from_str(alloc, name)?;
-    let value = expanded(alloc, env, log, at, &state.variables, trimmed(right))?;
-    with_value(alloc, at, state, &name, goes_on(left), value)
+    expanded(alloc, env, log, at, variables, text)
 }
 
 /// The name before an `=`.
@@ -66,7 +83,7 @@ fn with_value(
     alloc: Global,
     at: &Spot,
     state: State,
-    name: &Text,
+    name: &str,
     more: bool,
     value: Text,
 ) -> Result<State, ReadEnd>
@@ -83,7 +100,7 @@ fn with_value(
 fn put_value(
     alloc: Global,
     variables: &mut Vars,
-    name: &Text,
+    name: &str,
     more: bool,
     value: Text,
 ) -> Result<(), VarFault>
@@ -91,9 +108,10 @@ fn put_value(
         MatchResult result (λ _. put ≡ Ok variables.new)
         (λ fault. (fault ≡ VarFault.Memory) ⊎ (put ≡ Err fault)) }
 {
+    let name = Text::from_str(alloc, name)?;
     if more {
-        variables.append(alloc, name, &value)
+        variables.append(alloc, &name, &value)
     } else {
-        variables.set(alloc, name, value)
+        variables.set(alloc, &name, value)
     }
 }

@@ -33,7 +33,7 @@ use Rattle.tup_top.specs.Promise.{CountsAll, Counts, AreSteady, HasCountedCause,
 use Rattle.tup_top.specs.Printed.{IsDone, Ends, Prints, Told, PrintsUpdate}
 use Rattle.tup_top.specs.Status.{status_of, status_of_sources, came_to, after_sink_fault}
 use Rattle.tup_top.specs.declared.status.Status.{Status}
-use Rattle.tup_top.specs.declared.status.Status.TheVariants.{Done, Command, IllegalRead, IllegalWrite, Unwritten, TooManyReads, Usage, BadStore, Parse, CircularDirs, CircularCommands, NoSuchGroup, SiteFault, RunFault, SinkFault, Limit, Memory}
+use Rattle.tup_top.specs.declared.status.Status.TheVariants.{Done, Command, IllegalRead, IllegalWrite, Unwritten, TooManyReads, Usage, BadStore, Parse, CircularDirs, CircularCommands, NoSuchGroup, SiteFault, RunFault, SinkFault, Limit, Memory, Differs}
 
 -- the status of sources that ask for no rules tells why
 came_to-sources : (fault : SourcesFault) → came_to (status_of_sources fault) ≡ Some (Some (Sources fault))
@@ -55,7 +55,7 @@ sources_undone (sources.TooManyLinks number) done = done
 sources_undone (sources.CircularCommands cycle) done = done
 
 -- the status of an update tells what the update came to
-came_to-status_of : (before now : ℕ) (log : Log) (stopped : Option Stop) → StopHasCountedCause before now stopped → came_to (status_of log stopped) ≡ Some stopped
+pub came_to-status_of : (before now : ℕ) (log : Log) (stopped : Option Stop) → StopHasCountedCause before now stopped → came_to (status_of log stopped) ≡ Some stopped
 came_to-status_of before now log None cause = refl
 came_to-status_of before now log (Some (StoreDamaged offset)) cause = refl
 came_to-status_of before now log (Some (Sources fault)) cause = came_to-sources fault
@@ -71,7 +71,7 @@ came_to-status_of before now log (Some (Outside (TooLarge number))) cause = refl
 came_to-status_of before now log (Some (Outside NoMemory)) cause = refl
 
 -- only an update that came to its end is done
-done_is_none : (log : Log) (stopped : Option Stop) → IsDone (status_of log stopped) → stopped ≡ None
+pub done_is_none : (log : Log) (stopped : Option Stop) → IsDone (status_of log stopped) → stopped ≡ None
 done_is_none log None done = refl
 done_is_none log (Some (StoreDamaged offset)) done = absurd done
 done_is_none log (Some (Sources fault)) done = absurd (sources_undone fault done)
@@ -196,13 +196,13 @@ module _ (site_before site_now run_before run_now sink_before sink_now : ℕ) wh
   abbrev now : Counts
   now = of_one site_now run_now sink_now
 
-  steady : site_now ≡ site_before → run_now ≡ run_before → AreSteady before now
+  pub steady : site_now ≡ site_before → run_now ≡ run_before → AreSteady before now
   steady site run = (site, ap (λ (n : ℕ). n ∷ []) run)
 
   one_rose : Rose run_before run_now → OneRose (run_before ∷ []) (run_now ∷ [])
   one_rose rose = record { at = 0; was = run_before; is = run_now; stood = refl; stands = refl; rose = rose }
 
-  counted_of_stop : (log : Log) (stopped : Option Stop) → (IsDone (status_of log stopped) → sink_now ≡ sink_before) → StopHasCountedCause site_before site_now stopped → HasRunCause run_before run_now stopped →
+  pub counted_of_stop : (log : Log) (stopped : Option Stop) → (IsDone (status_of log stopped) → sink_now ≡ sink_before) → StopHasCountedCause site_before site_now stopped → HasRunCause run_before run_now stopped →
       HasCountedCause before now (status_of log stopped)
   counted_of_stop log None sink cause run = (steady cause run, sink tt)
   counted_of_stop log (Some (StoreDamaged offset)) sink cause run = steady cause run
@@ -250,6 +250,7 @@ ends_after before now RunFault rose = inl refl
 ends_after before now SinkFault rose = inl refl
 ends_after before now (Limit what number) rose = inl refl
 ends_after before now Memory rose = inl refl
+ends_after before now (Differs path) rose = inl refl
 
 -- nothing was printed, for want of memory
 pub prints_nothing : (text : List ℕ) (before now : ℕ) (held : List ℕ) → Prints text before now held held Memory
@@ -294,6 +295,7 @@ demo_cause site_before site_now before now RunFault cause = never_rose cause.1
 demo_cause site_before site_now before now SinkFault cause = cause.1
 demo_cause site_before site_now before now (Limit what number) cause = cause.1
 demo_cause site_before site_now before now Memory cause = tt
+demo_cause site_before site_now before now (Differs path) cause = cause
 
 -- an update that didn't begin, for want of memory
 abbrev pub told_nothing : (next : Next) (old : World) → Told next old

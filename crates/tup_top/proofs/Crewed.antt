@@ -1,14 +1,21 @@
 -- A crew whose first runner did all: what one runner counts and ran is what the crew does.
-use Rattle.std.proofs.Common.{◌≡◌, ℕ, zero, suc, ◌<◌, List, [], ◌∷◌, length, map, get_or, Option, None, Some, IfSome, refl, ap, subst, arith}
+use Rattle.std.proofs.Common.{◌≡◌, ℕ, zero, suc, ◌<◌, List, [], ◌∷◌, length, map, get_or, Option, None, Some, Result, Err, IfSome, inl, refl, ap, subst, arith}
 use Rattle.std.specs.Prelude.{slice_get, slice_set}
+use Rattle.std.specs.Result.{result_err}
 use Rattle.tup_path.specs.Name.{Names}
 use Rattle.tup_rule.specs.declared.rule.RuleName.{RuleName}
+use Rattle.tup_runner.specs.Next.{Next}
+use Rattle.tup_site.specs.World.{World}
+use Rattle.tup_site.specs.declared.fault.SiteFailed.TheVariants.{Memory as NoMemory}
+use Rattle.tup_update.specs.Compared.{RunsToCompare}
 use Rattle.tup_update.specs.Ran.{RunsThese}
+use Rattle.tup_update.specs.declared.compare.Compared.{Compared}
 use Rattle.tup_update.specs.declared.stop.Stop.{Stop}
-use Rattle.tup_top.specs.Crew.{OneRose, CrewRuns}
-use Rattle.tup_top.specs.Promise.{Counts, AreSteady, HasCountedCause}
+use Rattle.tup_update.specs.declared.stop.Stop.TheVariants.{Outside}
+use Rattle.tup_top.specs.Crew.{OneRose, CrewRuns, CrewCompares}
+use Rattle.tup_top.specs.Promise.{Counts, AreSteady, HasCountedCause, HasComparedCause}
 use Rattle.tup_top.specs.declared.status.Status.{Status}
-use Rattle.tup_top.specs.declared.status.Status.TheVariants.{Done, Command, IllegalRead, IllegalWrite, Unwritten, TooManyReads, Usage, BadStore, Parse, CircularDirs, CircularCommands, NoSuchGroup, SiteFault, RunFault, SinkFault, Limit, Memory}
+use Rattle.tup_top.specs.declared.status.Status.TheVariants.{Done, Command, IllegalRead, IllegalWrite, Unwritten, TooManyReads, Usage, BadStore, Parse, CircularDirs, CircularCommands, NoSuchGroup, SiteFault, RunFault, SinkFault, Limit, Memory, Differs}
 use Rattle.tup_top.proofs.Causes.{of_one}
 
 -- a count of one runner that rose is one of the crew's
@@ -51,15 +58,53 @@ module _ (site_before site_now run_before run_now sink_before sink_now : ℕ) (o
   causes_of_crew SinkFault cause = (steady cause.0, cause.1)
   causes_of_crew (Limit what number) cause = (steady cause.0, cause.1)
   causes_of_crew Memory cause = tt
+  causes_of_crew (Differs path) cause = cause
+
+  -- those of a comparison too
+  compared_of_crew : (status : Status) → HasComparedCause (of_one site_before run_before sink_before) (of_one site_now run_now sink_now) status → HasComparedCause crew_before crew_now status
+  compared_of_crew (Differs path) cause = steady cause
+  compared_of_crew (Done read ran removed) cause = causes_of_crew (Done read ran removed) cause
+  compared_of_crew (Command rule status) cause = causes_of_crew (Command rule status) cause
+  compared_of_crew (IllegalRead rule text) cause = causes_of_crew (IllegalRead rule text) cause
+  compared_of_crew (IllegalWrite rule text) cause = causes_of_crew (IllegalWrite rule text) cause
+  compared_of_crew (Unwritten rule path) cause = causes_of_crew (Unwritten rule path) cause
+  compared_of_crew (TooManyReads rule) cause = causes_of_crew (TooManyReads rule) cause
+  compared_of_crew (Usage place) cause = causes_of_crew (Usage place) cause
+  compared_of_crew (BadStore offset) cause = causes_of_crew (BadStore offset) cause
+  compared_of_crew (Parse fault) cause = causes_of_crew (Parse fault) cause
+  compared_of_crew (CircularDirs cycle) cause = causes_of_crew (CircularDirs cycle) cause
+  compared_of_crew (CircularCommands cycle) cause = causes_of_crew (CircularCommands cycle) cause
+  compared_of_crew (NoSuchGroup group) cause = causes_of_crew (NoSuchGroup group) cause
+  compared_of_crew SiteFault cause = causes_of_crew SiteFault cause
+  compared_of_crew RunFault cause = causes_of_crew RunFault cause
+  compared_of_crew SinkFault cause = causes_of_crew SinkFault cause
+  compared_of_crew (Limit what number) cause = causes_of_crew (Limit what number) cause
+  compared_of_crew Memory cause = causes_of_crew Memory cause
 
 -- so they are where the first runner of a crew did all
+module _ {R : Type 0} (count : R → ℕ) (site_before site_now sink_before sink_now : ℕ) (status : Status) (cause_of : Counts → Counts → Status → Type 0)
+    (more : (run_before run_now : ℕ) (others : List ℕ) → cause_of (of_one site_before run_before sink_before) (of_one site_now run_now sink_now) status →
+    cause_of (crew_before site_before site_now run_before run_now sink_before sink_now others) (crew_now site_before site_now run_before run_now sink_before sink_now others) status) where
+  cause_of_first : (crew : List R) (old now : R) → 0 < length crew → old ≡ get_or crew 0 old → cause_of (of_one site_before (count old) sink_before) (of_one site_now (count now) sink_now) status →
+      cause_of (record { site = site_before; runners = map count crew; sink = sink_before }) (record { site = site_now; runners = map count (slice_set crew 0 now); sink = sink_now }) status
+  cause_of_first [] old now some first cause = absurd (omega (arith, some))
+  cause_of_first (one ∷ others) old now some first cause =
+      subst (λ (r : R). cause_of (record { site = site_before; runners = count r ∷ map count others; sink = sink_before }) (record { site = site_now; runners = count now ∷ map count others; sink = sink_now }) status) first
+      (more (count old) (count now) (map count others) cause)
+
 pub crew_cause : {R : Type 0} (count : R → ℕ) (crew : List R) (old now : R) (site_before site_now sink_before sink_now : ℕ) (status : Status) → 0 < length crew → old ≡ get_or crew 0 old →
     HasCountedCause (of_one site_before (count old) sink_before) (of_one site_now (count now) sink_now) status →
     HasCountedCause (record { site = site_before; runners = map count crew; sink = sink_before }) (record { site = site_now; runners = map count (slice_set crew 0 now); sink = sink_now }) status
-crew_cause {R} count [] old now site_before site_now sink_before sink_now status some first cause = absurd (omega (arith, some))
-crew_cause {R} count (one ∷ others) old now site_before site_now sink_before sink_now status some first cause =
-    subst (λ (r : R). HasCountedCause (record { site = site_before; runners = count r ∷ map count others; sink = sink_before }) (record { site = site_now; runners = count now ∷ map count others; sink = sink_now }) status) first
-    (causes_of_crew site_before site_now (count old) (count now) sink_before sink_now (map count others) status cause)
+crew_cause {R} count crew old now site_before site_now sink_before sink_now status some first cause =
+    cause_of_first count site_before site_now sink_before sink_now status HasCountedCause
+    (λ run_before run_now others. causes_of_crew site_before site_now run_before run_now sink_before sink_now others status) crew old now some first cause
+
+pub crew_compared : {R : Type 0} (count : R → ℕ) (crew : List R) (old now : R) (site_before site_now sink_before sink_now : ℕ) (status : Status) → 0 < length crew → old ≡ get_or crew 0 old →
+    HasComparedCause (of_one site_before (count old) sink_before) (of_one site_now (count now) sink_now) status →
+    HasComparedCause (record { site = site_before; runners = map count crew; sink = sink_before }) (record { site = site_now; runners = map count (slice_set crew 0 now); sink = sink_now }) status
+crew_compared {R} count crew old now site_before site_now sink_before sink_now status some first cause =
+    cause_of_first count site_before site_now sink_before sink_now status HasComparedCause
+    (λ run_before run_now others. compared_of_crew site_before site_now run_before run_now sink_before sink_now others status) crew old now some first cause
 
 -- and what it ran is what the crew ran
 pub crew_runs : {R : Type 0} (ran_by : R → List (Names × List ℕ)) (crew : List R) (old now : R) (ran : List RuleName) (came : Option (Option Stop)) → 0 < length crew → old ≡ get_or crew 0 old →
@@ -68,3 +113,16 @@ crew_runs {R} ran_by crew old now ran None some first runs = tt
 crew_runs {R} ran_by [] old now ran (Some stopped) some first runs = absurd (omega (arith, some))
 crew_runs {R} ran_by (one ∷ others) old now ran (Some stopped) some first runs =
     subst (λ (r : R). RunsThese ran (ran_by r) (ran_by now) stopped × (map ran_by others ≡ map ran_by others)) first (runs, refl)
+
+-- the same of what it ran for a comparison
+pub crew_compares : {R : Type 0} (ran_by : R → List (Names × List ℕ)) (next : Next) (w : World) (crew : List R) (old now : R) (came : Option (Result Compared Stop)) → 0 < length crew → old ≡ get_or crew 0 old →
+    IfSome came (λ compared. RunsToCompare next w (ran_by old) (ran_by now) (result_err compared)) → IfSome came (CrewCompares next w (map ran_by crew) (map ran_by (slice_set crew 0 now)))
+crew_compares {R} ran_by next w crew old now None some first runs = tt
+crew_compares {R} ran_by next w [] old now (Some compared) some first runs = absurd (omega (arith, some))
+crew_compares {R} ran_by next w (one ∷ others) old now (Some compared) some first runs =
+    subst (λ (r : R). RunsToCompare next w (ran_by r) (ran_by now) (result_err compared) × (map ran_by others ≡ map ran_by others)) first (runs, refl)
+
+-- where there was no memory to begin it
+pub no_crew_ran : {R : Type 0} (ran_by : R → List (Names × List ℕ)) (next : Next) (w : World) (crew : List R) → 0 < length crew → CrewCompares next w (map ran_by crew) (map ran_by crew) (Err (Outside NoMemory))
+no_crew_ran {R} ran_by next w [] some = absurd (omega (arith, some))
+no_crew_ran {R} ran_by next w (one ∷ others) some = (inl refl, refl)

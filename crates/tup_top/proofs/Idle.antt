@@ -1,30 +1,45 @@
 -- A call that found no memory to read its words did nothing.
-use Rattle.std.proofs.Common.{ℕ, List, [], Option, Some, Ok, Err, inl, refl}
+use Rattle.std.proofs.Common.{ℕ, List, [], Option, Some, Result, Ok, Err, inl, refl}
 use Rattle.tup_site.specs.World.{World}
 use Rattle.tup_site.specs.declared.fault.SiteFailed.TheVariants.{Memory as NoMemory}
 use Rattle.tup_rule.specs.declared.rule.Rule.{Rule}
 use Rattle.tup_runner.specs.Next.{Next}
 use Rattle.tup_mini.specs.Means.{mini_next}
 use Rattle.tup_update.specs.Log.{OfRules}
+use Rattle.tup_update.specs.declared.compare.Compared.{Compared}
 use Rattle.tup_update.specs.declared.stop.Stop.{Stop}
 use Rattle.tup_update.specs.declared.stop.Stop.TheVariants.{Outside}
-use Rattle.tup_top.specs.Lines.{last_line}
+use Rattle.tup_top.specs.Lines.{last_line, compared_line}
 use Rattle.tup_top.specs.Order.{Wanted}
 use Rattle.tup_top.specs.Printed.{Printed, demo_world}
-use Rattle.tup_top.specs.Promise.{ForUpdate}
-use Rattle.tup_top.specs.declared.order.Order.TheVariants.{Upd, Demo}
+use Rattle.tup_top.specs.Promise.{ForUpdate, ForVerify}
+use Rattle.tup_top.specs.declared.order.Order.TheVariants.{Upd, Verify, Demo}
 use Rattle.tup_top.specs.declared.status.Status.TheVariants.{Usage, Memory}
 use Rattle.tup_top.proofs.Causes.{prints_nothing, prints_no_update}
 
 -- what an update promises where there was no memory
 pub memory_for_update : (wanted : Wanted) (P : Option Stop → Type 0) → P (Some (Outside NoMemory)) → ForUpdate wanted Memory P
 memory_for_update (Ok (Upd program)) P p = p
+memory_for_update (Ok Verify) P p = tt
 memory_for_update (Ok Demo) P p = tt
 memory_for_update (Err place) P p = tt
+
+-- and a comparison
+pub memory_for_verify : (wanted : Wanted) (P : Result Compared Stop → Type 0) → P (Err (Outside NoMemory)) → ForVerify wanted Memory P
+memory_for_verify (Ok (Upd program)) P p = tt
+memory_for_verify (Ok Verify) P p = p
+memory_for_verify (Ok Demo) P p = tt
+memory_for_verify (Err place) P p = tt
 
 -- and what is printed then
 pub memory_prints : (wanted : Wanted) (next : Next) (old : World) (count : ℕ) (held : List ℕ) → Printed wanted next old count count held held Memory
 memory_prints (Ok (Upd program)) next old count held = prints_no_update next old count count held
+memory_prints (Ok Verify) next old count held = record {
+  compared = Err (Outside NoMemory);
+  has = tt;
+  ends = inl refl;
+  prints = prints_nothing (compared_line Memory) count count held;
+}
 memory_prints (Ok Demo) next old count held = prints_no_update mini_next demo_world count count held
 memory_prints (Err place) next old count held = prints_nothing (last_line (Usage place)) count count held
 

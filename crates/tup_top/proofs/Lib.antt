@@ -3,3 +3,4 @@ pub mod Causes
 pub mod Crewed
 pub mod Idle
 pub mod Success
+pub mod Verified

@@ -14,15 +14,16 @@ use Rattle.tup_update.specs.Log.{OfRules}
 use Rattle.tup_update.specs.Outcome.{SourcesStay, HasCause}
 use Rattle.tup_update.specs.Parts.{HasFileOf}
 use Rattle.tup_update.specs.Sources.{owned, build}
+use Rattle.tup_update.specs.Compared.{HasCompared}
 use Rattle.tup_update.specs.declared.fault.SourcesFault.TheVariants as sources
 use Rattle.tup_update.specs.declared.stop.Stop.TheVariants.{Bad}
 use Rattle.tup_update.proofs.Beside.{left_is}
-use Rattle.tup_top.specs.Status.{came_to}
+use Rattle.tup_top.specs.Status.{came_to, compared_to}
 use Rattle.tup_top.specs.Crew.{OneRose}
-use Rattle.tup_top.specs.Promise.{HasCountedCause, Counts, NothingFailed, IsClear, IsDoneOrMemory}
+use Rattle.tup_top.specs.Promise.{HasCountedCause, HasComparedCause, Counts, NothingFailed, IsClear, IsDoneOrMemory, CanBeCompared, IsComparisonOrMemory}
 use Rattle.tup_top.specs.declared.status.What.TheVariants.{Files, FileSize, Commands, Links}
 use Rattle.tup_top.specs.declared.status.Status.{Status}
-use Rattle.tup_top.specs.declared.status.Status.TheVariants.{Done, Command, IllegalRead, IllegalWrite, Unwritten, TooManyReads, Usage, BadStore, Parse, CircularDirs, CircularCommands, NoSuchGroup, SiteFault, RunFault, SinkFault, Limit, Memory}
+use Rattle.tup_top.specs.declared.status.Status.TheVariants.{Done, Command, IllegalRead, IllegalWrite, Unwritten, TooManyReads, Usage, BadStore, Parse, CircularDirs, CircularCommands, NoSuchGroup, SiteFault, RunFault, SinkFault, Limit, Memory, Differs}
 
 list_all_at : {X : Type 0} (p : X → Bool) (xs : List X) (at : ℕ) (x : X) → list_all p xs ≡ true → slice_get xs at ≡ Some x → p x ≡ true
 list_all_at p xs at x all stands =
@@ -72,7 +73,38 @@ succeeds_so next old new before now (Limit FileSize number) (rules, fits, large)
 succeeds_so next old new before now (Limit Files number) (rules, fits, refused) counted clear fine = absurd (clear.sources_read (sources.TooManyFiles number) refused)
 succeeds_so next old new before now (Limit Commands number) (rules, fits, refused) counted clear fine = absurd (clear.sources_read (sources.TooManyCommands number) refused)
 succeeds_so next old new before now (Limit Links number) (rules, fits, refused) counted clear fine = absurd (clear.sources_read (sources.TooManyLinks number) refused)
+succeeds_so next old new before now (Differs path) cause counted clear fine = absurd counted
 succeeds_so next old new before now Memory cause counted clear fine = tt
+
+-- the same of a comparison
+no_large : (w : World) (number : ℕ) → CanBeCompared w → HasFileOf number w.tree → 16777216 < number → ⊥
+no_large w number can file large =
+    let small = can.small file.0 file.1.content file.1.found in
+    let bytes = file.1.bytes in
+    omega (arith, small, bytes, large)
+
+pub compares_so : (next : Next) (w : World) (before now : Counts) (status : Status) → IfSome (compared_to status) (HasCompared next w) → HasComparedCause before now status → CanBeCompared w → NothingFailed before now → IsComparisonOrMemory status
+compares_so next w before now (Done read ran removed) cause counted can fine = tt
+compares_so next w before now (Command rule status) cause counted can fine = tt
+compares_so next w before now (IllegalRead rule text) cause counted can fine = tt
+compares_so next w before now (IllegalWrite rule text) cause counted can fine = tt
+compares_so next w before now (Unwritten rule path) cause counted can fine = tt
+compares_so next w before now (TooManyReads rule) cause counted can fine = tt
+compares_so next w before now (Usage place) cause counted can fine = absurd counted
+compares_so next w before now (BadStore offset) cause counted can fine = let reads = can.store_reads in absurd (cc)
+compares_so next w before now (Parse fault) cause counted can fine = absurd (can.sources_read (sources.Parse fault) cause)
+compares_so next w before now (CircularDirs cycle) cause counted can fine = absurd (can.sources_read (sources.CircularDirs cycle) cause)
+compares_so next w before now (CircularCommands cycle) cause counted can fine = absurd (can.sources_read (sources.CircularCommands cycle) cause)
+compares_so next w before now (NoSuchGroup group) cause counted can fine = absurd (can.sources_read (sources.NoSuchGroup group) cause)
+compares_so next w before now SiteFault cause counted can fine = not_rose before.site now.site fine.site fine.site_counts counted.0
+compares_so next w before now RunFault cause counted can fine = no_runner_rose before now fine counted.1
+compares_so next w before now SinkFault cause counted can fine = not_rose before.sink now.sink fine.sink fine.sink_counts counted.1
+compares_so next w before now (Limit FileSize number) cause counted can fine = no_large w number can cause counted.1
+compares_so next w before now (Limit Files number) cause counted can fine = absurd (can.sources_read (sources.TooManyFiles number) cause)
+compares_so next w before now (Limit Commands number) cause counted can fine = absurd (can.sources_read (sources.TooManyCommands number) cause)
+compares_so next w before now (Limit Links number) cause counted can fine = absurd (can.sources_read (sources.TooManyLinks number) cause)
+compares_so next w before now Memory cause counted can fine = tt
+compares_so next w before now (Differs path) cause counted can fine = tt
 
 -- where nothing was done the sources stay
 pub sources_stay_so : (w : World) → SourcesStay w w

@@ -1,5 +1,6 @@
 -- The runners of one call: what they count, and what they ran.
-use Rattle.std.specs.Prelude.{◌≡◌, ◌<◌, ◌≤◌, ℕ, List, [], ◌∷◌, length, Option, None, Some, slice_get}
+use Rattle.std.specs.Prelude.{◌≡◌, ◌<◌, ◌≤◌, ℕ, List, [], ◌∷◌, length, Option, None, Some, slice_get, Result}
+use Rattle.std.specs.Result.{result_err}
 use Rattle.tup_path.specs.Count.{Rose}
 use Rattle.tup_path.specs.Name.{Names}
 use Rattle.tup_site.specs.World.{World}
@@ -11,9 +12,11 @@ use Rattle.tup_update.specs.Log.{IsFront}
 use Rattle.tup_update.specs.Ran.{RunsThese}
 use Rattle.tup_update.specs.Sources.{ends}
 use Rattle.tup_update.specs.Turns.{names_of, TurnsFit}
+use Rattle.tup_update.specs.Compared.{RunsToCompare}
+use Rattle.tup_update.specs.declared.compare.Compared.{Compared}
 use Rattle.tup_update.specs.declared.stop.Stop.{Stop}
 use Rattle.tup_update.specs.declared.stop.Stop.TheVariants.{BadStore, Sources, Bad, Run, Outside}
-use Rattle.tup_top.specs.Order.{Wanted, IsUpdate}
+use Rattle.tup_top.specs.Order.{Wanted, IsUpdate, HasCommandsRun}
 
 -- a crew has a runner, and at most 16
 abbrev pub IsCrew : {R : Type 0} → List R → Type 0
@@ -49,6 +52,13 @@ CrewRuns ran (old ∷ others) (new ∷ rest) stopped = RunsThese ran old new sto
 CrewRuns ran [] now stopped = ⊥
 CrewRuns ran before [] stopped = ⊥
 
--- only an update has the crew run anything
-abbrev pub NothingRun : {R : Type 0} → Wanted → List R → List R → List RuleName → Type 0
-NothingRun {R} wanted before now ran = (IsUpdate wanted → ⊥) → (now ≡ before) × (ran ≡ [])
+-- the first runner was given the commands of a comparison to run, and the others ran nothing
+abbrev pub CrewCompares : Next → World → List (List (Names × List ℕ)) → List (List (Names × List ℕ)) → Result Compared Stop → Type 0
+CrewCompares next w (old ∷ others) (new ∷ rest) result = RunsToCompare next w old new (result_err result) × (rest ≡ others)
+CrewCompares next w [] now result = ⊥
+CrewCompares next w before [] result = ⊥
+
+-- only an update begins rules, and only it and a comparison have the crew run anything
+pub record NothingRun {R : Type 0} (wanted : Wanted) (before now : List R) (ran : List RuleName) : Type 0 where
+  pub begun : (IsUpdate wanted → ⊥) → ran ≡ []
+  pub runners : (HasCommandsRun wanted → ⊥) → now ≡ before

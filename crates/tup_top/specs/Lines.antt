@@ -14,7 +14,7 @@ use Rattle.tup_clean.specs.Taken.{Taken}
 use Rattle.tup_ask.specs.declared.fault.ParseFault.{ParseFault}
 use Rattle.tup_update.specs.declared.update.Log.{Log}
 use Rattle.tup_top.specs.declared.status.Status.{Status}
-use Rattle.tup_top.specs.declared.status.Status.TheVariants.{Done, Command, IllegalRead, IllegalWrite, Unwritten, TooManyReads, Usage, BadStore, Parse, CircularDirs, CircularCommands, NoSuchGroup, SiteFault, RunFault, SinkFault, Limit, Memory}
+use Rattle.tup_top.specs.declared.status.Status.TheVariants.{Done, Command, IllegalRead, IllegalWrite, Unwritten, TooManyReads, Usage, BadStore, Parse, CircularDirs, CircularCommands, NoSuchGroup, SiteFault, RunFault, SinkFault, Limit, Memory, Differs}
 use Rattle.tup_top.specs.declared.status.What.{What}
 use Rattle.tup_top.specs.declared.status.What.TheVariants.{Files, FileSize, Commands, Links}
 
@@ -97,10 +97,16 @@ status_text RunFault = codes "fault: the runner failed"
 status_text SinkFault = codes "fault: the output failed"
 status_text (Limit what number) = codes "fault: limit " ++ (what_text what ++ (codes ", " ++ decimal number))
 status_text Memory = codes "fault: no memory"
+status_text (Differs path) = codes "differs: " ++ show path
 
 -- the last line
 abbrev pub last_line : Status → List ℕ
 last_line status = status_text status ++ 10 ∷ []
+
+-- the line of a comparison
+abbrev pub compared_line : Status → List ℕ
+compared_line (Done read ran removed) = codes "same" ++ 10 ∷ []
+compared_line other = last_line other
 
 -- all lines of an update with these rules and this log
 abbrev pub lines : List Rule → Log → Status → List ℕ

@@ -2,7 +2,7 @@
 use Rattle.std.specs.Prelude.{◌≡◌, ◌+◌, ◌==◌, ℕ, ⊤, Bool, false, if◌then◌else◌, List, [], ◌∷◌, Option, None, Some, Result, Ok, Err, codes, bytes_eq}
 use Rattle.tup_top.specs.declared.order.Word.{Word}
 use Rattle.tup_top.specs.declared.order.Order.{Order}
-use Rattle.tup_top.specs.declared.order.Order.TheVariants.{Upd, Demo}
+use Rattle.tup_top.specs.declared.order.Order.TheVariants.{Upd, Verify, Demo}
 use Rattle.tup_top.specs.declared.order.OrderFault.{OrderFault}
 use Rattle.tup_top.specs.declared.order.OrderFault.TheVariants.{Usage, Memory}
 
@@ -14,8 +14,23 @@ Wanted = Result Order ℕ
 -- the words ask for an update
 abbrev pub IsUpdate : Wanted → Type 0
 IsUpdate (Ok (Upd program)) = ⊤
+IsUpdate (Ok Verify) = ⊥
 IsUpdate (Ok Demo) = ⊥
 IsUpdate (Err place) = ⊥
+
+-- the words ask for a comparison
+abbrev pub IsVerify : Wanted → Type 0
+IsVerify (Ok (Upd program)) = ⊥
+IsVerify (Ok Verify) = ⊤
+IsVerify (Ok Demo) = ⊥
+IsVerify (Err place) = ⊥
+
+-- the words ask for an update or a comparison, which have commands run
+abbrev pub HasCommandsRun : Wanted → Type 0
+HasCommandsRun (Ok (Upd program)) = ⊤
+HasCommandsRun (Ok Verify) = ⊤
+HasCommandsRun (Ok Demo) = ⊥
+HasCommandsRun (Err place) = ⊥
 
 -- whether a word says this
 abbrev pub says : List ℕ → Word → Bool
@@ -46,6 +61,7 @@ order [] = Ok (Upd None)
 order (word ∷ words) =
     if is_option word then options 1 (word ∷ words)
     else if says (codes "upd") word then options 2 words
+    else if says (codes "verify") word then alone 2 Verify words
     else if says (codes "demo") word then alone 2 Demo words
     else Err 1
 

@@ -1,5 +1,5 @@
 -- What is printed of one call: the lines of an update, or the line of a refusal; a front of them where the sink failed.
-use Rattle.std.specs.Prelude.{◌≡◌, ◌≢◌, ◌⊎◌, ⊤, ℕ, List, [], ◌∷◌, ◌++◌, Option, Ok, Err, codes}
+use Rattle.std.specs.Prelude.{◌≡◌, ◌≢◌, ◌⊎◌, ⊤, ℕ, List, [], ◌∷◌, ◌++◌, Option, Result, Ok, Err, codes}
 use Rattle.tup_path.specs.Count.{Rose}
 use Rattle.tup_path.specs.Name.{Names, Content}
 use Rattle.tup_path.specs.Tree.{tree_of_files}
@@ -8,13 +8,15 @@ use Rattle.tup_rule.specs.declared.rule.Rule.{Rule}
 use Rattle.tup_runner.specs.Next.{Next}
 use Rattle.tup_mini.specs.Means.{mini_next}
 use Rattle.tup_tell.specs.Sink.{GrownByPart}
+use Rattle.tup_update.specs.Compared.{HasCompared}
 use Rattle.tup_update.specs.Log.{LogFits, RulesFit}
+use Rattle.tup_update.specs.declared.compare.Compared.{Compared}
 use Rattle.tup_update.specs.declared.update.Log.{Log}
 use Rattle.tup_update.specs.declared.stop.Stop.{Stop}
-use Rattle.tup_top.specs.Lines.{lines, last_line}
+use Rattle.tup_top.specs.Lines.{lines, last_line, compared_line}
 use Rattle.tup_top.specs.Order.{Wanted}
-use Rattle.tup_top.specs.Status.{status_of}
-use Rattle.tup_top.specs.declared.order.Order.TheVariants.{Upd, Demo}
+use Rattle.tup_top.specs.Status.{status_of, status_of_compared}
+use Rattle.tup_top.specs.declared.order.Order.TheVariants.{Upd, Verify, Demo}
 use Rattle.tup_top.specs.declared.status.Status.{Status}
 use Rattle.tup_top.specs.declared.status.Status.TheVariants.{Done, Usage, SinkFault, Memory}
 
@@ -49,6 +51,13 @@ pub record PrintsUpdate (next : Next) (world : World) (before now : ℕ) (old ne
   pub ends : Ends before now (status_of told.log told.stopped) answer
   pub prints : Prints (lines told.rules told.log (status_of told.log told.stopped)) before now old new answer
 
+-- the line of a comparison of this world
+pub record PrintsComparison (next : Next) (world : World) (before now : ℕ) (old new : List ℕ) (answer : Status) : Type 0 where
+  pub compared : Result Compared Stop
+  pub has : HasCompared next world compared
+  pub ends : Ends before now (status_of_compared compared) answer
+  pub prints : Prints (compared_line (status_of_compared compared)) before now old new answer
+
 -- the small project that is shown
 abbrev pub demo_files : List (Names × Content)
 demo_files = (codes "Tupfile" ∷ [], codes ": a |> cp a b |> b" ++ 10 ∷ []) ∷ (codes "a" ∷ [], codes "hi" ++ 10 ∷ []) ∷ []
@@ -57,8 +66,9 @@ demo_files = (codes "Tupfile" ∷ [], codes ": a |> cp a b |> b" ++ 10 ∷ []) �
 abbrev pub demo_world : World
 demo_world = record { tree = tree_of_files demo_files; store = [] }
 
--- the lines of what was asked for: of the update, of the demo's update, or the line of the refusal
+-- the lines of what was asked for: of the update, of the comparison, of the demo's update, or the line of the refusal
 abbrev pub Printed : Wanted → Next → World → ℕ → ℕ → List ℕ → List ℕ → Status → Type 0
 Printed (Ok (Upd program)) next world before now old new answer = PrintsUpdate next world before now old new answer
+Printed (Ok Verify) next world before now old new answer = PrintsComparison next world before now old new answer
 Printed (Ok Demo) next world before now old new answer = PrintsUpdate mini_next demo_world before now old new answer
 Printed (Err place) next world before now old new answer = Prints (last_line (Usage place)) before now old new answer

@@ -1,6 +1,6 @@
 -- What the program promises of one call, each promise a word. What it says of an update is what tup_update says, of what
 -- the status tells that the update came to.
-use Rattle.std.specs.Prelude.{◌≡◌, ◌≢◌, ◌<◌, ◌≤◌, ⊤, ℕ, ◌-◌, ◌^◌, List, length, map, slice_get, Option, None, Some, IsTrue, IfSome, Ok, Err}
+use Rattle.std.specs.Prelude.{◌≡◌, ◌≢◌, ◌<◌, ◌≤◌, ⊤, ℕ, ◌-◌, ◌^◌, List, length, map, slice_get, Option, None, Some, IsTrue, IfSome, Result, Ok, Err}
 use Rattle.std.specs.FinMap as finite
 use Rattle.tup_path.specs.Count.{Rose}
 use Rattle.tup_path.specs.Name.{Names, Content}
@@ -11,22 +11,31 @@ use Rattle.tup_clean.specs.Clean.{succeeds}
 use Rattle.tup_owned.specs.Owned.{owned_of}
 use Rattle.tup_update.specs.Log.{whole_log}
 use Rattle.tup_update.specs.Sources.{AsksFor, Refuses, build}
+use Rattle.tup_update.specs.declared.compare.Compared.{Compared}
 use Rattle.tup_update.specs.declared.fault.SourcesFault.{SourcesFault}
 use Rattle.tup_update.specs.declared.stop.Stop.{Stop}
-use Rattle.tup_top.specs.Status.{status_of, came_to}
-use Rattle.tup_top.specs.Order.{Wanted, IsUpdate}
+use Rattle.tup_top.specs.Status.{status_of, came_to, compared_to}
+use Rattle.tup_top.specs.Order.{Wanted, IsUpdate, IsVerify}
 use Rattle.tup_top.specs.Crew.{OneRose}
-use Rattle.tup_top.specs.declared.order.Order.TheVariants.{Upd, Demo}
+use Rattle.tup_top.specs.declared.order.Order.TheVariants.{Upd, Verify, Demo}
 use Rattle.tup_top.specs.declared.status.Status.{Status}
-use Rattle.tup_top.specs.declared.status.Status.TheVariants.{Done, Usage, SiteFault, RunFault, SinkFault, Limit, Memory}
+use Rattle.tup_top.specs.declared.status.Status.TheVariants.{Done, Command, IllegalRead, IllegalWrite, Unwritten, TooManyReads, Usage, SiteFault, RunFault, SinkFault, Limit, Memory, Differs}
 use Rattle.tup_top.specs.declared.status.What.{What}
 use Rattle.tup_top.specs.declared.status.What.TheVariants.{Files, FileSize, Commands, Links}
 
 -- a promise of an update, of what the update came to
 abbrev pub ForUpdate : Wanted → Status → (Option Stop → Type 0) → Type 0
 ForUpdate (Ok (Upd program)) status promise = IfSome (came_to status) promise
+ForUpdate (Ok Verify) status promise = ⊤
 ForUpdate (Ok Demo) status promise = ⊤
 ForUpdate (Err place) status promise = ⊤
+
+-- a promise of a comparison, of what it came to
+abbrev pub ForVerify : Wanted → Status → (Result Compared Stop → Type 0) → Type 0
+ForVerify (Ok (Upd program)) status promise = ⊤
+ForVerify (Ok Verify) status promise = IfSome (compared_to status) promise
+ForVerify (Ok Demo) status promise = ⊤
+ForVerify (Err place) status promise = ⊤
 
 -- only an update changes anything
 abbrev pub NothingDone : Wanted → World → World → Type 0
@@ -67,8 +76,14 @@ HasCountedCause before now SiteFault = Rose before.site now.site × (now.runners
 HasCountedCause before now RunFault = (now.site ≡ before.site) × OneRose before.runners now.runners
 HasCountedCause before now (Limit what number) = AreSteady before now × (most what < number)
 HasCountedCause before now (Usage place) = ⊥
+HasCountedCause before now (Differs path) = ⊥
 HasCountedCause before now Memory = ⊤
 HasCountedCause before now other = AreSteady before now
+
+-- the same of a comparison, which may tell a difference
+abbrev pub HasComparedCause : Counts → Counts → Status → Type 0
+HasComparedCause before now (Differs path) = AreSteady before now
+HasComparedCause before now other = HasCountedCause before now other
 
 -- the same of a demo, whose site and runner are its own; this runner never fails
 abbrev pub HasDemoCause : ℕ → ℕ → Status → Type 0
@@ -76,6 +91,7 @@ HasDemoCause before now (Done read ran removed) = now ≡ before
 HasDemoCause before now SinkFault = Rose before now
 HasDemoCause before now (Limit what number) = most what < number
 HasDemoCause before now (Usage place) = ⊥
+HasDemoCause before now (Differs path) = ⊥
 HasDemoCause before now RunFault = ⊥
 HasDemoCause before now other = ⊤
 
@@ -88,6 +104,7 @@ IsRefusal wrong other = ⊥
 -- the causes of every order
 abbrev pub HasPlainCause : Wanted → Counts → Counts → Status → Type 0
 HasPlainCause (Ok (Upd program)) before now status = HasCountedCause before now status
+HasPlainCause (Ok Verify) before now status = HasComparedCause before now status
 HasPlainCause (Ok Demo) before now status = AreSteady before now × HasDemoCause before.sink now.sink status
 HasPlainCause (Err place) before now status = AreSteady before now × IsRefusal place status
 
@@ -117,3 +134,26 @@ IsDoneOrMemory other = ⊥
 -- an update that nothing stands in the way of is done, but for want of memory
 abbrev pub Succeeds : Wanted → Next → World → World → Counts → Counts → Status → Type 0
 Succeeds wanted next old new before now status = IsUpdate wanted → IsClear next old new → NothingFailed before now → IsDoneOrMemory status
+
+-- nothing stands in the way of a comparison
+pub record CanBeCompared (w : World) : Type 0 where
+  pub store : List Names
+  pub store_reads : owned_of w.store ≡ Ok store
+  pub sources_read : (fault : SourcesFault) → Refuses w fault → ⊥
+  pub small : (path : Names) (content : Content) → finite.get w.tree path ≡ Some content → length content ≤ 16777216
+
+-- an answer that is free, or says how the files compare with a clean build, or which rule of it isn't Good
+abbrev pub IsComparisonOrMemory : Status → Type 0
+IsComparisonOrMemory (Done read ran removed) = ⊤
+IsComparisonOrMemory (Differs path) = ⊤
+IsComparisonOrMemory (Command rule status) = ⊤
+IsComparisonOrMemory (IllegalRead rule text) = ⊤
+IsComparisonOrMemory (IllegalWrite rule text) = ⊤
+IsComparisonOrMemory (Unwritten rule path) = ⊤
+IsComparisonOrMemory (TooManyReads rule) = ⊤
+IsComparisonOrMemory Memory = ⊤
+IsComparisonOrMemory other = ⊥
+
+-- a comparison that nothing stands in the way of is made, but for want of memory
+abbrev pub Compares : Wanted → World → Counts → Counts → Status → Type 0
+Compares wanted w before now status = IsVerify wanted → CanBeCompared w → NothingFailed before now → IsComparisonOrMemory status

@@ -1,17 +1,19 @@
 -- How an order ended: the exit numbers (own), what stops an update as a status, and what a status says of an update.
-use Rattle.std.specs.Prelude.{ℕ, ◌-◌, ◌^◌, length, min, Option, None, Some}
+use Rattle.std.specs.Prelude.{ℕ, ◌-◌, ◌^◌, length, min, Option, None, Some, option_map, Result, Ok, Err}
 use Rattle.tup_site.specs.declared.fault.SiteFailed.{SiteFailed}
 use Rattle.tup_site.specs.declared.fault.SiteFailed.TheVariants.{Fault, TooLarge, Memory as NoMemory}
 use Rattle.tup_rule.specs.declared.rule.RuleName.{RuleName}
 use Rattle.tup_access.specs.declared.verdict.Verdict.{Verdict}
 use Rattle.tup_access.specs.declared.verdict.Verdict.TheVariants.{Good, Failed, IllegalRead as ReadsIllegally, IllegalWrite as WritesIllegally, Unwritten as LeavesUnwritten, TooManyReads as ReadsTooOften}
+use Rattle.tup_update.specs.declared.compare.Compared.{Compared}
+use Rattle.tup_update.specs.declared.compare.Compared.TheVariants as compared
 use Rattle.tup_update.specs.declared.fault.SourcesFault.{SourcesFault}
 use Rattle.tup_update.specs.declared.fault.SourcesFault.TheVariants as sources
 use Rattle.tup_update.specs.declared.update.Log.{Log}
 use Rattle.tup_update.specs.declared.stop.Stop.{Stop}
 use Rattle.tup_update.specs.declared.stop.Stop.TheVariants.{BadStore as StoreDamaged, Sources, Bad, Run, Outside}
 use Rattle.tup_top.specs.declared.status.Status.{Status}
-use Rattle.tup_top.specs.declared.status.Status.TheVariants.{Done, Command, IllegalRead, IllegalWrite, Unwritten, TooManyReads, Usage, BadStore, Parse, CircularDirs, CircularCommands, NoSuchGroup, SiteFault, RunFault, SinkFault, Limit, Memory}
+use Rattle.tup_top.specs.declared.status.Status.TheVariants.{Done, Command, IllegalRead, IllegalWrite, Unwritten, TooManyReads, Usage, BadStore, Parse, CircularDirs, CircularCommands, NoSuchGroup, SiteFault, RunFault, SinkFault, Limit, Memory, Differs}
 use Rattle.tup_top.specs.declared.status.What.TheVariants.{Files, FileSize, Commands, Links}
 
 -- the exit number of the program
@@ -33,6 +35,7 @@ exit_of RunFault = 8
 exit_of SinkFault = 9
 exit_of (Limit what number) = 11
 exit_of Memory = 12
+exit_of (Differs path) = 13
 
 -- a count as it is told
 abbrev pub capped : ℕ → ℕ
@@ -63,17 +66,27 @@ status_of_outside Fault = SiteFault
 status_of_outside (TooLarge number) = Limit FileSize number
 status_of_outside NoMemory = Memory
 
+-- the status of an order that was stopped
+abbrev pub status_of_stop : Stop → Status
+status_of_stop (StoreDamaged offset) = BadStore offset
+status_of_stop (Sources fault) = status_of_sources fault
+status_of_stop (Bad rule verdict) = status_of_bad rule verdict
+status_of_stop Run = RunFault
+status_of_stop (Outside failed) = status_of_outside failed
+
 -- the status of an update with this log that stopped for this reason, or came to its end
 abbrev pub status_of : Log → Option Stop → Status
 status_of log None = Done (capped (length log.read)) (capped (length log.ended)) (capped (length log.removed))
-status_of log (Some (StoreDamaged offset)) = BadStore offset
-status_of log (Some (Sources fault)) = status_of_sources fault
-status_of log (Some (Bad rule verdict)) = status_of_bad rule verdict
-status_of log (Some Run) = RunFault
-status_of log (Some (Outside failed)) = status_of_outside failed
+status_of log (Some stop) = status_of_stop stop
+
+-- the status of a comparison of the files with a clean build
+abbrev pub status_of_compared : Result Compared Stop → Status
+status_of_compared (Ok compared.Same) = Done 0 0 0
+status_of_compared (Ok (compared.Differs path)) = Differs path
+status_of_compared (Err stop) = status_of_stop stop
 
 -- what an update came to that is answered so: its end, or the reason for which it stopped. A word that can't stand is no
--- answer of an update.
+-- answer of an update, nor is a difference.
 abbrev pub came_to : Status → Option (Option Stop)
 came_to (Done read ran removed) = Some None
 came_to SinkFault = Some None
@@ -95,6 +108,16 @@ came_to (Limit Commands number) = Some (Some (Sources (sources.TooManyCommands n
 came_to (Limit Links number) = Some (Some (Sources (sources.TooManyLinks number)))
 came_to Memory = Some (Some (Outside NoMemory))
 came_to (Usage place) = None
+came_to (Differs path) = None
+
+-- the same of a comparison that is answered so
+abbrev pub of_stop : Option Stop → Result Compared Stop
+of_stop None = Ok compared.Same
+of_stop (Some stop) = Err stop
+
+abbrev pub compared_to : Status → Option (Result Compared Stop)
+compared_to (Differs path) = Some (Ok (compared.Differs path))
+compared_to other = option_map of_stop (came_to other)
 
 -- the status of an order whose lines couldn't be written: the sink's failure is answered where all else went well
 abbrev pub after_sink_fault : Status → Status

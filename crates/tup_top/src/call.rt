@@ -1,18 +1,20 @@
 //! The top call.
 ghost use Rattle.std.specs.Prelude.{IsTrue, map};
+ghost use Rattle.tup_update.specs.Compared.{HasCompared};
 ghost use Rattle.tup_update.specs.Log.{OfRules};
 ghost use Rattle.tup_update.specs.Outcome.{ExactlyTheFiles, SourcesStay, NothingForgotten, HasCause};
 ghost use Rattle.tup_top.specs.Order.{order};
-ghost use Rattle.tup_top.specs.Crew.{IsCrew, CrewRuns, RanFits, RanInTurn, NothingRun};
+ghost use Rattle.tup_top.specs.Crew.{IsCrew, CrewRuns, CrewCompares, RanFits, RanInTurn, NothingRun};
 ghost use Rattle.tup_top.specs.Lines.{last_line as line_of};
 ghost use Rattle.tup_top.specs.Printed.{Printed, Prints};
-ghost use Rattle.tup_top.specs.Promise.{ForUpdate, NothingDone, CountsAll, HasPlainCause, IsRefusal, Succeeds, counts};
+ghost use Rattle.tup_top.specs.Promise.{ForUpdate, ForVerify, NothingDone, CountsAll, HasPlainCause, IsRefusal, Succeeds, Compares, counts};
 ghost use Rattle.tup_top.specs.declared.status.Status.TheVariants.{Usage};
 
 use crate::order::{Order, OrderFault, Word, order_of};
 use crate::print::{last_line, print};
 use crate::status::Status;
 use crate::update::{Updated, demo, update};
+use crate::verify::verify;
 use std::alloc::Global;
 use tup_path::Items;
 use tup_rule::RuleName;
@@ -33,8 +35,9 @@ pub struct Ran<S, R> {
 
 /// Carries out what the words ask for, and prints its lines to `out` in one write.
 ///
-/// No words, or `upd`, update the files of the site; the first runner of the crew runs the commands. `demo` shows
-/// an update of a small project in memory, and leaves site and crew alone. Other words are refused by the place of
+/// No words, or `upd`, update the files of the site; the first runner of the crew runs the commands. `verify` has it
+/// run those of a clean build beside them, and changes nothing. `demo` shows an update of a small project in
+/// memory, and leaves site and crew alone. Other words are refused by the place of
 /// the first that can't stand there. A crew has 1 to 16 runners.
 pub fn tup<S: Site, R: Runner, K: Sink>(
     alloc: Global,
@@ -72,6 +75,15 @@ pub fn tup<S: Site, R: Runner, K: Sink>(
         let now = counts S.faults R.faults K.faults result.site result.crew.items out.new in
         let new = S.world result.site in
         Succeeds (order words.now) R.next (S.world site) new before now result.status }
+    ensures compared { IsTrue S.tells → IsTrue R.tells
+        → ForVerify (order words.now) result.status (HasCompared R.next (S.world site)) }
+    ensures compared_ran { IsTrue S.tells → IsTrue R.tells → IsTrue R.tells_ran
+        → ForVerify (order words.now) result.status
+        (CrewCompares R.next (S.world site) (map R.ran crew.items) (map R.ran result.crew.items)) }
+    ensures compares { IsTrue S.tells → IsTrue R.tells
+        → let before = counts S.faults R.faults K.faults site crew.items out.old in
+        let now = counts S.faults R.faults K.faults result.site result.crew.items out.new in
+        Compares (order words.now) (S.world site) before now result.status }
     ensures told { IsTrue S.tells → IsTrue R.tells → let old = S.world site in
         ForUpdate (order words.now) result.status
         (OfRules old (λ rules _. CountsAll R.next rules old result.status)) }
@@ -91,6 +103,17 @@ pub fn tup<S: Site, R: Runner, K: Sink>(
                 site,
                 crew,
                 ran,
+            }
+        }
+        Ok(Order::Verify) => {
+            let mut site = site;
+            let mut crew = crew;
+            let status = verify(alloc, &mut site, &mut crew[0], out);
+            Ran {
+                status,
+                site,
+                crew,
+                ran: Items::new(alloc),
             }
         }
         Ok(Order::Demo) => Ran {

@@ -11,6 +11,7 @@ mod order;
 mod print;
 mod status;
 mod update;
+mod verify;
 
 pub use call::{Ran, tup};
 pub use order::{Order, OrderFault, Word, order_of};

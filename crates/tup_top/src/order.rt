@@ -16,6 +16,8 @@ pub struct Word(pub Text);
 pub enum Order {
     /// Update the files; commands are run by the runner that comes with the program, or through this program.
     Upd { program: Option<Text> },
+    /// Compare the files with a clean build of the sources, and change nothing.
+    Verify,
     /// Show an update of a small project in memory.
     Demo,
 }
@@ -55,6 +57,7 @@ pub fn order_of(words: &[Word]) -> Result<Order, OrderFault>
     }
     match first.0.as_str() {
         "upd" => options(rest, 2),
+        "verify" => alone(Order::Verify, rest, 2),
         "demo" => alone(Order::Demo, rest, 2),
         _ => Err(OrderFault::Usage { place: 1 }),
     }

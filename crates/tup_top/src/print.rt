@@ -38,6 +38,16 @@ pub(crate) fn last_line(alloc: Global, status: &Status) -> Result<Bytes, AllocEr
     Ok(Bytes::new(text.into_bytes()))
 }
 
+/// The line of a comparison that ends with a status.
+pub(crate) fn compared_line(alloc: Global, status: &Status) -> Result<Bytes, AllocError>
+    ensures { IfOk result (λ text. text ≡ specs.compared_line status.now) }
+{
+    match status {
+        Status::Done { .. } => Ok(Bytes::new(Vec::from_slice(alloc, b"same\n")?)),
+        other => last_line(alloc, other),
+    }
+}
+
 /// Adds a line for each folder that was read.
 fn add_read(text: &mut String, folders: &[Path]) -> Result<(), AllocError>
     ensures { OnOk result

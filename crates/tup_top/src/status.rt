@@ -12,7 +12,7 @@ use tup_link::RuleNames;
 use tup_path::{Path, Paths, Text};
 use tup_rule::{GroupRef, RuleName};
 use tup_site::SiteFailed;
-use tup_update::{Log, SourcesFault, Stop};
+use tup_update::{Compared, Log, SourcesFault, Stop};
 
 /// What has a limit.
 #[derive(Clone, Copy, Debug, PartialEq, Eq)]
@@ -66,6 +66,8 @@ pub enum Status {
     Limit { what: What, number: u64 },
     /// There was no memory.
     Memory,
+    /// The files differ from a clean build at this path, and at none before it.
+    Differs { path: Path },
 }
 
 impl Status {
@@ -91,6 +93,7 @@ impl Status {
             Status::SinkFault => 9,
             Status::Limit { .. } => 11,
             Status::Memory => 12,
+            Status::Differs { .. } => 13,
         }
     }
 }
@@ -105,11 +108,35 @@ pub(crate) fn status_of(log: &Log, stopped: Option<Stop>) -> Status
             ran: capped(log.ended.len()),
             removed: capped(log.removed.len()),
         },
-        Some(Stop::BadStore(offset)) => Status::BadStore { offset },
-        Some(Stop::Sources(fault)) => status_of_sources(fault),
-        Some(Stop::Bad(rule, verdict)) => status_of_bad(rule, verdict),
-        Some(Stop::Run) => Status::RunFault,
-        Some(Stop::Outside(failed)) => status_of_outside(failed),
+        Some(stop) => status_of_stop(stop),
+    }
+}
+
+/// The status of a comparison of the files with a clean build.
+pub(crate) fn status_of_compared(compared: Result<Compared, Stop>) -> Status
+    ensures { result ≡ specs.status_of_compared compared }
+{
+    match compared {
+        Ok(Compared::Same) => Status::Done {
+            read: 0,
+            ran: 0,
+            removed: 0,
+        },
+        Ok(Compared::Differs(path)) => Status::Differs { path },
+        Err(stop) => status_of_stop(stop),
+    }
+}
+
+/// Why an order is stopped.
+fn status_of_stop(stop: Stop) -> Status
+    ensures { result ≡ specs.status_of_stop stop }
+{
+    match stop {
+        Stop::BadStore(offset) => Status::BadStore { offset },
+        Stop::Sources(fault) => status_of_sources(fault),
+        Stop::Bad(rule, verdict) => status_of_bad(rule, verdict),
+        Stop::Run => Status::RunFault,
+        Stop::Outside(failed) => status_of_outside(failed),
     }
 }
 
@@ -242,6 +269,7 @@ impl fmt::Display for Status {
             Status::SinkFault => f.write_str("fault: the output failed"),
             Status::Limit { what, number } => write!(f, "fault: limit {what}, {number}"),
             Status::Memory => f.write_str("fault: no memory"),
+            Status::Differs { path } => write!(f, "differs: {path}"),
         }
     }
 }

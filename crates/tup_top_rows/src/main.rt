@@ -13,7 +13,8 @@ use tup_rows::try_file_by;
 /// Tries the rows.
 fn main(rt: HostRuntime) -> io::Result<()> {
     try_rows(&rt, rt.alloc(), "tup.rows")?;
-    try_rows(&rt, rt.alloc(), "folders.rows")
+    try_rows(&rt, rt.alloc(), "folders.rows")?;
+    try_rows(&rt, rt.alloc(), "verify.rows")
 }
 
 /// Tries the rows of a file, from an empty project on.

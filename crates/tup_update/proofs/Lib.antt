@@ -12,3 +12,4 @@ pub mod Trees
 pub mod Known
 pub mod Ending
 pub mod Keeping
+pub mod Comparing

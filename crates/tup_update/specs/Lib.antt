@@ -9,3 +9,4 @@ pub mod Put
 pub mod Seeing
 pub mod SeeingLaws
 pub mod Outcome
+pub mod Compared

@@ -7,6 +7,7 @@
 
 mod build;
 mod command;
+mod compare;
 mod fault;
 mod found;
 mod project;
@@ -15,6 +16,7 @@ mod stop;
 mod update;
 mod view;
 
+pub use compare::{Compared, compare_site};
 pub use fault::SourcesFault;
 pub use stop::Stop;
 pub use update::{Log, Update, update_site};

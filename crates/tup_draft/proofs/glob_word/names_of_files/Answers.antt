@@ -9,6 +9,6 @@ use Rattle.tup_draft.proofs.glob_word.names_of_files.Goals as goal
 pub returns : goal.returns
 returns c =
     let a = c.args in
-    c.in_ok-add_made.ensures
+    (rw c.as_slice.ensures at c.in_ok-add_made.ensures)
     ∙ ap (λ (names : List (List ℕ)). fold (insert_key by_bytes) names (names_among a.dir.now (made_by a.drafts.now))) c.in_ok-names.ensures
     ∙ sym (in_order-more a.told (names_among a.dir.now (made_by a.drafts.now)))

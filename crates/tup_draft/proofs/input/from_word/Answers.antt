@@ -18,4 +18,4 @@ returns-in-None g c =
     let a = c.args in
     let none : bin_name a.word.now ≡ None =
     sym (ap bin_name c.as_str.ensures.bytes) ∙ sym c.bin_name.ensures ∙ ap (option_map (λ name. name.now)) c.in-None.is in
-    went_along _ _ (word-other a.at.now a.state.now a.word.now none) (rw c.as_slice.ensures at c.from_other.ensures)
+    went_along _ _ (word-other a.at.now a.state.now a.word.now none) c.from_other.ensures

@@ -1,27 +1,23 @@
-use Rattle.std.proofs.Common.{◌≡◌, true, false, Err, Ok, refl, ap, sym, ◌∙◌}
-use Rattle.tup_lex.specs.declared.kind.ParseKind.TheVariants.{BadBrace, DefinedTwice}
-use Rattle.tup_macro.specs.Macros.{macro_of}
+use Rattle.std.proofs.Common.{Result, Ok, Err, refl}
+use Rattle.std.proofs.lemmas.Result.{err_from_is_err_and}
+use Rattle.tup_ask.specs.declared.fault.ReadEnd.{ReadEnd}
 use Rattle.tup_draft.specs.declared.state.State.{State}
-use Rattle.tup_draft.specs.MacroLine.{is_body}
-use Rattle.tup_ask.proofs.Went.{gives_along, gives_refusal}
-use Rattle.tup_draft.proofs.Rules.{body-bad, body-kept, body-twice, not-there}
+use Rattle.tup_draft.specs.MacroLine.{one_more}
+use Rattle.tup_ask.proofs.Went.{gives_then, gives_err, gives_along}
+use Rattle.tup_draft.proofs.Rules.{behind_macros, kept_by}
 use Rattle.tup_draft.proofs.macro_line.with_body.Goals as goal
 
-pub returns-then-not-is_body : goal.returns-then-not-is_body
-returns-then-not-is_body c =
+pub returns-in_err-define : goal.returns-in_err-define
+returns-in_err-define c =
     let a = c.args in
-    let bad : is_body a.words ≡ false = sym c.is_body.ensures ∙ c.if-not-is_body.true in
-    gives_along _ _ (Err c.refuse.result) (body-bad a.at.now a.state a.name.now a.words bad) (gives_refusal State a.at.now BadBrace c.refuse.result c.refuse.ensures)
+    let p = err_from_is_err_and c.from_residual.result c.from_residual.ensures.1 in
+    rw (p.1, p.2)
+    (gives_along _ _ (Err c.in_err-define.field-0.0) (kept_by a.at.now a.state a.name.now a.body)
+    (gives_err (one_more a.at.now a.state.macros a.name.now a.body) (behind_macros a.state) c.in_err-define.field-0.0 c.in_err-define.ensures))
 
-pub returns-in-Ok : goal.returns-in-Ok
-returns-in-Ok c =
+pub returns : goal.returns
+returns c =
     let a = c.args in
-    let good : is_body a.words ≡ true = sym c.is_body.ensures ∙ c.if-not-is_body.false in
-    body-kept a.at.now a.state a.name.now a.words c.body_of.result c.define.new.self good (not-there (macro_of a.state.macros a.name.now) (Ok tt) refl c.in-Ok.ensures.twice) c.body_of.ensures c.in-Ok.ensures.defined
-
-pub returns-in-Err-DefinedTwice : goal.returns-in-Err-DefinedTwice
-returns-in-Err-DefinedTwice c =
-    let a = c.args in
-    let good : is_body a.words ≡ true = sym c.is_body.ensures ∙ c.if-not-is_body.false in
-    gives_along _ _ (Err c.refuse-in-Err-DefinedTwice.result) (body-twice a.at.now a.state a.name.now a.words good (c.in-Err-DefinedTwice.ensures.twice.0 (ap Err c.in-Err-DefinedTwice.field-0-is)))
-    (gives_refusal State a.at.now DefinedTwice c.refuse-in-Err-DefinedTwice.result c.refuse-in-Err-DefinedTwice.ensures)
+    let end : Result State ReadEnd = Ok (record a.state { macros = c.define.new.macros }) in
+    gives_along _ _ end (kept_by a.at.now a.state a.name.now a.body)
+    (gives_then (one_more a.at.now a.state.macros a.name.now a.body) (behind_macros a.state) c.define.new.macros end c.in_ok-define.ensures refl)

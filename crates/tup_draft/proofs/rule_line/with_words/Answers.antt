@@ -1,29 +1,16 @@
 use Rattle.std.proofs.lemmas.Result.{err_from_is_err_and}
 use Rattle.tup_ask.proofs.Went.{went_then, went_err, went_along}
-use Rattle.tup_draft.proofs.Rules.{behind_inputs, behind_order, words_by}
+use Rattle.tup_draft.proofs.Rules.{behind_plan, words_by}
 use Rattle.tup_draft.proofs.rule_line.with_words.Goals as goal
 
-pub returns-in_err-inputs : goal.returns-in_err-inputs
-returns-in_err-inputs g c =
+pub returns-in_err-plan : goal.returns-in_err-plan
+returns-in_err-plan g c =
     let a = c.args in
-    let failed = rw c.as_slice.ensures at c.in_err-inputs.ensures in
     let p = err_from_is_err_and c.from_residual.result c.from_residual.ensures.1 in
-    rw (p.1, p.2) (went_along _ _ (words_by a.at.now a.state a.words.now) (went_err (behind_inputs a.at.now a.state a.words.now) failed))
-
-pub returns-in_err-order : goal.returns-in_err-order
-returns-in_err-order g c =
-    let a = c.args in
-    let done = rw c.as_slice.ensures at c.in_ok-inputs.ensures in
-    let failed = rw c.as_slice-2.ensures at c.in_err-order.ensures in
-    let p = err_from_is_err_and c.from_residual-in_err-order.result c.from_residual-in_err-order.ensures.1 in
-    rw (p.1, p.2)
-    (went_along _ _ (words_by a.at.now a.state a.words.now)
-    (went_then (behind_inputs a.at.now a.state a.words.now) done (went_err (behind_order a.at.now a.state a.words.now c.in_ok-inputs.inputs) failed)))
+    rw (p.1, p.2) (went_along _ _ (words_by a.at.now a.state a.words.now) (went_err (behind_plan a.at.now a.state a.words.now) c.in_err-plan.ensures))
 
 pub returns : goal.returns
 returns g c =
     let a = c.args in
-    let done = rw c.as_slice.ensures at c.in_ok-inputs.ensures in
-    let more = rw c.as_slice-2.ensures at c.in_ok-order.ensures in
-    went_along _ _ (words_by a.at.now a.state a.words.now)
-    (went_then (behind_inputs a.at.now a.state a.words.now) done (went_then (behind_order a.at.now a.state a.words.now c.in_ok-inputs.inputs) more c.with_files.ensures))
+    let done = rw c.as_slice-jobs.ensures at c.with_jobs.ensures in
+    went_along _ _ (words_by a.at.now a.state a.words.now) (went_then (behind_plan a.at.now a.state a.words.now) c.in_ok-plan.ensures done)

@@ -15,4 +15,4 @@ pub returns : goal.returns
 returns g c =
     let a = c.args in
     let done = rw (new-state c.in_ok-state.state (Ok c.in_ok-state.state) refl c.in_ok-state.ensures) at c.in_ok-state-2.ensures in
-    went_along _ _ (drafts_by a.dir.now a.held.now) (went_then drafts_behind done (went_gives _ _ _ done.stopped))
+    rw c.into_drafts.ensures (went_along _ _ (drafts_by a.dir.now a.held.now) (went_then drafts_behind done (went_gives _ _ _ done.stopped)))

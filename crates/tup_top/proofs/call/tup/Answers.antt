@@ -1,18 +1,19 @@
 use Rattle.std.proofs.Common.{[], map, Ok, inl, refl, sym, subst}
 use Rattle.std.specs.Prelude.{slice_set}
-use Rattle.tup_update.specs.Outcome.{ExactlyTheFiles, NothingForgotten, HasCause}
+use Rattle.tup_update.specs.Compared.{HasCompared}
+use Rattle.tup_update.specs.Outcome.{ExactlyTheFiles, SourcesStay, NothingForgotten, HasCause}
 use Rattle.tup_update.specs.Sources.{ends}
 use Rattle.tup_update.specs.Turns.{names_of}
 use Rattle.tup_update.proofs.Ending.{no_front}
 use Rattle.tup_update.proofs.Keeping.{no_turns}
-use Rattle.tup_top.specs.Crew.{RanFits, RanInTurn, CrewRuns}
+use Rattle.tup_top.specs.Crew.{RanFits, RanInTurn, CrewRuns, CrewCompares}
 use Rattle.tup_top.specs.Order.{Wanted, order}
-use Rattle.tup_top.specs.Promise.{ForUpdate, CountsAll, HasPlainCause, counts}
-use Rattle.tup_top.specs.Status.{came_to}
+use Rattle.tup_top.specs.Promise.{ForUpdate, ForVerify, CountsAll, HasPlainCause, counts}
+use Rattle.tup_top.specs.Status.{came_to, compared_to}
 use Rattle.tup_top.specs.declared.status.Status.TheVariants.{Memory}
-use Rattle.tup_top.proofs.Crewed.{crew_cause, crew_runs}
-use Rattle.tup_top.proofs.Idle.{memory_of, memory_prints}
-use Rattle.tup_top.proofs.Success.{succeeds_so, sources_stay_so}
+use Rattle.tup_top.proofs.Crewed.{crew_cause, crew_compared, crew_runs, crew_compares, no_crew_ran}
+use Rattle.tup_top.proofs.Idle.{memory_of, memory_for_verify, memory_prints}
+use Rattle.tup_top.proofs.Success.{succeeds_so, compares_so, sources_stay_so}
 use Rattle.tup_top.proofs.call.tup.Goals as goal
 
 pub returns-in-Ok-Upd-clause-success : goal.returns-in-Ok-Upd-clause-success
@@ -41,6 +42,40 @@ returns-in-Ok-Upd-clause-ran g c = λ tells.
     subst (λ (w : Wanted). ForUpdate w c.update-status.result.status runs) (sym is)
     (crew_runs g.R.Runner.ran c.args.crew.items c.index_mut.result.now c.update-status.new.runner c.update-status.result.ran (came_to c.update-status.result.status) c.requires.crew.0 c.index_mut.ensures.value
     (c.update-status.ensures.ran tells))
+
+-- a comparison
+
+pub returns-in-Ok-Verify-clause-sources_stay : goal.returns-in-Ok-Verify-clause-sources_stay
+returns-in-Ok-Verify-clause-sources_stay g c = λ tells.
+    subst (SourcesStay (g.S.Site.world c.args.site)) (sym (c.verify-status.ensures.same tells)) (sources_stay_so (g.S.Site.world c.args.site))
+
+pub returns-in-Ok-Verify-clause-plain_cause : goal.returns-in-Ok-Verify-clause-plain_cause
+returns-in-Ok-Verify-clause-plain_cause g c =
+    let wanted = rw c.in-Ok-Verify.is at c.order_of.ensures in
+    let is = rw c.in-Ok-Verify.field-0-is at wanted in
+    let crew = slice_set c.args.crew.items 0 c.verify-status.new.runner in
+    let before = counts g.S.Site.faults g.R.Runner.faults g.K.Sink.faults c.args.site c.args.crew.items c.args.out.now in
+    let now = counts g.S.Site.faults g.R.Runner.faults g.K.Sink.faults c.verify-status.new.site crew c.verify-status.new.out in
+    subst (λ (w : Wanted). HasPlainCause w before now c.verify-status.result) (sym is)
+    (crew_compared g.R.Runner.faults c.args.crew.items c.index_mut-in-Ok-Verify.result.now c.verify-status.new.runner (g.S.Site.faults c.args.site) (g.S.Site.faults c.verify-status.new.site) (g.K.Sink.faults c.args.out.now)
+    (g.K.Sink.faults c.verify-status.new.out) c.verify-status.result c.requires.crew.0 c.index_mut-in-Ok-Verify.ensures.value c.verify-status.ensures.counted_cause)
+
+pub returns-in-Ok-Verify-clause-compared_ran : goal.returns-in-Ok-Verify-clause-compared_ran
+returns-in-Ok-Verify-clause-compared_ran g c = λ tells means shows.
+    let wanted = rw c.in-Ok-Verify.is at c.order_of.ensures in
+    let is = rw c.in-Ok-Verify.field-0-is at wanted in
+    let world = g.S.Site.world c.args.site in
+    let crew = slice_set c.args.crew.items 0 c.verify-status.new.runner in
+    let compares = CrewCompares g.R.Runner.next world (map g.R.Runner.ran c.args.crew.items) (map g.R.Runner.ran crew) in
+    subst (λ (w : Wanted). ForVerify w c.verify-status.result compares) (sym is)
+    (crew_compares g.R.Runner.ran g.R.Runner.next world c.args.crew.items c.index_mut-in-Ok-Verify.result.now c.verify-status.new.runner (compared_to c.verify-status.result) c.requires.crew.0 c.index_mut-in-Ok-Verify.ensures.value
+    (c.verify-status.ensures.ran tells means shows))
+
+pub returns-in-Ok-Verify-clause-compares : goal.returns-in-Ok-Verify-clause-compares
+returns-in-Ok-Verify-clause-compares g c = λ tells means _ can fine.
+    compares_so g.R.Runner.next (g.S.Site.world c.args.site) _ _ c.verify-status.result (c.verify-status.ensures.compared tells means)
+    (crew_compared g.R.Runner.faults c.args.crew.items c.index_mut-in-Ok-Verify.result.now c.verify-status.new.runner (g.S.Site.faults c.args.site) (g.S.Site.faults c.verify-status.new.site) (g.K.Sink.faults c.args.out.now)
+    (g.K.Sink.faults c.verify-status.new.out) c.verify-status.result c.requires.crew.0 c.index_mut-in-Ok-Verify.ensures.value c.verify-status.ensures.counted_cause) can fine
 
 pub returns-in-Ok-Demo-clause-sources_stay : goal.returns-in-Ok-Demo-clause-sources_stay
 returns-in-Ok-Demo-clause-sources_stay g c = λ _. sources_stay_so (g.S.Site.world c.args.site)
@@ -86,3 +121,11 @@ returns-clause-told g c = λ _ _.
 
 pub returns-clause-printed : goal.returns-clause-printed
 returns-clause-printed g c = λ _ _ _. memory_prints (order c.args.words.now) g.R.Runner.next (g.S.Site.world c.args.site) (g.K.Sink.faults c.args.out.now) (g.K.Sink.held c.args.out.now)
+
+pub returns-clause-compared : goal.returns-clause-compared
+returns-clause-compared g c = λ _ _. memory_for_verify (order c.args.words.now) (HasCompared g.R.Runner.next (g.S.Site.world c.args.site)) tt
+
+pub returns-clause-compared_ran : goal.returns-clause-compared_ran
+returns-clause-compared_ran g c = λ _ _ _.
+    memory_for_verify (order c.args.words.now) (CrewCompares g.R.Runner.next (g.S.Site.world c.args.site) (map g.R.Runner.ran c.args.crew.items) (map g.R.Runner.ran c.args.crew.items))
+    (no_crew_ran g.R.Runner.ran g.R.Runner.next (g.S.Site.world c.args.site) c.args.crew.items c.requires.crew.0)

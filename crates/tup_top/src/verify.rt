@@ -1,0 +1,44 @@
+//! A comparison of the files of a site with a clean build of its sources, and what is told of it.
+ghost use Rattle.std.specs.Prelude.{◌≡◌, [], ◌∷◌, IsTrue, IfSome};
+ghost use Rattle.std.specs.Result.{result_err};
+ghost use Rattle.tup_update.specs.Compared.{HasCompared, RunsToCompare};
+ghost use Rattle.tup_top.specs.Printed.{PrintsComparison};
+ghost use Rattle.tup_top.specs.Promise.{HasComparedCause, counts};
+ghost use Rattle.tup_top.specs.Status.{compared_to};
+
+use crate::print::{compared_line, print};
+use crate::status::{Status, status_of_compared};
+use std::alloc::Global;
+use tup_runner::Runner;
+use tup_site::Site;
+use tup_tell::Sink;
+use tup_update::compare_site;
+
+/// Compares the files of a site with a clean build of its sources by a runner, and prints the line of
+/// this comparison.
+pub(crate) fn verify<S: Site, R: Runner, K: Sink>(
+    alloc: Global,
+    site: &mut S,
+    runner: &mut R,
+    out: &mut K,
+) -> Status
+    ensures compared { IsTrue S.tells → IsTrue R.tells
+        → IfSome (compared_to result) (HasCompared R.next (S.world site.old)) }
+    ensures same { IsTrue S.tells → S.world site.new ≡ S.world site.old }
+    ensures ran { IsTrue S.tells → IsTrue R.tells → IsTrue R.tells_ran
+        → let old = S.world site.old in IfSome (compared_to result) (λ compared.
+        RunsToCompare R.next old (R.ran runner.old) (R.ran runner.new) (result_err compared)) }
+    ensures counted_cause { let before = counts S.faults R.faults K.faults site.old (runner.old ∷ []) out.old in
+        let now = counts S.faults R.faults K.faults site.new (runner.new ∷ []) out.new in
+        HasComparedCause before now result }
+    ensures printed { IsTrue S.tells → IsTrue R.tells → IsTrue K.tells
+        → let before = K.faults out.old in let now = K.faults out.new in
+        PrintsComparison R.next (S.world site.old) before now (K.held out.old) (K.held out.new)
+        result }
+{
+    let status = status_of_compared(compare_site(alloc, site, runner));
+    match compared_line(alloc, &status) {
+        Ok(line) => print(alloc, &line, status, out),
+        Err(_) => Status::Memory,
+    }
+}

@@ -1,0 +1,2 @@
+mod MarksLaws
+pub mod TurnLaws
