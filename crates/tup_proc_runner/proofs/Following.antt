@@ -1,16 +1,21 @@
 -- The asks of one line behind those of the lines before it.
-use Rattle.std.proofs.Common.{◌≡◌, ◌≢◌, [], ◌∷◌, ◌++◌, List, ℕ, ◌+◌, ◌<◌, length, get_or, drop, map, Bool, true, false, IsTrue, Option, None, Result, Ok, Err, refl, sym, ap, subst, ◌∙◌}
+use Rattle.std.proofs.Common.{◌≡◌, ◌≢◌, [], ◌∷◌, ◌++◌, List, ℕ, ◌+◌, ◌<◌, length, get_or, drop, map, Bool, true, false, IsTrue, Option, None, Result, Ok, Err, refl, sym, ap, subst, ◌∙◌, inl, inr}
+use Rattle.std.proofs.lemmas.Bool.{false≢true}
 use Rattle.std.proofs.lemmas.List.{at_drop_more, append_assoc, map-append}
 use Rattle.tup_stamp.specs.declared.Stamp.{Stamp}
 use Rattle.tup_proc.specs.declared.line.LogLine.{LogLine}
 use Rattle.tup_runner.specs.Next.{Asks}
 use Rattle.tup_runner.specs.Refusal.{Refusal}
+use Rattle.tup_runner.specs.Run.{RunsAs}
 use Rattle.tup_runner.specs.declared.fault.ViewFailed.{ViewFailed}
 use Rattle.tup_runner.specs.declared.fault.ViewFailed.TheVariants.{Denied as ViewDenied, Fault as ViewFault}
 use Rattle.tup_runner.specs.declared.fault.RunFailed.{RunFailed}
 use Rattle.tup_runner.specs.declared.fault.RunFailed.TheVariants.{Denied, View, Fault, Memory}
 use Rattle.tup_runner.specs.declared.step.Answer.{Answer}
+use Rattle.tup_runner.specs.declared.step.Ended.{Ended}
+use Rattle.tup_runner.specs.declared.step.Step.{Step}
 use Rattle.tup_proc_runner.specs.Asked.{Said, said_by, said_in, found, shown, AsSaid, Unlike, Unanswered, AsksAs}
+use Rattle.tup_proc_runner.specs.Told.{FollowsLog}
 
 -- what was asked so far, each answer as it is said, before what is left of the whole
 pub record SoFar (whole left : List Said) (came : Asks → Type 0) (refusal : Option Refusal) : Type 0 where
@@ -104,3 +109,15 @@ module _ {S : Type 0} (came : S → Asks → S → Type 0) (refusal : S → Opti
   refused_then View far more = unanswered_then ViewFault far more
   refused_then Fault far more = more
   refused_then Memory far more = more
+
+-- a run over a log is a run of a runner that doesn't tell its meaning
+pub runs_as : (does : Asks → Step) (lines : List LogLine) (came : Asks → Type 0) (refusal : Option Refusal) (result : Result Ended RunFailed)
+    → FollowsLog lines came refusal result → RunsAs false does came refusal result
+runs_as does lines came refusal (Ok ended) run = record { asks = run.0.asks; came_by = run.0.came_by; means = λ no. absurd (false≢true no); granted = run.0.granted }
+runs_as does lines came refusal (Err Denied) run = record { asks = run.asks; last = run.last; came_by = run.came_by; means = λ no. absurd (false≢true no); refused = run.refused }
+runs_as does lines came refusal (Err View) run = record { asks = run.asks; last = run.last; came_by = run.came_by; means = λ no. absurd (false≢true no); refused = run.refused }
+runs_as does lines came refusal (Err Fault) run = elim run [
+  | inl all ↦ record { asks = all.asks; came_by = all.came_by; means = λ no. absurd (false≢true no); granted = all.granted }
+  | inr some ↦ record { asks = some.asks ++ some.ask ∷ []; came_by = some.came_by; means = λ no. absurd (false≢true no); granted = some.granted }
+]
+runs_as does lines came refusal (Err Memory) run = run
