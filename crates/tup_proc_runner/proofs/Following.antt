@@ -14,6 +14,7 @@ use Rattle.tup_runner.specs.declared.fault.RunFailed.TheVariants.{Denied, View, 
 use Rattle.tup_runner.specs.declared.step.Answer.{Answer}
 use Rattle.tup_runner.specs.declared.step.Ended.{Ended}
 use Rattle.tup_runner.specs.declared.step.Step.{Step}
+use Rattle.tup_proc_runner.specs.declared.fault.ProcFault.{ProcFault}
 use Rattle.tup_proc_runner.specs.Asked.{Said, said_by, said_in, found, shown, AsSaid, Unlike, Unanswered, AsksAs}
 use Rattle.tup_proc_runner.specs.Told.{FollowsLog}
 
@@ -29,7 +30,7 @@ pub next_line : (lines : List LogLine) (at : ℕ) (line : LogLine) (whole : List
     → SoFar whole (said_in (drop at lines)) came refusal → SoFar whole (said_by line ++ said_in (drop (at + 1) lines)) came refusal
 next_line lines at line whole came refusal less here far =
     subst (λ (left : List Said). SoFar whole left came refusal)
-    (at_drop_more said_in lines at line less here ∙ ap (λ (l : LogLine). said_by l ++ said_in (drop (at + 1) lines)) (sym here)) far
+    (at_drop_more said_in lines at line less ∙ ap (λ (l : LogLine). said_by l ++ said_in (drop (at + 1) lines)) (sym here)) far
 
 -- what one text comes to
 pub answered : (said : List ℕ) (digest : Option Stamp) (answer : Answer) (same : Bool) (came : Asks → Type 0) (refusal : Option Refusal)
@@ -38,7 +39,7 @@ pub answered : (said : List ℕ) (digest : Option Stamp) (answer : Answer) (same
 answered said digest answer true came refusal is other came_by granted = record {
   asks = (said, answer) ∷ [];
   came_by = came_by;
-  each = ap (λ (d : Option Stamp). (said, d) ∷ []) (is tt);
+  each = ap (λ (d : Option Stamp). (said, d) ∷ []) (is refl);
   granted = granted;
 }
 answered said digest answer false came refusal is other came_by granted = record {
@@ -48,7 +49,7 @@ answered said digest answer false came refusal is other came_by granted = record
   rest = [];
   came_by = came_by;
   is = refl;
-  unlike = λ same. other same;
+  unlike = λ same. false≢true (other same);
   granted = granted;
 }
 
@@ -110,14 +111,25 @@ module _ {S : Type 0} (came : S → Asks → S → Type 0) (refusal : S → Opti
   refused_then Fault far more = more
   refused_then Memory far more = more
 
+  -- by what the ask of a line came to
+  pub fitting_then : (fits : Bool) → fits ≡ true → SoFar whole (some ++ left) (λ asks. came first asks next) (refusal next) → AsksAs some (λ asks. came next asks last) (refusal last) (Ok fits)
+      → SoFar whole left (λ asks. came first asks last) (refusal last)
+  fitting_then true is far more = as_said_then far more
+  fitting_then false is far more = absurd (false≢true is)
+
+  pub unfitting_then : (fits : Bool) → fits ≡ false → SoFar whole (some ++ left) (λ asks. came first asks next) (refusal next) → AsksAs some (λ asks. came next asks last) (refusal last) (Ok fits)
+      → AsksAs whole (λ asks. came first asks last) (refusal last) (Ok false)
+  unfitting_then true is far more = absurd (false≢true (sym is))
+  unfitting_then false is far more = unlike_then far more
+
 -- a run over a log is a run of a runner that doesn't tell its meaning
-pub runs_as : (does : Asks → Step) (lines : List LogLine) (came : Asks → Type 0) (refusal : Option Refusal) (result : Result Ended RunFailed)
-    → FollowsLog lines came refusal result → RunsAs false does came refusal result
-runs_as does lines came refusal (Ok ended) run = record { asks = run.0.asks; came_by = run.0.came_by; means = λ no. absurd (false≢true no); granted = run.0.granted }
-runs_as does lines came refusal (Err Denied) run = record { asks = run.asks; last = run.last; came_by = run.came_by; means = λ no. absurd (false≢true no); refused = run.refused }
-runs_as does lines came refusal (Err View) run = record { asks = run.asks; last = run.last; came_by = run.came_by; means = λ no. absurd (false≢true no); refused = run.refused }
-runs_as does lines came refusal (Err Fault) run = elim run [
+pub runs_as : (does : Asks → Step) (lines : List LogLine) (came : Asks → Type 0) (refusal : Option Refusal) (last : Option ProcFault) (result : Result Ended RunFailed)
+    → FollowsLog lines came refusal last result → RunsAs false does came refusal result
+runs_as does lines came refusal last (Ok ended) run = record { asks = run.0.asks; came_by = run.0.came_by; means = λ no. absurd (false≢true no); granted = run.0.granted }
+runs_as does lines came refusal last (Err Denied) run = record { asks = run.asks; last = run.last; came_by = run.came_by; means = λ no. absurd (false≢true no); refused = run.refused }
+runs_as does lines came refusal last (Err View) run = record { asks = run.asks; last = run.last; came_by = run.came_by; means = λ no. absurd (false≢true no); refused = run.refused }
+runs_as does lines came refusal last (Err Fault) run = elim run [
   | inl all ↦ record { asks = all.asks; came_by = all.came_by; means = λ no. absurd (false≢true no); granted = all.granted }
-  | inr some ↦ record { asks = some.asks ++ some.ask ∷ []; came_by = some.came_by; means = λ no. absurd (false≢true no); granted = some.granted }
+  | inr some ↦ record { asks = some.0.asks ++ some.0.ask ∷ []; came_by = some.0.came_by; means = λ no. absurd (false≢true no); granted = some.0.granted }
 ]
-runs_as does lines came refusal (Err Memory) run = run
+runs_as does lines came refusal last (Err Memory) run = run

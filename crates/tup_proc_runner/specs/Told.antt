@@ -1,5 +1,5 @@
 -- What a log tells of its program's end, and what a run over a log comes to.
-use Rattle.std.specs.Prelude.{◌≡◌, ◌⊎◌, ℕ, List, [], ◌∷◌, ◌++◌, map, fold, Option, None, Result, Ok, Err}
+use Rattle.std.specs.Prelude.{◌≡◌, ◌⊎◌, ℕ, List, [], ◌∷◌, ◌++◌, map, fold, Option, Some, None, Result, Ok, Err}
 use Rattle.tup_path.specs.Name.{Names}
 use Rattle.tup_path.specs.Show.{show}
 use Rattle.tup_proc.specs.declared.line.LogLine.{LogLine}
@@ -10,6 +10,8 @@ use Rattle.tup_runner.specs.declared.fault.ViewFailed.TheVariants.{Denied as Vie
 use Rattle.tup_runner.specs.declared.fault.RunFailed.{RunFailed}
 use Rattle.tup_runner.specs.declared.fault.RunFailed.TheVariants.{Denied, View, Fault, Memory}
 use Rattle.tup_runner.specs.declared.step.Ended.{Ended}
+use Rattle.tup_proc_runner.specs.declared.fault.ProcFault.{ProcFault}
+use Rattle.tup_proc_runner.specs.declared.fault.ProcFault.TheVariants.{BadLog}
 use Rattle.tup_proc_runner.specs.Asked.{said_in, AsSaid, Unlike, Unanswered}
 
 -- how a program ended: its status, and the texts that it wrote, in order
@@ -35,13 +37,13 @@ abbrev pub told_of : Ended → Told
 told_of ended = (ended.status, texts_of ended.writes)
 
 -- what a run over a log comes to: it ended as the log says, after just the asks that it says were answered so; or the view
--- gave no answer to one of them; or the log isn't good, as where an answer isn't as it says
-abbrev pub FollowsLog : List LogLine → (Asks → Type 0) → Option Refusal → Result Ended RunFailed → Type 0
-FollowsLog lines came refusal (Ok ended) = AsSaid (said_in lines) came refusal × (told_of ended ≡ told_in lines)
-FollowsLog lines came refusal (Err Denied) = Unanswered (said_in lines) came refusal ViewDenied
-FollowsLog lines came refusal (Err View) = Unanswered (said_in lines) came refusal ViewFault
-FollowsLog lines came refusal (Err Fault) = AsSaid (said_in lines) came refusal ⊎ Unlike (said_in lines) came refusal
-FollowsLog lines came refusal (Err Memory) = refusal ≡ None
+-- gave no answer to one of them; or an answer isn't as it says, and the log is bad; or what it wrote can't be read
+abbrev pub FollowsLog : List LogLine → (Asks → Type 0) → Option Refusal → Option ProcFault → Result Ended RunFailed → Type 0
+FollowsLog lines came refusal last (Ok ended) = AsSaid (said_in lines) came refusal × (told_of ended ≡ told_in lines)
+FollowsLog lines came refusal last (Err Denied) = Unanswered (said_in lines) came refusal ViewDenied
+FollowsLog lines came refusal last (Err View) = Unanswered (said_in lines) came refusal ViewFault
+FollowsLog lines came refusal last (Err Fault) = AsSaid (said_in lines) came refusal ⊎ (Unlike (said_in lines) came refusal × (last ≡ Some BadLog))
+FollowsLog lines came refusal last (Err Memory) = refusal ≡ None
 
 -- paths as the stage lists them: each as it is shown, with a line feed behind it
 abbrev pub list_of : List Names → List ℕ

@@ -1,5 +1,5 @@
 //! The asks of a log, put to the view.
-ghost use Rattle.std.specs.Prelude.{◌≡◌, ◌∷◌, [], None};
+ghost use Rattle.std.specs.Prelude.{◌≡◌, ◌↔◌, ◌∷◌, [], None, IsTrue};
 ghost use Rattle.tup_proc_runner.specs.Asked.{AsksAs, found as found_in, said_by, said_in};
 
 use std::alloc::Global;
@@ -55,7 +55,14 @@ fn answered<V: View>(
     ensures same { V.same view.old view.new }
 {
     let answer = view.ask(alloc, text)?;
-    Ok(found(&answer) == stamp)
+    Ok(fits(&answer, stamp))
+}
+
+/// Whether this was found.
+fn fits(answer: &Answer, stamp: Option<Stamp>) -> bool
+    ensures { IsTrue result ↔ (found_in answer.now ≡ stamp) }
+{
+    found(answer) == stamp
 }
 
 /// The stamp of what was found, if anything was.

@@ -1,8 +1,9 @@
 //! The runner that starts a program for each command.
-ghost use Rattle.std.specs.Prelude.{◌≡◌, ◌∷◌, [], None, Ok, IfOk, IfErr};
+ghost use Rattle.std.specs.Prelude.{◌≡◌, ◌∷◌, [], Some, None, Ok, Err, IfOk, IfErr};
 ghost use Rattle.std.specs.Process.{command_program, command_args};
 ghost use Rattle.tup_runner.specs.Run.{CountsFaults};
 ghost use Rattle.tup_proc.specs.Log.{IsLog};
+ghost use Rattle.tup_proc_runner.specs.declared.fault.ProcFault.{ProcFault as FaultValue};
 ghost use Rattle.tup_proc_runner.specs.Asked.{IsOwn};
 ghost use Rattle.tup_proc_runner.specs.Told.{FollowsLog};
 
@@ -97,7 +98,7 @@ impl<R: Files<File = File> + Processes + Clone + Drop> ProcRunner<R> {
         requires log { IsLog lines.now }
         requires granted { V.refusal view.old ≡ None }
         ensures log { FollowsLog lines.now
-            (λ asks. V.came view.old asks view.new) (V.refusal view.new) result }
+            (λ asks. V.came view.old asks view.new) (V.refusal view.new) self.new.last result }
         ensures cause { CountsFaults self.old.faults self.new.faults result }
         ensures same { V.same view.old view.new }
     {
@@ -113,6 +114,8 @@ impl<R: Files<File = File> + Processes + Clone + Drop> ProcRunner<R> {
         ensures cause { CountsFaults self.old.faults self.new.faults result }
         ensures own { IfErr result IsOwn }
         ensures value { IfOk result (λ value. answer ≡ Ok value) }
+        ensures named { (fault : FaultValue) → answer ≡ Err (Refused.Fault fault)
+            → self.new.last ≡ Some fault }
     {
         match answer {
             Ok(value) => Ok(value),

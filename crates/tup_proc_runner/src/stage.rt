@@ -1,7 +1,8 @@
 //! The folder in which a started program finds its own outputs and leaves what it wrote.
-ghost use Rattle.std.specs.Prelude.{◌≡◌, ◌++◌, ◌∷◌, [], IfOk, OnOk, string_bytes};
+ghost use Rattle.std.specs.Prelude.{◌≡◌, ◌++◌, ◌∷◌, [], IfOk, IfErr, OnOk, string_bytes};
 ghost use Rattle.tup_path.specs.Show.{show};
 ghost use Rattle.tup_proc.specs.Log.{IsLog};
+ghost use Rattle.tup_proc_runner.specs.Refused.{IsMemoryOr};
 ghost use Rattle.tup_proc_runner.specs.Told.{told_in, told_of, texts_of, with_line, list_of};
 
 use crate::fault::{ProcFault, Refused};
@@ -23,7 +24,9 @@ pub(crate) struct Stage<R: Files<File = File> + Clone + Drop> {
 
 impl<R: Files<File = File> + Clone + Drop> Stage<R> {
     /// Empties the stage, and writes the list of the rule's own outputs.
-    pub(crate) fn prepare(&self, alloc: Global, own: &[Path]) -> Result<(), Refused> {
+    pub(crate) fn prepare(&self, alloc: Global, own: &[Path]) -> Result<(), Refused>
+        ensures { IfErr result (IsMemoryOr ProcFault.NoStage) }
+    {
         self.empty(alloc)?;
         let place = self.place(alloc, "own")?;
         let list = listed(alloc, own)?;
@@ -31,7 +34,9 @@ impl<R: Files<File = File> + Clone + Drop> Stage<R> {
     }
 
     /// Makes the stage an empty folder.
-    fn empty(&self, alloc: Global) -> Result<(), Refused> {
+    fn empty(&self, alloc: Global) -> Result<(), Refused>
+        ensures { IfErr result (IsMemoryOr ProcFault.NoStage) }
+    {
         let runtime = (self.rt.clone()?, alloc);
         match fs::remove_dir_all(&runtime, self.folder.as_str()) {
             Ok(()) => {}
@@ -126,7 +131,9 @@ impl<R: Files<File = File> + Clone + Drop> Stage<R> {
     }
 
     /// An answer of the system about the stage.
-    fn at(&self, answer: io::Result<()>) -> Result<(), Refused> {
+    fn at(&self, answer: io::Result<()>) -> Result<(), Refused>
+        ensures { IfErr result (IsMemoryOr ProcFault.NoStage) }
+    {
         match answer {
             Ok(()) => Ok(()),
             Err(e) => Err(Refused::of(&e, ProcFault::NoStage)),
@@ -136,7 +143,8 @@ impl<R: Files<File = File> + Clone + Drop> Stage<R> {
 
 /// Paths as they are shown, a line for each.
 fn listed(alloc: Global, paths: &[Path]) -> Result<Vec<u8>, Refused>
-    ensures { IfOk result (λ list. list.items ≡ list_of paths.now) }
+    ensures list { IfOk result (λ list. list.items ≡ list_of paths.now) }
+    ensures memory { IfErr result (λ refused. refused ≡ Refused.Memory) }
 {
     let mut list = Vec::new(alloc);
     for path in paths {
@@ -147,7 +155,8 @@ fn listed(alloc: Global, paths: &[Path]) -> Result<Vec<u8>, Refused>
 
 /// Adds a path to those that are listed.
 fn list_path(alloc: Global, list: &mut Vec<u8>, path: &Path) -> Result<(), Refused>
-    ensures { OnOk result (list.new.items ≡ list.old.items ++ show path.now ++ 10 ∷ []) }
+    ensures list { OnOk result (list.new.items ≡ list.old.items ++ show path.now ++ 10 ∷ []) }
+    ensures memory { IfErr result (λ refused. refused ≡ Refused.Memory) }
 {
     let Ok(shown) = path.show(alloc) else {
         return Err(Refused::Memory);
