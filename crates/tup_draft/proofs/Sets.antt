@@ -1,5 +1,5 @@
 -- Sets of paths beside the lists that they are of.
-use Rattle.std.proofs.Common.{◌≡◌, Bool, true, false, ◌||◌, cond, List, [], ◌∷◌, ◌++◌, fold, refl, sym, ap, ◌∙◌}
+use Rattle.std.proofs.Common.{◌≡◌, Bool, true, false, ◌||◌, not, cond, List, [], ◌∷◌, ◌++◌, fold, refl, sym, ap, ◌∙◌}
 use Rattle.std.proofs.lemmas.List.Folds.{list_any-append}
 use Rattle.indexmap.specs.IndexSet.{insert_key}
 use Rattle.tup_path.specs.Name.{Names}
@@ -81,6 +81,15 @@ files_more keys inputs input has path = by (has_path inputs input.path) refl
     by true is = one_more keys input.path path ∙ sym (there keys input.path path (has input.path ∙ is)) ∙ has path
     by false new = one_more keys input.path path ∙ ap (λ b. same_path path input.path || b) (has path) ∙ sym (or_last (has_path inputs path) (same_path path input.path))
         ∙ sym (list_any-append (λ (i : Input). same_path path i.path) inputs (input ∷ []))
+
+turned_over : (b : Bool) (one other : List Input) → cond (not b) one other ≡ cond b other one
+turned_over true one other = refl
+turned_over false one other = refl
+
+-- an input that is added where a set hasn't its path
+pub new_input : (keys : List Names) (inputs : List Input) (input : Input) → HasFiles keys inputs → cond (not (among input.path keys)) (inputs ++ input ∷ []) inputs ≡ with_input inputs input
+new_input keys inputs input has =
+    ap (λ b. cond (not b) (inputs ++ input ∷ []) inputs) (has input.path) ∙ turned_over (has_path inputs input.path) (inputs ++ input ∷ []) inputs
 
 -- inputs one after another change the inputs alone
 pub ones_more : (found : Found) (inputs : List Input) → fold with_one found inputs ≡ record found { inputs = fold with_input found.inputs inputs }

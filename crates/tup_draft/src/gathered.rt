@@ -1,5 +1,5 @@
 //! What input words give, with a set of the files.
-ghost use Rattle.std.specs.Prelude.{◌≡◌, IfOk, fold};
+ghost use Rattle.std.specs.Prelude.{◌≡◌, ◌++◌, ◌∷◌, [], IfOk, OnOk, if◌then◌else◌, fold};
 ghost use Rattle.tup_draft.specs.Found as specs;
 
 use crate::found::{Found, Input, Inputs, add_groups};
@@ -63,9 +63,8 @@ impl Gathered {
         ensures { IfOk result (λ gathered. gathered ≡ specs.with_one self input) }
     {
         let Gathered { mut found, mut set } = self;
-        if set.insert(input.path.clone()?)? {
-            found.inputs.push(input)?;
-        }
+        let new = set.insert(input.path.clone()?)?;
+        add_new(&mut found.inputs, new, input)?;
         Ok(Gathered { found, set })
     }
 
@@ -84,4 +83,15 @@ impl Gathered {
     {
         self.found
     }
+}
+
+/// Adds an input at the end, if it is new.
+fn add_new(inputs: &mut Inputs, new: bool, input: Input) -> Result<(), AllocError>
+    ensures { OnOk result (inputs.new
+        ≡ (if new then inputs.old ++ input ∷ [] else inputs.old)) }
+{
+    if new {
+        inputs.push(input)?;
+    }
+    Ok(())
 }
