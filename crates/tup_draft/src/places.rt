@@ -43,9 +43,9 @@ impl Places {
     pub(crate) fn of(alloc: Global, paths: &Paths) -> Result<Places, AllocError>
         ensures { IfOk result (λ places. places ≡ paths.now) }
     {
+        let paths = paths.clone()?;
         let mut set = IndexSet::new(alloc);
         add_paths(&mut set, paths.as_slice())?;
-        let paths = paths.clone()?;
         Ok(Places { paths, set })
     }
 
