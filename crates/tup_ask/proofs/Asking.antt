@@ -36,12 +36,11 @@ says_more answers log asked told says is other found e =
     ]
 
 -- one who was asked a question more
-with_asked : Option (List Question) → Question → Option (List Question)
+abbrev with_asked : Option (List Question) → Question → Option (List Question)
 with_asked asked question = option_map (λ (questions : List Question). questions ++ question ∷ []) asked
 
 asked_more : (asked : Option (List Question)) (earlier : List Question) (log : Log) (question : Question) → AskedAre asked (earlier ++ questions_of log)
     → AskedAre (with_asked asked question) (earlier ++ (questions_of log ++ question ∷ []))
-unfolding with_asked
 asked_more None earlier log question was = tt
 asked_more (Some asked) earlier log question was = ap (λ (questions : List Question). questions ++ question ∷ []) was ∙ append_assoc earlier (questions_of log) (question ∷ [])
 
