@@ -1,5 +1,5 @@
 -- The asks of one line behind those of the lines before it.
-use Rattle.std.proofs.Common.{◌≡◌, ◌≢◌, [], ◌∷◌, ◌++◌, List, ℕ, ◌+◌, ◌<◌, length, get_or, drop, map, Bool, true, false, IsTrue, Option, None, Result, Ok, Err, refl, sym, ap, subst, ◌∙◌, inl, inr}
+use Rattle.std.proofs.Common.{◌≡◌, [], ◌∷◌, ◌++◌, List, ℕ, ◌+◌, ◌<◌, length, get_or, drop, map, Bool, true, false, IsTrue, Option, None, Result, Ok, Err, refl, sym, ap, subst, ◌∙◌, inl, inr}
 use Rattle.std.proofs.lemmas.Bool.{false≢true}
 use Rattle.std.proofs.lemmas.List.{at_drop_more, append_assoc, map-append}
 use Rattle.tup_stamp.specs.declared.Stamp.{Stamp}

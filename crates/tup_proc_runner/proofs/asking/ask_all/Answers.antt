@@ -1,4 +1,4 @@
-use Rattle.std.proofs.Common.{◌+◌, drop, Ok, Err}
+use Rattle.std.proofs.Common.{◌+◌, drop}
 use Rattle.std.proofs.lemmas.Result.{err_from_is_err_and}
 use Rattle.tup_runner.specs.Next.{Asks}
 use Rattle.tup_proc_runner.specs.Asked.{said_by, said_in}
