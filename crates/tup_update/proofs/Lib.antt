@@ -13,3 +13,4 @@ pub mod Known
 pub mod Ending
 pub mod Keeping
 pub mod Comparing
+pub mod Declared
