@@ -109,9 +109,9 @@ module _ (rules : List Rule) where
       made_before bad path made =
           let maker = good_maker more path made in
           let other : maker.at ≡ at → ⊥ = λ same.
-              let good : slice_get more maker.at ≡ Some (Some Good) = good_is more maker.at maker.good in
-              let is : came ≡ Good = same_Some came Good (same_Some _ _ (sym given_here ∙ ap (slice_get more) (sym same) ∙ good)) in
-              false≢true (sym bad ∙ ap (λ (v : Verdict). is_good (Some v)) is) in
+          let good : slice_get more maker.at ≡ Some (Some Good) = good_is more maker.at maker.good in
+          let is : came ≡ Good = same_Some came Good (same_Some _ _ (sym given_here ∙ ap (slice_get more) (sym same) ∙ good)) in
+          false≢true (sym bad ∙ ap (λ (v : Verdict). is_good (Some v)) is) in
           record { at = maker.at; makes = maker.makes; good = was_good verdicts at came maker.at other maker.good }
 
       -- where a Good rule's files were put, the rest is the same
