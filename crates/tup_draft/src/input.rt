@@ -9,6 +9,7 @@ ghost use Rattle.tup_ask.specs.declared.fault.ReadEnd.TheVariants.{Memory};
 use crate::flagged::{bare_parts, flagged_text};
 use crate::folder::{bin_name, group_in, is_group, led, led_to_folder};
 use crate::found::{Found, Input, Inputs};
+use crate::gathered::Gathered;
 use crate::glob_word::{globbed, is_glob};
 use crate::made::Made;
 use crate::state::State;
@@ -33,12 +34,12 @@ pub(crate) fn from_words<E: Env>(
         (specs.from_words at.now state.now nothing_found words.now)
         (asker (E.answers env.new) (E.stopped env.new) log.new) result }
 {
-    let mut found = Found::new(alloc);
+    let mut found = Gathered::new(alloc);
     for word in words {
         let next = from_word(alloc, env, log, at, state, word)?;
         found = found.with(next)?;
     }
-    Ok(found)
+    Ok(found.into_found())
 }
 
 /// What an input word gives.
