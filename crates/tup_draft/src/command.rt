@@ -32,9 +32,9 @@ pub(crate) fn with_jobs<E: Env>(
     jobs: &[Job],
 ) -> Result<State, ReadEnd>
     requires { is_some (E.stopped env.old) ≡ false }
-    ensures { Went E.tells (asker (E.answers env.old) (E.stopped env.old) log.old)
+    ensures { Went E.tells (asker (E.answers env.old) (E.stopped env.old) (E.asked env.old) log.old)
         (specs.with_jobs at.now words.now sources.now state jobs.now)
-        (asker (E.answers env.new) (E.stopped env.new) log.new) result }
+        (asker (E.answers env.new) (E.stopped env.new) (E.asked env.new) log.new) result }
 {
     let mut reached = state;
     for job in jobs {
@@ -55,9 +55,9 @@ fn with_job<E: Env>(
     job: &Job,
 ) -> Result<State, ReadEnd>
     requires { is_some (E.stopped env.old) ≡ false }
-    ensures { Went E.tells (asker (E.answers env.old) (E.stopped env.old) log.old)
+    ensures { Went E.tells (asker (E.answers env.old) (E.stopped env.old) (E.asked env.old) log.old)
         (specs.with_job at.now words.now sources.now state job.now)
-        (asker (E.answers env.new) (E.stopped env.new) log.new) result }
+        (asker (E.answers env.new) (E.stopped env.new) (E.asked env.new) log.new) result }
 {
     let draft = drafted(alloc, env, log, at, words, sources, &state.drafts, job)?;
     Ok(with_draft(state, &words.bin, draft)?)
@@ -75,9 +75,9 @@ fn drafted<E: Env>(
     job: &Job,
 ) -> Result<Draft, ReadEnd>
     requires { is_some (E.stopped env.old) ≡ false }
-    ensures { Went E.tells (asker (E.answers env.old) (E.stopped env.old) log.old)
+    ensures { Went E.tells (asker (E.answers env.old) (E.stopped env.old) (E.asked env.old) log.old)
         (specs.drafted at.now words.now sources.now drafts.now job.now)
-        (asker (E.answers env.new) (E.stopped env.new) log.new) result }
+        (asker (E.answers env.new) (E.stopped env.new) (E.asked env.new) log.new) result }
 {
     let parts = flag_parts(alloc, at, words.foreach, sources, job)?;
     with_outputs(alloc, env, log, at, words, &sources.gives, drafts, parts)
@@ -95,9 +95,9 @@ fn with_outputs<E: Env>(
     parts: FlagParts,
 ) -> Result<Draft, ReadEnd>
     requires { is_some (E.stopped env.old) ≡ false }
-    ensures { Went E.tells (asker (E.answers env.old) (E.stopped env.old) log.old)
+    ensures { Went E.tells (asker (E.answers env.old) (E.stopped env.old) (E.asked env.old) log.old)
         (specs.with_outputs at.now words.now group.now drafts.now parts)
-        (asker (E.answers env.new) (E.stopped env.new) log.new) result }
+        (asker (E.answers env.new) (E.stopped env.new) (E.asked env.new) log.new) result }
 {
     let none = Places::new(alloc);
     let named = words.outputs.as_slice();
@@ -118,9 +118,9 @@ fn with_extra<E: Env>(
     parts: FlagParts,
 ) -> Result<Draft, ReadEnd>
     requires { is_some (E.stopped env.old) ≡ false }
-    ensures { Went E.tells (asker (E.answers env.old) (E.stopped env.old) log.old)
+    ensures { Went E.tells (asker (E.answers env.old) (E.stopped env.old) (E.asked env.old) log.old)
         (specs.with_extra at.now words.now group.now drafts.now parts)
-        (asker (E.answers env.new) (E.stopped env.new) log.new) result }
+        (asker (E.answers env.new) (E.stopped env.new) (E.asked env.new) log.new) result }
 {
     let plain = Places::of(alloc, &parts.outputs)?;
     let named = words.extra.as_slice();

@@ -30,9 +30,9 @@ pub(crate) fn from_words<E: Env>(
     words: &[Text],
 ) -> Result<Found, ReadEnd>
     requires { is_some (E.stopped env.old) ≡ false }
-    ensures { Went E.tells (asker (E.answers env.old) (E.stopped env.old) log.old)
+    ensures { Went E.tells (asker (E.answers env.old) (E.stopped env.old) (E.asked env.old) log.old)
         (specs.from_words at.now state.now nothing_found words.now)
-        (asker (E.answers env.new) (E.stopped env.new) log.new) result }
+        (asker (E.answers env.new) (E.stopped env.new) (E.asked env.new) log.new) result }
 {
     let mut found = Gathered::new(alloc);
     for word in words {
@@ -52,9 +52,9 @@ fn from_word<E: Env>(
     word: &Text,
 ) -> Result<Found, ReadEnd>
     requires { is_some (E.stopped env.old) ≡ false }
-    ensures { Went E.tells (asker (E.answers env.old) (E.stopped env.old) log.old)
+    ensures { Went E.tells (asker (E.answers env.old) (E.stopped env.old) (E.asked env.old) log.old)
         (specs.from_word at.now state.now word.now)
-        (asker (E.answers env.new) (E.stopped env.new) log.new) result }
+        (asker (E.answers env.new) (E.stopped env.new) (E.asked env.new) log.new) result }
 {
     match bin_name(word.as_str()) {
         Some(name) => from_bin(alloc, at, &state.bins, name),
@@ -72,9 +72,9 @@ fn from_other<E: Env>(
     word: &Text,
 ) -> Result<Found, ReadEnd>
     requires { is_some (E.stopped env.old) ≡ false }
-    ensures { Went E.tells (asker (E.answers env.old) (E.stopped env.old) log.old)
+    ensures { Went E.tells (asker (E.answers env.old) (E.stopped env.old) (E.asked env.old) log.old)
         (specs.from_other at.now drafts.now word.now)
-        (asker (E.answers env.new) (E.stopped env.new) log.new) result }
+        (asker (E.answers env.new) (E.stopped env.new) (E.asked env.new) log.new) result }
 {
     if is_group(word.as_str()) {
         return from_group(alloc, at, word.as_str());
@@ -137,9 +137,9 @@ fn from_files<E: Env>(
     word: &Text,
 ) -> Result<Found, ReadEnd>
     requires { is_some (E.stopped env.old) ≡ false }
-    ensures { Went E.tells (asker (E.answers env.old) (E.stopped env.old) log.old)
+    ensures { Went E.tells (asker (E.answers env.old) (E.stopped env.old) (E.asked env.old) log.old)
         (specs.from_files at.now drafts.now word.now)
-        (asker (E.answers env.new) (E.stopped env.new) log.new) result }
+        (asker (E.answers env.new) (E.stopped env.new) (E.asked env.new) log.new) result }
 {
     let text = bare_text(alloc, at, word)?;
     from_text(alloc, env, log, at, drafts, &text)
@@ -163,9 +163,9 @@ fn from_text<E: Env>(
     text: &Text,
 ) -> Result<Found, ReadEnd>
     requires { is_some (E.stopped env.old) ≡ false }
-    ensures { Went E.tells (asker (E.answers env.old) (E.stopped env.old) log.old)
+    ensures { Went E.tells (asker (E.answers env.old) (E.stopped env.old) (E.asked env.old) log.old)
         (specs.from_text at.now drafts.now text.now)
-        (asker (E.answers env.new) (E.stopped env.new) log.new) result }
+        (asker (E.answers env.new) (E.stopped env.new) (E.asked env.new) log.new) result }
 {
     if is_glob(text.as_str()) {
         globbed(alloc, env, log, at, drafts, text)
@@ -184,9 +184,9 @@ fn literal<E: Env>(
     word: &Text,
 ) -> Result<Found, ReadEnd>
     requires { is_some (E.stopped env.old) ≡ false }
-    ensures { Went E.tells (asker (E.answers env.old) (E.stopped env.old) log.old)
+    ensures { Went E.tells (asker (E.answers env.old) (E.stopped env.old) (E.asked env.old) log.old)
         (specs.literal at.now drafts.now word.now)
-        (asker (E.answers env.new) (E.stopped env.new) log.new) result }
+        (asker (E.answers env.new) (E.stopped env.new) (E.asked env.new) log.new) result }
 {
     let path = led(alloc, at, ParseKind::MissingInput, at.dir(), word)?;
     let kind = kind_at(alloc, env, log, &path)?;

@@ -28,9 +28,9 @@ pub(crate) fn from_outputs<E: Env>(
     words: &[Text],
 ) -> Result<Places, ReadEnd>
     requires { is_some (E.stopped env.old) ≡ false }
-    ensures { Went E.tells (asker (E.answers env.old) (E.stopped env.old) log.old)
+    ensures { Went E.tells (asker (E.answers env.old) (E.stopped env.old) (E.asked env.old) log.old)
         (specs.from_outputs at.now parts.now drafts.now before words.now)
-        (asker (E.answers env.new) (E.stopped env.new) log.new) result }
+        (asker (E.answers env.new) (E.stopped env.new) (E.asked env.new) log.new) result }
 {
     let mut outputs = before;
     for word in words {
@@ -52,9 +52,9 @@ fn from_output<E: Env>(
     word: &Text,
 ) -> Result<Path, ReadEnd>
     requires { is_some (E.stopped env.old) ≡ false }
-    ensures { Went E.tells (asker (E.answers env.old) (E.stopped env.old) log.old)
+    ensures { Went E.tells (asker (E.answers env.old) (E.stopped env.old) (E.asked env.old) log.old)
         (specs.from_output at.now parts.now drafts.now outputs.now word.now)
-        (asker (E.answers env.new) (E.stopped env.new) log.new) result }
+        (asker (E.answers env.new) (E.stopped env.new) (E.asked env.new) log.new) result }
 {
     let text = flagged_text(alloc, at, parts, word)?;
     let path = led(alloc, at, ParseKind::ForeignOutput, at.dir(), &text)?;
@@ -72,9 +72,9 @@ fn known_output<E: Env>(
     path: Path,
 ) -> Result<Path, ReadEnd>
     requires { is_some (E.stopped env.old) ≡ false }
-    ensures { Went E.tells (asker (E.answers env.old) (E.stopped env.old) log.old)
+    ensures { Went E.tells (asker (E.answers env.old) (E.stopped env.old) (E.asked env.old) log.old)
         (specs.known_output at.now drafts.now outputs.now path)
-        (asker (E.answers env.new) (E.stopped env.new) log.new) result }
+        (asker (E.answers env.new) (E.stopped env.new) (E.asked env.new) log.new) result }
 {
     if !may_make(at.dir(), &path) {
         return Err(at.refuse(ParseKind::ForeignOutput));
