@@ -15,3 +15,4 @@ pub mod Behind
 pub mod Ending
 pub mod Keeping
 pub mod Comparing
+pub mod Declared
