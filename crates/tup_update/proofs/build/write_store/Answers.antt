@@ -5,9 +5,9 @@ pub returns-clause-durable : goal.returns-clause-durable
 returns-clause-durable g c = λ tells files.
     let site_laws = g.met.S.Site g.world.𝓛 g.world.𝓜 g.world.𝓡 ((λ s x. x), (λ x. x), (λ x. x), λ x. x) in
     let old = c.args.site.now in
-    let written = c.db_write.new.site in
-    let cut = c.db_cut.new.site in
-    let synced = c.db_sync.new.site in
+    let written = c.db_write.new.self in
+    let cut = c.db_cut.new.self in
+    let synced = c.db_sync.new.self in
     let world = g.S.Site.world in
     let behind_write = pins_on g.S.Site.moment g.S.Site.left_since old written (world old) (world written) _ (λ t u w le left. site_laws.earlier written t u w tells le left) (λ v w step. step.tree) (c.db_write.ensures.crash tells) (c.db_write.ensures.tree tells) files in
     let behind_cut = pins_on g.S.Site.moment g.S.Site.left_since written cut (world written) (world cut) _ (λ t u w le left. site_laws.earlier cut t u w tells le left) (λ v w step. step.tree) (c.db_cut.ensures.crash tells) (c.db_cut.ensures.tree tells) behind_write in
