@@ -13,4 +13,3 @@ pub mod Known
 pub mod Ending
 pub mod Keeping
 pub mod Comparing
-pub mod Declared
