@@ -15,4 +15,3 @@ pub mod Behind
 pub mod Ending
 pub mod Keeping
 pub mod Comparing
-pub mod Declared

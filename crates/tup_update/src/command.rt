@@ -10,7 +10,7 @@ ghost use Rattle.tup_update.specs.Ran.{RunsOne, CountsRuns};
 ghost use Rattle.tup_update.specs.Seeing.{ComesTo, IsDeclared};
 ghost use Rattle.tup_update.specs.declared.stop.Halt.TheVariants.{Outside};
 
-use crate::project::add_paths;
+use crate::project::{add_paths, path_set};
 use crate::stop::Halt;
 use crate::view::{Refused, Sight, SiteView};
 use std::alloc::{AllocError, Global};
@@ -70,8 +70,7 @@ pub(crate) fn run<S: Site, R: Runner>(
 fn declared(alloc: Global, rule: &Rule) -> Result<BTreeSet<Path>, AllocError>
     ensures { IfOk result (IsDeclared rule.now) }
 {
-    let mut set = BTreeSet::new(alloc);
-    add_paths(&mut set, rule.inputs.as_slice())?;
+    let mut set = path_set(alloc, rule.inputs.as_slice())?;
     add_paths(&mut set, rule.order.as_slice())?;
     Ok(set)
 }
