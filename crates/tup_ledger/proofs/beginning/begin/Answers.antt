@@ -1,7 +1,6 @@
-use Rattle.std.proofs.Common.{rules, ◌≡◌, ◌≢◌, IsTrue, Result, Ok, Err, sym, subst}
+use Rattle.std.proofs.Common.{rules, ◌≢◌, IsTrue, Result, Ok, Err, sym, subst}
 use Rattle.std.specs.Result.{IfOk}
 use Rattle.tup_site.specs.Crash.{GoesOn}
-use Rattle.tup_site.specs.World.{World}
 use Rattle.tup_table.specs.Table.{entries_in}
 use Rattle.tup_graph.specs.Opening.{IsGraphOf}
 use Rattle.tup_graph.specs.declared.fault.GraphFault.{GraphFault}
