@@ -197,7 +197,7 @@ returns-in-Some-clause-settled g c = λ tells. c.stop_at.ensures.settled tells
 
 pub returns-in-Some-clause-ran : goal.returns-in-Some-clause-ran
 returns-in-Some-clause-ran g c = λ tells.
-    ran_all_of c.run.new.ran _ _ _
+    ran_all_of c.run.new.ran _ _ (Some c.stop_at.result)
     (subst (RunsThese c.run.new.ran (g.R.Runner.ran c.args.runner.now) (g.R.Runner.ran c.run.new.runner)) (ap (λ r. stopped_by r) c.in_ok-bad.was) (c.run.ensures.ran tells))
 
 pub returns-in-Some-clause-counted : goal.returns-in-Some-clause-counted
