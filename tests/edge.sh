@@ -6,6 +6,7 @@
 # 1 where something else came. It is no part of the gate.
 set -u
 tup=$(realpath "$1")
+tests=$(realpath "$(dirname "$0")")
 if ! strace -o /dev/null true 2> /dev/null; then
     echo "passed over: there is no strace, or it may not trace"
     exit 0
@@ -135,6 +136,52 @@ listings=$(strace -e trace=getdents64 "$tup" 2>&1 > /dev/null | grep -c '^getden
 strace -o /dev/null -e trace=getdents64 -e inject=getdents64:retval=0:when=$((listings - 3)) "$tup" > "$work/told" 2> "$work/said"
 same "a file below a folder of another spelling" "$?: $(cat "$work/said")" '7: tup: ./sub/b: a file of another spelling stands here'
 same "it stays" "$(cat sub/b)" ho
+
+# The same over a library that lets the calls ignore case, for the program and for its site alone.
+if cc -O1 -shared -fPIC -o "$work/ignores-case.so" "$tests/ignores-case.c" 2> /dev/null; then
+    ignoring() { LD_PRELOAD=$work/ignores-case.so "$@"; }
+    project "$copy"
+    same "its own spelling" "$(ignoring "$tup" | tail -1) $(ignoring "$tup" | tail -1)" 'done: 1 read, 1 run, 0 removed done: 1 read, 1 run, 0 removed'
+    mv b x && mv x B && echo mine > B
+    same "an output that was renamed by case" "$(ignoring "$tup" 2>&1 | tail -1): $(cat B)" 'tup: ./b: a file of another spelling stands here: mine'
+    : > Tupfile
+    same "its rule is gone" "$(ignoring "$tup" 2>&1 | tail -1): $(cat B)" 'done: 1 read, 0 run, 0 removed: mine'
+    rows=$(realpath -m "$(dirname "$tup")/../../tup_outside_rows/out/tup_outside_rows")
+    if [ -x "$rows" ]; then
+        project && : > memory.rows
+        sed 's/^ *//' > fs.rows << 'END'
+            # a folder above a file was renamed by case: what is in it is another's now
+            begin folder = ok
+            put Sub/x one = ok
+            settle = ok
+            shell "mv Sub y && mv y sub" = ok
+            again = ok
+            remove Sub/x = fault
+            said = "folder/Sub/x: a file of another spelling stands here"
+            put Sub/x other = fault
+            file sub/x = one
+            put sub/x other = ok
+            file sub/x = other
+            remove sub/x = ok
+            stands sub/x = no
+            # before there is a folder of the program
+            begin first = ok
+            write b mine = ok
+            remove B = fault
+            file b = mine
+            put B x = fault
+            file b = mine
+            remove b = ok
+            put B x = ok
+            list = B
+END
+        same "the rows of the site" "$(ignoring "$rows" | head -1)" 'fs.rows: 22 rows, 0 differ'
+    else
+        echo "passed over: rows of the site, as tup_outside_rows isn't built in the folder beside"
+    fi
+else
+    echo "passed over: a library that ignores case, as there is no compiler for C"
+fi
 
 # A second update looks at nothing: somebody holds the lock of the folder.
 project "$copy"

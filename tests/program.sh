@@ -72,28 +72,60 @@ gone "nothing was done" b
 same "help" "$("$tup" --help > /dev/null; echo $?)" 0
 same "version" "$("$tup" --version > /dev/null; echo $?)" 0
 
-parse() {
-    project "$2"
-    row "$1" 5 "fault: Tupfile:1: $1, read for .;" upd
-    file "$1, the source" a hi
+# Each kind of fault that a folder can have, in a later line: the line, the kind, the lines of the Tupfile.
+at() {
+    line=$1 kind=$2
+    shift 2
+    project "$@"
+    row "$kind" 5 "fault: Tupfile:$line: $kind, read for .;" upd
+    file "$kind, the source" a hi
+    gone "$kind, nothing was made" b
 }
-parse 'output is a source file' ': a |> cp a a |> a'
-parse 'unknown line' 'b: a'
-parse 'a rule has two arrows' ': a > b'
-parse 'bad name' 'CONFIG_X = 1'
-parse 'unclosed bracket' 'X = $(A'
-parse 'if without endif' 'ifdef A'
-parse 'no such macro' ': a |> !cc |> b'
-parse 'include file missing' 'include none'
-parse 'nested too deep' 'include Tupfile'
-parse 'error: not here' 'error not here'
-parse 'missing input' ': c |> cp c b |> b'
-project "$copy" ': a |> cat a > b |> b'
-row "an output twice" 5 'fault: Tupfile:2: output named twice, read for .;' upd
+at 2 'not UTF-8' '# x' "$(printf '# \377')"
+at 3 'line too long' '' '' "X = $(printf '%65532s' '' | tr ' ' x)"
+at 2 'unknown line' '# x' 'b: a'
+at 2 'a rule has two arrows' "$copy" ': a |> cp a c'
+at 3 'bad word' "$copy" '# x' ': {a |> cp a c |> c'
+at 2 'bad caret part' "$copy" ': a |> ^x^ cp a c |> c'
+at 4 'unclosed bracket' 'X = 1' '# a line in two \' "$copy" ': $(X |> cp a c |> c'
+at 2 'bad name' 'X = 1' 'X Y = 1'
+at 4 'else without if' 'ifdef A' 'else' 'endif' 'else'
+at 3 'endif without if' 'ifdef A' 'endif' 'endif'
+at 2 'if without endif' '# x' 'ifdef A' "$copy"
+at 2 'open bracket in glob' "$copy" ': x[a-c |> cp %f c |> c'
+at 2 'unknown percent flag' "$copy" ': a |> cp %f %q |> c'
+at 2 'percent flag not allowed here' "$copy" ': a |> cp %f c |> %o'
+at 3 'no such macro' '!cp = |> cp %f %o |> %f.o' ': a |> !cp |>' ': a |> !cc |> c'
+at 2 'no such bin' ': a |> cp a b |> b {x}' ': {y} |> cp %f c |> c'
+at 2 'macro defined twice' '!cp = |> cp %f %o |> %f.o' '!cp = |> cp %f %o |> c'
+at 2 'missing input' "$copy" ': c |> cp c d |> d'
+at 2 'output named twice' "$copy" ': a |> cat a > b |> b'
+at 2 'output is a source file' "$copy" ': b |> cp b a |> a'
+at 2 'output stands elsewhere' "$copy" ': a |> cp a ../c |> ../c'
+at 2 'command given twice' "$copy" ': a |> cp a b |> c'
+at 5 'error: not fast' 'MODE = fast' 'ifeq ($(MODE),slow)' "$copy" else 'error not $(MODE)' endif
+at 2 'include file missing' "$copy" 'include none'
+at 2 'nested too deep' '# x' 'include Tupfile'
+project "$copy" ': a |> cp a d |> d'
+mkdir d && echo mine > d/mine
+row "output is a directory" 5 'fault: Tupfile:2: output is a directory, read for .;' upd
+file "what it holds" d/mine mine
 project "$copy"
-mkdir b && echo mine > b/mine
-row "a folder at the output" 5 'fault: Tupfile:1: output is a directory, read for .;' upd
-file "what it holds" b/mine mine
+printf 'CONFIG_X=1\nX=1\n' > tup.config
+row "bad config line" 5 'fault: tup.config:2: bad config line, read for .;' upd
+
+# One Tupfile with variables, a condition, a macro with a caret and an order-only input, `foreach`, globs over what is made, a bin.
+project 'ifndef MODE' 'error no mode' endif 'NAMES = one.txt' 'NAMES += two.txt' '!part = | head |> ^ PART %b^ cat head %f > %o |> %B.part' \
+    ': |> echo @(MODE) > %o |> head' ': foreach $(NAMES) |> !part |> {parts}' ': foreach *.part |> cp %f %o |> %g.copy' \
+    ': {parts} *.copy |> cat %f > %o |> app'
+echo 1 > one.txt
+echo 2 > two.txt
+row "a Tupfile with its setting unset" 5 'fault: Tupfile:2: error: no mode, read for .;' upd
+echo CONFIG_MODE=fast > tup.config
+row "a Tupfile with each form" 0 'read .;run .: echo fast > head;run .: PART one.txt;run .: PART two.txt;run .: cp one.part one.copy;run .: cp two.part two.copy;run .: cat one.part two.part one.copy two.copy > app;done: 1 read, 6 run, 0 removed;' upd
+file "what its last rule makes" app "$(printf 'fast\n1\nfast\n2\nfast\n1\nfast\n2')"
+row "it is a clean build" 0 'same;' verify
+
 project "$copy"
 mkdir sub && echo "$copy" > sub/Tupfile
 row "a Tupfile below, its source missing" 5 'fault: sub/Tupfile:1: missing input, read for sub;' upd

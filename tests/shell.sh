@@ -75,6 +75,27 @@ project
 : > "$stage/own"
 "$sh" "$root" src "$stage" true > "$work/said" 2>&1 || { cat "$work/said"; exit 1; }
 
+# lacking TEXT LINE COMMAND ..: where something is missing this command ends with 1, leaves no log, and says so in this line.
+lacking() {
+    text=$1
+    line=$2
+    all=$((all + 1))
+    project
+    : > "$stage/own"
+    shift 2
+    "$@" "$sh" "$root" src "$stage" true > "$work/said" 2>&1
+    status=$?
+    [ $status = 1 ] || wrong "exit number $status"
+    [ -e "$stage/log" ] && wrong "there is a log"
+    told "$line"
+}
+# -- what is missing is named: a program, and namespaces of the user's own
+mkdir "$work/few" && ln -s "$(command -v sh)" "$work/few/sh"
+lacking 'without strace' "strace isn't there: install the package strace" env PATH="$work/few"
+if unshare -U --map-user=1000 --map-group=1000 --keep-caps true 2> /dev/null; then
+    lacking 'without namespaces' 'no namespace could be made: allow user namespaces' \
+        unshare -U --map-user=1000 --map-group=1000 --keep-caps sh -c 'echo 0 > /proc/sys/user/max_user_namespaces; exec "$@"' sh
+fi
 # -- reading: files, nothing, folders; through links, which are no files
 try '' 'cat a b nope; [ -e sub/s ]' 'R a,R b,A nope,R sub/s,E 0'
 try '' 'cat ln dl/s a/x; [ -d sub ]; [ -d nodir ]' 'A ln,R a,A dl,R sub/s,A a/x,A nodir,E 1'

@@ -1,5 +1,5 @@
 -- What new readings and new rules do to the graph (own): a rule that is the same keeps its record and its flag, and what
--- read an output of a new rule is flagged.
+-- read an output of a new rule is flagged, with all that recorded reads lead to from there.
 use Rattle.std.specs.Prelude.{◌≡◌, ◌<◌, ◌⊎◌, ◌↔◌, ℕ, true, false, List, Option, None, Some, slice_get, count_by, take, unwrap_or, option_map}
 use Rattle.std.specs.FinMap as finite
 use Rattle.tup_path.specs.Name.{Names}
@@ -40,12 +40,14 @@ owned_now rules path before = elim (maker path rules) [
   | None ↦ option_map (λ (owned : Owned). record { maker = None; state = owned.state }) before
 ]
 
--- a rule to begin with: it is new, or was flagged, or its record asks an output of a new rule
-abbrev pub IsSwapRoot : GraphState → GraphState → ℕ → Type 0
-IsSwapRoot old new number =
-    (rule : Rule) × IsRuleAt new number rule
-    × (IsNew old rule ⊎ ((before : ℕ) × WasAt old rule before × (is_flagged old before ≡ true))
-    ⊎ ((other : ℕ) × (maker : Rule) × IsRuleAt new other maker × IsNew old maker × HasReadOf new number maker))
+-- a rule that is to be run whatever was read: it is new, or it was flagged
+abbrev pub IsFlaggedYet : GraphState → GraphState → ℕ → Type 0
+IsFlaggedYet old new number =
+    (rule : Rule) × IsRuleAt new number rule × (IsNew old rule ⊎ ((before : ℕ) × WasAt old rule before × (is_flagged old before ≡ true)))
+
+-- the record of a rule asks an output of a new rule
+abbrev pub ReadsNew : GraphState → GraphState → ℕ → Type 0
+ReadsNew old new number = (other : ℕ) × (maker : Rule) × IsRuleAt new other maker × IsNew old maker × HasReadOf new number maker
 
 -- the graph after a swap
 pub record IsSwapped (old : GraphState) (fresh : List (Names × Reading)) (gone : List Names) (rules : List Rule) (new : GraphState) : Type 0 where
@@ -58,4 +60,4 @@ pub record IsSwapped (old : GraphState) (fresh : List (Names × Reading)) (gone 
   pub no_others : (number : ℕ) → slice_get rules number ≡ None → finite.get new.runs number ≡ None
   pub owned : (path : Names) → finite.get new.owned path ≡ owned_now rules path (finite.get old.owned path)
   pub created : new.created ≡ finite.empty
-  pub flags : (number : ℕ) → (is_flagged new number ≡ true) ↔ IsAbove new (IsSwapRoot old new) number
+  pub flags : (number : ℕ) → (is_flagged new number ≡ true) ↔ (IsFlaggedYet old new number ⊎ IsAbove new (ReadsNew old new) number)

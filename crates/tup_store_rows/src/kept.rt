@@ -1,6 +1,9 @@
 //! The calls of `kept.rows`: transactions over a site in memory.
-ghost use Rattle.std.specs.Prelude.{◌≡◌, ◌↔◌, true, All, IsTrue};
+ghost use Rattle.std.specs.Prelude.{◌≡◌, ◌↔◌, true, None, All, IsTrue};
+ghost use Rattle.std.specs.FinMap as finite;
 ghost use Rattle.tup_graph.specs.Graph.{is_rule as is_rule_of};
+ghost use Rattle.tup_ledger.specs.Sources.{HaveNoFiles};
+ghost use Rattle.tup_site.specs.Memory.{tree_in};
 
 use crate::graph::store;
 use crate::say::Say;
@@ -10,7 +13,9 @@ use crate::transaction::{number, numbers, paths, run};
 use std::alloc::Global;
 use tup_graph::GraphFault;
 use tup_kept::Graph;
+use tup_ledger::{give_up, own};
 use tup_note::note_scan;
+use tup_path::Path;
 use tup_rows::{Answers, RowFault, Words};
 use tup_site::{MemSite, Site};
 
@@ -126,6 +131,8 @@ fn made(alloc: Global, call: &str, said: &Words, site: &mut MemSite) -> Made {
         "forget" => forget(alloc, said, site),
         "flag" => flag(alloc, said, site),
         "scan" => scan(alloc, said, site),
+        "own" => own_paths(alloc, said, site),
+        "give_up" => give_up_paths(alloc, said, site),
         _ => nothing(alloc, said, site),
     }
 }
@@ -186,6 +193,39 @@ fn scan<S: Site>(alloc: Global, said: &Words, site: &mut S) -> Made {
     let seen = seen(alloc, said, said.len() / 2);
     let ended = note_scan(alloc, &mut graph, site, &seen);
     Ok((graph, ended))
+}
+
+/// Opens a store, and owns paths.
+fn own_paths<S: Site>(alloc: Global, said: &Words, site: &mut S) -> Made {
+    let mut graph = Graph::open(alloc, site)?;
+    let ended = own(alloc, &mut graph, site, &paths(alloc, said, said.len()));
+    Ok((graph, ended))
+}
+
+/// Opens a store, and gives up paths at which no file stands.
+fn give_up_paths(alloc: Global, said: &Words, site: &mut MemSite) -> Made {
+    let mut graph = Graph::open(alloc, site)?;
+    let paths = paths(alloc, said, said.len());
+    let ended = if have_no_files(site, &paths) {
+        give_up(alloc, &mut graph, site, &paths)
+    } else {
+        unmade(said, RowFault::OtherKind)
+    };
+    Ok((graph, ended))
+}
+
+/// Whether no file stands at some paths.
+fn have_no_files(site: &MemSite, paths: &[Path]) -> bool
+    ensures { IsTrue result ↔ HaveNoFiles (tree_in site.now) paths.now }
+{
+    paths.iter().all(|path| has_no_file(site, path))
+}
+
+/// Whether no file stands at a path.
+fn has_no_file(site: &MemSite, path: &Path) -> bool
+    ensures { IsTrue result ↔ (finite.get (tree_in site.now) path.now ≡ None) }
+{
+    site.file(path).is_none()
 }
 
 /// Opens a store, and makes no transaction, since there is none of this name.

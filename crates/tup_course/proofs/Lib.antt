@@ -1,0 +1,5 @@
+pub mod Rooms
+pub mod Courses
+pub mod Going
+pub mod Views
+pub mod Kept

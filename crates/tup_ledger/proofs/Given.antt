@@ -1,0 +1,57 @@
+-- Giving up paths, by how the settling and the commit ended.
+use Rattle.std.proofs.Common.{◌≡◌, ◌⊎◌, ◌&&◌, Bool, true, false, List, [], ◌∷◌, IsTrue, Result, Ok, Err, inl, inr, ⊎_elim, refl, sym, subst, ◌∙◌}
+use Rattle.std.specs.Result.{OnOk}
+use Rattle.tup_path.specs.Gives.{GivesUnless}
+use Rattle.tup_path.specs.Name.{Names}
+use Rattle.tup_site.specs.World.{World}
+use Rattle.tup_table.specs.Table.{is_fresh as is_fresh_table}
+use Rattle.tup_table.specs.declared.change.Change.{Change}
+use Rattle.tup_table.specs.declared.table.Table.{Table}
+use Rattle.tup_graph.specs.Graph.{GraphState}
+use Rattle.tup_graph.specs.declared.edit.Edit.{Edit}
+use Rattle.tup_graph.specs.Transactions.{forget_edits, with_forgotten}
+use Rattle.tup_graph.specs.declared.fault.GraphFault.{GraphFault}
+use Rattle.tup_graph.specs.declared.fault.GraphFault.TheVariants.{NotThere, BadStore, Site, Full, Memory}
+use Rattle.tup_kept.specs.Held.{Held, is_fresh}
+use Rattle.tup_kept.specs.Transaction.{Leaves, to_write, with_changes}
+use Rattle.tup_ledger.specs.Given.{GivesUp, IsRefused}
+
+module _ (tells : Bool) (paths : List Names) (old : Held) (v w : World) (same : IsTrue tells → w ≡ v) where
+  -- the settling failed
+  pub unsettled : (fault : GraphFault) → (fault ≡ Site) ⊎ (fault ≡ Memory) → GivesUp tells paths old old v w (Err fault)
+  unsettled fault why =
+      ⊎_elim (λ is. subst (λ (f : GraphFault). GivesUp tells paths old old v w (Err f)) (sym is) (inl (refl, same)))
+      (λ is. subst (λ (f : GraphFault). GivesUp tells paths old old v w (Err f)) (sym is) (inl (refl, same))) why
+
+-- the commit ended so, from a world that is the first one
+module _ {S : Type 0} (world : S → World) (tells : Bool) (paths : List Names) (old new : Held) (mid now : S) (v : World) (same : IsTrue tells → world mid ≡ v) where
+  again : now ≡ mid → IsTrue tells → world now ≡ v
+  again is t = (λ i. world (is i)) ∙ same t
+
+  pub settled : (result : Result (Unit {0}) GraphFault) → Leaves (forget_edits old.nodes paths) (with_forgotten old.nodes paths) old new mid now result → GivesUp tells paths old new v (world now) result
+  settled (Ok done) leaves = (leaves.0, λ none. again (leaves.1 none))
+  settled (Err NotThere) leaves = absurd leaves
+  settled (Err (BadStore offset)) leaves = absurd leaves
+  settled (Err Site) leaves = inr leaves
+  settled (Err Full) leaves = (leaves.0, (leaves.1, again leaves.2))
+  settled (Err Memory) leaves = ⊎_elim (λ none. inl (none.0, again none.1)) inr leaves
+
+-- ---- a commit that was done leaves a fresh graph
+second : (a b : Bool) → IsTrue (a && b) → IsTrue b
+second true b is = is
+second false b is = absurd (cc)
+
+changed_is_fresh : (table : Table) (changes : List Change) → IsTrue (is_fresh_table table) → IsTrue (is_fresh_table (with_changes table changes))
+changed_is_fresh table [] fresh = fresh
+changed_is_fresh table (change ∷ changes) fresh = refl
+
+module _ (edits : List Edit) (nodes : GraphState) (old new : Held) (fresh : IsTrue (is_fresh old)) where
+  pub ok_durable : {S : Type 0} (before now : S) {P : Type 0} (result : Result (Unit {0}) GraphFault) → Leaves edits nodes old new before now result → (IsTrue (is_fresh new) → P) → OnOk result P
+  ok_durable before now (Ok done) leaves then =
+      then (subst (λ (h : Held). IsTrue (is_fresh h)) (sym leaves.0) (changed_is_fresh old.table (to_write old edits) (second old.whole (is_fresh_table old.table) fresh)))
+  ok_durable before now (Err fault) leaves then = tt
+
+-- what is told where the store has no room
+pub told_full : (result : Result (Unit {0}) GraphFault) → GivesUnless result Memory (Err Full) → IsRefused result
+told_full result gives =
+    ⊎_elim (λ is. subst IsRefused (sym is) (inr (inr refl))) (λ is. subst IsRefused (sym is) (inl refl)) gives

@@ -1,0 +1,4 @@
+pub mod Trees
+pub mod Guarding
+pub mod Owned
+pub mod Given

@@ -1,0 +1,90 @@
+use Rattle.std.proofs.Common.{ap, subst}
+use Rattle.tup_site.specs.Crash.{NoStep}
+use Rattle.tup_site.specs.World.{World}
+use Rattle.tup_table.specs.Table.{entries_in}
+use Rattle.tup_table.proofs.Stands.{stands_on}
+use Rattle.tup_graph.specs.Opening.{IsGraphOf}
+use Rattle.tup_graph.specs.Transactions.{forget_edits, with_forgotten}
+use Rattle.tup_ledger.proofs.Given.{ok_durable}
+use Rattle.tup_ledger.proofs.Guarding.{durable_now, either_quiet, either_settled, forget_keeps, guards_now, nothing_keeps, pins_on}
+use Rattle.tup_ledger.proofs.giving.give_up.Goals as goal
+
+pub returns-in_err-settle-clause-stands : goal.returns-in_err-settle-clause-stands
+returns-in_err-settle-clause-stands g c = λ tells fresh.
+    let site_laws = g.met.S.Site g.world.𝓛 g.world.𝓜 g.world.𝓡 ((λ s x. x), (λ x. x), (λ x. x), λ x. x) in
+    let mid = c.settle.new.site in
+    stands_on g.S.Site.world g.S.Site.moment g.S.Site.left_since c.args.graph.now.table c.args.site.now mid NoStep (λ v w none. absurd none)
+    (λ t u w le left. site_laws.earlier mid t u w tells le left) (c.settle.ensures.crash tells) (ap (λ (w : World). w.store) (c.settle.ensures.same tells)) (c.requires.stands tells)
+
+pub returns-in_err-settle-clause-crash : goal.returns-in_err-settle-clause-crash
+returns-in_err-settle-clause-crash g c = λ tells.
+    let old = c.args.graph.now in
+    let is = subst (IsGraphOf (entries_in old.table)) c.nodes.ensures.value (c.nodes.ensures.graph c.requires.fresh) in
+    either_quiet g.S.Site.world g.S.Site.moment g.S.Site.left_since old.table old.nodes c.args.site.now (c.requires.stands tells) is c.settle.new.site (with_forgotten old.nodes c.args.paths.now) (c.settle.ensures.crash tells)
+
+pub returns-in_err-settle-clause-sources : goal.returns-in_err-settle-clause-sources
+returns-in_err-settle-clause-sources g c = λ tells kept guards.
+    let site_laws = g.met.S.Site g.world.𝓛 g.world.𝓜 g.world.𝓡 ((λ s x. x), (λ x. x), (λ x. x), λ x. x) in
+    let old = c.args.graph.now in
+    let mid = c.settle.new.site in
+    let is = subst (IsGraphOf (entries_in old.table)) c.nodes.ensures.value (c.nodes.ensures.graph c.requires.fresh) in
+    let stands =
+    stands_on g.S.Site.world g.S.Site.moment g.S.Site.left_since old.table c.args.site.now mid NoStep (λ v w none. absurd none)
+    (λ t u w le left. site_laws.earlier mid t u w tells le left) (c.settle.ensures.crash tells) (ap (λ (w : World). w.store) (c.settle.ensures.same tells)) (c.requires.stands tells) in
+    let images = nothing_keeps g.S.Site.world g.S.Site.moment g.S.Site.left_since old.table old.nodes c.args.site.now (c.requires.stands tells) is kept mid guards (c.settle.ensures.crash tells) in
+    record {
+      images = images;
+      guards = λ fresh.
+          guards_now g.S.Site.world g.S.Site.moment g.S.Site.left_since old.table old.nodes mid stands is kept c.args.site.now (λ t u w le left. site_laws.earlier mid t u w tells le left) (site_laws.present mid tells) images;
+    }
+
+pub forget-ended-requires-clause-stands : goal.forget-ended-requires-clause-stands
+forget-ended-requires-clause-stands g c κs within = λ tells.
+    let site_laws = g.met.S.Site g.world.𝓛 g.world.𝓜 g.world.𝓡 ((λ s x. x), (λ x. x), (λ x. x), λ x. x) in
+    let mid = c.settle.new.site in
+    stands_on g.S.Site.world g.S.Site.moment g.S.Site.left_since c.args.graph.now.table c.args.site.now mid NoStep (λ v w none. absurd none)
+    (λ t u w le left. site_laws.earlier mid t u w tells le left) (c.settle.ensures.crash tells) (ap (λ (w : World). w.store) (c.settle.ensures.same tells)) (c.requires.stands tells)
+
+pub returns-clause-durable : goal.returns-clause-durable
+returns-clause-durable g c = λ tells.
+    let site_laws = g.met.S.Site g.world.𝓛 g.world.𝓜 g.world.𝓡 ((λ s x. x), (λ x. x), (λ x. x), λ x. x) in
+    let old = c.args.graph.now in
+    let paths = c.args.paths.now in
+    let mid = c.settle.new.site in
+    let new = c.forget-ended.new.self in
+    let end = c.forget-ended.new.site in
+    ok_durable (forget_edits old.nodes paths) (with_forgotten old.nodes paths) old new c.requires.fresh mid end c.forget-ended.result c.forget-ended.ensures.leaves
+    (λ fresh.
+    durable_now g.S.Site.world g.S.Site.moment g.S.Site.left_since new.table end (c.forget-ended.ensures.stands tells fresh)
+    (pins_on g.S.Site.world g.S.Site.moment g.S.Site.left_since old.nodes (with_forgotten old.nodes paths) mid end (λ t u w le left. site_laws.earlier end t u w tells le left)
+    (c.in_ok-settle.ensures.durable tells) (c.forget-ended.ensures.tree tells) (c.forget-ended.ensures.crash tells)))
+
+pub returns-clause-crash : goal.returns-clause-crash
+returns-clause-crash g c = λ tells.
+    let site_laws = g.met.S.Site g.world.𝓛 g.world.𝓜 g.world.𝓡 ((λ s x. x), (λ x. x), (λ x. x), λ x. x) in
+    let old = c.args.graph.now in
+    let mid = c.settle.new.site in
+    let is = subst (IsGraphOf (entries_in old.table)) c.nodes.ensures.value (c.nodes.ensures.graph c.requires.fresh) in
+    either_settled g.S.Site.world g.S.Site.moment g.S.Site.left_since old.table old.nodes c.args.site.now (c.requires.stands tells) is mid c.forget-ended.new.site (with_forgotten old.nodes c.args.paths.now)
+    (λ t u w le left. site_laws.earlier mid t u w tells le left) (c.settle.ensures.crash tells) (c.forget-ended.ensures.crash tells)
+
+pub returns-clause-sources : goal.returns-clause-sources
+returns-clause-sources g c = λ tells kept guards.
+    let site_laws = g.met.S.Site g.world.𝓛 g.world.𝓜 g.world.𝓡 ((λ s x. x), (λ x. x), (λ x. x), λ x. x) in
+    let old = c.args.graph.now in
+    let mid = c.settle.new.site in
+    let new = c.forget-ended.new.self in
+    let end = c.forget-ended.new.site in
+    let is = subst (IsGraphOf (entries_in old.table)) c.nodes.ensures.value (c.nodes.ensures.graph c.requires.fresh) in
+    let stands =
+    stands_on g.S.Site.world g.S.Site.moment g.S.Site.left_since old.table c.args.site.now mid NoStep (λ v w none. absurd none)
+    (λ t u w le left. site_laws.earlier mid t u w tells le left) (c.settle.ensures.crash tells) (ap (λ (w : World). w.store) (c.settle.ensures.same tells)) (c.requires.stands tells) in
+    let images =
+    forget_keeps g.S.Site.world g.S.Site.moment g.S.Site.left_since old.table old.nodes kept c.args.paths.now c.args.site.now mid end (c.requires.stands tells) stands is (λ t u w le left. site_laws.earlier mid t u w tells le left) (site_laws.present mid tells)
+    guards (c.requires.gone tells) (c.settle.ensures.same tells) (c.settle.ensures.crash tells) (c.in_ok-settle.ensures.durable tells) (c.forget-ended.ensures.crash tells) in
+    record {
+      images = images;
+      guards = λ fresh.
+          guards_now g.S.Site.world g.S.Site.moment g.S.Site.left_since new.table new.nodes end (c.forget-ended.ensures.stands tells fresh)
+          (subst (IsGraphOf (entries_in new.table)) c.nodes-2.ensures.value (c.nodes-2.ensures.graph fresh)) kept c.args.site.now (λ t u w le left. site_laws.earlier end t u w tells le left) (site_laws.present end tells) images;
+    }
