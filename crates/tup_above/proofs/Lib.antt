@@ -4,3 +4,4 @@ pub mod Listed
 pub mod Asked
 pub mod Walking
 pub mod Stored
+pub mod Copied

@@ -1,15 +1,15 @@
 -- A log with one more answer.
-use Rattle.std.proofs.Common.{◌≡◌, ◌⊎◌, inl, inr, Bool, true, false, cond, IsTrue, [], ◌∷◌, ◌++◌, Option, Some, None, is_some, Ok, Err, refl, sym, ap, ◌∙◌, subst}
+use Rattle.std.proofs.Common.{◌≡◌, ◌⊎◌, inl, inr, Bool, true, false, cond, IsTrue, List, [], ◌∷◌, ◌++◌, Option, Some, None, is_some, option_map, Ok, Err, refl, sym, ap, ◌∙◌, subst, append_assoc}
 use Rattle.tup_rule.specs.declared.question.Question.{Question}
 use Rattle.tup_rule.specs.declared.question.Told.{Told}
 use Rattle.tup_ask.specs.declared.fault.ParseFault.{ParseFault}
 use Rattle.tup_ask.specs.declared.fault.ReadEnd.{ReadEnd}
-use Rattle.tup_ask.specs.declared.fault.ReadEnd.TheVariants.{Fault, Stopped, Memory}
+use Rattle.tup_ask.specs.declared.fault.ReadEnd.TheVariants.{Stopped}
 use Rattle.tup_ask.specs.Reads.{Reads, gives, and_then}
-use Rattle.tup_ask.specs.Log.{Log, same_question, fits, StopsAt, told_before, Step, Ran, Says}
+use Rattle.tup_ask.specs.Log.{Log, same_question, fits, StopsAt, told_before, Step, Ran, Says, questions_of}
 use Rattle.tup_ask.specs.Key.{same_question-true}
 use Rattle.tup_ask.specs.Ask.{asks}
-use Rattle.tup_ask.specs.Went.{Asker, asker, Comes, Went}
+use Rattle.tup_ask.specs.Went.{Asker, AskedAre, asker, Went}
 use Rattle.tup_ask.proofs.Went.{went_then, went_err, went_gives}
 
 -- what a longer log tells it told before, or it is the last answer
@@ -35,6 +35,19 @@ says_more answers log asked told says is other found e =
       | inr new ↦ ap answers new.0 ∙ sym is ∙ new.1
     ]
 
+-- one who was asked a question more
+abbrev with_asked : Option (List Question) → Question → Option (List Question)
+with_asked asked question = option_map (λ (questions : List Question). questions ++ question ∷ []) asked
+
+asked_more : (asked : Option (List Question)) (earlier : List Question) (log : Log) (question : Question) → AskedAre asked (earlier ++ questions_of log)
+    → AskedAre (with_asked asked question) (earlier ++ (questions_of log ++ question ∷ []))
+asked_more None earlier log question was = tt
+asked_more (Some asked) earlier log question was = ap (λ (questions : List Question). questions ++ question ∷ []) was ∙ append_assoc earlier (questions_of log) (question ∷ [])
+
+questions_more : (log : Log) (question : Question) (told : Told) → questions_of (log ++ (question, told) ∷ []) ≡ questions_of log ++ question ∷ []
+questions_more [] question told = refl
+questions_more (first ∷ log) question told = ap (λ (questions : List Question). first.0 ∷ questions) (questions_more log question told)
+
 -- ---- a question that is asked
 
 -- what was told before is the answer
@@ -45,20 +58,24 @@ asked_before tells before question told on known = record {
   stopped = on;
   same = λ tells. refl;
   says = λ tells says. says;
+  asks = λ earlier asked. asked;
 }
 
 -- a new question is asked, and its answer is kept
-pub asked_new : (tells : Bool) (before : Asker) (answers : Question → Told) (stopped : Option (Question → Bool)) (question : Question) (told : Told)
+pub asked_new : (tells : Bool) (before : Asker) (answers : Question → Told) (stopped : Option (Question → Bool)) (asked : Option (List Question)) (question : Question) (told : Told)
     → told_before before.log question ≡ None → fits question told ≡ true → is_some stopped ≡ false
     → (IsTrue tells → told ≡ before.answers question) → (IsTrue tells → answers ≡ before.answers)
-    → Went tells before (asks question) (asker answers stopped (before.log ++ (question, told) ∷ [])) (Ok told)
+    → asked ≡ option_map (λ (questions : List Question). questions ++ question ∷ []) before.asked
+    → Went tells before (asks question) (asker answers stopped asked (before.log ++ (question, told) ∷ [])) (Ok told)
 unfolding asks
-asked_new tells before answers stopped question told unknown fit on is same = record {
+asked_new tells before answers stopped asked question told unknown fit on is same more = record {
   comes = subst (Step question (λ known. Ran before.log (gives known) (before.log ++ (question, told) ∷ []) (Ok told)) (λ answer. Ran (before.log ++ (question, answer) ∷ []) (gives answer) (before.log ++ (question, told) ∷ []) (Ok told))) (sym unknown)
       (told, fit, (refl, refl));
   stopped = on;
   same = same;
   says = λ tells says other found e. ap (λ (a : Question → Told). a other) (same tells) ∙ says_more before.answers before.log question told says (is tells) other found e;
+  asks = λ earlier was. subst (λ (a : Option (List Question)). AskedAre a (earlier ++ questions_of (before.log ++ (question, told) ∷ []))) (sym more)
+      (subst (λ (questions : List Question). AskedAre (with_asked before.asked question) (earlier ++ questions)) (sym (questions_more before.log question told)) (asked_more before.asked earlier before.log question was));
 }
 
 -- one who has stopped at a question has stopped
@@ -66,32 +83,18 @@ stop_is : (stopped : Option (Question → Bool)) (question : Question) → Stops
 stop_is None question at = absurd at
 stop_is (Some test) question at = refl
 
--- what an end says hangs on the stop of who answers, and on the log alone
-elsewhere : {A : Type 0} (before : Asker) (answers : Question → Told) (stopped : Option (Question → Bool)) (reads : Reads ParseFault A) (end : ReadEnd) → stopped ≡ before.stopped
-    → Comes before.log reads before (Err end) → Comes before.log reads (asker answers stopped before.log) (Err end)
-elsewhere before answers stopped reads (Fault fault) on comes = comes
-elsewhere before answers stopped reads Stopped on (question, at, halts) = (question, subst (λ s. StopsAt s question) (sym on) at, halts)
-elsewhere before answers stopped reads Memory on comes = comes
-
--- it isn't answered, or memory is wanting for the answer
-pub not_asked : {A : Type 0} (tells : Bool) (before : Asker) (answers : Question → Told) (stopped : Option (Question → Bool)) (reads : Reads ParseFault A) (end : ReadEnd)
-    → Went tells before reads before (Err end) → stopped ≡ before.stopped → (IsTrue tells → answers ≡ before.answers) → Went tells before reads (asker answers stopped before.log) (Err end)
-not_asked tells before answers stopped reads end went on same = record {
-  comes = elsewhere before answers stopped reads end on went.comes;
-  stopped = ap is_some on ∙ went.stopped;
-  same = same;
-  says = λ tells says other found e. ap (λ (a : Question → Told). a other) (same tells) ∙ says other found e;
-}
-
 -- who answers has stopped at a new question
-pub has_stopped : (tells : Bool) (before : Asker) (answers : Question → Told) (stopped : Option (Question → Bool)) (question : Question) → told_before before.log question ≡ None
-    → StopsAt stopped question → (IsTrue tells → answers ≡ before.answers) → Went tells before (asks question) (asker answers stopped before.log) (Err Stopped)
+pub has_stopped : (tells : Bool) (before : Asker) (answers : Question → Told) (stopped : Option (Question → Bool)) (asked : Option (List Question)) (question : Question) → told_before before.log question ≡ None
+    → StopsAt stopped question → (IsTrue tells → answers ≡ before.answers)
+    → asked ≡ option_map (λ (questions : List Question). questions ++ question ∷ []) before.asked
+    → Went tells before (asks question) (asker answers stopped asked before.log) (Err Stopped)
 unfolding asks
-has_stopped tells before answers stopped question unknown on same = record {
+has_stopped tells before answers stopped asked question unknown on same more = record {
   comes = (question, on, inl (refl, unknown, refl));
   stopped = stop_is stopped question on;
   same = same;
   says = λ tells says other found e. ap (λ (a : Question → Told). a other) (same tells) ∙ says other found e;
+  asks = λ earlier was. (question, inl (refl, unknown, refl), subst (λ (a : Option (List Question)). AskedAre a (earlier ++ (questions_of before.log ++ question ∷ []))) (sym more) (asked_more before.asked earlier before.log question was));
 }
 
 -- an answer that is read

@@ -1,13 +1,14 @@
 -- Calls of the reader, one behind another.
-use Rattle.std.proofs.Common.{◌≡◌, ◌⊎◌, inl, inr, Bool, false, is_some, Result, Ok, Err, refl, sym, ap, ◌∙◌, subst}
+use Rattle.std.proofs.Common.{◌≡◌, ◌⊎◌, inl, inr, Bool, false, List, ◌++◌, is_some, Result, Ok, Err, refl, sym, ap, ◌∙◌, subst}
+use Rattle.tup_rule.specs.declared.question.Question.{Question}
 use Rattle.tup_lex.specs.declared.kind.ParseKind.{ParseKind}
 use Rattle.tup_ask.specs.declared.fault.ReadEnd.{ReadEnd}
 use Rattle.tup_ask.specs.declared.fault.ReadEnd.TheVariants.{Fault, Stopped, Memory}
 use Rattle.tup_ask.specs.declared.fault.ParseFault.{ParseFault}
 use Rattle.tup_ask.specs.Reads.{Reads, and_then, gives}
-use Rattle.tup_ask.specs.Log.{Log, Ran}
+use Rattle.tup_ask.specs.Log.{Log, Ran, questions_of}
 use Rattle.tup_ask.specs.Spot.{Spot, refused}
-use Rattle.tup_ask.specs.Went.{Asker, Comes, Went, Gives, IsRefusal, is_stopped}
+use Rattle.tup_ask.specs.Went.{Asker, AskedAre, Asks, Comes, Went, Gives, IsRefusal, is_stopped}
 use Rattle.tup_ask.proofs.Runs.{ran_then, ran_refused, halts_then, halts_before}
 
 comes_then : {A B : Type 0} (log mid : Log) (after : Asker) (reads : Reads ParseFault A) (next : A → Reads ParseFault B) (value : A) (end : Result B ReadEnd)
@@ -28,6 +29,19 @@ still A B (Fault fault) = refl
 still A B Stopped = refl
 still A B Memory = refl
 
+asks_then : {A B : Type 0} (earlier : List Question) (log mid : Log) (after : Asker) (reads : Reads ParseFault A) (next : A → Reads ParseFault B) (value : A) (end : Result B ReadEnd)
+    → Ran log reads mid (Ok value) → Asks earlier mid (next value) after end → Asks earlier log (and_then reads next) after end
+asks_then earlier log mid after reads next value (Ok given) first asks = asks
+asks_then earlier log mid after reads next value (Err (Fault fault)) first asks = asks
+asks_then earlier log mid after reads next value (Err Stopped) first (question, halts, asked) = (question, halts_then log mid after.log reads next value question first halts, asked)
+asks_then earlier log mid after reads next value (Err Memory) first asks = tt
+
+asks_ended : {A B : Type 0} (earlier : List Question) (log : Log) (after : Asker) (reads : Reads ParseFault A) (next : A → Reads ParseFault B) (end : ReadEnd)
+    → Asks earlier log reads after (Err end) → Asks earlier log (and_then reads next) after (Err end)
+asks_ended earlier log after reads next (Fault fault) asks = asks
+asks_ended earlier log after reads next Stopped (question, halts, asked) = (question, halts_before log after.log reads next question halts, asked)
+asks_ended earlier log after reads next Memory asks = tt
+
 -- what follows a call that gave a value
 pub went_then : {A B : Type 0} {tells : Bool} {before mid after : Asker} {reads : Reads ParseFault A} {value : A} {end : Result B ReadEnd} (next : A → Reads ParseFault B)
     → Went tells before reads mid (Ok value) → Went tells mid (next value) after end → Went tells before (and_then reads next) after end
@@ -36,6 +50,7 @@ went_then {before = before} {mid = mid} {after = after} {reads = reads} {value =
   stopped = second.stopped;
   same = λ tells. second.same tells ∙ first.same tells;
   says = λ tells says. second.says tells (first.says tells says);
+  asks = λ earlier asked. asks_then earlier before.log mid.log after reads next value end first.comes (second.asks earlier (first.asks earlier asked));
 }
 
 -- what follows one that ended otherwise
@@ -46,15 +61,16 @@ went_err {A} {B} {before = before} {after = after} {reads = reads} {end = end} n
   stopped = first.stopped ∙ still A B end;
   same = first.same;
   says = first.says;
+  asks = λ earlier asked. asks_ended earlier before.log after reads next end (first.asks earlier asked);
 }
 
 -- memory was wanting behind a call that gave a value, or at once
 pub went_memory : {A B : Type 0} {tells : Bool} {before after : Asker} {reads : Reads ParseFault A} {value : A} (all : Reads ParseFault B)
     → Went tells before reads after (Ok value) → Went tells before all after (Err Memory)
-went_memory all first = record { comes = tt; stopped = first.stopped; same = first.same; says = first.says }
+went_memory all first = record { comes = tt; stopped = first.stopped; same = first.same; says = first.says; asks = λ earlier asked. tt }
 
 pub went_nowhere : {B : Type 0} (tells : Bool) (before : Asker) (all : Reads ParseFault B) → is_some before.stopped ≡ false → Went tells before all before (Err Memory)
-went_nowhere tells before all on = record { comes = tt; stopped = on; same = λ tells. refl; says = λ tells says. says }
+went_nowhere tells before all on = record { comes = tt; stopped = on; same = λ tells. refl; says = λ tells says. says; asks = λ earlier asked. tt }
 
 -- a call that asks nothing
 comes_given : {A : Type 0} (before : Asker) (reads : Reads ParseFault A) (end : Result A ReadEnd) → Gives reads end → Comes before.log reads before end
@@ -69,12 +85,20 @@ on_given reads (Err (Fault fault)) is = refl
 on_given reads (Err Stopped) is = absurd is
 on_given reads (Err Memory) is = refl
 
+asks_given : {A : Type 0} (before : Asker) (reads : Reads ParseFault A) (end : Result A ReadEnd) (earlier : List Question) → Gives reads end
+    → AskedAre before.asked (earlier ++ questions_of before.log) → Asks earlier before.log reads before end
+asks_given before reads (Ok value) earlier is asked = asked
+asks_given before reads (Err (Fault fault)) earlier is asked = asked
+asks_given before reads (Err Stopped) earlier is asked = absurd is
+asks_given before reads (Err Memory) earlier is asked = tt
+
 pub went_given : {A : Type 0} (tells : Bool) (before : Asker) (reads : Reads ParseFault A) (end : Result A ReadEnd) → is_some before.stopped ≡ false → Gives reads end → Went tells before reads before end
 went_given tells before reads end on is = record {
   comes = comes_given before reads end is;
   stopped = on ∙ sym (on_given reads end is);
   same = λ tells. refl;
   says = λ tells says. says;
+  asks = λ earlier asked. asks_given before reads end earlier is asked;
 }
 
 pub went_gives : {A : Type 0} (tells : Bool) (before : Asker) (value : A) → is_some before.stopped ≡ false → Went tells before (gives value) before (Ok value)

@@ -68,6 +68,10 @@ Halts log (Asks next goes_on) after question =
 abbrev pub Says : (Question → Told) → Log → Type 0
 Says answers log = (question : Question) (told : Told) → told_before log question ≡ Some told → answers question ≡ told
 
+-- the questions of a log, in the order of first asking
+abbrev pub questions_of : Log → List Question
+questions_of log = map (λ (entry : Question × Told). entry.0) log
+
 -- a log as it is kept: a content by its stamp
 abbrev pub noted_log : Log → List (Question × Noted)
 noted_log log = map (λ (entry : Question × Told). (entry.0, noted entry.1)) log

@@ -19,9 +19,9 @@ fn ask<E: Env>(
     question: Question,
 ) -> Result<Told, ReadEnd>
     requires { is_some (E.stopped env.old) ≡ false }
-    ensures { Went E.tells (asker (E.answers env.old) (E.stopped env.old) log.old)
+    ensures { Went E.tells (asker (E.answers env.old) (E.stopped env.old) (E.asked env.old) log.old)
         (specs.asks question)
-        (asker (E.answers env.new) (E.stopped env.new) log.new) result }
+        (asker (E.answers env.new) (E.stopped env.new) (E.asked env.new) log.new) result }
 {
     let key = Key { question };
     if let Some(told) = log.answer_to(&key) {
@@ -42,9 +42,9 @@ pub fn content_at<E: Env>(
     path: &Path,
 ) -> Result<Option<Bytes>, ReadEnd>
     requires { is_some (E.stopped env.old) ≡ false }
-    ensures { Went E.tells (asker (E.answers env.old) (E.stopped env.old) log.old)
+    ensures { Went E.tells (asker (E.answers env.old) (E.stopped env.old) (E.asked env.old) log.old)
         (specs.content_at path.now)
-        (asker (E.answers env.new) (E.stopped env.new) log.new) result }
+        (asker (E.answers env.new) (E.stopped env.new) (E.asked env.new) log.new) result }
 {
     let question = Question::Content(path.clone()?);
     let told = ask(alloc, env, log, question)?;
@@ -61,9 +61,9 @@ pub fn setting_of<E: Env>(
     name: &Text,
 ) -> Result<Option<Text>, ReadEnd>
     requires { is_some (E.stopped env.old) ≡ false }
-    ensures { Went E.tells (asker (E.answers env.old) (E.stopped env.old) log.old)
+    ensures { Went E.tells (asker (E.answers env.old) (E.stopped env.old) (E.asked env.old) log.old)
         (specs.setting_of name.now)
-        (asker (E.answers env.new) (E.stopped env.new) log.new) result }
+        (asker (E.answers env.new) (E.stopped env.new) (E.asked env.new) log.new) result }
 {
     let question = Question::Config(name.clone()?);
     let told = ask(alloc, env, log, question)?;
@@ -80,9 +80,9 @@ pub fn names_at<E: Env>(
     dir: &Path,
 ) -> Result<Texts, ReadEnd>
     requires { is_some (E.stopped env.old) ≡ false }
-    ensures { Went E.tells (asker (E.answers env.old) (E.stopped env.old) log.old)
+    ensures { Went E.tells (asker (E.answers env.old) (E.stopped env.old) (E.asked env.old) log.old)
         (specs.names_at dir.now)
-        (asker (E.answers env.new) (E.stopped env.new) log.new) result }
+        (asker (E.answers env.new) (E.stopped env.new) (E.asked env.new) log.new) result }
 {
     let question = Question::Names(dir.clone()?);
     let told = ask(alloc, env, log, question)?;
@@ -99,9 +99,9 @@ pub fn kind_at<E: Env>(
     path: &Path,
 ) -> Result<Kind, ReadEnd>
     requires { is_some (E.stopped env.old) ≡ false }
-    ensures { Went E.tells (asker (E.answers env.old) (E.stopped env.old) log.old)
+    ensures { Went E.tells (asker (E.answers env.old) (E.stopped env.old) (E.asked env.old) log.old)
         (specs.kind_at path.now)
-        (asker (E.answers env.new) (E.stopped env.new) log.new) result }
+        (asker (E.answers env.new) (E.stopped env.new) (E.asked env.new) log.new) result }
 {
     let question = Question::Kind(path.clone()?);
     let told = ask(alloc, env, log, question)?;

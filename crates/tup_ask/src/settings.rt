@@ -73,9 +73,9 @@ pub(crate) fn settings_of<E: Env>(
     names: &[Text],
 ) -> Result<Values, ReadEnd>
     requires { is_some (E.stopped env.old) ≡ false }
-    ensures { Went E.tells (asker (E.answers env.old) (E.stopped env.old) log.old)
+    ensures { Went E.tells (asker (E.answers env.old) (E.stopped env.old) (E.asked env.old) log.old)
         (specs.settings_of [] names.now)
-        (asker (E.answers env.new) (E.stopped env.new) log.new) result }
+        (asker (E.answers env.new) (E.stopped env.new) (E.asked env.new) log.new) result }
 {
     let mut values = Items::new(alloc);
     for name in names {

@@ -28,9 +28,10 @@ pub fn expanded<E: Env>(
     text: &str,
 ) -> Result<Text, ReadEnd>
     requires { is_some (E.stopped env.old) ≡ false }
-    ensures went { Went E.tells (asker (E.answers env.old) (E.stopped env.old) log.old)
+    ensures went { Went E.tells
+        (asker (E.answers env.old) (E.stopped env.old) (E.asked env.old) log.old)
         (specs.expanded at.now variables.now text.now)
-        (asker (E.answers env.new) (E.stopped env.new) log.new) result }
+        (asker (E.answers env.new) (E.stopped env.new) (E.asked env.new) log.new) result }
     ensures short { IfOk result (λ text. length text ≤ 1048576) }
 {
     let text = Text::from_str(alloc, text)?;

@@ -2,7 +2,6 @@
 use Rattle.std.proofs.Common.{◌≡◌, ℕ, Bool, true, false, if◌then◌else◌, List, [], ◌∷◌, ◌++◌, Option, Some, None, is_some, IsSome, ◌↔◌, Result, Ok, Err, refl, sym, ap, ◌∙◌}
 use Rattle.tup_path.specs.Name.{Names}
 use Rattle.tup_lex.specs.Blank.{trim}
-use Rattle.tup_lex.specs.declared.fault.LexFault.TheVariants as kept
 use Rattle.tup_lex.specs.declared.kind.ParseKind.TheVariants as kind
 use Rattle.tup_rule.specs.declared.draft.GroupRef.{GroupRef}
 use Rattle.tup_vars.specs.Name.{is_name}

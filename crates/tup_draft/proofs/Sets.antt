@@ -1,5 +1,5 @@
--- The places of what rules make, kept beside the rules.
-use Rattle.std.proofs.Common.{◌≡◌, Bool, true, false, ◌||◌, cond, List, [], ◌∷◌, ◌++◌, fold, refl, sym, ap, ◌∙◌}
+-- Sets of paths beside the lists that they are of.
+use Rattle.std.proofs.Common.{◌≡◌, Bool, true, false, ◌||◌, not, cond, List, [], ◌∷◌, ◌++◌, fold, refl, sym, ap, ◌∙◌}
 use Rattle.std.proofs.lemmas.List.Folds.{list_any-append}
 use Rattle.indexmap.specs.IndexSet.{insert_key}
 use Rattle.tup_path.specs.Name.{Names}
@@ -7,7 +7,10 @@ use Rattle.tup_path.specs.Order.{same_path}
 use Rattle.tup_path.proofs.Same.{same_path-decides}
 use Rattle.tup_rule.specs.Rule.{among}
 use Rattle.tup_rule.specs.declared.draft.Draft.{Draft}
-use Rattle.tup_draft.specs.Making.{is_made, Knows}
+use Rattle.tup_draft.specs.declared.found.Found.{Found}
+use Rattle.tup_draft.specs.declared.found.Input.{Input}
+use Rattle.tup_draft.specs.Making.{is_made, Knows, HasPaths}
+use Rattle.tup_draft.specs.Found.{HasFiles, has_path, with_input, with_one}
 
 -- a path that is there already adds nothing to a set
 there : (keys : List Names) (added path : Names) → among added keys ≡ true → among path keys ≡ (same_path path added || among path keys)
@@ -57,3 +60,38 @@ knows_more keys drafts draft knows path =
 
 pub knows_none : Knows [] []
 knows_none path = refl
+
+or_none : (b : Bool) → (b || false) ≡ b
+or_none true = refl
+or_none false = refl
+
+-- a set of paths, and one more
+pub places_of : (paths : List Names) → HasPaths (fold (insert_key same_path) [] paths) paths
+places_of paths path = all_more [] paths path ∙ or_none (among path paths)
+
+pub places_more : (keys paths : List Names) (added : Names) → HasPaths keys paths → HasPaths (insert_key same_path keys added) (paths ++ added ∷ [])
+places_more keys paths added has path =
+    one_more keys added path ∙ ap (λ b. same_path path added || b) (has path) ∙ sym (or_last (among path paths) (same_path path added)) ∙ sym (list_any-append (same_path path) paths (added ∷ []))
+
+-- an input whose path is new, and one whose path is there
+pub files_more : (keys : List Names) (inputs : List Input) (input : Input) → HasFiles keys inputs → HasFiles (insert_key same_path keys input.path) (with_input inputs input)
+files_more keys inputs input has path = by (has_path inputs input.path) refl
+  where
+    by : (b : Bool) → has_path inputs input.path ≡ b → among path (insert_key same_path keys input.path) ≡ has_path (cond b inputs (inputs ++ input ∷ [])) path
+    by true is = one_more keys input.path path ∙ sym (there keys input.path path (has input.path ∙ is)) ∙ has path
+    by false new = one_more keys input.path path ∙ ap (λ b. same_path path input.path || b) (has path) ∙ sym (or_last (has_path inputs path) (same_path path input.path))
+        ∙ sym (list_any-append (λ (i : Input). same_path path i.path) inputs (input ∷ []))
+
+turned_over : (b : Bool) (one other : List Input) → cond (not b) one other ≡ cond b other one
+turned_over true one other = refl
+turned_over false one other = refl
+
+-- an input that is added where a set hasn't its path
+pub new_input : (keys : List Names) (inputs : List Input) (input : Input) → HasFiles keys inputs → cond (not (among input.path keys)) (inputs ++ input ∷ []) inputs ≡ with_input inputs input
+new_input keys inputs input has =
+    ap (λ b. cond (not b) (inputs ++ input ∷ []) inputs) (has input.path) ∙ turned_over (has_path inputs input.path) (inputs ++ input ∷ []) inputs
+
+-- inputs one after another change the inputs alone
+pub ones_more : (found : Found) (inputs : List Input) → fold with_one found inputs ≡ record found { inputs = fold with_input found.inputs inputs }
+ones_more found [] = refl
+ones_more found (input ∷ more) = ones_more (with_one found input) more

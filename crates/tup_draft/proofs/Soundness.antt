@@ -1,5 +1,5 @@
 -- The rules that a line adds can be run in their order, behind those of the lines before.
-use Rattle.std.proofs.Common.{◌≡◌, ◌⊎◌, inl, inr, ℕ, ◌+◌, ◌-◌, Bool, true, false, ◌||◌, cond, if◌then◌else◌, List, [], ◌∷◌, ◌++◌, length, get_or, map, fold, Option, Some, None, option_map, Result, Ok, Err, All, bytes_eq, refl, sym, ap, ◌∙◌, subst, append_assoc, append-nil, arith, length-append, not, is_some}
+use Rattle.std.proofs.Common.{◌≡◌, ◌⊎◌, inl, inr, ℕ, ◌+◌, Bool, true, false, ◌||◌, cond, if◌then◌else◌, List, [], ◌∷◌, ◌++◌, length, get_or, map, fold, Option, Some, None, option_map, Result, Ok, Err, All, bytes_eq, refl, sym, ap, ◌∙◌, subst, append_assoc, append-nil, arith, length-append, not}
 use Rattle.std.specs.List.{filter_map, cons_option}
 use Rattle.std.specs.Map.{set_value}
 use Rattle.std.specs.BTreeSet.{insert_key}

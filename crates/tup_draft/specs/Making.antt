@@ -16,3 +16,7 @@ is_made drafts path = list_any (λ (draft : Draft). among path draft.outputs) dr
 -- these are the outputs of rules: a path is one of them just where it is an output of one of the rules
 abbrev pub Knows : List Names → List Draft → Type 0
 Knows outputs drafts = (path : Names) → among path outputs ≡ is_made drafts path
+
+-- a set has the paths of a list, and no others
+abbrev pub HasPaths : List Names → List Names → Type 0
+HasPaths keys paths = (path : Names) → among path keys ≡ among path paths

@@ -9,6 +9,7 @@ use crate::flagged::flagged;
 use crate::job::{Job, Sources, Spoken};
 use crate::made::Made;
 use crate::output::from_outputs;
+use crate::places::Places;
 use crate::state::State;
 use crate::words::Words;
 use std::alloc::{AllocError, Global};
@@ -31,9 +32,9 @@ pub(crate) fn with_jobs<E: Env>(
     jobs: &[Job],
 ) -> Result<State, ReadEnd>
     requires { is_some (E.stopped env.old) ≡ false }
-    ensures { Went E.tells (asker (E.answers env.old) (E.stopped env.old) log.old)
+    ensures { Went E.tells (asker (E.answers env.old) (E.stopped env.old) (E.asked env.old) log.old)
         (specs.with_jobs at.now words.now sources.now state jobs.now)
-        (asker (E.answers env.new) (E.stopped env.new) log.new) result }
+        (asker (E.answers env.new) (E.stopped env.new) (E.asked env.new) log.new) result }
 {
     let mut reached = state;
     for job in jobs {
@@ -54,9 +55,9 @@ fn with_job<E: Env>(
     job: &Job,
 ) -> Result<State, ReadEnd>
     requires { is_some (E.stopped env.old) ≡ false }
-    ensures { Went E.tells (asker (E.answers env.old) (E.stopped env.old) log.old)
+    ensures { Went E.tells (asker (E.answers env.old) (E.stopped env.old) (E.asked env.old) log.old)
         (specs.with_job at.now words.now sources.now state job.now)
-        (asker (E.answers env.new) (E.stopped env.new) log.new) result }
+        (asker (E.answers env.new) (E.stopped env.new) (E.asked env.new) log.new) result }
 {
     let draft = drafted(alloc, env, log, at, words, sources, &state.drafts, job)?;
     Ok(with_draft(state, &words.bin, draft)?)
@@ -74,9 +75,9 @@ fn drafted<E: Env>(
     job: &Job,
 ) -> Result<Draft, ReadEnd>
     requires { is_some (E.stopped env.old) ≡ false }
-    ensures { Went E.tells (asker (E.answers env.old) (E.stopped env.old) log.old)
+    ensures { Went E.tells (asker (E.answers env.old) (E.stopped env.old) (E.asked env.old) log.old)
         (specs.drafted at.now words.now sources.now drafts.now job.now)
-        (asker (E.answers env.new) (E.stopped env.new) log.new) result }
+        (asker (E.answers env.new) (E.stopped env.new) (E.asked env.new) log.new) result }
 {
     let parts = flag_parts(alloc, at, words.foreach, sources, job)?;
     with_outputs(alloc, env, log, at, words, &sources.gives, drafts, parts)
@@ -94,14 +95,14 @@ fn with_outputs<E: Env>(
     parts: FlagParts,
 ) -> Result<Draft, ReadEnd>
     requires { is_some (E.stopped env.old) ≡ false }
-    ensures { Went E.tells (asker (E.answers env.old) (E.stopped env.old) log.old)
+    ensures { Went E.tells (asker (E.answers env.old) (E.stopped env.old) (E.asked env.old) log.old)
         (specs.with_outputs at.now words.now group.now drafts.now parts)
-        (asker (E.answers env.new) (E.stopped env.new) log.new) result }
+        (asker (E.answers env.new) (E.stopped env.new) (E.asked env.new) log.new) result }
 {
-    let none = Paths::new(alloc);
+    let none = Places::new(alloc);
     let named = words.outputs.as_slice();
     let plain = from_outputs(alloc, env, log, at, &parts, drafts, none, named)?;
-    let parts = in_extra(parts, plain);
+    let parts = in_extra(parts, plain.into_paths());
     with_extra(alloc, env, log, at, words, group, drafts, parts)
 }
 
@@ -117,14 +118,14 @@ fn with_extra<E: Env>(
     parts: FlagParts,
 ) -> Result<Draft, ReadEnd>
     requires { is_some (E.stopped env.old) ≡ false }
-    ensures { Went E.tells (asker (E.answers env.old) (E.stopped env.old) log.old)
+    ensures { Went E.tells (asker (E.answers env.old) (E.stopped env.old) (E.asked env.old) log.old)
         (specs.with_extra at.now words.now group.now drafts.now parts)
-        (asker (E.answers env.new) (E.stopped env.new) log.new) result }
+        (asker (E.answers env.new) (E.stopped env.new) (E.asked env.new) log.new) result }
 {
-    let plain = copied(&parts.outputs)?;
+    let plain = Places::of(alloc, &parts.outputs)?;
     let named = words.extra.as_slice();
     let all = from_outputs(alloc, env, log, at, &parts, drafts, plain, named)?;
-    with_text(alloc, at, words, group, in_command(parts), all)
+    with_text(alloc, at, words, group, in_command(parts), all.into_paths())
 }
 
 /// A command as a draft, by what its flags stand for in its text, and all its outputs.
@@ -140,13 +141,6 @@ fn with_text(
 {
     let said = spoken(alloc, at, &parts, words.command.as_str())?;
     Ok(draft_of(at, group, parts, outputs, said)?)
-}
-
-/// A copy of paths.
-fn copied(paths: &Paths) -> Result<Paths, AllocError>
-    ensures { IfOk result (λ copy. copy ≡ paths.now) }
-{
-    paths.clone()
 }
 
 /// What flags stand for in a command before it has outputs.

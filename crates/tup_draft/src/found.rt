@@ -1,5 +1,5 @@
 //! What input words give.
-ghost use Rattle.std.specs.Prelude.{◌≡◌, ◌++◌, IfOk, OnOk, fold};
+ghost use Rattle.std.specs.Prelude.{◌≡◌, ◌++◌, IfOk, OnOk};
 ghost use Rattle.tup_draft.specs.Found as specs;
 
 use std::alloc::{AllocError, Global};
@@ -64,46 +64,6 @@ impl Found {
             groups,
         })
     }
-
-    /// What was found, with what more words give behind it.
-    pub(crate) fn with(self, more: Found) -> Result<Found, AllocError>
-        ensures { IfOk result (λ found. found ≡ specs.with_found self more) }
-    {
-        let Found {
-            mut inputs,
-            mut groups,
-        } = self;
-        add_inputs(&mut inputs, more.inputs)?;
-        add_groups(&mut groups, more.groups)?;
-        Ok(Found { inputs, groups })
-    }
-}
-
-/// Adds inputs, each unless its path is there.
-fn add_inputs(inputs: &mut Inputs, more: Inputs) -> Result<(), AllocError>
-    ensures { OnOk result (inputs.new ≡ fold specs.with_input inputs.old more) }
-{
-    for input in more.into_vec() {
-        add_input(inputs, input)?;
-    }
-    Ok(())
-}
-
-/// Adds an input, unless its path is there.
-fn add_input(inputs: &mut Inputs, input: Input) -> Result<(), AllocError>
-    ensures { OnOk result (inputs.new ≡ specs.with_input inputs.old input) }
-{
-    if !has_path(inputs.as_slice(), &input.path) {
-        inputs.push(input)?;
-    }
-    Ok(())
-}
-
-/// Whether a path is among inputs.
-fn has_path(inputs: &[Input], path: &Path) -> bool
-    ensures { result ≡ specs.has_path inputs.now path.now }
-{
-    inputs.iter().any(|input| *path == input.path)
 }
 
 /// Adds groups at the end.

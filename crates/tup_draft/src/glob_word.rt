@@ -49,9 +49,9 @@ pub(crate) fn globbed<E: Env>(
     word: &Text,
 ) -> Result<Found, ReadEnd>
     requires { is_some (E.stopped env.old) ≡ false }
-    ensures { Went E.tells (asker (E.answers env.old) (E.stopped env.old) log.old)
+    ensures { Went E.tells (asker (E.answers env.old) (E.stopped env.old) (E.asked env.old) log.old)
         (specs.globbed at.now drafts.now word.now)
-        (asker (E.answers env.new) (E.stopped env.new) log.new) result }
+        (asker (E.answers env.new) (E.stopped env.new) (E.asked env.new) log.new) result }
 {
     let glob = glob_of(alloc, at, last_name(word.as_str()))?;
     let dir = led_to_folder(alloc, at, ParseKind::MissingInput, word.as_str())?;
@@ -90,9 +90,9 @@ fn matched_in<E: Env>(
     dir: &Path,
 ) -> Result<Found, ReadEnd>
     requires { is_some (E.stopped env.old) ≡ false }
-    ensures { Went E.tells (asker (E.answers env.old) (E.stopped env.old) log.old)
+    ensures { Went E.tells (asker (E.answers env.old) (E.stopped env.old) (E.asked env.old) log.old)
         (specs.matched_in drafts.now glob.now dir.now)
-        (asker (E.answers env.new) (E.stopped env.new) log.new) result }
+        (asker (E.answers env.new) (E.stopped env.new) (E.asked env.new) log.new) result }
 {
     let told = names_at(alloc, env, log, dir)?;
     let names = names_of_files(alloc, drafts, dir, told)?;

@@ -9,6 +9,7 @@ ghost use Rattle.tup_ask.specs.declared.fault.ReadEnd.TheVariants.{Memory};
 use crate::flagged::{bare_parts, flagged_text};
 use crate::folder::{bin_name, group_in, is_group, led, led_to_folder};
 use crate::found::{Found, Input, Inputs};
+use crate::gathered::Gathered;
 use crate::glob_word::{globbed, is_glob};
 use crate::made::Made;
 use crate::state::State;
@@ -29,16 +30,16 @@ pub(crate) fn from_words<E: Env>(
     words: &[Text],
 ) -> Result<Found, ReadEnd>
     requires { is_some (E.stopped env.old) ≡ false }
-    ensures { Went E.tells (asker (E.answers env.old) (E.stopped env.old) log.old)
+    ensures { Went E.tells (asker (E.answers env.old) (E.stopped env.old) (E.asked env.old) log.old)
         (specs.from_words at.now state.now nothing_found words.now)
-        (asker (E.answers env.new) (E.stopped env.new) log.new) result }
+        (asker (E.answers env.new) (E.stopped env.new) (E.asked env.new) log.new) result }
 {
-    let mut found = Found::new(alloc);
+    let mut found = Gathered::new(alloc);
     for word in words {
         let next = from_word(alloc, env, log, at, state, word)?;
         found = found.with(next)?;
     }
-    Ok(found)
+    Ok(found.into_found())
 }
 
 /// What an input word gives.
@@ -51,9 +52,9 @@ fn from_word<E: Env>(
     word: &Text,
 ) -> Result<Found, ReadEnd>
     requires { is_some (E.stopped env.old) ≡ false }
-    ensures { Went E.tells (asker (E.answers env.old) (E.stopped env.old) log.old)
+    ensures { Went E.tells (asker (E.answers env.old) (E.stopped env.old) (E.asked env.old) log.old)
         (specs.from_word at.now state.now word.now)
-        (asker (E.answers env.new) (E.stopped env.new) log.new) result }
+        (asker (E.answers env.new) (E.stopped env.new) (E.asked env.new) log.new) result }
 {
     match bin_name(word.as_str()) {
         Some(name) => from_bin(alloc, at, &state.bins, name),
@@ -71,9 +72,9 @@ fn from_other<E: Env>(
     word: &Text,
 ) -> Result<Found, ReadEnd>
     requires { is_some (E.stopped env.old) ≡ false }
-    ensures { Went E.tells (asker (E.answers env.old) (E.stopped env.old) log.old)
+    ensures { Went E.tells (asker (E.answers env.old) (E.stopped env.old) (E.asked env.old) log.old)
         (specs.from_other at.now drafts.now word.now)
-        (asker (E.answers env.new) (E.stopped env.new) log.new) result }
+        (asker (E.answers env.new) (E.stopped env.new) (E.asked env.new) log.new) result }
 {
     if is_group(word.as_str()) {
         return from_group(alloc, at, word.as_str());
@@ -136,9 +137,9 @@ fn from_files<E: Env>(
     word: &Text,
 ) -> Result<Found, ReadEnd>
     requires { is_some (E.stopped env.old) ≡ false }
-    ensures { Went E.tells (asker (E.answers env.old) (E.stopped env.old) log.old)
+    ensures { Went E.tells (asker (E.answers env.old) (E.stopped env.old) (E.asked env.old) log.old)
         (specs.from_files at.now drafts.now word.now)
-        (asker (E.answers env.new) (E.stopped env.new) log.new) result }
+        (asker (E.answers env.new) (E.stopped env.new) (E.asked env.new) log.new) result }
 {
     let text = bare_text(alloc, at, word)?;
     from_text(alloc, env, log, at, drafts, &text)
@@ -162,9 +163,9 @@ fn from_text<E: Env>(
     text: &Text,
 ) -> Result<Found, ReadEnd>
     requires { is_some (E.stopped env.old) ≡ false }
-    ensures { Went E.tells (asker (E.answers env.old) (E.stopped env.old) log.old)
+    ensures { Went E.tells (asker (E.answers env.old) (E.stopped env.old) (E.asked env.old) log.old)
         (specs.from_text at.now drafts.now text.now)
-        (asker (E.answers env.new) (E.stopped env.new) log.new) result }
+        (asker (E.answers env.new) (E.stopped env.new) (E.asked env.new) log.new) result }
 {
     if is_glob(text.as_str()) {
         globbed(alloc, env, log, at, drafts, text)
@@ -183,9 +184,9 @@ fn literal<E: Env>(
     word: &Text,
 ) -> Result<Found, ReadEnd>
     requires { is_some (E.stopped env.old) ≡ false }
-    ensures { Went E.tells (asker (E.answers env.old) (E.stopped env.old) log.old)
+    ensures { Went E.tells (asker (E.answers env.old) (E.stopped env.old) (E.asked env.old) log.old)
         (specs.literal at.now drafts.now word.now)
-        (asker (E.answers env.new) (E.stopped env.new) log.new) result }
+        (asker (E.answers env.new) (E.stopped env.new) (E.asked env.new) log.new) result }
 {
     let path = led(alloc, at, ParseKind::MissingInput, at.dir(), word)?;
     let kind = kind_at(alloc, env, log, &path)?;

@@ -28,9 +28,9 @@ pub fn defined<E: Env>(
     right: &str,
 ) -> Result<State, ReadEnd>
     requires { is_some (E.stopped env.old) ≡ false }
-    ensures { Went E.tells (asker (E.answers env.old) (E.stopped env.old) log.old)
+    ensures { Went E.tells (asker (E.answers env.old) (E.stopped env.old) (E.asked env.old) log.old)
         (specs.defined at.now state left.now right.now)
-        (asker (E.answers env.new) (E.stopped env.new) log.new) result }
+        (asker (E.answers env.new) (E.stopped env.new) (E.asked env.new) log.new) result }
 {
     let name = trimmed(left);
     let body = body_in(alloc, env, log, at, &state.variables, name, right)?;
@@ -48,9 +48,9 @@ fn body_in<E: Env>(
     right: &str,
 ) -> Result<Macro, ReadEnd>
     requires { is_some (E.stopped env.old) ≡ false }
-    ensures { Went E.tells (asker (E.answers env.old) (E.stopped env.old) log.old)
+    ensures { Went E.tells (asker (E.answers env.old) (E.stopped env.old) (E.asked env.old) log.old)
         (specs.body_in at.now variables.now name.now right.now)
-        (asker (E.answers env.new) (E.stopped env.new) log.new) result }
+        (asker (E.answers env.new) (E.stopped env.new) (E.asked env.new) log.new) result }
 {
     let text = expanded(alloc, env, log, at, variables, right)?;
     named_body(alloc, at, name, &text)

@@ -1,10 +1,9 @@
 //! The rules so far, and what they make.
-ghost use Rattle.std.specs.Prelude.{◌≡◌, ◌++◌, ◌∷◌, [], IfOk, OnOk, fold};
-ghost use Rattle.tup_path.specs.Order.{same_path};
+ghost use Rattle.std.specs.Prelude.{◌≡◌, ◌++◌, ◌∷◌, [], IfOk};
 ghost use Rattle.tup_rule.specs.Rule.{among};
 ghost use Rattle.tup_draft.specs.Making.{is_made};
-ghost use Rattle.indexmap.specs.IndexSet.{insert_key};
 
+use crate::places::add_paths;
 use indexmap::IndexSet;
 use std::alloc::{AllocError, Global};
 use std::marker::Model;
@@ -77,16 +76,6 @@ impl Made {
     }
 }
 
-/// Adds paths to a set, each unless it is there.
-fn add_paths(set: &mut IndexSet<Path>, paths: &[Path]) -> Result<(), AllocError>
-    ensures { OnOk result (set.new.keys ≡ fold (insert_key same_path) set.old.keys paths.now) }
-{
-    for path in paths {
-        set.insert(path.clone()?)?;
-    }
-    Ok(())
-}
-
 /// Whether a path is an output of one of these rules.
 pub fn is_made(drafts: &[Draft], path: &Path) -> bool
     ensures { result ≡ is_made drafts.now path.now }
@@ -97,7 +86,7 @@ pub fn is_made(drafts: &[Draft], path: &Path) -> bool
 }
 
 /// Whether a path is one of these.
-pub(crate) fn is_among(paths: &[Path], path: &Path) -> bool
+fn is_among(paths: &[Path], path: &Path) -> bool
     ensures { result ≡ among path.now paths.now }
 {
     paths.iter().any(|one| path == one)

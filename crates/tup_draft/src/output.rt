@@ -7,12 +7,13 @@ ghost use Rattle.tup_ask.specs.Went.{Went, asker, Gives};
 
 use crate::flagged::flagged_text;
 use crate::folder::{led, name_in};
-use crate::made::{Made, is_among};
+use crate::made::Made;
+use crate::places::Places;
 use std::alloc::Global;
 use tup_ask::{Env, Log, ReadEnd, Spot, kind_at};
 use tup_flags::FlagParts;
 use tup_lex::ParseKind;
-use tup_path::{Path, Paths, Text};
+use tup_path::{Path, Text};
 use tup_rule::Kind;
 
 /// The outputs that words name, behind those before them in the rule.
@@ -23,18 +24,18 @@ pub(crate) fn from_outputs<E: Env>(
     at: &Spot,
     parts: &FlagParts,
     drafts: &Made,
-    before: Paths,
+    before: Places,
     words: &[Text],
-) -> Result<Paths, ReadEnd>
+) -> Result<Places, ReadEnd>
     requires { is_some (E.stopped env.old) ≡ false }
-    ensures { Went E.tells (asker (E.answers env.old) (E.stopped env.old) log.old)
+    ensures { Went E.tells (asker (E.answers env.old) (E.stopped env.old) (E.asked env.old) log.old)
         (specs.from_outputs at.now parts.now drafts.now before words.now)
-        (asker (E.answers env.new) (E.stopped env.new) log.new) result }
+        (asker (E.answers env.new) (E.stopped env.new) (E.asked env.new) log.new) result }
 {
     let mut outputs = before;
     for word in words {
-        let path = from_output(alloc, env, log, at, parts, drafts, outputs.as_slice(), word)?;
-        outputs.push(path)?;
+        let path = from_output(alloc, env, log, at, parts, drafts, &outputs, word)?;
+        outputs = outputs.with(path)?;
     }
     Ok(outputs)
 }
@@ -47,13 +48,13 @@ fn from_output<E: Env>(
     at: &Spot,
     parts: &FlagParts,
     drafts: &Made,
-    outputs: &[Path],
+    outputs: &Places,
     word: &Text,
 ) -> Result<Path, ReadEnd>
     requires { is_some (E.stopped env.old) ≡ false }
-    ensures { Went E.tells (asker (E.answers env.old) (E.stopped env.old) log.old)
+    ensures { Went E.tells (asker (E.answers env.old) (E.stopped env.old) (E.asked env.old) log.old)
         (specs.from_output at.now parts.now drafts.now outputs.now word.now)
-        (asker (E.answers env.new) (E.stopped env.new) log.new) result }
+        (asker (E.answers env.new) (E.stopped env.new) (E.asked env.new) log.new) result }
 {
     let text = flagged_text(alloc, at, parts, word)?;
     let path = led(alloc, at, ParseKind::ForeignOutput, at.dir(), &text)?;
@@ -67,13 +68,13 @@ fn known_output<E: Env>(
     log: &mut Log,
     at: &Spot,
     drafts: &Made,
-    outputs: &[Path],
+    outputs: &Places,
     path: Path,
 ) -> Result<Path, ReadEnd>
     requires { is_some (E.stopped env.old) ≡ false }
-    ensures { Went E.tells (asker (E.answers env.old) (E.stopped env.old) log.old)
+    ensures { Went E.tells (asker (E.answers env.old) (E.stopped env.old) (E.asked env.old) log.old)
         (specs.known_output at.now drafts.now outputs.now path)
-        (asker (E.answers env.new) (E.stopped env.new) log.new) result }
+        (asker (E.answers env.new) (E.stopped env.new) (E.asked env.new) log.new) result }
 {
     if !may_make(at.dir(), &path) {
         return Err(at.refuse(ParseKind::ForeignOutput));
@@ -86,7 +87,7 @@ fn known_output<E: Env>(
 fn new_output(
     at: &Spot,
     drafts: &Made,
-    outputs: &[Path],
+    outputs: &Places,
     path: Path,
     kind: Kind,
 ) -> Result<Path, ReadEnd>
@@ -103,11 +104,11 @@ fn new_output(
 }
 
 /// Whether a path is an output already.
-fn is_taken(drafts: &Made, outputs: &[Path], path: &Path) -> bool
+fn is_taken(drafts: &Made, outputs: &Places, path: &Path) -> bool
     ensures { result
         ≡ (made.is_made drafts.now path.now || among path.now outputs.now) }
 {
-    drafts.has(path) || is_among(outputs, path)
+    drafts.has(path) || outputs.has(path)
 }
 
 /// Whether a rule of a folder may make a path.

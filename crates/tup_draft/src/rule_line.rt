@@ -35,9 +35,9 @@ pub fn ruled<E: Env>(
     line: &str,
 ) -> Result<State, ReadEnd>
     requires { is_some (E.stopped env.old) ≡ false }
-    ensures { Went E.tells (asker (E.answers env.old) (E.stopped env.old) log.old)
+    ensures { Went E.tells (asker (E.answers env.old) (E.stopped env.old) (E.asked env.old) log.old)
         (specs.ruled at.now state line.now)
-        (asker (E.answers env.new) (E.stopped env.new) log.new) result }
+        (asker (E.answers env.new) (E.stopped env.new) (E.asked env.new) log.new) result }
 {
     let words = words_in(alloc, env, log, at, &state, line)?;
     with_words(alloc, env, log, at, state, &words)
@@ -53,9 +53,9 @@ fn words_in<E: Env>(
     line: &str,
 ) -> Result<Words, ReadEnd>
     requires { is_some (E.stopped env.old) ≡ false }
-    ensures { Went E.tells (asker (E.answers env.old) (E.stopped env.old) log.old)
+    ensures { Went E.tells (asker (E.answers env.old) (E.stopped env.old) (E.asked env.old) log.old)
         (specs.words_in at.now state.now line.now)
-        (asker (E.answers env.new) (E.stopped env.new) log.new) result }
+        (asker (E.answers env.new) (E.stopped env.new) (E.asked env.new) log.new) result }
 {
     let text = expanded(alloc, env, log, at, &state.variables, line)?;
     words_of(alloc, at, &state.macros, &text)
@@ -71,9 +71,9 @@ fn with_words<E: Env>(
     words: &Words,
 ) -> Result<State, ReadEnd>
     requires { is_some (E.stopped env.old) ≡ false }
-    ensures { Went E.tells (asker (E.answers env.old) (E.stopped env.old) log.old)
+    ensures { Went E.tells (asker (E.answers env.old) (E.stopped env.old) (E.asked env.old) log.old)
         (specs.with_words at.now state words.now)
-        (asker (E.answers env.new) (E.stopped env.new) log.new) result }
+        (asker (E.answers env.new) (E.stopped env.new) (E.asked env.new) log.new) result }
 {
     let plan = planned(alloc, env, log, at, &state, words)?;
     let jobs = plan.jobs.as_slice();
@@ -90,9 +90,9 @@ fn planned<E: Env>(
     words: &Words,
 ) -> Result<Plan, ReadEnd>
     requires { is_some (E.stopped env.old) ≡ false }
-    ensures { Went E.tells (asker (E.answers env.old) (E.stopped env.old) log.old)
+    ensures { Went E.tells (asker (E.answers env.old) (E.stopped env.old) (E.asked env.old) log.old)
         (specs.planned at.now state.now words.now)
-        (asker (E.answers env.new) (E.stopped env.new) log.new) result }
+        (asker (E.answers env.new) (E.stopped env.new) (E.asked env.new) log.new) result }
 {
     let inputs = from_words(alloc, env, log, at, state, words.inputs.as_slice())?;
     let order = from_words(alloc, env, log, at, state, words.order.as_slice())?;

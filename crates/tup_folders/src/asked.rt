@@ -175,7 +175,7 @@ impl Asked<'_, '_> {
 }
 
 impl Env for Asked<'_, '_> {
-    ghost use Rattle.std.specs.Prelude.{true};
+    ghost use Rattle.std.specs.Prelude.{None, true};
     ghost use Rattle.tup_folders.specs.Asked.{answer_or_misfit, stopped_at};
 
     ghost tells = { true };
@@ -185,6 +185,8 @@ impl Env for Asked<'_, '_> {
 
     ghost stopped = { λ asked. stopped_at
         asked.sources.now asked.readings.now asked.reader.now asked.stop };
+
+    ghost asked = { λ _. None };
 
     fn answer(&mut self, alloc: Global, question: &Question) -> Result<Told, Stopped> {
         match self.told(alloc, question) {

@@ -163,21 +163,21 @@ module _ (r : Record) (beside : IsBesideRules r) (spelled : Fits r) where
       ]) refl
 
 -- ---- a whole table
-none_left : (r : Record) → without empty_graph r ≡ empty_graph
-none_left (Seen p a) = ap (λ m. record empty_graph { seen = m }) (remove-empty by_names-total by_names-antisymmetric p)
-none_left (Reading p a) = ap (λ m. record empty_graph { readings = m }) (remove-empty by_names-total by_names-antisymmetric p)
-none_left (Rule n place a) = refl
-none_left (Run n a) = ap (λ m. record empty_graph { runs = m }) (remove-empty nat_cmp_total nat_cmp-IsAntisymmetric n)
-none_left (Owned p maker state) = ap (λ m. record empty_graph { owned = m }) (remove-empty by_names-total by_names-antisymmetric p)
-none_left (Create p) = ap (λ m. record empty_graph { created = m }) (remove-empty by_names-total by_names-antisymmetric p)
-none_left (Modify n) = ap (λ m. record empty_graph { flags = m }) (remove-empty nat_cmp_total nat_cmp-IsAntisymmetric n)
+none_left : (r : Record) → IsBesideRules r → without empty_graph r ≡ empty_graph
+none_left (Seen p a) beside = ap (λ m. record empty_graph { seen = m }) (remove-empty by_names-total by_names-antisymmetric p)
+none_left (Reading p a) beside = ap (λ m. record empty_graph { readings = m }) (remove-empty by_names-total by_names-antisymmetric p)
+none_left (Rule n place a) beside = absurd beside
+none_left (Run n a) beside = ap (λ m. record empty_graph { runs = m }) (remove-empty nat_cmp_total nat_cmp-IsAntisymmetric n)
+none_left (Owned p maker state) beside = ap (λ m. record empty_graph { owned = m }) (remove-empty by_names-total by_names-antisymmetric p)
+none_left (Create p) beside = ap (λ m. record empty_graph { created = m }) (remove-empty by_names-total by_names-antisymmetric p)
+none_left (Modify n) beside = ap (λ m. record empty_graph { flags = m }) (remove-empty nat_cmp_total nat_cmp-IsAntisymmetric n)
 
-one_edit : (origin : ℕ) (e : Edit) (es : Standing) (g : GraphState) → IsAscending es → IsGraphOf es g → IsTaken g e → IsGraphOf (changed origin es (change_of e)) (edited g e)
+pub one_edit : (origin : ℕ) (e : Edit) (es : Standing) (g : GraphState) → IsAscending es → IsGraphOf es g → IsTaken g e → IsGraphOf (changed origin es (change_of e)) (edited g e)
 one_edit origin (Put r) es g up is taken = puts r taken.0 taken.1 origin empty_graph g es up is taken.2
 one_edit origin (Remove r) es g up is taken =
-    subst (λ (h : GraphState). Leads h (remove_entry (is_at (by_bytes (key_of r))) es) (without g r)) (none_left r) (removes r taken.0 taken.1 empty_graph g es up is)
+    subst (λ (h : GraphState). Leads h (remove_entry (is_at (by_bytes (key_of r))) es) (without g r)) (none_left r taken.0) (removes r taken.0 taken.1 empty_graph g es up is)
 
-beside_of : (g : GraphState) (e : Edit) → IsTaken g e → IsBesideRules (record_of e)
+pub beside_of : (g : GraphState) (e : Edit) → IsTaken g e → IsBesideRules (record_of e)
 beside_of g (Put r) taken = taken.0
 beside_of g (Remove r) taken = taken.0
 
@@ -185,7 +185,7 @@ taken_after : (g : GraphState) (e f : Edit) → IsBesideRules (record_of e) → 
 taken_after g e (Put r) beside taken = (taken.0, taken.1, edit_fits e beside g r ∙ taken.2)
 taken_after g e (Remove r) beside taken = taken
 
-all_after : (g : GraphState) (e : Edit) (edits : List Edit) → IsBesideRules (record_of e) → AllByRecursion (IsTaken g) edits → AllByRecursion (IsTaken (edited g e)) edits
+pub all_after : (g : GraphState) (e : Edit) (edits : List Edit) → IsBesideRules (record_of e) → AllByRecursion (IsTaken g) edits → AllByRecursion (IsTaken (edited g e)) edits
 all_after g e [] beside all = tt
 all_after g e (f ∷ edits) beside all = (taken_after g e f beside all.0, all_after g e edits beside all.1)
 

@@ -3,6 +3,9 @@ pub mod Marks
 pub mod Slots
 pub mod Leading
 pub mod Opened
+pub mod Numbers
+pub mod Bare
+pub mod Turns
 pub mod Rows
 pub mod Needed
 pub mod Lasts

@@ -60,10 +60,10 @@ doom_leaves g paths = more g paths
 -- ---- a path that isn't there may be taken away as well
 module _ {X : Type 0} where
   -- what a map lacks another one lacks
-  abbrev Lacks : finite.FinMap by_names X → finite.FinMap by_names X → Type 0
+  abbrev pub Lacks : finite.FinMap by_names X → finite.FinMap by_names X → Type 0
   Lacks m n = (q : Names) → finite.get m q ≡ None → finite.get n q ≡ None
 
-  lacks_more : (m n : finite.FinMap by_names X) (path : Names) → Lacks m n → Lacks m (finite.remove n path)
+  pub lacks_more : (m n : finite.FinMap by_names X) (path : Names) → Lacks m n → Lacks m (finite.remove n path)
   lacks_more m n path lacks q none = finite.get-remove by_names-total n path q ∙ ap (cond (eq_by_cmp by_names q path) None) (lacks q none) ∙ nothing_either (eq_by_cmp by_names q path)
 
 module _ (g : GraphState) where

@@ -143,11 +143,11 @@ module _ (g : GraphState) where
   put_rules (Rule n place a) beside = absurd beside
   put_rules r beside = (refl, refl)
 
-  without_rules : (r : Record) → ((without g r).rules ≡ g.rules) × ((without g r).places ≡ g.places)
-  without_rules (Seen p a) = (refl, refl)
-  without_rules r = (refl, refl)
+  without_rules : (r : Record) → IsBesideRules r → ((without g r).rules ≡ g.rules) × ((without g r).places ≡ g.places)
+  without_rules (Rule n place a) beside = absurd beside
+  without_rules r beside = (refl, refl)
 
   -- an edit leaves rules and places
   pub same_rules : (e : Edit) → IsBesideRules (record_of e) → ((edited g e).rules ≡ g.rules) × ((edited g e).places ≡ g.places)
   same_rules (Put r) beside = put_rules r beside
-  same_rules (Remove r) beside = without_rules r
+  same_rules (Remove r) beside = without_rules r beside

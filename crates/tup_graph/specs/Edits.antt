@@ -1,6 +1,7 @@
 -- Edits of a graph: records that are put, and records that go (own).
-use Rattle.std.specs.Prelude.{◌≡◌, true, List, fold}
+use Rattle.std.specs.Prelude.{◌≡◌, ◌⊎◌, ℕ, suc, true, List, [], ◌∷◌, fold, length, take}
 use Rattle.std.specs.FinMap as finite
+use Rattle.tup_rule.specs.declared.rule.Rule.{Rule}
 use Rattle.tup_record.specs.declared.record.Record.{Record}
 use Rattle.tup_record.specs.declared.record.Record.TheVariants as records
 use Rattle.tup_record.specs.Spelling.{Fits, key_of, value_of}
@@ -11,11 +12,15 @@ use Rattle.tup_graph.specs.declared.edit.Edit.TheVariants.{Put, Remove}
 use Rattle.tup_graph.specs.Graph.{GraphState}
 use Rattle.tup_graph.specs.Opening.{put, fits}
 
--- a graph without a record, whichever it has under this key; rules go only all at once
+-- a graph with so many of its first rules
+abbrev pub with_first : GraphState → ℕ → GraphState
+with_first g count = record g { rules = take count g.rules; places = take count g.places }
+
+-- a graph without a record, whichever it has under this key; with a rule go those behind it
 abbrev pub without : GraphState → Record → GraphState
 without g (records.Seen path stamp) = record g { seen = finite.remove g.seen path }
 without g (records.Reading dir reading) = record g { readings = finite.remove g.readings dir }
-without g (records.Rule number place rule) = g
+without g (records.Rule number place rule) = with_first g number
 without g (records.Run number run) = record g { runs = finite.remove g.runs number }
 without g (records.Owned path maker state) = record g { owned = finite.remove g.owned path }
 without g (records.Create dir) = record g { created = finite.remove g.created dir }
@@ -54,3 +59,25 @@ IsTaken g (Remove r) = IsBesideRules r × Fits r
 abbrev pub HasSpelling : Edit → Type 0
 HasSpelling (Put r) = Fits r
 HasSpelling (Remove r) = Fits r
+
+-- a graph of files, readings and rules alone: nothing names a rule
+pub record IsBare (g : GraphState) : Type 0 where
+  pub runs : g.runs ≡ finite.empty
+  pub owned : g.owned ≡ finite.empty
+  pub created : g.created ≡ finite.empty
+  pub flags : g.flags ≡ finite.empty
+
+-- an edit of a rule that such a graph takes: the last one goes, or one comes that fits behind it
+pub record IsRuleTaken (g : GraphState) (edit : Edit) : Type 0 where
+  pub number : ℕ
+  pub place : ℕ
+  pub rule : Rule
+  pub bare : IsBare g
+  pub spelled : Fits (records.Rule number place rule)
+  pub one : ((edit ≡ Remove (records.Rule number place rule)) × (length g.rules ≡ suc number))
+      ⊎ ((edit ≡ Put (records.Rule number place rule)) × (fits g (records.Rule number place rule) ≡ true))
+
+-- edits that are taken one after another, each by the graph that those before it leave
+abbrev pub AreTakenInTurn : GraphState → List Edit → Type 0
+AreTakenInTurn g [] = Unit {0}
+AreTakenInTurn g (edit ∷ edits) = (IsTaken g edit ⊎ IsRuleTaken g edit) × AreTakenInTurn (edited g edit) edits

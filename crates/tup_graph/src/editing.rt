@@ -1,50 +1,72 @@
 //! How a graph takes edits.
-ghost use Rattle.std.specs.Prelude.{◌≡◌, OnOk, IfErr};
-ghost use Rattle.tup_graph.specs.Edits.{edited, edited_by, without};
+ghost use Rattle.std.specs.Prelude.{◌≡◌, take, OnOk, IfErr};
+ghost use Rattle.tup_graph.specs.Edits.{edited, edited_by, with_first, without};
 
 use crate::edit::{Edit, Edits};
 use crate::fault::GraphFault;
 use crate::nodes::Nodes;
+use std::alloc::Global;
+use std::mem;
+use tup_path::Items;
 use tup_record::Record;
 
 impl Nodes {
     /// Makes edits, one after another. After a refusal the graph is of no use.
-    pub fn edit_all(&mut self, edits: Edits) -> Result<(), GraphFault>
+    pub fn edit_all(&mut self, alloc: Global, edits: Edits) -> Result<(), GraphFault>
         ensures ok { OnOk result (self.new ≡ edited_by self.old edits) }
         ensures err { IfErr result (λ fault. fault ≡ GraphFault.Memory) }
     {
         for edit in edits.into_vec() {
-            self.edit(edit)?;
+            self.edit(alloc, edit)?;
         }
         Ok(())
     }
 
     /// Makes an edit.
-    fn edit(&mut self, edit: Edit) -> Result<(), GraphFault>
+    fn edit(&mut self, alloc: Global, edit: Edit) -> Result<(), GraphFault>
         ensures ok { OnOk result (self.new ≡ edited self.old edit) }
         ensures err { IfErr result (λ fault. fault ≡ GraphFault.Memory) }
     {
         match edit {
             Edit::Put(found) => self.put(found),
             Edit::Remove(found) => {
-                self.leave_out(&found);
+                self.leave_out(alloc, &found);
                 Ok(())
             }
         }
     }
 
-    /// Takes away what stands under the key of a record; rules stay.
-    fn leave_out(&mut self, gone: &Record)
+    /// Takes away what stands under the key of a record, and with a rule those behind it.
+    fn leave_out(&mut self, alloc: Global, gone: &Record)
         ensures { self.new ≡ without self.old gone.now }
     {
         match gone {
             Record::Seen { path, .. } => self.seen.remove(path),
             Record::Reading { dir, .. } => self.readings.remove(dir),
-            Record::Rule { .. } => {}
+            Record::Rule { number, .. } => self.cut_rules(alloc, *number as usize),
             Record::Run { number, .. } => self.runs.remove(number),
             Record::Owned { path, .. } => self.owned.remove(path),
             Record::Create { dir } => self.created.remove(dir),
             Record::Modify { number } => self.flags.remove(number),
         }
     }
+
+    /// Leaves so many of the first rules.
+    fn cut_rules(&mut self, alloc: Global, count: usize)
+        ensures { self.new ≡ with_first self.old count }
+    {
+        let rules = mem::replace(&mut self.rules, Items::new(alloc));
+        self.rules = first(rules, count);
+        let places = mem::replace(&mut self.places, Items::new(alloc));
+        self.places = first(places, count);
+    }
+}
+
+/// So many of the first of some values.
+fn first<T: Drop>(items: Items<T>, count: usize) -> Items<T>
+    ensures { result ≡ take count items }
+{
+    let mut items = items.into_vec();
+    items.truncate(count);
+    Items::from_vec(items)
 }

@@ -16,7 +16,7 @@ ghost use Rattle.tup_graph.specs.Records.{Language};
 ghost use Rattle.tup_graph.specs.Opening.{IsBroken, IsGraphOf};
 ghost use Rattle.tup_table.specs.declared.change.Change.{Change};
 ghost use Rattle.tup_graph.specs.Changes.{needed, once_made};
-ghost use Rattle.tup_graph.specs.Edits.{edited_by, change_of, IsTaken, HasSpelling};
+ghost use Rattle.tup_graph.specs.Edits.{edited_by, change_of, IsTaken, AreTakenInTurn, HasSpelling};
 ghost use Rattle.tup_graph.specs.Transactions.{begin_edits, begun, finish_edits, finished, doom_edits, with_doomed, forget_edits, with_forgotten, flag_edits, with_flagged};
 
 /// A law: entries stand for one graph at most, and for none where they are broken.
@@ -31,6 +31,13 @@ pub fn reads_one_way()
 pub fn edits_are_read()
     ensures { (entries : Standing) (g : GraphState) (edits : List EditValue) (origin : ℕ)
         → IsAscending entries → IsGraphOf entries g → All (IsTaken g) edits
+        → IsGraphOf (committed origin entries (map change_of edits)) (edited_by g edits) }
+{}
+
+/// A law: the same of edits that are taken in turn, rules among them.
+pub fn edits_in_turn_are_read()
+    ensures { (entries : Standing) (g : GraphState) (edits : List EditValue) (origin : ℕ)
+        → IsAscending entries → IsGraphOf entries g → AreTakenInTurn g edits
         → IsGraphOf (committed origin entries (map change_of edits)) (edited_by g edits) }
 {}
 

@@ -28,8 +28,8 @@ pub use changing::changes;
 pub use edit::{Edit, Edits};
 pub use fault::GraphFault;
 pub use laws::{
-    edits_are_read, needed_changes_are_enough, reads_one_way, stays_kept, transactions_are_read,
-    transactions_leave,
+    edits_are_read, edits_in_turn_are_read, needed_changes_are_enough, reads_one_way, stays_kept,
+    transactions_are_read, transactions_leave,
 };
 pub use nodes::Nodes;
 pub use opening::read_graph;

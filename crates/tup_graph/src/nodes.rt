@@ -114,6 +114,20 @@ impl Nodes {
         self.created.iter()
     }
 
+    /// The last good runs by the numbers of their rules, in their order.
+    pub fn runs(&self) -> Iter<'_, u32, RunRecord>
+        ensures { result ≡ finite.entries self.now.runs }
+    {
+        self.runs.iter()
+    }
+
+    /// The numbers of the rules that are to be run, in their order.
+    pub fn flags(&self) -> Iter<'_, u32, ()>
+        ensures { result ≡ finite.entries self.now.flags }
+    {
+        self.flags.iter()
+    }
+
     /// What the readings of folders left, in the order of folders.
     pub fn readings(&self) -> Iter<'_, Path, Reading>
         ensures { result ≡ finite.entries self.now.readings }

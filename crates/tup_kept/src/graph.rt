@@ -161,7 +161,7 @@ impl Graph {
         }
         self.table.commit(alloc, site, &changes)?;
         self.whole = false;
-        self.nodes.edit_all(edits)?;
+        self.nodes.edit_all(alloc, edits)?;
         self.whole = true;
         Ok(())
     }

@@ -1,4 +1,4 @@
--- What taking note of a scan does to a graph and to its store (own).
+-- What the commit of a list of edits does to a graph and to its store: those of a scan (own).
 use Rattle.std.specs.Prelude.{◌≡◌, ◌⊎◌, false, List, Option, Result, Err}
 use Rattle.tup_path.specs.Name.{Names, Content}
 use Rattle.tup_stamp.specs.declared.Stamp.{Stamp}
@@ -10,14 +10,18 @@ use Rattle.tup_kept.specs.Held.{Held, is_fresh}
 use Rattle.tup_kept.specs.Transaction.{Leaves, IsFull}
 use Rattle.tup_diff.specs.Edits.{AreScanEdits}
 
--- the edits of a scan are made in one commit, or none of them is; it is Full just where the store has no room for them
-pub record MakesEdits {S : Type 0} (files : List (Names × Stamp)) (config : Option Content) (old new : Held) (before now : S) (result : Result (Unit {0}) GraphFault) : Type 0 where
+-- such edits are made in one commit, or none of them is; it is Full just where the store has no room for them
+pub record MakesEdits {S : Type 0} (Are : List Edit → Type 0) (old new : Held) (before now : S) (result : Result (Unit {0}) GraphFault) : Type 0 where
   pub edits : List Edit
-  pub are : AreScanEdits old.nodes files config edits
+  pub are : Are edits
   pub leaves : Leaves edits (edited_by old.nodes edits) old new before now result
   pub full : IsFull old edits → result ≡ Err Full
 
--- What taking note of a scan does, by its answer. Where memory is wanting nothing is changed, or the graph isn't fresh.
+-- What a call that commits such edits does, by its answer. Where memory is wanting nothing is changed, or the graph isn't fresh.
+abbrev pub Notes : {S : Type 0} → (List Edit → Type 0) → Held → Held → S → S → Result (Unit {0}) GraphFault → Type 0
+Notes Are old new before now (Err Memory) = ((new ≡ old) × (now ≡ before)) ⊎ (is_fresh new ≡ false)
+Notes Are old new before now result = MakesEdits Are old new before now result
+
+-- taking note of a scan
 abbrev pub NotesScan : {S : Type 0} → List (Names × Stamp) → Option Content → Held → Held → S → S → Result (Unit {0}) GraphFault → Type 0
-NotesScan files config old new before now (Err Memory) = ((new ≡ old) × (now ≡ before)) ⊎ (is_fresh new ≡ false)
-NotesScan files config old new before now result = MakesEdits files config old new before now result
+NotesScan files config old new before now result = Notes (AreScanEdits old.nodes files config) old new before now result

@@ -1,4 +1,3 @@
 mod Flags
 mod Flagged
 mod Reach
-mod Copied

@@ -1,38 +1,135 @@
 -- The asks of one line behind those of the lines before it.
-use Rattle.std.proofs.Common.{[], ◌++◌, Bool, false, Option, Result, Ok, Err}
+use Rattle.std.proofs.Common.{◌≡◌, [], ◌∷◌, ◌++◌, List, ℕ, ◌+◌, ◌<◌, length, get_or, drop, map, Bool, true, false, IsTrue, Option, None, Result, Ok, Err, refl, sym, ap, subst, ◌∙◌, inl, inr}
+use Rattle.std.proofs.lemmas.Bool.{false≢true}
+use Rattle.std.proofs.lemmas.List.{at_drop_more, append_assoc, map-append}
+use Rattle.tup_stamp.specs.declared.Stamp.{Stamp}
+use Rattle.tup_proc.specs.declared.line.LogLine.{LogLine}
 use Rattle.tup_runner.specs.Next.{Asks}
 use Rattle.tup_runner.specs.Refusal.{Refusal}
-use Rattle.tup_runner.specs.Run.{WasRefused}
+use Rattle.tup_runner.specs.Run.{RunsAs}
 use Rattle.tup_runner.specs.declared.fault.ViewFailed.{ViewFailed}
 use Rattle.tup_runner.specs.declared.fault.ViewFailed.TheVariants.{Denied as ViewDenied, Fault as ViewFault}
 use Rattle.tup_runner.specs.declared.fault.RunFailed.{RunFailed}
 use Rattle.tup_runner.specs.declared.fault.RunFailed.TheVariants.{Denied, View, Fault, Memory}
-use Rattle.tup_proc_runner.specs.Asked.{untold, Came, AsksAs}
+use Rattle.tup_runner.specs.declared.step.Answer.{Answer}
+use Rattle.tup_runner.specs.declared.step.Ended.{Ended}
+use Rattle.tup_runner.specs.declared.step.Step.{Step}
+use Rattle.tup_proc_runner.specs.declared.fault.ProcFault.{ProcFault}
+use Rattle.tup_proc_runner.specs.Asked.{Said, said_by, said_in, found, shown, AsSaid, Unlike, Unanswered, AsksAs}
+use Rattle.tup_proc_runner.specs.Told.{FollowsLog}
+
+-- what was asked so far, each answer as it is said, before what is left of the whole
+pub record SoFar (whole left : List Said) (came : Asks → Type 0) (refusal : Option Refusal) : Type 0 where
+  pub asks : Asks
+  pub came_by : came asks
+  pub is : map shown asks ++ left ≡ whole
+  pub granted : refusal ≡ None
+
+-- a line is next
+pub next_line : (lines : List LogLine) (at : ℕ) (line : LogLine) (whole : List Said) (came : Asks → Type 0) (refusal : Option Refusal) → at < length lines → line ≡ get_or lines at line
+    → SoFar whole (said_in (drop at lines)) came refusal → SoFar whole (said_by line ++ said_in (drop (at + 1) lines)) came refusal
+next_line lines at line whole came refusal less here far =
+    subst (λ (left : List Said). SoFar whole left came refusal)
+    (at_drop_more said_in lines at line less ∙ ap (λ (l : LogLine). said_by l ++ said_in (drop (at + 1) lines)) (sym here)) far
+
+-- what one text comes to
+pub answered : (said : List ℕ) (digest : Option Stamp) (answer : Answer) (same : Bool) (came : Asks → Type 0) (refusal : Option Refusal)
+    → (IsTrue same → found answer ≡ digest) → (found answer ≡ digest → IsTrue same) → came ((said, answer) ∷ []) → refusal ≡ None
+    → AsksAs ((said, digest) ∷ []) came refusal (Ok same)
+answered said digest answer true came refusal is other came_by granted = record {
+  asks = (said, answer) ∷ [];
+  came_by = came_by;
+  each = ap (λ (d : Option Stamp). (said, d) ∷ []) (is refl);
+  granted = granted;
+}
+answered said digest answer false came refusal is other came_by granted = record {
+  asks = [];
+  ask = (said, answer);
+  digest = digest;
+  rest = [];
+  came_by = came_by;
+  is = refl;
+  unlike = λ same. false≢true (other same);
+  granted = granted;
+}
 
 module _ {S : Type 0} (came : S → Asks → S → Type 0) (refusal : S → Option Refusal)
     (goes_on : (first next last : S) (some more : Asks) → came first some next → came next more last → came first (some ++ more) last)
-    (first next last : S) where
-  came_then : Came (λ asks. came first asks next) (refusal next) → Came (λ asks. came next asks last) (refusal last) → Came (λ asks. came first asks last) (refusal last)
-  came_then some more = record {
-    asks = some.asks ++ more.asks;
-    came_by = goes_on first next last some.asks more.asks some.came_by more.came_by;
+    (first next last : S) (whole some left : List Said) where
+  pub as_said_then : SoFar whole (some ++ left) (λ asks. came first asks next) (refusal next) → AsSaid some (λ asks. came next asks last) (refusal last)
+      → SoFar whole left (λ asks. came first asks last) (refusal last)
+  as_said_then far more = record {
+    asks = far.asks ++ more.asks;
+    came_by = goes_on first next last far.asks more.asks far.came_by more.came_by;
+    is = ap (λ (t : List Said). t ++ left) (map-append shown far.asks more.asks)
+        ∙ append_assoc (map shown far.asks) (map shown more.asks) left
+        ∙ ap (λ (t : List Said). map shown far.asks ++ (t ++ left)) more.each
+        ∙ far.is;
     granted = more.granted;
   }
 
-  refused_then : (why : ViewFailed) → Came (λ asks. came first asks next) (refusal next) → WasRefused false (untold [] []) (λ asks. came next asks last) (refusal last) why
-      → WasRefused false (untold [] []) (λ asks. came first asks last) (refusal last) why
-  refused_then why some more = record {
-    asks = some.asks ++ more.asks;
+  -- the whole, where one text of what is next is told apart
+  apart : (far : SoFar whole (some ++ left) (λ asks. came first asks next) (refusal next)) (asks : Asks) (one : Said) (rest : List Said) → some ≡ map shown asks ++ one ∷ rest
+      → whole ≡ map shown (far.asks ++ asks) ++ one ∷ (rest ++ left)
+  apart far asks one rest is =
+      sym far.is
+      ∙ ap (λ (t : List Said). map shown far.asks ++ (t ++ left)) is
+      ∙ ap (λ (t : List Said). map shown far.asks ++ t) (append_assoc (map shown asks) (one ∷ rest) left)
+      ∙ sym (append_assoc (map shown far.asks) (map shown asks) (one ∷ (rest ++ left)))
+      ∙ ap (λ (t : List Said). t ++ one ∷ (rest ++ left)) (sym (map-append shown far.asks asks))
+
+  pub unlike_then : SoFar whole (some ++ left) (λ asks. came first asks next) (refusal next) → Unlike some (λ asks. came next asks last) (refusal last)
+      → Unlike whole (λ asks. came first asks last) (refusal last)
+  unlike_then far more = record {
+    asks = far.asks ++ more.asks;
+    ask = more.ask;
+    digest = more.digest;
+    rest = more.rest ++ left;
+    came_by = subst (λ (asks : Asks). came first asks last) (sym (append_assoc far.asks more.asks (more.ask ∷ [])))
+        (goes_on first next last far.asks (more.asks ++ more.ask ∷ []) far.came_by more.came_by);
+    is = apart far more.asks (more.ask.0, more.digest) more.rest more.is;
+    unlike = more.unlike;
+    granted = more.granted;
+  }
+
+  unanswered_then : (why : ViewFailed) → SoFar whole (some ++ left) (λ asks. came first asks next) (refusal next) → Unanswered some (λ asks. came next asks last) (refusal last) why
+      → Unanswered whole (λ asks. came first asks last) (refusal last) why
+  unanswered_then why far more = record {
+    asks = far.asks ++ more.asks;
     last = more.last;
-    came_by = goes_on first next last some.asks more.asks some.came_by more.came_by;
-    means = λ no. absurd (cc);
+    digest = more.digest;
+    rest = more.rest ++ left;
+    came_by = goes_on first next last far.asks more.asks far.came_by more.came_by;
+    is = apart far more.asks (more.last, more.digest) more.rest more.is;
     refused = more.refused;
   }
 
-  pub asks_then : (result : Result Bool RunFailed) → Came (λ asks. came first asks next) (refusal next) → AsksAs (λ asks. came next asks last) (refusal last) result
-      → AsksAs (λ asks. came first asks last) (refusal last) result
-  asks_then (Ok fits) some more = came_then some more
-  asks_then (Err Denied) some more = refused_then ViewDenied some more
-  asks_then (Err View) some more = refused_then ViewFault some more
-  asks_then (Err Fault) some more = more
-  asks_then (Err Memory) some more = more
+  pub refused_then : (fault : RunFailed) → SoFar whole (some ++ left) (λ asks. came first asks next) (refusal next) → AsksAs some (λ asks. came next asks last) (refusal last) (Err fault)
+      → AsksAs whole (λ asks. came first asks last) (refusal last) (Err fault)
+  refused_then Denied far more = unanswered_then ViewDenied far more
+  refused_then View far more = unanswered_then ViewFault far more
+  refused_then Fault far more = more
+  refused_then Memory far more = more
+
+  -- by what the ask of a line came to
+  pub fitting_then : (fits : Bool) → fits ≡ true → SoFar whole (some ++ left) (λ asks. came first asks next) (refusal next) → AsksAs some (λ asks. came next asks last) (refusal last) (Ok fits)
+      → SoFar whole left (λ asks. came first asks last) (refusal last)
+  fitting_then true is far more = as_said_then far more
+  fitting_then false is far more = absurd (false≢true is)
+
+  pub unfitting_then : (fits : Bool) → fits ≡ false → SoFar whole (some ++ left) (λ asks. came first asks next) (refusal next) → AsksAs some (λ asks. came next asks last) (refusal last) (Ok fits)
+      → AsksAs whole (λ asks. came first asks last) (refusal last) (Ok false)
+  unfitting_then true is far more = absurd (false≢true (sym is))
+  unfitting_then false is far more = unlike_then far more
+
+-- a run over a log is a run of a runner that doesn't tell its meaning
+pub runs_as : (does : Asks → Step) (lines : List LogLine) (came : Asks → Type 0) (refusal : Option Refusal) (last : Option ProcFault) (result : Result Ended RunFailed)
+    → FollowsLog lines came refusal last result → RunsAs false does came refusal result
+runs_as does lines came refusal last (Ok ended) run = record { asks = run.0.asks; came_by = run.0.came_by; means = λ no. absurd (false≢true no); granted = run.0.granted }
+runs_as does lines came refusal last (Err Denied) run = record { asks = run.asks; last = run.last; came_by = run.came_by; means = λ no. absurd (false≢true no); refused = run.refused }
+runs_as does lines came refusal last (Err View) run = record { asks = run.asks; last = run.last; came_by = run.came_by; means = λ no. absurd (false≢true no); refused = run.refused }
+runs_as does lines came refusal last (Err Fault) run = elim run [
+  | inl all ↦ record { asks = all.asks; came_by = all.came_by; means = λ no. absurd (false≢true no); granted = all.granted }
+  | inr some ↦ record { asks = some.0.asks ++ some.0.ask ∷ []; came_by = some.0.came_by; means = λ no. absurd (false≢true no); granted = some.0.granted }
+]
+runs_as does lines came refusal last (Err Memory) run = run

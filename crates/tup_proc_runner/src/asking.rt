@@ -1,6 +1,6 @@
 //! The asks of a log, put to the view.
-ghost use Rattle.std.specs.Prelude.{◌≡◌, None};
-ghost use Rattle.tup_proc_runner.specs.Asked.{AsksAs};
+ghost use Rattle.std.specs.Prelude.{◌≡◌, ◌↔◌, ◌∷◌, [], None, IsTrue};
+ghost use Rattle.tup_proc_runner.specs.Asked.{AsksAs, found as found_in, said_by, said_in};
 
 use std::alloc::Global;
 use tup_path::Text;
@@ -16,7 +16,8 @@ pub(crate) fn ask_all<V: View>(
     view: &mut V,
 ) -> Result<bool, RunFailed>
     requires { V.refusal view.old ≡ None }
-    ensures asked { AsksAs (λ asks. V.came view.old asks view.new) (V.refusal view.new) result }
+    ensures asked { AsksAs (said_in lines.now)
+        (λ asks. V.came view.old asks view.new) (V.refusal view.new) result }
     ensures same { V.same view.old view.new }
 {
     for line in lines {
@@ -30,7 +31,8 @@ pub(crate) fn ask_all<V: View>(
 /// Asks the view for what one line says that was asked.
 fn ask<V: View>(alloc: Global, line: &LogLine, view: &mut V) -> Result<bool, RunFailed>
     requires { V.refusal view.old ≡ None }
-    ensures asked { AsksAs (λ asks. V.came view.old asks view.new) (V.refusal view.new) result }
+    ensures asked { AsksAs (said_by line.now)
+        (λ asks. V.came view.old asks view.new) (V.refusal view.new) result }
     ensures same { V.same view.old view.new }
 {
     match line {
@@ -48,15 +50,25 @@ fn answered<V: View>(
     view: &mut V,
 ) -> Result<bool, RunFailed>
     requires { V.refusal view.old ≡ None }
-    ensures asked { AsksAs (λ asks. V.came view.old asks view.new) (V.refusal view.new) result }
+    ensures asked { AsksAs ((text.now, stamp) ∷ [])
+        (λ asks. V.came view.old asks view.new) (V.refusal view.new) result }
     ensures same { V.same view.old view.new }
 {
     let answer = view.ask(alloc, text)?;
-    Ok(found(&answer) == stamp)
+    Ok(fits(&answer, stamp))
+}
+
+/// Whether this was found.
+fn fits(answer: &Answer, stamp: Option<Stamp>) -> bool
+    ensures { IsTrue result ↔ (found_in answer.now ≡ stamp) }
+{
+    found(answer) == stamp
 }
 
 /// The stamp of what was found, if anything was.
-fn found(answer: &Answer) -> Option<Stamp> {
+fn found(answer: &Answer) -> Option<Stamp>
+    ensures { result ≡ found_in answer.now }
+{
     match answer {
         Answer::Content(bytes) => Some(stamp_of(bytes.as_slice())),
         Answer::Absent => None,

@@ -1,4 +1,6 @@
 //! Why a started program gave no run.
+ghost use Rattle.tup_proc_runner.specs.Refused.{IsMemoryOr};
+
 use std::alloc::{AllocError, AllocFailed};
 use std::io;
 use std::io::ErrorKind;
@@ -27,7 +29,9 @@ pub(crate) enum Refused {
 
 impl Refused {
     /// An error of the system, as this fault unless it is want of memory.
-    pub(crate) fn of(error: &io::Error, fault: ProcFault) -> Refused {
+    pub(crate) fn of(error: &io::Error, fault: ProcFault) -> Refused
+        ensures { IsMemoryOr fault result }
+    {
         if error.kind() == ErrorKind::OutOfMemory {
             Refused::Memory
         } else {

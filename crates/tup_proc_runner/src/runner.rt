@@ -1,7 +1,11 @@
 //! The runner that starts a program for each command.
-ghost use Rattle.std.specs.Prelude.{◌≡◌, None, Ok, IfOk, IfErr};
+ghost use Rattle.std.specs.Prelude.{◌≡◌, ◌∷◌, [], Some, None, Ok, Err, IfOk, IfErr};
+ghost use Rattle.std.specs.Process.{command_program, command_args};
 ghost use Rattle.tup_runner.specs.Run.{CountsFaults};
+ghost use Rattle.tup_proc.specs.Log.{IsLog};
+ghost use Rattle.tup_proc_runner.specs.declared.fault.ProcFault.{ProcFault as FaultValue};
 ghost use Rattle.tup_proc_runner.specs.Asked.{IsOwn};
+ghost use Rattle.tup_proc_runner.specs.Told.{FollowsLog};
 
 use crate::asking::ask_all;
 use crate::fault::{ProcFault, Refused};
@@ -30,6 +34,8 @@ impl<R: Files<File = File> + Processes + Clone + Drop> ProcRunner<R> {
     pub fn new(rt: R, root: Text, program: Text, stage: Text) -> ProcRunner<R>
         ensures unnamed { result.last ≡ None }
         ensures uncounted { result.faults ≡ 0 }
+        ensures words { (result.root ≡ root) × (result.program ≡ program) }
+        ensures stage { result.stage.folder ≡ stage }
     {
         ProcRunner {
             root,
@@ -54,7 +60,9 @@ impl<R: Files<File = File> + Processes + Clone + Drop> ProcRunner<R> {
         dir: &Path,
         text: &Text,
         own: &[Path],
-    ) -> Result<Items<LogLine>, Refused> {
+    ) -> Result<Items<LogLine>, Refused>
+        ensures { IfOk result IsLog }
+    {
         self.stage.prepare(alloc, own)?;
         let Ok(dir) = dir.show(alloc) else {
             return Err(Refused::Memory);
@@ -67,7 +75,11 @@ impl<R: Files<File = File> + Processes + Clone + Drop> ProcRunner<R> {
     }
 
     /// The program with its words.
-    fn command(&self, alloc: Global, dir: &Text, text: &Text) -> Result<Command, Refused> {
+    fn command(&self, alloc: Global, dir: &Text, text: &Text) -> Result<Command, Refused>
+        ensures program { IfOk result (λ command. command_program command ≡ self.now.program) }
+        ensures words { IfOk result (λ command. command_args command
+            ≡ self.now.root ∷ dir.now ∷ self.now.stage.folder ∷ text.now ∷ []) }
+    {
         let mut command = Command::new(alloc, self.program.as_str())?;
         command.arg(self.root.as_str())?;
         command.arg(dir.as_str())?;
@@ -76,11 +88,34 @@ impl<R: Files<File = File> + Processes + Clone + Drop> ProcRunner<R> {
         Ok(command)
     }
 
+    /// Puts the asks of a log to the view, and gives how the program ended by it.
+    fn follow<V: View>(
+        &mut self,
+        alloc: Global,
+        lines: &[LogLine],
+        view: &mut V,
+    ) -> Result<Ended, RunFailed>
+        requires log { IsLog lines.now }
+        requires granted { V.refusal view.old ≡ None }
+        ensures log { FollowsLog lines.now
+            (λ asks. V.came view.old asks view.new) (V.refusal view.new) self.new.last result }
+        ensures cause { CountsFaults self.old.faults self.new.faults result }
+        ensures same { V.same view.old view.new }
+    {
+        if !ask_all(alloc, lines, view)? {
+            return self.told(Err(Refused::Fault(ProcFault::BadLog)));
+        }
+        let ended = self.stage.ended(alloc, lines);
+        self.told(ended)
+    }
+
     /// An answer as the runner gives it. Each fault is counted and kept.
     fn told<T>(&mut self, answer: Result<T, Refused>) -> Result<T, RunFailed>
         ensures cause { CountsFaults self.old.faults self.new.faults result }
         ensures own { IfErr result IsOwn }
         ensures value { IfOk result (λ value. answer ≡ Ok value) }
+        ensures named { (fault : FaultValue) → answer ≡ Err (Refused.Fault fault)
+            → self.new.last ≡ Some fault }
     {
         match answer {
             Ok(value) => Ok(value),
@@ -117,11 +152,7 @@ impl<R: Files<File = File> + Processes + Clone + Drop + Send> Runner for ProcRun
     ) -> Result<Ended, RunFailed> {
         let started = self.start(alloc, dir, text, view.own());
         let lines = self.told(started)?;
-        if !ask_all(alloc, lines.as_slice(), view)? {
-            return self.told(Err(Refused::Fault(ProcFault::BadLog)));
-        }
-        let ended = self.stage.ended(alloc, lines.as_slice());
-        self.told(ended)
+        self.follow(alloc, lines.as_slice(), view)
     }
 
     fn faults(&self) -> u64 {

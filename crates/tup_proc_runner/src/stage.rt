@@ -1,4 +1,10 @@
 //! The folder in which a started program finds its own outputs and leaves what it wrote.
+ghost use Rattle.std.specs.Prelude.{◌≡◌, ◌++◌, ◌∷◌, [], IfOk, IfErr, OnOk, string_bytes};
+ghost use Rattle.tup_path.specs.Show.{show};
+ghost use Rattle.tup_proc.specs.Log.{IsLog};
+ghost use Rattle.tup_proc_runner.specs.Refused.{IsMemoryOr};
+ghost use Rattle.tup_proc_runner.specs.Told.{told_in, told_of, texts_of, with_line, list_of};
+
 use crate::fault::{ProcFault, Refused};
 use std::alloc::{AllocError, Global};
 use std::fs::File;
@@ -18,7 +24,9 @@ pub(crate) struct Stage<R: Files<File = File> + Clone + Drop> {
 
 impl<R: Files<File = File> + Clone + Drop> Stage<R> {
     /// Empties the stage, and writes the list of the rule's own outputs.
-    pub(crate) fn prepare(&self, alloc: Global, own: &[Path]) -> Result<(), Refused> {
+    pub(crate) fn prepare(&self, alloc: Global, own: &[Path]) -> Result<(), Refused>
+        ensures { IfErr result (IsMemoryOr ProcFault.NoStage) }
+    {
         self.empty(alloc)?;
         let place = self.place(alloc, "own")?;
         let list = listed(alloc, own)?;
@@ -26,7 +34,9 @@ impl<R: Files<File = File> + Clone + Drop> Stage<R> {
     }
 
     /// Makes the stage an empty folder.
-    fn empty(&self, alloc: Global) -> Result<(), Refused> {
+    fn empty(&self, alloc: Global) -> Result<(), Refused>
+        ensures { IfErr result (IsMemoryOr ProcFault.NoStage) }
+    {
         let runtime = (self.rt.clone()?, alloc);
         match fs::remove_dir_all(&runtime, self.folder.as_str()) {
             Ok(()) => {}
@@ -37,7 +47,9 @@ impl<R: Files<File = File> + Clone + Drop> Stage<R> {
     }
 
     /// The lines of the log that the program left.
-    pub(crate) fn log(&self, alloc: Global) -> Result<Items<LogLine>, Refused> {
+    pub(crate) fn log(&self, alloc: Global) -> Result<Items<LogLine>, Refused>
+        ensures { IfOk result IsLog }
+    {
         let bytes = self.read(alloc, "log")?;
         match read_log(alloc, &bytes) {
             Ok(lines) => Ok(lines),
@@ -47,17 +59,31 @@ impl<R: Files<File = File> + Clone + Drop> Stage<R> {
     }
 
     /// How the program ended, and what it wrote.
-    pub(crate) fn ended(&self, alloc: Global, lines: &[LogLine]) -> Result<Ended, Refused> {
-        let mut writes = Items::new(alloc);
-        let mut status = 0;
+    pub(crate) fn ended(&self, alloc: Global, lines: &[LogLine]) -> Result<Ended, Refused>
+        ensures { IfOk result (λ ended. told_of ended ≡ told_in lines.now) }
+    {
+        let mut ended = Ended {
+            status: 0,
+            writes: Items::new(alloc),
+        };
         for line in lines {
-            match line {
-                LogLine::Wrote { file, text } => self.take(alloc, &mut writes, *file, text)?,
-                LogLine::End { status: ended } => status = *ended,
-                _ => {}
-            }
+            self.add(alloc, &mut ended, line)?;
         }
-        Ok(Ended { status, writes })
+        Ok(ended)
+    }
+
+    /// Adds what a line says of it.
+    fn add(&self, alloc: Global, ended: &mut Ended, line: &LogLine) -> Result<(), Refused>
+        ensures { OnOk result (told_of ended.new ≡ with_line (told_of ended.old) line.now) }
+    {
+        match line {
+            LogLine::Wrote { file, text } => self.take(alloc, &mut ended.writes, *file, text),
+            LogLine::End { status } => {
+                ended.status = *status;
+                Ok(())
+            }
+            LogLine::Read { .. } | LogLine::Absent { .. } => Ok(()),
+        }
     }
 
     /// Adds a write with the content of its file.
@@ -67,7 +93,9 @@ impl<R: Files<File = File> + Clone + Drop> Stage<R> {
         writes: &mut Writes,
         file: u32,
         text: &Text,
-    ) -> Result<(), Refused> {
+    ) -> Result<(), Refused>
+        ensures { OnOk result (texts_of writes.new ≡ texts_of writes.old ++ text.now ∷ []) }
+    {
         let name = format!(in alloc; "w{file}")?;
         let content = self.read(alloc, name.as_str())?;
         writes.push((text.clone()?, Bytes::new(content)))?;
@@ -92,7 +120,10 @@ impl<R: Files<File = File> + Clone + Drop> Stage<R> {
     }
 
     /// The place of a file of the stage.
-    fn place(&self, alloc: Global, name: &str) -> Result<String, AllocError> {
+    fn place(&self, alloc: Global, name: &str) -> Result<String, AllocError>
+        ensures { IfOk result (λ place. string_bytes place
+            ≡ self.now.folder ++ 47 ∷ name.now) }
+    {
         let mut place = String::from_str(alloc, self.folder.as_str())?;
         place.push('/')?;
         place.push_str(name)?;
@@ -100,7 +131,9 @@ impl<R: Files<File = File> + Clone + Drop> Stage<R> {
     }
 
     /// An answer of the system about the stage.
-    fn at(&self, answer: io::Result<()>) -> Result<(), Refused> {
+    fn at(&self, answer: io::Result<()>) -> Result<(), Refused>
+        ensures { IfErr result (IsMemoryOr ProcFault.NoStage) }
+    {
         match answer {
             Ok(()) => Ok(()),
             Err(e) => Err(Refused::of(&e, ProcFault::NoStage)),
@@ -109,14 +142,26 @@ impl<R: Files<File = File> + Clone + Drop> Stage<R> {
 }
 
 /// Paths as they are shown, a line for each.
-fn listed(alloc: Global, paths: &[Path]) -> Result<Vec<u8>, Refused> {
+fn listed(alloc: Global, paths: &[Path]) -> Result<Vec<u8>, Refused>
+    ensures list { IfOk result (λ list. list.items ≡ list_of paths.now) }
+    ensures memory { IfErr result (λ refused. refused ≡ Refused.Memory) }
+{
     let mut list = Vec::new(alloc);
     for path in paths {
-        let Ok(shown) = path.show(alloc) else {
-            return Err(Refused::Memory);
-        };
-        list.extend_from_slice(shown.as_str().as_bytes())?;
-        list.push(b'\n')?;
+        list_path(alloc, &mut list, path)?;
     }
     Ok(list)
+}
+
+/// Adds a path to those that are listed.
+fn list_path(alloc: Global, list: &mut Vec<u8>, path: &Path) -> Result<(), Refused>
+    ensures list { OnOk result (list.new.items ≡ list.old.items ++ show path.now ++ 10 ∷ []) }
+    ensures memory { IfErr result (λ refused. refused ≡ Refused.Memory) }
+{
+    let Ok(shown) = path.show(alloc) else {
+        return Err(Refused::Memory);
+    };
+    list.extend_from_slice(shown.as_str().as_bytes())?;
+    list.push(b'\n')?;
+    Ok(())
 }

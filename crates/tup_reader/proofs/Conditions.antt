@@ -1,5 +1,5 @@
 -- What conditionals and assignments come to, case by case.
-use Rattle.std.proofs.Common.{◌≡◌, ◌⊎◌, inl, inr, Bool, true, false, if◌then◌else◌, ℕ, List, Option, Some, None, Result, Ok, Err, refl, ap, sym, ◌∙◌, is_some}
+use Rattle.std.proofs.Common.{◌≡◌, ◌⊎◌, inl, inr, Bool, true, false, if◌then◌else◌, ℕ, List, Option, Some, None, Result, Ok, Err, refl, ap, is_some}
 use Rattle.tup_lex.specs.Blank.{trim}
 use Rattle.tup_lex.specs.declared.kind.ParseKind.TheVariants.{BadName, Unclosed}
 use Rattle.tup_vars.specs.Name.{is_name, is_free}

@@ -1,5 +1,5 @@
 -- The lines of a file, case by case.
-use Rattle.std.proofs.Common.{◌≡◌, ◌⊎◌, inl, inr, Result, Ok, Err, ℕ, zero, suc, ◌+◌, ◌-◌, ◌<◌, ◌≤◌, Bool, true, false, if◌then◌else◌, List, [], ◌∷◌, ◌++◌, length, get_or, drop, Option, Some, None, codes, refl, sym, ap, ◌∙◌, arith}
+use Rattle.std.proofs.Common.{◌≡◌, ◌⊎◌, inl, inr, Result, Ok, Err, ℕ, zero, suc, ◌+◌, ◌<◌, ◌≤◌, Bool, true, false, if◌then◌else◌, List, [], ◌∷◌, ◌++◌, length, get_or, drop, Option, Some, None, codes, refl, sym, ap, ◌∙◌, arith}
 use Rattle.std.specs.Borrow.{Bor}
 use Rattle.std.proofs.lemmas.List.{at_drop_more, at_drop_all}
 use Rattle.tup_path.specs.Name.{Names, Content}
@@ -19,7 +19,7 @@ use Rattle.tup_draft.specs.declared.state.State.{State}
 use Rattle.tup_ask.specs.Reads.{Reads, gives, and_then}
 use Rattle.tup_ask.specs.Spot.{Spot, spot, refused}
 use Rattle.tup_draft.specs.State.{fresh}
-use Rattle.tup_reader.specs.Kind.{Kind, Compares, Looks, Else, Endif, Complains, IncludesRules, Includes, Rules, Defines, Sets, Unknown, kind_of, in_bytes}
+use Rattle.tup_reader.specs.Kind.{Kind, Compares, Looks, Else, Endif, Complains, IncludesRules, Includes, Rules, Defines, Sets, kind_of, in_bytes}
 use Rattle.tup_reader.specs.Opening.{along, at_levels, opening}
 use Rattle.tup_reader.specs.Conditional.{compares, looked_up}
 use Rattle.tup_reader.specs.Setting.{assigned}

@@ -1,5 +1,5 @@
 -- What the whole reading leaves.
-use Rattle.std.proofs.Common.{◌≡◌, Bool, true, false, cond, List, [], ◌∷◌, Option, Some, None, option_map, Result, Ok, Err, refl, sym, ap, ◌∙◌, subst, IsTrue}
+use Rattle.std.proofs.Common.{◌≡◌, Bool, true, false, cond, List, [], ◌∷◌, ◌++◌, map, Option, Some, None, option_map, Result, Ok, Err, refl, sym, ap, ◌∙◌, subst, append-nil, IsTrue}
 use Rattle.std.specs.Map.{lookup}
 use Rattle.tup_path.specs.Name.{Names}
 use Rattle.tup_rule.specs.declared.draft.Draft.{Draft}
@@ -12,10 +12,10 @@ use Rattle.tup_ask.specs.declared.fault.ParseFault.{ParseFault}
 use Rattle.tup_ask.specs.declared.fault.ReadEnd.{ReadEnd}
 use Rattle.tup_ask.specs.declared.fault.ReadEnd.TheVariants.{Fault, Stopped, Memory}
 use Rattle.tup_ask.specs.Reads.{Reads}
-use Rattle.tup_ask.specs.Log.{Log, same_question, told_before, Ran, Says, noted_log}
-use Rattle.tup_reader.specs.Read.{IsReading, IsToldBy, KeepsAnswers, Agrees}
+use Rattle.tup_ask.specs.Log.{Log, same_question, told_before, Ran, Says, noted_log, questions_of}
+use Rattle.tup_reader.specs.Read.{IsReading, IsToldBy, KeepsAnswers, Agrees, AsksOnce}
 use Rattle.tup_reader.specs.Reading.{reading}
-use Rattle.tup_ask.specs.Went.{Asker, Comes, Went}
+use Rattle.tup_ask.specs.Went.{Asker, AskedAre, Asks, Comes, Went}
 use Rattle.tup_ask.proofs.Runs.{ran_outcome}
 
 -- nothing is said of what was not asked
@@ -84,3 +84,31 @@ pub kept_agrees : {tells : Bool} {before after : Asker} (dir : Names) (kept : Re
     → Agrees before.answers (reading dir) (Ok kept)
 kept_agrees {before = before} {after = after} dir kept went empty asked told =
     kept_agreeing before.answers (reading dir) after.log kept (comes_from (reading dir) went empty) asked (said (reading dir) went empty told)
+
+-- ---- what was asked
+questions_noted : (log : Log) → map (λ (entry : Question × Noted). entry.0) (noted_log log) ≡ questions_of log
+questions_noted [] = refl
+questions_noted (entry ∷ log) = ap (λ (questions : List Question). entry.0 ∷ questions) (questions_noted log)
+
+asked_from : {A : Type 0} {tells : Bool} {before after : Asker} {end : Result A ReadEnd} (reads : Reads ParseFault A) → Went tells before reads after end → before.log ≡ []
+    → (earlier : List Question) → AskedAre before.asked earlier → Asks earlier [] reads after end
+asked_from {before = before} {after = after} {end = end} reads went empty earlier asked =
+    let none = subst (λ (questions : List Question). AskedAre before.asked questions) (sym (append-nil earlier)) asked in
+    subst (λ l. Asks earlier l reads after end) empty (went.asks earlier (subst (λ (l : Log). AskedAre before.asked (earlier ++ questions_of l)) (sym empty) none))
+
+ended_asking : (dir : Names) (earlier : List Question) (after : Asker) (end : ReadEnd) → Comes [] (reading dir) after (Err end) → Asks earlier [] (reading dir) after (Err end)
+    → AsksOnce dir earlier after.asked (Err end)
+ended_asking dir earlier after (Fault fault) comes asks = (after.log, comes, asks)
+ended_asking dir earlier after Stopped comes (question, halts, asked) = (after.log, question, halts, asked)
+ended_asking dir earlier after Memory comes asks = tt
+
+pub ended_asks : {tells : Bool} {before after : Asker} (dir : Names) (end : ReadEnd) → Went tells before (reading dir) after (Err end) → before.log ≡ []
+    → (earlier : List Question) → AskedAre before.asked earlier → AsksOnce dir earlier after.asked (Err end)
+ended_asks {after = after} dir end went empty earlier asked =
+    ended_asking dir earlier after end (comes_from (reading dir) went empty) (asked_from (reading dir) went empty earlier asked)
+
+pub kept_asks : {tells : Bool} {before after : Asker} (dir : Names) (kept : Reading) → Went tells before (reading dir) after (Ok kept.drafts) → before.log ≡ [] → kept.asked ≡ noted_log after.log
+    → (earlier : List Question) → AskedAre before.asked earlier → AsksOnce dir earlier after.asked (Ok kept)
+kept_asks {after = after} dir kept went empty noted earlier asked =
+    subst (λ (questions : List Question). AskedAre after.asked (earlier ++ questions)) (sym (ap (λ (l : List (Question × Noted)). map (λ (entry : Question × Noted). entry.0) l) noted ∙ questions_noted after.log))
+    (asked_from (reading dir) went empty earlier asked)

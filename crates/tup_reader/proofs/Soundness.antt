@@ -1,11 +1,10 @@
 -- The rules of every reading can be run in the order of their lines.
-use Rattle.std.proofs.Common.{◌≡◌, ℕ, zero, suc, ◌+◌, ◌-◌, Bool, true, false, if◌then◌else◌, List, [], ◌∷◌, ◌++◌, Option, Some, None, Result, All, codes, refl}
+use Rattle.std.proofs.Common.{◌≡◌, ℕ, zero, suc, ◌+◌, Bool, true, false, if◌then◌else◌, List, [], ◌∷◌, ◌++◌, Option, Some, None, Result, All, codes, refl}
 use Rattle.std.proofs.lemmas.List.Elements.{All-nil}
 use Rattle.tup_path.specs.Name.{Names, Content}
 use Rattle.tup_lex.specs.Blank.{trim}
 use Rattle.tup_lex.specs.declared.line.Line.{Line}
 use Rattle.tup_lex.specs.declared.kind.ParseKind.TheVariants as fault
-use Rattle.tup_rule.specs.declared.question.Kind.{Kind}
 use Rattle.tup_rule.specs.declared.question.Question.{Question}
 use Rattle.tup_rule.specs.declared.question.Told.{Told}
 use Rattle.tup_vars.specs.declared.fault.VarFault.{VarFault}
@@ -17,7 +16,7 @@ use Rattle.tup_reader.specs.declared.file.Held.{Held}
 use Rattle.tup_reader.specs.declared.opening.Along.{Along}
 use Rattle.tup_draft.specs.declared.state.State.{State}
 use Rattle.tup_ask.specs.Reads.{Reads, gives, and_then}
-use Rattle.tup_ask.specs.Spot.{Spot, refused}
+use Rattle.tup_ask.specs.Spot.{Spot}
 use Rattle.tup_draft.specs.State.{is_made}
 use Rattle.tup_ask.specs.Text.{taken}
 use Rattle.tup_draft.specs.State.{fresh}

@@ -1,5 +1,5 @@
 -- What the reading of a folder's Tupfile leaves (own).
-use Rattle.std.specs.Prelude.{◌≡◌, Bool, IsTrue, List, [], Option, Some, Result, Ok, Err}
+use Rattle.std.specs.Prelude.{◌≡◌, Bool, IsTrue, List, [], ◌∷◌, ◌++◌, map, Option, Some, Result, Ok, Err}
 use Rattle.std.specs.Map.{lookup}
 use Rattle.tup_path.specs.Name.{Names}
 use Rattle.tup_rule.specs.declared.draft.Draft.{Draft}
@@ -12,7 +12,8 @@ use Rattle.tup_ask.specs.declared.fault.ParseFault.{ParseFault}
 use Rattle.tup_ask.specs.declared.fault.ReadEnd.{ReadEnd}
 use Rattle.tup_ask.specs.declared.fault.ReadEnd.TheVariants.{Fault, Stopped, Memory}
 use Rattle.tup_ask.specs.Reads.{Reads, outcome}
-use Rattle.tup_ask.specs.Log.{Log, same_question, Ran, Halts, StopsAt, Says, noted_log}
+use Rattle.tup_ask.specs.Log.{Log, same_question, Ran, Halts, StopsAt, Says, noted_log, questions_of}
+use Rattle.tup_ask.specs.Went.{AskedAre}
 use Rattle.tup_reader.specs.Reading.{reading}
 
 -- what was told is what this one answers, where it tells
@@ -40,3 +41,12 @@ Agrees answers reads (Ok left) = (outcome answers reads ≡ Ok left.drafts) × K
 Agrees answers reads (Err (Fault fault)) = outcome answers reads ≡ Err fault
 Agrees answers reads (Err Stopped) = (log : Log) × (question : Question) × Halts [] reads log question × Says answers log
 Agrees answers reads (Err Memory) = Unit {0}
+
+-- behind earlier questions one who answers was asked what the reading asks up to its end, each question once, in order: of
+-- rules just what is kept; where it stopped, at last the one at which it did
+abbrev pub AsksOnce : Names → List Question → Option (List Question) → Result Reading ReadEnd → Type 0
+AsksOnce dir earlier asked (Ok left) = AskedAre asked (earlier ++ map (λ (entry : Question × Noted). entry.0) left.asked)
+AsksOnce dir earlier asked (Err (Fault fault)) = (log : Log) × Ran [] (reading dir) log (Err fault) × AskedAre asked (earlier ++ questions_of log)
+AsksOnce dir earlier asked (Err Stopped) =
+    (log : Log) × (question : Question) × Halts [] (reading dir) log question × AskedAre asked (earlier ++ (questions_of log ++ question ∷ []))
+AsksOnce dir earlier asked (Err Memory) = Unit {0}

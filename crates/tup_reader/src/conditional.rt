@@ -22,9 +22,9 @@ pub(crate) fn compares<E: Env>(
     text: &str,
 ) -> Result<bool, ReadEnd>
     requires { is_some (E.stopped env.old) ≡ false }
-    ensures { Went E.tells (asker (E.answers env.old) (E.stopped env.old) log.old)
+    ensures { Went E.tells (asker (E.answers env.old) (E.stopped env.old) (E.asked env.old) log.old)
         (specs.compares at.now variables.now alike text.now)
-        (asker (E.answers env.new) (E.stopped env.new) log.new) result }
+        (asker (E.answers env.new) (E.stopped env.new) (E.asked env.new) log.new) result }
 {
     match sides(text) {
         Some((left, right)) => compared(alloc, env, log, at, variables, alike, left, right),
@@ -44,9 +44,9 @@ fn compared<E: Env>(
     right: &str,
 ) -> Result<bool, ReadEnd>
     requires { is_some (E.stopped env.old) ≡ false }
-    ensures { Went E.tells (asker (E.answers env.old) (E.stopped env.old) log.old)
+    ensures { Went E.tells (asker (E.answers env.old) (E.stopped env.old) (E.asked env.old) log.old)
         (specs.compared at.now variables.now alike left.now right.now)
-        (asker (E.answers env.new) (E.stopped env.new) log.new) result }
+        (asker (E.answers env.new) (E.stopped env.new) (E.asked env.new) log.new) result }
 {
     let one = expanded(alloc, env, log, at, variables, left)?;
     let other = expanded(alloc, env, log, at, variables, right)?;
@@ -63,9 +63,9 @@ pub(crate) fn looked_up<E: Env>(
     name: &str,
 ) -> Result<bool, ReadEnd>
     requires { is_some (E.stopped env.old) ≡ false }
-    ensures { Went E.tells (asker (E.answers env.old) (E.stopped env.old) log.old)
+    ensures { Went E.tells (asker (E.answers env.old) (E.stopped env.old) (E.asked env.old) log.old)
         (specs.looked_up at.now wanted name.now)
-        (asker (E.answers env.new) (E.stopped env.new) log.new) result }
+        (asker (E.answers env.new) (E.stopped env.new) (E.asked env.new) log.new) result }
 {
     if !is_name(name) {
         return Err(at.refuse(ParseKind::BadName));

@@ -27,9 +27,9 @@ fn held_at<E: Env>(
     path: Path,
 ) -> Result<Option<Held>, ReadEnd>
     requires { is_some (E.stopped env.old) ≡ false }
-    ensures { Went E.tells (asker (E.answers env.old) (E.stopped env.old) log.old)
+    ensures { Went E.tells (asker (E.answers env.old) (E.stopped env.old) (E.asked env.old) log.old)
         (specs.held_at path)
-        (asker (E.answers env.new) (E.stopped env.new) log.new) result }
+        (asker (E.answers env.new) (E.stopped env.new) (E.asked env.new) log.new) result }
 {
     let content = content_at(alloc, env, log, &path)?;
     Ok(holding(path, content))
@@ -54,9 +54,9 @@ pub(crate) fn held_in<E: Env>(
     name: &str,
 ) -> Result<Option<Held>, ReadEnd>
     requires { is_some (E.stopped env.old) ≡ false }
-    ensures { Went E.tells (asker (E.answers env.old) (E.stopped env.old) log.old)
+    ensures { Went E.tells (asker (E.answers env.old) (E.stopped env.old) (E.asked env.old) log.old)
         (specs.held_in dir.now name.now)
-        (asker (E.answers env.new) (E.stopped env.new) log.new) result }
+        (asker (E.answers env.new) (E.stopped env.new) (E.asked env.new) log.new) result }
 {
     let path = named_in(alloc, dir, name)?;
     match path {
@@ -83,9 +83,9 @@ pub(crate) fn included_file<E: Env>(
     text: &str,
 ) -> Result<Held, ReadEnd>
     requires { is_some (E.stopped env.old) ≡ false }
-    ensures { Went E.tells (asker (E.answers env.old) (E.stopped env.old) log.old)
+    ensures { Went E.tells (asker (E.answers env.old) (E.stopped env.old) (E.asked env.old) log.old)
         (specs.included_file at.now variables.now text.now)
-        (asker (E.answers env.new) (E.stopped env.new) log.new) result }
+        (asker (E.answers env.new) (E.stopped env.new) (E.asked env.new) log.new) result }
 {
     let name = expanded(alloc, env, log, at, variables, text)?;
     let path = included_path(alloc, at, &name)?;
@@ -109,9 +109,9 @@ fn named_file<E: Env>(
     path: Path,
 ) -> Result<Held, ReadEnd>
     requires { is_some (E.stopped env.old) ≡ false }
-    ensures { Went E.tells (asker (E.answers env.old) (E.stopped env.old) log.old)
+    ensures { Went E.tells (asker (E.answers env.old) (E.stopped env.old) (E.asked env.old) log.old)
         (specs.named_file at.now path)
-        (asker (E.answers env.new) (E.stopped env.new) log.new) result }
+        (asker (E.answers env.new) (E.stopped env.new) (E.asked env.new) log.new) result }
 {
     let found = held_at(alloc, env, log, path)?;
     match found {

@@ -29,9 +29,9 @@ pub(crate) fn comparing<E: Env>(
     text: &str,
 ) -> Result<Along, ReadEnd>
     requires { is_some (E.stopped env.old) ≡ false }
-    ensures { Went E.tells (asker (E.answers env.old) (E.stopped env.old) log.old)
+    ensures { Went E.tells (asker (E.answers env.old) (E.stopped env.old) (E.asked env.old) log.old)
         (specs.opening at.now before (compares at.now before.state.variables alike text.now))
-        (asker (E.answers env.new) (E.stopped env.new) log.new) result }
+        (asker (E.answers env.new) (E.stopped env.new) (E.asked env.new) log.new) result }
 {
     if !before.levels.on() {
         return unread(at, before);
@@ -51,9 +51,9 @@ pub(crate) fn looking<E: Env>(
     name: &str,
 ) -> Result<Along, ReadEnd>
     requires { is_some (E.stopped env.old) ≡ false }
-    ensures { Went E.tells (asker (E.answers env.old) (E.stopped env.old) log.old)
+    ensures { Went E.tells (asker (E.answers env.old) (E.stopped env.old) (E.asked env.old) log.old)
         (specs.opening at.now before (looked_up at.now wanted name.now))
-        (asker (E.answers env.new) (E.stopped env.new) log.new) result }
+        (asker (E.answers env.new) (E.stopped env.new) (E.asked env.new) log.new) result }
 {
     if !before.levels.on() {
         return unread(at, before);

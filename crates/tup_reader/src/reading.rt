@@ -27,9 +27,9 @@ pub(crate) fn drafts_of<E: Env>(
     dir: &Path,
 ) -> Result<Drafts, ReadEnd>
     requires { is_some (E.stopped env.old) ≡ false }
-    ensures { Went E.tells (asker (E.answers env.old) (E.stopped env.old) log.old)
+    ensures { Went E.tells (asker (E.answers env.old) (E.stopped env.old) (E.asked env.old) log.old)
         (specs.reading dir.now)
-        (asker (E.answers env.new) (E.stopped env.new) log.new) result }
+        (asker (E.answers env.new) (E.stopped env.new) (E.asked env.new) log.new) result }
 {
     let found = held_in(alloc, env, log, dir, "Tupfile")?;
     match found {
@@ -47,9 +47,9 @@ fn drafts_in<E: Env>(
     held: &Held,
 ) -> Result<Drafts, ReadEnd>
     requires { is_some (E.stopped env.old) ≡ false }
-    ensures { Went E.tells (asker (E.answers env.old) (E.stopped env.old) log.old)
+    ensures { Went E.tells (asker (E.answers env.old) (E.stopped env.old) (E.asked env.old) log.old)
         (specs.drafts_in dir.now held.now)
-        (asker (E.answers env.new) (E.stopped env.new) log.new) result }
+        (asker (E.answers env.new) (E.stopped env.new) (E.asked env.new) log.new) result }
 {
     let state = State::new(alloc)?;
     let state = with_file(alloc, env, log, ROOM, dir, &held.path, state, &held.content)?;
@@ -69,9 +69,9 @@ fn with_file<E: Env>(
     content: &Bytes,
 ) -> Result<State, ReadEnd>
     requires { is_some (E.stopped env.old) ≡ false }
-    ensures { Went E.tells (asker (E.answers env.old) (E.stopped env.old) log.old)
+    ensures { Went E.tells (asker (E.answers env.old) (E.stopped env.old) (E.asked env.old) log.old)
         (specs.with_room room dir.now file.now state content.now)
-        (asker (E.answers env.new) (E.stopped env.new) log.new) result }
+        (asker (E.answers env.new) (E.stopped env.new) (E.asked env.new) log.new) result }
 {
     let lines = lines_of(alloc, dir, file, content)?;
     let mut along = Along {
@@ -97,9 +97,9 @@ fn with_line<E: Env>(
     line: &str,
 ) -> Result<Along, ReadEnd>
     requires { is_some (E.stopped env.old) ≡ false }
-    ensures { Went E.tells (asker (E.answers env.old) (E.stopped env.old) log.old)
+    ensures { Went E.tells (asker (E.answers env.old) (E.stopped env.old) (E.asked env.old) log.old)
         (specs.with_kind (specs.opener_of room at.now.dir) at.now before (kind.kind_of line.now))
-        (asker (E.answers env.new) (E.stopped env.new) log.new) result }
+        (asker (E.answers env.new) (E.stopped env.new) (E.asked env.new) log.new) result }
 {
     match kind_of(line) {
         LineKind::Compares(alike, text) => comparing(alloc, env, log, at, before, alike, text),
@@ -122,10 +122,10 @@ fn plain_line<E: Env>(
     line: LineKind,
 ) -> Result<Along, ReadEnd>
     requires { is_some (E.stopped env.old) ≡ false }
-    ensures { Went E.tells (asker (E.answers env.old) (E.stopped env.old) log.old)
+    ensures { Went E.tells (asker (E.answers env.old) (E.stopped env.old) (E.asked env.old) log.old)
         (specs.plain_line (specs.opener_of room at.now.dir) at.now before
         (kind.in_bytes line.entry))
-        (asker (E.answers env.new) (E.stopped env.new) log.new) result }
+        (asker (E.answers env.new) (E.stopped env.new) (E.asked env.new) log.new) result }
 {
     if !before.levels.on() {
         return Ok(before);
@@ -147,9 +147,9 @@ fn stated<E: Env>(
     line: LineKind,
 ) -> Result<State, ReadEnd>
     requires { is_some (E.stopped env.old) ≡ false }
-    ensures { Went E.tells (asker (E.answers env.old) (E.stopped env.old) log.old)
+    ensures { Went E.tells (asker (E.answers env.old) (E.stopped env.old) (E.asked env.old) log.old)
         (specs.stated (specs.opener_of room at.now.dir) at.now state (kind.in_bytes line.entry))
-        (asker (E.answers env.new) (E.stopped env.new) log.new) result }
+        (asker (E.answers env.new) (E.stopped env.new) (E.asked env.new) log.new) result }
 {
     match line {
         LineKind::Complains(text) => complained(alloc, env, log, at, &state.variables, text),
@@ -172,9 +172,9 @@ fn complained<E: Env>(
     text: &str,
 ) -> Result<State, ReadEnd>
     requires { is_some (E.stopped env.old) ≡ false }
-    ensures { Went E.tells (asker (E.answers env.old) (E.stopped env.old) log.old)
+    ensures { Went E.tells (asker (E.answers env.old) (E.stopped env.old) (E.asked env.old) log.old)
         (specs.complained at.now variables.now text.now)
-        (asker (E.answers env.new) (E.stopped env.new) log.new) result }
+        (asker (E.answers env.new) (E.stopped env.new) (E.asked env.new) log.new) result }
 {
     let said = expanded(alloc, env, log, at, variables, text)?;
     Err(at.refuse(ParseKind::UserError(said)))
@@ -192,9 +192,9 @@ fn included<E: Env>(
     text: &str,
 ) -> Result<State, ReadEnd>
     requires { is_some (E.stopped env.old) ≡ false }
-    ensures { Went E.tells (asker (E.answers env.old) (E.stopped env.old) log.old)
+    ensures { Went E.tells (asker (E.answers env.old) (E.stopped env.old) (E.asked env.old) log.old)
         (specs.included (specs.opener_of room at.now.dir) at.now state text.now)
-        (asker (E.answers env.new) (E.stopped env.new) log.new) result }
+        (asker (E.answers env.new) (E.stopped env.new) (E.asked env.new) log.new) result }
 {
     let held = included_file(alloc, env, log, at, &state.variables, text)?;
     opened(alloc, env, log, room, at, state, &held)
@@ -212,9 +212,9 @@ fn ruled_down<E: Env>(
     state: State,
 ) -> Result<State, ReadEnd>
     requires { is_some (E.stopped env.old) ≡ false }
-    ensures { Went E.tells (asker (E.answers env.old) (E.stopped env.old) log.old)
+    ensures { Went E.tells (asker (E.answers env.old) (E.stopped env.old) (E.asked env.old) log.old)
         (specs.ruled_down (specs.opener_of room at.now.dir) at.now state)
-        (asker (E.answers env.new) (E.stopped env.new) log.new) result }
+        (asker (E.answers env.new) (E.stopped env.new) (E.asked env.new) log.new) result }
 {
     let mut folder = Path::top(alloc);
     let mut reached = ruled_by(alloc, env, log, room, at, state, &folder)?;
@@ -237,9 +237,9 @@ fn ruled_by<E: Env>(
     folder: &Path,
 ) -> Result<State, ReadEnd>
     requires { is_some (E.stopped env.old) ≡ false }
-    ensures { Went E.tells (asker (E.answers env.old) (E.stopped env.old) log.old)
+    ensures { Went E.tells (asker (E.answers env.old) (E.stopped env.old) (E.asked env.old) log.old)
         (specs.ruled_by (specs.opener_of room at.now.dir) at.now state folder.now)
-        (asker (E.answers env.new) (E.stopped env.new) log.new) result }
+        (asker (E.answers env.new) (E.stopped env.new) (E.asked env.new) log.new) result }
 {
     let found = held_in(alloc, env, log, folder, "Tuprules.tup")?;
     match found {
@@ -260,9 +260,9 @@ fn opened<E: Env>(
     held: &Held,
 ) -> Result<State, ReadEnd>
     requires { is_some (E.stopped env.old) ≡ false }
-    ensures { Went E.tells (asker (E.answers env.old) (E.stopped env.old) log.old)
+    ensures { Went E.tells (asker (E.answers env.old) (E.stopped env.old) (E.asked env.old) log.old)
         (specs.opened (specs.opener_of room at.now.dir) at.now state held.now)
-        (asker (E.answers env.new) (E.stopped env.new) log.new) result }
+        (asker (E.answers env.new) (E.stopped env.new) (E.asked env.new) log.new) result }
 {
     if room == 0 {
         return Err(at.refuse(ParseKind::TooDeep));

@@ -21,9 +21,9 @@ pub(crate) fn assigned<E: Env>(
     right: &str,
 ) -> Result<State, ReadEnd>
     requires { is_some (E.stopped env.old) ≡ false }
-    ensures { Went E.tells (asker (E.answers env.old) (E.stopped env.old) log.old)
+    ensures { Went E.tells (asker (E.answers env.old) (E.stopped env.old) (E.asked env.old) log.old)
         (specs.assigned at.now state left.now right.now)
-        (asker (E.answers env.new) (E.stopped env.new) log.new) result }
+        (asker (E.answers env.new) (E.stopped env.new) (E.asked env.new) log.new) result }
 {
     let name = set_name(left);
     let value = value_of(alloc, env, log, at, &state.variables, name, trimmed(right))?;
@@ -41,9 +41,9 @@ fn value_of<E: Env>(
     text: &str,
 ) -> Result<Text, ReadEnd>
     requires { is_some (E.stopped env.old) ≡ false }
-    ensures { Went E.tells (asker (E.answers env.old) (E.stopped env.old) log.old)
+    ensures { Went E.tells (asker (E.answers env.old) (E.stopped env.old) (E.asked env.old) log.old)
         (specs.value_of at.now variables.now name.now text.now)
-        (asker (E.answers env.new) (E.stopped env.new) log.new) result }
+        (asker (E.answers env.new) (E.stopped env.new) (E.asked env.new) log.new) result }
 {
     if !is_free(name) {
         return Err(at.refuse(ParseKind::BadName));

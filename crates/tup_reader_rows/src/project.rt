@@ -139,6 +139,8 @@ impl Env for Project {
 
     ghost stopped = { λ project. if project.stopped then Some (λ question. true) else None };
 
+    ghost asked = { λ _. None };
+
     /// Answers a question, unless it has answered all that it was to.
     fn answer(&mut self, alloc: Global, question: &Question) -> Result<Told, Stopped> {
         if self.left == 0 {

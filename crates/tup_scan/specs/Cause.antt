@@ -32,6 +32,10 @@ pub record IsOf {T : Type 0} (tree : Tree) (result : Result T ScanFault) : Type 
   pub files : (n : ℕ) → result ≡ Err (TooManyFiles n) → n ≡ length (finite.keys tree)
   pub bytes : (n : ℕ) → result ≡ Err (TooLarge n) → (path : Names) × IsTooLarge tree path n
 
+-- a file is told as too large only where there aren't too many
+abbrev pub TellsManyFirst : {T : Type 0} → Tree → Result T ScanFault → Type 0
+TellsManyFirst tree result = (n : ℕ) → result ≡ Err (TooLarge n) → length (finite.keys tree) ≤ 65536
+
 -- the file at this path, if there is one, isn't too large
 abbrev pub IsSmallAt : Tree → Names → Type 0
 IsSmallAt tree path = IsSmall (finite.get tree path)

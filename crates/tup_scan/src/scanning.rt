@@ -3,7 +3,7 @@ ghost use Rattle.std.specs.Prelude.{◌≡◌, ◌≤◌, map, length, option_ma
 ghost use Rattle.std.specs.FinMap as finite;
 ghost use Rattle.tup_site.specs.Crash.{GoesOn, NoStep};
 ghost use Rattle.tup_stamp.specs.Stamp.{stamp};
-ghost use Rattle.tup_scan.specs.Cause.{CountsFaults, IsAbove, IsOf, IsSmallAt, IsWithinLimits};
+ghost use Rattle.tup_scan.specs.Cause.{CountsFaults, IsAbove, IsOf, IsSmallAt, IsWithinLimits, TellsManyFirst};
 ghost use Rattle.tup_scan.specs.Seen as specs;
 ghost use Rattle.tup_scan.specs.Seen.{IsSeen, AreStamped, AreFiles};
 
@@ -39,6 +39,7 @@ pub fn scan<S: Site, P: Pulse>(
 
     ensures above { IsAbove result }
     ensures named { IsTrue S.tells → IsOf (S.world site.old).tree result }
+    ensures first { IsTrue S.tells → TellsManyFirst (S.world site.old).tree result }
     ensures cause { CountsFaults (S.faults site.old) (S.faults site.new) result }
 
     ensures same { IsTrue S.tells → S.world site.new ≡ S.world site.old }

@@ -13,10 +13,10 @@ pub returns-in_err-told : goal.returns-in_err-told
 returns-in_err-told g c =
     let unknown : told_before c.args.log.now c.args.question ≡ None = sym c.answer_to.ensures ∙ ap (option_map (λ told. told.now)) c.in_default.is in
     let p = err_from_is_err_and c.from_residual-in_err-told.result c.from_residual-in_err-told.ensures.1 in
-    rw (p.1, p.2) (has_stopped _ _ _ _ _ unknown c.in_err-told.ensures.stopped (λ tells. c.in_err-told.ensures.same tells))
+    rw (p.1, p.2) (has_stopped _ _ _ _ _ _ unknown c.in_err-told.ensures.stopped (λ tells. c.in_err-told.ensures.same tells) c.in_err-told.ensures.asked)
 
 pub returns : goal.returns
 returns g c =
     let unknown : told_before c.args.log.now c.args.question ≡ None = sym c.answer_to.ensures ∙ ap (option_map (λ told. told.now)) c.in_default.is in
     rw (c.in_ok-add.ensures.added, c.in_ok-clone-2.ensures.cases)
-    (asked_new _ _ _ _ _ _ unknown c.in_ok-told.ensures.kind (ap is_some c.in_ok-told.ensures.stopped) (λ tells. c.in_ok-told.ensures.answer tells) (λ tells. c.in_ok-told.ensures.same tells))
+    (asked_new _ _ _ _ _ _ _ unknown c.in_ok-told.ensures.kind (ap is_some c.in_ok-told.ensures.stopped) (λ tells. c.in_ok-told.ensures.answer tells) (λ tells. c.in_ok-told.ensures.same tells) c.in_ok-told.ensures.asked)

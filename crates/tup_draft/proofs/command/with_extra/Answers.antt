@@ -21,7 +21,7 @@ pub returns : goal.returns
 returns g c =
     let a = c.args in
     let done = rw (c.as_slice-named.ensures, c.in_ok-plain.ensures) at c.in_ok-all.ensures in
-    let text = rw c.in_command.ensures at c.with_text.ensures in
+    let text = rw (c.in_command.ensures, c.into_paths.ensures) at c.with_text.ensures in
     went_along _ _ (extra_by a.at.now a.words.now a.group.now a.drafts.now a.parts)
     (went_then (behind_all a.at.now a.words.now a.group.now a.parts) done
     (went_given _ _ (with_text a.at.now a.words.now a.group.now (in_command a.parts) c.in_ok-all.all) c.with_text.result done.stopped text))

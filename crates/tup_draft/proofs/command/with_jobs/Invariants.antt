@@ -9,6 +9,6 @@ abbrev pub invariant-loop-job : goal.invariant-loop-job
 invariant-loop-job g l = record {
   on : is_some (g.E.Env.stopped l.env) ≡ false;
   so_far : (after : Asker) (end : Result State ReadEnd)
-      → Went g.E.Env.tells (asker (g.E.Env.answers l.env) (g.E.Env.stopped l.env) l.log) (with_jobs l.at l.words l.sources l.reached (drop l.job-index l.jobs)) after end
-      → Went g.E.Env.tells (asker (g.E.Env.answers l.fn.env) (g.E.Env.stopped l.fn.env) l.fn.log) (with_jobs l.at l.words l.sources l.fn.state l.jobs) after end;
+      → Went g.E.Env.tells (asker (g.E.Env.answers l.env) (g.E.Env.stopped l.env) (g.E.Env.asked l.env) l.log) (with_jobs l.at l.words l.sources l.reached (drop l.job-index l.jobs)) after end
+      → Went g.E.Env.tells (asker (g.E.Env.answers l.fn.env) (g.E.Env.stopped l.fn.env) (g.E.Env.asked l.fn.env) l.fn.log) (with_jobs l.at l.words l.sources l.fn.state l.jobs) after end;
 }

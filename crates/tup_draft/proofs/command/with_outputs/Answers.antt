@@ -15,5 +15,5 @@ pub returns : goal.returns
 returns g c =
     let a = c.args in
     let done = rw (c.as_slice-named.ensures, c.new-none.ensures) at c.in_ok-plain.ensures in
-    let more = rw c.in_extra-parts.ensures at c.with_extra.ensures in
+    let more = rw (c.in_extra-parts.ensures, c.into_paths.ensures) at c.with_extra.ensures in
     went_along _ _ (outputs_by a.at.now a.words.now a.group.now a.drafts.now a.parts) (went_then (behind_plain a.at.now a.words.now a.group.now a.drafts.now a.parts) done more)

@@ -39,4 +39,4 @@ pub returns : goal.returns
 returns g c =
     let l = c.loop-word in
     let a = c.args in
-    l.invariant.so_far _ _ (went_along _ _ (inputs_end a.at.now a.state.now l.found a.words.now l.word-index (omega arith)) (went_gives _ _ _ l.invariant.on))
+    rw c.into_found.ensures (l.invariant.so_far _ _ (went_along _ _ (inputs_end a.at.now a.state.now l.found a.words.now l.word-index (omega arith)) (went_gives _ _ _ l.invariant.on)))

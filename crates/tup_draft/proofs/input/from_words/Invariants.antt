@@ -10,6 +10,6 @@ abbrev pub invariant-loop-word : goal.invariant-loop-word
 invariant-loop-word g l = record {
   on : is_some (g.E.Env.stopped l.env) ≡ false;
   so_far : (after : Asker) (end : Result Found ReadEnd)
-      → Went g.E.Env.tells (asker (g.E.Env.answers l.env) (g.E.Env.stopped l.env) l.log) (from_words l.at l.state l.found (drop l.word-index l.words)) after end
-      → Went g.E.Env.tells (asker (g.E.Env.answers l.fn.env) (g.E.Env.stopped l.fn.env) l.fn.log) (from_words l.at l.state nothing_found l.words) after end;
+      → Went g.E.Env.tells (asker (g.E.Env.answers l.env) (g.E.Env.stopped l.env) (g.E.Env.asked l.env) l.log) (from_words l.at l.state l.found (drop l.word-index l.words)) after end
+      → Went g.E.Env.tells (asker (g.E.Env.answers l.fn.env) (g.E.Env.stopped l.fn.env) (g.E.Env.asked l.fn.env) l.fn.log) (from_words l.at l.state nothing_found l.words) after end;
 }

@@ -1,4 +1,4 @@
-use Rattle.std.proofs.Common.{Err, Ok, refl, ap, sym, ◌∙◌}
+use Rattle.std.proofs.Common.{Err, Ok, refl, ap}
 use Rattle.tup_lex.specs.declared.kind.ParseKind.TheVariants.{DefinedTwice}
 use Rattle.tup_macro.specs.Macros.{Definitions, macro_of}
 use Rattle.tup_ask.proofs.Went.{gives_along, gives_refusal}

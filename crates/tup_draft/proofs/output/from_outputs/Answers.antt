@@ -11,15 +11,14 @@ returns-in_err-path g c =
     let word = c.word-item.result in
     let a = c.args in
     let p = err_from_is_err_and c.from_residual.result c.from_residual.ensures.1 in
-    let failed = rw c.as_slice.ensures at c.in_err-path.ensures in
     rw (p.1, p.2)
     (l.invariant.so_far _ _
     (went_along _ _ (outputs_more a.at.now a.parts.now a.drafts.now l.outputs a.words.now l.word-index word (omega arith) c.word-item.is)
-    (went_err (λ path. from_outputs a.at.now a.parts.now a.drafts.now (l.outputs ++ path ∷ []) (drop (l.word-index + 1) a.words.now)) failed)))
+    (went_err (λ path. from_outputs a.at.now a.parts.now a.drafts.now (l.outputs ++ path ∷ []) (drop (l.word-index + 1) a.words.now)) c.in_err-path.ensures)))
 
-pub returns-in_err-push : goal.returns-in_err-push
-returns-in_err-push g c =
-    let p = err_from_is_err_and c.from_residual-in_err-push.result c.from_residual-in_err-push.ensures.1 in
+pub returns-in_err-outputs : goal.returns-in_err-outputs
+returns-in_err-outputs g c =
+    let p = err_from_is_err_and c.from_residual-in_err-outputs.result c.from_residual-in_err-outputs.ensures.1 in
     rw (p.1, p.2) (c.loop-word.invariant.so_far _ _ (went_memory _ c.in_ok-path.ensures))
 
 pub loop-word-preserved : goal.loop-word-preserved
@@ -27,13 +26,13 @@ loop-word-preserved g c =
     let l = c.loop-word in
     let word = c.word-item.result in
     let a = c.args in
-    let done = rw c.as_slice.ensures at c.in_ok-path.ensures in
+    let done = c.in_ok-path.ensures in
     record {
       on = done.stopped;
       so_far = λ after end went. l.invariant.so_far after end
           (went_along _ _ (outputs_more a.at.now a.parts.now a.drafts.now l.outputs a.words.now l.word-index word (omega arith) c.word-item.is)
           (went_then (λ path. from_outputs a.at.now a.parts.now a.drafts.now (l.outputs ++ path ∷ []) (drop (l.word-index + 1) a.words.now)) done
-          (rw c.in_ok-push.ensures.ok at went)));
+          (rw c.in_ok-outputs.ensures at went)));
     }
 
 pub returns : goal.returns

@@ -9,6 +9,6 @@ abbrev pub invariant-loop-word : goal.invariant-loop-word
 invariant-loop-word g l = record {
   on : is_some (g.E.Env.stopped l.env) ≡ false;
   so_far : (after : Asker) (end : Result (List Names) ReadEnd)
-      → Went g.E.Env.tells (asker (g.E.Env.answers l.env) (g.E.Env.stopped l.env) l.log) (from_outputs l.at l.parts l.drafts l.outputs (drop l.word-index l.words)) after end
-      → Went g.E.Env.tells (asker (g.E.Env.answers l.fn.env) (g.E.Env.stopped l.fn.env) l.fn.log) (from_outputs l.at l.parts l.drafts l.fn.before l.words) after end;
+      → Went g.E.Env.tells (asker (g.E.Env.answers l.env) (g.E.Env.stopped l.env) (g.E.Env.asked l.env) l.log) (from_outputs l.at l.parts l.drafts l.outputs (drop l.word-index l.words)) after end
+      → Went g.E.Env.tells (asker (g.E.Env.answers l.fn.env) (g.E.Env.stopped l.fn.env) (g.E.Env.asked l.fn.env) l.fn.log) (from_outputs l.at l.parts l.drafts l.fn.before l.words) after end;
 }

@@ -3,8 +3,9 @@ use Rattle.tup_graph.specs.Edits.{edited_by}
 use Rattle.tup_graph.specs.Graph.{GraphState}
 use Rattle.tup_graph.specs.Opening.{IsGraphOf}
 use Rattle.tup_table.specs.Table.{entries_in}
+use Rattle.tup_graph.specs.Scan.{IsScanned}
 use Rattle.tup_diff.specs.Edits.{AreScanEdits}
-use Rattle.tup_note.proofs.Noting.{notes, scans}
+use Rattle.tup_note.proofs.Noting.{notes, stands_so}
 use Rattle.tup_note.proofs.Crashes.{by_commit, by_nothing}
 use Rattle.tup_note.proofs.note.note_scan.Goals as goal
 
@@ -25,14 +26,14 @@ returns-clause-notes g c =
     let old = c.args.graph.now in
     let edits = c.in_ok-edits.edits in
     let are = subst (λ (nodes : GraphState). AreScanEdits nodes c.args.seen.now.files c.args.seen.now.config edits) c.nodes.ensures.value c.in_ok-edits.ensures.edits in
-    notes c.args.seen.now.files c.args.seen.now.config old edits are c.commit_edits.new.self c.args.site.now c.commit_edits.new.site c.commit_edits.result c.commit_edits.ensures.leaves c.commit_edits.ensures.full
+    notes (AreScanEdits old.nodes c.args.seen.now.files c.args.seen.now.config) (IsScanned old.nodes c.args.seen.now.files c.args.seen.now.config) old edits are c.commit_edits.new.self c.args.site.now c.commit_edits.new.site c.commit_edits.result c.commit_edits.ensures.leaves c.commit_edits.ensures.full
 
 pub returns-clause-scanned : goal.returns-clause-scanned
 returns-clause-scanned g c =
     let old = c.args.graph.now in
     let edits = c.in_ok-edits.edits in
     let are = subst (λ (nodes : GraphState). AreScanEdits nodes c.args.seen.now.files c.args.seen.now.config edits) c.nodes.ensures.value c.in_ok-edits.ensures.edits in
-    scans c.args.seen.now.files c.args.seen.now.config old edits are c.commit_edits.new.self c.args.site.now c.commit_edits.new.site
+    stands_so (AreScanEdits old.nodes c.args.seen.now.files c.args.seen.now.config) (IsScanned old.nodes c.args.seen.now.files c.args.seen.now.config) old edits are c.commit_edits.new.self c.args.site.now c.commit_edits.new.site
     (c.scan_edits_leave.ensures old.nodes c.args.seen.now.files c.args.seen.now.config edits are) c.commit_edits.result c.commit_edits.ensures.leaves
 
 pub returns-clause-crash : goal.returns-clause-crash
@@ -40,11 +41,11 @@ returns-clause-crash g c = λ tells.
     let old = c.args.graph.now in
     let edits = c.in_ok-edits.edits in
     let are = subst (λ (nodes : GraphState). AreScanEdits nodes c.args.seen.now.files c.args.seen.now.config edits) c.nodes.ensures.value c.in_ok-edits.ensures.edits in
-    by_commit g.S.Site.world g.S.Site.moment g.S.Site.left_since old.table old.nodes c.args.seen.now.files c.args.seen.now.config (edited_by old.nodes edits)
+    by_commit g.S.Site.world g.S.Site.moment g.S.Site.left_since old.table old.nodes (IsScanned old.nodes c.args.seen.now.files c.args.seen.now.config) (edited_by old.nodes edits)
     (c.scan_edits_leave.ensures old.nodes c.args.seen.now.files c.args.seen.now.config edits are) c.args.site.now c.commit_edits.new.site (c.commit_edits.ensures.crash tells)
 
 pub returns-in_err-edits-clause-crash : goal.returns-in_err-edits-clause-crash
 returns-in_err-edits-clause-crash g c = λ tells.
     let old = c.args.graph.now in
-    by_nothing g.S.Site.world g.S.Site.moment g.S.Site.left_since old.table old.nodes c.args.seen.now.files c.args.seen.now.config c.args.site.now (c.requires.stands tells)
+    by_nothing g.S.Site.world g.S.Site.moment g.S.Site.left_since old.table old.nodes (IsScanned old.nodes c.args.seen.now.files c.args.seen.now.config) c.args.site.now (c.requires.stands tells)
     (subst (λ (nodes : GraphState). IsGraphOf (entries_in old.table) nodes) c.nodes.ensures.value (c.nodes.ensures.graph c.requires.fresh))

@@ -3,7 +3,7 @@ use Rattle.std.proofs.lemmas.Result.{err_from_is_err_and}
 use Rattle.tup_rule.specs.declared.draft.Draft.{Draft}
 use Rattle.tup_rule.specs.declared.question.Reading.{Reading}
 use Rattle.tup_ask.proofs.Went.{still}
-use Rattle.tup_reader.proofs.Readings.{ended_reading, ended_agrees, kept_reading, kept_agrees}
+use Rattle.tup_reader.proofs.Readings.{ended_reading, ended_agrees, ended_asks, kept_reading, kept_agrees, kept_asks}
 use Rattle.tup_reader.proofs.read.read_tupfile.Goals as goal
 
 pub returns-in_err-drafts : goal.returns-in_err-drafts
@@ -16,6 +16,7 @@ returns-in_err-drafts g c =
       reading = ended_reading a.dir.now _ went refl;
       answers = λ tells. ended_agrees a.dir.now _ went refl tells;
       stopped = went.stopped ∙ still (List Draft) Reading _;
+      asks = λ earlier asked. ended_asks a.dir.now _ went refl earlier asked;
       same = went.same;
     })
 
@@ -23,7 +24,7 @@ pub returns-in_err-asked : goal.returns-in_err-asked
 returns-in_err-asked g c =
     let went = rw c.new-log.ensures at c.in_ok-drafts.ensures in
     let p = err_from_is_err_and c.from_residual-in_err-asked.result c.from_residual-in_err-asked.ensures.1 in
-    rw (p.1, p.2) (record { reading = tt; answers = λ tells. tt; stopped = went.stopped; same = went.same })
+    rw (p.1, p.2) (record { reading = tt; answers = λ tells. tt; stopped = went.stopped; asks = λ earlier asked. tt; same = went.same })
 
 pub returns : goal.returns
 returns g c =
@@ -34,5 +35,6 @@ returns g c =
       reading = kept_reading a.dir.now kept went refl c.in_ok-asked.ensures;
       answers = λ tells. kept_agrees a.dir.now kept went refl c.in_ok-asked.ensures tells;
       stopped = went.stopped;
+      asks = λ earlier asked. kept_asks a.dir.now kept went refl c.in_ok-asked.ensures earlier asked;
       same = went.same;
     }

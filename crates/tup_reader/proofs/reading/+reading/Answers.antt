@@ -1,9 +1,8 @@
 use Rattle.std.proofs.Common.{◌≡◌, ℕ, List, ◌+◌, ◌-◌, ◌∷◌, ◌++◌, [], true, false, drop, ap, sym, ◌∙◌, arith, is_some}
 use Rattle.std.proofs.lemmas.Result.{err_from_is_err_and}
-use Rattle.tup_lex.specs.declared.kind.ParseKind.TheVariants as fault
 use Rattle.tup_vars.specs.Branches.{turned, left, all_on}
 use Rattle.tup_ask.specs.Spot.{spot}
-use Rattle.tup_reader.specs.Opening.{along, at_levels}
+use Rattle.tup_reader.specs.Opening.{at_levels}
 use Rattle.tup_reader.specs.File.{lines_of, ended}
 use Rattle.tup_reader.specs.Kind.{Compares, Looks, Else, Endif, kind_of, in_bytes}
 use Rattle.tup_reader.specs.Reading.{opener_of, with_kind, with_lines, plain_line, ruled_below}

@@ -33,14 +33,14 @@ abbrev pub invariant-with_file-loop-line : goal.invariant-with_file-loop-line
 invariant-with_file-loop-line g l = record {
   on : is_some (g.E.Env.stopped l.env) ≡ false;
   so_far : (after : Asker) (end : Result State ReadEnd)
-      → Went g.E.Env.tells (asker (g.E.Env.answers l.env) (g.E.Env.stopped l.env) l.log) (with_lines (opener_of l.room l.dir) l.dir l.file l.along (drop l.line-index l.line-items)) after end
-      → Went g.E.Env.tells (asker (g.E.Env.answers l.fn.env) (g.E.Env.stopped l.fn.env) l.fn.log) (with_room l.room l.dir l.file l.fn.state l.content) after end;
+      → Went g.E.Env.tells (asker (g.E.Env.answers l.env) (g.E.Env.stopped l.env) (g.E.Env.asked l.env) l.log) (with_lines (opener_of l.room l.dir) l.dir l.file l.along (drop l.line-index l.line-items)) after end
+      → Went g.E.Env.tells (asker (g.E.Env.answers l.fn.env) (g.E.Env.stopped l.fn.env) (g.E.Env.asked l.fn.env) l.fn.log) (with_room l.room l.dir l.file l.fn.state l.content) after end;
 }
 
 abbrev pub invariant-ruled_down-loop-name : goal.invariant-ruled_down-loop-name
 invariant-ruled_down-loop-name g l = record {
   on : is_some (g.E.Env.stopped l.env) ≡ false;
   so_far : (after : Asker) (end : Result State ReadEnd)
-      → Went g.E.Env.tells (asker (g.E.Env.answers l.env) (g.E.Env.stopped l.env) l.log) (ruled_below (opener_of l.room l.at.dir) l.at l.reached l.folder (drop l.name-index l.name-items)) after end
-      → Went g.E.Env.tells (asker (g.E.Env.answers l.fn.env) (g.E.Env.stopped l.fn.env) l.fn.log) (ruled_down (opener_of l.room l.at.dir) l.at l.fn.state) after end;
+      → Went g.E.Env.tells (asker (g.E.Env.answers l.env) (g.E.Env.stopped l.env) (g.E.Env.asked l.env) l.log) (ruled_below (opener_of l.room l.at.dir) l.at l.reached l.folder (drop l.name-index l.name-items)) after end
+      → Went g.E.Env.tells (asker (g.E.Env.answers l.fn.env) (g.E.Env.stopped l.fn.env) (g.E.Env.asked l.fn.env) l.fn.log) (ruled_down (opener_of l.room l.at.dir) l.at l.fn.state) after end;
 }

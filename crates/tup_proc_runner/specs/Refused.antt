@@ -1,0 +1,9 @@
+-- Why something of a run wasn't done.
+use Rattle.std.specs.Prelude.{◌≡◌, ◌⊎◌}
+use Rattle.tup_proc_runner.specs.declared.fault.ProcFault.{ProcFault}
+use Rattle.tup_proc_runner.specs.declared.fault.Refused.{Refused}
+use Rattle.tup_proc_runner.specs.declared.fault.Refused.TheVariants.{Memory, Fault}
+
+-- want of memory, or this fault
+abbrev pub IsMemoryOr : ProcFault → Refused → Type 0
+IsMemoryOr fault refused = (refused ≡ Memory) ⊎ (refused ≡ Fault fault)
