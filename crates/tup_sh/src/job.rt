@@ -54,7 +54,12 @@ impl<R: Files<File = File> + Processes + Eprint + Clone + Drop> Job<R> {
     /// Runs the command under the tracer. The scripts print what went wrong.
     fn start(&self, tree: &Tree<R>) -> Result<(), Failure> {
         let mut command = Command::new(self.alloc, "sh")?;
-        self.add_words(&mut command, tree)?;
+        self.start_as(&mut command, tree)
+    }
+
+    /// The same, by a shell that has no words yet.
+    fn start_as(&self, command: &mut Command, tree: &Tree<R>) -> Result<(), Failure> {
+        self.add_words(command, tree)?;
         if command.status(&self.rt)?.success() {
             Ok(())
         } else {
