@@ -1,3 +1,4 @@
+mod Pushing
 mod Puts
 mod Leaving
 mod Swapping

@@ -7,11 +7,7 @@ use Rattle.std.proofs.lemmas.Option.{none-some, same_Some}
 use Rattle.tup_above.proofs.Asked.{taken}
 use Rattle.tup_diff.proofs.Ordered.{none_in}
 use Rattle.tup_swap.specs.Numbered.{numbered}
-
-module _ {X : Type 0} where
-  -- a list behind a list, and another behind that
-  pub behind : (start once twice a b : List X) → once ≡ start ++ a → twice ≡ once ++ b → twice ≡ start ++ (a ++ b)
-  behind start once twice a b first second = second ∙ ap (λ (l : List X). l ++ b) first ∙ append_assoc start a b
+use Rattle.tup_swap.proofs.Pushing.{behind}
 
 module _ {X Y : Type 0} (f : ℕ → X → List Y) where
   -- one value more

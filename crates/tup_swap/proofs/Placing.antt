@@ -10,7 +10,7 @@ use Rattle.tup_rule.specs.declared.rule.Rule.{Rule}
 use Rattle.tup_graph.specs.declared.edit.Edit.{Edit}
 use Rattle.tup_above.proofs.Asked.{taken}
 use Rattle.tup_swap.specs.Edits.{more_edits, rule_more, place_behind}
-use Rattle.tup_swap.proofs.Numbered.{behind}
+use Rattle.tup_swap.proofs.Pushing.{behind}
 use Rattle.tup_swap.proofs.Taking.{one_more}
 
 -- ---- edits

@@ -26,7 +26,7 @@ fn push_unflagged(edits: &mut Edits, nodes: &Nodes) -> Result<(), GraphFault>
         ≡ edits.old ++ map unflag_of (finite.entries nodes.now.flags)) }
     ensures err { IfErr result (λ fault. fault ≡ GraphFault.Memory) }
 {
-    for (number, ()) in nodes.flags() {
+    for (number, _) in nodes.flags() {
         edits.push(Edit::Remove(Record::Modify { number: *number }))?;
     }
     Ok(())
@@ -37,7 +37,7 @@ fn push_uncreated(edits: &mut Edits, nodes: &Nodes) -> Result<(), GraphFault>
         ≡ edits.old ++ map uncreate_of (finite.entries nodes.now.created)) }
     ensures err { IfErr result (λ fault. fault ≡ GraphFault.Memory) }
 {
-    for (dir, ()) in nodes.created() {
+    for (dir, _) in nodes.created() {
         edits.push(uncreated(dir)?)?;
     }
     Ok(())
