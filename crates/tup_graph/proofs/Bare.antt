@@ -161,23 +161,23 @@ module _ (n : ℕ) (small : n < 2 ^ 32) where
   one_away : (x : List ℕ × Entry) (es : Standing) (o : Ordering) → by_bytes (key n) x.0 ≡ o → without_key (x ∷ es) ≡ cond (is_eq o) es (x ∷ without_key es)
   one_away x es o is = ap (λ (r : Ordering). cond (is_eq r) es (x ∷ without_key es)) is
 
+  -- entries behind one, without that of the last rule
+  abbrev Behind : GraphState → GraphState → Standing → Type 0
+  Behind g end es = (s : Record) → Leads (put g s) es end → length (put g s).rules ≤ n → Leads (put g s) (without_key es) (with_first end n)
+
   last_gone : (g end : GraphState) (es : Standing) → IsAscending es → Leads g es end → IsBare end → length end.rules ≡ suc n → length g.rules ≤ n → length g.places ≡ length g.rules
       → Leads g (without_key es) (with_first end n)
   last_gone g end [] up lead bare many few level = absurd (omega (arith, ap (λ (h : GraphState). length h.rules) lead, many, few))
   last_gone g end (x ∷ es) up lead bare many few level =
       by (λ s rest still. last_gone (put g s) end es up.1 rest bare many still (level_after g s level)) lead.0 (plain_first g end x es lead bare) lead.1 lead.2
     where
-      -- the entries behind this one, without that of the last rule
-      abbrev Behind : Type 0
-      Behind = (s : Record) → Leads (put g s) es end → length (put g s).rules ≤ n → Leads (put g s) (without_key es) (with_first end n)
-
-      on : Behind → (s : Record) → Takes g x s → Leads (put g s) es end → length (put g s).rules ≤ n → IsPlain s → Leads g (without_key (x ∷ es)) (with_first end n)
+      on : Behind g end es → (s : Record) → Takes g x s → Leads (put g s) es end → length (put g s).rules ≤ n → IsPlain s → Leads g (without_key (x ∷ es)) (with_first end n)
       on next s takes rest still plain =
           subst (λ (t : Standing). Leads g t (with_first end n))
           (sym (one_away x es Greater (subst (λ (k : List ℕ). by_bytes (key n) k ≡ Greater) (sym takes.0.1) (key_behind n small g end s plain takes.1 still))))
           (s, takes, next s rest still)
 
-      at : Behind → (m place : ℕ) (a : RuleValue) → Takes g x (Rule m place a) → Leads (put g (Rule m place a)) es end → (o : Ordering) → MatchOrdering o (m < n) (m ≡ n) (n < m)
+      at : Behind g end es → (m place : ℕ) (a : RuleValue) → Takes g x (Rule m place a) → Leads (put g (Rule m place a)) es end → (o : Ordering) → MatchOrdering o (m < n) (m ≡ n) (n < m)
           → Leads g (without_key (x ∷ es)) (with_first end n)
       at next m place a takes rest Less less = on next (Rule m place a) takes rest (omega (arith, numbered g m place a takes.1, length-append g.rules (a ∷ []))) tt
       at next m place a takes rest Equal same =
@@ -188,7 +188,7 @@ module _ (n : ℕ) (small : n < 2 ^ 32) where
           (last_here g end n place a x es up.0 is (sym same ∙ numbered g m place a takes.1) level there bare many)
       at next m place a takes rest Greater more = absurd (omega (arith, numbered g m place a takes.1, few, more))
 
-      by : Behind → (s : Record) → IsPlain s → Takes g x s → Leads (put g s) es end → Leads g (without_key (x ∷ es)) (with_first end n)
+      by : Behind g end es → (s : Record) → IsPlain s → Takes g x s → Leads (put g s) es end → Leads g (without_key (x ∷ es)) (with_first end n)
       by next (Seen p a) plain takes rest = on next (Seen p a) takes rest few tt
       by next (Reading p a) plain takes rest = on next (Reading p a) takes rest few tt
       by next (Rule m place a) plain takes rest = at next m place a takes rest (nat_cmp m n) (ranks m n)

@@ -17,6 +17,10 @@ use Rattle.tup_swap.specs.Before.{IsNumberBefore, AreNumbersBefore, AreNumbersBy
 use Rattle.tup_swap.specs.Numbered.{numbered}
 use Rattle.tup_swap.proofs.Numbered.{numbered_more}
 
+-- the numbers of the rules that are looked up by a path
+abbrev listed : Names → ℕ → List Rule → List ℕ
+listed path n rules = numbered (number_at path) n rules
+
 -- ---- lists of numbers by paths
 pub numbers_more : (rules : List Rule) (i : ℕ) (rule : Rule) (old new : Lists ℕ) (key : Names) (number : ℕ) → i < length rules → rule ≡ get_or rules i rule → key ≡ path_of rule → number ≡ i → AreNumbersByPath (take i rules) old
     → ((q : Names) → list_of new q ≡ (if same_path q key then list_of old q ++ number ∷ [] else list_of old q)) → AreNumbersByPath (take (i + 1) rules) new
@@ -26,12 +30,9 @@ numbers_more rules i rule old new key number less here by_key counted are added 
     ∙ by (same_path path (path_of rule))
     ∙ sym (numbered_more (number_at path) rules i rule rule less here)
   where
-    abbrev before : List ℕ
-    before = numbered (number_at path) 0 (take i rules)
-
-    by : (b : Bool) → (if b then list_of old path ++ i ∷ [] else list_of old path) ≡ before ++ (if b then i ∷ [] else [])
+    by : (b : Bool) → (if b then list_of old path ++ i ∷ [] else list_of old path) ≡ listed path 0 (take i rules) ++ (if b then i ∷ [] else [])
     by true = ap (λ (l : List ℕ). l ++ i ∷ []) (are path)
-    by false = are path ∙ sym (append-nil before)
+    by false = are path ∙ sym (append-nil (listed path 0 (take i rules)))
 
 -- a number of a rule that is looked up by a path stands in the list of that path
 pub stands_at : (n : ℕ) (path : Names) (rules : List Rule) (e : ℕ) (rule : Rule) → slice_get rules e ≡ Some rule → path ≡ path_of rule
@@ -39,18 +40,12 @@ pub stands_at : (n : ℕ) (path : Names) (rules : List Rule) (e : ℕ) (rule : R
 stands_at n path [] e rule here is = absurd (none-some rule here)
 stands_at n path (first ∷ rules) zero rule here is = by (same_path path (path_of first)) ((same_path-decides path (path_of first)).1 (is ∙ ap path_of (sym (same_Some first rule here))))
   where
-    abbrev later : List ℕ
-    later = numbered (number_at path) (suc n) rules
-
-    by : (b : Bool) → b ≡ true → (k : ℕ) × (k < length ((if b then n ∷ [] else []) ++ later)) × (get_or ((if b then n ∷ [] else []) ++ later) k 0 ≡ n + 0)
+    by : (b : Bool) → b ≡ true → (k : ℕ) × (k < length ((if b then n ∷ [] else []) ++ listed path (suc n) rules)) × (get_or ((if b then n ∷ [] else []) ++ listed path (suc n) rules) k 0 ≡ n + 0)
     by true same = (0, omega arith, omega arith)
     by false wrong = absurd (let no : false ≡ true = wrong in cc)
 stands_at n path (first ∷ rules) (suc e) rule here is = by (same_path path (path_of first)) (stands_at (suc n) path rules e rule here is)
   where
-    abbrev later : List ℕ
-    later = numbered (number_at path) (suc n) rules
-
-    by : (b : Bool) → (k : ℕ) × (k < length later) × (get_or later k 0 ≡ suc n + e) → (k : ℕ) × (k < length ((if b then n ∷ [] else []) ++ later)) × (get_or ((if b then n ∷ [] else []) ++ later) k 0 ≡ n + suc e)
+    by : (b : Bool) → (k : ℕ) × (k < length (listed path (suc n) rules)) × (get_or (listed path (suc n) rules) k 0 ≡ suc n + e) → (k : ℕ) × (k < length ((if b then n ∷ [] else []) ++ listed path (suc n) rules)) × (get_or ((if b then n ∷ [] else []) ++ listed path (suc n) rules) k 0 ≡ n + suc e)
     by true (k, less, there) = (suc k, omega (arith, less), omega (arith, there))
     by false (k, less, there) = (k, less, omega (arith, there))
 
@@ -68,24 +63,18 @@ pub stands_before : (n : ℕ) (path : Names) (rules : List Rule) (e : ℕ) (rule
 stands_before n path [] e rule here is i within less = absurd (none-some rule here)
 stands_before n path (first ∷ rules) zero rule here is i within less = by (same_path path (path_of first)) ((same_path-decides path (path_of first)).1 (is ∙ ap path_of (sym (same_Some first rule here)))) i less
   where
-    abbrev later : List ℕ
-    later = numbered (number_at path) (suc n) rules
-
-    by : (b : Bool) → b ≡ true → (i : ℕ) → n + 0 < get_or ((if b then n ∷ [] else []) ++ later) i 0 → (k : ℕ) × (k < i) × (get_or ((if b then n ∷ [] else []) ++ later) k 0 ≡ n + 0)
+    by : (b : Bool) → b ≡ true → (i : ℕ) → n + 0 < get_or ((if b then n ∷ [] else []) ++ listed path (suc n) rules) i 0 → (k : ℕ) × (k < i) × (get_or ((if b then n ∷ [] else []) ++ listed path (suc n) rules) k 0 ≡ n + 0)
     by true same zero less = absurd (omega (arith, less))
     by true same (suc i) less = (0, omega arith, omega arith)
     by false wrong i less = absurd (let no : false ≡ true = wrong in cc)
 stands_before n path (first ∷ rules) (suc e) rule here is i within less = by (same_path path (path_of first)) (stands_before (suc n) path rules e rule here is) i within less
   where
-    abbrev later : List ℕ
-    later = numbered (number_at path) (suc n) rules
-
-    by : (b : Bool) → ((i : ℕ) → i < length later → suc n + e < get_or later i 0 → (k : ℕ) × (k < i) × (get_or later k 0 ≡ suc n + e))
-        → (i : ℕ) → i < length ((if b then n ∷ [] else []) ++ later) → n + suc e < get_or ((if b then n ∷ [] else []) ++ later) i 0
-        → (k : ℕ) × (k < i) × (get_or ((if b then n ∷ [] else []) ++ later) k 0 ≡ n + suc e)
+    by : (b : Bool) → ((i : ℕ) → i < length (listed path (suc n) rules) → suc n + e < get_or (listed path (suc n) rules) i 0 → (k : ℕ) × (k < i) × (get_or (listed path (suc n) rules) k 0 ≡ suc n + e))
+        → (i : ℕ) → i < length ((if b then n ∷ [] else []) ++ listed path (suc n) rules) → n + suc e < get_or ((if b then n ∷ [] else []) ++ listed path (suc n) rules) i 0
+        → (k : ℕ) × (k < i) × (get_or ((if b then n ∷ [] else []) ++ listed path (suc n) rules) k 0 ≡ n + suc e)
     by true next zero within less = absurd (omega (arith, less))
-    by true next (suc i) within less = one_on n e i later (next i (omega (arith, within)) (omega (arith, less)))
-    by false next i within less = the_same n e i later (next i within (omega (arith, less)))
+    by true next (suc i) within less = one_on n e i (listed path (suc n) rules) (next i (omega (arith, within)) (omega (arith, less)))
+    by false next i within less = the_same n e i (listed path (suc n) rules) (next i within (omega (arith, less)))
 
 module _ (g : GraphState) (rule : Rule) (numbers : List ℕ) (path : Names) (looked : path ≡ path_of rule) (are : numbers ≡ numbered (number_at path) 0 g.rules) where
   -- the first number in the list that has the rule is the first of all

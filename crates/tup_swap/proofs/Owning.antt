@@ -123,14 +123,14 @@ once_unmade (e ∷ es) once = (
   once_unmade es once.1,
 )
 
-pub all_unmade : (before : Owners) → AreOwned [] before (unmade_of (finite.entries before))
-all_unmade before path =
+all_unmade_of : (es : List (Names × Owned)) (before : Owners) → finite.entries before ≡ es → Once by_names-total by_names-antisymmetric by_names-decides es → AreOwned [] before (unmade_of es)
+all_unmade_of es before are once path =
     ap (λ (m : Owners). finite.get m path) (as_put es finite.empty)
-    ∙ get_put by_names-total by_names-antisymmetric by_names-decides (map unmade es) (once_unmade es (once_sorted by_names-total by_names-antisymmetric by_names-decides before)) finite.empty path
+    ∙ get_put by_names-total by_names-antisymmetric by_names-decides (map unmade es) (once_unmade es once) finite.empty path
     ∙ ap (first_or by_names-total by_names-antisymmetric by_names-decides (find by_names path (map unmade es))) (finite.get-empty by_names path)
     ∙ or_none by_names-total by_names-antisymmetric by_names-decides (find by_names path (map unmade es))
     ∙ find_unmade path es
-    ∙ ap (option_map (λ (owned : Owned). record { maker = None; state = owned.state })) (sym (finite.get-entries before path))
-  where
-    abbrev es : List (Names × Owned)
-    es = finite.entries before
+    ∙ ap (option_map (λ (owned : Owned). record { maker = None; state = owned.state })) (sym (finite.get-entries before path ∙ ap (find by_names path) are))
+
+pub all_unmade : (before : Owners) → AreOwned [] before (unmade_of (finite.entries before))
+all_unmade before = all_unmade_of (finite.entries before) before refl (once_sorted by_names-total by_names-antisymmetric by_names-decides before)

@@ -30,6 +30,10 @@ ArePlaces rules places = (dir : Names) → unwrap_or (finite.get places dir) 0 �
 pub no_places : (places : Places) → places ≡ finite.empty → ArePlaces [] places
 no_places places none dir = ap (λ (m : Places). unwrap_or (finite.get m dir) 0) none ∙ ap (λ (o : Option ℕ). unwrap_or o 0) (finite.get-empty by_names dir)
 
+-- how many rules a folder has
+abbrev counted : List Rule → Names → ℕ
+counted rules dir = count_by (λ (rule : Rule). same_path rule.dir dir) rules
+
 place_push : (rules : List Rule) (rule : Rule) (places : Places) → ArePlaces rules places → ArePlaces (rules ++ rule ∷ []) (finite.insert places rule.dir (unwrap_or (finite.get places rule.dir) 0 + 1))
 place_push rules rule places are dir =
     ap (λ (o : Option ℕ). unwrap_or o 0) (finite.get-insert by_names-total places rule.dir (unwrap_or (finite.get places rule.dir) 0 + 1) dir)
@@ -46,12 +50,9 @@ place_push rules rule places are dir =
     turned = both (same_path dir rule.dir) (same_path rule.dir dir)
         (λ e. (same_path-decides rule.dir dir).1 (sym ((same_path-decides dir rule.dir).0 e))) (λ e. (same_path-decides dir rule.dir).1 (sym ((same_path-decides rule.dir dir).0 e)))
 
-    abbrev counted : ℕ
-    counted = count_by (λ (other : Rule). same_path other.dir dir) rules
-
-    by : (b : Bool) → (b ≡ true → unwrap_or (finite.get places rule.dir) 0 ≡ counted) → unwrap_or (cond b (Some (unwrap_or (finite.get places rule.dir) 0 + 1)) (finite.get places dir)) 0 ≡ counted + cond b 1 0
+    by : (b : Bool) → (b ≡ true → unwrap_or (finite.get places rule.dir) 0 ≡ counted rules dir) → unwrap_or (cond b (Some (unwrap_or (finite.get places rule.dir) 0 + 1)) (finite.get places dir)) 0 ≡ counted rules dir + cond b 1 0
     by true same = ap (λ (n : ℕ). n + 1) (same refl)
-    by false same = are dir ∙ (let plain : counted ≡ counted + 0 = omega arith in plain)
+    by false same = are dir ∙ (let plain : counted rules dir ≡ counted rules dir + 0 = omega arith in plain)
 
 module _ (rules : List Rule) (i : ℕ) (rule : Rule) (less : i < length rules) (here : rule ≡ get_or rules i rule) where
   pub place_more : (places new : Places) → ArePlaces (take i rules) places → new ≡ finite.insert places rule.dir (unwrap_or (finite.get places rule.dir) 0 + 1) → ArePlaces (take (i + 1) rules) new

@@ -83,11 +83,8 @@ module _ (h : GraphState) where
   readings_gone g [] all = tt
   readings_gone g (dir ∷ gone) all = by (finite.get g.readings dir) (readings_gone g gone) all
     where
-      abbrev one : Option Reading → Option Edit
-      one found = option_map (λ (reading : Reading). Remove (records.Reading dir reading)) found
-
       by : (found : Option Reading) → (AllByRecursion HasSpelling (filter_map (unread g) gone) → AllByRecursion (IsTaken h) (filter_map (unread g) gone))
-          → AllByRecursion HasSpelling (cons_option (one found) (filter_map (unread g) gone)) → AllByRecursion (IsTaken h) (cons_option (one found) (filter_map (unread g) gone))
+          → AllByRecursion HasSpelling (cons_option (option_map (λ (reading : Reading). Remove (records.Reading dir reading)) found) (filter_map (unread g) gone)) → AllByRecursion (IsTaken h) (cons_option (option_map (λ (reading : Reading). Remove (records.Reading dir reading)) found) (filter_map (unread g) gone))
       by None next all = next all
       by (Some reading) next all = ((tt, all.0), next all.1)
 
