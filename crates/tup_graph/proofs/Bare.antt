@@ -1,5 +1,5 @@
 -- The last rule goes, or one comes behind it, in a table that stands for a graph of files, readings and rules alone.
-use Rattle.std.proofs.Common.{◌≡◌, ◌<◌, ◌≤◌, ◌^◌, ℕ, suc, Bool, true, false, cond, ◌&&◌, List, [], ◌∷◌, ◌++◌, length, take, Option, None, Some, refl, sym, ap, subst, ◌∙◌, length-append, arith}
+use Rattle.std.proofs.Common.{◌≡◌, ◌<◌, ◌≤◌, ◌^◌, ℕ, suc, Bool, true, false, cond, ◌&&◌, List, [], ◌∷◌, ◌++◌, length, take, None, Some, refl, sym, ap, subst, ◌∙◌, length-append, arith}
 use Rattle.std.specs.declared.cmp.Ordering.{Ordering}
 use Rattle.std.specs.declared.cmp.Ordering.TheVariants.{Less, Equal, Greater}
 use Rattle.std.specs.Ordering.{nat_cmp, match_ordering, MatchOrdering, is_eq}
@@ -135,7 +135,8 @@ cut g n place a is level =
     ap (λ (t : List RuleValue × List ℕ). record g { rules = t.0; places = t.1 })
     (λ i. (
       (ap (λ (k : ℕ). take k (g.rules ++ a ∷ [])) is ∙ take-append_seam g.rules (a ∷ [])) i,
-      (ap (λ (k : ℕ). take k (g.places ++ place ∷ [])) (is ∙ sym level) ∙ take-append_seam g.places (place ∷ [])) i))
+      (ap (λ (k : ℕ). take k (g.places ++ place ∷ [])) (is ∙ sym level) ∙ take-append_seam g.places (place ∷ [])) i,
+    ))
 
 -- the entry of the last rule is taken away
 last_here : (g end : GraphState) (n place : ℕ) (a : RuleValue) (x : List ℕ × Entry) (es : Standing) → AllByRecursion (λ (later : List ℕ × Entry). by_bytes x.0 later.0 ≡ Less) es → x.0 ≡ key n

@@ -1,6 +1,6 @@
 -- The good end of a run keeps a kept graph.
-use Rattle.std.proofs.Common.{◌≡◌, ◌≢◌, ℕ, Bool, true, false, cond, eqb, ◌||◌, is_some, List, [], ◌∷◌, map, fold, slice_get, slice_index_or, Option, None, Some, All, Contains, refl, sym, ap, ap₂, subst, ◌∙◌}
-use Rattle.std.specs.List.{AllByRecursion, IsDistinct, list_any}
+use Rattle.std.proofs.Common.{◌≡◌, ◌≢◌, ℕ, Bool, true, false, cond, ◌||◌, is_some, List, [], ◌∷◌, map, fold, slice_get, slice_index_or, Option, None, Some, All, Contains, refl, sym, ap, subst, ◌∙◌}
+use Rattle.std.specs.List.{AllByRecursion, IsDistinct}
 use Rattle.std.specs.FinMap as finite
 use Rattle.std.specs.FinMap.{nat_cmp-IsAntisymmetric}
 use Rattle.std.specs.Ordering.{eq_by_cmp, is_eq, nat_cmp}
@@ -22,7 +22,7 @@ use Rattle.tup_record.specs.declared.owned.OwnedState.TheVariants.{Written}
 use Rattle.tup_record.specs.declared.run.RunRecord.{RunRecord}
 use Rattle.tup_graph.specs.declared.owned.Owned.{Owned}
 use Rattle.tup_graph.specs.Answers.{tupfile, IsSource, IsAnswer}
-use Rattle.tup_graph.specs.Graph.{GraphState, is_flagged, is_owned, source, outputs_of}
+use Rattle.tup_graph.specs.Graph.{GraphState, is_flagged, is_owned, source}
 use Rattle.tup_graph.specs.Kept.{IsRuleAt, IsUnflagged, Asked, HasSeenStamps, IsKept, EndsWell}
 use Rattle.tup_graph.specs.Records.{Language, IsTrueRun}
 use Rattle.tup_graph.specs.Transactions.{maker_of, finished}

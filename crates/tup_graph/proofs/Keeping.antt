@@ -1,8 +1,7 @@
 -- A kept graph stays kept where only states of owned paths change, and none that a rule which isn't flagged wrote.
-use Rattle.std.proofs.Common.{◌≡◌, ℕ, ◌<◌, Bool, true, false, cond, ◌||◌, is_some, IsSome, unwrap_or, List, [], ◌∷◌, map, fold, length, slice_index_or, Option, None, Some, All, Contains, refl, sym, ap, ap₂, subst, ◌∙◌}
+use Rattle.std.proofs.Common.{◌≡◌, ℕ, ◌<◌, Bool, true, false, cond, ◌||◌, is_some, unwrap_or, List, [], ◌∷◌, map, fold, slice_index_or, Option, None, Some, All, Contains, refl, sym, ap, ap₂, subst, ◌∙◌}
 use Rattle.std.specs.Option.{option_map}
 use Rattle.std.specs.FinMap as finite
-use Rattle.std.specs.Ordering.{eq_by_cmp}
 use Rattle.std.proofs.lemmas.List.{get_or-map, length-map}
 use Rattle.std.proofs.lemmas.List.Elements.{All-contains_itself}
 use Rattle.tup_path.specs.Name.{Names, Content}
@@ -17,13 +16,13 @@ use Rattle.tup_rule.proofs.Laws.{among-decides}
 use Rattle.tup_runner.specs.Next.{Next}
 use Rattle.tup_access.specs.Judge.{judge}
 use Rattle.tup_access.proofs.Outputs.{judge-LeavesOutputs}
-use Rattle.tup_record.specs.declared.owned.OwnedState.TheVariants.{Unsure, Written}
+use Rattle.tup_record.specs.declared.owned.OwnedState.TheVariants.{Unsure}
 use Rattle.tup_record.specs.declared.run.RunRecord.{RunRecord}
 use Rattle.tup_graph.specs.declared.owned.Owned.{Owned}
 use Rattle.tup_graph.specs.Answers.{tupfile, IsSource, IsAnswer}
 use Rattle.tup_graph.specs.Graph.{GraphState, is_flagged, is_owned, source, outputs_of}
 use Rattle.tup_graph.specs.Kept.{IsRuleAt, IsUnflagged, Asked, IsKept}
-use Rattle.tup_graph.specs.Records.{Language, IsTrueRun, stamped}
+use Rattle.tup_graph.specs.Records.{Language, stamped}
 use Rattle.tup_graph.specs.Transactions.{maker_of, with_state, begun, unsure_as, with_doomed, with_forgotten}
 
 abbrev pub OwnedPaths : Type 0

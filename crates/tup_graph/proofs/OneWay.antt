@@ -1,20 +1,19 @@
 -- Entries stand for one graph at most, and for none where they are broken.
-use Rattle.std.proofs.Common.{◌≡◌, ℕ, true, List, [], ◌∷◌, ◌++◌, Option, refl, sym, ap, subst, ◌∙◌, arith}
+use Rattle.std.proofs.Common.{◌≡◌, ℕ, List, [], ◌∷◌, ◌++◌, sym, subst, ◌∙◌, arith}
 use Rattle.tup_field.specs.Parts.{number, ◌&◌, option}
 use Rattle.tup_field.specs.PartsLaws.{number-exact, pair-exact, option-exact}
 use Rattle.tup_field.specs.Rules.{rule, reading}
 use Rattle.tup_field.specs.RulesLaws.{rule-exact, reading-exact}
-use Rattle.tup_field.specs.Values.{path, stamp}
+use Rattle.tup_field.specs.Values.{stamp}
 use Rattle.tup_field.specs.ValuesLaws.{stamp-exact}
 use Rattle.tup_record.specs.declared.record.Record.{Record}
 use Rattle.tup_record.specs.declared.record.Record.TheVariants.{Seen, Reading, Rule, Run, Owned, Create, Modify}
 use Rattle.tup_record.specs.Fields.{run, state}
 use Rattle.tup_record.specs.FieldLaws.{run-exact, state-exact}
 use Rattle.tup_record.specs.Spelling.{Fits, IsSpelled, key_of, value_of}
-use Rattle.tup_table.specs.declared.entry.Entry.{Entry}
 use Rattle.tup_table.specs.Entries.{Standing}
 use Rattle.tup_graph.specs.Graph.{GraphState, empty_graph}
-use Rattle.tup_graph.specs.Opening.{put, fits, Takes, Leads, IsGraphOf, IsBroken}
+use Rattle.tup_graph.specs.Opening.{put, Leads, IsGraphOf, IsBroken}
 use Rattle.tup_graph.proofs.Marks.{one_value, one_mark, one_path, one_number}
 
 -- two records with one spelling are one
