@@ -1,6 +1,6 @@
 -- The records and the flags that rules keep, and the rules that are to be run.
 use Rattle.std.specs.Prelude.{◌≡◌, ◌⊎◌, ◌↔◌, ◌<◌, ℕ, zero, suc, Bool, true, false, cond, List, [], ◌∷◌, ◌++◌, Option, None, Some, Contains, Result, Ok, Err, is_none, length, map, option_map, option_to_list, slice_get, unwrap_or, if◌then◌else◌}
-use Rattle.std.proofs.Common.{refl, sym, ap, subst, ◌∙◌, inl, inr, append_assoc}
+use Rattle.std.proofs.Common.{refl, sym, ap, subst, ◌∙◌, inl, inr}
 use Rattle.std.specs.List.{flat_map}
 use Rattle.std.specs.Ordering.{nat_cmp}
 use Rattle.std.specs.Cmp.{nat_cmp_total}
@@ -51,7 +51,7 @@ in_chosen : (b : Bool) (n number : ℕ) → Contains (if b then n ∷ [] else []
 in_chosen true n number inside = (refl, in_one n number inside)
 in_chosen false n number inside = absurd (none_in number inside)
 
-in_found : (found : Option RunRecord) (n number : ℕ) (run : RunRecord) → Contains (option_to_list (option_map (λ (r : RunRecord). (n, r)) found)) (number, run) → (n ≡ number) × (found ≡ Some run)
+in_found : (found : Option RunRecord) (n number : ℕ) (run : RunRecord) → Contains {X = ℕ × RunRecord} (option_to_list (option_map (λ (r : RunRecord). (n, r)) found)) (number, run) → (n ≡ number) × (found ≡ Some run)
 in_found None n number run inside = absurd (none_in (number, run) inside)
 in_found (Some one) n number run inside = let same = in_one (n, one) (number, run) inside in ((λ k. (same k).0), (λ k. Some (same k).1))
 
@@ -95,7 +95,7 @@ module _ (g : GraphState) (rule : Rule) where
   run_so_at : (number before : ℕ) (run : RunRecord) (one : Option ℕ) → IsNumberBefore g rule one → WasAt g rule before → finite.get g.runs before ≡ Some run → Contains (run_at g number one) (number, run)
   run_so_at number before run None new was ran = absurd (new before was.0)
   run_so_at number before run (Some other) is was ran =
-      subst (λ (found : Option RunRecord). Contains (option_to_list (option_map (λ (r : RunRecord). (number, r)) found)) (number, run))
+      subst (λ (found : Option RunRecord). Contains {X = ℕ × RunRecord} (option_to_list (option_map (λ (r : RunRecord). (number, r)) found)) (number, run))
       (sym (ap (finite.get g.runs) (one_before g rule other before is was) ∙ ran)) (in_front (number, run) [])
 
 module _ (g : GraphState) (rules : List Rule) (befores : List (Option ℕ)) (are : AreNumbersBefore g rules befores) where
@@ -200,8 +200,8 @@ module _ (g : GraphState) (rules : List Rule) (befores : List (Option ℕ)) (are
 
     -- ---- all edits
     pub are_edits : (fresh : List (Names × Reading)) (gone : List Names) (owned : Owners) (flags : List ℕ) (start away edits : List Edit) → AreOwned rules g.owned owned → ((n : ℕ) → Contains flags n ↔ IsToRun g (led_by rules runs) n)
-        → start ≡ [] → away ≡ start ++ (clear_edits g ++ reading_edits g fresh gone ++ less_edits 0 g.rules)
-        → edits ≡ away ++ (more_edits [] rules ++ map run_so runs ++ map own_so (finite.entries owned) ++ flag_edits flags) → AreSwapEdits g fresh gone rules edits
+        → start ≡ [] → away ≡ start ++ clear_edits g ++ reading_edits g fresh gone ++ less_edits 0 g.rules
+        → edits ≡ away ++ more_edits [] rules ++ map run_so runs ++ map own_so (finite.entries owned) ++ flag_edits flags → AreSwapEdits g fresh gone rules edits
     are_edits fresh gone owned flags start away edits owners to_run none first second = record {
       runs = runs;
       owned = owned;
@@ -213,8 +213,6 @@ module _ (g : GraphState) (rules : List Rule) (befores : List (Option ℕ)) (are
       owned_are = owners;
       flags_are = to_run;
       all =
-          let later = more_edits [] rules ++ map run_so runs ++ map own_so (finite.entries owned) ++ flag_edits flags in
-          second ∙ ap (λ (l : List Edit). l ++ later) (first ∙ ap (λ (l : List Edit). l ++ (clear_edits g ++ reading_edits g fresh gone ++ less_edits 0 g.rules)) none)
-          ∙ append_assoc (clear_edits g) (reading_edits g fresh gone ++ less_edits 0 g.rules) later
-          ∙ ap (λ (l : List Edit). clear_edits g ++ l) (append_assoc (reading_edits g fresh gone) (less_edits 0 g.rules) later);
+          second ∙ (λ i. first i ++ more_edits [] rules ++ map run_so runs ++ map own_so (finite.entries owned) ++ flag_edits flags)
+          ∙ (λ i. none i ++ clear_edits g ++ reading_edits g fresh gone ++ less_edits 0 g.rules ++ more_edits [] rules ++ map run_so runs ++ map own_so (finite.entries owned) ++ flag_edits flags);
     }

@@ -38,8 +38,8 @@ abbrev pub Readings : Type 0
 Readings = finite.FinMap by_names Reading
 
 -- ---- two lists of edits, one behind the other
-both : (g h : GraphState) (xs ys : List Edit) → edited_by g xs ≡ h → edited_by g (xs ++ ys) ≡ edited_by h ys
-both g h xs ys is = fold-append edited g xs ys ∙ ap (λ (k : GraphState). edited_by k ys) is
+pub both : (g h k : GraphState) (xs ys : List Edit) → edited_by g xs ≡ h → edited_by h ys ≡ k → edited_by g (xs ++ ys) ≡ k
+both g h k xs ys one two = fold-append edited g xs ys ∙ ap (λ (l : GraphState). edited_by l ys) one ∙ two
 
 -- ---- what is taken away
 abbrev flags_taken : finite.FinMap nat_cmp (Unit {0}) → List (ℕ × Unit {0}) → finite.FinMap nat_cmp (Unit {0})
@@ -64,18 +64,25 @@ unruns h (e ∷ es) = unruns (edited h (unrun e)) es
 abbrev pub cleared : GraphState → GraphState
 cleared g = record g { flags = finite.empty; created = finite.empty; owned = finite.empty; runs = finite.empty }
 
-pub clears : (g : GraphState) → edited_by g (clear_edits g) ≡ cleared g
-clears g =
-    both g (record g { flags = finite.empty }) (map unflag (finite.entries g.flags)) (map uncreate (finite.entries g.created) ++ map unown (finite.entries g.owned) ++ map unrun (finite.entries g.runs))
-    (unflags g (finite.entries g.flags) ∙ ap (λ m. record g { flags = m }) (all_taken nat_cmp_total nat_cmp-IsAntisymmetric number-decides g.flags))
-    ∙ both (record g { flags = finite.empty }) (record g { flags = finite.empty; created = finite.empty }) (map uncreate (finite.entries g.created)) (map unown (finite.entries g.owned) ++ map unrun (finite.entries g.runs))
-    (uncreates (record g { flags = finite.empty }) (finite.entries g.created)
-    ∙ ap (λ m. record g { flags = finite.empty; created = m }) (all_taken by_names-total by_names-antisymmetric by_names-decides g.created))
-    ∙ both (record g { flags = finite.empty; created = finite.empty }) (record g { flags = finite.empty; created = finite.empty; owned = finite.empty }) (map unown (finite.entries g.owned)) (map unrun (finite.entries g.runs))
-    (unowns (record g { flags = finite.empty; created = finite.empty }) (finite.entries g.owned)
-    ∙ ap (λ m. record g { flags = finite.empty; created = finite.empty; owned = m }) (all_taken by_names-total by_names-antisymmetric by_names-decides g.owned))
-    ∙ unruns (record g { flags = finite.empty; created = finite.empty; owned = finite.empty }) (finite.entries g.runs)
-    ∙ ap (λ m. record g { flags = finite.empty; created = finite.empty; owned = finite.empty; runs = m }) (all_taken nat_cmp_total nat_cmp-IsAntisymmetric number-decides g.runs)
+module _ (g : GraphState) where
+  abbrev one_cleared : GraphState
+  one_cleared = record g { flags = finite.empty }
+
+  abbrev two_cleared : GraphState
+  two_cleared = record g { flags = finite.empty; created = finite.empty }
+
+  abbrev three_cleared : GraphState
+  three_cleared = record g { flags = finite.empty; created = finite.empty; owned = finite.empty }
+
+  pub clears : edited_by g (clear_edits g) ≡ cleared g
+  clears =
+      both g three_cleared (cleared g) (map unflag (finite.entries g.flags) ++ map uncreate (finite.entries g.created) ++ map unown (finite.entries g.owned)) (map unrun (finite.entries g.runs))
+      (both g two_cleared three_cleared (map unflag (finite.entries g.flags) ++ map uncreate (finite.entries g.created)) (map unown (finite.entries g.owned))
+      (both g one_cleared two_cleared (map unflag (finite.entries g.flags)) (map uncreate (finite.entries g.created))
+      (unflags g (finite.entries g.flags) ∙ ap (λ m. record g { flags = m }) (all_taken nat_cmp_total nat_cmp-IsAntisymmetric number-decides g.flags))
+      (uncreates one_cleared (finite.entries g.created) ∙ ap (λ m. record one_cleared { created = m }) (all_taken by_names-total by_names-antisymmetric by_names-decides g.created)))
+      (unowns two_cleared (finite.entries g.owned) ∙ ap (λ m. record two_cleared { owned = m }) (all_taken by_names-total by_names-antisymmetric by_names-decides g.owned)))
+      (unruns three_cleared (finite.entries g.runs) ∙ ap (λ m. record three_cleared { runs = m }) (all_taken nat_cmp_total nat_cmp-IsAntisymmetric number-decides g.runs))
 
 -- ---- readings
 abbrev pub readings_after : GraphState → List (Names × Reading) → List Names → Readings
@@ -99,16 +106,17 @@ module _ (g : GraphState) where
 
   pub reading_leaves : (h : GraphState) → h.readings ≡ g.readings → (fresh : List (Names × Reading)) (gone : List Names) → edited_by h (reading_edits g fresh gone) ≡ record h { readings = readings_after g fresh gone }
   reading_leaves h same fresh gone =
-      both h (record h { readings = fold finite.remove h.readings gone }) (filter_map (unread g) gone) (map read_so fresh)
+      both h (record h { readings = fold finite.remove h.readings gone }) (record h { readings = readings_after g fresh gone }) (filter_map (unread g) gone) (map read_so fresh)
       (unreads h (λ q none. ap (λ (m : Readings). finite.get m q) same ∙ none) gone)
-      ∙ reads (record h { readings = fold finite.remove h.readings gone }) fresh
-      ∙ ap (λ (m : Readings). record h { readings = fold (put_one by_names-total by_names-antisymmetric by_names-decides) (fold finite.remove m gone) fresh }) same
+      (reads (record h { readings = fold finite.remove h.readings gone }) fresh
+      ∙ ap (λ (m : Readings). record h { readings = fold (put_one by_names-total by_names-antisymmetric by_names-decides) (fold finite.remove m gone) fresh }) same)
 
 -- ---- rules
-take_take : {X : Type 0} (n : ℕ) (xs : List X) → take n (take (suc n) xs) ≡ take n xs
-take_take zero xs = refl
-take_take (suc n) [] = refl
-take_take (suc n) (x ∷ xs) = ap (λ (l : List X). x ∷ l) (take_take n xs)
+module _ {X : Type 0} where
+  take_take : (n : ℕ) (xs : List X) → take n (take (suc n) xs) ≡ take n xs
+  take_take zero xs = refl
+  take_take (suc n) [] = refl
+  take_take (suc n) (x ∷ xs) = ap (λ (l : List X). x ∷ l) (take_take n xs)
 
 whole : (h : GraphState) (n : ℕ) → length h.rules ≡ n → length h.places ≡ n → with_first h n ≡ h
 whole h n rules places = λ i. record h {
@@ -122,8 +130,7 @@ first_of_first h n = λ i. record h { rules = take_take n h.rules i; places = ta
 pub less_leaves : (h : GraphState) (n : ℕ) (rules : List Rule) → length h.rules ≡ n + length rules → length h.places ≡ n + length rules → edited_by h (less_edits n rules) ≡ with_first h n
 less_leaves h n [] many level = sym (whole h n (omega (arith, many)) (omega (arith, level)))
 less_leaves h n (rule ∷ rules) many level =
-    both h (with_first h (suc n)) (less_edits (suc n) rules) (rule_less n rule ∷ []) (less_leaves h (suc n) rules (omega (arith, many)) (omega (arith, level)))
-    ∙ first_of_first h n
+    both h (with_first h (suc n)) (with_first h n) (less_edits (suc n) rules) (rule_less n rule ∷ []) (less_leaves h (suc n) rules (omega (arith, many)) (omega (arith, level))) (first_of_first h n)
 
 -- the places of rules behind others
 abbrev pub places_behind : List Rule → List Rule → List ℕ
@@ -151,8 +158,11 @@ place_at before (rule ∷ rules) (suc n) =
 abbrev pub runs_after : List (ℕ × RunRecord) → Runs
 runs_after runs = fold (put_one nat_cmp_total nat_cmp-IsAntisymmetric number-decides) finite.empty runs
 
+abbrev pub tagged : List ℕ → List (ℕ × Unit {0})
+tagged numbers = map (λ (n : ℕ). (n, tt)) numbers
+
 abbrev pub flags_after : List ℕ → finite.FinMap nat_cmp (Unit {0})
-flags_after numbers = fold (put_one nat_cmp_total nat_cmp-IsAntisymmetric number-decides) finite.empty (map (λ (n : ℕ). (n, tt)) numbers)
+flags_after numbers = fold (put_one nat_cmp_total nat_cmp-IsAntisymmetric number-decides) finite.empty (tagged numbers)
 
 pub run_leaves : (h : GraphState) (runs : List (ℕ × RunRecord)) → edited_by h (map run_so runs) ≡ record h { runs = fold (put_one nat_cmp_total nat_cmp-IsAntisymmetric number-decides) h.runs runs }
 run_leaves h [] = refl
@@ -162,7 +172,7 @@ pub own_leaves : (h : GraphState) (owned : List (Names × Owned)) → edited_by 
 own_leaves h [] = refl
 own_leaves h (one ∷ owned) = own_leaves (edited h (own_so one)) owned
 
-flag_leaves : (h : GraphState) (numbers : List ℕ) → edited_by h (flag_edits numbers) ≡ record h { flags = fold (put_one nat_cmp_total nat_cmp-IsAntisymmetric number-decides) h.flags (map (λ (n : ℕ). (n, tt)) numbers) }
+flag_leaves : (h : GraphState) (numbers : List ℕ) → edited_by h (flag_edits numbers) ≡ record h { flags = fold (put_one nat_cmp_total nat_cmp-IsAntisymmetric number-decides) h.flags (tagged numbers) }
 flag_leaves h [] = refl
 flag_leaves h (number ∷ numbers) = flag_leaves (edited h (Put (records.Modify number))) numbers
 
@@ -172,8 +182,8 @@ led_graph rules runs = record empty_graph { rules = rules; places = places_behin
 
 pub led_is : (rules : List Rule) (runs : List (ℕ × RunRecord)) → led_by rules runs ≡ led_graph rules runs
 led_is rules runs =
-    both empty_graph (record empty_graph { rules = rules; places = places_behind [] rules }) (more_edits [] rules) (map run_so runs) (more_leaves empty_graph [] rules)
-    ∙ run_leaves (record empty_graph { rules = rules; places = places_behind [] rules }) runs
+    both empty_graph (record empty_graph { rules = rules; places = places_behind [] rules }) (led_graph rules runs) (more_edits [] rules) (map run_so runs) (more_leaves empty_graph [] rules)
+    (run_leaves (record empty_graph { rules = rules; places = places_behind [] rules }) runs)
 
 -- ---- all of it
 module _ (g : GraphState) (fresh : List (Names × Reading)) (gone : List Names) (rules : List Rule) (runs : List (ℕ × RunRecord)) (owned : Owners) (flags : List ℕ) where
@@ -195,28 +205,38 @@ module _ (g : GraphState) (fresh : List (Names × Reading)) (gone : List Names) 
   abbrev pub swapped : GraphState
   swapped = record g { flags = flags_after flags; created = finite.empty; owned = owned; runs = runs_after runs; readings = readings_after g fresh gone; rules = rules; places = places_behind [] rules }
 
-  abbrev last_edits : List Edit
-  last_edits = flag_edits flags
+  abbrev pub read_edits : List Edit
+  read_edits = clear_edits g ++ reading_edits g fresh gone
 
-  abbrev owned_edits : List Edit
-  owned_edits = map own_so (finite.entries owned) ++ last_edits
+  abbrev pub bare_edits : List Edit
+  bare_edits = clear_edits g ++ reading_edits g fresh gone ++ less_edits 0 g.rules
 
-  abbrev run_edits : List Edit
-  run_edits = map run_so runs ++ owned_edits
+  abbrev pub rule_edits : List Edit
+  rule_edits = clear_edits g ++ reading_edits g fresh gone ++ less_edits 0 g.rules ++ more_edits [] rules
 
-  abbrev rule_edits : List Edit
-  rule_edits = more_edits [] rules ++ run_edits
+  abbrev pub run_edits : List Edit
+  run_edits = clear_edits g ++ reading_edits g fresh gone ++ less_edits 0 g.rules ++ more_edits [] rules ++ map run_so runs
 
-  abbrev gone_edits : List Edit
-  gone_edits = less_edits 0 g.rules ++ rule_edits
+  abbrev pub owned_edits : List Edit
+  owned_edits = clear_edits g ++ reading_edits g fresh gone ++ less_edits 0 g.rules ++ more_edits [] rules ++ map run_so runs ++ map own_so (finite.entries owned)
 
-  pub swap_leaves : length g.places ≡ length g.rules → edited_by g (clear_edits g ++ reading_edits g fresh gone ++ gone_edits) ≡ swapped
-  swap_leaves level =
-      both g (cleared g) (clear_edits g) (reading_edits g fresh gone ++ gone_edits) (clears g)
-      ∙ both (cleared g) read_anew (reading_edits g fresh gone) gone_edits (reading_leaves g (cleared g) refl fresh gone)
-      ∙ both read_anew bare (less_edits 0 g.rules) rule_edits (less_leaves read_anew 0 g.rules (omega arith) (omega (arith, level)))
-      ∙ both bare ruled (more_edits [] rules) run_edits (more_leaves bare [] rules)
-      ∙ both ruled run_again (map run_so runs) owned_edits (run_leaves ruled runs)
-      ∙ both run_again owned_again (map own_so (finite.entries owned)) last_edits (own_leaves run_again (finite.entries owned)
-      ∙ ap (λ (m : Owners). record run_again { owned = m }) (all_put by_names-total by_names-antisymmetric by_names-decides owned))
-      ∙ flag_leaves owned_again flags
+  pub leaves_read : edited_by g read_edits ≡ read_anew
+  leaves_read = both g (cleared g) read_anew (clear_edits g) (reading_edits g fresh gone) (clears g) (reading_leaves g (cleared g) refl fresh gone)
+
+  module _ (level : length g.places ≡ length g.rules) where
+    pub leaves_bare : edited_by g bare_edits ≡ bare
+    leaves_bare = both g read_anew bare read_edits (less_edits 0 g.rules) leaves_read (less_leaves read_anew 0 g.rules (omega arith) (omega (arith, level)))
+
+    pub leaves_ruled : edited_by g rule_edits ≡ ruled
+    leaves_ruled = both g bare ruled bare_edits (more_edits [] rules) leaves_bare (more_leaves bare [] rules)
+
+    pub leaves_run : edited_by g run_edits ≡ run_again
+    leaves_run = both g ruled run_again rule_edits (map run_so runs) leaves_ruled (run_leaves ruled runs)
+
+    pub leaves_owned : edited_by g owned_edits ≡ owned_again
+    leaves_owned =
+        both g run_again owned_again run_edits (map own_so (finite.entries owned)) leaves_run
+        (own_leaves run_again (finite.entries owned) ∙ ap (λ (m : Owners). record run_again { owned = m }) (all_put by_names-total by_names-antisymmetric by_names-decides owned))
+
+    pub swap_leaves : edited_by g (clear_edits g ++ reading_edits g fresh gone ++ less_edits 0 g.rules ++ more_edits [] rules ++ map run_so runs ++ map own_so (finite.entries owned) ++ flag_edits flags) ≡ swapped
+    swap_leaves = both g owned_again swapped owned_edits (flag_edits flags) leaves_owned (flag_leaves owned_again flags)

@@ -19,6 +19,14 @@ both_true : (a b : Bool) → (a && b) ≡ true → (a ≡ true) × (b ≡ true)
 both_true true b e = (refl, e)
 both_true false b e = absurd (let wrong : false ≡ true = e in cc)
 
+not_same : {K : Type 0} (R : K → K → Ordering) (a b : K) → is_lt (R a b) ≡ true → eq_by_cmp R a b ≡ false
+not_same R a b less = by (R a b) less
+  where
+    by : (r : Ordering) → is_lt r ≡ true → is_eq r ≡ false
+    by Less e = refl
+    by Equal e = absurd (let wrong : false ≡ true = e in cc)
+    by Greater e = refl
+
 module _ {K X : Type 0} {R : K → K → Ordering} (o : IsTotalOrder R) (exact : IsAntisymmetric R) (decides : (x y : K) → Decides (eq_by_cmp R x y) (x ≡ y)) where
   abbrev pub put_one : FinMap R X → K × X → FinMap R X
   put_one m e = finite.insert m e.0 e.1
@@ -68,19 +76,11 @@ module _ {K X : Type 0} {R : K → K → Ordering} (o : IsTotalOrder R) (exact :
       ∙ ap (first_or (find R q es)) (finite.get-insert o m e.0 e.1 q)
       ∙ later_or (eq_by_cmp R q e.0) e.1 (find R q es) (finite.get m q) (λ same. ap (λ (k : K). find R k es) ((decides q e.0).0 same) ∙ once.0)
 
-  not_same : (a b : K) → is_lt (R a b) ≡ true → eq_by_cmp R a b ≡ false
-  not_same a b less = by (R a b) less
-    where
-      by : (r : Ordering) → is_lt r ≡ true → is_eq r ≡ false
-      by Less e = refl
-      by Equal e = absurd (let wrong : false ≡ true = e in cc)
-      by Greater e = refl
-
   none_below : (k : K) (es : List (K × X)) → below_all R k es ≡ true → find R k es ≡ None
   none_below k [] up = refl
   none_below k (e ∷ es) up =
       let parts = both_true (is_lt (R k e.0)) (below_all R k es) up in
-      ap (λ (b : Bool). cond b (Some e.1) (find R k es)) (not_same k e.0 parts.0) ∙ none_below k es parts.1
+      ap (λ (b : Bool). cond b (Some e.1) (find R k es)) (not_same R k e.0 parts.0) ∙ none_below k es parts.1
 
   sorted_once : (es : List (K × X)) → is_sorted R es ≡ true → Once es
   sorted_once [] up = tt

@@ -27,7 +27,7 @@ use Rattle.tup_diff.proofs.Noting.{above_as}
 use Rattle.tup_diff.proofs.Ordered.{in_front, behind_front, front_or_behind, none_in}
 use Rattle.tup_swap.specs.Edits.{AreSwapEdits, IsRunNow, IsToRun, led_by, place_behind, dir_of}
 use Rattle.tup_swap.proofs.Puts.{Once, first_or, get_put, put_there, there_put}
-use Rattle.tup_swap.proofs.Leaving.{led_graph, led_is, place_at, places_behind, readings_after, runs_after, flags_after, swapped, swap_leaves}
+use Rattle.tup_swap.proofs.Leaving.{led_graph, led_is, place_at, places_behind, readings_after, runs_after, flags_after, swapped, swap_leaves, tagged}
 
 -- ---- readings
 none_same : (dir : Names) (fresh : List (Names × Reading)) → AllByRecursion (λ (other : Names). same_path dir other ≡ false) (map dir_of fresh) → find by_names dir fresh ≡ None
@@ -36,6 +36,7 @@ none_same dir (one ∷ fresh) all =
     ap (λ (b : Bool). cond b (Some one.1) (find by_names dir fresh)) (sym (same_path-by_names dir one.0) ∙ all.0) ∙ none_same dir fresh all.1
 
 read_once : (fresh : List (Names × Reading)) → IsDistinct same_path (map dir_of fresh) → Once by_names-total by_names-antisymmetric by_names-decides fresh
+unfolding IsDistinct
 read_once [] once = tt
 read_once (one ∷ fresh) once = (none_same one.0 fresh once.0, read_once fresh once.1)
 
@@ -120,22 +121,22 @@ module _ (g : GraphState) (fresh : List (Names × Reading)) (gone : List Names) 
   abbrev led : GraphState
   led = led_graph rules are.runs
 
-  to_run : (number : ℕ) → Contains are.flags number → IsToRun g led number
+  pub to_run : (number : ℕ) → Contains are.flags number → IsToRun g led number
   to_run number h = subst (λ (l : GraphState). IsToRun g l number) (led_is rules are.runs) ((are.flags_are number).0 h)
 
   is_to_run : (number : ℕ) → IsToRun g led number → Contains are.flags number
   is_to_run number to = (are.flags_are number).1 (subst (λ (l : GraphState). IsToRun g l number) (sym (led_is rules are.runs)) to)
 
-  with_tt : (numbers : List ℕ) (number : ℕ) → Contains numbers number → Contains (map (λ (n : ℕ). (n, tt)) numbers) (number, tt)
+  with_tt : (numbers : List ℕ) (number : ℕ) → Contains numbers number → Contains {X = ℕ × Unit {0}} (tagged numbers) (number, tt)
   with_tt [] number h = absurd (none_in number h)
   with_tt (first ∷ numbers) number h = elim (front_or_behind first number numbers h) [
-    | inl same ↦ subst (λ (n : ℕ). Contains (map (λ (m : ℕ). (m, tt)) (first ∷ numbers)) (n, tt)) same (in_front (first, tt) (map (λ (m : ℕ). (m, tt)) numbers))
-    | inr later ↦ behind_front (first, tt) (number, tt) (map (λ (m : ℕ). (m, tt)) numbers) (with_tt numbers number later)
+    | inl same ↦ subst (λ (n : ℕ). Contains {X = ℕ × Unit {0}} (tagged (first ∷ numbers)) (n, tt)) same (in_front (first, tt) (tagged numbers))
+    | inr later ↦ behind_front (first, tt) (number, tt) (tagged numbers) (with_tt numbers number later)
   ]
 
-  without_tt : (numbers : List ℕ) (number : ℕ) → Contains (map (λ (n : ℕ). (n, tt)) numbers) (number, tt) → Contains numbers number
+  without_tt : (numbers : List ℕ) (number : ℕ) → Contains {X = ℕ × Unit {0}} (tagged numbers) (number, tt) → Contains numbers number
   without_tt [] number h = absurd (none_in (number, tt) h)
-  without_tt (first ∷ numbers) number h = elim (front_or_behind (first, tt) (number, tt) (map (λ (m : ℕ). (m, tt)) numbers) h) [
+  without_tt (first ∷ numbers) number h = elim (front_or_behind (first, tt) (number, tt) (tagged numbers) h) [
     | inl same ↦ subst (Contains (first ∷ numbers)) (λ i. (same i).0) (in_front first numbers)
     | inr later ↦ behind_front first number numbers (without_tt numbers number later)
   ]
@@ -145,13 +146,13 @@ module _ (g : GraphState) (fresh : List (Names × Reading)) (gone : List Names) 
     where
       by : (found : Option (Unit {0})) → finite.get after.flags number ≡ found → is_some found ≡ true → Contains are.flags number
       by None is e = absurd (let wrong : false ≡ true = e in cc)
-      by (Some tt) is e = elim (put_there nat_cmp_total nat_cmp-IsAntisymmetric number-decides (map (λ (n : ℕ). (n, tt)) are.flags) finite.empty number tt is) [
+      by (Some tt) is e = elim (put_there nat_cmp_total nat_cmp-IsAntisymmetric number-decides (tagged are.flags) finite.empty number tt is) [
         | inl there ↦ without_tt are.flags number there
         | inr none ↦ absurd (no_value tt (sym (finite.get-empty nat_cmp number) ∙ none))
       ]
 
   flag_from : (number : ℕ) → Contains are.flags number → is_flagged after number ≡ true
-  flag_from number h = ap is_some (there_put nat_cmp_total nat_cmp-IsAntisymmetric number-decides (map (λ (n : ℕ). (n, tt)) are.flags) finite.empty number tt (with_tt are.flags number h)).1
+  flag_from number h = ap is_some (there_put nat_cmp_total nat_cmp-IsAntisymmetric number-decides (tagged are.flags) finite.empty number tt (with_tt are.flags number h)).1
 
   flagged_to : (number : ℕ) → IsToRun g led number → IsFlaggedYet g after number ⊎ IsAbove after (ReadsNew g after) number
   flagged_to number (inl yet) = inl yet
@@ -170,8 +171,8 @@ module _ (g : GraphState) (fresh : List (Names × Reading)) (gone : List Names) 
     places = placed rules;
     kept_runs = λ number before rule here was. run_kept number before rule here was;
     no_runs = λ number rule here new. no_run number (λ run now.
-        (let one : now.0 ≡ rule = one_value now.0 rule (sym now.2.0 ∙ here) in new now.1 (subst (λ (r : Rule). IsRuleAt g now.1 r) one now.2.1.0)));
-    no_others = λ number none. no_run number (λ run now. no_value now.0 (sym none ∙ now.2.0));
+        (let one : now.0 ≡ rule = one_value now.0 rule (sym now.2 ∙ here) in new now.1 (subst (λ (r : Rule). IsRuleAt g now.1 r) one now.3.0)));
+    no_others = λ number none. no_run number (λ run now. no_value now.0 (sym none ∙ now.2));
     owned = are.owned_are;
     created = refl;
     flags = λ number. (λ e. flagged_to number (to_run number (flag_to number e)), λ h. flag_from number (is_to_run number (flagged_from number h)));

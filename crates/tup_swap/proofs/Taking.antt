@@ -41,7 +41,7 @@ use Rattle.tup_diff.proofs.Ordered.{in_front, behind_front}
 use Rattle.tup_diff.proofs.Paths.{last_item}
 use Rattle.tup_swap.specs.Edits.{AreSwapEdits, unflag, uncreate, unown, unrun, clear_edits, unread, read_so, reading_edits, less_edits, rule_less, more_edits, rule_more, place_behind, run_so, own_so, led_by, IsToRun, IsRunNow}
 use Rattle.tup_swap.specs.Order.{AreByFolder}
-use Rattle.tup_swap.proofs.Leaving.{cleared, clears, reading_leaves, less_leaves, more_leaves, places_behind, place_at, readings_after, runs_after, led_graph, led_is, read_anew, bare, ruled, run_again, owned_again, run_leaves, own_leaves}
+use Rattle.tup_swap.proofs.Leaving.{cleared, clears, less_leaves, places_behind, led_graph, read_anew, bare, ruled, run_again, owned_again, leaves_read, leaves_bare, leaves_ruled, leaves_run, leaves_owned}
 use Rattle.tup_swap.proofs.Swapping.{run_is, to_run}
 
 -- ---- spellings of two lists of edits
@@ -98,12 +98,14 @@ clear_taken g all =
     let created = map uncreate (finite.entries g.created) in
     let owned = map unown (finite.entries g.owned) in
     let runs = map unrun (finite.entries g.runs) in
-    let later = rest flags (created ++ owned ++ runs) all in
-    let last = rest created (owned ++ runs) later in
+    let three = front (flags ++ created ++ owned) runs all in
+    let two = front (flags ++ created) owned three in
     taken_so g (clear_edits g)
-    (joined (IsTaken g) flags (created ++ owned ++ runs) (unflagged g (finite.entries g.flags) (front flags (created ++ owned ++ runs) all))
-    (joined (IsTaken g) created (owned ++ runs) (uncreated g (finite.entries g.created) (front created (owned ++ runs) later))
-    (joined (IsTaken g) owned runs (unowned g (finite.entries g.owned) (front owned runs last)) (unrecorded g (finite.entries g.runs) (rest owned runs last)))))
+    (joined (IsTaken g) (flags ++ created ++ owned) runs
+    (joined (IsTaken g) (flags ++ created) owned
+    (joined (IsTaken g) flags created (unflagged g (finite.entries g.flags) (front flags created two)) (uncreated g (finite.entries g.created) (rest flags created two)))
+    (unowned g (finite.entries g.owned) (rest (flags ++ created) owned three)))
+    (unrecorded g (finite.entries g.runs) (rest (flags ++ created ++ owned) runs all)))
 
 reading_taken : (h g : GraphState) (fresh : List (Names × Reading)) (gone : List Names) → AllByRecursion HasSpelling (reading_edits g fresh gone) → AreTakenInTurn h (reading_edits g fresh gone)
 reading_taken h g fresh gone all =
@@ -155,8 +157,9 @@ last_is xs x = ap (slice_get (xs ++ x ∷ [])) (omega (arith, length-append xs (
 pub one_more : (p : Rule → Bool) (xs : List Rule) (x : Rule) → count_by p (xs ++ x ∷ []) ≡ count_by p xs + cond (p x) 1 0
 one_more p [] x = by (p x)
   where
-    by : (b : Bool) → cond b 1 0 ≡ cond b 1 0
-    by b = refl
+    by : (b : Bool) → ◌≡◌ {A = ℕ} (cond b 1 0 + 0) (0 + cond b 1 0)
+    by true = omega arith
+    by false = omega arith
 one_more p (y ∷ xs) x = by (p y) (one_more p xs x)
   where
     by : (b : Bool) → count_by p (xs ++ x ∷ []) ≡ count_by p xs + cond (p x) 1 0 → cond b 1 0 + count_by p (xs ++ x ∷ []) ≡ (cond b 1 0 + count_by p xs) + cond (p x) 1 0
@@ -270,7 +273,7 @@ module _ (h : GraphState) where
 
 module _ (g : GraphState) (fresh : List (Names × Reading)) (gone : List Names) (rules : List Rule) (edits : List Edit) (are : AreSwapEdits g fresh gone rules edits) where
   run_named : (number : ℕ) (run : RunRecord) → Contains are.runs (number, run) → nat_lt number (length rules) ≡ true
-  run_named number run there = let now = (are.runs_are number run).0 there in within rules number now.0 now.2.0
+  run_named number run there = let now = (are.runs_are number run).0 there in within rules number now.0 now.2
 
   owner_named : (path : Names) (one : Owned) → Contains (finite.entries are.owned) (path, one) → (n : ℕ) → one.maker ≡ Some n → nat_lt n (length rules) ≡ true
   owner_named path one there n made = made_within rules path n (makers_are rules path (finite.get g.owned path) one (sym (are.owned_are path) ∙ found_entry are.owned path one there) ∙ made)
@@ -278,64 +281,57 @@ module _ (g : GraphState) (fresh : List (Names × Reading)) (gone : List Names) 
   flag_named : (number : ℕ) → Contains are.flags number → nat_lt number (length rules) ≡ true
   flag_named number there = by (to_run g fresh gone rules edits are number there)
     where
-      reads : (maker : Rule) → HasReadOf (led_graph rules are.runs) number maker → nat_lt number (length rules) ≡ true
-      reads maker (path, (run, given, ran, asked), wrote) = let now = run_is g fresh gone rules edits are number run ran in within rules number now.0 now.2.0
+      reads : (made_by : Rule) → HasReadOf (led_graph rules are.runs) number made_by → nat_lt number (length rules) ≡ true
+      reads made_by (path, (run, given, ran, asked), wrote) = let now = run_is g fresh gone rules edits are number run ran in within rules number now.0 now.2
 
       over : (steps : ℕ) → AboveOver steps (led_graph rules are.runs) (ReadsNew g (led_graph rules are.runs)) number → nat_lt number (length rules) ≡ true
-      over zero (other, maker, there, new, read) = reads maker read
-      over (suc steps) (before, maker, above, here, read) = reads maker read
+      over zero (other, made_by, there, new, read) = reads made_by read
+      over (suc steps) (before, made_by, above, here, read) = reads made_by read
 
       by : IsToRun g (led_graph rules are.runs) number → nat_lt number (length rules) ≡ true
       by (inl (rule, here, why)) = within rules number rule here
       by (inr (steps, above)) = over steps above
 
   -- ---- all of it
-  abbrev numbered : GraphState
-  numbered = ruled g fresh gone rules are.runs are.owned are.flags
-
-  abbrev flagging : List Edit
-  flagging = flag_edits are.flags
-
-  abbrev owning : List Edit
-  owning = map own_so (finite.entries are.owned) ++ flagging
-
-  abbrev running : List Edit
-  running = map run_so are.runs ++ owning
-
-  abbrev coming : List Edit
-  coming = more_edits [] rules ++ running
-
-  abbrev going : List Edit
-  going = less_edits 0 g.rules ++ coming
-
-  abbrev reading : List Edit
-  reading = reading_edits g fresh gone ++ going
-
-  running_taken : AllByRecursion HasSpelling running → AllByRecursion (IsTaken numbered) running
-  running_taken all =
-      let later = rest (map run_so are.runs) owning all in
-      joined (IsTaken numbered) (map run_so are.runs) owning (run_taken numbered are.runs run_named (front (map run_so are.runs) owning all))
-      (joined (IsTaken numbered) (map own_so (finite.entries are.owned)) flagging (own_taken numbered (finite.entries are.owned) owner_named (front (map own_so (finite.entries are.owned)) flagging later))
-      (flag_taken numbered are.flags flag_named (rest (map own_so (finite.entries are.owned)) flagging later)))
-
-  all_taken : length g.places ≡ length g.rules → AreByFolder rules → AllByRecursion HasSpelling (clear_edits g ++ reading) → AreTakenInTurn g (clear_edits g ++ reading)
+  all_taken : length g.places ≡ length g.rules → AreByFolder rules → AllByRecursion HasSpelling (clear_edits g ++ reading_edits g fresh gone ++ less_edits 0 g.rules ++ more_edits [] rules ++ map run_so are.runs ++ map own_so (finite.entries are.owned) ++ flag_edits are.flags)
+      → AreTakenInTurn g (clear_edits g ++ reading_edits g fresh gone ++ less_edits 0 g.rules ++ more_edits [] rules ++ map run_so are.runs ++ map own_so (finite.entries are.owned) ++ flag_edits are.flags)
   all_taken level ordered all =
-      let one = rest (clear_edits g) reading all in
-      let two = rest (reading_edits g fresh gone) going one in
-      let three = rest (less_edits 0 g.rules) coming two in
       let read = read_anew g fresh gone rules are.runs are.owned are.flags in
       let empty = bare g fresh gone rules are.runs are.owned are.flags in
-      then g (cleared g) (clear_edits g) reading (clear_taken g (front (clear_edits g) reading all)) (clears g)
-      (then (cleared g) read (reading_edits g fresh gone) going (reading_taken (cleared g) g fresh gone (front (reading_edits g fresh gone) going one)) (reading_leaves g (cleared g) refl fresh gone)
-      (then read empty (less_edits 0 g.rules) coming
-      (less_taken read 0 g.rules (record { runs = refl; owned = refl; created = refl; flags = refl }) (omega arith) (omega (arith, level)) (front (less_edits 0 g.rules) coming two))
-      (less_leaves read 0 g.rules (omega arith) (omega (arith, level)))
-      (then empty numbered (more_edits [] rules) running
-      (more_taken empty [] rules (record { runs = refl; owned = refl; created = refl; flags = refl }) refl refl ordered (front (more_edits [] rules) running three)) (more_leaves empty [] rules)
-      (taken_so numbered running (running_taken (rest (more_edits [] rules) running three))))))
+      let told = ruled g fresh gone rules are.runs are.owned are.flags in
+      let again = run_again g fresh gone rules are.runs are.owned are.flags in
+      let whole = owned_again g fresh gone rules are.runs are.owned are.flags in
+      let first = clear_edits g ++ reading_edits g fresh gone in
+      let second = first ++ less_edits 0 g.rules in
+      let third = second ++ more_edits [] rules in
+      let fourth = third ++ map run_so are.runs in
+      let fifth = fourth ++ map own_so (finite.entries are.owned) in
+      let owned_all = front fifth (flag_edits are.flags) all in
+      let run_all = front fourth (map own_so (finite.entries are.owned)) owned_all in
+      let rule_all = front third (map run_so are.runs) run_all in
+      let bare_all = front second (more_edits [] rules) rule_all in
+      let read_all = front first (less_edits 0 g.rules) bare_all in
+      then g whole fifth (flag_edits are.flags)
+      (then g again fourth (map own_so (finite.entries are.owned))
+      (then g told third (map run_so are.runs)
+      (then g empty second (more_edits [] rules)
+      (then g read first (less_edits 0 g.rules)
+      (then g (cleared g) (clear_edits g) (reading_edits g fresh gone) (clear_taken g (front (clear_edits g) (reading_edits g fresh gone) read_all)) (clears g)
+      (reading_taken (cleared g) g fresh gone (rest (clear_edits g) (reading_edits g fresh gone) read_all)))
+      (leaves_read g fresh gone rules are.runs are.owned are.flags)
+      (less_taken read 0 g.rules (record { runs = refl; owned = refl; created = refl; flags = refl }) (omega arith) (omega (arith, level)) (rest first (less_edits 0 g.rules) bare_all)))
+      (leaves_bare g fresh gone rules are.runs are.owned are.flags level)
+      (more_taken empty [] rules (record { runs = refl; owned = refl; created = refl; flags = refl }) refl refl ordered (rest second (more_edits [] rules) rule_all)))
+      (leaves_ruled g fresh gone rules are.runs are.owned are.flags level)
+      (taken_so told (map run_so are.runs) (run_taken told are.runs run_named (rest third (map run_so are.runs) run_all))))
+      (leaves_run g fresh gone rules are.runs are.owned are.flags level)
+      (taken_so again (map own_so (finite.entries are.owned)) (own_taken again (finite.entries are.owned) owner_named (rest fourth (map own_so (finite.entries are.owned)) owned_all))))
+      (leaves_owned g fresh gone rules are.runs are.owned are.flags level)
+      (taken_so whole (flag_edits are.flags) (flag_taken whole are.flags flag_named (rest fifth (flag_edits are.flags) all)))
 
   pub swap_read : (entries : Standing) (origin : ℕ) → IsAscending entries → IsGraphOf entries g → AreByFolder rules → All HasSpelling edits → IsGraphOf (once_made origin entries edits) (edited_by g edits)
   swap_read entries origin up is ordered spelled =
       needed_read entries (map change_of edits) origin (edited_by g edits) up
       (turns_read origin edits entries g up is (subst (AreTakenInTurn g) (sym are.all)
-      (all_taken (level_of entries g is) ordered (recursion_from_All HasSpelling (clear_edits g ++ reading) (subst (All HasSpelling) are.all spelled)))))
+      (all_taken (level_of entries g is) ordered (recursion_from_All HasSpelling (clear_edits g ++ reading_edits g fresh gone ++ less_edits 0 g.rules ++ more_edits [] rules ++ map run_so are.runs ++ map own_so (finite.entries are.owned) ++ flag_edits are.flags)
+      (subst (All HasSpelling) are.all spelled)))))

@@ -75,8 +75,8 @@ fn push_unrun(edits: &mut Edits, nodes: &Nodes) -> Result<(), GraphFault>
         ≡ edits.old ++ map unrun_of (finite.entries nodes.now.runs)) }
     ensures err { IfErr result (λ fault. fault ≡ GraphFault.Memory) }
 {
-    for (number, run) in nodes.runs() {
-        edits.push(unrun(*number, run)?)?;
+    for (number, last) in nodes.runs() {
+        edits.push(unrun(*number, last)?)?;
     }
     Ok(())
 }

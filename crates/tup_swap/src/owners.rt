@@ -1,6 +1,5 @@
 //! Who owns which path after a swap.
 ghost use Rattle.std.specs.Prelude.{◌≡◌, [], None, fold, IfOk, IfErr, OnOk};
-ghost use Rattle.std.specs.Option.{option_copied};
 ghost use Rattle.tup_swap.specs.Owners.{AreOwned, made_here as made_here_of, with_output};
 
 use crate::before::number_of;
@@ -69,14 +68,14 @@ fn add_output(owned: &mut ByPath<Owned>, path: &Path, number: u32) -> Result<(),
     ensures ok { OnOk result (owned.new ≡ with_output number owned.old path.now) }
     ensures memory { IfErr result (λ fault. fault ≡ GraphFault.Memory) }
 {
-    let one = made_here(owned.get(path), number);
+    let one = made_here(owned.get(path).copied(), number);
     owned.insert(path.clone()?, one)?;
     Ok(())
 }
 
 /// How a path is owned that was owned so, where a rule has it as an output.
-fn made_here(before: Option<&Owned>, number: u32) -> Owned
-    ensures { result ≡ made_here_of number (option_copied before) }
+fn made_here(before: Option<Owned>, number: u32) -> Owned
+    ensures { result ≡ made_here_of number before }
 {
     match before {
         None => Owned {

@@ -9,7 +9,7 @@ use Rattle.tup_swap.proofs.clearing.push_unrun.Goals as goal
 
 pub loop-number-preserved : goal.loop-number-preserved
 loop-number-preserved c =
-    item_more deref_pair unrun c.args.edits.now c.loop-number.edits c.push.new.self c.loop-number.yielded (c.in-Some.number, c.in-Some.run) c.in_ok-unrun.field-0 (given c.in_ok-unrun.field-0 (unrun (deref_pair (c.in-Some.number, c.in-Some.run))) _ c.in_ok-unrun.ensures) c.loop-number.invariant c.in_ok-push.ensures.ok
+    item_more deref_pair unrun c.args.edits.now c.loop-number.edits c.push.new.self c.loop-number.yielded (c.in-Some.number, c.in-Some.last) c.in_ok-unrun.field-0 (given c.in_ok-unrun.field-0 (unrun (deref_pair (c.in-Some.number, c.in-Some.last))) _ c.in_ok-unrun.ensures) c.loop-number.invariant c.in_ok-push.ensures.ok
 
 pub returns-clause-ok : goal.returns-clause-ok
 returns-clause-ok c =

@@ -19,5 +19,5 @@ loop-at-preserved c =
     record {
       edits = rule_put rules c.loop-at.at rule c.loop-at-test.true c.index-rules-at.is c.loop-at.places place c.args.edits.now c.loop-at.edits c.push.new.self c.loop-at.invariant.places c.in_ok-place.ensures.place c.loop-at.invariant.edits
           (c.in_ok-push.ensures.ok ∙ ap (λ (e : Edit). c.loop-at.edits ++ e ∷ []) (given c.in_ok-more.field-0 (rule_more c.loop-at.at place rule) _ c.in_ok-more.ensures));
-      places = place_more rules c.loop-at.at rule c.loop-at-test.true c.index-rules-at.is c.loop-at.places c.next_place-place.new.places c.loop-at.invariant.places c.in_ok-place.ensures.ok;
+      places = place_more rules c.loop-at.at rule c.loop-at-test.true c.index-rules-at.is c.loop-at.places c.next_place.new.places c.loop-at.invariant.places c.in_ok-place.ensures.ok;
     }
