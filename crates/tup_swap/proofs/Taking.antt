@@ -12,6 +12,7 @@ use Rattle.std.proofs.lemmas.Bool.{lt-ltb, eq-eqb}
 use Rattle.std.proofs.lemmas.List.{length-take-le}
 use Rattle.std.proofs.lemmas.List.Elements.{recursion_from_All}
 use Rattle.std.proofs.lemmas.List.Quantifiers.{position-Some}
+use Rattle.std.proofs.lemmas.List.Sums.{fold-append}
 use Rattle.std.proofs.lemmas.Option.{slice_get_within}
 use Rattle.tup_path.specs.Name.{Names}
 use Rattle.tup_path.specs.Order.{by_names, by_names-antisymmetric, same_path}
@@ -155,15 +156,7 @@ last_is : {X : Type 0} (xs : List X) (x : X) → last_of (xs ++ x ∷ []) ≡ So
 last_is xs x = ap (slice_get (xs ++ x ∷ [])) (omega (arith, length-append xs (x ∷ []))) ∙ at_front xs [] x
 
 pub one_more : (p : Rule → Bool) (xs : List Rule) (x : Rule) → count_by p (xs ++ x ∷ []) ≡ count_by p xs + cond (p x) 1 0
-one_more p [] x = by (p x)
-  where
-    by : (b : Bool) → ◌≡◌ {A = ℕ} (cond b 1 0 + 0) (0 + cond b 1 0)
-    by true = omega arith
-    by false = omega arith
-one_more p (y ∷ xs) x = by (p y) (one_more p xs x)
-  where
-    by : (b : Bool) → count_by p (xs ++ x ∷ []) ≡ count_by p xs + cond (p x) 1 0 → cond b 1 0 + count_by p (xs ++ x ∷ []) ≡ (cond b 1 0 + count_by p xs) + cond (p x) 1 0
-    by b more = omega (arith, more)
+one_more p xs x = fold-append (λ (count : ℕ) (y : Rule). count + cond (p y) 1 0) 0 xs (x ∷ [])
 
 module _ (earlier : List Rule) (last rule : Rule) (ordered : by_names last.dir rule.dir ≡ Greater → ⊥) where
   comes : comes_behind (Some last) (Some (place_behind earlier last)) rule (place_behind (earlier ++ last ∷ []) rule) ≡ true
