@@ -1,5 +1,5 @@
 -- The records and the flags that rules keep, and the rules that are to be run.
-use Rattle.std.specs.Prelude.{◌≡◌, ◌⊎◌, ◌↔◌, ◌<◌, ℕ, zero, suc, Bool, true, false, cond, List, [], ◌∷◌, ◌++◌, Option, None, Some, Contains, Result, Ok, Err, is_none, length, map, option_map, option_to_list, slice_get, unwrap_or, if◌then◌else◌}
+use Rattle.std.specs.Prelude.{◌≡◌, ◌⊎◌, ◌↔◌, ℕ, Bool, true, false, List, [], ◌∷◌, ◌++◌, Option, None, Some, Contains, is_none, length, map, option_map, option_to_list, slice_get, unwrap_or, if◌then◌else◌}
 use Rattle.std.proofs.Common.{refl, sym, ap, subst, ◌∙◌, inl, inr}
 use Rattle.std.specs.List.{flat_map}
 use Rattle.std.specs.Ordering.{nat_cmp}
@@ -8,22 +8,18 @@ use Rattle.std.specs.FinMap as finite
 use Rattle.std.specs.FinMap.{nat_cmp-IsAntisymmetric}
 use Rattle.std.proofs.lemmas.Bool.{lt-ltb}
 use Rattle.std.proofs.lemmas.List.Elements.{Contains-append_left, Contains-append_right, Contains-append_cases}
-use Rattle.std.proofs.lemmas.Option.{none-some, same_Some, slice_get_within}
+use Rattle.std.proofs.lemmas.Option.{none-some, slice_get_within}
 use Rattle.tup_path.specs.Name.{Names}
-use Rattle.tup_path.specs.Order.{by_names}
-use Rattle.tup_stamp.specs.declared.Stamp.{Stamp}
-use Rattle.tup_rule.specs.Rule.{among, writes}
 use Rattle.tup_rule.specs.declared.rule.Rule.{Rule}
 use Rattle.tup_rule.specs.declared.question.Reading.{Reading}
 use Rattle.tup_rule.proofs.Laws.{among-decides}
 use Rattle.tup_record.specs.declared.run.RunRecord.{RunRecord}
 use Rattle.tup_graph.specs.declared.edit.Edit.{Edit}
-use Rattle.tup_graph.specs.declared.owned.Owned.{Owned}
-use Rattle.tup_graph.specs.Above.{AboveOver, IsAbove, HasAsked, HasReadOf}
+use Rattle.tup_graph.specs.Above.{IsAbove}
 use Rattle.tup_graph.specs.Graph.{GraphState, is_rule, is_flagged}
 use Rattle.tup_graph.specs.Swap.{WasAt, IsNew, IsFlaggedYet, ReadsNew}
 use Rattle.tup_graph.specs.Transactions.{flag_edits}
-use Rattle.tup_above.specs.Lists.{list_of, IsListed}
+use Rattle.tup_above.specs.Lists.{list_of}
 use Rattle.tup_above.specs.Readers.{AreReaders, AreRunsOfRules}
 use Rattle.tup_above.specs.declared.readers.Readers.{Readers}
 use Rattle.tup_above.proofs.Members.{number-decides}

@@ -4,7 +4,7 @@ use Rattle.std.proofs.Common.{refl, sym, ap, subst, ◌∙◌, take, get_or, ari
 use Rattle.std.specs.Ordering.{eq_by_cmp}
 use Rattle.std.specs.List.{position_from}
 use Rattle.std.specs.FinMap as finite
-use Rattle.std.specs.FinMap.{find, is_sorted}
+use Rattle.std.specs.FinMap.{find}
 use Rattle.std.proofs.lemmas.Iterator.Adapters.{position_from-zero}
 use Rattle.std.proofs.lemmas.List.{length-take-le}
 use Rattle.std.proofs.lemmas.List.Sums.{fold-append}
@@ -15,7 +15,6 @@ use Rattle.tup_rule.specs.Rule.{among, maker, writes}
 use Rattle.tup_rule.specs.declared.rule.Rule.{Rule}
 use Rattle.tup_record.specs.declared.owned.OwnedState.TheVariants.{Never}
 use Rattle.tup_graph.specs.declared.owned.Owned.{Owned}
-use Rattle.tup_graph.specs.Swap.{owned_now}
 use Rattle.tup_above.proofs.Asked.{taken}
 use Rattle.tup_swap.specs.Owners.{AreOwned, made_here, with_output}
 use Rattle.tup_swap.proofs.Leaving.{Owners}

@@ -1,7 +1,7 @@
 -- The graph that a swap leaves.
-use Rattle.std.specs.Prelude.{◌≡◌, ◌⊎◌, ◌↔◌, ◌<◌, ℕ, zero, suc, Bool, true, false, cond, List, [], ◌∷◌, Option, None, Some, Contains, fold, map, length, option_map, slice_get, take, is_some}
-use Rattle.std.proofs.Common.{refl, sym, ap, subst, ◌∙◌, inl, inr, arith}
-use Rattle.std.specs.Ordering.{nat_cmp, eq_by_cmp, MatchOrdering}
+use Rattle.std.specs.Prelude.{◌≡◌, ◌⊎◌, ◌↔◌, ◌<◌, ℕ, Bool, true, false, cond, List, [], ◌∷◌, Option, None, Some, Contains, fold, map, length, option_map, slice_get, take, is_some}
+use Rattle.std.proofs.Common.{refl, sym, ap, subst, ◌∙◌, inl, inr}
+use Rattle.std.specs.Ordering.{nat_cmp, MatchOrdering}
 use Rattle.std.specs.declared.cmp.Ordering.{Ordering}
 use Rattle.std.specs.declared.cmp.Ordering.TheVariants.{Less, Equal, Greater}
 use Rattle.std.specs.Cmp.{nat_cmp_total, ranks}
@@ -16,18 +16,18 @@ use Rattle.tup_rule.specs.declared.question.Reading.{Reading}
 use Rattle.tup_rule.specs.declared.rule.Rule.{Rule}
 use Rattle.tup_record.specs.declared.run.RunRecord.{RunRecord}
 use Rattle.tup_graph.specs.declared.edit.Edit.{Edit}
-use Rattle.tup_graph.specs.Above.{AboveOver, IsAbove}
+use Rattle.tup_graph.specs.Above.{IsAbove}
 use Rattle.tup_graph.specs.Edits.{edited_by}
 use Rattle.tup_graph.specs.Graph.{GraphState, is_flagged}
 use Rattle.tup_graph.specs.Kept.{IsRuleAt}
-use Rattle.tup_graph.specs.Swap.{WasAt, IsNew, IsPlaced, IsSwapped, IsFlaggedYet, ReadsNew, reading_now}
+use Rattle.tup_graph.specs.Swap.{WasAt, IsPlaced, IsSwapped, IsFlaggedYet, ReadsNew, reading_now}
 use Rattle.tup_graph.proofs.Keeping.{get_removed}
 use Rattle.tup_above.proofs.Members.{number-decides}
 use Rattle.tup_diff.proofs.Noting.{above_as}
 use Rattle.tup_diff.proofs.Ordered.{in_front, behind_front, front_or_behind, none_in}
-use Rattle.tup_swap.specs.Edits.{AreSwapEdits, IsRunNow, IsToRun, led_by, place_behind, dir_of}
+use Rattle.tup_swap.specs.Edits.{AreSwapEdits, IsRunNow, IsToRun, place_behind, dir_of}
 use Rattle.tup_swap.proofs.Puts.{Once, first_or, get_put, put_there, there_put}
-use Rattle.tup_swap.proofs.Leaving.{led_graph, led_is, place_at, places_behind, readings_after, runs_after, flags_after, swapped, swap_leaves, tagged}
+use Rattle.tup_swap.proofs.Leaving.{led_graph, led_is, place_at, places_behind, readings_after, swapped, swap_leaves, tagged}
 
 -- ---- readings
 none_same : (dir : Names) (fresh : List (Names × Reading)) → AllByRecursion (λ (other : Names). same_path dir other ≡ false) (map dir_of fresh) → find by_names dir fresh ≡ None

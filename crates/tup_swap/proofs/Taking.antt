@@ -1,6 +1,6 @@
 -- A graph takes the edits of a swap, one after another.
-use Rattle.std.specs.Prelude.{◌≡◌, ◌⊎◌, ◌≤◌, ◌<◌, ◌+◌, ◌&&◌, ℕ, zero, suc, Bool, true, false, cond, List, [], ◌∷◌, ◌++◌, Option, None, Some, All, Contains, map, filter_map, length, count_by, take, option_map, slice_get, nat_lt, unwrap_or}
-use Rattle.std.proofs.Common.{refl, sym, ap, subst, ◌∙◌, inl, inr, append_assoc, length-append, arith, get_or}
+use Rattle.std.specs.Prelude.{◌≡◌, ◌⊎◌, ◌<◌, ◌+◌, ◌&&◌, ℕ, zero, suc, Bool, true, cond, List, [], ◌∷◌, ◌++◌, Option, None, Some, All, Contains, map, filter_map, length, count_by, option_map, slice_get, nat_lt, unwrap_or}
+use Rattle.std.proofs.Common.{refl, sym, ap, subst, ◌∙◌, inl, inr, append_assoc, length-append, arith}
 use Rattle.std.specs.declared.cmp.Ordering.{Ordering}
 use Rattle.std.specs.declared.cmp.Ordering.TheVariants.{Less, Equal, Greater}
 use Rattle.std.specs.Ordering.{nat_cmp, is_lt, ordering_then}
@@ -25,14 +25,14 @@ use Rattle.tup_record.specs.declared.record.Record.TheVariants as records
 use Rattle.tup_record.specs.declared.run.RunRecord.{RunRecord}
 use Rattle.tup_table.specs.Entries.{Standing, IsAscending}
 use Rattle.tup_graph.specs.declared.edit.Edit.{Edit}
-use Rattle.tup_graph.specs.declared.edit.Edit.TheVariants.{Put, Remove}
+use Rattle.tup_graph.specs.declared.edit.Edit.TheVariants.{Remove}
 use Rattle.tup_graph.specs.declared.owned.Owned.{Owned}
-use Rattle.tup_graph.specs.Above.{AboveOver, IsAbove, HasReadOf}
+use Rattle.tup_graph.specs.Above.{AboveOver, HasReadOf}
 use Rattle.tup_graph.specs.Changes.{once_made}
-use Rattle.tup_graph.specs.Edits.{edited, edited_by, change_of, with_first, HasSpelling, IsBare, IsTaken, IsRuleTaken, AreTakenInTurn}
+use Rattle.tup_graph.specs.Edits.{edited, edited_by, change_of, with_first, HasSpelling, IsBare, IsTaken, AreTakenInTurn}
 use Rattle.tup_graph.specs.Graph.{GraphState, is_rule}
 use Rattle.tup_graph.specs.Opening.{fits, comes_behind, last_of, IsGraphOf}
-use Rattle.tup_graph.specs.Swap.{owned_now, IsFlaggedYet, ReadsNew}
+use Rattle.tup_graph.specs.Swap.{owned_now, ReadsNew}
 use Rattle.tup_graph.specs.Transactions.{flag_edits}
 use Rattle.tup_graph.proofs.Bare.{level_of}
 use Rattle.tup_graph.proofs.Needed.{needed_read}
@@ -40,7 +40,7 @@ use Rattle.tup_graph.proofs.Turns.{turns_read, taken_so, taken_both}
 use Rattle.tup_diff.proofs.Editing.{found_entry}
 use Rattle.tup_diff.proofs.Ordered.{in_front, behind_front}
 use Rattle.tup_diff.proofs.Paths.{last_item}
-use Rattle.tup_swap.specs.Edits.{AreSwapEdits, unflag, uncreate, unown, unrun, clear_edits, unread, read_so, reading_edits, less_edits, rule_less, more_edits, rule_more, place_behind, run_so, own_so, led_by, IsToRun, IsRunNow}
+use Rattle.tup_swap.specs.Edits.{AreSwapEdits, unflag, uncreate, unown, unrun, clear_edits, unread, read_so, reading_edits, less_edits, rule_less, more_edits, rule_more, place_behind, run_so, own_so, IsToRun}
 use Rattle.tup_swap.specs.Order.{AreByFolder}
 use Rattle.tup_swap.proofs.Leaving.{cleared, clears, less_leaves, places_behind, led_graph, read_anew, bare, ruled, run_again, owned_again, leaves_read, leaves_bare, leaves_ruled, leaves_run, leaves_owned}
 use Rattle.tup_swap.proofs.Swapping.{run_is, to_run}

@@ -1,4 +1,4 @@
-use Rattle.std.proofs.Common.{◌≡◌, ◌∙◌, ◌<◌, ℕ, Bool, true, false, List, length, Some, None, refl, ap, sym, subst, slice_index, slice_get, below_more, arith}
+use Rattle.std.proofs.Common.{◌≡◌, ◌∙◌, true, false, List, ap, sym, slice_index, slice_get, below_more, arith}
 use Rattle.tup_rule.specs.declared.rule.Rule.{Rule}
 use Rattle.tup_swap.proofs.Looked.{first_at, none_at}
 use Rattle.tup_swap.proofs.before.number_before.Goals as goal

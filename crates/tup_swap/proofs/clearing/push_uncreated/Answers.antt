@@ -1,8 +1,7 @@
-use Rattle.std.proofs.Common.{◌∙◌, ◌++◌, List, map, ap, refl}
+use Rattle.std.proofs.Common.{◌∙◌, ◌++◌, List, map, ap}
 use Rattle.std.specs.FinMap as finite
 use Rattle.std.specs.Map.Iter.{deref_pair}
 use Rattle.std.proofs.lemmas.Map.Iter.{iter_end}
-use Rattle.tup_graph.specs.declared.edit.Edit.{Edit}
 use Rattle.tup_swap.specs.Edits.{uncreate}
 use Rattle.tup_swap.proofs.Pushing.{item_more, given}
 use Rattle.tup_swap.proofs.clearing.push_uncreated.Goals as goal

@@ -4,7 +4,6 @@ use Rattle.std.specs.Map.Iter.{deref_pair}
 use Rattle.std.proofs.lemmas.Map.Iter.{iter_end}
 use Rattle.std.proofs.lemmas.List.{map-append}
 use Rattle.tup_swap.specs.Owners.{AreOwned}
-use Rattle.tup_swap.proofs.Leaving.{Owners}
 use Rattle.tup_swap.proofs.Owning.{unmade_of, unmade_more, all_unmade}
 use Rattle.tup_swap.proofs.owners.unmade.Goals as goal
 

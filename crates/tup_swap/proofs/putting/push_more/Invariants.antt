@@ -1,6 +1,4 @@
-use Rattle.std.proofs.Common.{◌≡◌, ◌++◌, ℕ, [], take, count_by, unwrap_or}
-use Rattle.std.specs.FinMap as finite
-use Rattle.tup_path.specs.Name.{Names}
+use Rattle.std.proofs.Common.{◌≡◌, ◌++◌, [], take}
 use Rattle.tup_swap.specs.Edits.{more_edits}
 use Rattle.tup_swap.proofs.Placing.{ArePlaces}
 use Rattle.tup_swap.proofs.putting.push_more.Given as goal

@@ -1,4 +1,4 @@
-use Rattle.std.proofs.Common.{◌≡◌, ◌∙◌, ℕ, List, Option, ap, sym, subst}
+use Rattle.std.proofs.Common.{◌∙◌, ℕ, List, Option, ap, sym, subst}
 use Rattle.std.specs.Prelude.{Contains, ◌↔◌}
 use Rattle.tup_rule.specs.declared.rule.Rule.{Rule}
 use Rattle.tup_graph.specs.Graph.{GraphState}
