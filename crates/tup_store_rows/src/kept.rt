@@ -10,12 +10,13 @@ use crate::graph::store;
 use crate::say::Say;
 use crate::scan::seen;
 use crate::sites::site_with;
+use crate::swap::{are_by_folder, is_one, news};
 use crate::transaction::{number, numbers, paths, run};
 use std::alloc::Global;
 use tup_graph::GraphFault;
 use tup_kept::Graph;
 use tup_ledger::{Begun, begin as begin_project, give_up, own};
-use tup_note::note_scan;
+use tup_note::{note_scan, swap_rules};
 use tup_path::Path;
 use tup_rows::{Answers, RowFault, Words};
 use tup_site::{MemSite, Site};
@@ -165,6 +166,7 @@ fn made(alloc: Global, call: &str, said: &Words, site: &mut MemSite) -> Made {
         "forget" => forget(alloc, said, site),
         "flag" => flag(alloc, said, site),
         "scan" => scan(alloc, said, site),
+        "swap" => swap(alloc, said, site),
         "own" => own_paths(alloc, said, site),
         "give_up" => give_up_paths(alloc, said, site),
         _ => nothing(alloc, said, site),
@@ -226,6 +228,17 @@ fn scan<S: Site>(alloc: Global, said: &Words, site: &mut S) -> Made {
     let mut graph = Graph::open(alloc, site)?;
     let seen = seen(alloc, said, said.len() / 2);
     let ended = note_scan(alloc, &mut graph, site, &seen);
+    Ok((graph, ended))
+}
+
+/// Opens a store, and swaps its rules: to one new reading at most, and to rules in the order of their folders.
+fn swap<S: Site>(alloc: Global, said: &Words, site: &mut S) -> Made {
+    let mut graph = Graph::open(alloc, site)?;
+    let (fresh, rules) = news(alloc, said, said.as_slice());
+    if !is_one(&fresh) || !are_by_folder(rules.as_slice()) {
+        return Ok((graph, unmade(said, RowFault::OtherKind)));
+    }
+    let ended = swap_rules(alloc, &mut graph, site, &fresh, rules.as_slice());
     Ok((graph, ended))
 }
 
