@@ -2,7 +2,7 @@
 # Each system call of an update over real files is failed and killed in turn, by strace: whatever stops the program, no
 # source may be lost, and the next update has to end with `done` and leave just the files of a clean build. A call that
 # failed is told with its error; only where nothing is lost by it may the update go on. Before, the order of its syncs is
-# looked at: no clause speaks of what is durable. Words: the program, and the projects to try (none: all). It ends with 1
+# looked at: which calls of the system make a file durable no clause says. Words: the program, and the projects to try (none: all). It ends with 1
 # where something else came, and says so. It takes a quarter of an hour, and is no part of the gate.
 set -u
 tup=$(realpath "$1")

@@ -312,6 +312,12 @@ echo ': ../x/*.o |> cat %f > p.o |> p.o' > y/Tupfile
 row "folders that wait for each other" 5 'fault: directories wait for each other: x -> y -> x;' upd
 file "what was made stands" x/q.o 1
 project
+mkdir a.d b c
+echo ': ../c/*.o |> cat %f > x |> x' > a.d/Tupfile
+echo ': ../c/*.o |> cat %f > x.o |> x.o' > b/Tupfile
+echo ': ../b/*.o |> cat %f > x.o |> x.o' > c/Tupfile
+row "a circle from its first folder on" 5 'fault: directories wait for each other: b -> c -> b;' upd
+project
 mkdir lib src inc
 echo '!cc = |> ^ CC %b^ incl %f %o |> %B.o' > Tuprules.tup
 printf 'include_rules\n: foreach *.c |> !cc |> ../<objs>\n' | tee lib/Tupfile > src/Tupfile

@@ -1,7 +1,7 @@
 //! The program's own folder, `.tup`, and the store in it: the file `.tup/db`.
 //!
-//! What is proved is safety, and that after a failed sync no later one succeeds; what the system
-//! does is tested.
+//! What is proved is safety, that what is written stands aside till a sync, and that after a failed
+//! sync no later one succeeds; what the system does is tested.
 #![tactic(auto)]
 
 mod own;

@@ -1,5 +1,7 @@
 //! The program's own folder, in which nothing is a file of the tree.
-ghost use Rattle.std.specs.Prelude.{◌≡◌, ◌++◌, IfOk, codes, string_bytes};
+ghost use Rattle.std.specs.Prelude.{IfOk, OnOk, string_bytes};
+ghost use Rattle.tup_db.specs.Own.{IsOwnBelow};
+ghost use Rattle.tup_disk.specs.Marked.{IsMarked};
 
 use std::alloc::{AllocError, Global};
 use std::fs::File;
@@ -20,14 +22,7 @@ pub struct Own {
 impl Own {
     /// The places below a folder.
     pub fn new(alloc: Global, root: &str) -> Result<Own, AllocError>
-        ensures folder { IfOk result
-            (λ own. string_bytes own.folder ≡ root.now ++ codes "/.tup") }
-        ensures store { IfOk result
-            (λ own. string_bytes own.store ≡ root.now ++ codes "/.tup/db") }
-        ensures aside { IfOk result
-            (λ own. string_bytes own.aside ≡ root.now ++ codes "/.tup/db.new") }
-        ensures new { IfOk result
-            (λ own. string_bytes own.new ≡ root.now ++ codes "/.tup/new") }
+        ensures { IfOk result (IsOwnBelow root.now) }
     {
         Ok(Own {
             folder: format!(in alloc; "{root}/.tup")?,
@@ -41,8 +36,10 @@ impl Own {
     pub fn make<R: Files<File = File> + Clone + Drop>(
         &self,
         disk: &mut Disk<R>,
-    ) -> Result<(), Refused> {
-        disk.make_folder(self.folder.clone()?)
+    ) -> Result<(), Refused>
+        ensures { OnOk result (IsMarked disk.new.folders (string_bytes self.now.folder)) }
+    {
+        disk.make_folder(&self.folder)
     }
 
     /// Removes the files that a run which died has left in the folder.

@@ -1,7 +1,8 @@
 //! The store's file. What isn't synced yet stands in a file beside it, which `sync` makes durable
 //! and puts into its place: so whatever stops the program, the store is the old one or the new one,
 //! whole.
-ghost use Rattle.std.specs.Prelude.{◌≡◌, false, IfOk, OnErr, IsErr, IsTrue};
+ghost use Rattle.std.specs.Prelude.{◌≡◌, false, IfOk, OnOk, OnErr, IsOk, IsErr, IsTrue, is_some, string_bytes};
+ghost use Rattle.tup_db.specs.Own.{IsOwnBelow};
 
 use crate::own::Own;
 use std::alloc::{AllocError, Global};
@@ -22,9 +23,14 @@ pub struct Store<R: Files<File = File> + Clone + Drop> {
 }
 
 impl<R: Files<File = File> + Clone + Drop> Store<R> {
-    /// The store below a folder, of which no sync has failed.
+    /// The store below a folder: nothing was written yet, none of it synced, and no sync has
+    /// failed.
     pub fn new(rt: R, alloc: Global, root: &str) -> Result<Store<R>, AllocError>
-        ensures { IfOk result (λ store. store.is_lost ≡ false) }
+        ensures root { IfOk result (λ store. string_bytes store.disk.root ≡ root.now) }
+        ensures own { IfOk result (λ store. IsOwnBelow root.now store.own) }
+        ensures aside { IfOk result (λ store. is_some store.aside ≡ false) }
+        ensures synced { IfOk result (λ store. store.was_synced ≡ false) }
+        ensures lost { IfOk result (λ store. store.is_lost ≡ false) }
     {
         Ok(Store {
             disk: Disk::new(rt, alloc, root)?,
@@ -59,9 +65,13 @@ impl<R: Files<File = File> + Clone + Drop> Store<R> {
         }
     }
 
-    /// Writes from a place on.
+    /// Writes from a place on. What is written stands aside till the next sync.
     pub fn write(&mut self, at: u64, bytes: &[u8]) -> Result<(), Refused>
-        ensures { self.new.is_lost ≡ self.old.is_lost }
+        ensures aside { OnOk result (IsTrue (is_some self.new.aside)) }
+        ensures kept { IsTrue (is_some self.old.aside) → IsTrue (is_some self.new.aside) }
+        ensures synced { self.new.was_synced ≡ self.old.was_synced }
+        ensures lost { self.new.is_lost ≡ self.old.is_lost }
+        ensures own { self.new.own ≡ self.old.own }
     {
         let file = self.take_aside()?;
         let done = file.write_all_at(bytes, at);
@@ -71,7 +81,10 @@ impl<R: Files<File = File> + Clone + Drop> Store<R> {
 
     /// Cuts the store; one that is no longer stays.
     pub fn cut(&mut self, to: u64) -> Result<(), Refused>
-        ensures { self.new.is_lost ≡ self.old.is_lost }
+        ensures kept { IsTrue (is_some self.old.aside) → IsTrue (is_some self.new.aside) }
+        ensures synced { self.new.was_synced ≡ self.old.was_synced }
+        ensures lost { self.new.is_lost ≡ self.old.is_lost }
+        ensures own { self.new.own ≡ self.old.own }
     {
         if self.len()? <= to {
             return Ok(());
@@ -85,8 +98,12 @@ impl<R: Files<File = File> + Clone + Drop> Store<R> {
     /// Makes durable what was written and cut. The system tells a lost write but once: so after a
     /// failure no later sync succeeds.
     pub fn sync(&mut self) -> Result<(), Refused>
+        ensures aside { OnOk result (is_some self.new.aside ≡ false) }
+        ensures synced { OnOk result (IsTrue self.new.was_synced) }
         ensures lost { OnErr result (IsTrue self.new.is_lost) }
+        ensures none_lost { OnOk result (self.new.is_lost ≡ false) }
         ensures for_good { IsTrue self.old.is_lost → IsErr result }
+        ensures own { self.new.own ≡ self.old.own }
     {
         if self.is_lost {
             return Err(self.disk.lost(self.own.store.as_str()));
@@ -144,7 +161,10 @@ impl<R: Files<File = File> + Clone + Drop> Store<R> {
 
     // The file aside, begun as a copy of the store where there is none yet.
     fn take_aside(&mut self) -> Result<File, Refused>
-        ensures { self.new.is_lost ≡ self.old.is_lost }
+        ensures there { IsTrue (is_some self.old.aside) → IsOk result }
+        ensures synced { self.new.was_synced ≡ self.old.was_synced }
+        ensures lost { self.new.is_lost ≡ self.old.is_lost }
+        ensures own { self.new.own ≡ self.old.own }
     {
         match self.aside.take() {
             Some(file) => Ok(file),
@@ -153,7 +173,9 @@ impl<R: Files<File = File> + Clone + Drop> Store<R> {
     }
 
     fn open_aside(&mut self) -> Result<File, Refused>
-        ensures { self.new.is_lost ≡ self.old.is_lost }
+        ensures synced { self.new.was_synced ≡ self.old.was_synced }
+        ensures lost { self.new.is_lost ≡ self.old.is_lost }
+        ensures own { self.new.own ≡ self.old.own }
     {
         self.own.make(&mut self.disk)?;
         let is_there = self.stored_len()?.is_some();

@@ -2,14 +2,17 @@
 //!
 //! The files are the regular files all of whose names are visible, at most 32 names deep. No link
 //! is followed. What is proved is which place belongs to which path, that the files come in order,
-//! and that each refusal of the system is told as such; what stands on the disk no clause says.
+//! that each refusal of the system is told as such, which folders are to be made durable, and that
+//! nothing settles after a write that was lost; what stands on the disk no clause says.
 #![tactic(auto)]
 
 mod disk;
 mod failure;
 mod listing;
 mod standing;
+mod touched;
 
 pub use disk::Disk;
 pub use failure::{Failure, Refused};
 pub use standing::{Standing, is_absence};
+pub use touched::Touched;

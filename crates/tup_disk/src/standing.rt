@@ -1,6 +1,9 @@
 //! What stands at a place.
-ghost use Rattle.std.specs.Prelude.{◌≡◌, ◌⊎◌, ◌↔◌, IsTrue};
+ghost use Rattle.std.specs.Prelude.{◌≡◌, ◌⊎◌, ◌↔◌, false, IsTrue, IfOk, OnOk, string_bytes};
 ghost use Rattle.std.specs.declared.io.ErrorKind.TheVariants.{NotFound, NotADirectory, InvalidFilename};
+ghost use Rattle.std.specs.BTreeSet.{contains_text};
+ghost use Rattle.tup_disk.specs.Marked.{IsMarked};
+ghost use Rattle.tup_disk.specs.declared.standing.Standing.TheVariants.{Folder};
 
 use crate::disk::Disk;
 use crate::failure::Refused;
@@ -47,8 +50,11 @@ impl<R: Files<File = File> + Clone + Drop> Disk<R> {
         Ok(Standing::Folder)
     }
 
-    // What stands where a folder is wanted. One that is there is noted.
-    fn standing_of_folder(&mut self, folder: String) -> Result<Standing, Refused> {
+    // What stands where a folder is wanted. One that is there is marked.
+    fn standing_of_folder(&mut self, folder: String) -> Result<Standing, Refused>
+        ensures { IfOk result
+            (λ standing. standing ≡ Folder → IsMarked self.new.folders (string_bytes folder)) }
+    {
         if self.folders.contains(&folder) {
             return Ok(Standing::Folder);
         }
@@ -59,13 +65,15 @@ impl<R: Files<File = File> + Clone + Drop> Disk<R> {
         Ok(standing)
     }
 
-    /// Makes a folder unless there is one. All else that stands there is a failure.
-    pub fn make_folder(&mut self, folder: String) -> Result<(), Refused> {
-        if self.folders.contains(&folder) {
+    /// Makes a folder unless there is one, and marks it. All else that stands there is a failure.
+    pub fn make_folder(&mut self, folder: &String) -> Result<(), Refused>
+        ensures { OnOk result (IsMarked self.new.folders (string_bytes folder.now)) }
+    {
+        if self.folders.contains(folder) {
             return Ok(());
         }
         self.make_unless_there(folder.as_str())?;
-        self.folders.insert(folder)?;
+        self.folders.insert(folder.clone()?)?;
         Ok(())
     }
 
@@ -77,8 +85,10 @@ impl<R: Files<File = File> + Clone + Drop> Disk<R> {
         }
     }
 
-    /// Removes a folder, which has to be empty.
-    pub fn remove_folder(&mut self, folder: &String) -> io::Result<()> {
+    /// Removes a folder, which has to be empty. It isn't marked any more, whatever the answer.
+    pub fn remove_folder(&mut self, folder: &String) -> io::Result<()>
+        ensures { contains_text self.new.folders (string_bytes folder.now) ≡ false }
+    {
         self.folders.remove(folder);
         fs::remove_dir(&self.rt, folder.as_str())
     }

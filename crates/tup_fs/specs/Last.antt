@@ -1,8 +1,18 @@
--- What a site over real files keeps of its failures. Own.
-use Rattle.std.specs.Prelude.{Option, Some, Result, Ok, Err}
+-- What a site over real files answers, and what it keeps of its failures. Own.
+use Rattle.std.specs.Prelude.{ℕ, ◌+◌, ◌≤◌, Option, Some, Result, Ok, Err}
 use Rattle.tup_disk.specs.declared.failure.Failure.{Failure}
 use Rattle.tup_disk.specs.declared.failure.Refused.{Refused}
 use Rattle.tup_disk.specs.declared.failure.Refused.TheVariants.{Memory, Failed}
+use Rattle.tup_site.specs.Cause.{CountsFaults, NeverTooLarge}
+use Rattle.tup_site.specs.declared.fault.SiteFailed.{SiteFailed}
+
+-- each fault is counted, once, and nothing else is
+abbrev pub CountsOnce : {T : Type 0} → ℕ → ℕ → Result T SiteFailed → Type 0
+CountsOnce before after answer = CountsFaults before after answer × (after ≤ before + 1)
+
+-- the same of a call that reads no file, and so speaks of no file's length
+abbrev pub CountsPlainly : {T : Type 0} → ℕ → ℕ → Result T SiteFailed → Type 0
+CountsPlainly before after answer = CountsOnce before after answer × NeverTooLarge answer
 
 -- the last failure after an answer: the one that it names, or else the one before
 abbrev pub last_after : {T : Type 0} → Result T Refused → Option Failure → Option Failure

@@ -2,13 +2,14 @@
 //!
 //! The files are the regular files all of whose names are visible, at most 32 names deep. Links
 //! are never followed, and neither read nor written. A file is written inside `.tup`, made durable
-//! and renamed into its place; the store is `.tup/db`. What is proved is safety, the refusals and
-//! the count of faults; what the system does is tested.
+//! and renamed into its place; the store is `.tup/db`. What is proved is safety, the refusals, the
+//! count of faults, that nothing is done without the lock, and what is to be made durable; what the
+//! system does is tested.
 #![tactic(auto)]
 
+mod failures;
 mod reading;
 mod site;
-mod touched;
 mod tree;
 mod writing;
 

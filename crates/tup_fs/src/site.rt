@@ -1,16 +1,20 @@
 //! The site over real files.
-ghost use Rattle.std.specs.Prelude.{◌≡◌, [], false, Ok, IfOk, OnOk, is_some, nat_lt};
+ghost use Rattle.std.specs.Prelude.{◌≡◌, [], false, IfOk, OnOk, OnErr, IsErr, IsTrue, is_some, nat_lt, string_bytes};
+ghost use Rattle.std.specs.BTreeSet.{IsEmpty};
 ghost use Rattle.std.specs.FinMap as finite;
-ghost use Rattle.tup_fs.specs.Last.{last_after};
-ghost use Rattle.tup_site.specs.Cause.{CountsFaults, NeverTooLarge};
+ghost use Rattle.tup_db.specs.Own.{IsOwnBelow};
+ghost use Rattle.tup_disk.specs.Marked.{AllMarked, StayMarked, places_above};
+ghost use Rattle.tup_fs.specs.Last.{CountsOnce, CountsPlainly};
+ghost use Rattle.tup_site.specs.Cause.{OnlyLarge, IsSmall};
 
+use crate::failures::Failures;
 use crate::reading::Found;
 use crate::tree::Tree;
 use std::alloc::{AllocError, Global};
 use std::fs::File;
 use std::rt::Files;
 use tup_db::Store;
-use tup_disk::{Failure, Refused};
+use tup_disk::{Failure, Touched};
 use tup_path::{Bytes, Path, Paths};
 use tup_site::{Site, SiteFailed};
 
@@ -19,68 +23,75 @@ use tup_site::{Site, SiteFailed};
 #[derive(Drop)]
 pub struct FsSite<R: Files<File = File> + Clone + Drop> {
     tree: Tree<R>,
+    touched: Touched<R>,
     store: Store<R>,
     lock: Option<File>,
-    last: Option<Failure>,
-    faults: u64,
-    ghost keeps_last: { is_some last ≡ nat_lt 0 faults },
+    failures: Failures,
 }
 
 impl<R: Files<File = File> + Clone + Drop> FsSite<R> {
     /// The files below this folder, which has to be there. It touches nothing yet.
-    pub fn new(rt: R, alloc: Global, root: &str) -> Result<FsSite<R>, AllocError> {
+    pub fn new(rt: R, alloc: Global, root: &str) -> Result<FsSite<R>, AllocError>
+        ensures root { IfOk result (λ site. string_bytes site.touched.disk.root ≡ root.now) }
+        ensures own { IfOk result (λ site. IsOwnBelow root.now site.store.own) }
+        ensures touched { IfOk result (λ site. IsEmpty site.touched.folders) }
+        ensures settles { IfOk result (λ site. site.touched.is_lost ≡ false) }
+        ensures syncs { IfOk result (λ site. site.store.is_lost ≡ false) }
+        ensures lock { IfOk result (λ site. is_some site.lock ≡ false) }
+        ensures faults { IfOk result (λ site. site.failures.count ≡ 0) }
+    {
         let tree = Tree::new(rt.clone()?, alloc, root)?;
+        let touched = Touched::new(rt.clone()?, alloc, root)?;
         let store = Store::new(rt, alloc, root)?;
         Ok(FsSite {
             tree,
+            touched,
             store,
             lock: None,
-            last: None,
-            faults: 0,
+            failures: Failures::none(),
         })
     }
 
     /// The last failure: its place, and what the system said. There is one just where the site has
     /// counted a fault.
     pub fn last(&self) -> Option<&Failure>
-        ensures { is_some result ≡ nat_lt 0 self.now.faults }
+        ensures { is_some result ≡ nat_lt 0 self.now.failures.count }
     {
-        self.last.as_ref()
+        self.failures.last()
     }
 
     // Before anything else the first call takes the lock, and removes what a run that died has left.
     fn begin(&mut self) -> Result<(), SiteFailed>
-        ensures cause { CountsFaults self.old.faults self.new.faults result }
-        ensures never_too_large { NeverTooLarge result }
-        ensures last { OnOk result (self.new.last ≡ self.old.last) }
+        ensures locked { OnOk result (IsTrue (is_some self.new.lock)) }
+        ensures cause { CountsPlainly self.old.failures.count self.new.failures.count result }
+        ensures touched { self.new.touched ≡ self.old.touched }
+        ensures store { self.new.store ≡ self.old.store }
     {
         if self.lock.is_some() {
             return Ok(());
         }
         let lock = self.tree.disk.lock();
-        let lock = self.told(lock)?;
+        let lock = self.failures.told(lock)?;
         let swept = self.store.own.sweep(&self.tree.disk);
-        self.told(swept)?;
+        self.failures.told(swept)?;
         self.lock = Some(lock);
         Ok(())
     }
 
-    // An answer as the site gives it. Each failure is counted and kept.
-    fn told<T>(&mut self, answer: Result<T, Refused>) -> Result<T, SiteFailed>
-        ensures cause { CountsFaults self.old.faults self.new.faults result }
-        ensures never_too_large { NeverTooLarge result }
-        ensures value { IfOk result (λ value. answer ≡ Ok value) }
-        ensures last { self.new.last ≡ last_after answer self.old.last }
+    // What comes before every change of a file.
+    fn touch(&mut self, path: &Path) -> Result<(), SiteFailed>
+        ensures locked { OnOk result (IsTrue (is_some self.new.lock)) }
+        ensures touched { OnOk result (AllMarked self.new.touched.folders
+            (places_above (string_bytes self.old.touched.disk.root) path.now)) }
+        ensures keeps { StayMarked self.old.touched.folders self.new.touched.folders }
+        ensures lost { self.new.touched.is_lost ≡ self.old.touched.is_lost }
+        ensures root { self.new.touched.disk ≡ self.old.touched.disk }
+        ensures cause { CountsPlainly self.old.failures.count self.new.failures.count result }
+        ensures store { self.new.store ≡ self.old.store }
     {
-        match answer {
-            Ok(value) => Ok(value),
-            Err(Refused::Memory) => Err(SiteFailed::Memory),
-            Err(Refused::Failed(failure)) => {
-                self.last = Some(failure);
-                self.faults = self.faults.saturating_add(1);
-                Err(SiteFailed::Fault)
-            }
-        }
+        self.begin()?;
+        let done = self.touched.add(path);
+        self.failures.told(done)
     }
 }
 
@@ -97,7 +108,7 @@ impl<R: Files<File = File> + Clone + Drop + Send> Site for FsSite<R> {
 
     ghost left_since = { λ _ _ _. ⊥ };
 
-    ghost faults = { λ site. site.faults };
+    ghost faults = { λ site. site.failures.count };
 
     ghost is_tree = { λ site no. Prim.cc };
 
@@ -113,71 +124,143 @@ impl<R: Files<File = File> + Clone + Drop + Send> Site for FsSite<R> {
 
     ghost leaves_known = { λ site w no left. Prim.cc };
 
-    fn list(&mut self, _alloc: Global) -> Result<Paths, SiteFailed> {
+    fn list(&mut self, _alloc: Global) -> Result<Paths, SiteFailed>
+        ensures locked { OnOk result (IsTrue (is_some self.new.lock)) }
+        ensures cause { CountsPlainly self.old.failures.count self.new.failures.count result }
+        ensures touched { self.new.touched ≡ self.old.touched }
+        ensures store { self.new.store ≡ self.old.store }
+    {
         self.begin()?;
         let files = self.tree.disk.files();
-        Ok(Paths::from_vec(self.told(files)?))
+        Ok(Paths::from_vec(self.failures.told(files)?))
     }
 
-    fn get(&mut self, _alloc: Global, path: &Path) -> Result<Option<Bytes>, SiteFailed> {
+    fn get(&mut self, _alloc: Global, path: &Path) -> Result<Option<Bytes>, SiteFailed>
+        ensures locked { OnOk result (IsTrue (is_some self.new.lock)) }
+        ensures small { IfOk result IsSmall }
+        ensures too_large { OnlyLarge result }
+        ensures cause { CountsOnce self.old.failures.count self.new.failures.count result }
+        ensures touched { self.new.touched ≡ self.old.touched }
+        ensures store { self.new.store ≡ self.old.store }
+    {
         self.begin()?;
         let found = self.tree.find(path);
-        match self.told(found)? {
+        match self.failures.told(found)? {
             Found::Nothing => Ok(None),
             Found::Content(bytes) => Ok(Some(bytes)),
             Found::TooLarge(len) => Err(SiteFailed::TooLarge(len)),
         }
     }
 
-    fn put(&mut self, _alloc: Global, path: &Path, content: &Bytes) -> Result<(), SiteFailed> {
-        self.begin()?;
+    fn put(&mut self, _alloc: Global, path: &Path, content: &Bytes) -> Result<(), SiteFailed>
+        ensures locked { OnOk result (IsTrue (is_some self.new.lock)) }
+        ensures cause { CountsPlainly self.old.failures.count self.new.failures.count result }
+        ensures touched { OnOk result (AllMarked self.new.touched.folders
+            (places_above (string_bytes self.old.touched.disk.root) path.now)) }
+        ensures keeps { StayMarked self.old.touched.folders self.new.touched.folders }
+        ensures lost { self.new.touched.is_lost ≡ self.old.touched.is_lost }
+        ensures root { self.new.touched.disk ≡ self.old.touched.disk }
+        ensures store { self.new.store ≡ self.old.store }
+    {
+        self.touch(path)?;
         let done = self.tree.put(&self.store.own, path, content.as_slice());
-        self.told(done)
+        self.failures.told(done)
     }
 
-    fn remove(&mut self, _alloc: Global, path: &Path) -> Result<(), SiteFailed> {
-        self.begin()?;
+    // Also where there is no file: an earlier run's removal may not be durable.
+    fn remove(&mut self, _alloc: Global, path: &Path) -> Result<(), SiteFailed>
+        ensures locked { OnOk result (IsTrue (is_some self.new.lock)) }
+        ensures cause { CountsPlainly self.old.failures.count self.new.failures.count result }
+        ensures touched { OnOk result (AllMarked self.new.touched.folders
+            (places_above (string_bytes self.old.touched.disk.root) path.now)) }
+        ensures keeps { StayMarked self.old.touched.folders self.new.touched.folders }
+        ensures lost { self.new.touched.is_lost ≡ self.old.touched.is_lost }
+        ensures root { self.new.touched.disk ≡ self.old.touched.disk }
+        ensures store { self.new.store ≡ self.old.store }
+    {
+        self.touch(path)?;
         let done = self.tree.remove(path);
-        self.told(done)
+        self.failures.told(done)
     }
 
-    fn settle(&mut self, _alloc: Global) -> Result<(), SiteFailed> {
+    // A lost write is told but once: after a settle that failed none succeeds.
+    fn settle(&mut self, _alloc: Global) -> Result<(), SiteFailed>
+        ensures locked { OnOk result (IsTrue (is_some self.new.lock)) }
+        ensures cause { CountsPlainly self.old.failures.count self.new.failures.count result }
+        ensures settled { OnOk result (IsEmpty self.new.touched.folders) }
+        ensures kept { OnErr result (self.new.touched.folders ≡ self.old.touched.folders) }
+        ensures none_lost { OnOk result (self.new.touched.is_lost ≡ false) }
+        ensures for_good { IsTrue self.old.touched.is_lost → IsErr result }
+        ensures root { self.new.touched.disk ≡ self.old.touched.disk }
+        ensures store { self.new.store ≡ self.old.store }
+    {
         self.begin()?;
-        let done = self.tree.touched.settle(&self.tree.disk);
-        self.told(done)
+        let done = self.touched.settle();
+        self.failures.told(done)
     }
 
-    fn db_len(&mut self, _alloc: Global) -> Result<u64, SiteFailed> {
+    fn db_len(&mut self, _alloc: Global) -> Result<u64, SiteFailed>
+        ensures locked { OnOk result (IsTrue (is_some self.new.lock)) }
+        ensures cause { CountsPlainly self.old.failures.count self.new.failures.count result }
+        ensures touched { self.new.touched ≡ self.old.touched }
+        ensures store { self.new.store ≡ self.old.store }
+    {
         self.begin()?;
         let len = self.store.len();
-        self.told(len)
+        self.failures.told(len)
     }
 
-    fn db_read(&mut self, _alloc: Global, at: u64, into: &mut [u8]) -> Result<(), SiteFailed> {
+    fn db_read(&mut self, _alloc: Global, at: u64, into: &mut [u8]) -> Result<(), SiteFailed>
+        ensures locked { OnOk result (IsTrue (is_some self.new.lock)) }
+        ensures cause { CountsPlainly self.old.failures.count self.new.failures.count result }
+        ensures touched { self.new.touched ≡ self.old.touched }
+        ensures store { self.new.store ≡ self.old.store }
+    {
         self.begin()?;
         let done = self.store.read(at, into);
-        self.told(done)
+        self.failures.told(done)
     }
 
-    fn db_write(&mut self, _alloc: Global, at: u64, bytes: &[u8]) -> Result<(), SiteFailed> {
+    fn db_write(&mut self, _alloc: Global, at: u64, bytes: &[u8]) -> Result<(), SiteFailed>
+        ensures locked { OnOk result (IsTrue (is_some self.new.lock)) }
+        ensures cause { CountsPlainly self.old.failures.count self.new.failures.count result }
+        ensures aside { OnOk result (IsTrue (is_some self.new.store.aside)) }
+        ensures kept { IsTrue (is_some self.old.store.aside) → IsTrue (is_some self.new.store.aside) }
+        ensures lost { self.new.store.is_lost ≡ self.old.store.is_lost }
+        ensures touched { self.new.touched ≡ self.old.touched }
+    {
         self.begin()?;
         let done = self.store.write(at, bytes);
-        self.told(done)
+        self.failures.told(done)
     }
 
-    fn db_sync(&mut self, _alloc: Global) -> Result<(), SiteFailed> {
+    // The same of the store.
+    fn db_sync(&mut self, _alloc: Global) -> Result<(), SiteFailed>
+        ensures locked { OnOk result (IsTrue (is_some self.new.lock)) }
+        ensures cause { CountsPlainly self.old.failures.count self.new.failures.count result }
+        ensures aside { OnOk result (is_some self.new.store.aside ≡ false) }
+        ensures none_lost { OnOk result (self.new.store.is_lost ≡ false) }
+        ensures for_good { IsTrue self.old.store.is_lost → IsErr result }
+        ensures touched { self.new.touched ≡ self.old.touched }
+    {
         self.begin()?;
         let done = self.store.sync();
-        self.told(done)
+        self.failures.told(done)
     }
 
-    fn db_cut(&mut self, _alloc: Global, len: u64) -> Result<(), SiteFailed> {
+    fn db_cut(&mut self, _alloc: Global, len: u64) -> Result<(), SiteFailed>
+        ensures locked { OnOk result (IsTrue (is_some self.new.lock)) }
+        ensures cause { CountsPlainly self.old.failures.count self.new.failures.count result }
+        ensures kept { IsTrue (is_some self.old.store.aside) → IsTrue (is_some self.new.store.aside) }
+        ensures lost { self.new.store.is_lost ≡ self.old.store.is_lost }
+        ensures touched { self.new.touched ≡ self.old.touched }
+    {
         self.begin()?;
         let done = self.store.cut(len);
-        self.told(done)
+        self.failures.told(done)
     }
 
     fn faults(&self) -> u64 {
-        self.faults
+        self.failures.count()
     }
 }

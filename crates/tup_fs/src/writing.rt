@@ -25,22 +25,11 @@ impl<R: Files<File = File> + Clone + Drop> Tree<R> {
         self.bring(own, beside.as_str(), content, place.as_str())
     }
 
-    // Makes the folders above a path, and notes them: also one that a run which died has made.
     fn make_folders(&mut self, path: &Path) -> Result<(), Refused> {
-        self.touch(path)?;
         for folder in self.disk.folders_above(path)? {
-            self.disk.make_folder(folder)?;
+            self.disk.make_folder(&folder)?;
         }
         Ok(())
-    }
-
-    // Notes all folders above a path: also one that a run which died has emptied.
-    fn touch(&mut self, path: &Path) -> Result<(), Refused> {
-        for folder in self.disk.folders_above(path)? {
-            self.touched.add(folder)?;
-        }
-        let top = String::from_str(self.disk.alloc, self.disk.root())?;
-        self.touched.add(top)
     }
 
     fn beside(&self, path: &Path) -> Result<String, AllocError> {
@@ -155,10 +144,8 @@ impl<R: Files<File = File> + Clone + Drop> Tree<R> {
         fs::rename(&self.disk.rt, new, place)
     }
 
-    /// Removes a file, and the folders that it leaves empty. Where there is none its folders are
-    /// noted still, since an earlier run's removal may not be durable.
+    /// Removes a file, and the folders that it leaves empty.
     pub fn remove(&mut self, path: &Path) -> Result<(), Refused> {
-        self.touch(path)?;
         if self.disk.standing_above(path)? != Standing::Folder {
             return Ok(());
         }

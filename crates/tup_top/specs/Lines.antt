@@ -1,7 +1,8 @@
 -- What is printed of an update (the wording is own): a line for each thing done, and a last one for how it ended.
-use Rattle.std.specs.Prelude.{ℕ, if◌then◌else◌, List, [], ◌∷◌, ◌++◌, None, Some, slice_get, codes, decimal}
-use Rattle.std.specs.List.{flat_map}
+use Rattle.std.specs.Prelude.{ℕ, if◌then◌else◌, List, [], ◌∷◌, ◌++◌, drop, fold, take, None, Some, slice_get, unwrap_or, codes, decimal}
+use Rattle.std.specs.List.{flat_map, position_or_len}
 use Rattle.tup_path.specs.Name.{Names}
+use Rattle.tup_path.specs.Order.{same_path}
 use Rattle.tup_path.specs.Show.{show}
 use Rattle.tup_rule.specs.declared.draft.GroupRef.{GroupRef}
 use Rattle.tup_rule.specs.declared.rule.Rule.{Rule}
@@ -12,6 +13,7 @@ use Rattle.tup_lex.specs.ParseKind.{kind_text}
 use Rattle.tup_clean.specs.Clean.{is_good}
 use Rattle.tup_clean.specs.Taken.{Taken}
 use Rattle.tup_ask.specs.declared.fault.ParseFault.{ParseFault}
+use Rattle.tup_update.specs.Compared.{first_of}
 use Rattle.tup_update.specs.declared.update.Log.{Log}
 use Rattle.tup_top.specs.declared.status.Status.{Status}
 use Rattle.tup_top.specs.declared.status.Status.TheVariants.{Done, Command, IllegalRead, IllegalWrite, Unwritten, TooManyReads, Usage, BadStore, Parse, CircularDirs, CircularCommands, NoSuchGroup, SiteFault, RunFault, SinkFault, Limit, Memory, Differs}
@@ -63,10 +65,21 @@ abbrev pub rules_circle : List RuleName → List ℕ
 rules_circle [] = []
 rules_circle (first ∷ rest) = flat_map rule_arrow (first ∷ rest) ++ (show first.dir ++ (codes ": " ++ first.text))
 
--- folders in a circle: from the first on, and that one again at the end
+-- of some folders the one that comes first in the order of paths; of none the top
+abbrev pub first_among : List Names → Names
+first_among dirs = fold first_of (unwrap_or (slice_get dirs 0) []) dirs
+
+-- where it stands
+abbrev pub place_of_first : List Names → ℕ
+place_of_first dirs = position_or_len (λ dir. same_path dir (first_among dirs)) dirs
+
+-- folders in a circle: from the first of them in the order of paths on, those before it, and that one again at the end
 abbrev pub folders_circle : List Names → List ℕ
-folders_circle [] = []
-folders_circle (first ∷ rest) = flat_map folder_arrow (first ∷ rest) ++ show first
+folders_circle dirs =
+    elim (slice_get dirs (place_of_first dirs)) [
+      | Some first ↦ flat_map folder_arrow (drop (place_of_first dirs) dirs) ++ (flat_map folder_arrow (take (place_of_first dirs) dirs) ++ show first)
+      | None ↦ []
+    ]
 
 -- what stands before a name in a folder; nothing for the top
 abbrev pub folder_text : Names → List ℕ

@@ -2,7 +2,8 @@
 ghost use Rattle.std.specs.Prelude.{IsTrue, map};
 ghost use Rattle.tup_update.specs.Compared.{HasCompared};
 ghost use Rattle.tup_update.specs.Log.{OfRules};
-ghost use Rattle.tup_update.specs.Outcome.{ExactlyTheFiles, SourcesStay, NothingForgotten, HasCause};
+ghost use Rattle.tup_update.specs.Settled.{IsSettled};
+ghost use Rattle.tup_update.specs.Outcome.{ExactlyTheFiles, MadeBeforeBad, SourcesStay, NothingForgotten, HasCause};
 ghost use Rattle.tup_top.specs.Order.{order};
 ghost use Rattle.tup_top.specs.Crew.{IsCrew, CrewRuns, CrewCompares, RanFits, RanInTurn, NothingRun};
 ghost use Rattle.tup_top.specs.Lines.{last_line as line_of};
@@ -50,10 +51,16 @@ pub fn tup<S: Site, R: Runner, K: Sink>(
     ensures exactly_the_files { IsTrue S.tells → IsTrue R.tells → let old = S.world site in
         let new = S.world result.site in ForUpdate (order words.now) result.status
         (OfRules old (λ rules. ExactlyTheFiles R.next rules old new)) }
+    ensures made_before_bad { IsTrue S.tells → IsTrue R.tells → let old = S.world site in
+        let new = S.world result.site in ForUpdate (order words.now) result.status
+        (OfRules old (λ rules. MadeBeforeBad R.next rules old new)) }
     ensures sources_stay { IsTrue S.tells → SourcesStay (S.world site) (S.world result.site) }
     ensures nothing_forgotten { IsTrue S.tells → let old = S.world site in
         let new = S.world result.site in ForUpdate (order words.now) result.status
         (OfRules old (λ rules. NothingForgotten R.tells R.next rules old new)) }
+    ensures settled { IsTrue S.tells
+        → let left = S.left_since result.site (S.moment result.site) in
+        ForUpdate (order words.now) result.status (IsSettled left (S.world result.site)) }
     ensures nothing_done { IsTrue S.tells
         → NothingDone (order words.now) (S.world site) (S.world result.site) }
     ensures nothing_run { NothingRun (order words.now) crew.items result.crew.items result.ran }

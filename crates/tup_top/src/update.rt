@@ -5,7 +5,8 @@ ghost use Rattle.tup_site.specs.Memory.{world_in};
 ghost use Rattle.tup_mini.specs.Means.{mini_next};
 ghost use Rattle.tup_update.specs.Log.{OfRules};
 ghost use Rattle.tup_update.specs.Ran.{RunsThese};
-ghost use Rattle.tup_update.specs.Outcome.{ExactlyTheFiles, SourcesStay, NothingForgotten, HasCause};
+ghost use Rattle.tup_update.specs.Settled.{IsSettled};
+ghost use Rattle.tup_update.specs.Outcome.{ExactlyTheFiles, MadeBeforeBad, SourcesStay, NothingForgotten, HasCause};
 ghost use Rattle.tup_top.specs.Crew.{RanFits, RanInTurn};
 ghost use Rattle.tup_top.specs.Printed.{PrintsUpdate, demo_world};
 ghost use Rattle.tup_top.specs.Promise.{CountsAll, HasCountedCause, HasDemoCause, counts};
@@ -39,10 +40,15 @@ pub(crate) fn update<S: Site, R: Runner, K: Sink>(
     ensures exactly_the_files { IsTrue S.tells → IsTrue R.tells → let old = S.world site.old in
         IfSome (came_to result.status)
         (OfRules old (λ rules. ExactlyTheFiles R.next rules old (S.world site.new))) }
+    ensures made_before_bad { IsTrue S.tells → IsTrue R.tells → let old = S.world site.old in
+        IfSome (came_to result.status)
+        (OfRules old (λ rules. MadeBeforeBad R.next rules old (S.world site.new))) }
     ensures sources_stay { IsTrue S.tells → SourcesStay (S.world site.old) (S.world site.new) }
     ensures nothing_forgotten { IsTrue S.tells → let old = S.world site.old in
         IfSome (came_to result.status)
         (OfRules old (λ rules. NothingForgotten R.tells R.next rules old (S.world site.new))) }
+    ensures settled { IsTrue S.tells → let left = S.left_since site.new (S.moment site.new) in
+        IfSome (came_to result.status) (IsSettled left (S.world site.new)) }
     ensures cause { IsTrue S.tells → IsTrue R.tells → let old = S.world site.old in
         IfSome (came_to result.status)
         (OfRules old (λ rules. HasCause R.next rules old (S.world site.new))) }

@@ -1,11 +1,13 @@
 -- The rules that are begun, one after another, and what their runner ran.
-use Rattle.std.proofs.Common.{◌≡◌, inl, inr, ℕ, List, [], ◌∷◌, ◌++◌, map, Option, None, Some, Result, Ok, Err, sym, ◌∙◌, ap, append_assoc, append-nil}
+use Rattle.std.proofs.Common.{◌≡◌, inl, inr, ℕ, List, [], ◌∷◌, ◌++◌, map, Option, None, Some, Result, Ok, Err, sym, ◌∙◌, ap, subst, append_assoc, append-nil}
 use Rattle.std.specs.Result.{IsErrAnd}
 use Rattle.std.proofs.lemmas.List.{map-append}
 use Rattle.tup_path.specs.Name.{Names}
 use Rattle.tup_site.specs.declared.fault.SiteFailed.TheVariants.{Fault, TooLarge, Memory}
 use Rattle.tup_rule.specs.declared.rule.RuleName.{RuleName}
 use Rattle.tup_access.specs.declared.verdict.Verdict.{Verdict}
+use Rattle.tup_update.specs.Outcome.{HasRunCause}
+use Rattle.tup_update.specs.Parts.{StopsAt}
 use Rattle.tup_update.specs.Ran.{command_of, RanAll, RunsThese, BeginsOne, stopped_by, comes_to}
 use Rattle.tup_update.specs.Stopped.{stop_of_halt}
 use Rattle.tup_update.specs.declared.stop.Halt.{Halt}
@@ -35,6 +37,11 @@ ran_all_of rules old new (Some Run) ran = ran
 ran_all_of rules old new (Some (Outside Fault)) ran = ran
 ran_all_of rules old new (Some (Outside (TooLarge n))) ran = ran
 ran_all_of rules old new (Some (Outside Memory)) ran = inl ran
+
+-- where a bad rule ends it the runner has not failed
+pub stopped_runs : (before now : ℕ) (name : RuleName) (verdict : Verdict) (stop : Stop) → StopsAt name verdict stop → now ≡ before → HasRunCause before now (Some stop)
+stopped_runs before now name verdict stop (inl is) same = subst (λ (s : Stop). HasRunCause before now (Some s)) (sym is) same
+stopped_runs before now name verdict stop (inr (failed, is, small)) same = subst (λ (s : Stop). HasRunCause before now (Some s)) (sym is) same
 
 -- what halts the rules stops the update
 pub stopped_err : {T : Type 0} (result : Result T Halt) (halt : Halt) → IsErrAnd result (λ h. h ≡ halt) → Some (stop_of_halt halt) ≡ stopped_by result

@@ -1,5 +1,5 @@
 -- What an update promises, for each way in which it can come out.
-use Rattle.std.proofs.Common.{◌≡◌, ◌≢◌, ◌⊎◌, inl, inr, ℕ, Bool, IsTrue, ◌++◌, [], List, None, Some, Result, Ok, Err, refl, sym, ◌∙◌, ap, subst}
+use Rattle.std.proofs.Common.{◌≡◌, ◌≢◌, ◌⊎◌, inl, inr, ℕ, Bool, IsTrue, true, if◌then◌else◌, ◌++◌, [], List, None, Some, Result, Ok, Err, refl, sym, ◌∙◌, ap, subst}
 use Rattle.std.specs.Result.{result_err, IsErrAnd}
 use Rattle.std.specs.FinMap as finite
 use Rattle.tup_path.specs.Name.{Names}
@@ -9,30 +9,34 @@ use Rattle.tup_site.specs.declared.fault.SiteFailed.{SiteFailed}
 use Rattle.tup_site.specs.declared.fault.SiteFailed.TheVariants.{Fault, TooLarge, Memory}
 use Rattle.tup_rule.specs.declared.rule.Rule.{Rule}
 use Rattle.tup_rule.specs.declared.rule.RuleName.{RuleName}
+use Rattle.tup_rule.specs.Rule.{among}
 use Rattle.tup_access.specs.declared.verdict.Verdict.{Verdict}
 use Rattle.tup_runner.specs.Next.{Next}
 use Rattle.tup_clean.specs.Clean.{clean}
-use Rattle.tup_clean.specs.Taken.{Taken, takes, up_to_bad}
+use Rattle.tup_clean.specs.Taken.{Taken, takes, up_to_bad, verdicts_of}
 use Rattle.tup_owned.specs.Owned.{owned_of, spelling}
 use Rattle.tup_owned.specs.Ascending.{ascending}
 use Rattle.tup_update.specs.Log.{IsFront, IsGrownByFront, IsPartOf, IsEmptyLog, IsUnused, LogFits, RulesFit, whole_log, with_read}
-use Rattle.tup_update.specs.Outcome.{Stays, Keeps, HasCause, HasCountedCause, IsListed, AllIsMade, IsLeft, NothingForgotten, SourcesStay, claimed}
+use Rattle.tup_update.specs.Outcome.{Stays, Keeps, MadeBeforeBad, IsBehindBad, HasCause, HasCountedCause, IsListed, AllIsMade, IsLeft, NothingForgotten, SourcesStay, claimed}
 use Rattle.tup_update.specs.Outside.{HandsOn}
-use Rattle.tup_update.specs.Parts.{IsOfRules, IsRefusal, KnowsLimits, Changes, SameBeside, SameBesideOutputs, IsCleared, IsRunnable, HasFileOf, HasRun, AreNoted, ArePartNoted, IsBuilt, IsProject}
+use Rattle.tup_update.specs.Parts.{IsOfRules, IsRefusal, KnowsLimits, Changes, SameBeside, SameBesideOutputs, IsCleared, IsRunnable, HasFileOf, HasRun, AreNoted, ArePartNoted, IsBuilt, IsProject, HasMade, StopsAt}
 use Rattle.tup_update.specs.Sources.{owned, sources, files_beside, ends, outputs, vanished}
 use Rattle.tup_update.specs.Stopped.{stop_of, stop_of_halt}
 use Rattle.tup_update.specs.Turns.{names_of, AreInTurn, AreBegun, TurnsFit}
 use Rattle.tup_update.specs.declared.project.Project.{Project}
 use Rattle.tup_update.specs.declared.stop.Halt.{Halt}
 use Rattle.tup_update.specs.declared.stop.Halt.TheVariants.{Run as RunHalted, Outside as Halted}
+use Rattle.tup_update.specs.declared.stop.Stop.{Stop}
 use Rattle.tup_update.specs.declared.stop.Stop.TheVariants.{Bad, Outside}
 use Rattle.tup_update.specs.declared.stop.Unread.{Unread}
 use Rattle.tup_update.specs.declared.stop.Unread.TheVariants.{Store, Sources, Outside as Unlucky}
 use Rattle.tup_update.specs.declared.update.Log.{Log}
 use Rattle.tup_update.proofs.Beside.{left_is}
+use Rattle.tup_update.proofs.Behind.{none_made}
 use Rattle.tup_update.proofs.Ending.{sources_are_kept, project_owns, project_builds, gone_are, vanished_are, no_front, whole_front, grown_from_nothing}
 use Rattle.tup_update.proofs.Known.{sources_are, claimed_known, beside_outputs, beside_ascending}
-use Rattle.tup_update.proofs.Preparing.{same_sources, changes, listed_reads, runnable}
+use Rattle.tup_update.proofs.Preparing.{same_sources, changes, gone_unmade, listed_reads, runnable}
+use Rattle.tup_update.proofs.Turning.{noted_part}
 
 -- the stop that a result carries
 pub err_is : {A E : Type 0} (result : Result A E) (stop : E) → IsErrAnd result (λ e. e ≡ stop) → result_err result ≡ Some stop
@@ -118,10 +122,16 @@ pub unread_keeps : (next : Next) (rules : List Rule) (old new : World) (log : Lo
     Keeps next rules old new log (Some (stop_of unread))
 unread_keeps next rules old new log unread why empty = record {
   exactly_the_files = tt;
+  made_before_bad = before unread;
   cause = why;
   log_fits = logged unread;
 }
   where
+    before : (unread : Unread) → MadeBeforeBad next rules old new (Some (stop_of unread))
+    before (Store offset) = tt
+    before (Sources fault) = tt
+    before (Unlucky failed) = tt
+
     logged : (unread : Unread) → LogFits next rules old log (Some (stop_of unread))
     logged (Store offset) = empty
     logged (Sources fault) = empty
@@ -171,8 +181,12 @@ module _ (project : Project) (old : World) (is : IsProject project old) where
   halted_keeps : (next : Next) (new : World) (log : Log) (halt : Halt) → HasCause next project.rules old new (Some (stop_of_halt halt)) →
       IsFront log.removed (vanished project.rules old) → ArePartNoted project.rules (ends next project.rules old) log.ran log.ended →
       Keeps next project.rules old new (with_read project.read log) (Some (stop_of_halt halt))
-  halted_keeps next new log halt why removed noted = record { exactly_the_files = tt; cause = why; log_fits = fits halt }
+  halted_keeps next new log halt why removed noted = record { exactly_the_files = tt; made_before_bad = before halt; cause = why; log_fits = fits halt }
     where
+      before : (halt : Halt) → MadeBeforeBad next project.rules old new (Some (stop_of_halt halt))
+      before RunHalted = tt
+      before (Halted failed) = tt
+
       part : IsPartOf (with_read project.read log) (whole_log next project.rules old)
       part = record { read = whole_front project.read (whole_log next project.rules old).read is.read; removed = removed; ran = noted.0; ended = noted.1 }
 
@@ -305,15 +319,48 @@ module _ (project : Project) (old mid : World) (vanishing claiming : List Names)
     turns_fit = turns;
   }
 
+  -- what was made before it
+  behind_bad : (next : Next) (now : World) → IsCleared vanishing old.tree mid.tree → HasMade next project.rules (files_beside project.owned mid.tree) mid.tree now.tree → IsBehindBad next project.rules old now
+  behind_bad next now cleared made =
+      let has = subst (λ (t : Tree). HasMade next project.rules t mid.tree now.tree) same_run made in
+      let without = subst (λ (l : List Names). IsCleared l old.tree mid.tree) way.vanishes cleared in
+      record {
+        made = has.made;
+        gone = λ path is.
+            has.others path (none_made project.rules (verdicts_of project.rules (ends next project.rules old)) path (gone_unmade (owned old) (finite.keys old.tree) project.rules path is))
+            ∙ without path ∙ ap (λ (b : Bool). if b then None else finite.get old.tree path) is;
+        others = λ path unmade kept. has.others path unmade ∙ beside_gone path kept;
+      }
+
   pub bad_keeps : (next : Next) (now : World) (before : List Names) (log : Log) (name : RuleName) (verdict : Verdict) →
-      HasRun next project.rules (files_beside project.owned mid.tree) now.tree (Some (name, verdict)) → before ≡ [] → log.removed ≡ before ++ vanishing →
+      IsCleared vanishing old.tree mid.tree → HasMade next project.rules (files_beside project.owned mid.tree) mid.tree now.tree → HasRun next project.rules (files_beside project.owned mid.tree) now.tree (Some (name, verdict)) → before ≡ [] → log.removed ≡ before ++ vanishing →
       AreNoted project.rules (up_to_bad (takes next project.rules (files_beside project.owned mid.tree))) log.ran log.ended →
       Keeps next project.rules old now (with_read project.read log) (Some (Bad name verdict))
-  bad_keeps next now before log name verdict first none removed noted = record {
+  bad_keeps next now before log name verdict cleared made first none removed noted = record {
     exactly_the_files = tt;
+    made_before_bad = behind_bad next now cleared made;
     cause = subst (λ (t : Tree). HasRun next project.rules t now.tree (Some (name, verdict))) same_run first;
     log_fits = told_whole next before log none removed noted;
   }
+
+  -- a rule was bad, and the site settled its files, or failed to
+  pub stopped_stays : (tells : Bool) (next : Next) (now : World) (log : Log) (name : RuleName) (verdict : Verdict) (stop : Stop) → StopsAt name verdict stop → SameBesideOutputs project.rules mid.tree now.tree →
+      now.store ≡ spelling claiming → TurnsFit project.rules log.ran log.ended (Some (Bad name verdict)) → Stays tells next project.rules old now (with_read project.read log) (Some stop)
+  stopped_stays tells next now log name verdict stop (inl is) behind stored turns =
+      subst (λ (s : Stop). Stays tells next project.rules old now (with_read project.read log) (Some s)) (sym is) (bad_stays tells next now log name verdict behind stored turns)
+  stopped_stays tells next now log name verdict stop (inr (failed, is, small)) behind stored turns =
+      subst (λ (s : Stop). Stays tells next project.rules old now (with_read project.read log) (Some s)) (sym is) (unrun_stays tells next now log (Halted failed) behind stored (turns.0, inl turns.1))
+
+  pub stopped_keeps : (next : Next) (now : World) (before : List Names) (log : Log) (name : RuleName) (verdict : Verdict) (stop : Stop) → StopsAt name verdict stop → IsCleared vanishing old.tree mid.tree →
+      HasMade next project.rules (files_beside project.owned mid.tree) mid.tree now.tree → HasRun next project.rules (files_beside project.owned mid.tree) now.tree (Some (name, verdict)) → before ≡ [] →
+      log.removed ≡ before ++ vanishing → AreNoted project.rules (up_to_bad (takes next project.rules (files_beside project.owned mid.tree))) log.ran log.ended →
+      Keeps next project.rules old now (with_read project.read log) (Some stop)
+  stopped_keeps next now before log name verdict stop (inl is) cleared made first none removed noted =
+      subst (λ (s : Stop). Keeps next project.rules old now (with_read project.read log) (Some s)) (sym is) (bad_keeps next now before log name verdict cleared made first none removed noted)
+  stopped_keeps next now before log name verdict stop (inr (failed, is, small)) cleared made first none removed noted =
+      subst (λ (s : Stop). Keeps next project.rules old now (with_read project.read log) (Some s)) (sym is)
+      (unrun_keeps next now before log (Halted failed) (λ n e. absurd (small n (cc e))) none removed
+      (noted_part project.rules (up_to_bad (takes next project.rules (files_beside project.owned mid.tree))) log.ran log.ended noted))
 
   is_built : (next : Next) (ran new : World) → HasRun next project.rules (files_beside project.owned mid.tree) ran.tree None → TreeStays ran new → IsBuilt (clean next project.rules (sources old)) new.tree
   is_built next ran new built same =
@@ -374,6 +421,7 @@ module _ (project : Project) (old mid : World) (vanishing claiming : List Names)
       let made = is_built next ran new built same in
       record {
         exactly_the_files = record { clean = made.clean; files = made.files; listed = made_reads new listing stored lists };
+        made_before_bad = tt;
         cause = tt;
         log_fits = told_whole next before log none removed noted;
       }

@@ -10,6 +10,8 @@ pub mod Turning
 pub mod Preparing
 pub mod Trees
 pub mod Known
+pub mod Settling
+pub mod Behind
 pub mod Ending
 pub mod Keeping
 pub mod Comparing

@@ -36,6 +36,19 @@ gone_is owned files rules path =
 and_false : (a b : Bool) → a ≡ false → (a && b) ≡ false
 and_false a b e = ap (λ (x : Bool). x && b) e
 
+-- and none that a rule makes
+pub gone_unmade : (owned files : List Names) (rules : List Rule) (path : Names) → among path (gone owned files rules) ≡ true → is_generated rules path ≡ false
+gone_unmade owned files rules path is = by (is_generated rules path) refl
+  where
+    none_left : (mine file : Bool) → (mine && (file && not true)) ≡ false
+    none_left true true = refl
+    none_left true false = refl
+    none_left false file = refl
+
+    by : (b : Bool) → is_generated rules path ≡ b → is_generated rules path ≡ false
+    by true made = absurd (false≢true (sym (none_left (among path owned) (among path files)) ∙ (λ i. among path owned && (among path files && not (sym made i))) ∙ sym (gone_is owned files rules path) ∙ is))
+    by false unmade = unmade
+
 -- only owned paths vanish
 pub kept_beside : (owned files : List Names) (rules : List Rule) (path : Names) → among path owned ≡ false → among path (gone owned files rules) ≡ false
 kept_beside owned files rules path e = gone_is owned files rules path ∙ and_false _ _ e

@@ -9,4 +9,5 @@ pub mod Put
 pub mod Seeing
 pub mod SeeingLaws
 pub mod Outcome
+pub mod Settled
 pub mod Compared

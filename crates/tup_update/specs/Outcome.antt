@@ -1,6 +1,6 @@
 -- What an update promises, each promise a word and a table: the site before, the site after, the rules that it found, and why
 -- it stopped before its end, if it did.
-use Rattle.std.specs.Prelude.{◌≡◌, ◌⊎◌, ◌++◌, ◌<◌, ⊤, ℕ, Bool, false, List, Option, None, Some, IsSome, IsTrue, Ok, Err}
+use Rattle.std.specs.Prelude.{◌≡◌, ◌⊎◌, ◌++◌, ◌<◌, ⊤, ℕ, Bool, true, false, List, Option, None, Some, IsSome, IsTrue, Ok, Err}
 use Rattle.std.specs.FinMap as finite
 use Rattle.tup_path.specs.Count.{Rose}
 use Rattle.tup_path.specs.Name.{Names}
@@ -8,6 +8,7 @@ use Rattle.tup_site.specs.World.{World}
 use Rattle.tup_site.specs.declared.fault.SiteFailed.TheVariants.{Fault as SiteFault, TooLarge, Memory}
 use Rattle.tup_rule.specs.declared.rule.Rule.{Rule}
 use Rattle.tup_rule.specs.declared.rule.RuleName.{RuleName}
+use Rattle.tup_rule.specs.Rule.{among}
 use Rattle.tup_runner.specs.Next.{Next}
 use Rattle.tup_access.specs.declared.verdict.Verdict.{Verdict}
 use Rattle.tup_clean.specs.Clean.{succeeds, is_good}
@@ -18,7 +19,7 @@ use Rattle.tup_update.specs.declared.stop.Stop.{Stop}
 use Rattle.tup_update.specs.declared.stop.Stop.TheVariants.{BadStore, Sources, Bad, Run, Outside}
 use Rattle.tup_update.specs.Log.{LogFits, RulesFit}
 use Rattle.tup_update.specs.Parts.{HasFileOf, IsBuilt, IsFirstBad}
-use Rattle.tup_update.specs.Sources.{owned, sources, files_beside, AsksFor, Refuses, PassesLimit, build, ends, outputs}
+use Rattle.tup_update.specs.Sources.{owned, sources, files_beside, AsksFor, Refuses, PassesLimit, build, ends, outputs, vanished, is_made_in_turn}
 use Rattle.tup_update.specs.Turns.{TurnsFit}
 
 -- the files are those of the clean build, which succeeds, and the store lists just the outputs
@@ -31,6 +32,19 @@ pub record IsMade (next : Next) (rules : List Rule) (old new : World) : Type 0 w
 abbrev pub ExactlyTheFiles : Next → List Rule → World → World → Option Stop → Type 0
 ExactlyTheFiles next rules old new None = IsMade next rules old new
 ExactlyTheFiles next rules old new (Some stop) = ⊤
+
+-- Behind a bad rule the rules that ran before it have their files as the clean build gives them, the files of vanished rules
+-- are gone, and every other path, each output of the bad rule too, holds what it held.
+pub record IsBehindBad (next : Next) (rules : List Rule) (old new : World) : Type 0 where
+  pub made : (path : Names) → is_made_in_turn next rules (sources old) path ≡ true → finite.get new.tree path ≡ finite.get (build next rules old).tree path
+  pub gone : (path : Names) → among path (vanished rules old) ≡ true → finite.get new.tree path ≡ None
+  pub others : (path : Names) → is_made_in_turn next rules (sources old) path ≡ false → among path (vanished rules old) ≡ false → finite.get new.tree path ≡ finite.get old.tree path
+
+-- an update that a bad rule stopped has made what ran before it, and nothing else
+abbrev pub MadeBeforeBad : Next → List Rule → World → World → Option Stop → Type 0
+MadeBeforeBad next rules old new None = ⊤
+MadeBeforeBad next rules old new (Some (Bad name verdict)) = IsBehindBad next rules old new
+MadeBeforeBad next rules old new (Some stop) = ⊤
 
 -- every file that was a source is what it was
 abbrev pub SourcesStay : World → World → Type 0
@@ -112,5 +126,6 @@ pub record Stays (tells : Bool) (next : Next) (rules : List Rule) (old new : Wor
 -- all that it promises where the runner tells what it means too
 pub record Keeps (next : Next) (rules : List Rule) (old new : World) (log : Log) (stopped : Option Stop) : Type 0 where
   pub exactly_the_files : ExactlyTheFiles next rules old new stopped
+  pub made_before_bad : MadeBeforeBad next rules old new stopped
   pub cause : HasCause next rules old new stopped
   pub log_fits : LogFits next rules old log stopped

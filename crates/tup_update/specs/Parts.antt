@@ -1,5 +1,5 @@
 -- What the parts of an update promise to each other.
-use Rattle.std.specs.Prelude.{◌≡◌, ◌⊎◌, ◌<◌, ◌≤◌, ⊤, ℕ, true, false, length, filter_map, unwrap_or, if◌then◌else◌, List, [], ◌∷◌, ◌++◌, None, Some, IsSome, IsTrue, Option, Result, Ok, Err, filter, slice_get}
+use Rattle.std.specs.Prelude.{◌≡◌, ◌≢◌, ◌⊎◌, ◌<◌, ◌≤◌, ⊤, ℕ, true, false, length, filter_map, unwrap_or, if◌then◌else◌, List, [], ◌∷◌, ◌++◌, None, Some, IsSome, IsTrue, Option, Result, Ok, Err, filter, slice_get}
 use Rattle.std.specs.FinMap as finite
 use Rattle.std.specs.Result.{result_ok}
 use Rattle.tup_path.specs.Name.{Names, Content}
@@ -17,14 +17,16 @@ use Rattle.tup_access.specs.Judge.{Judged}
 use Rattle.tup_runner.specs.Next.{Next}
 use Rattle.tup_clean.specs.Buildable.{IsBuildable}
 use Rattle.tup_clean.specs.Clean.{Build, clean, is_good, succeeds, with_files}
-use Rattle.tup_clean.specs.Taken.{Taken, takes, up_to_bad}
+use Rattle.tup_clean.specs.Taken.{Taken, takes, up_to_bad, verdicts_of}
 use Rattle.tup_owned.specs.Owned.{owned_of}
 use Rattle.tup_update.specs.Log.{IsFront}
-use Rattle.tup_update.specs.Sources.{AsksFor, Refuses, PassesLimit, sources, files_beside, folder_of_tupfile, folders_read}
+use Rattle.tup_update.specs.Sources.{AsksFor, Refuses, PassesLimit, sources, files_beside, folder_of_tupfile, folders_read, is_made, is_made_in_turn}
 use Rattle.tup_update.specs.Turns.{names_of, EndsBadly}
 use Rattle.tup_update.specs.declared.fault.SourcesFault.TheVariants.{TooManyFiles}
 use Rattle.tup_update.specs.declared.found.Found.{Found}
 use Rattle.tup_update.specs.declared.project.Project.{Project}
+use Rattle.tup_update.specs.declared.stop.Stop.{Stop}
+use Rattle.tup_update.specs.declared.stop.Stop.TheVariants.{Bad, Outside as Stopped}
 use Rattle.tup_update.specs.declared.stop.Unread.{Unread}
 use Rattle.tup_update.specs.declared.stop.Unread.TheVariants.{Store, Sources as NoRules, Outside}
 
@@ -94,6 +96,10 @@ SameBeside paths old new = (path : Names) → among path paths ≡ false → fin
 abbrev pub SameBesideOutputs : List Rule → Tree → Tree → Type 0
 SameBesideOutputs rules old new = (path : Names) → is_generated rules path ≡ false → finite.get new path ≡ finite.get old path
 
+-- two trees agree beside what rules make that are Good by these verdicts
+abbrev pub SameUnmade : List Rule → List (Option Verdict) → Tree → Tree → Type 0
+SameUnmade rules verdicts old new = (path : Names) → is_made rules verdicts path ≡ false → finite.get new path ≡ finite.get old path
+
 -- nothing changes but owned files and outputs
 abbrev pub Changes : List Names → List Rule → Tree → Tree → Type 0
 Changes owned rules old new = (path : Names) → among path owned ≡ false → is_generated rules path ≡ false → finite.get new path ≡ finite.get old path
@@ -141,6 +147,16 @@ pub record IsBuilt (build : Build) (tree : Tree) : Type 0 where
 abbrev pub HasRun : Next → List Rule → Tree → Tree → Option (RuleName × Verdict) → Type 0
 HasRun next rules sources tree None = IsBuilt (clean next rules sources) tree
 HasRun next rules sources tree (Some bad) = IsFirstBad rules (up_to_bad (takes next rules sources)) (clean next rules sources) bad.0 bad.1
+
+-- of the rules that are run in turn those that are Good have their files as the clean build gives them, and every other path
+-- holds what it held
+pub record HasMade (next : Next) (rules : List Rule) (sources old new : Tree) : Type 0 where
+  pub made : (path : Names) → is_made_in_turn next rules sources path ≡ true → finite.get new path ≡ finite.get (clean next rules sources).tree path
+  pub others : SameUnmade rules (verdicts_of rules (up_to_bad (takes next rules sources))) old new
+
+-- an update stops at this bad rule, or where the site fails once more
+abbrev pub StopsAt : RuleName → Verdict → Stop → Type 0
+StopsAt name verdict stop = (stop ≡ Bad name verdict) ⊎ ((failed : SiteFailed) × (stop ≡ Stopped failed) × ((n : ℕ) → failed ≢ TooLarge n))
 
 -- what is noted of rules that are run: the names of those that were begun, and the verdicts of those that ended
 abbrev pub AreNoted : List Rule → List Taken → List RuleName → List Taken → Type 0

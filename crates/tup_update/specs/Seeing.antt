@@ -1,6 +1,10 @@
 -- What a command's view of a site keeps: what it refused, and the site's count of faults.
 use Rattle.std.specs.Prelude.{◌≡◌, ℕ, List, Option, None, Some, Bool, IsTrue, Result, Err, ⊤, [], Ok}
+use Rattle.std.specs.BTreeSet.{BTreeSet, contains}
 use Rattle.tup_path.specs.Name.{Names, Content}
+use Rattle.tup_path.specs.Order.{by_names}
+use Rattle.tup_rule.specs.declared.rule.Rule.{Rule}
+use Rattle.tup_rule.specs.Rule.{declares}
 use Rattle.tup_site.specs.World.{World}
 use Rattle.tup_site.specs.Cause.{CountsFaults, OnlyLarge}
 use Rattle.tup_site.specs.declared.fault.SiteFailed.{SiteFailed}
@@ -14,6 +18,10 @@ use Rattle.tup_update.specs.declared.stop.Halt.TheVariants.{Outside}
 use Rattle.tup_update.specs.declared.view.Refused.{Refused}
 use Rattle.tup_update.specs.declared.view.Refused.TheVariants.{Denied, Failed}
 use Rattle.tup_update.specs.Parts.{NamesALargeFile}
+
+-- a set that has just what a rule declares
+pub record IsDeclared (rule : Rule) (set : BTreeSet Names) : Type 0 where
+  pub each : (path : Names) → contains by_names set path ≡ declares rule path
 
 -- a text that got no answer, as runners are told of it
 abbrev pub refusal_of : Option (List ℕ × Refused) → Option Refusal

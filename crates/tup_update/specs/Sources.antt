@@ -1,15 +1,16 @@
 -- What a site's world holds as an update sees it: which files are owned, which are sources, and what these ask for.
-use Rattle.std.specs.Prelude.{◌≡◌, ◌<◌, ◌≤◌, not, if◌then◌else◌, ⊤, ℕ, List, [], ◌∷◌, length, codes, bytes_eq, filter, filter_map, Option, None, Some, option_map, Ok, Err, Result}
+use Rattle.std.specs.Prelude.{◌≡◌, ◌<◌, ◌≤◌, Bool, false, not, if◌then◌else◌, ⊤, ℕ, List, [], ◌∷◌, length, codes, bytes_eq, filter, filter_map, Option, None, Some, option_map, Ok, Err, Result}
 use Rattle.std.specs.List.{flat_map}
 use Rattle.std.specs.FinMap as finite
 use Rattle.tup_path.specs.Name.{Names}
 use Rattle.tup_path.specs.Tree.{Tree}
 use Rattle.tup_site.specs.World.{World}
 use Rattle.tup_rule.specs.declared.rule.Rule.{Rule}
-use Rattle.tup_rule.specs.Rule.{among}
+use Rattle.tup_rule.specs.Rule.{among, maker}
 use Rattle.tup_runner.specs.Next.{Next}
-use Rattle.tup_clean.specs.Clean.{Build, clean}
-use Rattle.tup_clean.specs.Taken.{Taken, takes, up_to_bad}
+use Rattle.tup_access.specs.declared.verdict.Verdict.{Verdict}
+use Rattle.tup_clean.specs.Clean.{Build, clean, good_at}
+use Rattle.tup_clean.specs.Taken.{Taken, takes, up_to_bad, verdicts_of}
 use Rattle.tup_link.specs.declared.fault.What.TheVariants.{Commands, Links}
 use Rattle.tup_whole.specs.Project.{ComeTo}
 use Rattle.tup_whole.specs.declared.fault.ProjectFault.{ProjectFault}
@@ -69,6 +70,18 @@ build next rules w = clean next rules (sources w)
 -- the rules that are run in turn, with their verdicts: those of the clean build, up to the first that isn't Good
 abbrev pub ends : Next → List Rule → World → List Taken
 ends next rules w = up_to_bad (takes next rules (sources w))
+
+-- whether a path is made by a rule that is Good by these verdicts
+abbrev pub is_good_maker : List (Option Verdict) → Option ℕ → Bool
+is_good_maker verdicts (Some at) = good_at verdicts at
+is_good_maker verdicts None = false
+
+abbrev pub is_made : List Rule → List (Option Verdict) → Names → Bool
+is_made rules verdicts path = is_good_maker verdicts (maker path rules)
+
+-- whether it is made by one of the rules that are run in turn over some sources, up to the first that isn't Good
+abbrev pub is_made_in_turn : Next → List Rule → Tree → Names → Bool
+is_made_in_turn next rules sources path = is_made rules (verdicts_of rules (up_to_bad (takes next rules sources))) path
 
 -- all outputs of some rules, in the order of the rules
 abbrev pub outputs : List Rule → List Names

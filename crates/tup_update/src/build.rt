@@ -1,20 +1,24 @@
 //! The making of a project's files.
-ghost use Rattle.std.specs.Prelude.{◌≡◌, ◌⊎◌, ◌++◌, IsTrue, IfOk, IfErr, OnOk};
+ghost use Rattle.std.specs.Prelude.{◌≡◌, ◌⊎◌, ◌++◌, false, IsTrue, IfOk, IfErr, OnOk, Some};
 ghost use Rattle.std.specs.Result.{result_err};
+ghost use Rattle.tup_site.specs.Crash.{PinsTree};
 ghost use Rattle.tup_site.specs.World.{TreeStays, StoreStays};
 ghost use Rattle.tup_site.specs.Cause.{CountsFaults, NeverTooLarge};
 ghost use Rattle.tup_access.specs.Generated.{IsGenerated};
+ghost use Rattle.tup_clean.specs.Clean.{is_good};
 ghost use Rattle.tup_owned.specs.Owned.{spelling};
 ghost use Rattle.tup_owned.specs.Ascending.{ascending};
 ghost use Rattle.tup_update.specs.Log.{IsGrownByFront, IsUnused, with_read};
 ghost use Rattle.tup_update.specs.Outcome.{Keeps, Stays, HasCountedCause, HasRunCause};
-ghost use Rattle.tup_update.specs.Parts.{IsProject, IsCleared, SameBeside};
+ghost use Rattle.tup_update.specs.Parts.{IsProject, IsCleared, SameBeside, StopsAt};
 ghost use Rattle.tup_update.specs.Ran.{RunsThese};
+ghost use Rattle.tup_update.specs.Settled.{IsDurable, IsSettled};
 ghost use Rattle.tup_update.specs.Sources.{outputs, left_over};
 ghost use Rattle.tup_site.specs.declared.fault.SiteFailed.TheVariants.{Memory};
 ghost use Rattle.tup_update.specs.declared.stop.Stop.TheVariants.{Outside};
 
 use crate::project::{Project, parted, path_set};
+use crate::run::BadRule;
 use crate::stop::Stop;
 use crate::update::Log;
 use std::alloc::{AllocError, Global};
@@ -105,6 +109,8 @@ impl Project {
         ensures kept { IsTrue S.tells → IsTrue R.tells → let told = with_read self.now.read log.new in
             Keeps R.next
             self.now.rules (S.world site.old) (S.world site.new) told (result_err result) }
+        ensures settled { IsTrue S.tells → let left = S.left_since site.new (S.moment site.new) in
+            IsSettled left (S.world site.new) (result_err result) }
         ensures ran { IsTrue R.tells_ran
             → RunsThese log.new.ran (R.ran runner.old) (R.ran runner.new) (result_err result) }
         ensures counted { let stopped = result_err result in
@@ -122,7 +128,7 @@ impl Project {
             &mut log.ran,
             &mut log.ended,
         )? {
-            Some((name, verdict)) => Err(Stop::Bad(name, verdict)),
+            Some(bad) => Err(stop_at(alloc, site, bad)),
             None => Ok(finish(alloc, site, plan.listed.as_slice())?),
         }
     }
@@ -176,10 +182,28 @@ fn clear<S: Site>(
     Ok(())
 }
 
-/// Settles the files, and owns what was made and nothing else.
+/// Stops at a bad rule. The files are settled first: what ran before it stays made, whatever crash comes.
+fn stop_at<S: Site>(alloc: Global, site: &mut S, bad: BadRule) -> Stop
+    requires { is_good (Some bad.1) ≡ false }
+    ensures stops { StopsAt bad.0 bad.1 result }
+    ensures same { IsTrue S.tells → S.world site.new ≡ S.world site.old }
+    ensures settled { IsTrue S.tells → let left = S.left_since site.new (S.moment site.new) in
+        IsSettled left (S.world site.new) (Some result) }
+    ensures counted { HasCountedCause (S.faults site.old) (S.faults site.new) (Some result) }
+{
+    let (name, verdict) = bad;
+    match site.settle(alloc) {
+        Ok(()) => Stop::Bad(name, verdict),
+        Err(failed) => Stop::Outside(failed),
+    }
+}
+
+/// Settles the files, and owns what was made and nothing else. After `Ok` a crash leaves all as it is then.
 fn finish<S: Site>(alloc: Global, site: &mut S, listed: &[Path]) -> Result<(), SiteFailed>
     ensures listed { IsTrue S.tells → OnOk result ((S.world site.new).store ≡ spelling listed.now) }
     ensures tree { IsTrue S.tells → TreeStays (S.world site.old) (S.world site.new) }
+    ensures durable { IsTrue S.tells → OnOk result
+        (IsDurable (S.left_since site.new (S.moment site.new)) (S.world site.new)) }
     ensures never_too_large { NeverTooLarge result }
     ensures counted { CountsFaults (S.faults site.old) (S.faults site.new) result }
 {
@@ -191,6 +215,10 @@ fn finish<S: Site>(alloc: Global, site: &mut S, listed: &[Path]) -> Result<(), S
 fn write_store<S: Site>(alloc: Global, site: &mut S, paths: &[Path]) -> Result<(), SiteFailed>
     ensures owned { IsTrue S.tells → OnOk result ((S.world site.new).store ≡ spelling paths.now) }
     ensures tree { IsTrue S.tells → TreeStays (S.world site.old) (S.world site.new) }
+    // Where the files were settled before, a crash then leaves all as it is.
+    ensures durable { IsTrue S.tells
+        → PinsTree (S.left_since site.old (S.moment site.old)) (S.world site.old)
+        → OnOk result (IsDurable (S.left_since site.new (S.moment site.new)) (S.world site.new)) }
     ensures never_too_large { NeverTooLarge result }
     ensures counted { CountsFaults (S.faults site.old) (S.faults site.new) result }
 {

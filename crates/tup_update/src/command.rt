@@ -7,12 +7,13 @@ ghost use Rattle.tup_rule.specs.Rule.{name_of};
 ghost use Rattle.tup_update.specs.Outside.{HandsOn, HandsOnLarge};
 ghost use Rattle.tup_update.specs.Put.{AreOwn};
 ghost use Rattle.tup_update.specs.Ran.{RunsOne, CountsRuns};
-ghost use Rattle.tup_update.specs.Seeing.{ComesTo};
+ghost use Rattle.tup_update.specs.Seeing.{ComesTo, IsDeclared};
 ghost use Rattle.tup_update.specs.declared.stop.Halt.TheVariants.{Outside};
 
+use crate::project::{add_paths, path_set};
 use crate::stop::Halt;
 use crate::view::{Refused, Sight, SiteView};
-use std::alloc::Global;
+use std::alloc::{AllocError, Global};
 use std::collections::BTreeSet;
 use tup_access::{Verdict, judge};
 use tup_path::{Files, Path, Text};
@@ -40,9 +41,15 @@ pub(crate) fn run<S: Site, R: Runner>(
     ensures cause { HandsOn Outside (S.faults site.old) (S.faults site.new) result }
     ensures run_cause { CountsRuns (R.faults runner.old) (R.faults runner.new) result }
 {
+    let declared = declared(alloc, rule)?;
     let mut refused = None;
     let mut view = SiteView {
-        sight: Sight { rules, made, rule },
+        sight: Sight {
+            rules,
+            made,
+            rule,
+            declared: &declared,
+        },
         site,
         asked: 0,
         refused: &mut refused,
@@ -57,6 +64,15 @@ pub(crate) fn run<S: Site, R: Runner>(
         Err(RunFailed::Fault) => Err(Halt::Run),
         Err(RunFailed::Memory) => Err(Halt::Outside(SiteFailed::Memory)),
     }
+}
+
+/// What a rule declares.
+fn declared(alloc: Global, rule: &Rule) -> Result<BTreeSet<Path>, AllocError>
+    ensures { IfOk result (IsDeclared rule.now) }
+{
+    let mut set = path_set(alloc, rule.inputs.as_slice())?;
+    add_paths(&mut set, rule.order.as_slice())?;
+    Ok(set)
 }
 
 /// What a command comes to whose text got no answer: the verdict by which it was denied, or the

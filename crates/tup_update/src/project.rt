@@ -1,5 +1,5 @@
 //! What a site asks for: its owned files, and the rules of its sources.
-ghost use Rattle.std.specs.Prelude.{◌≡◌, List, not, filter, IsTrue, IfOk, IfErr, OnOk, Some};
+ghost use Rattle.std.specs.Prelude.{◌≡◌, ◌||◌, List, not, filter, IsTrue, IfOk, IfErr, OnOk, Some};
 ghost use Rattle.std.specs.BTreeSet.{contains};
 ghost use Rattle.std.specs.Map.{keys_of};
 ghost use Rattle.tup_path.specs.Name.{Names};
@@ -102,10 +102,19 @@ pub(crate) fn path_set(alloc: Global, paths: &[Path]) -> Result<BTreeSet<Path>, 
         (λ set. (path : Names) → contains by_names set path ≡ among path paths.now) }
 {
     let mut set = BTreeSet::new(alloc);
+    add_paths(&mut set, paths)?;
+    Ok(set)
+}
+
+/// Adds paths to a set.
+pub(crate) fn add_paths(set: &mut BTreeSet<Path>, paths: &[Path]) -> Result<(), AllocError>
+    ensures { OnOk result ((path : Names) → contains by_names set.new path
+        ≡ (contains by_names set.old path || among path paths.now)) }
+{
     for path in paths {
         set.insert(path.clone()?)?;
     }
-    Ok(set)
+    Ok(())
 }
 
 /// The paths that are in a set, and those that aren't, each in their order.

@@ -11,7 +11,7 @@ ghost use Rattle.tup_clean.specs.Taken.{takes, up_to_bad};
 ghost use Rattle.tup_update.specs.Sources.{files_beside};
 ghost use Rattle.tup_update.specs.Outside.{HandsOn, HandsOnLarge};
 ghost use Rattle.tup_update.specs.Put.{HasRoom};
-ghost use Rattle.tup_update.specs.Parts.{HasRun, AreNoted, ArePartNoted, Ends, BeginsIt, Leaves, SameBeside, SameBesideOutputs, IsRunnable, bad_of};
+ghost use Rattle.tup_update.specs.Parts.{HasRun, HasMade, AreNoted, ArePartNoted, Ends, BeginsIt, Leaves, SameBeside, SameBesideOutputs, IsRunnable, bad_of};
 ghost use Rattle.tup_update.specs.Ran.{RanAll, RunsOne, RunsThese, CountsRuns, stopped_by, comes_to};
 ghost use Rattle.tup_update.specs.Turns.{TurnsFit};
 ghost use Rattle.tup_update.specs.declared.stop.Halt.TheVariants.{Outside};
@@ -53,6 +53,10 @@ impl Project {
         ensures run { IsTrue S.tells → IsTrue R.tells
             → let sources = files_beside self.now.owned (S.world site.old).tree in
             IfOk result (HasRun R.next self.now.rules sources (S.world site.new).tree) }
+        ensures made { IsTrue S.tells → IsTrue R.tells
+            → let sources = files_beside self.now.owned (S.world site.old).tree in
+            let made = HasMade R.next self.now.rules sources (S.world site.old).tree (S.world site.new).tree in
+            IfOk result (λ found. IfSome found (λ _. made)) }
         ensures bad { IfOk result (λ found. IfSome found (λ bad. is_good (Some bad.1) ≡ false)) }
         ensures others { IsTrue S.tells
             → SameBesideOutputs self.now.rules (S.world site.old).tree (S.world site.new).tree }

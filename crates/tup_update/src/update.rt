@@ -2,8 +2,9 @@
 ghost use Rattle.std.specs.Prelude.{◌≡◌, [], IsTrue};
 ghost use Rattle.std.specs.Result.{result_err};
 ghost use Rattle.tup_update.specs.Log.{IsEmptyLog, LogFits, RulesFit};
-ghost use Rattle.tup_update.specs.Outcome.{Keeps, Stays, ExactlyTheFiles, SourcesStay, NothingForgotten, HasCause, HasCountedCause, HasRunCause};
+ghost use Rattle.tup_update.specs.Outcome.{Keeps, Stays, ExactlyTheFiles, MadeBeforeBad, SourcesStay, NothingForgotten, HasCause, HasCountedCause, HasRunCause};
 ghost use Rattle.tup_update.specs.Ran.{RunsThese};
+ghost use Rattle.tup_update.specs.Settled.{IsSettled};
 ghost use Rattle.tup_update.specs.Turns.{TurnsFit};
 
 use crate::project::Project;
@@ -54,13 +55,17 @@ pub struct Update {
 
 /// Updates the files of a site: reads the store and the sources, removes the files of vanished
 /// rules, and has the runner run the rules in turn, the first that is ready again and again, up to
-/// the first that is bad.
+/// the first that is bad. What was made by then is durable, whichever of the two ends it.
 pub fn update_site<S: Site, R: Runner>(alloc: Global, site: &mut S, runner: &mut R) -> Update
     ensures exactly_the_files { IsTrue S.tells → IsTrue R.tells → ExactlyTheFiles R.next
+        result.rules (S.world site.old) (S.world site.new) result.stopped }
+    ensures made_before_bad { IsTrue S.tells → IsTrue R.tells → MadeBeforeBad R.next
         result.rules (S.world site.old) (S.world site.new) result.stopped }
     ensures sources_stay { IsTrue S.tells → SourcesStay (S.world site.old) (S.world site.new) }
     ensures nothing_forgotten { IsTrue S.tells → NothingForgotten R.tells R.next
         result.rules (S.world site.old) (S.world site.new) result.stopped }
+    ensures settled { IsTrue S.tells → let left = S.left_since site.new (S.moment site.new) in
+        IsSettled left (S.world site.new) result.stopped }
     ensures cause { IsTrue S.tells → IsTrue R.tells → HasCause R.next
         result.rules (S.world site.old) (S.world site.new) result.stopped }
     ensures counted_cause { HasCountedCause (S.faults site.old) (S.faults site.new) result.stopped }
@@ -97,6 +102,8 @@ fn carry_out<S: Site, R: Runner>(
         rules.new (S.world site.old) (S.world site.new) log.new (result_err result) }
     ensures kept { IsTrue S.tells → IsTrue R.tells → Keeps R.next
         rules.new (S.world site.old) (S.world site.new) log.new (result_err result) }
+    ensures settled { IsTrue S.tells → let left = S.left_since site.new (S.moment site.new) in
+        IsSettled left (S.world site.new) (result_err result) }
     ensures ran { IsTrue R.tells_ran
         → RunsThese log.new.ran (R.ran runner.old) (R.ran runner.new) (result_err result) }
     ensures counted { HasCountedCause (S.faults site.old) (S.faults site.new) (result_err result) }

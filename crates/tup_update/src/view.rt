@@ -1,16 +1,19 @@
 //! The files of a site, as the command of one rule may see them.
-ghost use Rattle.std.specs.Prelude.{◌≡◌, ℕ, List, Some, IsTrue, IfOk};
+ghost use Rattle.std.specs.Prelude.{◌≡◌, ℕ, List, Ok, Some, IsTrue, IfOk, IfSome};
+ghost use Rattle.tup_path.specs.Gives.{GivesUnless};
+ghost use Rattle.tup_path.specs.Resolve.{resolve};
+ghost use Rattle.tup_rule.specs.Rule.{declares};
 ghost use Rattle.tup_access.specs.declared.verdict.Verdict.{Verdict as VerdictValue};
 ghost use Rattle.tup_access.specs.declared.verdict.Access.TheVariants.{No};
 ghost use Rattle.tup_access.specs.Access.{access as access_of};
 ghost use Rattle.tup_access.specs.Generated.{IsGenerated};
 ghost use Rattle.tup_update.specs.declared.view.Refused.TheVariants.{Denied};
-ghost use Rattle.tup_update.specs.Seeing.{answer_of_file};
+ghost use Rattle.tup_update.specs.Seeing.{answer_of_file, IsDeclared};
 
-use std::alloc::Global;
+use std::alloc::{AllocError, Global};
 use std::collections::BTreeSet;
-use tup_access::{Access, Verdict, allowed};
-use tup_path::{Bytes, Path, Text};
+use tup_access::{Access, AccessFault, MAX_ASKS, Verdict, allowed};
+use tup_path::{Bytes, Path, PathFault, Text};
 use tup_rule::{Rule, Rules};
 use tup_runner::{Answer, View, ViewFailed};
 use tup_site::{Site, SiteFailed};
@@ -22,6 +25,38 @@ pub(crate) struct Sight<'a> {
     /// What the rules make.
     pub made: &'a BTreeSet<Path>,
     pub rule: &'a Rule,
+    /// What the rule declares.
+    pub declared: &'a BTreeSet<Path>,
+}
+
+impl Sight<'_> {
+    /// Whether the rule's command may ask for a text, after so many asks.
+    fn access(&self, alloc: Global, text: &Text, asked: u32) -> Result<Access, AccessFault>
+        requires made { IsGenerated self.now.rules.now self.now.made.now }
+        requires declared { IsDeclared self.now.rule.now self.now.declared.now }
+        ensures { GivesUnless result AccessFault.Memory
+            (Ok (access_of self.now.rules.now self.now.rule.now asked text.now)) }
+    {
+        match self.declared_path(alloc, text)? {
+            Some(path) if asked < MAX_ASKS - 1 => Ok(Access::Yes(path)),
+            _ => allowed(alloc, self.rule, self.made, text, asked),
+        }
+    }
+
+    /// The path that a text names, if the rule declares it.
+    fn declared_path(&self, alloc: Global, text: &Text) -> Result<Option<Path>, AllocError>
+        requires { IsDeclared self.now.rule.now self.now.declared.now }
+        ensures named { IfOk result (λ found.
+            IfSome found (λ path. resolve self.now.rule.now.dir text.now ≡ Ok path)) }
+        ensures declared { IfOk result (λ found.
+            IfSome found (λ path. IsTrue (declares self.now.rule.now path))) }
+    {
+        match Path::resolve(alloc, &self.rule.dir, text) {
+            Ok(path) if self.declared.contains(&path) => Ok(Some(path)),
+            Err(PathFault::Memory) => Err(AllocError),
+            _ => Ok(None),
+        }
+    }
 }
 
 /// Why a text got no answer.
@@ -43,6 +78,7 @@ pub(crate) struct SiteView<'a, 's, 'r, S: Site> {
     /// The text that got no answer, and why. The caller keeps it.
     pub refused: &'r mut Option<(Text, Refused)>,
     ghost knows: { IsGenerated sight.rules.now sight.made.now },
+    ghost knows_declared: { IsDeclared sight.rule.now sight.declared.now },
     ghost denies: { (text : List ℕ) (verdict : VerdictValue)
         → refused.now ≡ Some (text, Denied verdict)
         → access_of sight.rules.now sight.rule.now asked text ≡ No verdict },
@@ -78,7 +114,7 @@ impl<S: Site> View for SiteView<'_, '_, '_, S> {
         (S.faults last.site.now) first.refused.now last.refused.now };
 
     fn ask(&mut self, alloc: Global, text: &Text) -> Result<Answer, ViewFailed> {
-        let path = match allowed(alloc, self.sight.rule, self.sight.made, text, self.asked)? {
+        let path = match self.sight.access(alloc, text, self.asked)? {
             Access::Yes(path) => path,
             Access::No(verdict) => {
                 *self.refused = Some((text.clone()?, Refused::Denied(verdict)));

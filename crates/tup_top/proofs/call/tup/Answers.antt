@@ -1,7 +1,8 @@
 use Rattle.std.proofs.Common.{[], map, Ok, inl, refl, sym, subst}
 use Rattle.std.specs.Prelude.{slice_set}
 use Rattle.tup_update.specs.Compared.{HasCompared}
-use Rattle.tup_update.specs.Outcome.{ExactlyTheFiles, SourcesStay, NothingForgotten, HasCause}
+use Rattle.tup_update.specs.Outcome.{ExactlyTheFiles, MadeBeforeBad, SourcesStay, NothingForgotten, HasCause}
+use Rattle.tup_update.specs.Settled.{IsSettled}
 use Rattle.tup_update.specs.Sources.{ends}
 use Rattle.tup_update.specs.Turns.{names_of}
 use Rattle.tup_update.proofs.Ending.{no_front}
@@ -12,7 +13,7 @@ use Rattle.tup_top.specs.Promise.{ForUpdate, ForVerify, CountsAll, HasPlainCause
 use Rattle.tup_top.specs.Status.{came_to, compared_to}
 use Rattle.tup_top.specs.declared.status.Status.TheVariants.{Memory}
 use Rattle.tup_top.proofs.Crewed.{crew_cause, crew_compared, crew_runs, crew_compares, no_crew_ran}
-use Rattle.tup_top.proofs.Idle.{memory_of, memory_for_verify, memory_prints}
+use Rattle.tup_top.proofs.Idle.{memory_of, memory_for_update, memory_for_verify, memory_prints}
 use Rattle.tup_top.proofs.Success.{succeeds_so, compares_so, sources_stay_so}
 use Rattle.tup_top.proofs.call.tup.Goals as goal
 
@@ -92,6 +93,16 @@ pub returns-clause-exactly_the_files : goal.returns-clause-exactly_the_files
 returns-clause-exactly_the_files g c = λ _ _.
     let world = g.S.Site.world c.args.site in
     memory_of (order c.args.words.now) world (λ rules. ExactlyTheFiles g.R.Runner.next rules world world) tt
+
+pub returns-clause-made_before_bad : goal.returns-clause-made_before_bad
+returns-clause-made_before_bad g c = λ _ _.
+    let world = g.S.Site.world c.args.site in
+    memory_of (order c.args.words.now) world (λ rules. MadeBeforeBad g.R.Runner.next rules world world) tt
+
+pub returns-clause-settled : goal.returns-clause-settled
+returns-clause-settled g c = λ _.
+    let site = c.args.site in
+    memory_for_update (order c.args.words.now) (IsSettled (g.S.Site.left_since site (g.S.Site.moment site)) (g.S.Site.world site)) tt
 
 pub returns-clause-nothing_forgotten : goal.returns-clause-nothing_forgotten
 returns-clause-nothing_forgotten g c = λ _.

@@ -1,7 +1,8 @@
 use Rattle.std.proofs.Common.{rules, inl, inr, refl}
 use Rattle.tup_update.specs.Log.{RulesFit}
-use Rattle.tup_update.specs.Outcome.{ExactlyTheFiles, NothingForgotten, HasCause}
+use Rattle.tup_update.specs.Outcome.{ExactlyTheFiles, MadeBeforeBad, NothingForgotten, HasCause}
 use Rattle.tup_update.specs.Ran.{RunsThese}
+use Rattle.tup_update.specs.Settled.{IsSettled}
 use Rattle.tup_top.specs.Crew.{RanFits, RanInTurn}
 use Rattle.tup_top.specs.Promise.{CountsAll}
 use Rattle.tup_top.specs.Status.{came_to}
@@ -13,6 +14,11 @@ use Rattle.tup_top.proofs.update.update.Goals as goal
 
 pub returns-in_default-clause-exactly_the_files : goal.returns-in_default-clause-exactly_the_files
 returns-in_default-clause-exactly_the_files g c = λ tells means.
+    let update = c.update_site-rules in
+    (update.result.rules, untold_rules (g.S.Site.world c.args.site.now) c.update_site-rules.result.rules update.result.stopped (update.ensures.rules tells), tt)
+
+pub returns-in_default-clause-made_before_bad : goal.returns-in_default-clause-made_before_bad
+returns-in_default-clause-made_before_bad g c = λ tells means.
     let update = c.update_site-rules in
     (update.result.rules, untold_rules (g.S.Site.world c.args.site.now) c.update_site-rules.result.rules update.result.stopped (update.ensures.rules tells), tt)
 
@@ -70,6 +76,20 @@ returns-clause-exactly_the_files g c = λ tells means.
     let old = g.S.Site.world c.args.site.now in
     answered_of old (λ rules. ExactlyTheFiles g.R.Runner.next rules old (g.S.Site.world update.new.site)) update.result.rules _ _ _ _ update.result.log update.result.stopped _ _ c.status_of-status.ensures c.print-status.ensures.ends
     update.ensures.counted_cause (update.ensures.rules tells) (update.ensures.exactly_the_files tells means) tt
+
+pub returns-clause-made_before_bad : goal.returns-clause-made_before_bad
+returns-clause-made_before_bad g c = λ tells means.
+    let update = c.update_site-rules in
+    let old = g.S.Site.world c.args.site.now in
+    answered_of old (λ rules. MadeBeforeBad g.R.Runner.next rules old (g.S.Site.world update.new.site)) update.result.rules _ _ _ _ update.result.log update.result.stopped _ _ c.status_of-status.ensures c.print-status.ensures.ends
+    update.ensures.counted_cause (update.ensures.rules tells) (update.ensures.made_before_bad tells means) tt
+
+pub returns-clause-settled : goal.returns-clause-settled
+returns-clause-settled g c = λ tells.
+    let update = c.update_site-rules in
+    let site = update.new.site in
+    answered (IsSettled (g.S.Site.left_since site (g.S.Site.moment site)) (g.S.Site.world site)) _ _ _ _ update.result.log update.result.stopped _ _ c.status_of-status.ensures c.print-status.ensures.ends
+    update.ensures.counted_cause (update.ensures.settled tells) tt
 
 pub returns-clause-nothing_forgotten : goal.returns-clause-nothing_forgotten
 returns-clause-nothing_forgotten g c = λ tells.

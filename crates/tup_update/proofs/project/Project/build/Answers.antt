@@ -1,19 +1,22 @@
-use Rattle.std.proofs.Common.{Ok, Err, sym, ◌∙◌, ap, subst}
+use Rattle.std.proofs.Common.{ℕ, IfSome, Some, Ok, Err, sym, ◌∙◌, ap, subst}
 use Rattle.tup_owned.specs.Owned.{spelling}
+use Rattle.tup_site.specs.World.{World}
 use Rattle.tup_site.specs.declared.fault.SiteFailed.TheVariants.{Memory}
 use Rattle.tup_update.specs.Log.{with_read}
-use Rattle.tup_update.specs.Outcome.{Keeps, Stays}
-use Rattle.tup_update.specs.Parts.{HasRun}
+use Rattle.tup_update.specs.Outcome.{Keeps, Stays, HasCountedCause}
+use Rattle.tup_update.specs.Parts.{HasRun, HasMade}
 use Rattle.tup_update.specs.Ran.{RunsThese, stopped_by, comes_to}
+use Rattle.tup_update.specs.Settled.{IsSettled}
 use Rattle.tup_update.specs.Sources.{files_beside}
 use Rattle.tup_update.specs.Stopped.{stop_of_halt}
 use Rattle.tup_update.specs.Turns.{TurnsFit}
 use Rattle.tup_update.specs.declared.stop.Halt.{Halt}
 use Rattle.tup_update.specs.declared.stop.Stop.TheVariants.{Outside}
 use Rattle.tup_update.specs.declared.update.Log.{Log}
-use Rattle.tup_update.proofs.Begun.{ran_none, ran_all_of}
+use Rattle.tup_update.proofs.Begun.{ran_none, ran_all_of, stopped_runs}
 use Rattle.tup_update.proofs.Ending.{vanished_are, claimed_are}
-use Rattle.tup_update.proofs.Keeping.{IsUnderWay, err_is, small_failure, way_runnable, unplanned_stays, unplanned_keeps, unprepared_stays, unprepared_keeps, unrun_stays, unrun_keeps, bad_stays, bad_keeps, unfinished_stays, unfinished_keeps, finished_stays, finished_keeps}
+use Rattle.tup_update.proofs.Keeping.{IsUnderWay, err_is, small_failure, way_runnable, unplanned_stays, unplanned_keeps, unprepared_stays, unprepared_keeps, unrun_stays, unrun_keeps, stopped_stays, stopped_keeps, unfinished_stays, unfinished_keeps, finished_stays, finished_keeps}
+use Rattle.tup_update.proofs.Settling.{halted_unsettled}
 use Rattle.tup_update.proofs.project.Project.build.Goals as goal
 
 -- ---- what could not be planned
@@ -35,6 +38,11 @@ returns-in_err-plan-clause-kept g c = λ tells means.
 pub returns-in_err-plan-clause-ran : goal.returns-in_err-plan-clause-ran
 returns-in_err-plan-clause-ran g c = λ _.
     ran_all_of c.args.log.now.ran _ _ _ (ran_none c.args.log.now.ran _ c.requires.unused.1)
+
+pub returns-in_err-plan-clause-settled : goal.returns-in_err-plan-clause-settled
+returns-in_err-plan-clause-settled g c = λ tells.
+    let site = c.args.site.now in
+    subst (IsSettled (g.S.Site.left_since site (g.S.Site.moment site)) (g.S.Site.world site)) (sym (err_is c.from_residual.result (Outside Memory) c.from_residual.ensures.1)) tt
 
 -- ---- what could not be prepared
 
@@ -78,10 +86,15 @@ pub returns-in_err-prepare-clause-ran : goal.returns-in_err-prepare-clause-ran
 returns-in_err-prepare-clause-ran g c = λ _.
     ran_all_of c.args.log.now.ran _ _ _ (ran_none c.args.log.now.ran _ c.requires.unused.1)
 
+pub returns-in_err-prepare-clause-settled : goal.returns-in_err-prepare-clause-settled
+returns-in_err-prepare-clause-settled g c = λ tells.
+    let site = c.prepare.new.site in
+    subst (IsSettled (g.S.Site.left_since site (g.S.Site.moment site)) (g.S.Site.world site)) (sym (err_is c.from_residual-in_err-prepare.result (Outside c.in_err-prepare.field-0.0) c.from_residual-in_err-prepare.ensures.1)) tt
+
 -- ---- rules that were halted
 
-pub returns-in_err-name-clause-stays : goal.returns-in_err-name-clause-stays
-returns-in_err-name-clause-stays g c = λ tells.
+pub returns-in_err-bad-clause-stays : goal.returns-in_err-bad-clause-stays
+returns-in_err-bad-clause-stays g c = λ tells.
     let old = g.S.Site.world c.args.site.now in
     let mid = g.S.Site.world c.prepare.new.site in
     let project = c.args.self.now in
@@ -94,13 +107,13 @@ returns-in_err-name-clause-stays g c = λ tells.
     } in
     let log : Log = record { read = c.args.log.now.read; removed = c.prepare.new.removed; ran = c.run.new.ran; ended = c.run.new.ended } in
     let ran = g.S.Site.world c.run.new.site in
-    let halt = c.in_err-name.field-0.0 in
-    subst (Stays g.R.Runner.tells g.R.Runner.next project.rules old ran (with_read project.read log)) (sym (err_is c.from_residual-in_err-name.result (stop_of_halt halt) c.from_residual-in_err-name.ensures.1))
+    let halt = c.in_err-bad.field-0.0 in
+    subst (Stays g.R.Runner.tells g.R.Runner.next project.rules old ran (with_read project.read log)) (sym (err_is c.from_residual-in_err-bad.result (stop_of_halt halt) c.from_residual-in_err-bad.ensures.1))
     (unrun_stays project old mid plan.vanished plan.claimed way g.R.Runner.tells g.R.Runner.next ran log halt (c.run.ensures.others tells) (c.run.ensures.store tells ∙ c.in_ok-prepare.ensures.claimed tells)
-    (subst (TurnsFit project.rules log.ran log.ended) (ap comes_to c.in_err-name.was) (c.run.ensures.in_turn tells)))
+    (subst (TurnsFit project.rules log.ran log.ended) (ap comes_to c.in_err-bad.was) (c.run.ensures.in_turn tells)))
 
-pub returns-in_err-name-clause-kept : goal.returns-in_err-name-clause-kept
-returns-in_err-name-clause-kept g c = λ tells means.
+pub returns-in_err-bad-clause-kept : goal.returns-in_err-bad-clause-kept
+returns-in_err-bad-clause-kept g c = λ tells means.
     let old = g.S.Site.world c.args.site.now in
     let mid = g.S.Site.world c.prepare.new.site in
     let project = c.args.self.now in
@@ -113,18 +126,25 @@ returns-in_err-name-clause-kept g c = λ tells means.
     } in
     let log : Log = record { read = c.args.log.now.read; removed = c.prepare.new.removed; ran = c.run.new.ran; ended = c.run.new.ended } in
     let ran = g.S.Site.world c.run.new.site in
-    let halt = c.in_err-name.field-0.0 in
-    subst (Keeps g.R.Runner.next project.rules old ran (with_read project.read log)) (sym (err_is c.from_residual-in_err-name.result (stop_of_halt halt) c.from_residual-in_err-name.ensures.1))
+    let halt = c.in_err-bad.field-0.0 in
+    subst (Keeps g.R.Runner.next project.rules old ran (with_read project.read log)) (sym (err_is c.from_residual-in_err-bad.result (stop_of_halt halt) c.from_residual-in_err-bad.ensures.1))
     (unrun_keeps project old mid plan.vanished plan.claimed way g.R.Runner.next ran c.args.log.now.removed log halt
-    (λ n e. c.run.ensures.large tells n (c.in_err-name.was ∙ ap (λ (h : Halt). Err h) e)) c.requires.unused.0 c.in_ok-prepare.ensures.removed
+    (λ n e. c.run.ensures.large tells n (c.in_err-bad.was ∙ ap (λ (h : Halt). Err h) e)) c.requires.unused.0 c.in_ok-prepare.ensures.removed
     (c.run.ensures.part tells means))
 
-pub returns-in_err-name-clause-ran : goal.returns-in_err-name-clause-ran
-returns-in_err-name-clause-ran g c = λ tells.
-    let halt = c.in_err-name.field-0.0 in
+pub returns-in_err-bad-clause-ran : goal.returns-in_err-bad-clause-ran
+returns-in_err-bad-clause-ran g c = λ tells.
+    let halt = c.in_err-bad.field-0.0 in
     subst (RunsThese c.run.new.ran (g.R.Runner.ran c.args.runner.now) (g.R.Runner.ran c.run.new.runner))
-    (ap (λ r. stopped_by r) c.in_err-name.was ∙ sym (err_is c.from_residual-in_err-name.result (stop_of_halt halt) c.from_residual-in_err-name.ensures.1))
+    (ap (λ r. stopped_by r) c.in_err-bad.was ∙ sym (err_is c.from_residual-in_err-bad.result (stop_of_halt halt) c.from_residual-in_err-bad.ensures.1))
     (c.run.ensures.ran tells)
+
+pub returns-in_err-bad-clause-settled : goal.returns-in_err-bad-clause-settled
+returns-in_err-bad-clause-settled g c = λ tells.
+    let site = c.run.new.site in
+    let left = g.S.Site.left_since site (g.S.Site.moment site) in
+    let halt = c.in_err-bad.field-0.0 in
+    subst (IsSettled left (g.S.Site.world site)) (sym (err_is c.from_residual-in_err-bad.result (stop_of_halt halt) c.from_residual-in_err-bad.ensures.1)) (halted_unsettled left (g.S.Site.world site) halt)
 
 -- ---- a bad rule
 
@@ -142,8 +162,11 @@ returns-in-Some-clause-stays g c = λ tells.
     } in
     let log : Log = record { read = c.args.log.now.read; removed = c.prepare.new.removed; ran = c.run.new.ran; ended = c.run.new.ended } in
     let ran = g.S.Site.world c.run.new.site in
-    bad_stays project old mid plan.vanished plan.claimed way g.R.Runner.tells g.R.Runner.next ran log c.in-Some.name c.in-Some.verdict (c.run.ensures.others tells) (c.run.ensures.store tells ∙ c.in_ok-prepare.ensures.claimed tells)
-    (subst (TurnsFit project.rules log.ran log.ended) (ap comes_to (c.in_ok-name.was ∙ ap (λ o. Ok o) c.in-Some.is)) (c.run.ensures.in_turn tells))
+    let bad = c.in-Some.bad in
+    let stop = c.stop_at.result in
+    subst (λ (w : World). Stays g.R.Runner.tells g.R.Runner.next project.rules old w (with_read project.read log) (Some stop)) (sym (c.stop_at.ensures.same tells))
+    (stopped_stays project old mid plan.vanished plan.claimed way g.R.Runner.tells g.R.Runner.next ran log bad.0 bad.1 stop c.stop_at.ensures.stops (c.run.ensures.others tells) (c.run.ensures.store tells ∙ c.in_ok-prepare.ensures.claimed tells)
+    (subst (TurnsFit project.rules log.ran log.ended) (ap comes_to (c.in_ok-bad.was ∙ ap (λ o. Ok o) c.in-Some.is)) (c.run.ensures.in_turn tells)))
 
 pub returns-in-Some-clause-kept : goal.returns-in-Some-clause-kept
 returns-in-Some-clause-kept g c = λ tells means.
@@ -159,14 +182,32 @@ returns-in-Some-clause-kept g c = λ tells means.
     } in
     let log : Log = record { read = c.args.log.now.read; removed = c.prepare.new.removed; ran = c.run.new.ran; ended = c.run.new.ended } in
     let ran = g.S.Site.world c.run.new.site in
+    let bad = c.in-Some.bad in
+    let stop = c.stop_at.result in
     let sources = files_beside project.owned mid.tree in
-    bad_keeps project old mid plan.vanished plan.claimed way g.R.Runner.next ran c.args.log.now.removed log c.in-Some.name c.in-Some.verdict
-    (subst (HasRun g.R.Runner.next project.rules sources ran.tree) c.in-Some.is (c.in_ok-name.ensures.run tells means)) c.requires.unused.0 c.in_ok-prepare.ensures.removed
-    (c.in_ok-name.ensures.noted tells means)
+    let made = c.in_ok-bad.ensures.made tells means in
+    subst (λ (w : World). Keeps g.R.Runner.next project.rules old w (with_read project.read log) (Some stop)) (sym (c.stop_at.ensures.same tells))
+    (stopped_keeps project old mid plan.vanished plan.claimed way g.R.Runner.next ran c.args.log.now.removed log bad.0 bad.1 stop c.stop_at.ensures.stops (c.in_ok-prepare.ensures.cleared tells)
+    (subst (λ o. IfSome o (λ _. HasMade g.R.Runner.next project.rules sources mid.tree ran.tree)) c.in-Some.is made)
+    (subst (HasRun g.R.Runner.next project.rules sources ran.tree) c.in-Some.is (c.in_ok-bad.ensures.run tells means)) c.requires.unused.0 c.in_ok-prepare.ensures.removed
+    (c.in_ok-bad.ensures.noted tells means))
+
+pub returns-in-Some-clause-settled : goal.returns-in-Some-clause-settled
+returns-in-Some-clause-settled g c = λ tells. c.stop_at.ensures.settled tells
 
 pub returns-in-Some-clause-ran : goal.returns-in-Some-clause-ran
 returns-in-Some-clause-ran g c = λ tells.
-    subst (RunsThese c.run.new.ran (g.R.Runner.ran c.args.runner.now) (g.R.Runner.ran c.run.new.runner)) (ap (λ r. stopped_by r) c.in_ok-name.was) (c.run.ensures.ran tells)
+    ran_all_of c.run.new.ran _ _ (Some c.stop_at.result)
+    (subst (RunsThese c.run.new.ran (g.R.Runner.ran c.args.runner.now) (g.R.Runner.ran c.run.new.runner)) (ap (λ r. stopped_by r) c.in_ok-bad.was) (c.run.ensures.ran tells))
+
+pub returns-in-Some-clause-counted : goal.returns-in-Some-clause-counted
+returns-in-Some-clause-counted g c =
+    let same = c.run.ensures.cause.steady (λ e. cc (c.in_ok-bad.was, e)) ∙ c.prepare.ensures.counted.steady (λ e. cc (c.in_ok-prepare.was, e)) in
+    subst (λ (n : ℕ). HasCountedCause n (g.S.Site.faults c.stop_at.new.site) (Some c.stop_at.result)) same c.stop_at.ensures.counted
+
+pub returns-in-Some-clause-counted_runs : goal.returns-in-Some-clause-counted_runs
+returns-in-Some-clause-counted_runs g c =
+    stopped_runs (g.R.Runner.faults c.args.runner.now) (g.R.Runner.faults c.run.new.runner) c.in-Some.bad.0 c.in-Some.bad.1 c.stop_at.result c.stop_at.ensures.stops c.in_ok-bad.ensures.run_cause
 
 -- ---- all was made
 
@@ -190,8 +231,8 @@ returns-in_err-finish-in-None-clause-stays g c = λ tells.
     subst (Stays g.R.Runner.tells g.R.Runner.next project.rules old new (with_read project.read log)) (sym (err_is c.from_residual-in_err-finish-in-None.result (Outside failed) c.from_residual-in_err-finish-in-None.ensures.1))
     (unfinished_stays project old mid plan.vanished plan.claimed way g.R.Runner.tells g.R.Runner.next ran new log failed (c.in_ok-prepare.ensures.cleared tells) (c.run.ensures.others tells) (c.finish.ensures.tree tells)
     (small_failure c.finish.result failed c.in_err-finish-in-None.was c.finish.ensures.never_too_large)
-    (λ means. subst (HasRun g.R.Runner.next project.rules sources ran.tree) c.in-None.is (c.in_ok-name.ensures.run tells means))
-    (subst (TurnsFit project.rules log.ran log.ended) (ap comes_to (c.in_ok-name.was ∙ ap (λ o. Ok o) c.in-None.is)) (c.run.ensures.in_turn tells)))
+    (λ means. subst (HasRun g.R.Runner.next project.rules sources ran.tree) c.in-None.is (c.in_ok-bad.ensures.run tells means))
+    (subst (TurnsFit project.rules log.ran log.ended) (ap comes_to (c.in_ok-bad.was ∙ ap (λ o. Ok o) c.in-None.is)) (c.run.ensures.in_turn tells)))
 
 pub returns-in_err-finish-in-None-clause-kept : goal.returns-in_err-finish-in-None-clause-kept
 returns-in_err-finish-in-None-clause-kept g c = λ tells means.
@@ -211,12 +252,17 @@ returns-in_err-finish-in-None-clause-kept g c = λ tells means.
     subst (Keeps g.R.Runner.next project.rules old new (with_read project.read log)) (sym (err_is c.from_residual-in_err-finish-in-None.result (Outside failed) c.from_residual-in_err-finish-in-None.ensures.1))
     (unfinished_keeps project old mid plan.vanished plan.claimed way g.R.Runner.next new c.args.log.now.removed log failed
     (small_failure c.finish.result failed c.in_err-finish-in-None.was c.finish.ensures.never_too_large)
-    c.requires.unused.0 c.in_ok-prepare.ensures.removed (c.in_ok-name.ensures.noted tells means))
+    c.requires.unused.0 c.in_ok-prepare.ensures.removed (c.in_ok-bad.ensures.noted tells means))
 
 pub returns-in_err-finish-in-None-clause-ran : goal.returns-in_err-finish-in-None-clause-ran
 returns-in_err-finish-in-None-clause-ran g c = λ tells.
     ran_all_of c.run.new.ran _ _ _
-    (subst (RunsThese c.run.new.ran (g.R.Runner.ran c.args.runner.now) (g.R.Runner.ran c.run.new.runner)) (ap (λ r. stopped_by r) c.in_ok-name.was) (c.run.ensures.ran tells))
+    (subst (RunsThese c.run.new.ran (g.R.Runner.ran c.args.runner.now) (g.R.Runner.ran c.run.new.runner)) (ap (λ r. stopped_by r) c.in_ok-bad.was) (c.run.ensures.ran tells))
+
+pub returns-in_err-finish-in-None-clause-settled : goal.returns-in_err-finish-in-None-clause-settled
+returns-in_err-finish-in-None-clause-settled g c = λ tells.
+    let site = c.finish.new.site in
+    subst (IsSettled (g.S.Site.left_since site (g.S.Site.moment site)) (g.S.Site.world site)) (sym (err_is c.from_residual-in_err-finish-in-None.result (Outside c.in_err-finish-in-None.field-0.0) c.from_residual-in_err-finish-in-None.ensures.1)) tt
 
 pub returns-clause-stays : goal.returns-clause-stays
 returns-clause-stays g c = λ tells.
@@ -235,7 +281,7 @@ returns-clause-stays g c = λ tells.
     let new = g.S.Site.world c.finish.new.site in
     finished_stays project old mid plan.vanished plan.claimed way g.R.Runner.tells g.R.Runner.next ran new plan.listed log (c.in_ok-prepare.ensures.cleared tells) (c.run.ensures.others tells) (c.finish.ensures.tree tells)
     (c.in_ok-finish-in-None.ensures.listed tells ∙ ap spelling c.as_slice.ensures) c.in_ok-plan.ensures.listed
-    (subst (TurnsFit project.rules log.ran log.ended) (ap comes_to (c.in_ok-name.was ∙ ap (λ o. Ok o) c.in-None.is)) (c.run.ensures.in_turn tells))
+    (subst (TurnsFit project.rules log.ran log.ended) (ap comes_to (c.in_ok-bad.was ∙ ap (λ o. Ok o) c.in-None.is)) (c.run.ensures.in_turn tells))
 
 pub returns-clause-kept : goal.returns-clause-kept
 returns-clause-kept g c = λ tells means.
@@ -254,13 +300,13 @@ returns-clause-kept g c = λ tells means.
     let new = g.S.Site.world c.finish.new.site in
     let sources = files_beside project.owned mid.tree in
     finished_keeps project old mid plan.vanished plan.claimed way g.R.Runner.next ran new c.args.log.now.removed plan.listed log
-    (subst (HasRun g.R.Runner.next project.rules sources ran.tree) c.in-None.is (c.in_ok-name.ensures.run tells means)) (c.finish.ensures.tree tells)
+    (subst (HasRun g.R.Runner.next project.rules sources ran.tree) c.in-None.is (c.in_ok-bad.ensures.run tells means)) (c.finish.ensures.tree tells)
     (c.in_ok-finish-in-None.ensures.listed tells ∙ ap spelling c.as_slice.ensures) c.in_ok-plan.ensures.listed
-    c.requires.unused.0 c.in_ok-prepare.ensures.removed (c.in_ok-name.ensures.noted tells means)
+    c.requires.unused.0 c.in_ok-prepare.ensures.removed (c.in_ok-bad.ensures.noted tells means)
 
 pub returns-clause-ran : goal.returns-clause-ran
 returns-clause-ran g c = λ tells.
-    subst (RunsThese c.run.new.ran (g.R.Runner.ran c.args.runner.now) (g.R.Runner.ran c.run.new.runner)) (ap (λ r. stopped_by r) c.in_ok-name.was) (c.run.ensures.ran tells)
+    subst (RunsThese c.run.new.ran (g.R.Runner.ran c.args.runner.now) (g.R.Runner.ran c.run.new.runner)) (ap (λ r. stopped_by r) c.in_ok-bad.was) (c.run.ensures.ran tells)
 
 pub run-requires-clause-runnable : goal.run-requires-clause-runnable
 run-requires-clause-runnable g c κs = λ lives tells.

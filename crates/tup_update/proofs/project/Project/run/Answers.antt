@@ -1,4 +1,4 @@
-use Rattle.std.proofs.Common.{rules, ◌<◌, ◌≤◌, ◌+◌, List, length, Some, Ok, refl, sym, ◌∙◌, ap, subst, inl}
+use Rattle.std.proofs.Common.{rules, IfSome, ◌<◌, ◌≤◌, ◌+◌, List, length, Some, Ok, refl, sym, ◌∙◌, ap, subst, inl}
 use Rattle.std.proofs.lemmas.Option.{slice_get_within}
 use Rattle.tup_rule.specs.declared.rule.Rule.{Rule}
 use Rattle.tup_rule.specs.Rule.{name_of}
@@ -9,9 +9,11 @@ use Rattle.tup_clean.specs.Taken.{Taken, verdicts_of, takes, up_to_bad}
 use Rattle.tup_clean.proofs.Agreeing.{make_apart, agrees_first}
 use Rattle.tup_clean.proofs.Taking.{IsQueued, is_left, taken_at, can_note, ready_is, none_ready, queued_start, queued_more}
 use Rattle.tup_update.specs.Sources.{files_beside}
-use Rattle.tup_update.specs.Parts.{HasRun, ArePartNoted}
+use Rattle.tup_update.specs.Parts.{HasRun, HasMade, ArePartNoted}
 use Rattle.tup_update.specs.Ran.{RunsThese, stopped_by, comes_to}
 use Rattle.tup_update.specs.Turns.{TurnsFit}
+use Rattle.tup_clean.proofs.Standing.{ready_untaken}
+use Rattle.tup_update.proofs.Behind.{same_more, has_made}
 use Rattle.tup_update.proofs.Begun.{ran_none, ran_all_of, stopped_err, comes_err}
 use Rattle.tup_update.proofs.Running.{room_for, beside_made, beside_all, named_bad, unnamed_good}
 use Rattle.tup_site.specs.declared.fault.SiteFailed.TheVariants.{Memory}
@@ -50,6 +52,7 @@ loop-init g c =
       has = taken_none all c.args.ran.now c.args.ended.now c.requires.unused.0 c.requires.unused.1;
       builds = λ tells means. building_none g.R.Runner.next all (files_beside c.args.self.now.owned (g.S.Site.world c.args.site.now).tree) tree c.args.ended.now c.requires.unused.1 (agrees_first all (files_beside c.args.self.now.owned (g.S.Site.world c.args.site.now).tree) tree (λ path unmade. beside_made c.args.self.now.owned all tree path (c.requires.runnable tells) unmade));
       others = λ tells path unmade. refl;
+      made = λ tells path unmade. refl;
       store = λ tells. refl;
       runs = λ tells. ran_none c.args.ran.now _ c.requires.unused.0;
       counted = refl;
@@ -168,6 +171,28 @@ returns-then-is_some-clause-run g c = λ tells means.
     let bad = named_bad rule ends.verdict c.in_ok-bad.bad ends.named (sym c.is_some.ensures ∙ c.if-is_some.true) in
     subst (HasRun g.R.Runner.next all (files_beside c.args.self.now.owned (g.S.Site.world c.args.site.now).tree) (g.S.Site.world c.take.new.site).tree) (sym bad.0)
     (first_bad g.R.Runner.next all (files_beside c.args.self.now.owned (g.S.Site.world c.args.site.now).tree) c.loop.counter c.loop.ended (g.S.Site.world c.loop.site).tree (c.loop.invariant.builds tells means) at rule within ready here (make_apart _ all (c.requires.runnable tells).buildable) _ ends.verdict (ends.left tells means) c.loop.invariant.has.good bad.1 (name_of rule) refl)
+
+pub returns-then-is_some-clause-made : goal.returns-then-is_some-clause-made
+returns-then-is_some-clause-made g c = λ tells means.
+    let all = c.args.self.now.rules in
+    let old = (g.S.Site.world c.args.site.now).tree in
+    let now = (g.S.Site.world c.take.new.site).tree in
+    let sources = files_beside c.args.self.now.owned old in
+    let verdicts = verdicts_of all c.loop.ended in
+    let at = c.in-Some.at in
+    let next = c.in-Some.ensures all (is_left verdicts) (good_at verdicts) c.loop.invariant.queued.waiting in
+    let taken = taken_at all verdicts at _ next in
+    let ready = ready_is all verdicts at _ next c.loop.queue c.loop.invariant.queued in
+    let rule = c.index-rules-at.result in
+    let here = rule_here all c.as_slice-rules.result.now at rule c.as_slice-rules.ensures taken.rule taken.here c.index-rules-at.is in
+    let within = subst (λ (l : List Rule). c.loop.counter < length l) c.as_slice-rules.ensures c.loop-test.true in
+    let ends = c.in_ok-bad.ensures.ends in
+    let apart = make_apart _ all (c.requires.runnable tells).buildable in
+    let is = c.loop.invariant.builds tells means in
+    let bad = named_bad rule ends.verdict c.in_ok-bad.bad ends.named (sym c.is_some.ensures ∙ c.if-is_some.true) in
+    let noted = noted_bad g.R.Runner.next all sources c.loop.counter c.loop.ended (g.S.Site.world c.loop.site).tree is at rule within ready here apart now ends.verdict (ends.left tells means) c.loop.invariant.has.good bad.1 c.loop.ran c.take.new.ran c.take.new.ended c.loop.invariant.has.begun c.in_ok-bad.ensures.begins ends.noted in
+    subst (λ o. IfSome o (λ _. HasMade g.R.Runner.next all sources old now)) (sym bad.0)
+    (has_made all apart g.R.Runner.next sources c.loop.counter c.loop.ended (g.S.Site.world c.loop.site).tree is at rule ready here now ends.verdict (ends.left tells means) bad.1 old c.take.new.ended (c.loop.invariant.made tells) ends.noted noted.1)
 
 pub returns-then-is_some-clause-in_turn : goal.returns-then-is_some-clause-in_turn
 returns-then-is_some-clause-in_turn g c = λ tells.
@@ -291,6 +316,9 @@ loop-preserved g c =
       has = taken_next all c.loop.counter c.loop.ran c.loop.ended c.loop.invariant.has at rule ready here ends.verdict c.take.new.ran c.take.new.ended c.in_ok-bad.ensures.begins ends.noted is;
       builds = λ tells means. building_next g.R.Runner.next all (files_beside c.args.self.now.owned (g.S.Site.world c.args.site.now).tree) c.loop.counter c.loop.ended (g.S.Site.world c.loop.site).tree (c.loop.invariant.builds tells means) at rule within ready here (make_apart _ all (c.requires.runnable tells).buildable) _ ends.verdict (ends.left tells means) c.take.new.ended ends.noted good;
       others = λ tells. beside_all all at rule _ _ _ here (c.loop.invariant.others tells) (c.take.ensures.others tells);
+      made = λ tells.
+          same_more all (make_apart _ all (c.requires.runnable tells).buildable) verdicts at rule here (ready_untaken all verdicts at ready) ends.verdict _ _ _ (verdicts_of all c.take.new.ended)
+          (verdicts_of_more all c.loop.ended at ends.verdict c.take.new.ended ends.noted) good (c.loop.invariant.made tells) (c.take.ensures.others tells);
       store = λ tells. c.take.ensures.store tells ∙ c.loop.invariant.store tells;
       runs = λ tells. subst (λ r. RunsThese c.take.new.ran (g.R.Runner.ran c.args.runner.now) (g.R.Runner.ran c.take.new.runner) (stopped_by r)) c.in_ok-bad.was (c.take.ensures.ran tells (g.R.Runner.ran c.args.runner.now) (c.loop.invariant.runs tells));
       counted = c.take.ensures.cause.steady (λ e. cc (c.in_ok-bad.was, e)) ∙ c.loop.invariant.counted;
