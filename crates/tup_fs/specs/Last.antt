@@ -1,10 +1,11 @@
 -- What a site over real files answers, and what it keeps of its failures. Own.
-use Rattle.std.specs.Prelude.{ℕ, ◌+◌, ◌≤◌, Option, Some, Result, Ok, Err}
+use Rattle.std.specs.Prelude.{◌≡◌, ℕ, ◌+◌, ◌≤◌, Option, Some, Result, Ok, Err}
 use Rattle.tup_disk.specs.declared.failure.Failure.{Failure}
 use Rattle.tup_disk.specs.declared.failure.Refused.{Refused}
 use Rattle.tup_disk.specs.declared.failure.Refused.TheVariants.{Memory, Failed}
 use Rattle.tup_site.specs.Cause.{CountsFaults, NeverTooLarge}
 use Rattle.tup_site.specs.declared.fault.SiteFailed.{SiteFailed}
+use Rattle.tup_site.specs.declared.fault.SiteFailed.TheVariants as site
 
 -- each fault is counted, once, and nothing else is
 abbrev pub CountsOnce : {T : Type 0} → ℕ → ℕ → Result T SiteFailed → Type 0
@@ -13,6 +14,12 @@ CountsOnce before after answer = CountsFaults before after answer × (after ≤ 
 -- the same of a call that reads no file, and so speaks of no file's length
 abbrev pub CountsPlainly : {T : Type 0} → ℕ → ℕ → Result T SiteFailed → Type 0
 CountsPlainly before after answer = CountsOnce before after answer × NeverTooLarge answer
+
+-- a refusal as the site tells it: each failure of the system is a fault
+abbrev pub IsRefusalOf : {T : Type 0} → Result T Refused → SiteFailed → Type 0
+IsRefusalOf (Ok value) failed = ⊥
+IsRefusalOf (Err Memory) failed = failed ≡ site.Memory
+IsRefusalOf (Err (Failed failure)) failed = failed ≡ site.Fault
 
 -- the last failure after an answer: the one that it names, or else the one before
 abbrev pub last_after : {T : Type 0} → Result T Refused → Option Failure → Option Failure

@@ -1,6 +1,6 @@
 //! The failures of a site, counted.
-ghost use Rattle.std.specs.Prelude.{◌≡◌, Ok, IfOk, is_some, nat_lt};
-ghost use Rattle.tup_fs.specs.Last.{last_after, CountsPlainly};
+ghost use Rattle.std.specs.Prelude.{◌≡◌, Ok, IfOk, IfErr, is_some, nat_lt};
+ghost use Rattle.tup_fs.specs.Last.{last_after, CountsPlainly, IsRefusalOf};
 
 use tup_disk::{Failure, Refused};
 use tup_site::SiteFailed;
@@ -39,6 +39,7 @@ impl Failures {
     pub fn told<T>(&mut self, answer: Result<T, Refused>) -> Result<T, SiteFailed>
         ensures cause { CountsPlainly self.old.count self.new.count result }
         ensures value { IfOk result (λ value. answer ≡ Ok value) }
+        ensures error { IfErr result (IsRefusalOf answer) }
         ensures last { self.new.last ≡ last_after answer self.old.last }
     {
         match answer {

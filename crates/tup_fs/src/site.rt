@@ -52,8 +52,7 @@ impl<R: Files<File = File> + Clone + Drop> FsSite<R> {
         })
     }
 
-    /// The last failure: its place, and what the system said. There is one just where the site has
-    /// counted a fault.
+    /// The last failure. There is one just where the site has counted a fault.
     pub fn last(&self) -> Option<&Failure>
         ensures { is_some result ≡ nat_lt 0 self.now.failures.count }
     {
@@ -225,7 +224,8 @@ impl<R: Files<File = File> + Clone + Drop + Send> Site for FsSite<R> {
         ensures locked { OnOk result (IsTrue (is_some self.new.lock)) }
         ensures cause { CountsPlainly self.old.failures.count self.new.failures.count result }
         ensures aside { OnOk result (IsTrue (is_some self.new.store.aside)) }
-        ensures kept { IsTrue (is_some self.old.store.aside) → IsTrue (is_some self.new.store.aside) }
+        ensures kept { IsTrue (is_some self.old.store.aside)
+            → IsTrue (is_some self.new.store.aside) }
         ensures lost { self.new.store.is_lost ≡ self.old.store.is_lost }
         ensures touched { self.new.touched ≡ self.old.touched }
     {
@@ -251,7 +251,8 @@ impl<R: Files<File = File> + Clone + Drop + Send> Site for FsSite<R> {
     fn db_cut(&mut self, _alloc: Global, len: u64) -> Result<(), SiteFailed>
         ensures locked { OnOk result (IsTrue (is_some self.new.lock)) }
         ensures cause { CountsPlainly self.old.failures.count self.new.failures.count result }
-        ensures kept { IsTrue (is_some self.old.store.aside) → IsTrue (is_some self.new.store.aside) }
+        ensures kept { IsTrue (is_some self.old.store.aside)
+            → IsTrue (is_some self.new.store.aside) }
         ensures lost { self.new.store.is_lost ≡ self.old.store.is_lost }
         ensures touched { self.new.touched ≡ self.old.touched }
     {

@@ -4,8 +4,7 @@ use std::fs::File;
 use std::rt::Files;
 use tup_disk::Disk;
 
-/// The files below the folder, and whether the file system may not tell case apart, once that was
-/// asked.
+/// The files below the folder, and whether the file system may ignore case, once that was asked.
 #[derive(Drop)]
 pub(crate) struct Tree<R: Files<File = File> + Clone + Drop> {
     pub disk: Disk<R>,

@@ -28,8 +28,7 @@ pub(crate) fn run<R: Files<File = File> + Processes + Eprint + Clone + Drop>(
     job: &Job<R>,
 ) -> Result<(), Failure> {
     let root = job.real(job.words.root.as_str())?;
-    let stage = job.real(job.words.stage.as_str())?;
-    job.run_over(&Tree::read(job.rt.clone()?, job.alloc, root, stage)?)
+    job.run_over(&job.tree(root)?)
 }
 
 impl<R: Files<File = File> + Processes + Eprint + Clone + Drop> Job<R> {
@@ -37,6 +36,12 @@ impl<R: Files<File = File> + Processes + Eprint + Clone + Drop> Job<R> {
     fn real(&self, place: &str) -> Result<Text, Failure> {
         let runtime = (self.rt.clone()?, self.alloc);
         Ok(Text::from_string(fs::canonicalize(&runtime, place)?.into_string()))
+    }
+
+    /// The project below a root, with the stage.
+    fn tree(&self, root: Text) -> Result<Tree<R>, Failure> {
+        let stage = self.real(self.words.stage.as_str())?;
+        Tree::read(self.rt.clone()?, self.alloc, root, stage)
     }
 
     /// Runs the command over a project.
@@ -49,7 +54,12 @@ impl<R: Files<File = File> + Processes + Eprint + Clone + Drop> Job<R> {
     /// Runs the command under the tracer. The scripts print what went wrong.
     fn start(&self, tree: &Tree<R>) -> Result<(), Failure> {
         let mut command = Command::new(self.alloc, "sh")?;
-        self.add_words(&mut command, tree)?;
+        self.start_as(&mut command, tree)
+    }
+
+    /// The same, by a shell that has no words yet.
+    fn start_as(&self, command: &mut Command, tree: &Tree<R>) -> Result<(), Failure> {
+        self.add_words(command, tree)?;
         if command.status(&self.rt)?.success() {
             Ok(())
         } else {
@@ -78,12 +88,17 @@ impl<R: Files<File = File> + Processes + Eprint + Clone + Drop> Job<R> {
 
     /// Leaves the log of a command that was run.
     fn account(&self, tree: &Tree<R>, dir: &Path) -> Result<(), Failure> {
-        let trace = tree.staged_content("trace")?;
-        let calls = read_calls(self.alloc, trace.as_slice())?;
+        let calls = self.calls(tree)?;
         match ending(calls.as_slice()) {
             Some(status) => self.follow(tree, dir, calls.as_slice(), status),
             None => Err(Failure::Because("the tracer failed, and the command wasn't run")),
         }
+    }
+
+    /// The calls of the trace that the tracer left.
+    fn calls(&self, tree: &Tree<R>) -> Result<Items<Call>, Failure> {
+        let trace = tree.staged_content("trace")?;
+        read_calls(self.alloc, trace.as_slice())
     }
 
     /// Follows what the command did.
@@ -94,10 +109,20 @@ impl<R: Files<File = File> + Processes + Eprint + Clone + Drop> Job<R> {
         calls: &[Call],
         status: u8,
     ) -> Result<(), Failure> {
-        let folder = tree.source(dir)?;
-        let acts = acts_of(self.alloc, folder.as_bytes(), calls)?;
-        let account = account_of(self.alloc, tree, acts.as_slice())?;
+        let account = self.account_of(tree, dir, calls)?;
         self.leave(tree, dir, &account, status)
+    }
+
+    /// What the command did, resolved.
+    fn account_of(&self, tree: &Tree<R>, dir: &Path, calls: &[Call]) -> Result<Account, Failure> {
+        let acts = self.acts(tree, dir, calls)?;
+        resolved(self.alloc, tree, acts.as_slice())
+    }
+
+    /// What the command did to places.
+    fn acts(&self, tree: &Tree<R>, dir: &Path, calls: &[Call]) -> Result<Items<Act>, Failure> {
+        let folder = tree.source(dir)?;
+        Ok(acts_of(self.alloc, folder.as_bytes(), calls)?)
     }
 
     /// Leaves what was written, and the log with its end.
@@ -109,9 +134,22 @@ impl<R: Files<File = File> + Processes + Eprint + Clone + Drop> Job<R> {
         status: u8,
     ) -> Result<(), Failure> {
         let mut log = asks(self.alloc, tree, dir, account.asks.as_slice())?;
-        let status = self.keep(tree, dir, account, &mut log, status)?;
-        log.push(LogLine::End { status })?;
+        self.end(tree, dir, account, &mut log, status)?;
         tree.write_log(log.as_slice())
+    }
+
+    /// Adds what was written to the log, and its end.
+    fn end(
+        &self,
+        tree: &Tree<R>,
+        dir: &Path,
+        account: &Account,
+        log: &mut Items<LogLine>,
+        status: u8,
+    ) -> Result<(), Failure> {
+        let status = self.keep(tree, dir, account, log, status)?;
+        log.push(LogLine::End { status })?;
+        Ok(())
     }
 
     /// Keeps what was written behind what was asked for, and gives the status in the end.
@@ -123,12 +161,17 @@ impl<R: Files<File = File> + Processes + Eprint + Clone + Drop> Job<R> {
         log: &mut Items<LogLine>,
         status: u8,
     ) -> Result<u8, Failure> {
-        let list = tree.staged_content("entries")?;
-        let entries = Entries::read(self.alloc, list.as_slice())?;
+        let entries = self.entries(tree)?;
         self.tell_lost(entries.lost);
         let strange = written(self.alloc, tree, dir, account, log, entries.list.as_slice())?;
         self.tell_strange(strange.as_slice());
         Ok(status_with(status, strange.len()))
+    }
+
+    /// What the command left in the upper folder.
+    fn entries(&self, tree: &Tree<R>) -> Result<Entries, Failure> {
+        let list = tree.staged_content("entries")?;
+        Entries::read(self.alloc, list.as_slice())
     }
 
     /// Tells that files weren't kept. A line that can't be printed changes nothing.
@@ -151,19 +194,18 @@ impl<R: Files<File = File> + Processes + Eprint + Clone + Drop> Job<R> {
 }
 
 /// What a command did, resolved.
-fn account_of<R: Files<File = File> + Clone + Drop>(
+fn resolved<R: Files<File = File> + Clone + Drop>(
     alloc: Global,
     tree: &Tree<R>,
     acts: &[Act],
 ) -> Result<Account, Failure> {
+    let mut account = Account::new(alloc);
     let mut seen = Seen {
         tree,
-        account: Account::new(alloc),
+        account: &mut account,
     };
-    for act in acts {
-        seen.follow(alloc, act)?;
-    }
-    Ok(seen.account)
+    seen.follow_all(alloc, acts)?;
+    Ok(account)
 }
 
 /// Adds what was written to a log, and gives what no output can be.
@@ -175,16 +217,16 @@ fn written<R: Files<File = File> + Clone + Drop>(
     log: &mut Items<LogLine>,
     entries: &[Entry],
 ) -> Result<Items<Text>, Failure> {
+    let mut strange = Items::new(alloc);
     let mut writes = Writes {
         tree,
         dir,
         log,
         count: 0,
-        strange: Items::new(alloc),
+        strange: &mut strange,
     };
-    writes.add_touched(alloc, account, entries)?;
-    writes.add_others(alloc, account, entries)?;
-    Ok(writes.strange)
+    writes.add_all(alloc, account, entries)?;
+    Ok(strange)
 }
 
 /// The status of a command that left so many things which no output can be: it fails.

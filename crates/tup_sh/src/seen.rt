@@ -16,12 +16,20 @@ const MAX_INTERPRETERS: usize = 4;
 #[derive(Drop)]
 pub(crate) struct Seen<'a, R: Files<File = File> + Clone + Drop> {
     pub(crate) tree: &'a Tree<R>,
-    pub(crate) account: Account,
+    pub(crate) account: &'a mut Account,
 }
 
 impl<R: Files<File = File> + Clone + Drop> Seen<'_, R> {
+    /// Adds all that was done.
+    pub(crate) fn follow_all(&mut self, alloc: Global, acts: &[Act]) -> Result<(), Failure> {
+        for act in acts {
+            self.follow(alloc, act)?;
+        }
+        Ok(())
+    }
+
     /// Adds what was done to a place.
-    pub(crate) fn follow(&mut self, alloc: Global, act: &Act) -> Result<(), Failure> {
+    fn follow(&mut self, alloc: Global, act: &Act) -> Result<(), Failure> {
         match act {
             Act::Ask { place, follows } => self.ask(alloc, place, *follows),
             Act::Run { place } => self.start(alloc, place),
@@ -66,13 +74,17 @@ impl<R: Files<File = File> + Clone + Drop> Seen<'_, R> {
 
     /// Adds that a place was moved. Where one end isn't in the project, the other one was written or removed.
     fn rename(&mut self, alloc: Global, from: &Bytes, to: &Bytes) -> Result<(), Failure> {
-        let from = self.resolve(alloc, from.as_slice(), false)?;
-        let to = self.resolve(alloc, to.as_slice(), false)?;
-        match (from, to) {
-            (Some(from), Some(to)) => self.add(&Step::Move { from, to }),
-            (Some(from), None) => self.add(&Step::Remove(from)),
-            (None, Some(to)) => self.add(&Step::Write(to)),
-            (None, None) => Ok(()),
+        match self.resolve(alloc, from.as_slice(), false)? {
+            Some(from) => self.rename_from(alloc, from, to),
+            None => self.write(alloc, to, false),
+        }
+    }
+
+    /// Adds that a path of the project was moved to a place.
+    fn rename_from(&mut self, alloc: Global, from: Path, to: &Bytes) -> Result<(), Failure> {
+        match self.resolve(alloc, to.as_slice(), false)? {
+            Some(to) => self.add(&Step::Move { from, to }),
+            None => self.add(&Step::Remove(from)),
         }
     }
 
@@ -96,9 +108,14 @@ impl<R: Files<File = File> + Clone + Drop> Seen<'_, R> {
 
     /// Adds that a program is asked for, and gives the interpreter that it names.
     fn start_one(&mut self, alloc: Global, place: &[u8]) -> Result<Option<Vec<u8>>, Failure> {
-        let Some(path) = self.resolve(alloc, place, true)? else {
-            return Ok(None);
-        };
+        match self.resolve(alloc, place, true)? {
+            Some(path) => self.start_at(alloc, path),
+            None => Ok(None),
+        }
+    }
+
+    /// Adds that a program of the project is asked for, and gives the interpreter that it names.
+    fn start_at(&mut self, alloc: Global, path: Path) -> Result<Option<Vec<u8>>, Failure> {
         let interpreter = self.interpreter(alloc, &path)?;
         self.add(&Step::Ask(path))?;
         Ok(interpreter)
@@ -107,10 +124,15 @@ impl<R: Files<File = File> + Clone + Drop> Seen<'_, R> {
     /// The interpreter that a program names.
     fn interpreter(&self, alloc: Global, path: &Path) -> Result<Option<Vec<u8>>, Failure> {
         let place = self.now(path)?;
-        if self.tree.at(place.as_str())? != Standing::File {
-            return Ok(None);
+        match self.tree.at(place.as_str())? {
+            Standing::File => self.interpreter_in(alloc, place.as_str()),
+            _ => Ok(None),
         }
-        let content = self.tree.content(place.as_str())?;
+    }
+
+    /// The interpreter that the file at a place names.
+    fn interpreter_in(&self, alloc: Global, place: &str) -> Result<Option<Vec<u8>>, Failure> {
+        let content = self.tree.content(place)?;
         match named(content.as_slice()) {
             Some(name) => Ok(Some(Vec::from_slice(alloc, name)?)),
             None => Ok(None),
@@ -140,7 +162,17 @@ impl<R: Files<File = File> + Clone + Drop> Seen<'_, R> {
         if is_system(text, self.tree.root.as_str()) {
             return Ok(None);
         }
-        let mut walk = Walk::to(alloc, text)?;
+        self.walk_to(alloc, text, follows)
+    }
+
+    /// The same, of a place that is no part of the system.
+    fn walk_to(
+        &mut self,
+        alloc: Global,
+        place: &str,
+        follows: bool,
+    ) -> Result<Option<Path>, Failure> {
+        let mut walk = Walk::to(alloc, place)?;
         self.go(alloc, &mut walk, follows)?;
         walk.found(alloc, self.tree.root.as_str())
     }
@@ -170,14 +202,23 @@ impl<R: Files<File = File> + Clone + Drop> Seen<'_, R> {
                 walk.names.pop();
                 Ok(())
             }
-            _ => {
-                walk.names.push(name)?;
-                if follows || !walk.rest.is_empty() {
-                    self.pass(alloc, walk)
-                } else {
-                    Ok(())
-                }
-            }
+            _ => self.enter(alloc, walk, name, follows),
+        }
+    }
+
+    /// Walks down to a name.
+    fn enter(
+        &mut self,
+        alloc: Global,
+        walk: &mut Walk,
+        name: String,
+        follows: bool,
+    ) -> Result<(), Failure> {
+        walk.names.push(name)?;
+        if follows || !walk.rest.is_empty() {
+            self.pass(alloc, walk)
+        } else {
+            Ok(())
         }
     }
 
@@ -204,12 +245,22 @@ impl<R: Files<File = File> + Clone + Drop> Seen<'_, R> {
         if self.tree.own.contains(&path) && !self.account.is_own(&path) {
             return Ok(None);
         }
-        let place = self.now(&path)?;
-        let target = self.link_at(place.as_str())?;
-        if target.is_some() {
-            self.add(&Step::Ask(path))?;
+        match self.link_now(&path)? {
+            Some(target) => self.ask_link(path, target),
+            None => Ok(None),
         }
-        Ok(target)
+    }
+
+    /// Where the link at a path leads as the command sees it, if there is one.
+    fn link_now(&self, path: &Path) -> Result<Option<String>, Failure> {
+        let place = self.now(path)?;
+        self.link_at(place.as_str())
+    }
+
+    /// Adds that a link was asked for, and gives where it leads.
+    fn ask_link(&mut self, path: Path, target: String) -> Result<Option<String>, Failure> {
+        self.add(&Step::Ask(path))?;
+        Ok(Some(target))
     }
 
     /// Where the link that stands at a place leads, if there is one.

@@ -30,12 +30,23 @@ pub(crate) struct Writes<'a, R: Files<File = File> + Clone + Drop> {
     /// How many files were written.
     pub(crate) count: u32,
     /// The texts of what no output can be.
-    pub(crate) strange: Items<Text>,
+    pub(crate) strange: &'a mut Items<Text>,
 }
 
 impl<R: Files<File = File> + Clone + Drop> Writes<'_, R> {
+    /// Adds all that was written: what the trace shows, and then the rest.
+    pub(crate) fn add_all(
+        &mut self,
+        alloc: Global,
+        account: &Account,
+        entries: &[Entry],
+    ) -> Result<(), Failure> {
+        self.add_touched(alloc, account, entries)?;
+        self.add_others(alloc, account, entries)
+    }
+
     /// Adds what was written, in the order of the trace.
-    pub(crate) fn add_touched(
+    fn add_touched(
         &mut self,
         alloc: Global,
         account: &Account,
@@ -49,7 +60,7 @@ impl<R: Files<File = File> + Clone + Drop> Writes<'_, R> {
     }
 
     /// Adds what was written and the trace doesn't show.
-    pub(crate) fn add_others(
+    fn add_others(
         &mut self,
         alloc: Global,
         account: &Account,
@@ -126,9 +137,15 @@ impl<R: Files<File = File> + Clone + Drop> Writes<'_, R> {
     /// Keeps what was written at a path.
     fn keep(&mut self, alloc: Global, path: &Path) -> Result<(), Failure> {
         let from = written(self.tree, path)?;
-        let to = self.next(alloc)?;
-        fs::rename(&self.tree.rt, from.as_str(), to.as_str())?;
+        self.take(alloc, from.as_str())?;
         self.note(alloc, path)
+    }
+
+    /// Takes what stands at a place as the next file.
+    fn take(&self, alloc: Global, from: &str) -> Result<(), Failure> {
+        let to = self.next(alloc)?;
+        fs::rename(&self.tree.rt, from, to.as_str())?;
+        Ok(())
     }
 
     /// Keeps that a source was removed, as an empty file.
@@ -148,13 +165,21 @@ impl<R: Files<File = File> + Clone + Drop> Writes<'_, R> {
     /// Adds the line of the next file.
     fn note(&mut self, alloc: Global, path: &Path) -> Result<(), Failure> {
         let text = shown(alloc, path, self.dir)?;
-        let file = self.count;
-        let Some(count) = file.checked_add(1) else {
-            return Err(Failure::Because("too many files"));
-        };
-        self.count = count;
+        let file = self.number()?;
         self.log.push(LogLine::Wrote { file, text })?;
         Ok(())
+    }
+
+    /// Counts a file, and gives its number.
+    fn number(&mut self) -> Result<u32, Failure> {
+        let file = self.count;
+        match file.checked_add(1) {
+            Some(count) => {
+                self.count = count;
+                Ok(file)
+            }
+            None => Err(Failure::Because("too many files")),
+        }
     }
 }
 

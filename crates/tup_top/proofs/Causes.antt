@@ -252,20 +252,42 @@ ends_after before now (Limit what number) rose = inl refl
 ends_after before now Memory rose = inl refl
 ends_after before now (Differs path) rose = inl refl
 
+-- the sink's failure is no want of memory
+pub memory_after : (status : Status) → after_sink_fault status ≡ Memory → status ≡ Memory
+memory_after (Done read ran removed) is = absurd (cc is)
+memory_after (Command rule status) is = is
+memory_after (IllegalRead rule text) is = is
+memory_after (IllegalWrite rule text) is = is
+memory_after (Unwritten rule path) is = is
+memory_after (TooManyReads rule) is = is
+memory_after (Usage place) is = is
+memory_after (BadStore offset) is = is
+memory_after (Parse fault) is = is
+memory_after (CircularDirs cycle) is = is
+memory_after (CircularCommands cycle) is = is
+memory_after (NoSuchGroup group) is = is
+memory_after SiteFault is = is
+memory_after RunFault is = is
+memory_after SinkFault is = is
+memory_after (Limit what number) is = is
+memory_after Memory is = is
+memory_after (Differs path) is = is
+
 -- nothing was printed, for want of memory
-pub prints_nothing : (text : List ℕ) (before now : ℕ) (held : List ℕ) → Prints text before now held held Memory
-prints_nothing text before now held = record {
+pub prints_nothing : (status : Status) (text : List ℕ) (before now : ℕ) (held : List ℕ) → Prints status text before now held held Memory
+prints_nothing status text before now held = record {
   part = ([], text, refl, sym (append-nil held));
   done = λ is. absurd is;
   all = λ other _. absurd (other refl);
+  untold = λ _ _. refl;
 }
 
 -- the lines of an update were handed to the sink
-pub prints_update : (next : Next) (old : World) (before now : ℕ) (held grown : List ℕ) (told : Told next old) (status : Status) (text : List ℕ) (answer : Status) → status ≡ status_of told.log told.stopped → text ≡ lines told.rules told.log status → Ends before now status answer → Prints text before now held grown answer → PrintsUpdate next old before now held grown answer
+pub prints_update : (next : Next) (old : World) (before now : ℕ) (held grown : List ℕ) (told : Told next old) (status : Status) (text : List ℕ) (answer : Status) → status ≡ status_of told.log told.stopped → text ≡ lines told.rules told.log status → Ends before now status answer → Prints status text before now held grown answer → PrintsUpdate next old before now held grown answer
 prints_update next old before now held grown told status text answer is reads ends prints = record {
   told = told;
   ends = subst (λ s. Ends before now s answer) is ends;
-  prints = subst (λ t. Prints t before now held grown answer) (reads ∙ ap (λ s. lines told.rules told.log s) is) prints;
+  prints = subst (λ s. Prints s (lines told.rules told.log s) before now held grown answer) is (subst (λ t. Prints status t before now held grown answer) reads prints);
 }
 
 -- what a demo may answer, from what its update may: its runner counts no failures
@@ -311,7 +333,7 @@ pub prints_no_update : (next : Next) (old : World) (before now : ℕ) (held : Li
 prints_no_update next old before now held = record {
   told = told_nothing next old;
   ends = inl refl;
-  prints = prints_nothing (lines [] (told_nothing next old).log Memory) before now held;
+  prints = prints_nothing Memory (lines [] (told_nothing next old).log Memory) before now held;
 }
 
 -- ---- what was begun

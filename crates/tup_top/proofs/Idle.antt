@@ -11,7 +11,7 @@ use Rattle.tup_update.specs.declared.stop.Stop.{Stop}
 use Rattle.tup_update.specs.declared.stop.Stop.TheVariants.{Outside}
 use Rattle.tup_top.specs.Lines.{last_line, compared_line}
 use Rattle.tup_top.specs.Order.{Wanted}
-use Rattle.tup_top.specs.Printed.{Printed, demo_world}
+use Rattle.tup_top.specs.Printed.{Printed, PrintedAlone, demo_world}
 use Rattle.tup_top.specs.Promise.{ForUpdate, ForVerify}
 use Rattle.tup_top.specs.declared.order.Order.TheVariants.{Upd, Verify, Demo}
 use Rattle.tup_top.specs.declared.status.Status.TheVariants.{Usage, Memory}
@@ -38,10 +38,17 @@ memory_prints (Ok Verify) next old count held = record {
   compared = Err (Outside NoMemory);
   has = tt;
   ends = inl refl;
-  prints = prints_nothing (compared_line Memory) count count held;
+  prints = prints_nothing Memory (compared_line Memory) count count held;
 }
 memory_prints (Ok Demo) next old count held = prints_no_update mini_next demo_world count count held
-memory_prints (Err place) next old count held = prints_nothing (last_line (Usage place)) count count held
+memory_prints (Err place) next old count held = prints_nothing (Usage place) (last_line (Usage place)) count count held
+
+-- also where no site has part in it
+pub memory_prints_alone : (wanted : Wanted) (count : ℕ) (held : List ℕ) → PrintedAlone wanted count count held held Memory
+memory_prints_alone (Ok (Upd program)) count held = tt
+memory_prints_alone (Ok Verify) count held = tt
+memory_prints_alone (Ok Demo) count held = prints_no_update mini_next demo_world count count held
+memory_prints_alone (Err place) count held = prints_nothing (Usage place) (last_line (Usage place)) count count held
 
 -- what was promised of the rules that it found, where it found none
 pub memory_of : (wanted : Wanted) (old : World) (promise : List Rule → Option Stop → Type 0) → promise [] (Some (Outside NoMemory)) → ForUpdate wanted Memory (OfRules old promise)

@@ -141,12 +141,12 @@ module _ (site_before site_now run_before run_now sink_before sink_now : ℕ) wh
 -- ---- what is printed
 
 pub prints_compared : (next : Next) (w : World) (before now : ℕ) (held grown : List ℕ) (result : Result Compared Stop) (status : Status) (text : List ℕ) (answer : Status) → HasCompared next w result → status ≡ status_of_compared result →
-    text ≡ compared_line status → Ends before now status answer → Prints text before now held grown answer → PrintsComparison next w before now held grown answer
+    text ≡ compared_line status → Ends before now status answer → Prints status text before now held grown answer → PrintsComparison next w before now held grown answer
 prints_compared next w before now held grown result status text answer has is reads ends prints = record {
   compared = result;
   has = has;
   ends = subst (λ (s : Status). Ends before now s answer) is ends;
-  prints = subst (λ (t : List ℕ). Prints t before now held grown answer) (reads ∙ ap compared_line is) prints;
+  prints = subst (λ (s : Status). Prints s (compared_line s) before now held grown answer) is (subst (λ (t : List ℕ). Prints status t before now held grown answer) reads prints);
 }
 
 -- nothing, for want of memory
@@ -155,5 +155,5 @@ prints_no_comparison next w before now held result has = record {
   compared = result;
   has = has;
   ends = inr (inl refl);
-  prints = prints_nothing (compared_line (status_of_compared result)) before now held;
+  prints = prints_nothing (status_of_compared result) (compared_line (status_of_compared result)) before now held;
 }

@@ -30,12 +30,13 @@ IsDone other = ⊥
 abbrev pub Ends : ℕ → ℕ → Status → Status → Type 0
 Ends before now status answer = (answer ≡ status) ⊎ (answer ≡ Memory) ⊎ ((answer ≡ SinkFault) × IsDone status × Rose before now)
 
--- the sink has grown by this text, or by a front of it where there was no memory or the sink's count rose; after Done all
--- of it is there
-pub record Prints (text : List ℕ) (before now : ℕ) (old new : List ℕ) (answer : Status) : Type 0 where
+-- The sink has grown by this text, which ends with the line of a status, or by a front of it where there was no memory or the
+-- sink's count rose; after Done all of it is there, and where memory was wanting in the place of that status nothing is.
+pub record Prints (status : Status) (text : List ℕ) (before now : ℕ) (old new : List ℕ) (answer : Status) : Type 0 where
   pub part : GrownByPart text old new
   pub done : IsDone answer → new ≡ old ++ text
   pub all : answer ≢ Memory → ¬ Rose before now → new ≡ old ++ text
+  pub untold : answer ≡ Memory → status ≢ Memory → new ≡ old
 
 -- what an update of this world told of itself
 pub record Told (next : Next) (old : World) : Type 0 where
@@ -49,14 +50,14 @@ pub record Told (next : Next) (old : World) : Type 0 where
 pub record PrintsUpdate (next : Next) (world : World) (before now : ℕ) (old new : List ℕ) (answer : Status) : Type 0 where
   pub told : Told next world
   pub ends : Ends before now (status_of told.log told.stopped) answer
-  pub prints : Prints (lines told.rules told.log (status_of told.log told.stopped)) before now old new answer
+  pub prints : Prints (status_of told.log told.stopped) (lines told.rules told.log (status_of told.log told.stopped)) before now old new answer
 
 -- the line of a comparison of this world
 pub record PrintsComparison (next : Next) (world : World) (before now : ℕ) (old new : List ℕ) (answer : Status) : Type 0 where
   pub compared : Result Compared Stop
   pub has : HasCompared next world compared
   pub ends : Ends before now (status_of_compared compared) answer
-  pub prints : Prints (compared_line (status_of_compared compared)) before now old new answer
+  pub prints : Prints (status_of_compared compared) (compared_line (status_of_compared compared)) before now old new answer
 
 -- the small project that is shown
 abbrev pub demo_files : List (Names × Content)
@@ -71,4 +72,11 @@ abbrev pub Printed : Wanted → Next → World → ℕ → ℕ → List ℕ → 
 Printed (Ok (Upd program)) next world before now old new answer = PrintsUpdate next world before now old new answer
 Printed (Ok Verify) next world before now old new answer = PrintsComparison next world before now old new answer
 Printed (Ok Demo) next world before now old new answer = PrintsUpdate mini_next demo_world before now old new answer
-Printed (Err place) next world before now old new answer = Prints (last_line (Usage place)) before now old new answer
+Printed (Err place) next world before now old new answer = Prints (Usage place) (last_line (Usage place)) before now old new answer
+
+-- The same of what no site and no runner has part in, and that is so over each: the demo's lines, or the line of the refusal.
+abbrev pub PrintedAlone : Wanted → ℕ → ℕ → List ℕ → List ℕ → Status → Type 0
+PrintedAlone (Ok (Upd program)) before now old new answer = ⊤
+PrintedAlone (Ok Verify) before now old new answer = ⊤
+PrintedAlone (Ok Demo) before now old new answer = PrintsUpdate mini_next demo_world before now old new answer
+PrintedAlone (Err place) before now old new answer = Prints (Usage place) (last_line (Usage place)) before now old new answer

@@ -7,7 +7,7 @@ ghost use Rattle.tup_update.specs.Outcome.{ExactlyTheFiles, MadeBeforeBad, Sourc
 ghost use Rattle.tup_top.specs.Order.{order};
 ghost use Rattle.tup_top.specs.Crew.{IsCrew, CrewRuns, CrewCompares, RanFits, RanInTurn, NothingRun};
 ghost use Rattle.tup_top.specs.Lines.{last_line as line_of};
-ghost use Rattle.tup_top.specs.Printed.{Printed, Prints};
+ghost use Rattle.tup_top.specs.Printed.{Printed, PrintedAlone, Prints};
 ghost use Rattle.tup_top.specs.Promise.{ForUpdate, ForVerify, NothingDone, CountsAll, HasPlainCause, IsRefusal, Succeeds, Compares, counts};
 ghost use Rattle.tup_top.specs.declared.status.Status.TheVariants.{Usage};
 
@@ -99,6 +99,10 @@ pub fn tup<S: Site, R: Runner, K: Sink>(
         let new = K.held out.new in
         Printed (order words.now) R.next (S.world site) before now (K.held out.old) new
         result.status }
+    // What the demo and a refusal print is told over every site and by every runner.
+    ensures printed_alone { IsTrue K.tells
+        → let before = K.faults out.old in let now = K.faults out.new in
+        PrintedAlone (order words.now) before now (K.held out.old) (K.held out.new) result.status }
 {
     match order_of(words) {
         Ok(Order::Upd { .. }) => {
@@ -149,7 +153,8 @@ fn refuse<K: Sink>(alloc: Global, place: u32, out: &mut K) -> Status
     ensures cause { IsRefusal place result }
     ensures printed { IsTrue K.tells
         → let before = K.faults out.old in let now = K.faults out.new in
-        Prints (line_of (Usage place)) before now (K.held out.old) (K.held out.new) result }
+        Prints (Usage place) (line_of (Usage place)) before now (K.held out.old) (K.held out.new)
+        result }
 {
     let status = Status::Usage { place };
     let Ok(line) = last_line(alloc, &status) else {

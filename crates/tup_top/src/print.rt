@@ -120,7 +120,7 @@ pub(crate) fn print<K: Sink>(alloc: Global, text: &Bytes, status: Status, out: &
     ensures ends { Ends (K.faults out.old) (K.faults out.new) status result }
     ensures counted { IsDone result → K.faults out.new ≡ K.faults out.old }
     ensures prints { IsTrue K.tells → let before = K.faults out.old in let now = K.faults out.new in
-        Prints text.now before now (K.held out.old) (K.held out.new) result }
+        Prints status text.now before now (K.held out.old) (K.held out.new) result }
 {
     match out.write(alloc, text) {
         Ok(()) => status,

@@ -13,7 +13,7 @@ use Rattle.tup_top.specs.Promise.{ForUpdate, ForVerify, CountsAll, HasPlainCause
 use Rattle.tup_top.specs.Status.{came_to, compared_to}
 use Rattle.tup_top.specs.declared.status.Status.TheVariants.{Memory}
 use Rattle.tup_top.proofs.Crewed.{crew_cause, crew_compared, crew_runs, crew_compares, no_crew_ran}
-use Rattle.tup_top.proofs.Idle.{memory_of, memory_for_update, memory_for_verify, memory_prints}
+use Rattle.tup_top.proofs.Idle.{memory_of, memory_for_update, memory_for_verify, memory_prints, memory_prints_alone}
 use Rattle.tup_top.proofs.Success.{succeeds_so, compares_so, sources_stay_so}
 use Rattle.tup_top.proofs.call.tup.Goals as goal
 
@@ -140,3 +140,6 @@ pub returns-clause-compared_ran : goal.returns-clause-compared_ran
 returns-clause-compared_ran g c = λ _ _ _.
     memory_for_verify (order c.args.words.now) (CrewCompares g.R.Runner.next (g.S.Site.world c.args.site) (map g.R.Runner.ran c.args.crew.items) (map g.R.Runner.ran c.args.crew.items))
     (no_crew_ran g.R.Runner.ran g.R.Runner.next (g.S.Site.world c.args.site) c.args.crew.items c.requires.crew.0)
+
+pub returns-clause-printed_alone : goal.returns-clause-printed_alone
+returns-clause-printed_alone g c = λ _. memory_prints_alone (order c.args.words.now) (g.K.Sink.faults c.args.out.now) (g.K.Sink.held c.args.out.now)

@@ -65,7 +65,7 @@ returns-in_default-clause-printed g c = λ tells means _. record {
     is_its_log = c.update_site-rules.ensures.logged tells means;
   };
   ends = inr (inl refl);
-  prints = prints_nothing _ _ _ _;
+  prints = prints_nothing _ _ _ _ _;
 }
 
 -- ---- its lines were printed, or not

@@ -1,0 +1,9 @@
+pub mod Same
+pub mod Halting
+pub mod Answering
+pub mod Finding
+pub mod Parting
+pub mod Ending
+pub mod Walking
+pub mod Recorded
+pub mod Recording

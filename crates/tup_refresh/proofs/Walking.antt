@@ -1,0 +1,76 @@
+-- How the walk goes on.
+use Rattle.std.proofs.Common.{◌≡◌, Option, Some, None, Ok, Err, IsTrue, sym, ap, ◌∙◌, subst}
+use Rattle.std.specs.FinMap as finite
+use Rattle.tup_path.specs.Name.{Names}
+use Rattle.tup_path.specs.Tree.{Tree}
+use Rattle.tup_rule.specs.Rule.{among}
+use Rattle.tup_rule.specs.declared.question.Reading.{Reading}
+use Rattle.tup_vars.specs.Table.{Entries}
+use Rattle.tup_folders.specs.Readings.{AreRead, WaitsFor}
+use Rattle.tup_folders.specs.Sources.{has_tupfile}
+use Rattle.tup_folders.specs.State.{IsLast, IsNext, Notes, Begins, Closes}
+use Rattle.tup_folders.specs.declared.fault.FoldersFault.{FoldersFault}
+use Rattle.tup_folders.specs.declared.work.Work.{Work}
+use Rattle.tup_folders.proofs.Lines.{among_last}
+use Rattle.tup_folders.proofs.Working.{started, last_has, noted, goes_on, first_fault, closes_circle}
+use Rattle.tup_graph.specs.Graph.{GraphState}
+use Rattle.tup_refresh.specs.declared.walk.Walk.{Walk}
+use Rattle.tup_refresh.specs.declared.found.Found.TheVariants.{Stands, Read}
+use Rattle.tup_refresh.specs.Found.{HasFound, IsFault}
+use Rattle.tup_refresh.specs.Refresh.{kept_reading}
+use Rattle.tup_refresh.specs.Walk.{AreParted, IsWalk, IsStart, NotesFresh}
+use Rattle.tup_refresh.proofs.Finding.{fault_come}
+use Rattle.tup_refresh.proofs.Parting.{part_none, part_fresh, part_kept}
+
+module _ (g : GraphState) (sources : Tree) (settings : Entries) where
+  pub walk_started : (walk : Walk) → IsStart sources walk → IsWalk g sources settings walk
+  walk_started walk start = record {
+    work = started sources settings walk.work start.work;
+    parted = part_none g sources settings walk.work.readings walk.fresh start.work.readings start.fresh;
+  }
+
+  -- the next folder is begun
+  pub walk_next : (old : Walk) (new : Work) (dir : Option Names) → IsWalk g sources settings old → IsNext dir old.work new → IsWalk g sources settings (record old { work = new })
+  walk_next old new dir is next = record {
+    work = next.work sources settings is.work;
+    parted = subst (λ r. AreParted g sources settings r old.fresh) (sym next.readings) is.parted;
+  }
+
+  module _ (old : Walk) (dir : Names) (is : IsWalk g sources settings old) (last : IsLast (Some dir) old.work) where
+    is_new : finite.get old.work.readings dir ≡ None
+    is_new = is.work.not_read dir (ap (among dir) last.1 ∙ among_last dir last.0)
+
+    pub has_tup : IsTrue (has_tupfile sources dir)
+    has_tup = last_has sources settings old.work dir is.work last
+
+    -- the kept reading stands
+    pub walk_kept : (new : Work) (left : Reading) → HasFound sources settings old.work.readings dir (kept_reading g dir) (Ok (Stands left)) → Notes dir left old.work new
+        → IsWalk g sources settings (record old { work = new })
+    walk_kept new left found notes = record {
+      work = noted sources settings old.work new dir left is.work notes found.2;
+      parted = subst (λ r. AreParted g sources settings r old.fresh) (sym notes.readings)
+          (part_kept sources settings old.work.readings dir left is_new has_tup g old.fresh is.parted found.0 found.1);
+    }
+
+    -- the folder was read
+    pub walk_read : (new : Walk) (left : Reading) → HasFound sources settings old.work.readings dir (kept_reading g dir) (Ok (Read left)) → NotesFresh dir left old new → IsWalk g sources settings new
+    walk_read new left found notes = record {
+      work = noted sources settings old.work new.work dir left is.work notes.work found.1;
+      parted = subst (λ r. AreParted g sources settings r new.fresh) (sym notes.work.readings)
+          (subst (AreParted g sources settings (finite.insert old.work.readings dir left)) (sym notes.fresh)
+          (part_fresh sources settings old.work.readings dir left is_new has_tup g old.fresh is.parted found.0));
+    }
+
+    -- it waits for another one
+    pub walk_on : (new : Work) (next : Names) → WaitsFor sources settings old.work.readings dir next → Begins next old.work new → IsWalk g sources settings (record old { work = new })
+    walk_on new next waits begins = record {
+      work = goes_on sources settings old.work new dir next is.work last waits begins;
+      parted = subst (λ r. AreParted g sources settings r old.fresh) (sym begins.readings) is.parted;
+    }
+
+    -- it can't be read, or waits for itself
+    pub walk_ends : (end : FoldersFault) → IsFault sources settings old.work.readings dir end → AreRead sources settings (Err end)
+    walk_ends end fault = first_fault sources settings old.work dir end is.work last (fault_come sources settings old.work.readings dir end fault)
+
+    pub walk_closes : (end : FoldersFault) (next : Names) → WaitsFor sources settings old.work.readings dir next → Closes next old.work end → AreRead sources settings (Err end)
+    walk_closes end next waits closes = closes_circle sources settings old.work dir next end is.work last waits closes

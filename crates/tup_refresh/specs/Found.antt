@@ -1,0 +1,45 @@
+-- What is found of one folder (own).
+use Rattle.std.specs.Prelude.{◌≡◌, ◌⊎◌, Option, Some, None, Result, Ok, Err}
+use Rattle.tup_path.specs.Name.{Names}
+use Rattle.tup_path.specs.Tree.{Tree}
+use Rattle.tup_rule.specs.declared.question.Reading.{Reading}
+use Rattle.tup_vars.specs.Table.{Entries}
+use Rattle.tup_folders.specs.Answers.{Readings}
+use Rattle.tup_folders.specs.Readings.{IsReadingOver, IsFaultOver, WaitsFor}
+use Rattle.tup_folders.specs.declared.asked.Stop.{Stop}
+use Rattle.tup_folders.specs.declared.asked.Stop.TheVariants.{Awaits, Memory as NoMemory}
+use Rattle.tup_folders.specs.declared.fault.FoldersFault.{FoldersFault}
+use Rattle.tup_folders.specs.declared.fault.FoldersFault.TheVariants.{Parse, Circular, Memory}
+use Rattle.tup_refresh.specs.declared.found.Found.{Found}
+use Rattle.tup_refresh.specs.declared.found.Found.TheVariants.{Stands, Read, Waits}
+use Rattle.tup_refresh.specs.Standing.{AllStand, OneIsOther}
+
+-- what comes of a comparing that stopped
+abbrev pub come_of : Stop → Result Found FoldersFault
+come_of (Awaits next) = Ok (Waits next)
+come_of NoMemory = Err Memory
+
+module _ (sources : Tree) (settings : Entries) (readings : Readings) (dir : Names) where
+  -- why a folder isn't read to its end
+  abbrev pub IsFault : FoldersFault → Type 0
+  IsFault (Parse fault) = IsFaultOver sources settings readings dir fault
+  IsFault (Circular dirs) = ⊥
+  IsFault Memory = Unit {0}
+
+  -- it was read as far as it goes
+  abbrev pub HasRead : Result Found FoldersFault → Type 0
+  HasRead (Ok (Stands left)) = ⊥
+  HasRead (Ok (Read left)) = IsReadingOver sources settings readings dir left
+  HasRead (Ok (Waits next)) = WaitsFor sources settings readings dir next
+  HasRead (Err fault) = IsFault fault
+
+  -- no reading is kept that stands
+  abbrev pub StandsNot : Option Reading → Type 0
+  StandsNot kept = (kept ≡ None) ⊎ ((left : Reading) × (kept ≡ Some left) × OneIsOther sources settings readings dir left.asked)
+
+  -- the kept one stands, or the folder is read
+  abbrev pub HasFound : Option Reading → Result Found FoldersFault → Type 0
+  HasFound kept (Ok (Stands left)) = (kept ≡ Some left) × AllStand sources settings readings dir left.asked × IsReadingOver sources settings readings dir left
+  HasFound kept (Ok (Read left)) = StandsNot kept × IsReadingOver sources settings readings dir left
+  HasFound kept (Ok (Waits next)) = WaitsFor sources settings readings dir next
+  HasFound kept (Err fault) = IsFault fault

@@ -1,0 +1,5 @@
+pub mod Refresh
+pub mod Standing
+pub mod Found
+pub mod Walk
+pub mod Language

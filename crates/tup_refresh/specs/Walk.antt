@@ -1,0 +1,35 @@
+-- The folders of a project while they are refreshed (own).
+use Rattle.std.specs.Prelude.{◌≡◌, Some, None}
+use Rattle.std.specs.FinMap as finite
+use Rattle.tup_path.specs.Name.{Names}
+use Rattle.tup_path.specs.Tree.{Tree}
+use Rattle.tup_rule.specs.declared.question.Reading.{Reading}
+use Rattle.tup_vars.specs.Table.{Entries}
+use Rattle.tup_folders.specs.Answers.{Readings}
+use Rattle.tup_folders.specs.State.{IsWork, IsStart as IsWorkStart, Notes}
+use Rattle.tup_graph.specs.Graph.{GraphState}
+use Rattle.tup_refresh.specs.declared.walk.Walk.{Walk}
+use Rattle.tup_refresh.specs.Found.{StandsNot}
+use Rattle.tup_refresh.specs.Refresh.{kept_reading}
+use Rattle.tup_refresh.specs.Standing.{AllStand}
+
+module _ (g : GraphState) (sources : Tree) (settings : Entries) where
+  -- each reading is a kept one that stands, or a fresh one where none stands
+  pub record AreParted (readings fresh : Readings) : Type 0 where
+    pub read : (dir : Names) (left : Reading) → finite.get fresh dir ≡ Some left → (finite.get readings dir ≡ Some left) × StandsNot sources settings readings dir (kept_reading g dir)
+    pub kept : (dir : Names) (left : Reading) → finite.get readings dir ≡ Some left → finite.get fresh dir ≡ None
+        → (kept_reading g dir ≡ Some left) × AllStand sources settings readings dir left.asked
+
+  pub record IsWalk (walk : Walk) : Type 0 where
+    pub work : IsWork sources settings walk.work
+    pub parted : AreParted walk.work.readings walk.fresh
+
+-- no folder is begun, and none is read
+pub record IsStart (sources : Tree) (walk : Walk) : Type 0 where
+  pub work : IsWorkStart sources walk.work
+  pub fresh : walk.fresh ≡ finite.empty
+
+-- a fresh reading is noted
+pub record NotesFresh (dir : Names) (left : Reading) (old new : Walk) : Type 0 where
+  pub work : Notes dir left old.work new.work
+  pub fresh : new.fresh ≡ finite.insert old.fresh dir left
