@@ -98,8 +98,6 @@ if unshare -U --map-user=1000 --map-group=1000 --keep-caps true 2> /dev/null; th
 fi
 # -- reading: files, nothing, folders; through links, which are no files
 try '' 'cat a b nope; [ -e sub/s ]' 'R a,R b,A nope,R sub/s,E 0'
-told two
-told 'nope: No such file'
 try '' 'cat ln dl/s a/x; [ -d sub ]; [ -d nodir ]' 'A ln,R a,A dl,R sub/s,A a/x,A nodir,E 1'
 # -- own outputs aren't there before they are written; what is written isn't asked for
 try 'o' 'cat o; echo x >o; cat o; echo y >>o' 'A o,W o,E 0'
