@@ -386,6 +386,54 @@ row "no place for its files" 8 'read .;fault: the runner failed;' --proc true
 said "true: the stage couldn't be made or read"
 row "an option without its word" 2 'fault: usage, word 3;' upd --proc
 row "an option twice" 2 'fault: usage, word 4;' upd --proc true --proc true
+# A program that leaves a log of its own: a script of these lines, in the stage.
+logging() {
+    project "$copy"
+    printf '#!/bin/sh\ncd "$3" || exit 1\n' > "$work/logs"
+    printf '%s\n' "$@" >> "$work/logs"
+    chmod +x "$work/logs"
+}
+# Its log holds these lines, as `printf` writes them, and is bad.
+bad_log() {
+    logging "printf '$2' > log"
+    row "a log $1" 8 'read .;fault: the runner failed;' upd --proc "$work/logs"
+    said "$work/logs: the program's log is bad"
+    gone "a log $1, nothing was made" b
+}
+hi=$(echo hi | sha256sum | cut -c1-64)
+ho=$(echo ho | sha256sum | cut -c1-64)
+bad_log 'that is empty' ''
+bad_log 'without its end' "R $hi a\nA none\n"
+bad_log 'that goes on behind its end' 'E 0\nA none\n'
+bad_log 'with another stamp' "R $ho a\nE 0\n"
+bad_log 'that read what is not there' "R $hi none\nE 0\n"
+bad_log 'that found nothing where a file is' 'A a\nE 0\n'
+bad_log 'of a write without its file' 'W 0 b\nE 0\n'
+logging 'cp ../../a w7' "printf 'R $hi a\nA none\nA b\nA ../b\nW 7 b\nE 0\n' > log"
+row "a log with a name above the project" 1 'read .;bad .: cp a b;fault: .: cp a b: reads ../b;' upd --proc "$work/logs"
+logging 'cp ../../a w7' "printf 'R $hi a\nA none\nA b\nW 7 b\nE 0\n' > log"
+row "a log that fits" 0 "$done_copy" upd --proc "$work/logs"
+file "what it wrote" b hi
+printf '#!/bin/sh\ncd "$3" && printf "R %s b\\nE 0\\n" > log\n' "$hi" > "$work/logs"
+row "a log that read its own output" 8 'read .;fault: the runner failed;' upd --proc "$work/logs"
+said "$work/logs: the program's log is bad"
+logging "printf '%s\n' \"\$@\" > w0" 'cat own >> w0' "printf 'W 0 b\nE 0\n' > log"
+row "the words of a program" 0 "$done_copy" upd --proc "$work/logs"
+file "they are these, and own lists the outputs" b "$(printf '%s\n' . . .tup/stage 'cp a b' b)"
+logging "printf 'E 137\n' > log"
+row "a status" 1 'read .;bad .: cp a b;fault: .: cp a b: status 137;' upd --proc "$work/logs"
+logging "printf 'E 0\n' > log"
+row "an end alone" 1 "read .;bad .: cp a b;fault: .: cp a b: doesn't write b;" upd --proc "$work/logs"
+logging 'echo x > w0' "printf 'W 0 b\nW 0 c\nE 0\n' > log"
+row "a write more" 1 'read .;bad .: cp a b;fault: .: cp a b: writes c;' upd --proc "$work/logs"
+# What was asked counts in its order: the second rule may not read g.
+for text in "R $ho g\nA a=1 read .;run .: cp a g;bad .: cp a h;fault: .: cp a h: reads g;" "A a\nR $ho g=8 read .;run .: cp a g;fault: the runner failed;"; do
+    logging 'echo hi > w0' "case \$4 in *g) printf 'W 0 g\nE 0\n' ;; *) printf '${text%%=*}\nW 0 h\nE 0\n' ;; esac > log"
+    printf '%s\n' ': a |> cp a g |> g' ': a |> cp a h |> h' > Tupfile
+    rest=${text#*=}
+    row "asks in their order" "${rest%% *}" "${rest#* }" upd --proc "$work/logs"
+    gone "nothing was made" h
+done
 if [ -x "$shim" ]; then
     project "$copy" ': b |> cat b a > c |> c'
     row "commands through tup_shim" 0 'read .;run .: cp a b;run .: cat b a > c;done: 1 read, 2 run, 0 removed;' upd --proc "$shim"
