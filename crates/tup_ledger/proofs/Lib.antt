@@ -2,3 +2,4 @@ pub mod Trees
 pub mod Guarding
 pub mod Owned
 pub mod Given
+pub mod Opening

@@ -1,3 +1,4 @@
 pub mod Owned
 pub mod Sources
 pub mod Given
+pub mod Begin

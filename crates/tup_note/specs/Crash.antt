@@ -4,8 +4,11 @@ use Rattle.tup_path.specs.Name.{Names, Content}
 use Rattle.tup_site.specs.Crash.{GoesOn, LeavesOnly}
 use Rattle.tup_site.specs.World.{World, TreeStays}
 use Rattle.tup_stamp.specs.declared.Stamp.{Stamp}
+use Rattle.tup_rule.specs.declared.question.Reading.{Reading}
+use Rattle.tup_rule.specs.declared.rule.Rule.{Rule}
 use Rattle.tup_graph.specs.Graph.{GraphState}
 use Rattle.tup_graph.specs.Scan.{IsScanned}
+use Rattle.tup_graph.specs.Swap.{IsSwapped}
 use Rattle.tup_kept.specs.Crash.{IsStoreOf}
 
 module _ (before : GraphState) (Is : GraphState → Type 0) where
@@ -27,3 +30,7 @@ pub record LeavesNoted {S : Type 0} (moment : S → ℕ) (left_since : S → ℕ
 -- the graph before, or the one that a scan leaves which found these files and this in tup.config
 abbrev pub LeavesScanned : {S : Type 0} → (S → ℕ) → (S → ℕ → World → Type 0) → S → S → GraphState → List (Names × Stamp) → Option Content → Type 0
 LeavesScanned moment left_since old new before files config = LeavesNoted moment left_since old new before (IsScanned before files config)
+
+-- the graph before, or the one that a swap to these readings and rules leaves
+abbrev pub LeavesSwapped : {S : Type 0} → (S → ℕ) → (S → ℕ → World → Type 0) → S → S → GraphState → List (Names × Reading) → List Names → List Rule → Type 0
+LeavesSwapped moment left_since old new before fresh gone rules = LeavesNoted moment left_since old new before (IsSwapped before fresh gone rules)

@@ -1,7 +1,9 @@
--- What the commit of a list of edits does to a graph and to its store: those of a scan (own).
+-- What the commit of a list of edits does to a graph and to its store: those of a scan, and those of a swap of rules (own).
 use Rattle.std.specs.Prelude.{◌≡◌, ◌⊎◌, false, List, Option, Result, Err}
 use Rattle.tup_path.specs.Name.{Names, Content}
 use Rattle.tup_stamp.specs.declared.Stamp.{Stamp}
+use Rattle.tup_rule.specs.declared.question.Reading.{Reading}
+use Rattle.tup_rule.specs.declared.rule.Rule.{Rule}
 use Rattle.tup_graph.specs.Edits.{edited_by}
 use Rattle.tup_graph.specs.declared.edit.Edit.{Edit}
 use Rattle.tup_graph.specs.declared.fault.GraphFault.{GraphFault}
@@ -9,6 +11,7 @@ use Rattle.tup_graph.specs.declared.fault.GraphFault.TheVariants.{Full, Memory}
 use Rattle.tup_kept.specs.Held.{Held, is_fresh}
 use Rattle.tup_kept.specs.Transaction.{Leaves, IsFull}
 use Rattle.tup_diff.specs.Edits.{AreScanEdits}
+use Rattle.tup_swap.specs.Edits.{AreSwapEdits}
 
 -- such edits are made in one commit, or none of them is; it is Full just where the store has no room for them
 pub record MakesEdits {S : Type 0} (Are : List Edit → Type 0) (old new : Held) (before now : S) (result : Result (Unit {0}) GraphFault) : Type 0 where
@@ -25,3 +28,7 @@ Notes Are old new before now result = MakesEdits Are old new before now result
 -- taking note of a scan
 abbrev pub NotesScan : {S : Type 0} → List (Names × Stamp) → Option Content → Held → Held → S → S → Result (Unit {0}) GraphFault → Type 0
 NotesScan files config old new before now result = Notes (AreScanEdits old.nodes files config) old new before now result
+
+-- a swap of rules
+abbrev pub SwapsRules : {S : Type 0} → List (Names × Reading) → List Names → List Rule → Held → Held → S → S → Result (Unit {0}) GraphFault → Type 0
+SwapsRules fresh gone rules old new before now result = Notes (AreSwapEdits old.nodes fresh gone rules) old new before now result

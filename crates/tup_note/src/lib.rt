@@ -1,8 +1,11 @@
-//! What a scan found, noted in the store of a project.
+//! What a scan found, and what new readings and rules are, noted in the store of a project.
 //!
-//! `note_scan` makes what a scan changes of a graph in one commit: all of it or nothing, whenever a crash comes.
+//! `note_scan` makes what a scan changes of a graph in one commit: all of it or nothing, whenever a crash comes. `swap_rules`
+//! does so with what new readings and new rules change.
 #![tactic(auto)]
 
 mod note;
+mod swap;
 
 pub use note::note_scan;
+pub use swap::swap_rules;

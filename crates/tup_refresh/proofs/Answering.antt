@@ -1,7 +1,7 @@
 -- A true reading whose answers stand is the folder's reading now.
-use Rattle.std.proofs.Common.{◌≡◌, ◌+◌, ◌<◌, ◌≤◌, ℕ, true, false, Bool, List, [], ◌∷◌, ◌++◌, length, map, take, drop, get_or, Option, Some, None, Ok, Err, IsTrue, refl, sym, ap, ◌∙◌, subst, arith, take_all, take-append-drop}
+use Rattle.std.proofs.Common.{◌≡◌, ◌+◌, ◌<◌, ◌≤◌, ℕ, true, List, [], ◌∷◌, ◌++◌, length, take, drop, get_or, Option, Some, Ok, Err, IsTrue, refl, sym, ap, ◌∙◌, subst, arith, take_all, take-append-drop}
 use Rattle.std.specs.FinMap as finite
-use Rattle.std.specs.List.{All, Contains}
+use Rattle.std.specs.List.{Contains}
 use Rattle.std.specs.Option.{option_map}
 use Rattle.std.proofs.lemmas.List.{map-append, get_or_default, drop_more}
 use Rattle.std.proofs.lemmas.List.Elements.{All-contains, All-more, Contains-append_right, Contains-append_left}
@@ -16,7 +16,7 @@ use Rattle.tup_rule.specs.declared.question.Reading.{Reading}
 use Rattle.tup_rule.specs.declared.question.Told.{Told}
 use Rattle.tup_rule.specs.declared.question.Told.TheVariants as told
 use Rattle.tup_vars.specs.Table.{Entries}
-use Rattle.tup_ask.specs.Log.{Log, Ran, Halts, fits, told_before, noted_log}
+use Rattle.tup_ask.specs.Log.{Log, Halts, fits, told_before, noted_log}
 use Rattle.tup_reader.specs.Reading.{reading}
 use Rattle.tup_folders.specs.Answers.{Readings, awaited, answer}
 use Rattle.tup_folders.specs.Readings.{IsAnswered, IsReadingOver, WaitsFor}

@@ -1,7 +1,6 @@
 -- What all of it comes to.
-use Rattle.std.proofs.Common.{◌≡◌, ◌↔◌, inl, inr, Bool, true, false, cond, not, ◌&&◌, ◌||◌, T, List, [], ◌∷◌, map, Option, Some, None, is_some, IsSome, Result, Ok, Err, IsTrue, refl, sym, ap, ◌∙◌, subst}
+use Rattle.std.proofs.Common.{◌≡◌, inl, inr, Bool, true, false, cond, not, ◌||◌, T, List, [], ◌∷◌, map, Option, Some, None, is_some, IsSome, Result, Ok, Err, IsTrue, refl, sym, ap, ◌∙◌, subst}
 use Rattle.std.specs.Prelude.{filter}
-use Rattle.std.specs.Bool.{passes}
 use Rattle.std.specs.FinMap as finite
 use Rattle.std.specs.List.{list_any}
 use Rattle.std.specs.Ordering.{eq_by_cmp}
@@ -12,17 +11,15 @@ use Rattle.tup_path.specs.Order.{by_names, by_names-total, same_path, same_path-
 use Rattle.tup_path.specs.Tree.{Tree}
 use Rattle.tup_path.proofs.Same.{same_path-decides}
 use Rattle.tup_rule.specs.Rule.{among}
-use Rattle.tup_rule.specs.declared.question.Noted.{Noted}
-use Rattle.tup_rule.specs.declared.question.Question.{Question}
 use Rattle.tup_rule.specs.declared.question.Reading.{Reading}
 use Rattle.tup_vars.specs.Table.{Entries}
 use Rattle.tup_vars.specs.declared.fault.ConfigFault.{ConfigFault}
 use Rattle.tup_folders.specs.Answers.{Readings}
-use Rattle.tup_folders.specs.Readings.{AreRead, AreReadWith, IsConfig, IsOutcome, config_fault}
+use Rattle.tup_folders.specs.Readings.{AreReadWith, IsConfig, IsOutcome}
 use Rattle.tup_folders.specs.Sources.{has_tupfile, settings_of}
 use Rattle.tup_folders.specs.State.{IsLast}
 use Rattle.tup_folders.specs.declared.fault.FoldersFault.{FoldersFault}
-use Rattle.tup_folders.specs.declared.fault.FoldersFault.TheVariants.{Parse, Circular, Memory}
+use Rattle.tup_folders.specs.declared.fault.FoldersFault.TheVariants.{Memory}
 use Rattle.tup_folders.proofs.Working.{all_listed, finished, from_test}
 use Rattle.tup_graph.specs.Graph.{GraphState, is_created}
 use Rattle.tup_graph.specs.Swap.{reading_now}

@@ -1,18 +1,16 @@
 -- What is found of a folder, by its cases.
-use Rattle.std.proofs.Common.{◌≡◌, inl, inr, Option, Some, None, Result, Ok, Err, IsTrue, refl, sym, ap, ◌∙◌, subst}
+use Rattle.std.proofs.Common.{◌≡◌, Option, Some, Result, Ok, Err, IsTrue, sym, subst}
 use Rattle.tup_path.specs.Name.{Names}
 use Rattle.tup_path.specs.Tree.{Tree}
 use Rattle.tup_rule.specs.declared.question.Reading.{Reading}
 use Rattle.tup_vars.specs.Table.{Entries}
 use Rattle.tup_folders.specs.Answers.{Readings}
-use Rattle.tup_folders.specs.Readings.{AreRead}
 use Rattle.tup_folders.specs.Sources.{has_tupfile}
 use Rattle.tup_folders.specs.declared.asked.Stop.{Stop}
 use Rattle.tup_folders.specs.declared.asked.Stop.TheVariants.{Awaits, Memory as NoMemory}
-use Rattle.tup_folders.specs.State.{HasCome, IsWork, IsLast}
+use Rattle.tup_folders.specs.State.{HasCome}
 use Rattle.tup_folders.specs.declared.fault.FoldersFault.{FoldersFault}
 use Rattle.tup_folders.specs.declared.fault.FoldersFault.TheVariants.{Parse, Circular, Memory}
-use Rattle.tup_folders.proofs.Working.{first_fault}
 use Rattle.tup_refresh.specs.declared.found.Found.{Found}
 use Rattle.tup_refresh.specs.declared.found.Found.TheVariants.{Stands, Read, Waits}
 use Rattle.tup_refresh.specs.Found.{IsFault, HasRead, StandsNot, HasFound, come_of}

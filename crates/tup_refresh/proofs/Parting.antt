@@ -1,7 +1,6 @@
 -- Kept readings that stand, and fresh ones, as more folders are read.
 use Rattle.std.proofs.Common.{◌≡◌, ◌⊎◌, inl, inr, [], ◌∷◌, Bool, true, false, cond, List, Option, Some, None, IsTrue, refl, sym, ap, ◌∙◌, subst}
 use Rattle.std.specs.FinMap as finite
-use Rattle.std.specs.List.{All}
 use Rattle.std.proofs.lemmas.List.Elements.{All-weaker}
 use Rattle.tup_path.specs.Name.{Names}
 use Rattle.tup_path.specs.Order.{by_names, same_path}
@@ -12,7 +11,7 @@ use Rattle.tup_rule.specs.declared.question.Noted.{Noted}
 use Rattle.tup_rule.specs.declared.question.Question.{Question}
 use Rattle.tup_rule.specs.declared.question.Reading.{Reading}
 use Rattle.tup_vars.specs.Table.{Entries}
-use Rattle.tup_ask.specs.Log.{Log, told_before}
+use Rattle.tup_ask.specs.Log.{Log}
 use Rattle.tup_ask.proofs.Asking.{told_push}
 use Rattle.tup_ask.proofs.Runs.{told_new}
 use Rattle.tup_rule.specs.declared.question.Told.{Told}
@@ -23,7 +22,7 @@ use Rattle.tup_folders.proofs.More.{get_more, awaited_more, answered_more}
 use Rattle.tup_graph.specs.Graph.{GraphState}
 use Rattle.tup_refresh.specs.Found.{StandsNot}
 use Rattle.tup_refresh.specs.Refresh.{kept_reading}
-use Rattle.tup_refresh.specs.Standing.{Stands, IsOther, AllStand, OneIsOther}
+use Rattle.tup_refresh.specs.Standing.{Stands, IsOther, AllStand}
 use Rattle.tup_refresh.specs.Walk.{AreParted}
 
 -- one of two at a path

@@ -1,8 +1,8 @@
 -- True records of readings are readings.
-use Rattle.std.proofs.Common.{◌≡◌, ◌⊎◌, inl, inr, Bool, true, false, cond, ◌&&◌, List, [], ◌∷◌, ◌++◌, map, Option, Some, None, Result, Ok, Err, IsTrue, refl, sym, ap, ◌∙◌, subst, append_assoc, append-nil}
+use Rattle.std.proofs.Common.{◌≡◌, ◌⊎◌, inl, inr, Bool, true, false, cond, List, [], ◌∷◌, ◌++◌, Option, Some, None, Ok, Err, IsTrue, refl, sym, ap, ◌∙◌, subst, append_assoc, append-nil}
 use Rattle.std.specs.Prelude.{bytes_eq}
 use Rattle.std.specs.FinMap as finite
-use Rattle.std.specs.List.{All, Contains, list_any}
+use Rattle.std.specs.List.{Contains}
 use Rattle.std.specs.Option.{option_map}
 use Rattle.std.proofs.lemmas.Bool.{and_parts}
 use Rattle.std.proofs.lemmas.List.Elements.{All-contains}
@@ -26,7 +26,7 @@ use Rattle.tup_ask.proofs.Runs.{told_more, told_new}
 use Rattle.tup_reader.specs.Reading.{reading}
 use Rattle.tup_graph.specs.Graph.{GraphState}
 use Rattle.tup_graph.specs.Records.{Language, GoesOnReading, IsToldKnown, IsTrueReading}
-use Rattle.tup_refresh.specs.Language.{known_or, stands_at, all_fit, next_of, ReadsTupfiles}
+use Rattle.tup_refresh.specs.Language.{known_or, stands_at, all_fit, ReadsTupfiles}
 use Rattle.tup_refresh.specs.Refresh.{AreTrue, IsTrueBeside}
 use Rattle.tup_refresh.proofs.Ending.{kept_is}
 

@@ -1,5 +1,5 @@
 -- The reading of a folder over sources is a true record of it.
-use Rattle.std.proofs.Common.{◌≡◌, ◌⊎◌, inl, inr, suc, Bool, true, false, cond, ◌&&◌, List, [], ◌∷◌, ◌++◌, Option, Some, None, Result, Ok, Err, IsTrue, refl, sym, ap, ◌∙◌, subst, arith, append_assoc}
+use Rattle.std.proofs.Common.{◌≡◌, ◌⊎◌, inl, inr, suc, true, cond, ◌&&◌, List, [], ◌∷◌, ◌++◌, Option, Some, None, Result, Ok, Err, IsTrue, refl, sym, ap, ◌∙◌, subst, arith, append_assoc}
 use Rattle.std.specs.Prelude.{bytes_eq}
 use Rattle.std.specs.FinMap as finite
 use Rattle.std.specs.List.{All, Contains, list_any}
@@ -19,7 +19,7 @@ use Rattle.tup_rule.specs.declared.question.Told.TheVariants as told
 use Rattle.tup_vars.specs.Table.{Entries}
 use Rattle.tup_vars.specs.declared.fault.ConfigFault.{ConfigFault}
 use Rattle.tup_ask.specs.declared.fault.ParseFault.{ParseFault}
-use Rattle.tup_ask.specs.Log.{Log, fits, told_before, Step, Ran, Halts}
+use Rattle.tup_ask.specs.Log.{Log, fits, told_before, Ran, Halts}
 use Rattle.tup_ask.specs.Reads.{Reads, Ends, Asks}
 use Rattle.tup_ask.proofs.Runs.{told_new, ran_keeps}
 use Rattle.tup_reader.specs.Reading.{reading}

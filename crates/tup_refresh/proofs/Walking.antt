@@ -1,22 +1,21 @@
 -- How the walk goes on.
-use Rattle.std.proofs.Common.{◌≡◌, true, List, [], ◌∷◌, ◌++◌, Option, Some, None, Result, Ok, Err, IsTrue, refl, sym, ap, ◌∙◌, subst}
+use Rattle.std.proofs.Common.{◌≡◌, Option, Some, None, Ok, Err, IsTrue, sym, ap, ◌∙◌, subst}
 use Rattle.std.specs.FinMap as finite
 use Rattle.tup_path.specs.Name.{Names}
 use Rattle.tup_path.specs.Tree.{Tree}
 use Rattle.tup_rule.specs.Rule.{among}
 use Rattle.tup_rule.specs.declared.question.Reading.{Reading}
 use Rattle.tup_vars.specs.Table.{Entries}
-use Rattle.tup_folders.specs.Answers.{Readings}
 use Rattle.tup_folders.specs.Readings.{AreRead, WaitsFor}
 use Rattle.tup_folders.specs.Sources.{has_tupfile}
-use Rattle.tup_folders.specs.State.{IsWork, IsLast, IsNext, Notes, Begins, Closes}
+use Rattle.tup_folders.specs.State.{IsLast, IsNext, Notes, Begins, Closes}
 use Rattle.tup_folders.specs.declared.fault.FoldersFault.{FoldersFault}
 use Rattle.tup_folders.specs.declared.work.Work.{Work}
 use Rattle.tup_folders.proofs.Lines.{among_last}
 use Rattle.tup_folders.proofs.Working.{started, last_has, noted, goes_on, first_fault, closes_circle}
 use Rattle.tup_graph.specs.Graph.{GraphState}
 use Rattle.tup_refresh.specs.declared.walk.Walk.{Walk}
-use Rattle.tup_refresh.specs.declared.found.Found.TheVariants.{Stands, Read, Waits}
+use Rattle.tup_refresh.specs.declared.found.Found.TheVariants.{Stands, Read}
 use Rattle.tup_refresh.specs.Found.{HasFound, IsFault}
 use Rattle.tup_refresh.specs.Refresh.{kept_reading}
 use Rattle.tup_refresh.specs.Walk.{AreParted, IsWalk, IsStart, NotesFresh}

@@ -1,6 +1,6 @@
 -- What a refresh is: reading a project again where a graph keeps what its folders were read as (own). That what was told is
 -- compared, and a folder is read again only where it differs, is from Mike Shal, "Build System Rules and Algorithms" (2009).
-use Rattle.std.specs.Prelude.{◌≡◌, ◌≢◌, ◌⊎◌, ◌↔◌, Bool, not, if◌then◌else◌, List, [], Option, Some, None, option_map, Result, Ok, Err, Contains, IsTrue, IsSome, map, filter}
+use Rattle.std.specs.Prelude.{◌≡◌, ◌≢◌, ◌⊎◌, ◌↔◌, not, if◌then◌else◌, List, [], Option, Some, None, option_map, Result, Ok, Err, Contains, IsTrue, IsSome, map, filter}
 use Rattle.std.specs.FinMap as finite
 use Rattle.tup_path.specs.Name.{Names, Content}
 use Rattle.tup_path.specs.Order.{by_names}

@@ -5,16 +5,18 @@ ghost use Rattle.tup_graph.specs.Graph.{is_rule as is_rule_of};
 ghost use Rattle.tup_ledger.specs.Sources.{HaveNoFiles};
 ghost use Rattle.tup_site.specs.Memory.{tree_in};
 
+use crate::field::joined;
 use crate::graph::store;
 use crate::say::Say;
 use crate::scan::seen;
 use crate::sites::site_with;
+use crate::swap::{are_by_folder, is_one, news};
 use crate::transaction::{number, numbers, paths, run};
 use std::alloc::Global;
 use tup_graph::GraphFault;
 use tup_kept::Graph;
-use tup_ledger::{give_up, own};
-use tup_note::note_scan;
+use tup_ledger::{Begun, begin as begin_project, give_up, own};
+use tup_note::{note_scan, swap_rules};
 use tup_path::Path;
 use tup_rows::{Answers, RowFault, Words};
 use tup_site::{MemSite, Site};
@@ -22,6 +24,9 @@ use tup_site::{MemSite, Site};
 /// How many calls a site has answered when a graph of it makes a transaction: the store is written
 /// and synced, and then synced, measured and read.
 const BEFORE_A_TRANSACTION: u64 = 5;
+
+/// How many calls a site has answered before its store is read: it is written and synced.
+const BEFORE_A_STORE_IS_READ: u64 = 2;
 
 /// Transactions on graphs over sites in memory, whose store and failures are set by rows.
 #[derive(Drop)]
@@ -36,6 +41,7 @@ impl Answers for KeptGraphs {
             "graph" => self.set_store(alloc, said),
             "failing" => self.set_fails(alloc, said),
             "make" => make(alloc, said, &self.fails),
+            "init" => self.init(alloc, said),
             _ => self.transaction(alloc, call, said),
         })
     }
@@ -68,6 +74,16 @@ impl KeptGraphs {
         Words::done(alloc)
     }
 
+    /// Begins a project over these bytes of a store.
+    fn init(&self, alloc: Global, said: &Words) -> Words {
+        let fails = behind(alloc, said, &self.fails, BEFORE_A_STORE_IS_READ);
+        let store = joined(alloc, said, said.as_slice());
+        match site_with(alloc, &store, fails) {
+            Ok(mut site) => begun_in(alloc, &mut site),
+            Err(fault) => Words::none(alloc, fault),
+        }
+    }
+
     /// Opens the store, and makes a transaction.
     fn transaction(&self, alloc: Global, call: &str, said: &Words) -> Words {
         let fails = behind(alloc, said, &self.fails, BEFORE_A_TRANSACTION);
@@ -90,6 +106,25 @@ fn behind(alloc: Global, said: &Words, numbers: &[u64], calls: u64) -> Vec<u64> 
         }
     }
     later
+}
+
+/// How a project begins after how many calls of the site, and the store then.
+fn begun_in(alloc: Global, site: &mut MemSite) -> Words {
+    let begun = begin_project(alloc, site);
+    let calls = site.calls().saturating_sub(BEFORE_A_STORE_IS_READ);
+    let mut words = Words::shown(alloc, &calls);
+    add_beginning(alloc, &mut words, begun);
+    words.put(alloc, site.store());
+    words
+}
+
+/// Adds how a project began.
+fn add_beginning(alloc: Global, words: &mut Words, begun: Result<Begun, GraphFault>) {
+    match begun {
+        Ok(Begun::Made) => words.put(alloc, b"made"),
+        Ok(Begun::WasThere) => words.put(alloc, b"was there"),
+        Err(fault) => add_end(alloc, words, Err(fault)),
+    }
 }
 
 /// The graph of a store that was made.
@@ -131,6 +166,7 @@ fn made(alloc: Global, call: &str, said: &Words, site: &mut MemSite) -> Made {
         "forget" => forget(alloc, said, site),
         "flag" => flag(alloc, said, site),
         "scan" => scan(alloc, said, site),
+        "swap" => swap(alloc, said, site),
         "own" => own_paths(alloc, said, site),
         "give_up" => give_up_paths(alloc, said, site),
         _ => nothing(alloc, said, site),
@@ -192,6 +228,17 @@ fn scan<S: Site>(alloc: Global, said: &Words, site: &mut S) -> Made {
     let mut graph = Graph::open(alloc, site)?;
     let seen = seen(alloc, said, said.len() / 2);
     let ended = note_scan(alloc, &mut graph, site, &seen);
+    Ok((graph, ended))
+}
+
+/// Opens a store, and swaps its rules: to one new reading at most, and to rules in the order of their folders.
+fn swap<S: Site>(alloc: Global, said: &Words, site: &mut S) -> Made {
+    let mut graph = Graph::open(alloc, site)?;
+    let (fresh, rules) = news(alloc, said, said.as_slice());
+    if !is_one(&fresh) || !are_by_folder(rules.as_slice()) {
+        return Ok((graph, unmade(said, RowFault::OtherKind)));
+    }
+    let ended = swap_rules(alloc, &mut graph, site, &fresh, rules.as_slice());
     Ok((graph, ended))
 }
 

@@ -13,6 +13,7 @@ mod record;
 mod say;
 mod scan;
 mod sites;
+mod swap;
 mod table;
 mod transaction;
 mod values;
@@ -36,5 +37,6 @@ fn main(rt: HostRuntime) -> io::Result<()> {
     try_file_by(&rt, alloc, "site.rows", Sites::new(alloc))?;
     try_file(&rt, alloc, "graph.rows", &mut Graphs)?;
     try_file(&rt, alloc, "scan.rows", &mut Graphs)?;
+    try_file(&rt, alloc, "swap.rows", &mut Graphs)?;
     try_file_by(&rt, alloc, "kept.rows", KeptGraphs::new(alloc))
 }

@@ -5,6 +5,7 @@ use crate::changes::add_changes;
 use crate::field::joined;
 use crate::graph::{add_commit, add_graph, store};
 use crate::scan::scanned;
+use crate::swap::swapped;
 use std::alloc::Global;
 use tup_above::runs_are_of_rules;
 use tup_field::{Field, Reader};
@@ -138,6 +139,7 @@ fn edits(
         "forget" => graph.forget(alloc, &paths(alloc, said, arguments.len())),
         "flag" => graph.flag(alloc, &numbers(alloc, said, arguments.len())),
         "scan" => scanned(alloc, said, graph, arguments.len()),
+        "swap" => swapped(alloc, said, graph, arguments),
         _ => none(alloc, said, RowFault::NoSuchCall),
     }
 }

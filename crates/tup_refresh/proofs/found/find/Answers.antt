@@ -1,4 +1,4 @@
-use Rattle.std.proofs.Common.{inl, Option, Some, sym, subst}
+use Rattle.std.proofs.Common.{inl, Option, sym, subst}
 use Rattle.tup_rule.specs.declared.question.Reading.{Reading}
 use Rattle.tup_refresh.specs.Found.{HasFound}
 use Rattle.tup_refresh.specs.Refresh.{kept_reading}

@@ -1,0 +1,60 @@
+//! How a project begins.
+ghost use Rattle.std.specs.Prelude.{◌≡◌, ◌++◌, ◌∷◌, [], IsTrue, OnOk, Ok};
+ghost use Rattle.tup_site.specs.Crash.{GoesOn, PinsStore, WriteStep};
+ghost use Rattle.tup_site.specs.World.{TreeStays};
+ghost use Rattle.tup_table.specs.Store.{header};
+ghost use Rattle.tup_kept.specs.Cause.{CountsFaults, OnlyOutside};
+ghost use Rattle.tup_ledger.specs.Begin.{Begins, BeginStep};
+
+use std::alloc::Global;
+use tup_graph::GraphFault;
+use tup_kept::Graph;
+use tup_site::Site;
+
+/// How a project began.
+#[derive(Clone, Copy, Debug, PartialEq, Eq)]
+pub enum Begun {
+    /// There was no store, and now there is one, which owns nothing.
+    Made,
+    /// There was a store already; it is as it was.
+    WasThere,
+}
+
+/// Begins a project: makes its store where there is none. Where bytes stand that are no store, it names the place of
+/// their damage. No file of the tree is touched.
+///
+/// A refusal that comes while the store is made, or a crash then, may leave any bytes in it.
+pub fn begin<S: Site>(alloc: Global, site: &mut S) -> Result<Begun, GraphFault>
+    ensures begins { IsTrue S.tells → Begins (S.world site.old) (S.world site.new) result }
+    ensures tree { IsTrue S.tells → TreeStays (S.world site.old) (S.world site.new) }
+    ensures durable { IsTrue S.tells → OnOk result
+        (PinsStore (S.left_since site.new (S.moment site.new)) (S.world site.new)) }
+    ensures crash { IsTrue S.tells → GoesOn S.moment S.left_since site.old site.new
+        (BeginStep (S.world site.old)) }
+    ensures known { IsTrue S.tells → S.known site.new ≡ S.known site.old }
+    ensures cause { CountsFaults (S.faults site.old) (S.faults site.new) result }
+{
+    match Graph::open(alloc, site) {
+        Ok(_) => Ok(Begun::WasThere),
+        Err(GraphFault::NotThere) => make(alloc, site),
+        Err(fault) => Err(fault),
+    }
+}
+
+/// Makes a store where there is none.
+fn make<S: Site>(alloc: Global, site: &mut S) -> Result<Begun, GraphFault>
+    requires { IsTrue S.tells → (S.world site.old).store ≡ [] }
+    ensures made { OnOk result (result ≡ Ok Begun.Made) }
+    ensures store { IsTrue S.tells → OnOk result ((S.world site.new).store ≡ header ++ 0 ∷ []) }
+    ensures tree { IsTrue S.tells → TreeStays (S.world site.old) (S.world site.new) }
+    ensures durable { IsTrue S.tells → OnOk result
+        (PinsStore (S.left_since site.new (S.moment site.new)) (S.world site.new)) }
+    ensures crash { IsTrue S.tells
+        → GoesOn S.moment S.left_since site.old site.new (WriteStep 0 9) }
+    ensures known { IsTrue S.tells → S.known site.new ≡ S.known site.old }
+    ensures outside { OnlyOutside result }
+    ensures cause { CountsFaults (S.faults site.old) (S.faults site.new) result }
+{
+    Graph::make(alloc, site)?;
+    Ok(Begun::Made)
+}

@@ -1,0 +1,87 @@
+//! What is new, as a row says it.
+ghost use Rattle.std.specs.Prelude.{◌≡◌, ◌↔◌, IsTrue, map};
+ghost use Rattle.std.specs.List.{IsDistinct};
+ghost use Rattle.std.specs.declared.cmp.Ordering.TheVariants.{Greater};
+ghost use Rattle.tup_path.specs.Order.{by_names, same_path};
+ghost use Rattle.tup_swap.specs.Edits.{dir_of};
+ghost use Rattle.tup_swap.specs.Order.{AreByFolder};
+
+use std::alloc::Global;
+use std::cmp::Ordering;
+use tup_graph::{Edits, GraphFault, Nodes};
+use tup_path::{Bytes, Items};
+use tup_record::{Record, decode};
+use tup_rows::{RowFault, Words};
+use tup_rule::{Rule, Rules};
+use tup_swap::{Refreshed, swap_rules};
+
+/// The edits of a swap to the readings and rules that pairs of words spell as records.
+pub fn swapped(
+    alloc: Global,
+    said: &Words,
+    graph: &Nodes,
+    pairs: &[Vec<u8>],
+) -> Result<Edits, GraphFault> {
+    let (fresh, rules) = news(alloc, said, pairs);
+    swap_rules(alloc, graph, &fresh, rules.as_slice())
+}
+
+/// The readings and rules that pairs of words spell as records; a Create record stands for a folder that is gone.
+pub fn news(alloc: Global, said: &Words, pairs: &[Vec<u8>]) -> (Refreshed, Rules) {
+    let mut fresh = Refreshed {
+        readings: Items::new(alloc),
+        gone: Items::new(alloc),
+    };
+    let mut rules = Items::new(alloc);
+    for pair in pairs.chunks(2) {
+        take(alloc, said, &mut fresh, &mut rules, pair);
+    }
+    (fresh, rules)
+}
+
+/// Whether there is one reading at most.
+pub fn is_one(fresh: &Refreshed) -> bool
+    ensures { IsTrue result → IsDistinct same_path (map dir_of fresh.now.readings) }
+{
+    fresh.readings.len() < 2
+}
+
+/// Whether rules are in the order of their folders.
+pub fn are_by_folder(rules: &[Rule]) -> bool
+    ensures { IsTrue result → AreByFolder rules.now }
+{
+    for at in 1..rules.len() {
+        if is_behind(&rules[at - 1], &rules[at]) {
+            return false;
+        }
+    }
+    true
+}
+
+/// Whether the folder of a rule comes behind that of another.
+fn is_behind(rule: &Rule, other: &Rule) -> bool
+    ensures { IsTrue result ↔ (by_names rule.now.dir other.now.dir ≡ Greater) }
+{
+    match rule.dir.cmp(&other.dir) {
+        Ordering::Greater => true,
+        _ => false,
+    }
+}
+
+fn take(alloc: Global, said: &Words, fresh: &mut Refreshed, rules: &mut Rules, pair: &[Vec<u8>]) {
+    match record(alloc, pair) {
+        Some(Record::Reading { dir, reading }) => said.list(&mut fresh.readings, (dir, reading)),
+        Some(Record::Create { dir }) => said.list(&mut fresh.gone, dir),
+        Some(Record::Rule { rule, .. }) => said.list(rules, rule),
+        _ => said.fail(RowFault::OtherKind),
+    }
+}
+
+fn record(alloc: Global, pair: &[Vec<u8>]) -> Option<Record> {
+    let [key, value] = pair else {
+        return None;
+    };
+    let key = Bytes::new(Vec::from_slice(alloc, key).ok()?);
+    let value = Bytes::new(Vec::from_slice(alloc, value).ok()?);
+    decode(alloc, &key, &value).ok()
+}

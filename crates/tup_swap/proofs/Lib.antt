@@ -1,0 +1,10 @@
+mod Pushing
+mod Puts
+mod Leaving
+mod Swapping
+mod Taking
+mod Numbered
+mod Looked
+mod Owning
+mod Kept
+mod Placing

@@ -1,0 +1,97 @@
+-- The edits that a swap of rules makes of a graph (own).
+use Rattle.std.specs.Prelude.{◌≡◌, ◌⊎◌, ◌↔◌, ℕ, suc, List, [], ◌∷◌, ◌++◌, Option, Some, Contains, length, map, filter_map, option_map, count_by, slice_get}
+use Rattle.std.specs.FinMap as finite
+use Rattle.tup_path.specs.Name.{Names}
+use Rattle.tup_path.specs.Order.{by_names, same_path}
+use Rattle.tup_rule.specs.declared.question.Reading.{Reading}
+use Rattle.tup_rule.specs.declared.rule.Rule.{Rule}
+use Rattle.tup_record.specs.declared.record.Record.TheVariants as records
+use Rattle.tup_record.specs.declared.run.RunRecord.{RunRecord}
+use Rattle.tup_graph.specs.declared.edit.Edit.{Edit}
+use Rattle.tup_graph.specs.declared.edit.Edit.TheVariants.{Put, Remove}
+use Rattle.tup_graph.specs.declared.owned.Owned.{Owned}
+use Rattle.tup_graph.specs.Above.{IsAbove}
+use Rattle.tup_graph.specs.Edits.{edited_by}
+use Rattle.tup_graph.specs.Graph.{GraphState, empty_graph}
+use Rattle.tup_graph.specs.Swap.{WasAt, owned_now, IsFlaggedYet, ReadsNew}
+use Rattle.tup_graph.specs.Transactions.{flag_edits}
+
+-- ---- nothing is flagged, to be read, owned or recorded of a run
+abbrev pub unflag : ℕ × Unit {0} → Edit
+unflag flag = Remove (records.Modify flag.0)
+
+abbrev pub uncreate : Names × Unit {0} → Edit
+uncreate created = Remove (records.Create created.0)
+
+abbrev pub unown : Names × Owned → Edit
+unown owned = Remove (records.Owned owned.0 owned.1.maker owned.1.state)
+
+abbrev pub unrun : ℕ × RunRecord → Edit
+unrun run = Remove (records.Run run.0 run.1)
+
+abbrev pub clear_edits : GraphState → List Edit
+clear_edits g = map unflag (finite.entries g.flags) ++ map uncreate (finite.entries g.created) ++ map unown (finite.entries g.owned) ++ map unrun (finite.entries g.runs)
+
+-- ---- readings of folders are gone, and others are new
+abbrev pub unread : GraphState → Names → Option Edit
+unread g dir = option_map (λ (reading : Reading). Remove (records.Reading dir reading)) (finite.get g.readings dir)
+
+-- the folder of a reading
+abbrev pub dir_of : Names × Reading → Names
+dir_of one = one.0
+
+abbrev pub read_so : Names × Reading → Edit
+read_so one = Put (records.Reading one.0 one.1)
+
+abbrev pub reading_edits : GraphState → List (Names × Reading) → List Names → List Edit
+reading_edits g fresh gone = filter_map (unread g) gone ++ map read_so fresh
+
+-- ---- a rule goes, and a rule comes
+abbrev pub rule_less : ℕ → Rule → Edit
+rule_less number rule = Remove (records.Rule number 0 rule)
+
+abbrev pub rule_more : ℕ → ℕ → Rule → Edit
+rule_more number place rule = Put (records.Rule number place rule)
+
+-- rules go, the last one first, where the first one has this number
+abbrev pub less_edits : ℕ → List Rule → List Edit
+less_edits number [] = []
+less_edits number (rule ∷ rules) = less_edits (suc number) rules ++ rule_less number rule ∷ []
+
+-- rules come behind others, each with its place among those of its folder
+abbrev pub place_behind : List Rule → Rule → ℕ
+place_behind before rule = count_by (λ (other : Rule). same_path other.dir rule.dir) before
+
+abbrev pub more_edits : List Rule → List Rule → List Edit
+more_edits before [] = []
+more_edits before (rule ∷ rules) = rule_more (length before) (place_behind before rule) rule ∷ more_edits (before ++ rule ∷ []) rules
+
+-- ---- rules have these records, and paths are owned so
+abbrev pub run_so : ℕ × RunRecord → Edit
+run_so run = Put (records.Run run.0 run.1)
+
+abbrev pub own_so : Names × Owned → Edit
+own_so owned = Put (records.Owned owned.0 owned.1.maker owned.1.state)
+
+-- a rule that is the same has the record that it had
+abbrev pub IsRunNow : GraphState → List Rule → ℕ → RunRecord → Type 0
+IsRunNow g rules number run =
+    (rule : Rule) × (before : ℕ) × (slice_get rules number ≡ Some rule) × WasAt g rule before × (finite.get g.runs before ≡ Some run)
+
+-- the graph of rules and records of runs alone
+abbrev pub led_by : List Rule → List (ℕ × RunRecord) → GraphState
+led_by rules runs = edited_by empty_graph (more_edits [] rules ++ map run_so runs)
+
+-- a rule that is to be run: as it is itself, or by what is recorded of reads
+abbrev pub IsToRun : GraphState → GraphState → ℕ → Type 0
+IsToRun g led number = IsFlaggedYet g led number ⊎ IsAbove led (ReadsNew g led) number
+
+-- all of it
+pub record AreSwapEdits (g : GraphState) (fresh : List (Names × Reading)) (gone : List Names) (rules : List Rule) (edits : List Edit) : Type 0 where
+  pub runs : List (ℕ × RunRecord)
+  pub owned : finite.FinMap by_names Owned
+  pub flags : List ℕ
+  pub runs_are : (number : ℕ) (run : RunRecord) → Contains runs (number, run) ↔ IsRunNow g rules number run
+  pub owned_are : (path : Names) → finite.get owned path ≡ owned_now rules path (finite.get g.owned path)
+  pub flags_are : (number : ℕ) → Contains flags number ↔ IsToRun g (led_by rules runs) number
+  pub all : edits ≡ clear_edits g ++ reading_edits g fresh gone ++ less_edits 0 g.rules ++ more_edits [] rules ++ map run_so runs ++ map own_so (finite.entries owned) ++ flag_edits flags

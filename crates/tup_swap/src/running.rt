@@ -1,0 +1,197 @@
+//! Which rules are to be run after a swap.
+ghost use Rattle.std.specs.Prelude.{◌≡◌, ◌↔◌, ◌++◌, ℕ, Contains, IfOk, IfErr, OnOk};
+ghost use Rattle.tup_above.specs.Readers.{AreRunsOfRules};
+ghost use Rattle.tup_swap.specs.Before.{AreNumbersBefore};
+ghost use Rattle.tup_swap.specs.Edits.{IsToRun, led_by};
+ghost use Rattle.tup_swap.specs.Numbered.{numbered};
+ghost use Rattle.tup_swap.specs.Running.{flag_at, is_new_at, readers_at, readers_of, run_at, was_flagged};
+
+use crate::before::number_of;
+use crate::putting::{push_more, push_runs};
+use std::alloc::Global;
+use tup_above::Readers;
+use tup_graph::{Edits, GraphFault, Nodes};
+use tup_path::{Items, Path};
+use tup_record::RunRecord;
+use tup_rule::Rule;
+
+/// The records of runs that rules keep, under the numbers that they have now.
+pub(crate) fn runs_now(
+    alloc: Global,
+    nodes: &Nodes,
+    befores: &[Option<u32>],
+) -> Result<Items<(u32, RunRecord)>, GraphFault>
+    ensures runs { IfOk result (λ runs. runs ≡ numbered (run_at nodes.now) 0 befores.now) }
+    ensures memory { IfErr result (λ fault. fault ≡ GraphFault.Memory) }
+{
+    let mut runs = Items::new(alloc);
+    for (at, before) in befores.iter().enumerate() {
+        push_run(&mut runs, nodes, *before, number_of(at)?)?;
+    }
+    Ok(runs)
+}
+
+/// The record that a rule had, under the number that it has now.
+fn push_run(
+    runs: &mut Items<(u32, RunRecord)>,
+    nodes: &Nodes,
+    before: Option<u32>,
+    number: u32,
+) -> Result<(), GraphFault>
+    ensures ok { OnOk result (runs.new ≡ runs.old ++ run_at nodes.now number before) }
+    ensures err { IfErr result (λ fault. fault ≡ GraphFault.Memory) }
+{
+    if let Some(before) = before {
+        if let Some(run) = nodes.run_of(before) {
+            runs.push((number, run.clone()?))?;
+        }
+    }
+    Ok(())
+}
+
+/// The graph of the rules and of the records that they keep.
+pub(crate) fn led(
+    alloc: Global,
+    rules: &[Rule],
+    runs: &[(u32, RunRecord)],
+) -> Result<Nodes, GraphFault>
+    ensures led { IfOk result (λ led. led ≡ led_by rules.now runs.now) }
+    ensures memory { IfErr result (λ fault. fault ≡ GraphFault.Memory) }
+{
+    let mut edits = Items::new(alloc);
+    push_more(alloc, &mut edits, rules)?;
+    push_runs(&mut edits, runs)?;
+    let mut led = Nodes::empty(alloc);
+    led.edit_all(alloc, edits)?;
+    Ok(led)
+}
+
+/// The rules that are to be run: those whose records ask an output of a new one, and all that recorded reads lead to from
+/// them; new ones, and those that were flagged.
+pub(crate) fn to_run(
+    alloc: Global,
+    nodes: &Nodes,
+    led: &Nodes,
+    befores: &[Option<u32>],
+) -> Result<Items<u32>, GraphFault>
+    requires befores { AreNumbersBefore nodes.now led.now.rules befores.now }
+    requires runs { AreRunsOfRules led.now }
+    ensures flags { IfOk result (λ flags. (number : ℕ)
+        → Contains flags number ↔ IsToRun nodes.now led.now number) }
+    ensures memory { IfErr result (λ fault. fault ≡ GraphFault.Memory) }
+{
+    let readers = Readers::new(alloc, led)?;
+    let roots = readers_of_new(alloc, led.rules(), &readers, befores)?;
+    let mut flags = readers.above(alloc, led, roots.as_slice())?;
+    push_flagged(&mut flags, nodes, befores)?;
+    Ok(flags)
+}
+
+/// The rules whose records ask an output of a new one.
+fn readers_of_new(
+    alloc: Global,
+    rules: &[Rule],
+    readers: &Readers,
+    befores: &[Option<u32>],
+) -> Result<Items<u32>, GraphFault>
+    ensures ok { IfOk result (λ found. found
+        ≡ numbered (readers_at readers.now befores.now) 0 rules.now) }
+    ensures err { IfErr result (λ fault. fault ≡ GraphFault.Memory) }
+{
+    let mut found = Items::new(alloc);
+    for (at, rule) in rules.iter().enumerate() {
+        push_if_new(&mut found, readers, befores, at, rule)?;
+    }
+    Ok(found)
+}
+
+/// The rules whose records ask an output of the rule at a place, if that is new.
+fn push_if_new(
+    found: &mut Items<u32>,
+    readers: &Readers,
+    befores: &[Option<u32>],
+    at: usize,
+    rule: &Rule,
+) -> Result<(), GraphFault>
+    ensures ok { OnOk result (found.new
+        ≡ found.old ++ readers_at readers.now befores.now at rule.now) }
+    ensures err { IfErr result (λ fault. fault ≡ GraphFault.Memory) }
+{
+    if is_new(befores, at) {
+        push_readers(found, readers, rule.outputs.as_slice())?;
+    }
+    Ok(())
+}
+
+/// Whether the rule at a place is new.
+fn is_new(befores: &[Option<u32>], at: usize) -> bool
+    ensures { result ≡ is_new_at befores.now at }
+{
+    match befores.get(at) {
+        Some(before) => before.is_none(),
+        None => false,
+    }
+}
+
+/// The rules whose records ask one of some paths.
+fn push_readers(found: &mut Items<u32>, readers: &Readers, paths: &[Path]) -> Result<(), GraphFault>
+    ensures ok { OnOk result (found.new ≡ found.old ++ readers_of readers.now paths.now) }
+    ensures err { IfErr result (λ fault. fault ≡ GraphFault.Memory) }
+{
+    for path in paths {
+        push_all(found, readers.of(path))?;
+    }
+    Ok(())
+}
+
+fn push_all(found: &mut Items<u32>, numbers: &[u32]) -> Result<(), GraphFault>
+    ensures ok { OnOk result (found.new ≡ found.old ++ numbers.now) }
+    ensures err { IfErr result (λ fault. fault ≡ GraphFault.Memory) }
+{
+    for number in numbers {
+        found.push(*number)?;
+    }
+    Ok(())
+}
+
+/// Rules that are new, and those that were flagged.
+fn push_flagged(
+    flags: &mut Items<u32>,
+    nodes: &Nodes,
+    befores: &[Option<u32>],
+) -> Result<(), GraphFault>
+    ensures ok { OnOk result (flags.new
+        ≡ flags.old ++ numbered (flag_at nodes.now) 0 befores.now) }
+    ensures err { IfErr result (λ fault. fault ≡ GraphFault.Memory) }
+{
+    for (at, before) in befores.iter().enumerate() {
+        push_if_flagged(flags, nodes, *before, number_of(at)?)?;
+    }
+    Ok(())
+}
+
+/// A rule, if it is new or was flagged.
+fn push_if_flagged(
+    flags: &mut Items<u32>,
+    nodes: &Nodes,
+    before: Option<u32>,
+    number: u32,
+) -> Result<(), GraphFault>
+    ensures ok { OnOk result (flags.new ≡ flags.old ++ flag_at nodes.now number before) }
+    ensures err { IfErr result (λ fault. fault ≡ GraphFault.Memory) }
+{
+    if is_flagged(nodes, before) {
+        flags.push(number)?;
+    }
+    Ok(())
+}
+
+/// Whether a rule that had this number is new, or was flagged.
+fn is_flagged(nodes: &Nodes, before: Option<u32>) -> bool
+    ensures { result ≡ was_flagged nodes.now before }
+{
+    match before {
+        Some(before) => nodes.flagged(before),
+        None => true,
+    }
+}
