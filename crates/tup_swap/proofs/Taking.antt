@@ -123,15 +123,17 @@ less_taken h n [] is many level all = tt
 less_taken h n (rule ∷ rules) is many level all =
     then h (with_first h (suc n)) (less_edits (suc n) rules) (rule_less n rule ∷ [])
     (less_taken h (suc n) rules is (omega (arith, many)) (omega (arith, level)) (front (less_edits (suc n) rules) (rule_less n rule ∷ []) all))
-    (less_leaves h (suc n) rules (omega (arith, many)) (omega (arith, level)))
-    (inr (record {
-      number = n;
-      place = 0;
-      rule = rule;
-      bare = bare_first h (suc n) is;
-      spelled = (rest (less_edits (suc n) rules) (rule_less n rule ∷ []) all).0;
-      one = inl (refl, length-take-le (suc n) h.rules (omega (arith, many)));
-    }), tt)
+    (less_leaves h (suc n) rules (omega (arith, many)) (omega (arith, level))) (
+      inr (record {
+        number = n;
+        place = 0;
+        rule = rule;
+        bare = bare_first h (suc n) is;
+        spelled = (rest (less_edits (suc n) rules) (rule_less n rule ∷ []) all).0;
+        one = inl (refl, length-take-le (suc n) h.rules (omega (arith, many)));
+      }),
+      tt,
+    )
 
 -- ---- rules come
 places_more : (before rules : List Rule) (rule : Rule) → places_behind before (rules ++ rule ∷ []) ≡ places_behind before rules ++ place_behind (before ++ rules) rule ∷ []
@@ -202,9 +204,12 @@ more_taken h before (rule ∷ rules) is here level ordered all = (
     rule = rule;
     bare = is;
     spelled = all.0;
-    one = inr (refl, both_true (eqb (length before) (length h.rules)) (comes_behind (last_of h.rules) (last_of h.places) rule (place_behind before rule))
-        (eq-eqb (length before) (length h.rules) (sym (ap length here)))
-        (ap (λ (x : List Rule × List ℕ). comes_behind (last_of x.0) (last_of x.1) rule (place_behind before rule)) (λ i. (here i, level i)) ∙ rule_fits before rules rule ordered));
+    one = inr (
+      refl,
+      both_true (eqb (length before) (length h.rules)) (comes_behind (last_of h.rules) (last_of h.places) rule (place_behind before rule))
+          (eq-eqb (length before) (length h.rules) (sym (ap length here)))
+          (ap (λ (x : List Rule × List ℕ). comes_behind (last_of x.0) (last_of x.1) rule (place_behind before rule)) (λ i. (here i, level i)) ∙ rule_fits before rules rule ordered),
+    );
   }),
   more_taken (edited h (rule_more (length before) (place_behind before rule) rule)) (before ++ rule ∷ []) rules
       (record { runs = is.runs; owned = is.owned; created = is.created; flags = is.flags })

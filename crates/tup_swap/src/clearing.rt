@@ -91,11 +91,7 @@ fn unrun(number: u32, run: &RunRecord) -> Result<Edit, GraphFault>
 }
 
 /// The readings of some folders are gone.
-pub(crate) fn push_unread(
-    edits: &mut Edits,
-    nodes: &Nodes,
-    gone: &[Path],
-) -> Result<(), GraphFault>
+pub(crate) fn push_unread(edits: &mut Edits, nodes: &Nodes, gone: &[Path]) -> Result<(), GraphFault>
     ensures ok { OnOk result (edits.new
         ≡ edits.old ++ filter_map (unread_of nodes.now) gone.now) }
     ensures err { IfErr result (λ fault. fault ≡ GraphFault.Memory) }

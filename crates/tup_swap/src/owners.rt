@@ -49,11 +49,7 @@ fn unmade_one(owned: &Owned) -> Owned
 }
 
 /// A rule makes its outputs, but for those that another one makes.
-fn add_outputs(
-    owned: &mut ByPath<Owned>,
-    outputs: &[Path],
-    number: u32,
-) -> Result<(), GraphFault>
+fn add_outputs(owned: &mut ByPath<Owned>, outputs: &[Path], number: u32) -> Result<(), GraphFault>
     ensures ok { OnOk result (owned.new ≡ fold (with_output number) owned.old outputs.now) }
     ensures memory { IfErr result (λ fault. fault ≡ GraphFault.Memory) }
 {

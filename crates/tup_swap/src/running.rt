@@ -134,11 +134,7 @@ fn is_new(befores: &[Option<u32>], at: usize) -> bool
 }
 
 /// The rules whose records ask one of some paths.
-fn push_readers(
-    found: &mut Items<u32>,
-    readers: &Readers,
-    paths: &[Path],
-) -> Result<(), GraphFault>
+fn push_readers(found: &mut Items<u32>, readers: &Readers, paths: &[Path]) -> Result<(), GraphFault>
     ensures ok { OnOk result (found.new ≡ found.old ++ readers_of readers.now paths.now) }
     ensures err { IfErr result (λ fault. fault ≡ GraphFault.Memory) }
 {

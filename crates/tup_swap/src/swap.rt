@@ -46,7 +46,14 @@ pub fn swap_rules(
     let owned = owned_now(alloc, nodes, rules)?;
     let mut edits = Items::new(alloc);
     push_away(&mut edits, nodes, fresh)?;
-    push_now(alloc, &mut edits, rules, runs.as_slice(), &owned, flags.as_slice())?;
+    push_now(
+        alloc,
+        &mut edits,
+        rules,
+        runs.as_slice(),
+        &owned,
+        flags.as_slice(),
+    )?;
     Ok(edits)
 }
 

@@ -7,7 +7,7 @@ pub loop-number-preserved : goal.loop-number-preserved
 loop-number-preserved c =
     below_more _ _ c.loop-number.invariant
     (λ at. let here : c.is_same.result ≡ true = c.is_same.ensures.1 (ap (λ (l : List Rule). slice_get l (slice_index c.of-number-items.result.now c.loop-number.number-index)) c.rules.ensures ∙ at) in
-      let wrong : true ≡ false = sym here ∙ c.if-is_same.false in cc)
+    let wrong : true ≡ false = sym here ∙ c.if-is_same.false in cc)
 
 pub returns-then-is_same : goal.returns-then-is_same
 returns-then-is_same c =

@@ -1,0 +1,91 @@
+//! What a refresh gave, as words.
+use std::alloc::Global;
+use tup_ask::ParseFault;
+use tup_folders::FoldersFault;
+use tup_path::{Items, Path};
+use tup_refresh::Refreshed;
+use tup_rows::Words;
+use tup_rule::{Draft, Reading};
+
+/// Whether all is as where all folders are read, then the folders that were read and those that are
+/// gone, and all rules; or why there are no readings.
+pub(crate) fn shown(
+    alloc: Global,
+    found: &Result<Refreshed, FoldersFault>,
+    whole: &Result<Items<(Path, Reading)>, FoldersFault>,
+) -> Words {
+    match (found, whole) {
+        (Ok(given), Ok(readings)) => {
+            let mut words = same(alloc, given.all == *readings);
+            add_given(alloc, &mut words, given);
+            words
+        }
+        (Err(fault), Err(other)) => refused(alloc, fault, other),
+        _ => same(alloc, false),
+    }
+}
+
+/// A word that says whether two are the same.
+fn same(alloc: Global, same: bool) -> Words {
+    Words::word(alloc, if same { b"same" } else { b"differs" })
+}
+
+/// What was read, what is gone, and all rules.
+fn add_given(alloc: Global, words: &mut Words, given: &Refreshed) {
+    for (dir, _) in given.fresh.as_slice() {
+        words.put(alloc, b"read");
+        words.show(alloc, dir);
+    }
+    for dir in given.gone.as_slice() {
+        words.put(alloc, b"gone");
+        words.show(alloc, dir);
+    }
+    for (_, reading) in given.all.as_slice() {
+        add_rules(alloc, words, reading.drafts.as_slice());
+    }
+}
+
+/// Adds rules: the inputs of each and its outputs.
+fn add_rules(alloc: Global, words: &mut Words, drafts: &[Draft]) {
+    for draft in drafts {
+        words.put(alloc, b"rule");
+        add_paths(alloc, words, draft.inputs.as_slice());
+        words.put(alloc, b"->");
+        add_paths(alloc, words, draft.outputs.as_slice());
+    }
+}
+
+/// Adds paths.
+fn add_paths(alloc: Global, words: &mut Words, paths: &[Path]) {
+    for path in paths {
+        words.show(alloc, path);
+    }
+}
+
+/// A fault, and whether it is that of reading all folders.
+fn refused(alloc: Global, fault: &FoldersFault, other: &FoldersFault) -> Words {
+    match (fault, other) {
+        (FoldersFault::Circular(dirs), FoldersFault::Circular(others)) => {
+            let mut words = same(alloc, dirs == others);
+            words.put(alloc, b"circle");
+            add_paths(alloc, &mut words, dirs.as_slice());
+            words
+        }
+        (FoldersFault::Parse(fault), FoldersFault::Parse(other)) => {
+            let mut words = same(alloc, is_said_alike(alloc, fault, other));
+            words.put(alloc, b"fault");
+            words.show(alloc, fault);
+            words
+        }
+        (FoldersFault::Memory, FoldersFault::Memory) => Words::refusal(alloc, fault),
+        _ => same(alloc, false),
+    }
+}
+
+/// Whether two faults are told in the same words.
+fn is_said_alike(alloc: Global, one: &ParseFault, other: &ParseFault) -> bool {
+    match (format!(in alloc; "{one}"), format!(in alloc; "{other}")) {
+        (Ok(one), Ok(other)) => one == other,
+        _ => false,
+    }
+}
