@@ -131,9 +131,10 @@ stop() {
 
 # What a trace of an update shows of its syncs. Before a file comes or goes the first list is durable, with its folder and the
 # one above. Each file is synced before it is renamed into its place, and so is a list; before the second list is there, all
-# folders above a name that came or went are synced. Behind each list its folder is.
+# folders above a name that came or went are synced, and so they are in the end. Behind each list its folder is. Word: how many
+# lists there are to be.
 unsynced() {
-    awk '
+    awk -v wanted="$1" '
         function above(path) { while (sub(/\/[^\/]*$/, "", path)) waiting[path] }
         function file_changes(path) {
             if (!("./.tup" in synced) || !("." in synced)) print path " comes or goes before the list is durable"
@@ -163,7 +164,8 @@ unsynced() {
             if (!lists++) delete synced["."]
         }
         END {
-            if (lists != 2) print lists + 0 " lists were put into their place, not 2"
+            if (lists != wanted) print lists + 0 " lists were put into their place, not " wanted
+            for (path in waiting) print path " isn\047t durable in the end"
             if (!("./.tup" in synced)) print "the folder of the list isn\047t synced behind it"
         }' "$work/trace"
 }
@@ -181,7 +183,7 @@ try() {
     awk '{ name = $0; sub(/\(.*/, "", name); count[name]++ } /"\.["\/]/ { begun = 1 } begun && name ~ /^[a-z]/ && name !~ /^mmap/ { print name, count[name] }' "$work/trace" > "$work/list"
     what=$1
     [ -s "$work/list" ] || wrong "no call of the update was found"
-    late=$(unsynced)
+    late=$(unsynced 2)
     [ -z "$late" ] || wrong "$late"
     : > "$work/exits"
     while read -r call number; do
@@ -192,6 +194,20 @@ try() {
     sort "$work/exits" | uniq -c | sed 's/^ *\([0-9]*\) /  \1 times /'
 }
 
+# A bad rule: there is no second list, and what was made before it is synced all the same.
+behind_a_bad_rule() {
+    rm -rf "$work/now" && mkdir -p "$work/now/sub" && cd "$work/now" || exit 1
+    what="behind a bad rule"
+    printf 'head\n' > sub/head
+    printf '%s\n' ': head |> cp head top |> top' ': head |> fail 3 |> page' > sub/Tupfile
+    strace -y -o "$work/trace" -e trace="$calls" "$tup" > /dev/null
+    exit=$?
+    [ $exit = 1 ] || wrong "exit $exit, not 1"
+    late=$(unsynced 1)
+    [ -z "$late" ] || wrong "$late"
+}
+
+behind_a_bad_rule
 for project in ${*:-three_rules after_changes shorter_list after_a_kill folders_below}; do try "$project"; done
 
 if [ "$failures" -gt 0 ]; then

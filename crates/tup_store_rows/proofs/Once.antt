@@ -13,6 +13,7 @@ use Rattle.tup_swap.specs.Edits.{dir_of}
 use Rattle.tup_swap.specs.Order.{AreByFolder}
 
 pub once : (fresh : List (Names × Reading)) → length fresh < 2 → IsDistinct same_path (map dir_of fresh)
+unfolding IsDistinct
 once [] few = tt
 once (one ∷ []) few = (tt, tt)
 once (one ∷ other ∷ fresh) few = absurd (omega (arith, few))
