@@ -75,28 +75,36 @@ module _ (next : Next) (language : Language) (known : List Content) (g scanned s
       → slice_get rules other ≡ Some it → writes it path ≡ true → IsReached g tree rules other → IsReached g tree rules number
   further number other before rule it run path given here has asked there wrote (reads, over) = (suc reads, (rule, other, it, before, run, path, given, here, has, asked, there, wrote, over))
 
-  above_reached : (reads before : ℕ) (rule : Rule) → AboveOver reads scanned Root before → IsRuleAt g before rule → (number : ℕ) → slice_get rules number ≡ Some rule → IsReached g tree rules number
-  above_reached zero before rule root here number there = root_reached before rule root here number there
-  above_reached (suc reads) before rule (first, maker, over, maker_here, (path, (run, given, ran, asked), wrote)) here number there = by (is_flagged g before) refl (writes rule path) refl
+  -- who asked an output of a rule all copies of which are reached
+  step_reached : (first before : ℕ) (maker rule : Rule) (run : RunRecord) (path : Names) (given : Option Stamp) → IsRuleAt g first maker → IsRuleAt g before rule → finite.get g.runs before ≡ Some run → Contains run.asks (path, given)
+      → writes maker path ≡ true → ((it : Rule) → IsRuleAt g first it → (at : ℕ) → slice_get rules at ≡ Some it → IsReached g tree rules at) → (number : ℕ) → slice_get rules number ≡ Some rule → IsReached g tree rules number
+  step_reached first before maker rule run path given maker_here here ran asked wrote again number there = by (is_flagged g before) refl (writes rule path) refl
     where
+      has : HasRecord g rule before run
+      has = record { same = here; run_of = ran }
+
+      owned : is_owned g path ≡ true
+      owned = ap is_some (kept.made first maker path maker_here wrote).1
+
       by_maker : (other : ℕ) (it : Rule) → slice_get rules other ≡ Some it → writes it path ≡ true → ((at : ℕ) × WasAt scanned it at) ⊎ IsNew scanned it → IsReached g tree rules number
-      by_maker other it it_there it_wrote (inr fresh_one) =
-          further number other before rule it run path given there (record { same = here; run_of = run_in before run ran }) asked it_there it_wrote (zero, (it, it_there, inl (was_new it fresh_one)))
+      by_maker other it it_there it_wrote (inr fresh_one) = further number other before rule it run path given there has asked it_there it_wrote (zero, (it, it_there, inl (was_new it fresh_one)))
       by_maker other it it_there it_wrote (inl (at, was)) =
           let was_here = rule_in at it was.0 in
-          let at_first : at ≡ first = one_maker at first it maker path was_here (rule_in first maker maker_here) it_wrote wrote in
-          further number other before rule it run path given there (record { same = here; run_of = run_in before run ran }) asked it_there it_wrote
-          (above_reached reads first it over (subst (λ (n : ℕ). IsRuleAt g n it) at_first was_here) other it_there)
+          further number other before rule it run path given there has asked it_there it_wrote
+          (again it (subst (λ (n : ℕ). IsRuleAt g n it) (one_maker at first it maker path was_here maker_here it_wrote wrote) was_here) other it_there)
+
+      made_by_one : (other : ℕ) × (it : Rule) × (slice_get rules other ≡ Some it) × (writes it path ≡ true) → IsReached g tree rules number
+      made_by_one (other, it, it_there, it_wrote) = by_maker other it it_there it_wrote (was_or_new scanned it)
 
       by : (flag : Bool) → is_flagged g before ≡ flag → (own : Bool) → writes rule path ≡ own → IsReached g tree rules number
       by true flagged own mine = root_reached before rule (inl flagged) here number there
-      by false unflagged true mine =
-          above_reached reads first rule over (subst (λ (n : ℕ). IsRuleAt g n rule) (one_maker before first rule maker path here (rule_in first maker maker_here) mine wrote) here) number there
-      by false unflagged false not_mine =
-          let owned = kept.made first maker path (rule_in first maker maker_here) wrote in
-          let declared = kept.declared before rule run path given (record { here = here; unflagged = unflagged }) (run_in before run ran) (asked, not_mine) (ap is_some owned.1) in
-          let by_rule = made number rule path there declared (ap is_some owned.1) in
-          by_maker by_rule.0 by_rule.1 by_rule.2 by_rule.3 (was_or_new scanned by_rule.1)
+      by false unflagged true mine = again rule (subst (λ (n : ℕ). IsRuleAt g n rule) (one_maker before first rule maker path here maker_here mine wrote) here) number there
+      by false unflagged false not_mine = made_by_one (made number rule path there (kept.declared before rule run path given (record { here = here; unflagged = unflagged }) ran (asked, not_mine) owned) owned)
+
+  above_reached : (reads before : ℕ) (rule : Rule) → AboveOver reads scanned Root before → IsRuleAt g before rule → (number : ℕ) → slice_get rules number ≡ Some rule → IsReached g tree rules number
+  above_reached zero before rule root here number there = root_reached before rule root here number there
+  above_reached (suc reads) before rule (first, maker, over, maker_here, (path, (run, given, ran, asked), wrote)) here number there =
+      step_reached first before maker rule run path given (rule_in first maker maker_here) here (run_in before run ran) asked wrote (λ it it_here at it_there. above_reached reads first it over it_here at it_there) number there
 
   rule_of_run : (number : ℕ) (run : RunRecord) → finite.get swapped.runs number ≡ Some run → (rule : Rule) × (slice_get rules number ≡ Some rule)
   rule_of_run number run ran = by (slice_get rules number) refl

@@ -234,20 +234,19 @@ module _ (next : Next) (language : Language) (known : List Content) (g new : Gra
       made_by : Option Owned → Option (Option ℕ)
       made_by o = option_map (λ (one : Owned). one.maker) o
 
+      its_maker : (found : Option ℕ) → maker path rules ≡ found → Some owned.maker ≡ made_by (owned_by found (finite.get g.owned path))
+      its_maker found makes = ap made_by (sym own ∙ owned_if path found makes)
+
+      none_made : (before : Option Owned) → Some owned.maker ≡ made_by (owned_by None before) → ⊥
+      none_made (Some o) same = none-some number (sym (same_Some owned.maker None same) ∙ makes_it)
+      none_made None same = none-some owned.maker (sym same)
+
       by : (found : Option ℕ) → maker path rules ≡ found → (rule : Rule) × IsRuleAt new number rule × (writes rule path ≡ true)
       by (Some other) makes =
-          (let same : Some (record { maker = Some other; state = unwrap_or (option_map (λ (one : Owned). one.state) (finite.get g.owned path)) Never }) ≡ Some owned = sym (owned_if path (Some other) makes) ∙ own in
-          let makers_same : Some other ≡ Some number = ap (λ (o : Owned). o.maker) (same_Some _ owned same) ∙ makes_it in
-          let it = maker-Some rules path number (makes ∙ makers_same) in
+          (let same : Some other ≡ Some number = sym (same_Some owned.maker (Some other) (its_maker (Some other) makes)) ∙ makes_it in
+          let it = maker-Some rules path number (makes ∙ same) in
           (it.rule, stands g new fresh gone rules is number it.rule it.here, it.writes_it))
-      by None makes = absurd (unmade (finite.get g.owned path) refl)
-        where
-          unmade : (before : Option Owned) → finite.get g.owned path ≡ before → ⊥
-          unmade (Some o) was =
-              (let same : Some (record { maker = None; state = o.state }) ≡ Some owned = sym (owned_if path None makes ∙ ap (owned_by None) was) ∙ own in
-              let none : None ≡ Some number = ap (λ (one : Owned). one.maker) (same_Some _ owned same) ∙ makes_it in
-              none-some number none)
-          unmade None was = none-some owned (sym (owned_if path None makes ∙ ap (owned_by None) was) ∙ own)
+      by None makes = absurd (none_made (finite.get g.owned path) (its_maker None makes))
 
   pub swap_keeps : IsKept next language known new
   swap_keeps = record {
