@@ -128,7 +128,7 @@ set_stable (Some c) (Some seen) name value = by (same_stamps (stamp c) seen) (co
       right,
       here,
       stable_of (same_options same_texts value (look set name))
-      (λ apart. unrefuted (λ (content, entries, h, same, there, is).
+          (λ apart. unrefuted (λ (content, entries, h, same, there, is).
           (let e : ◌≡◌ {A = Result Entries ConfigFault} (Ok set) (Ok entries) = other_than content entries (Ok set) (only_one c content h) here there in
           let sets : entries ≡ set = cc in
           apart (is ∙ ap (λ (t : Entries). look t name) sets)))),

@@ -4,4 +4,4 @@ pub mod Scanning
 pub mod Edited
 pub mod Reached
 pub mod Swapping
-pub mod Reach
+pub mod Flagging

@@ -53,7 +53,7 @@ module _ (known : List Content) (g new : GraphState) (files : List (Names × Sta
     wrote = λ at d less.
         (let file = slice_index_or run.writes at d in
         sym (stable_of (same_seen (Some file.1) (finite.get new.seen file.0))
-            (λ apart. not_root number unflagged.unflagged (inr (rule, run, unflagged.here, ran, inr (file.0, file.1, All-contains_itself run.writes at d less, apart))))));
+        (λ apart. not_root number unflagged.unflagged (inr (rule, run, unflagged.here, ran, inr (file.0, file.1, All-contains_itself run.writes at d less, apart))))));
   }
 
   read : (dir : Names) → IsSource (source new) (tupfile dir) → is_created new dir ≡ false → is_some (finite.get new.readings dir) ≡ true

@@ -1,4 +1,4 @@
-use Rattle.tup_keeps.proofs.Reach.{flagged_reached, reached_flagged}
+use Rattle.tup_keeps.proofs.Flagging.{flagged_reached, reached_flagged}
 use Rattle.tup_keeps.proofs.reach.flagged_is_reached.Goals as goal
 
 pub returns : goal.returns
