@@ -3,6 +3,7 @@ use Rattle.std.specs.Prelude.{◌≡◌, ◌≢◌, ◌⊎◌, ◌↔◌, Bool, 
 use Rattle.std.proofs.Common.{refl, sym, ap, ap₂, subst, ◌∙◌, inl, inr}
 use Rattle.std.specs.FinMap as finite
 use Rattle.std.proofs.lemmas.Bool.{false≢true}
+use Rattle.std.proofs.lemmas.Option.{same_Some}
 use Rattle.tup_path.specs.Name.{Names, Content}
 use Rattle.tup_path.specs.Order.{by_names}
 use Rattle.tup_path.specs.Tree.{IsBelow}
@@ -23,7 +24,7 @@ use Rattle.tup_vars.specs.declared.fault.ConfigFault.{ConfigFault}
 use Rattle.tup_graph.specs.Answers.{tupfile, tup_config, Sources, Readings, HasSourceBelow, IsAnswer, IsDrafted, IsFileFor, IsKind, IsMadeElsewhere, IsOutputOf, IsSetTo, IsSource}
 use Rattle.tup_graph.specs.Graph.{GraphState, is_owned, source}
 use Rattle.tup_above.proofs.Members.{listed}
-use Rattle.tup_diff.proofs.Answered.{nothing_elsewhere, not_elsewhere, same_reading}
+use Rattle.tup_diff.proofs.Answered.{nothing_elsewhere, not_elsewhere}
 use Rattle.tup_diff.proofs.Ordered.{in_front, front_or_behind, none_in}
 use Rattle.tup_diff.proofs.Paths.{last_item, one_folder}
 use Rattle.tup_keeps.proofs.Stable.{Settled, Stable, found, held, is_true, same_options, same_paths, same_seen, same_stamps, same_texts, settled_both, stable_both, stable_either, stable_if, stable_never, stable_not, stable_of, stable_sorted}
@@ -72,7 +73,7 @@ module _ (sources : Sources) (readings : Readings) where
         kept = here;
         has_tupfile = stable_of (is_true (is_some (sources (tupfile dir)))) (λ no. unrefuted (λ out. no out.has_tupfile));
         drafted = stable_of (drafted reading.drafts path)
-            (λ no. unrefuted (λ out. no (subst (λ (r : Reading). IsDrafted r.drafts path) (same_reading sources readings dir path out.reading reading out.kept here) out.drafted)));
+            (λ no. unrefuted (λ out. no (subst (λ (r : Reading). IsDrafted r.drafts path) (same_Some out.reading reading (sym out.kept ∙ here)) out.drafted)));
       }
 
   elsewhere_stable : (reader path : Names) → Stable (IsMadeElsewhere sources readings reader path)

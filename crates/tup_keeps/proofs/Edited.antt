@@ -7,6 +7,7 @@ use Rattle.tup_path.specs.Name.{Names, Content}
 use Rattle.tup_path.specs.Order.{by_names, by_names-total}
 use Rattle.tup_path.specs.Tree.{Tree}
 use Rattle.tup_path.proofs.Same.{by_names-decides, get_inserted_elsewhere, get_removed_elsewhere}
+use Rattle.tup_site.specs.Edit.{edited}
 use Rattle.tup_site.specs.World.{World}
 use Rattle.tup_stamp.specs.declared.Stamp.{Stamp}
 use Rattle.tup_stamp.specs.Stamp.{stamp}
@@ -26,7 +27,7 @@ use Rattle.tup_graph.specs.Graph.{GraphState, is_owned, source}
 use Rattle.tup_graph.specs.Kept.{IsKept, IsKeptWorld, IsKeptSite, IsGraphIn, file_beside, HoldsItsOwn}
 use Rattle.tup_graph.specs.Records.{Language, IsStampOf, AreRecorded, IsTrueRun, IsTrueReading, IsToldKnown}
 use Rattle.tup_graph.specs.declared.owned.Owned.{Owned}
-use Rattle.tup_keeps.specs.Edited.{with_file, edited, IsEditedFrom, IsOwnedAlike}
+use Rattle.tup_keeps.specs.Edited.{with_file, IsEditedFrom, IsOwnedAlike}
 use Rattle.tup_keeps.proofs.Answering.{answer_more}
 use Rattle.tup_keeps.proofs.Stable.{Settled, same_paths}
 
@@ -99,32 +100,32 @@ module _ (known more : List Content) (also : (content : Content) → Contains kn
 
 -- ---- a file is another one
 module _ (path : Names) (now : Option Content) where
-  at_it : (tree : Tree) → finite.get (with_file tree path now) path ≡ now
+  at_it : (tree : Tree) → finite.get (edited tree path now) path ≡ now
   at_it tree = by now
     where
-      by : (to : Option Content) → finite.get (with_file tree path to) path ≡ to
+      by : (to : Option Content) → finite.get (edited tree path to) path ≡ to
       by (Some content) = finite.get-insert by_names-total tree path content path ∙ ap (λ (b : Bool). cond b (Some content) (finite.get tree path)) ((by_names-decides path path).1 refl)
       by None = finite.get-remove by_names-total tree path path ∙ ap (λ (b : Bool). cond b None (finite.get tree path)) ((by_names-decides path path).1 refl)
 
-  beside_it : (tree : Tree) (other : Names) → other ≢ path → finite.get (with_file tree path now) other ≡ finite.get tree other
+  beside_it : (tree : Tree) (other : Names) → other ≢ path → finite.get (edited tree path now) other ≡ finite.get tree other
   beside_it tree other apart = by now
     where
-      by : (to : Option Content) → finite.get (with_file tree path to) other ≡ finite.get tree other
+      by : (to : Option Content) → finite.get (edited tree path to) other ≡ finite.get tree other
       by (Some content) = get_inserted_elsewhere tree path other content apart
       by None = get_removed_elsewhere tree path other apart
 
   -- where two trees hold the same, they do afterwards
-  alike : (left present : Tree) (other : Names) → finite.get left other ≡ finite.get present other → finite.get (with_file left path now) other ≡ finite.get (with_file present path now) other
+  alike : (left present : Tree) (other : Names) → finite.get left other ≡ finite.get present other → finite.get (edited left path now) other ≡ finite.get (edited present path now) other
   alike left present other same = by (same_paths other path)
     where
-      by : Settled (other ≡ path) → finite.get (with_file left path now) other ≡ finite.get (with_file present path now) other
-      by (inl is) = subst (λ (p : Names). finite.get (with_file left path now) p ≡ finite.get (with_file present path now) p) (sym is) (at_it left ∙ sym (at_it present))
+      by : Settled (other ≡ path) → finite.get (edited left path now) other ≡ finite.get (edited present path now) other
+      by (inl is) = subst (λ (p : Names). finite.get (edited left path now) p ≡ finite.get (edited present path now) p) (sym is) (at_it left ∙ sym (at_it present))
       by (inr apart) = beside_it left other apart ∙ same ∙ sym (beside_it present other apart)
 
 module _ (next : Next) (language : Language) (known more : List Content) (also : (content : Content) → Contains known content → Contains more content) (present : World) (Left : World → Type 0) (path : Names) (now : Option Content)
     (kept : IsKeptSite next language known present Left) (owned_alike : IsOwnedAlike present Left path) where
   abbrev there : World → World
-  there world = edited world path now
+  there world = with_file world path now
 
   sources : (left : World) (g : GraphState) → Left left → IsGraphIn left.store g → (other : Names) → file_beside (there left) g other ≡ file_beside (there present) kept.now.graph other
   sources left g is reads other = by (same_paths other path)
@@ -158,6 +159,7 @@ module _ (next : Next) (language : Language) (known more : List Content) (also :
       by (inr apart) (inr (inr (seen, state, holds_it))) = inr (inr (seen, state, ap (option_map stamp) (beside_it path now left.tree other apart) ∙ holds_it))
 
   pub site_edited : IsKeptSite next language more (there present) (IsEditedFrom Left path now)
+  unfolding world_more
   site_edited = record {
     now = world_more known more also next language present (there present) refl kept.now;
     later = λ world (left, is, same). subst (IsKeptWorld next language more) (sym same) (world_more known more also next language left (there left) refl (kept.later left is));

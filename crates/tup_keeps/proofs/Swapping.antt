@@ -67,12 +67,13 @@ was_or_new g rule = first_of g.rules rule
 
 none_from : (makes : Rule → Bool) (n : ℕ) (rules : List Rule) (at : ℕ) (rule : Rule) → position_from makes n rules ≡ None → slice_get rules at ≡ Some rule → makes rule ≡ false
 none_from makes n [] at rule none here = absurd (none-some rule here)
-none_from makes n (first ∷ rules) at rule none here = by (makes first) refl none at here
+none_from makes n (first ∷ rules) at rule none here = by (makes first) refl none at here (λ found later. none_from makes (n + 1) rules later rule found)
   where
-    by : (b : Bool) → makes first ≡ b → cond b (Some n) (position_from makes (n + 1) rules) ≡ None → (at : ℕ) → slice_get (first ∷ rules) at ≡ Some rule → makes rule ≡ false
-    by true it_does found at here = absurd (let e : Some n ≡ None = found in cc)
-    by false it_doesn't found zero here = subst (λ (r : Rule). makes r ≡ false) (same_Some first rule here) it_doesn't
-    by false it_doesn't found (suc at) here = none_from makes (n + 1) rules at rule found here
+    by : (b : Bool) → makes first ≡ b → cond b (Some n) (position_from makes (n + 1) rules) ≡ None → (at : ℕ) → slice_get (first ∷ rules) at ≡ Some rule
+        → (position_from makes (n + 1) rules ≡ None → (later : ℕ) → slice_get rules later ≡ Some rule → makes rule ≡ false) → makes rule ≡ false
+    by true it_does found at here further = absurd (none-some n (sym found))
+    by false it_doesn't found zero here further = subst (λ (r : Rule). makes r ≡ false) (same_Some first rule here) it_doesn't
+    by false it_doesn't found (suc at) here further = further found at here
 
 pub maker-None : (rules : List Rule) (path : Names) (at : ℕ) (rule : Rule) → maker path rules ≡ None → slice_get rules at ≡ Some rule → writes rule path ≡ false
 maker-None rules path at rule none = none_from (λ (r : Rule). writes r path) 0 rules at rule (sym (position_from-zero (λ (r : Rule). writes r path) rules) ∙ none)

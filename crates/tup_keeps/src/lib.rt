@@ -7,6 +7,6 @@ mod edits;
 mod reach;
 mod transactions;
 
-pub use edits::edits_keep;
+pub use edits::{edits_keep_sites, edits_keep_worlds};
 pub use reach::{flagged_is_reached, nothing_is_reached};
 pub use transactions::{scan_agrees, scan_keeps, swap_keeps};
