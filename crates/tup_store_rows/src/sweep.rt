@@ -98,7 +98,8 @@ impl Ends {
     fn read(&mut self, alloc: Global, store: &[u8]) {
         let words = graph_in(alloc, store);
         self.keep(words.as_slice());
-        self.add(alloc, way(&self.whole, &words));
+        let way = way(&self.whole, &words);
+        self.add(alloc, way);
     }
 
     /// Adds all words of a reading, each with a line end behind it.
@@ -126,7 +127,8 @@ impl Ends {
     /// Tells the last readings, if there are any.
     fn close(&mut self, alloc: Global) {
         if self.count > 0 {
-            self.runs.show(alloc, &self.count);
+            let count = self.count;
+            self.runs.show(alloc, &count);
             self.runs.put(alloc, &self.last);
         }
     }
@@ -134,7 +136,8 @@ impl Ends {
     /// The ways of all readings, and the stamp of all their words.
     fn told(mut self, alloc: Global) -> Words {
         self.close(alloc);
-        self.runs.put(alloc, &hex(&stamp_of(&self.all)));
+        let stamp = hex(&stamp_of(&self.all));
+        self.runs.put(alloc, &stamp);
         self.runs
     }
 }
