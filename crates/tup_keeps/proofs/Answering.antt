@@ -1,5 +1,5 @@
 -- Answers to a reading can't be other than refuted or right; and more known contents change none of them.
-use Rattle.std.specs.Prelude.{◌≡◌, ◌≢◌, ◌⊎◌, ◌↔◌, Bool, true, false, List, ℕ, [], ◌∷◌, ◌++◌, Option, None, Some, Ok, Err, Result, Contains, cond, is_some, option_to_list}
+use Rattle.std.specs.Prelude.{◌≡◌, ◌⊎◌, Bool, true, false, List, ℕ, [], ◌∷◌, ◌++◌, Option, None, Some, Ok, Err, Result, Contains, cond, is_some, option_to_list}
 use Rattle.std.proofs.Common.{refl, sym, ap, ap₂, subst, ◌∙◌, inl, inr}
 use Rattle.std.specs.FinMap as finite
 use Rattle.std.proofs.lemmas.Bool.{false≢true}
@@ -27,7 +27,7 @@ use Rattle.tup_above.proofs.Members.{listed}
 use Rattle.tup_diff.proofs.Answered.{nothing_elsewhere, not_elsewhere}
 use Rattle.tup_diff.proofs.Ordered.{in_front, front_or_behind, none_in}
 use Rattle.tup_diff.proofs.Paths.{last_item, one_folder}
-use Rattle.tup_keeps.proofs.Stable.{Settled, Stable, found, held, is_true, same_options, same_paths, same_seen, same_stamps, same_texts, settled_both, stable_both, stable_either, stable_if, stable_never, stable_not, stable_of, stable_sorted}
+use Rattle.tup_keeps.proofs.Stable.{Settled, Stable, found, held, is_true, same_options, same_paths, same_seen, same_stamps, same_texts, settled_both, stable_both, stable_either, stable_never, stable_not, stable_of, stable_sorted}
 
 -- ---- what lies below a folder
 

@@ -1,5 +1,5 @@
 -- Where no rule is flagged and the tree is as it was seen, no rule is reached.
-use Rattle.std.specs.Prelude.{◌≡◌, ◌≢◌, ◌⊎◌, ℕ, zero, suc, true, false, List, Option, None, Some, Contains}
+use Rattle.std.specs.Prelude.{◌≡◌, ℕ, zero, suc, false, List, None, Some}
 use Rattle.std.proofs.Common.{sym, subst, ◌∙◌, inl, inr}
 use Rattle.std.specs.FinMap as finite
 use Rattle.std.proofs.lemmas.Bool.{true≢false}
@@ -11,8 +11,8 @@ use Rattle.tup_rule.specs.declared.rule.Rule.{Rule}
 use Rattle.tup_runner.specs.Next.{Next}
 use Rattle.tup_record.specs.declared.run.RunRecord.{RunRecord}
 use Rattle.tup_graph.specs.Graph.{GraphState, is_flagged}
-use Rattle.tup_graph.specs.Kept.{IsKept, IsRuleAt, IsUnflagged, HasSeenStamps}
-use Rattle.tup_graph.specs.Reach.{stamp_in, HasRecord, IsChanged, IsReachRoot, ReachedOver, IsReached}
+use Rattle.tup_graph.specs.Kept.{IsKept, IsRuleAt, HasSeenStamps}
+use Rattle.tup_graph.specs.Reach.{stamp_in, IsChanged, IsReachRoot, ReachedOver, IsReached}
 use Rattle.tup_graph.specs.Records.{Language}
 
 -- a record with the seen stamps isn't changed in a tree that holds them

@@ -14,16 +14,16 @@ use Rattle.tup_rule.specs.declared.question.Noted.{Noted}
 use Rattle.tup_rule.specs.declared.question.Question.{Question}
 use Rattle.tup_rule.specs.declared.question.Reading.{Reading}
 use Rattle.tup_rule.specs.declared.rule.Rule.{Rule}
-use Rattle.tup_rule.proofs.Laws.{IsMaker, maker-Some}
+use Rattle.tup_rule.proofs.Laws.{maker-Some}
 use Rattle.tup_rule.proofs.Same.{same_fields, same_fields-tells}
 use Rattle.tup_runner.specs.Next.{Next}
-use Rattle.tup_record.specs.declared.owned.OwnedState.TheVariants.{Never, Written}
+use Rattle.tup_record.specs.declared.owned.OwnedState.TheVariants.{Never}
 use Rattle.tup_record.specs.declared.run.RunRecord.{RunRecord}
 use Rattle.tup_graph.specs.Above.{IsAbove}
 use Rattle.tup_graph.specs.Answers.{tupfile, Readings, Sources, IsAnswer, IsSource}
-use Rattle.tup_graph.specs.Graph.{GraphState, is_created, is_flagged, is_owned, source}
+use Rattle.tup_graph.specs.Graph.{GraphState, is_flagged, is_owned, source}
 use Rattle.tup_graph.specs.Kept.{Asked, HasSeenStamps, IsKept, IsRuleAt, IsUnflagged}
-use Rattle.tup_graph.specs.Records.{Language, IsTrueRun, IsTrueReading}
+use Rattle.tup_graph.specs.Records.{Language}
 use Rattle.tup_graph.specs.Swap.{IsFlaggedYet, IsNew, IsSwapped, ReadsNew, WasAt, owned_now}
 use Rattle.tup_graph.specs.declared.owned.Owned.{Owned}
 use Rattle.tup_keeps.specs.Fitting.{AreFitting}

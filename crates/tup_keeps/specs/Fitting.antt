@@ -1,5 +1,5 @@
 -- What a swap has to bring so that a kept graph stays kept (own).
-use Rattle.std.specs.Prelude.{◌≡◌, ℕ, true, List, Option, None, Some, All, IsSome, slice_get}
+use Rattle.std.specs.Prelude.{◌≡◌, ℕ, true, List, None, Some, All, IsSome, slice_get}
 use Rattle.std.specs.FinMap as finite
 use Rattle.tup_path.specs.Name.{Names, Content}
 use Rattle.tup_rule.specs.Rule.{declares, writes}

@@ -27,7 +27,7 @@ pub fn edits_keep_sites<S: Site>(site: &S)
         → IsKeptSite next language known (S.world site.now) (S.left_since site.now since)
         → IsOwnedAlike (S.world site.now) (S.left_since site.now since) path
         → IsKeptSite next language more (with_file (S.world site.now) path content)
-            (IsEditedFrom (S.left_since site.now since) path content) }
+        (IsEditedFrom (S.left_since site.now since) path content) }
 {
     let _ = site;
 }
