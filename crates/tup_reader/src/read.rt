@@ -24,7 +24,8 @@ pub fn read_tupfile<E: Env>(alloc: Global, dir: &Path, env: &mut E) -> Result<Re
     ensures answers { IsTrue E.tells → Agrees (E.answers env.old) (reading dir.now) result }
     ensures stopped { is_some (E.stopped env.new) ≡ is_stopped result }
     ensures asks { (earlier : List Question) → AskedAre (E.asked env.old) earlier
-        → AsksOnce dir.now earlier (E.asked env.new) result }
+        → AsksOnce (IsToldBy E.tells (E.answers env.old)) dir.now (E.stopped env.new) earlier
+        (E.asked env.new) result }
     ensures same { IsTrue E.tells → E.answers env.new ≡ E.answers env.old }
 {
     let mut log = Log::new(alloc);
