@@ -1,11 +1,11 @@
 -- Runs of one process that were told alike.
+pub use Rattle.tup_reader.proofs.Halting.{halts_keeps}
 use Rattle.std.proofs.Common.{◌≡◌, ◌⊎◌, inl, inr, [], ◌∷◌, ◌++◌, Option, Some, None, Result, refl, sym, ap, ◌∙◌, subst}
 use Rattle.tup_rule.specs.declared.question.Question.{Question}
 use Rattle.tup_rule.specs.declared.question.Told.{Told}
 use Rattle.tup_ask.specs.Reads.{Reads, Ends, Asks}
 use Rattle.tup_ask.specs.Log.{Log, told_before, Step, Ran, Halts}
 use Rattle.tup_ask.proofs.Runs.{told_new, ran_keeps}
-use Rattle.tup_reader.proofs.Halting.{halts_keeps}
 
 -- logs that say the same of each question that both have
 abbrev pub ToldAlike : Log → Log → Type 0

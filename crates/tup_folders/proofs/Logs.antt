@@ -1,11 +1,11 @@
 -- What is in the log of a reading.
+pub use Rattle.tup_reader.proofs.Halting.{one_step}
 use Rattle.std.proofs.Common.{◌≡◌, inl, inr, true, [], ◌∷◌, ◌++◌, Some, Result, sym, subst}
 use Rattle.tup_rule.specs.declared.question.Question.{Question}
 use Rattle.tup_rule.specs.declared.question.Told.{Told}
 use Rattle.tup_ask.specs.Reads.{Reads, Ends, Asks}
 use Rattle.tup_ask.specs.Log.{Log, fits, told_before, Ran, Halts}
 use Rattle.tup_ask.proofs.Asking.{told_push}
-use Rattle.tup_reader.proofs.Halting.{one_step}
 
 -- each answer is of its question's kind
 abbrev pub AllFit : Log → Type 0

@@ -5,7 +5,7 @@ use Rattle.tup_rule.specs.declared.question.Told.{Told}
 use Rattle.tup_ask.specs.Reads.{Reads, Ends, Asks}
 use Rattle.tup_ask.specs.Log.{Log, same_question, told_before, Step, Ran, Halts}
 use Rattle.tup_ask.proofs.Asking.{told_push}
-use Rattle.tup_reader.proofs.Halting.{one_step}
+use Rattle.tup_folders.proofs.Logs.{one_step}
 
 -- ---- lists
 

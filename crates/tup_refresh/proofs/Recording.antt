@@ -26,8 +26,8 @@ use Rattle.tup_reader.specs.Reading.{reading}
 use Rattle.tup_folders.specs.Answers.{Readings, answer}
 use Rattle.tup_folders.specs.Readings.{IsReadingOver, AreReadWith, IsOutcome}
 use Rattle.tup_folders.specs.Sources.{settings_of}
-use Rattle.tup_reader.proofs.Halting.{one_step, halts_keeps}
-use Rattle.tup_folders.proofs.Logs.{fit_from_start, fit_where_it_stands}
+use Rattle.tup_folders.proofs.Alike.{halts_keeps}
+use Rattle.tup_folders.proofs.Logs.{one_step, fit_from_start, fit_where_it_stands}
 use Rattle.tup_folders.proofs.One.{reading_in}
 use Rattle.tup_graph.specs.Records.{Language, GoesOnReading, IsToldKnown, IsTrueReading}
 use Rattle.tup_refresh.specs.Language.{known_or, stands_at, all_fit, ReadsTupfiles}
