@@ -66,12 +66,14 @@ module _ {S : Type 0} (site : Site S) (number : ℕ) (run : Option RunRecord) (e
   commit_of fault = record { by_site = by_site fault; rule = number; run = run }
 
   -- it was refused, and the graph stands as it was
-  refused : (fault : GraphFault) → graph_now ≡ old.graph → (of_graph fault ≡ board.Full → IsFull old.graph edits) → ((bytes : ℕ) → of_graph fault ≡ board.TooLarge bytes → ⊥)
+  refused : (fault : GraphFault) → graph_now ≡ old.graph → now ≡ old.site → (of_graph fault ≡ board.Full → IsFull old.graph edits) → ((bytes : ℕ) → of_graph fault ≡ board.TooLarge bytes → ⊥)
       → Commits site number run edits nodes old (Err (of_graph fault)) (new (Err fault))
-  refused fault same is_full small = record {
+  refused fault same stays is_full small = record {
     is_ground = record { fresh = fresh_now ∙ sym (ap is_none none_now); stands = λ tells _. stands tells fresh_now };
     ok = λ done e. absurd (cc);
-    err = λ _ _ _. same;
+    err = λ _ _ _.
+        ap (λ (s : S). record { site = s; graph = graph_now; lost = (new (Err fault)).lost }) stays ∙ ap (λ (h : Held). record { site = old.site; graph = h; lost = (new (Err fault)).lost }) same
+        ∙ ap (λ (l : Option Lost). record { site = old.site; graph = old.graph; lost = l }) (none_now ∙ sym none);
     lost = λ commit e. absurd (some_none commit (sym e ∙ none_now));
     full = λ e. is_full (same_fault (of_graph fault) _ e);
     room = λ done e _. cc;
@@ -130,5 +132,5 @@ module _ {S : Type 0} (site : Site S) (number : ℕ) (run : Option RunRecord) (e
   committed (Err graph.NotThere) leaves room = absurd leaves
   committed (Err (graph.BadStore offset)) leaves room = absurd leaves
   committed (Err graph.Site) leaves room = lost graph.Site (ap is_fresh leaves ∙ stale_is old.graph) refl (λ e. cc) (λ bytes e. cc)
-  committed (Err graph.Full) leaves room = refused graph.Full leaves.1 (λ _. leaves.0) (λ bytes e. cc)
-  committed (Err graph.Memory) leaves room = ⊎_elim (λ same. refused graph.Memory same.0 (λ e. absurd (cc)) (λ bytes e. cc)) (λ unfresh. lost graph.Memory unfresh refl (λ e. cc) (λ bytes e. cc)) leaves
+  committed (Err graph.Full) leaves room = refused graph.Full leaves.1 leaves.2 (λ _. leaves.0) (λ bytes e. cc)
+  committed (Err graph.Memory) leaves room = ⊎_elim (λ same. refused graph.Memory same.0 same.1 (λ e. absurd (cc)) (λ bytes e. cc)) (λ unfresh. lost graph.Memory unfresh refl (λ e. cc) (λ bytes e. cc)) leaves

@@ -1,6 +1,6 @@
 -- What making the files of a rule leaves, by what its parts leave: a commit, files, a commit.
-use Rattle.std.proofs.Common.{◌≡◌, ◌⊎◌, ℕ, ◌≤◌, true, false, List, Option, None, Some, Result, Ok, Err, ⊎_elim, inl, inr, refl, sym, ap, subst, ◌∙◌, arith}
-use Rattle.std.specs.Prelude.{IsTrue, is_none}
+use Rattle.std.proofs.Common.{◌≡◌, ◌⊎◌, ℕ, ◌≤◌, Bool, true, false, List, Option, None, Some, Result, Ok, Err, ⊎_elim, inl, inr, refl, sym, ap, subst, ◌∙◌, arith}
+use Rattle.std.specs.Prelude.{if◌then◌else◌, IsTrue, is_none}
 use Rattle.std.proofs.lemmas.Option.{same_Some}
 use Rattle.tup_path.specs.Name.{Names, Content}
 use Rattle.tup_path.specs.Tree.{Tree}
@@ -14,6 +14,7 @@ use Rattle.tup_record.specs.declared.run.RunRecord.{RunRecord}
 use Rattle.tup_table.proofs.Going.{IsEarlier, as_step}
 use Rattle.tup_table.proofs.Stands.{stands_on}
 use Rattle.tup_graph.specs.Graph.{GraphState, outputs_of}
+use Rattle.tup_graph.specs.declared.edit.Edit.{Edit}
 use Rattle.tup_graph.specs.Opening.{IsGraphOf}
 use Rattle.tup_graph.specs.Transactions.{begin_edits, begun, finish_edits, finished}
 use Rattle.tup_table.specs.Table.{entries_in}
@@ -28,18 +29,18 @@ use Rattle.tup_ground.specs.declared.fault.BoardFault.{BoardFault}
 use Rattle.tup_ground.specs.declared.fault.BoardFault.TheVariants as board
 use Rattle.tup_ground.specs.declared.ground.Ground.{Ground}
 use Rattle.tup_ground.specs.Fault.{of_site, lost_fault}
-use Rattle.tup_ground.specs.Ground.{IsGround, Commits, HoldsFiles, IsNotBegun, IsBegun, IsEnded, MakeStep, MakesFiles, Makes, paths_of, after_begin}
+use Rattle.tup_ground.specs.Ground.{IsGround, Commits, HoldsFiles, IsNotBegun, IsBegun, IsEnded, MakeStep, MakesFiles, Makes, WasTried, paths_of, after_begin}
 use Rattle.tup_ground.specs.Lost.{Lost}
 use Rattle.tup_ground.proofs.Committed.{some_none, same_fault, refusal}
 use Rattle.tup_ground.proofs.Faults.{never_full, of_too_large}
 
 -- ---- what a crash leaves
-module _ {S : Type 0} (moment : S → ℕ) (left_since : S → ℕ → World → Type 0) (g : GraphState) (number : ℕ) (run : RunRecord) (files : List (Names × Content)) where
+module _ {S : Type 0} (moment : S → ℕ) (left_since : S → ℕ → World → Type 0) (tried : Type 0) (g : GraphState) (number : ℕ) (run : RunRecord) (files : List (Names × Content)) where
   abbrev outputs : List Names
   outputs = outputs_of g number
 
   abbrev Step : World → World → Type 0
-  Step v w = MakeStep g number run files v w
+  Step v w = MakeStep tried g number run files v w
 
   -- what is left up to the settle
   abbrev Half : World → World → Type 0
@@ -47,7 +48,7 @@ module _ {S : Type 0} (moment : S → ℕ) (left_since : S → ℕ → World →
 
   -- what the last commit adds
   abbrev Last : World → World → Type 0
-  Last v w = TreeStays v w × (IsStoreOf (begun g number) w.store ⊎ IsEnded g number run files v w)
+  Last v w = TreeStays v w × (IsStoreOf (begun g number) w.store ⊎ (tried × IsEnded g number run files v w))
 
   half_of : (v w : World) → GraphStep g (begun g number) v w → Half v w
   half_of v w step = ⊎_elim (λ was. inl (inr was, step.tree)) (λ began. inr (began, beside_same outputs v.tree w.tree step.tree)) step.store
@@ -76,31 +77,47 @@ module _ {S : Type 0} (moment : S → ℕ) (left_since : S → ℕ → World →
     puts = as_step moment left_since old new Half Step (λ v w left step. step_of v w step) half
 
     -- ---- and the run is kept
-    module _ (end : S) (done : IsEarlier moment left_since new) (present : Tree) (pinned : (v : World) → left_since new (moment new) v → v.tree ≡ present) (holds : HoldsFiles files present)
+    module _ (was : tried) (end : S) (done : IsEarlier moment left_since new) (present : Tree) (pinned : (v : World) → left_since new (moment new) v → v.tree ≡ present) (holds : HoldsFiles files present)
         (keep : LeavesEither moment left_since new end (begun g number) (finished (begun g number) number run)) where
       last : GoesOn moment left_since new end Last
       last = as_step moment left_since new end (GraphStep (begun g number) (finished (begun g number) number run)) Last (λ v w left step. (
         step.tree,
-        ⊎_elim inl (λ ended. inr (ended, subst (HoldsFiles files) (sym (step.tree ∙ pinned v left)) holds, beside_same outputs v.tree w.tree step.tree)) step.store,
+        ⊎_elim inl (λ ended. inr (was, (ended, subst (HoldsFiles files) (sym (step.tree ∙ pinned v left)) holds, beside_same outputs v.tree w.tree step.tree))) step.store,
       )) keep.on
 
       pub keeps : GoesOn moment left_since old end Step
       keeps =
           then_by moment left_since old new end Half Last Step done step_of last_of
-          (λ u v w first then.
-          ⊎_elim (λ began. inr (inl (began, beside_then outputs u.tree v.tree w.tree (beside_half u v first) (beside_same outputs v.tree w.tree then.0))))
-          (λ ended. inr (inr (ended.0, ended.1, beside_then outputs u.tree v.tree w.tree (beside_half u v first) ended.2))) then.1)
+          (λ u v w first later.
+          ⊎_elim (λ began. inr (inl (began, beside_then outputs u.tree v.tree w.tree (beside_half u v first) (beside_same outputs v.tree w.tree later.0))))
+          (λ ended. inr (inr (ended.0, (ended.1.0, ended.1.1, beside_then outputs u.tree v.tree w.tree (beside_half u v first) ended.1.2)))) later.1)
           half last
         where
           beside_half : (u v : World) → Half u v → SameBeside outputs u.tree v.tree
           beside_half u v first = ⊎_elim (λ was. beside_same outputs u.tree v.tree was.1) (λ began. began.1) first
 
 -- ---- what each end of the call leaves
+never_lost : (commit : Lost) → lost_fault commit ≡ board.Full → ⊥
+never_lost commit = by commit.by_site
+  where
+    by : (site : Bool) → (if site then board.Site else board.Memory) ≡ board.Full → ⊥
+    by true e = cc
+    by false e = cc
+
 module _ {S : Type 0} (site : Site S) (number : ℕ) (run : RunRecord) (files : List (Names × Content)) (old : Ground S)
     (present : (s : S) → IsTrue site.tells → site.left_since s (site.moment s) (site.world s))
     (earlier : (s : S) (t u : ℕ) (w : World) → IsTrue site.tells → t ≤ u → site.left_since s u w → site.left_since s t w) where
   abbrev g : GraphState
   g = old.graph.nodes
+
+  -- a commit for which there was no room isn't lost
+  none_full : (kept : Option RunRecord) (edits : List Edit) (nodes : GraphState) (before : Ground S) (result : Result (Unit {0}) BoardFault) (new : Ground S) → Commits site number kept edits nodes before result new
+      → result ≡ Err board.Full → new.lost ≡ None
+  none_full kept edits nodes before result new commits full = by new.lost refl
+    where
+      by : (lost : Option Lost) → new.lost ≡ lost → new.lost ≡ None
+      by None is = is
+      by (Some commit) is = absurd (never_lost commit (same_fault (lost_fault commit) board.Full (sym (commits.lost commit is).2 ∙ full)))
 
   -- a crash now may leave all as it is: so the present store is one that a crash since the call began may leave
   now_left : (first last : S) → IsTrue site.tells → site.moment first ≤ site.moment last → site.left_since last (site.moment first) (site.world last)
@@ -114,14 +131,14 @@ module _ {S : Type 0} (site : Site S) (number : ℕ) (run : RunRecord) (files : 
     made = λ done e tells. absurd (cc);
     lost = λ commit e. let is = commits.lost commit e in record { rule = is.0; kept = inl is.1; fault = is.2 };
     err = λ other e none. inl (commits.err fault refl none);
-    full = λ e. inl (commits.full e);
+    full = λ e. inl (commits.full e, ap (λ (it : Ground S). it.graph) (commits.err fault refl (none_full None (begin_edits g number) (begun g number) old (Err fault) new commits e)));
     room = λ done e full. cc;
     small = commits.small;
     now = λ tells.
         let tree = commits.tree tells in
         ⊎_elim (λ was. inl (inr was, tree)) (λ began. inr (inl (began, beside_same (outputs_of g number) (site.world old.site).tree (site.world new.site).tree tree)))
         ((commits.crash tells).only.each (site.world new.site) (now_left old.site new.site tells (commits.crash tells).only.later));
-    crash = λ tells. begins site.moment site.left_since g number run files old.site new.site (commits.crash tells);
+    crash = λ tells. begins site.moment site.left_since (WasTried run (refusal fault) new.lost) g number run files old.site new.site (commits.crash tells);
     known = λ tells content had. subst (λ (k : List Content). IsTrue (knows k content)) (sym (commits.known tells)) had;
   }
 
@@ -183,7 +200,7 @@ module _ {S : Type 0} (site : Site S) (number : ℕ) (run : RunRecord) (files : 
             subst (IsStoreOf (begun g number)) (sym (store tells)) (stores tells (site.world mid.site) (present mid.site tells)),
             beside_now tells,
           ));
-          crash = λ tells. puts site.moment site.left_since g number run files old.site mid.site put (λ t u w le left. earlier mid.site t u w tells le left) (begin.crash tells) (stores tells) (files_on tells);
+          crash = λ tells. puts site.moment site.left_since (WasTried run (refusal (of_site failed)) mid.lost) g number run files old.site mid.site put (λ t u w le left. earlier mid.site t u w tells le left) (begin.crash tells) (stores tells) (files_on tells);
           known = known_now;
         }
 
@@ -195,25 +212,51 @@ module _ {S : Type 0} (site : Site S) (number : ℕ) (run : RunRecord) (files : 
           either : IsTrue site.tells → LeavesEither site.moment site.left_since put end.site (begun g number) (finished (begun g number) number run)
           either tells = subst (λ (h : GraphState). LeavesEither site.moment site.left_since put end.site h (finished h number run)) (ap (λ (h : Held). h.nodes) mid_is) (keep.crash tells)
 
+          abbrev tried : Type 0
+          tried = WasTried run result end.lost
+
+          -- its end was kept, or the commit is lost; else nothing was done
+          tried_or_not : tried ⊎ (end.site ≡ put)
+          tried_or_not = by result refl end.lost refl
+            where
+              by : (answer : Result (Unit {0}) BoardFault) → result ≡ answer → (lost : Option Lost) → end.lost ≡ lost → tried ⊎ (end.site ≡ put)
+              by (Ok done) is lost lost_is = inl (inl (done, is))
+              by (Err fault) is None none = inr (ap (λ (it : Ground S). it.site) (keep.err fault is none))
+              by (Err fault) is (Some commit) some = inl (inr (commit, some, (keep.lost commit some).1))
+
           pub kept : MakesFiles site number run files old result end
           kept = record {
             is_ground = keep.is_ground;
             ok = λ d e. let ok = keep.ok d e in (ok.0, ok.1 ∙ ap (λ (h : Held). after h (finish_edits h.nodes number run) (finished h.nodes number run)) mid_is);
             made = λ d e tells. subst (HoldsFiles files) (sym (keep.tree tells)) (holds tells);
             lost = λ commit e. let is = keep.lost commit e in record { rule = is.0; kept = inr is.1; fault = is.2 };
-            err = λ fault e none. inr (keep.err fault e none ∙ mid_is);
-            full = λ e. inr (subst (λ (h : Held). IsFull h (finish_edits h.nodes number run)) mid_is (keep.full e));
+            err = λ fault e none. inr (ap (λ (it : Ground S). it.graph) (keep.err fault e none) ∙ mid_is);
+            full = λ e. inr (
+              subst (λ (h : Held). IsFull h (finish_edits h.nodes number run)) mid_is (keep.full e),
+              ap (λ (it : Ground S). it.graph) (keep.err board.Full e (none_full (Some run) (finish_edits mid.graph.nodes number run) (finished mid.graph.nodes number run) there result end keep e)) ∙ mid_is,
+            );
             room = λ d e full. ⊎_elim (begin.room done refl) (λ more. keep.room d e (subst (λ (h : Held). IsFull h (finish_edits h.nodes number run)) (sym mid_is) more)) full;
             small = keep.small;
             now = λ tells.
                 let tree = keep.tree tells in
                 let beside_end = beside_then (outputs_of g number) (site.world old.site).tree (site.world put).tree (site.world end.site).tree (beside_now tells)
                 (beside_same (outputs_of g number) (site.world put).tree (site.world end.site).tree tree) in
-                ⊎_elim (λ began. inr (inl (began, beside_end))) (λ ended. inr (inr (ended, subst (HoldsFiles files) (sym tree) (holds tells), beside_end)))
-                ((either tells).only.each (site.world end.site) (now_left put end.site tells (either tells).only.later));
+                ⊎_elim
+                (λ was. ⊎_elim (λ began. inr (inl (began, beside_end))) (λ ended. inr (inr (was, (ended, subst (HoldsFiles files) (sym tree) (holds tells), beside_end))))
+                ((either tells).only.each (site.world end.site) (now_left put end.site tells (either tells).only.later)))
+                (λ stays. inr (inl (
+                  subst (λ (s : S). IsStoreOf (begun g number) (site.world s).store) (sym stays) (subst (IsStoreOf (begun g number)) (sym (store tells)) (stores tells (site.world mid.site) (present mid.site tells))),
+                  beside_end,
+                ))) tried_or_not;
             crash = λ tells.
-                keeps site.moment site.left_since g number run files old.site mid.site put (λ t u w le left. earlier mid.site t u w tells le left) (begin.crash tells) (stores tells) (files_on tells)
-                end.site (λ t u w le left. earlier put t u w tells le left) (site.world put).tree (λ v left. durable tells v left) (holds tells) (either tells);
+                ⊎_elim
+                (λ was.
+                keeps site.moment site.left_since tried g number run files old.site mid.site put (λ t u w le left. earlier mid.site t u w tells le left) (begin.crash tells) (stores tells) (files_on tells)
+                was end.site (λ t u w le left. earlier put t u w tells le left) (site.world put).tree (λ v left. durable tells v left) (holds tells) (either tells))
+                (λ stays.
+                subst (λ (s : S). GoesOn site.moment site.left_since old.site s (MakeStep tried g number run files)) (sym stays)
+                (puts site.moment site.left_since tried g number run files old.site mid.site put (λ t u w le left. earlier mid.site t u w tells le left) (begin.crash tells) (stores tells) (files_on tells)))
+                tried_or_not;
             known = λ tells content had. subst (λ (k : List Content). IsTrue (knows k content)) (sym (keep.known tells)) (known_now tells content had);
           }
 

@@ -73,11 +73,11 @@ pub record CanMake {S : Type 0} (site : Site S) (ground : Ground S) (number : �
 -- ---- one commit
 
 -- A commit of a rule was made or not, by the answer: with these edits, which leave these nodes, and this run to keep. No
--- commit was lost before; if this one is, its site or want of memory was the cause.
+-- commit was lost before; if this one is, its site or want of memory was the cause. Refused and not lost it did nothing.
 pub record Commits {S : Type 0} (site : Site S) (number : ℕ) (run : Option RunRecord) (edits : List Edit) (nodes : GraphState) (old : Ground S) (result : Result (Unit {0}) BoardFault) (new : Ground S) : Type 0 where
   pub is_ground : IsGround site new
   pub ok : (done : Unit {0}) → result ≡ Ok done → (new.lost ≡ None) × (new.graph ≡ after old.graph edits nodes)
-  pub err : (fault : BoardFault) → result ≡ Err fault → new.lost ≡ None → new.graph ≡ old.graph
+  pub err : (fault : BoardFault) → result ≡ Err fault → new.lost ≡ None → new ≡ old
   pub lost : (commit : Lost) → new.lost ≡ Some commit → (commit.rule ≡ number) × (commit.run ≡ run) × (result ≡ Err (lost_fault commit))
   pub full : result ≡ Err Full → IsFull old.graph edits
   pub room : (done : Unit {0}) → result ≡ Ok done → IsFull old.graph edits → ⊥
@@ -88,8 +88,12 @@ pub record Commits {S : Type 0} (site : Site S) (number : ℕ) (run : Option Run
 
 -- ---- the files of a rule
 
+-- the end of a run was kept, or the commit that was to keep it is lost
+abbrev pub WasTried : {T : Type 0} → RunRecord → Result T BoardFault → Option Lost → Type 0
+WasTried {T} run result lost = ((done : T) × (result ≡ Ok done)) ⊎ ((commit : Lost) × (lost ≡ Some commit) × (commit.run ≡ Some run))
+
 -- What making the files of a rule does to a world, and to what a crash may leave: nothing yet; or the run has begun in the
--- store, and what stands at the rule's outputs is open; or the run is kept there, and the files stand.
+-- store, and what stands at the rule's outputs is open; or, if that was tried, the run is kept there, and the files stand.
 module _ (g : GraphState) (number : ℕ) (run : RunRecord) (files : List (Names × Content)) (v w : World) where
   abbrev pub IsNotBegun : Type 0
   IsNotBegun = (StoreStays v w ⊎ IsStoreOf g w.store) × TreeStays v w
@@ -100,8 +104,8 @@ module _ (g : GraphState) (number : ℕ) (run : RunRecord) (files : List (Names 
   abbrev pub IsEnded : Type 0
   IsEnded = IsStoreOf (finished (begun g number) number run) w.store × HoldsFiles files w.tree × SameBeside (outputs_of g number) v.tree w.tree
 
-  abbrev pub MakeStep : Type 0
-  MakeStep = IsNotBegun ⊎ IsBegun ⊎ IsEnded
+abbrev pub MakeStep : Type 0 → GraphState → ℕ → RunRecord → List (Names × Content) → World → World → Type 0
+MakeStep tried g number run files v w = IsNotBegun g number run files v w ⊎ IsBegun g number run files v w ⊎ (tried × IsEnded g number run files v w)
 
 -- the graph after a run began, and after it ended
 abbrev pub after_begin : Held → ℕ → Held
@@ -116,6 +120,12 @@ LacksRoomFor graph number run =
     IsFull graph (begin_edits graph.nodes number)
     ⊎ IsFull (after_begin graph number) (finish_edits (begun graph.nodes number) number run)
 
+-- which of the two had no room: the graph is as it was, or the run has begun
+abbrev pub WasFull : Held → ℕ → RunRecord → Held → Type 0
+WasFull graph number run new =
+    (IsFull graph (begin_edits graph.nodes number) × (new ≡ graph))
+    ⊎ (IsFull (after_begin graph number) (finish_edits (begun graph.nodes number) number run) × (new ≡ after_begin graph number))
+
 -- a commit of this rule was lost, by which the call is refused
 pub record Loses {T : Type 0} (number : ℕ) (run : RunRecord) (result : Result T BoardFault) (commit : Lost) : Type 0 where
   pub rule : commit.rule ≡ number
@@ -128,15 +138,15 @@ pub record MakesFiles {S : Type 0} (site : Site S) (number : ℕ) (run : RunReco
   -- after Ok the graph has the run, and the files stand
   pub ok : (done : Unit {0}) → result ≡ Ok done → (new.lost ≡ None) × (new.graph ≡ after_end old.graph number run)
   pub made : (done : Unit {0}) → result ≡ Ok done → IsTrue site.tells → HoldsFiles files (site.world new.site).tree
-  -- else a commit is lost, or the graph is as it was, or the run began
+  -- else a commit is lost, or all is as it was, or the run began
   pub lost : (commit : Lost) → new.lost ≡ Some commit → Loses number run result commit
-  pub err : (fault : BoardFault) → result ≡ Err fault → new.lost ≡ None → (new.graph ≡ old.graph) ⊎ (new.graph ≡ after_begin old.graph number)
-  pub full : result ≡ Err Full → LacksRoomFor old.graph number run
+  pub err : (fault : BoardFault) → result ≡ Err fault → new.lost ≡ None → (new ≡ old) ⊎ (new.graph ≡ after_begin old.graph number)
+  pub full : result ≡ Err Full → WasFull old.graph number run new.graph
   pub room : (done : Unit {0}) → result ≡ Ok done → LacksRoomFor old.graph number run → ⊥
   pub small : (bytes : ℕ) → result ≡ Err (TooLarge bytes) → ⊥
   -- what became of the tree and the store, and what a crash may leave meanwhile
-  pub now : IsTrue site.tells → MakeStep old.graph.nodes number run files (site.world old.site) (site.world new.site)
-  pub crash : IsTrue site.tells → GoesOn site.moment site.left_since old.site new.site (MakeStep old.graph.nodes number run files)
+  pub now : IsTrue site.tells → MakeStep (WasTried run result new.lost) old.graph.nodes number run files (site.world old.site) (site.world new.site)
+  pub crash : IsTrue site.tells → GoesOn site.moment site.left_since old.site new.site (MakeStep (WasTried run result new.lost) old.graph.nodes number run files)
   pub known : IsTrue site.tells → Keeps (site.known old.site) (site.known new.site)
 
 -- the same, whether or not a commit was lost before: then nothing is done, and the answer is that of the lost commit

@@ -15,7 +15,7 @@ pub returns-in_err-begin-clause-makes : goal.returns-in_err-begin-clause-makes
 returns-in_err-begin-clause-makes g c =
     let site_laws = g.met.S.Site g.world.𝓛 g.world.𝓜 g.world.𝓡 ((λ s x. x), (λ x. x), (λ x. x), λ x. x) in
     let fault = c.in_err-begin.field-0.0 in
-    let is : c.from_residual-in_err-begin.result ≡ Err fault = grind arith in
+    let is : c.from_residual.result ≡ Err fault = grind arith in
     subst (λ (r : Result (Unit {0}) BoardFault). MakesFiles g.S.Site c.args.end.rule c.args.end.run c.args.files.now c.args.self.now r c.begin.new.self) (sym is)
     (begin_refused g.S.Site c.args.end.rule c.args.end.run c.args.files.now c.args.self.now site_laws.present site_laws.earlier c.begin.new.self fault c.in_err-begin.ensures.commits)
 
