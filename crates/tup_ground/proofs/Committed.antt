@@ -1,10 +1,9 @@
 -- What a commit leaves of a ground, by what it leaves of the graph.
-use Rattle.std.proofs.Common.{◌≡◌, ◌⊎◌, ℕ, Bool, true, false, ◌&&◌, List, [], ◌∷◌, Option, None, Some, Result, Ok, Err, ⊎_elim, refl, sym, ap, subst, ◌∙◌}
+use Rattle.std.proofs.Common.{◌≡◌, ℕ, Bool, true, false, ◌&&◌, List, [], ◌∷◌, Option, None, Some, Result, Ok, Err, ⊎_elim, refl, sym, ap, ◌∙◌}
 use Rattle.std.specs.Prelude.{if◌then◌else◌, IsTrue, is_none}
-use Rattle.std.proofs.lemmas.Bool.{true≢false}
 use Rattle.std.proofs.lemmas.Option.{same_Some}
 use Rattle.tup_path.specs.Gives.{GivesUnless}
-use Rattle.tup_site.specs.World.{World, TreeStays}
+use Rattle.tup_site.specs.World.{TreeStays}
 use Rattle.tup_site.specs.declared.site.Site.{Ghosts as Site}
 use Rattle.tup_record.specs.declared.run.RunRecord.{RunRecord}
 use Rattle.tup_table.specs.Table.{is_fresh as is_fresh_table}
@@ -21,7 +20,7 @@ use Rattle.tup_ground.specs.declared.fault.BoardFault.{BoardFault}
 use Rattle.tup_ground.specs.declared.fault.BoardFault.TheVariants as board
 use Rattle.tup_ground.specs.declared.ground.Ground.{Ground}
 use Rattle.tup_ground.specs.Fault.{of_graph, told, by_site, lost_now, lost_fault}
-use Rattle.tup_ground.specs.Ground.{IsGround, Commits}
+use Rattle.tup_ground.specs.Ground.{Commits}
 use Rattle.tup_ground.specs.Lost.{Lost}
 
 -- ---- a graph that took a transaction stands for its store, and one of which nothing is known doesn't

@@ -1,5 +1,5 @@
 -- What making the files of a rule leaves, by what its parts leave: a commit, files, a commit.
-use Rattle.std.proofs.Common.{◌≡◌, ◌⊎◌, ℕ, ◌≤◌, Bool, true, false, List, Option, None, Some, Result, Ok, Err, ⊎_elim, inl, inr, refl, sym, ap, subst, ◌∙◌, arith}
+use Rattle.std.proofs.Common.{◌≡◌, ◌⊎◌, ℕ, ◌≤◌, Bool, true, false, List, Option, None, Some, Result, Ok, Err, ⊎_elim, inl, inr, refl, sym, ap, subst, ◌∙◌}
 use Rattle.std.specs.Prelude.{if◌then◌else◌, IsTrue, is_none}
 use Rattle.std.proofs.lemmas.Option.{same_Some}
 use Rattle.tup_path.specs.Name.{Names, Content}
@@ -18,8 +18,8 @@ use Rattle.tup_graph.specs.declared.edit.Edit.{Edit}
 use Rattle.tup_graph.specs.Opening.{IsGraphOf}
 use Rattle.tup_graph.specs.Transactions.{begin_edits, begun, finish_edits, finished}
 use Rattle.tup_table.specs.Table.{entries_in}
-use Rattle.tup_kept.specs.Crash.{IsStoreOf, GraphStep, HasEither, LeavesEither}
-use Rattle.tup_kept.specs.Held.{Held, is_fresh, StandsFor}
+use Rattle.tup_kept.specs.Crash.{IsStoreOf, GraphStep, LeavesEither}
+use Rattle.tup_kept.specs.Held.{Held, is_fresh}
 use Rattle.tup_kept.specs.Transaction.{after, IsFull}
 use Rattle.tup_stale.specs.Files.{SameBeside, FilesStep}
 use Rattle.tup_stale.proofs.Crashes.{stores_now}

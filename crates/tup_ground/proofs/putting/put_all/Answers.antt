@@ -1,6 +1,5 @@
 use Rattle.std.proofs.Common.{sym, ◌∙◌, arith}
-use Rattle.std.proofs.lemmas.List.Elements.{All-nil}
-use Rattle.tup_stale.proofs.Going.{at_rest, one_more}
+use Rattle.tup_stale.proofs.Going.{one_more}
 use Rattle.tup_stale.proofs.Removals.{beside_one, beside_then}
 use Rattle.tup_ground.specs.Ground.{paths_of}
 use Rattle.tup_ground.proofs.Puts.{path_among, stand_more, all_stand}

@@ -1,4 +1,4 @@
-use Rattle.std.proofs.Common.{◌≡◌, refl, Option, Result, Err, subst, sym, arith}
+use Rattle.std.proofs.Common.{◌≡◌, Option, Result, Err, subst, sym, arith}
 use Rattle.tup_path.specs.Name.{Content}
 use Rattle.tup_ground.specs.Fault.{of_site}
 use Rattle.tup_ground.specs.Ground.{OnlyLarge, NamesLength}

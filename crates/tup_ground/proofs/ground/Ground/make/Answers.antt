@@ -1,7 +1,6 @@
-use Rattle.std.proofs.Common.{◌≡◌, Some, None, Option, Result, Err, refl, sym, ap, ◌∙◌, subst}
-use Rattle.tup_ground.specs.Fault.{CountsFaults, lost_fault}
+use Rattle.std.proofs.Common.{Option, sym, subst}
+use Rattle.tup_ground.specs.Fault.{CountsFaults}
 use Rattle.tup_ground.specs.Lost.{Lost}
-use Rattle.tup_ground.specs.declared.fault.BoardFault.{BoardFault}
 use Rattle.tup_ground.proofs.Faults.{counts_lost}
 use Rattle.tup_ground.proofs.Made.{made_now, made_idle}
 use Rattle.tup_ground.proofs.ground.Ground.make.Goals as goal
