@@ -4,6 +4,7 @@ ghost use Rattle.tup_access.specs.Generated.{IsGenerated};
 ghost use Rattle.tup_access.specs.Judge.{IsJudged};
 ghost use Rattle.tup_access.specs.Verdict as specs;
 ghost use Rattle.tup_rule.specs.Rule.{name_of};
+ghost use Rattle.tup_site.specs.Crash.{GoesOn, NoStep};
 ghost use Rattle.tup_update.specs.Outside.{HandsOn, HandsOnLarge};
 ghost use Rattle.tup_update.specs.Put.{AreOwn};
 ghost use Rattle.tup_update.specs.Ran.{RunsOne, CountsRuns};
@@ -35,6 +36,7 @@ pub(crate) fn run<S: Site, R: Runner>(
         (specs.verdict R.next rules.now rule.now (S.world site.old).tree)) }
     ensures own { IfOk result (λ judged. AreOwn rule.now judged.1) }
     ensures same { IsTrue S.tells → S.world site.new ≡ S.world site.old }
+    ensures crash { IsTrue S.tells → GoesOn S.moment S.left_since site.old site.new NoStep }
     ensures large { IsTrue S.tells → HandsOnLarge Outside (S.world site.new).tree result }
     ensures ran { IsTrue R.tells_ran
         → RunsOne (name_of rule.now) (R.ran runner.old) (R.ran runner.new) result }

@@ -6,6 +6,7 @@ use Rattle.tup_access.specs.Judge.{judge}
 use Rattle.tup_access.specs.declared.verdict.Access.TheVariants.{No}
 use Rattle.tup_update.specs.declared.view.Sight.{Sight}
 use Rattle.tup_update.specs.Seeing.{ComesTo}
+use Rattle.tup_update.specs.SeeingLaws.{rests}
 use Rattle.tup_update.proofs.Failing.{judged_refused}
 use Rattle.tup_update.proofs.Running.{judged_own, refused_own}
 use Rattle.tup_update.proofs.command.run.Goals as goal
@@ -36,3 +37,6 @@ returns-in-Err-Denied-clause-own g c =
     let some : IsSome view.refused.now = search rules in
     let comes : ComesTo view.refused.now c.came_to.result = search rules in
     refused_own c.args.rule.now view.refused.now c.came_to.result some comes
+
+pub returns-in_err-declared-clause-crash : goal.returns-in_err-declared-clause-crash
+returns-in_err-declared-clause-crash g c = λ tells. rests g.S.Site.moment g.S.Site.left_since c.args.site.now

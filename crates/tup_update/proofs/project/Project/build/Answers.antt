@@ -14,9 +14,12 @@ use Rattle.tup_update.specs.declared.stop.Halt.{Halt}
 use Rattle.tup_update.specs.declared.stop.Stop.TheVariants.{Outside}
 use Rattle.tup_update.specs.declared.update.Log.{Log}
 use Rattle.tup_update.proofs.Begun.{ran_none, ran_all_of, stopped_runs}
-use Rattle.tup_update.proofs.Ending.{vanished_are, claimed_are}
+use Rattle.tup_update.proofs.Ending.{gone_are, vanished_are, claimed_are}
 use Rattle.tup_update.proofs.Keeping.{IsUnderWay, err_is, small_failure, way_runnable, unplanned_stays, unplanned_keeps, unprepared_stays, unprepared_keeps, unrun_stays, unrun_keeps, stopped_stays, stopped_keeps, unfinished_stays, unfinished_keeps, finished_stays, finished_keeps}
 use Rattle.tup_update.proofs.Settling.{halted_unsettled}
+use Rattle.std.specs.FinMap as finite
+use Rattle.tup_update.specs.Images.{MakesStep}
+use Rattle.tup_update.proofs.Crashing.{at_rest, then_quiet, prepared_so, ran_so, finished_so}
 use Rattle.tup_update.proofs.project.Project.build.Goals as goal
 
 -- ---- what could not be planned
@@ -321,3 +324,65 @@ run-requires-clause-runnable g c κs = λ lives tells.
       beside = c.prepare.ensures.others tells;
     } in
     way_runnable project old mid plan.vanished plan.claimed way (c.in_ok-prepare.ensures.cleared tells)
+
+pub returns-in_err-plan-clause-crash : goal.returns-in_err-plan-clause-crash
+returns-in_err-plan-clause-crash g c = λ tells. at_rest g.S.Site.moment g.S.Site.left_since c.args.site.now (MakesStep c.args.self.now.owned c.args.self.now.rules)
+
+pub returns-in_err-prepare-clause-crash : goal.returns-in_err-prepare-clause-crash
+returns-in_err-prepare-clause-crash g c = λ tells.
+    let site_laws = g.met.S.Site g.world.𝓛 g.world.𝓜 g.world.𝓡 ((λ s x. x), (λ x. x), (λ x. x), λ x. x) in
+    let old = g.S.Site.world c.args.site.now in
+    let project = c.args.self.now in
+    let plan = c.in_ok-plan.plan in
+    let files = finite.keys old.tree in
+    let is = c.in_ok-plan.ensures.vanished ∙ gone_are project old (c.requires.project tells) in
+    let prepared = prepared_so g.S.Site.moment g.S.Site.left_since project.owned files project.rules c.args.site.now c.prepare.new.site plan.vanished is (c.prepare.ensures.crash tells) in
+    prepared
+
+pub returns-in_err-bad-clause-crash : goal.returns-in_err-bad-clause-crash
+returns-in_err-bad-clause-crash g c = λ tells.
+    let site_laws = g.met.S.Site g.world.𝓛 g.world.𝓜 g.world.𝓡 ((λ s x. x), (λ x. x), (λ x. x), λ x. x) in
+    let old = g.S.Site.world c.args.site.now in
+    let project = c.args.self.now in
+    let plan = c.in_ok-plan.plan in
+    let files = finite.keys old.tree in
+    let is = c.in_ok-plan.ensures.vanished ∙ gone_are project old (c.requires.project tells) in
+    let prepared = prepared_so g.S.Site.moment g.S.Site.left_since project.owned files project.rules c.args.site.now c.prepare.new.site plan.vanished is (c.prepare.ensures.crash tells) in
+    let ran = ran_so g.S.Site.moment g.S.Site.left_since project.owned files project.rules c.args.site.now c.prepare.new.site c.run.new.site (λ t u w le left. site_laws.earlier c.prepare.new.site t u w tells le left) prepared (c.run.ensures.crash tells) in
+    ran
+
+pub returns-in-Some-clause-crash : goal.returns-in-Some-clause-crash
+returns-in-Some-clause-crash g c = λ tells.
+    let site_laws = g.met.S.Site g.world.𝓛 g.world.𝓜 g.world.𝓡 ((λ s x. x), (λ x. x), (λ x. x), λ x. x) in
+    let old = g.S.Site.world c.args.site.now in
+    let project = c.args.self.now in
+    let plan = c.in_ok-plan.plan in
+    let files = finite.keys old.tree in
+    let is = c.in_ok-plan.ensures.vanished ∙ gone_are project old (c.requires.project tells) in
+    let prepared = prepared_so g.S.Site.moment g.S.Site.left_since project.owned files project.rules c.args.site.now c.prepare.new.site plan.vanished is (c.prepare.ensures.crash tells) in
+    let ran = ran_so g.S.Site.moment g.S.Site.left_since project.owned files project.rules c.args.site.now c.prepare.new.site c.run.new.site (λ t u w le left. site_laws.earlier c.prepare.new.site t u w tells le left) prepared (c.run.ensures.crash tells) in
+    then_quiet g.S.Site.moment g.S.Site.left_since c.args.site.now c.run.new.site c.stop_at.new.site (MakesStep project.owned project.rules) ran (c.stop_at.ensures.crash tells)
+
+pub returns-in_err-finish-in-None-clause-crash : goal.returns-in_err-finish-in-None-clause-crash
+returns-in_err-finish-in-None-clause-crash g c = λ tells.
+    let site_laws = g.met.S.Site g.world.𝓛 g.world.𝓜 g.world.𝓡 ((λ s x. x), (λ x. x), (λ x. x), λ x. x) in
+    let old = g.S.Site.world c.args.site.now in
+    let project = c.args.self.now in
+    let plan = c.in_ok-plan.plan in
+    let files = finite.keys old.tree in
+    let is = c.in_ok-plan.ensures.vanished ∙ gone_are project old (c.requires.project tells) in
+    let prepared = prepared_so g.S.Site.moment g.S.Site.left_since project.owned files project.rules c.args.site.now c.prepare.new.site plan.vanished is (c.prepare.ensures.crash tells) in
+    let ran = ran_so g.S.Site.moment g.S.Site.left_since project.owned files project.rules c.args.site.now c.prepare.new.site c.run.new.site (λ t u w le left. site_laws.earlier c.prepare.new.site t u w tells le left) prepared (c.run.ensures.crash tells) in
+    finished_so g.S.Site.moment g.S.Site.left_since project.owned files project.rules c.args.site.now c.run.new.site c.finish.new.site (λ t u w le left. site_laws.earlier c.run.new.site t u w tells le left) ran (c.finish.ensures.crash tells)
+
+pub returns-clause-crash : goal.returns-clause-crash
+returns-clause-crash g c = λ tells.
+    let site_laws = g.met.S.Site g.world.𝓛 g.world.𝓜 g.world.𝓡 ((λ s x. x), (λ x. x), (λ x. x), λ x. x) in
+    let old = g.S.Site.world c.args.site.now in
+    let project = c.args.self.now in
+    let plan = c.in_ok-plan.plan in
+    let files = finite.keys old.tree in
+    let is = c.in_ok-plan.ensures.vanished ∙ gone_are project old (c.requires.project tells) in
+    let prepared = prepared_so g.S.Site.moment g.S.Site.left_since project.owned files project.rules c.args.site.now c.prepare.new.site plan.vanished is (c.prepare.ensures.crash tells) in
+    let ran = ran_so g.S.Site.moment g.S.Site.left_since project.owned files project.rules c.args.site.now c.prepare.new.site c.run.new.site (λ t u w le left. site_laws.earlier c.prepare.new.site t u w tells le left) prepared (c.run.ensures.crash tells) in
+    finished_so g.S.Site.moment g.S.Site.left_since project.owned files project.rules c.args.site.now c.run.new.site c.finish.new.site (λ t u w le left. site_laws.earlier c.run.new.site t u w tells le left) ran (c.finish.ensures.crash tells)
