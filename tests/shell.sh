@@ -98,6 +98,8 @@ if unshare -U --map-user=1000 --map-group=1000 --keep-caps true 2> /dev/null; th
 fi
 # -- reading: files, nothing, folders; through links, which are no files
 try '' 'cat a b nope; [ -e sub/s ]' 'R a,R b,A nope,R sub/s,E 0'
+told two
+told 'nope: No such file'
 try '' 'cat ln dl/s a/x; [ -d sub ]; [ -d nodir ]' 'A ln,R a,A dl,R sub/s,A a/x,A nodir,E 1'
 # -- own outputs aren't there before they are written; what is written isn't asked for
 try 'o' 'cat o; echo x >o; cat o; echo y >>o' 'A o,W o,E 0'
@@ -137,6 +139,12 @@ try '' 'exit 3' 'E 3'
 try '' 'rm -rf *; echo x > ../source; echo y > ../src/a' 'R a,R b,A dl,R h.h,R interp,A ln,R lost,R o,R s.c,R script,R sub/s,W a,W b,W dl,W h.h,W interp,W ln,W lost,W o,W s.c,W script,W sub/s,W ../source,E 0'
 try '' 'mkfifo p; :' 'E 1'
 told "p: a link, a pipe"
+try '' 'mknod d c 1 3' 'A d,E 1'
+told 'd: Operation not permitted'
+if command -v perl > /dev/null; then
+    try '' "perl -MSocket -e 'socket(S, PF_UNIX, SOCK_STREAM, 0); bind(S, sockaddr_un(q(k)))'; echo x >out" 'W out,E 1'
+    told "k: a link, a pipe, a socket"
+fi
 try '' 'umount "$PWD/.." 2>/dev/null; mount -t tmpfs none . 2>/dev/null; echo x >a' 'A none,W a,E 0'
 # -- names that tup doesn't see: neither asked nor kept, and it says so
 try '' "echo x > 'a b'; cat 'a b' 'no such'; cat '\"q\\'" 'A "q\,E 1'
