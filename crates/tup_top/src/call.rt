@@ -3,7 +3,6 @@ ghost use Rattle.std.specs.Prelude.{IsTrue, map};
 ghost use Rattle.tup_site.specs.Crash.{GoesOn};
 ghost use Rattle.tup_update.specs.Compared.{HasCompared};
 ghost use Rattle.tup_update.specs.Images.{MakesStep};
-ghost use Rattle.tup_update.specs.Sources.{owned};
 ghost use Rattle.tup_update.specs.Log.{OfRules};
 ghost use Rattle.tup_update.specs.Settled.{IsSettled};
 ghost use Rattle.tup_update.specs.Outcome.{ExactlyTheFiles, MadeBeforeBad, SourcesStay, NothingForgotten, HasCause};
@@ -61,10 +60,10 @@ pub fn tup<S: Site, R: Runner, K: Sink>(
     ensures nothing_forgotten { IsTrue S.tells → let old = S.world site in
         let new = S.world result.site in ForUpdate (order words.now) result.status
         (OfRules old (λ rules. NothingForgotten R.tells R.next rules old new)) }
-    // Whenever a crash comes, no file changes but owned ones and outputs.
+    // Whenever a crash comes: no file changes but owned ones and outputs, and nothing is forgotten.
     ensures crash { IsTrue S.tells → let old = S.world site in
         ForUpdate (order words.now) result.status (OfRules old (λ rules _.
-        GoesOn S.moment S.left_since site result.site (MakesStep (owned old) rules))) }
+        GoesOn S.moment S.left_since site result.site (MakesStep R.tells R.next rules old))) }
     ensures settled { IsTrue S.tells
         → let left = S.left_since result.site (S.moment result.site) in
         ForUpdate (order words.now) result.status (IsSettled left (S.world result.site)) }

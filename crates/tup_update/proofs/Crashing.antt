@@ -1,5 +1,5 @@
 -- What a crash may leave, one call of a site behind another.
-use Rattle.std.proofs.Common.{◌≡◌, ◌⊎◌, ℕ, ◌<◌, true, false, List, [], Some, length, inl, inr, ⊎_elim, refl, sym, ap, ◌∙◌, get_or, arith}
+use Rattle.std.proofs.Common.{◌≡◌, ◌⊎◌, ℕ, ◌<◌, Bool, true, false, List, [], ◌++◌, Some, Ok, length, inl, inr, ⊎_elim, refl, sym, ap, subst, ◌∙◌, get_or, arith}
 use Rattle.std.specs.FinMap as finite
 use Rattle.std.specs.List.{slice_get}
 use Rattle.std.proofs.lemmas.Bool.{false≢true}
@@ -10,17 +10,23 @@ use Rattle.tup_path.specs.Order.{same_path}
 use Rattle.tup_path.specs.Tree.{Tree}
 use Rattle.tup_path.proofs.Same.{same_path-decides}
 use Rattle.tup_site.specs.Cause.{SameBut}
-use Rattle.tup_site.specs.Crash.{GoesOn, NoStep, FileStep, WriteStep, CutStep}
-use Rattle.tup_site.specs.World.{World, TreeStays}
+use Rattle.tup_site.specs.Crash.{GoesOn, NoStep, FileStep, WriteStep, CutStep, PinsStore}
+use Rattle.tup_site.specs.World.{World, TreeStays, StoreStays}
 use Rattle.tup_table.proofs.Going.{IsEarlier, as_step, nothing_then, then_on}
 use Rattle.tup_rule.specs.declared.rule.Rule.{Rule}
 use Rattle.tup_rule.specs.Rule.{among}
 use Rattle.tup_rule.proofs.Laws.{writes-at}
-use Rattle.tup_update.specs.Images.{FilesStep, TreeStep, MakesStep}
-use Rattle.tup_update.specs.Parts.{Changes, SameBeside, SameBesideOutputs}
+use Rattle.tup_runner.specs.Next.{Next}
+use Rattle.tup_owned.specs.Ascending.{ascending}
+use Rattle.tup_owned.specs.Owned.{owned_of, spelling}
+use Rattle.tup_update.specs.Images.{FilesStep, ListedStep, SettledStep, MakesStep}
+use Rattle.tup_update.specs.Outcome.{claimed, AllIsMade}
+use Rattle.tup_update.specs.Parts.{IsBuilt, IsProject, SameBeside, SameBesideOutputs}
 use Rattle.tup_update.specs.SeeingLaws.{rests}
-use Rattle.tup_update.specs.Sources.{gone}
-use Rattle.tup_update.proofs.Preparing.{kept_beside}
+use Rattle.tup_update.specs.Sources.{owned, outputs, sources, vanished, files_beside, build, AsksFor}
+use Rattle.tup_update.specs.declared.project.Project.{Project}
+use Rattle.tup_update.proofs.Ending.{project_owns, claimed_are}
+use Rattle.tup_update.proofs.Preparing.{kept_beside, claimed_reads}
 use Rattle.tup_update.proofs.Trees.{places}
 
 -- ---- how trees agree
@@ -40,6 +46,17 @@ pub place_here : (files : List (Names × Content)) (i : ℕ) (file : Names × Co
 place_here files i file within here =
     among_here (places files) i file.0 (simp length-map within)
     (get_or-map (λ (f : Names × Content). f.0) files i file file.0 within ∙ ap (λ (f : Names × Content). f.0) here)
+
+-- ---- what a project's store lists
+
+pub store_reads : (project : Project) (old : World) → IsProject project old → owned_of old.store ≡ Ok (owned old)
+store_reads project old is = is.owned ∙ ap (λ (paths : List Names). Ok paths) (sym (project_owns project old is))
+
+-- what is claimed reads back
+pub claims_read : (project : Project) (old : World) (claiming : List Names) → IsProject project old → claiming ≡ ascending (project.owned ++ outputs project.rules) → owned_of (spelling claiming) ≡ Ok (claimed project.rules old)
+claims_read project old claiming is claims =
+    ap (λ (paths : List Names). owned_of (spelling paths)) (claims ∙ claimed_are project old is)
+    ∙ claimed_reads old.store (owned old) (sources old) project.rules (store_reads project old is) is.buildable
 
 module _ {S : Type 0} (moment : S → ℕ) (left_since : S → ℕ → World → Type 0) where
   -- nothing was done
@@ -110,18 +127,20 @@ module _ {S : Type 0} (moment : S → ℕ) (left_since : S → ℕ → World →
       by (inl is) path outside = ap (among path) is ∙ outside
       by (inr none) path outside = ap (among path) none
 
-  -- ---- trees alone
+  -- two calls with steps of their own
+  pub joined_on : (old mid new : S) (first last both : World → World → Type 0) → IsEarlier moment left_since mid → ((v w : World) → first v w → both v w) → ((v w : World) → last v w → both v w) →
+      ((u v w : World) → first u v → last v w → both u w) → GoesOn moment left_since old mid first → GoesOn moment left_since mid new last → GoesOn moment left_since old new both
+  joined_on old mid new first last both earlier one two joined before behind = record {
+    later = omega (arith, before.later, behind.later);
+    kept = λ t w le left. behind.kept t w (omega (arith, le, before.later)) (before.kept t w le left);
+    since = λ t w le left.
+        ⊎_elim (λ now. ⊎_elim inl (λ from. inr (from.0, from.1, one from.0 w from.2)) (before.since t w le now))
+        (λ from. inr (⊎_elim (λ there. (from.0, there, two from.0 w from.2)) (λ back. (back.0, back.1, joined back.0 from.0 w back.2 from.2))
+        (before.since (moment old) from.0 (omega arith) (earlier (moment old) (moment mid) from.0 before.later from.1))))
+        (behind.since t w (omega (arith, le, before.later)) left);
+  }
 
-  -- one call behind another
-  pub more_trees : (old mid new : S) (agree : Tree → Tree → Type 0) → IsEarlier moment left_since mid → ((t u v : Tree) → agree t u → agree u v → agree t v) →
-      GoesOn moment left_since old mid (TreeStep agree) → GoesOn moment left_since mid new (TreeStep agree) → GoesOn moment left_since old new (TreeStep agree)
-  more_trees old mid new agree earlier joined first last =
-      then_on moment left_since old mid new (TreeStep agree) earlier (λ u v w one two. joined u.tree v.tree w.tree one two) first last
-
-  -- the steps of the store leave the tree
-  pub stays_as : (old new : S) (step : World → World → Type 0) (agree : Tree → Tree → Type 0) → ((v w : World) → step v w → agree v.tree w.tree) → GoesOn moment left_since old new step →
-      GoesOn moment left_since old new (TreeStep agree)
-  stays_as old new step agree so on = as_step moment left_since old new step (TreeStep agree) (λ v w left one. so v w one) on
+  -- ---- the store
 
   -- the store is written, cut and synced
   pub written_on : (old mid next new : S) (at n len : ℕ) → IsEarlier moment left_since mid → IsEarlier moment left_since next → GoesOn moment left_since old mid (WriteStep at n) →
@@ -131,31 +150,75 @@ module _ {S : Type 0} (moment : S → ℕ) (left_since : S → ℕ → World →
       (then_on moment left_since old mid next TreeStays earlier (λ u v w one two. two ∙ one) (as_step moment left_since old mid (WriteStep at n) TreeStays (λ v w left step. step.tree) write)
       (as_step moment left_since mid next (CutStep len) TreeStays (λ v w left step. step.tree) cut)) sync
 
-  -- the store is written, and then files are removed
-  pub prepared : (old mid new : S) (paths slice : List Names) → slice ≡ paths → IsEarlier moment left_since mid → GoesOn moment left_since old mid TreeStays → GoesOn moment left_since mid new (FilesStep (SameBeside slice)) →
-      GoesOn moment left_since old new (TreeStep (SameBeside paths))
-  prepared old mid new paths slice is earlier first last =
-      more_trees old mid new (SameBeside paths) earlier (beside_then paths) (stays_as old mid TreeStays (SameBeside paths) (λ v w same path outside. ap (λ (t : Tree). finite.get t path) same) first)
-      (stays_as mid new (FilesStep (SameBeside slice)) (SameBeside paths) (λ v w step path outside. step.files path (ap (among path) is ∙ outside)) last)
+  -- what is durable in the store stays so where files are changed
+  pub still_listed : (old new : S) (now later : World) (agree : Tree → Tree → Type 0) → IsEarlier moment left_since new → GoesOn moment left_since old new (FilesStep agree) → StoreStays now later →
+      PinsStore (left_since old (moment old)) now → PinsStore (left_since new (moment new)) later
+  still_listed old new now later agree earlier on same pinned w left =
+      ⊎_elim (λ (before : left_since old (moment old) w). pinned w before ∙ sym same) (λ from. from.2.store ∙ pinned from.0 from.1 ∙ sym same)
+      (on.since (moment old) w (omega arith) (earlier (moment old) (moment new) w on.later left))
 
-  -- files that are vanished are removed, and then rules are run
-  module _ (owned files : List Names) (rules : List Rule) where
-    abbrev makes : Tree → Tree → Type 0
-    makes = Changes owned rules
+  -- the store is written, and no file was touched yet
+  pub written_only : (old new : S) (paths : List Names) (bytes : List ℕ) → GoesOn moment left_since old new TreeStays → GoesOn moment left_since old new (ListedStep (SameBeside paths) bytes)
+  written_only old new paths bytes on =
+      as_step moment left_since old new TreeStays (ListedStep (SameBeside paths) bytes)
+      (λ v w left same. (let step : ListedStep (SameBeside paths) bytes v w = record { files = λ path outside. ap (λ (t : Tree). finite.get t path) same; listed = inr same } in step)) on
 
-    pub makes_then : (t u v : Tree) → makes t u → makes u v → makes t v
-    makes_then t u v one two path unowned unmade = two path unowned unmade ∙ one path unowned unmade
+  -- the store is written durably, and then files are removed
+  pub prepared : (old mid new : S) (paths slice : List Names) (now : World) (bytes : List ℕ) → slice ≡ paths → IsEarlier moment left_since mid → GoesOn moment left_since old mid TreeStays →
+      PinsStore (left_since mid (moment mid)) now → now.store ≡ bytes → GoesOn moment left_since mid new (FilesStep (SameBeside slice)) → GoesOn moment left_since old new (ListedStep (SameBeside paths) bytes)
+  prepared old mid new paths slice now bytes is earlier written pinned stored removed =
+      joined_on old mid new TreeStays last (ListedStep (SameBeside paths) bytes) earlier
+      (λ v w same. (let step : ListedStep (SameBeside paths) bytes v w = record { files = λ path outside. ap (λ (t : Tree). finite.get t path) same; listed = inr same } in step))
+      (λ v w step. (let now : ListedStep (SameBeside paths) bytes v w = record { files = step.0; listed = inl step.1 } in now))
+      (λ u v w same step. (let now : ListedStep (SameBeside paths) bytes u w = record { files = λ path outside. step.0 path outside ∙ ap (λ (t : Tree). finite.get t path) same; listed = inl step.1 } in now))
+      written (as_step moment left_since mid new (FilesStep (SameBeside slice)) last
+      (λ v w left step. (λ path outside. step.files path (ap (among path) is ∙ outside), step.store ∙ pinned v left ∙ stored)) removed)
+    where
+      last : World → World → Type 0
+      last v w = SameBeside paths v.tree w.tree × (w.store ≡ bytes)
 
-    pub prepared_so : (old new : S) (vanished : List Names) → vanished ≡ gone owned files rules → GoesOn moment left_since old new (TreeStep (SameBeside vanished)) → GoesOn moment left_since old new (MakesStep owned rules)
-    prepared_so old new vanished is on =
-        stays_as old new (TreeStep (SameBeside vanished)) makes
-        (λ v w same path unowned unmade. same path (ap (among path) is ∙ kept_beside owned files rules path unowned)) on
+  -- ---- a whole update: the store is written and vanished files are removed, rules are run, and the store is written again
+  module _ (tells : Bool) (next : Next) (rules : List Rule) (start : World) (read : owned_of start.store ≡ Ok (owned start)) (asked : AsksFor start rules) where
+    abbrev makes : World → World → Type 0
+    makes = MakesStep tells next rules start
 
-    pub ran_so : (old mid new : S) → IsEarlier moment left_since mid → GoesOn moment left_since old mid (MakesStep owned rules) → GoesOn moment left_since mid new (FilesStep (SameBesideOutputs rules)) →
-        GoesOn moment left_since old new (MakesStep owned rules)
-    ran_so old mid new earlier first last =
-        more_trees old mid new makes earlier makes_then first (stays_as mid new (FilesStep (SameBesideOutputs rules)) makes (λ v w step path unowned unmade. step.files path unmade) last)
+    pub prepared_so : (old new : S) (vanishing : List Names) (bytes : List ℕ) → vanishing ≡ vanished rules start → owned_of bytes ≡ Ok (claimed rules start) →
+        GoesOn moment left_since old new (ListedStep (SameBeside vanishing) bytes) → GoesOn moment left_since old new makes
+    prepared_so old new vanishing bytes is reads on =
+        as_step moment left_since old new (ListedStep (SameBeside vanishing) bytes) makes
+        (λ v w left step. (let now : makes v w = record {
+          read = read;
+          asked = asked;
+          files = λ path unowned unmade. step.files path (ap (among path) is ∙ kept_beside (owned start) (finite.keys start.tree) rules path unowned);
+          listed = ⊎_elim (λ stored. inl (ap owned_of stored ∙ reads)) (λ same. inr (inl same)) step.listed;
+        } in now)) on
 
-    pub finished_so : (old mid new : S) → IsEarlier moment left_since mid → GoesOn moment left_since old mid (MakesStep owned rules) → GoesOn moment left_since mid new TreeStays → GoesOn moment left_since old new (MakesStep owned rules)
-    finished_so old mid new earlier first last =
-        more_trees old mid new makes earlier makes_then first (stays_as mid new TreeStays makes (λ v w same path unowned unmade. ap (λ (t : Tree). finite.get t path) same) last)
+    pub ran_so : (old mid new : S) (now : World) → IsEarlier moment left_since mid → PinsStore (left_since mid (moment mid)) now → owned_of now.store ≡ Ok (claimed rules start) → GoesOn moment left_since old mid makes →
+        GoesOn moment left_since mid new (FilesStep (SameBesideOutputs rules)) → GoesOn moment left_since old new makes
+    ran_so old mid new now earlier pinned reads before ran =
+        joined_on old mid new makes last makes earlier (λ v w step. step)
+        (λ v w step. (let on : makes v w = record { read = read; asked = asked; files = λ path unowned unmade. step.0 path unmade; listed = inl step.1 } in on))
+        (λ u v w one two. (let on : makes u w = record { read = read; asked = asked; files = λ path unowned unmade. two.0 path unmade ∙ one.files path unowned unmade; listed = inl two.1 } in on))
+        before (as_step moment left_since mid new (FilesStep (SameBesideOutputs rules)) last (λ v w left step. (step.files, ap owned_of (step.store ∙ pinned v left) ∙ reads)) ran)
+      where
+        last : World → World → Type 0
+        last v w = SameBesideOutputs rules v.tree w.tree × (owned_of w.store ≡ Ok (claimed rules start))
+
+    -- all is made in every world with these files
+    made_in : (now w : World) → AllIsMade tells next rules start now → TreeStays now w → AllIsMade tells next rules start w
+    made_in now w made same = record {
+      beside = ap (files_beside (outputs rules)) same ∙ made.beside;
+      built = λ means. subst (IsBuilt (build next rules start)) (sym same) (made.built means);
+    }
+
+    pub finished_so : (old mid new : S) (now : World) → IsEarlier moment left_since mid → AllIsMade tells next rules start now → GoesOn moment left_since old mid makes → GoesOn moment left_since mid new (SettledStep now) →
+        GoesOn moment left_since old new makes
+    finished_so old mid new now earlier made before on =
+        joined_on old mid new makes (SettledStep now) makes earlier (λ v w step. step)
+        (λ v w step. (let last : makes v w = record { read = read; asked = asked; files = λ path unowned unmade. ap (λ (t : Tree). finite.get t path) step.0; listed = inr (inr (made_in now w made step.1)) } in last))
+        (λ u v w one step. (let last : makes u w = record {
+          read = read;
+          asked = asked;
+          files = λ path unowned unmade. ap (λ (t : Tree). finite.get t path) step.0 ∙ one.files path unowned unmade;
+          listed = inr (inr (made_in now w made step.1));
+        } in last)) before on

@@ -1,14 +1,14 @@
 //! The making of a project's files.
 ghost use Rattle.std.specs.Prelude.{◌≡◌, ◌⊎◌, ◌++◌, false, IsTrue, IfOk, IfErr, OnOk, Some};
 ghost use Rattle.std.specs.Result.{result_err};
-ghost use Rattle.tup_site.specs.Crash.{GoesOn, NoStep, PinsTree};
+ghost use Rattle.tup_site.specs.Crash.{GoesOn, NoStep, PinsStore, PinsTree};
 ghost use Rattle.tup_site.specs.World.{TreeStays, StoreStays};
 ghost use Rattle.tup_site.specs.Cause.{CountsFaults, NeverTooLarge};
 ghost use Rattle.tup_access.specs.Generated.{IsGenerated};
 ghost use Rattle.tup_clean.specs.Clean.{is_good};
 ghost use Rattle.tup_owned.specs.Owned.{spelling};
 ghost use Rattle.tup_owned.specs.Ascending.{ascending};
-ghost use Rattle.tup_update.specs.Images.{FilesStep, MakesStep, TreeStep};
+ghost use Rattle.tup_update.specs.Images.{FilesStep, ListedStep, MakesStep, SettledStep};
 ghost use Rattle.tup_update.specs.Log.{IsGrownByFront, IsUnused, with_read};
 ghost use Rattle.tup_update.specs.Outcome.{Keeps, Stays, HasCountedCause, HasRunCause};
 ghost use Rattle.tup_update.specs.Parts.{IsProject, IsCleared, SameBeside, StopsAt};
@@ -113,7 +113,7 @@ impl Project {
         ensures settled { IsTrue S.tells → let left = S.left_since site.new (S.moment site.new) in
             IsSettled left (S.world site.new) (result_err result) }
         ensures crash { IsTrue S.tells → GoesOn S.moment S.left_since site.old site.new
-            (MakesStep self.now.owned self.now.rules) }
+            (MakesStep R.tells R.next self.now.rules (S.world site.old)) }
         ensures ran { IsTrue R.tells_ran
             → RunsThese log.new.ran (R.ran runner.old) (R.ran runner.new) (result_err result) }
         ensures counted { let stopped = result_err result in
@@ -137,7 +137,7 @@ impl Project {
     }
 }
 
-/// Owns what may be written, and removes the files of vanished rules.
+/// Owns what may be written, durably, and then removes the files of vanished rules.
 fn prepare<S: Site>(
     alloc: Global,
     site: &mut S,
@@ -153,7 +153,9 @@ fn prepare<S: Site>(
     ensures unclaimed { IsTrue S.tells → ((S.world site.new).store ≡ spelling plan.now.claimed)
         ⊎ TreeStays (S.world site.old) (S.world site.new) }
     ensures crash { IsTrue S.tells → GoesOn S.moment S.left_since site.old site.new
-        (TreeStep (SameBeside plan.now.vanished)) }
+        (ListedStep (SameBeside plan.now.vanished) (spelling plan.now.claimed)) }
+    ensures pinned { IsTrue S.tells → let left = S.left_since site.new (S.moment site.new) in
+        OnOk result (PinsStore left (S.world site.new)) }
     ensures removed { OnOk result (removed.new ≡ removed.old ++ plan.now.vanished) }
     ensures part { IsGrownByFront removed.old removed.new plan.now.vanished }
     ensures never_too_large { NeverTooLarge result }
@@ -210,7 +212,8 @@ fn stop_at<S: Site>(alloc: Global, site: &mut S, bad: BadRule) -> Stop
 fn finish<S: Site>(alloc: Global, site: &mut S, listed: &[Path]) -> Result<(), SiteFailed>
     ensures listed { IsTrue S.tells → OnOk result ((S.world site.new).store ≡ spelling listed.now) }
     ensures tree { IsTrue S.tells → TreeStays (S.world site.old) (S.world site.new) }
-    ensures crash { IsTrue S.tells → GoesOn S.moment S.left_since site.old site.new TreeStays }
+    ensures crash { IsTrue S.tells → GoesOn S.moment S.left_since site.old site.new
+        (SettledStep (S.world site.old)) }
     ensures durable { IsTrue S.tells → OnOk result
         (IsDurable (S.left_since site.new (S.moment site.new)) (S.world site.new)) }
     ensures never_too_large { NeverTooLarge result }
@@ -225,6 +228,8 @@ fn write_store<S: Site>(alloc: Global, site: &mut S, paths: &[Path]) -> Result<(
     ensures owned { IsTrue S.tells → OnOk result ((S.world site.new).store ≡ spelling paths.now) }
     ensures tree { IsTrue S.tells → TreeStays (S.world site.old) (S.world site.new) }
     ensures crash { IsTrue S.tells → GoesOn S.moment S.left_since site.old site.new TreeStays }
+    ensures pinned { IsTrue S.tells → let left = S.left_since site.new (S.moment site.new) in
+        OnOk result (PinsStore left (S.world site.new)) }
     // Where the files were settled before, a crash then leaves all as it is.
     ensures durable { IsTrue S.tells
         → PinsTree (S.left_since site.old (S.moment site.old)) (S.world site.old)

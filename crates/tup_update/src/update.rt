@@ -7,7 +7,6 @@ ghost use Rattle.tup_update.specs.Log.{IsEmptyLog, LogFits, RulesFit};
 ghost use Rattle.tup_update.specs.Outcome.{Keeps, Stays, ExactlyTheFiles, MadeBeforeBad, SourcesStay, NothingForgotten, HasCause, HasCountedCause, HasRunCause};
 ghost use Rattle.tup_update.specs.Ran.{RunsThese};
 ghost use Rattle.tup_update.specs.Settled.{IsSettled};
-ghost use Rattle.tup_update.specs.Sources.{owned};
 ghost use Rattle.tup_update.specs.Turns.{TurnsFit};
 
 use crate::project::Project;
@@ -68,7 +67,7 @@ pub fn update_site<S: Site, R: Runner>(alloc: Global, site: &mut S, runner: &mut
     ensures nothing_forgotten { IsTrue S.tells → NothingForgotten R.tells R.next
         result.rules (S.world site.old) (S.world site.new) result.stopped }
     ensures crash { IsTrue S.tells → GoesOn S.moment S.left_since site.old site.new
-        (MakesStep (owned (S.world site.old)) result.rules) }
+        (MakesStep R.tells R.next result.rules (S.world site.old)) }
     ensures settled { IsTrue S.tells → let left = S.left_since site.new (S.moment site.new) in
         IsSettled left (S.world site.new) result.stopped }
     ensures cause { IsTrue S.tells → IsTrue R.tells → HasCause R.next
@@ -108,7 +107,7 @@ fn carry_out<S: Site, R: Runner>(
     ensures kept { IsTrue S.tells → IsTrue R.tells → Keeps R.next
         rules.new (S.world site.old) (S.world site.new) log.new (result_err result) }
     ensures crash { IsTrue S.tells → GoesOn S.moment S.left_since site.old site.new
-        (MakesStep (owned (S.world site.old)) rules.new) }
+        (MakesStep R.tells R.next rules.new (S.world site.old)) }
     ensures settled { IsTrue S.tells → let left = S.left_since site.new (S.moment site.new) in
         IsSettled left (S.world site.new) (result_err result) }
     ensures ran { IsTrue R.tells_ran
