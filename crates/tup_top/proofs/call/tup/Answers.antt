@@ -5,7 +5,7 @@ use Rattle.tup_update.specs.Compared.{HasCompared}
 use Rattle.tup_update.specs.Images.{MakesStep}
 use Rattle.tup_update.specs.Outcome.{ExactlyTheFiles, MadeBeforeBad, SourcesStay, NothingForgotten, HasCause}
 use Rattle.tup_update.specs.Settled.{IsSettled}
-use Rattle.tup_update.specs.Sources.{owned, ends}
+use Rattle.tup_update.specs.Sources.{ends}
 use Rattle.tup_update.specs.Turns.{names_of}
 use Rattle.tup_update.proofs.Crashing.{at_rest}
 use Rattle.tup_update.proofs.Ending.{no_front}
@@ -151,4 +151,5 @@ pub returns-clause-crash : goal.returns-clause-crash
 returns-clause-crash g c = λ _.
     let site = c.args.site in
     let world = g.S.Site.world site in
-    memory_of (order c.args.words.now) world (λ rules _. GoesOn g.S.Site.moment g.S.Site.left_since site site (MakesStep (owned world) rules)) (at_rest g.S.Site.moment g.S.Site.left_since site (MakesStep (owned world) []))
+    let makes = λ rules. MakesStep g.R.Runner.tells g.R.Runner.next rules world in
+    memory_of (order c.args.words.now) world (λ rules _. GoesOn g.S.Site.moment g.S.Site.left_since site site (makes rules)) (at_rest g.S.Site.moment g.S.Site.left_since site (makes []))
