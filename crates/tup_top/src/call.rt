@@ -1,5 +1,5 @@
 //! The top call.
-ghost use Rattle.std.specs.Prelude.{⊥, IsTrue, map};
+ghost use Rattle.std.specs.Prelude.{IsTrue, map};
 ghost use Rattle.tup_site.specs.Crash.{GoesOn, NoStep};
 ghost use Rattle.tup_update.specs.Compared.{HasCompared};
 ghost use Rattle.tup_update.specs.Images.{MakesStep};
