@@ -6,6 +6,7 @@ use Rattle.tup_update.specs.Images.{MakesStep}
 use Rattle.tup_update.specs.Outcome.{ExactlyTheFiles, MadeBeforeBad, SourcesStay, NothingForgotten, HasCause}
 use Rattle.tup_update.specs.Settled.{IsSettled}
 use Rattle.tup_update.specs.Sources.{ends}
+use Rattle.tup_update.specs.SeeingLaws.{rests}
 use Rattle.tup_update.specs.Turns.{names_of}
 use Rattle.tup_update.proofs.Crashing.{at_rest}
 use Rattle.tup_update.proofs.Ending.{no_front}
@@ -151,5 +152,14 @@ pub returns-clause-crash : goal.returns-clause-crash
 returns-clause-crash g c = λ _.
     let site = c.args.site in
     let world = g.S.Site.world site in
-    let makes = λ rules. MakesStep g.R.Runner.tells g.R.Runner.next rules world in
-    memory_of (order c.args.words.now) world (λ rules _. GoesOn g.S.Site.moment g.S.Site.left_since site site (makes rules)) (at_rest g.S.Site.moment g.S.Site.left_since site (makes []))
+    memory_of (order c.args.words.now) world (λ rules _. GoesOn g.S.Site.moment g.S.Site.left_since site site (MakesStep g.R.Runner.tells g.R.Runner.next rules world))
+    (at_rest g.S.Site.moment g.S.Site.left_since site (MakesStep g.R.Runner.tells g.R.Runner.next [] world))
+
+pub returns-in-Ok-Demo-clause-quiet : goal.returns-in-Ok-Demo-clause-quiet
+returns-in-Ok-Demo-clause-quiet g c = λ _ _. rests g.S.Site.moment g.S.Site.left_since c.args.site
+
+pub returns-in-Err-Usage-clause-quiet : goal.returns-in-Err-Usage-clause-quiet
+returns-in-Err-Usage-clause-quiet g c = λ _ _. rests g.S.Site.moment g.S.Site.left_since c.args.site
+
+pub returns-clause-quiet : goal.returns-clause-quiet
+returns-clause-quiet g c = λ _ _. rests g.S.Site.moment g.S.Site.left_since c.args.site
