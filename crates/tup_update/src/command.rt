@@ -63,13 +63,13 @@ fn run_seeing<S: Site, R: Runner>(
     requires made { IsGenerated sight.rules.now sight.made.now }
     requires declared { IsDeclared sight.rule.now sight.declared.now }
     ensures judged { IsTrue S.tells → IsTrue R.tells → IfOk result (λ judged. IsJudged judged.0 judged.1
-        (specs.verdict R.next sight.rules.now sight.rule.now (S.world site.old).tree)) }
-    ensures own { IfOk result (λ judged. AreOwn sight.rule.now judged.1) }
+        (specs.verdict R.next sight.entry.rules.now sight.entry.rule.now (S.world site.old).tree)) }
+    ensures own { IfOk result (λ judged. AreOwn sight.entry.rule.now judged.1) }
     ensures same { IsTrue S.tells → S.world site.new ≡ S.world site.old }
     ensures crash { IsTrue S.tells → GoesOn S.moment S.left_since site.old site.new NoStep }
     ensures large { IsTrue S.tells → HandsOnLarge Outside (S.world site.new).tree result }
     ensures ran { IsTrue R.tells_ran
-        → RunsOne (name_of sight.rule.now) (R.ran runner.old) (R.ran runner.new) result }
+        → RunsOne (name_of sight.entry.rule.now) (R.ran runner.old) (R.ran runner.new) result }
     ensures cause { HandsOn Outside (S.faults site.old) (S.faults site.new) result }
     ensures run_cause { CountsRuns (R.faults runner.old) (R.faults runner.new) result }
 {
