@@ -62,8 +62,10 @@ fn run_seeing<S: Site, R: Runner>(
 ) -> Result<(Verdict, Files), Halt>
     requires made { IsGenerated sight.rules.now sight.made.now }
     requires declared { IsDeclared sight.rule.now sight.declared.now }
-    ensures judged { IsTrue S.tells → IsTrue R.tells → IfOk result (λ judged. IsJudged judged.0 judged.1
-        (specs.verdict R.next sight.entry.rules.now sight.entry.rule.now (S.world site.old).tree)) }
+    ensures judged { IsTrue S.tells → IsTrue R.tells
+        → let sight = sight.entry in let tree = (S.world site.old).tree in
+        IfOk result (λ judged. IsJudged judged.0 judged.1
+        (specs.verdict R.next sight.rules.now sight.rule.now tree)) }
     ensures own { IfOk result (λ judged. AreOwn sight.entry.rule.now judged.1) }
     ensures same { IsTrue S.tells → S.world site.new ≡ S.world site.old }
     ensures crash { IsTrue S.tells → GoesOn S.moment S.left_since site.old site.new NoStep }
