@@ -6,11 +6,12 @@ SHIM = crates/tup_shim/out/tup_shim
 MAN = $(DESTDIR)$(PREFIX)/share/man/man1/tup.1
 VERSION = $(shell sed -n 's/^const VERSION: &str = "\(.*\)";/\1/p' crates/tup/src/main.rt)
 
-.PHONY: help build runners demo test try shell killed fmt times install uninstall clean
+.PHONY: help build runners demo test edits try shell killed fmt times install uninstall clean
 
 help:
 	@echo 'make demo       builds the programs and shows them on copies of examples/tree, examples/hello and examples/c'
 	@echo 'make test       the gate: every proof, every edit that must be refused, every test, the program as a user meets it'
+	@echo 'make edits      the edits that must be refused and that the gate leaves out; CRATES=tup_stamp tries those of that crate alone'
 	@echo 'make try        the last part of the gate alone: the program over small projects, full disks, damaged stores'
 	@echo 'make shell      runs shell commands under tup_sh, builds examples/c and runs hostile commands (passed over where there is no strace)'
 	@echo 'make killed     fails and kills each system call of an update in turn, and what else only strace can show (ten minutes)'
@@ -34,6 +35,9 @@ demo: build runners
 
 test:
 	.ci/run
+
+edits:
+	sh tests/edits.sh $(CRATES)
 
 try: build
 	sh tests/program.sh $(TUP)
