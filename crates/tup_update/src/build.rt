@@ -31,7 +31,7 @@ use tup_runner::Runner;
 use tup_site::{Site, SiteFailed};
 
 /// What is to be done for a project, made before anything is touched.
-#[derive(Debug, Drop)]
+#[derive(Drop)]
 pub(crate) struct Plan {
     /// The outputs of all rules, for quick look-ups.
     pub made: BTreeSet<Path>,

@@ -30,7 +30,7 @@ use tup_site::{Site, SiteFailed};
 use tup_whole::read_all;
 
 /// What a site holds.
-#[derive(Debug, Drop)]
+#[derive(Drop)]
 pub(crate) struct Found {
     /// The paths that the store lists.
     pub owned: Paths,

@@ -25,7 +25,7 @@ use tup_rule::Rules;
 use tup_site::Site;
 
 /// What a site asks for.
-#[derive(Debug, Drop)]
+#[derive(Drop)]
 pub(crate) struct Project {
     /// The paths that the store lists.
     pub owned: Paths,
