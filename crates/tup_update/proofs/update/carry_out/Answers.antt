@@ -47,7 +47,7 @@ returns-clause-crash g c = λ tells.
     let site_laws = g.met.S.Site g.world.𝓛 g.world.𝓜 g.world.𝓡 ((λ s x. x), (λ x. x), (λ x. x), λ x. x) in
     let old = c.args.site.now in
     let mid = c.read.new.site in
-    let new = c.build.new.site in
+    let new = c.build-built.new.site in
     let makes = MakesStep g.R.Runner.tells g.R.Runner.next c.in_ok-project.project.rules in
     subst (λ (w : World). GoesOn g.S.Site.moment g.S.Site.left_since old new (makes w)) (c.read.ensures.same tells)
-    (nothing_then g.S.Site.moment g.S.Site.left_since old mid new (makes (g.S.Site.world mid)) (λ t u w le left. site_laws.earlier mid t u w tells le left) (c.read.ensures.crash tells) (c.build.ensures.crash tells))
+    (nothing_then g.S.Site.moment g.S.Site.left_since old mid new (makes (g.S.Site.world mid)) (λ t u w le left. site_laws.earlier mid t u w tells le left) (c.read.ensures.crash tells) (c.build-built.ensures.crash tells))
