@@ -1,6 +1,6 @@
 use Rattle.std.proofs.Common.{sym, subst, ◌∙◌}
 use Rattle.tup_site.specs.Crash.{NoStep, PinsTree}
-use Rattle.tup_site.specs.World.{World, TreeStays}
+use Rattle.tup_site.specs.World.{TreeStays}
 use Rattle.tup_table.proofs.Going.{as_step, nothing_then}
 use Rattle.tup_update.specs.Images.{SettledStep}
 use Rattle.tup_update.proofs.build.finish.Goals as goal

@@ -1,4 +1,4 @@
-use Rattle.std.proofs.Common.{Ok, sym, ap, subst, ◌∙◌}
+use Rattle.std.proofs.Common.{ap, subst, ◌∙◌}
 use Rattle.std.specs.FinMap as finite
 use Rattle.tup_site.specs.World.{World}
 use Rattle.tup_update.specs.Compared.{HasBuilt, compared_at, difference}

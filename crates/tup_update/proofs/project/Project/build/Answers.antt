@@ -390,7 +390,7 @@ returns-in_err-finish-in-None-clause-crash g c = λ tells.
     let now = g.S.Site.world c.run.new.site in
     let sources = files_beside project.owned (g.S.Site.world mid).tree in
     let made = all_made project old (g.S.Site.world mid) plan.vanished plan.claimed way g.R.Runner.tells g.R.Runner.next now now (c.in_ok-prepare.ensures.cleared tells) (c.run.ensures.others tells) refl
-        (λ means. subst (HasRun g.R.Runner.next project.rules sources now.tree) c.in-None.is (c.in_ok-bad.ensures.run tells means)) in
+    (λ means. subst (HasRun g.R.Runner.next project.rules sources now.tree) c.in-None.is (c.in_ok-bad.ensures.run tells means)) in
     finished_so g.S.Site.moment g.S.Site.left_since g.R.Runner.tells g.R.Runner.next project.rules old (store_reads project old is) is.asked site c.run.new.site c.finish.new.site now (λ t u w le left. site_laws.earlier c.run.new.site t u w tells le left) made ran (c.finish.ensures.crash tells)
 
 pub returns-clause-crash : goal.returns-clause-crash
@@ -414,5 +414,5 @@ returns-clause-crash g c = λ tells.
     let now = g.S.Site.world c.run.new.site in
     let sources = files_beside project.owned (g.S.Site.world mid).tree in
     let made = all_made project old (g.S.Site.world mid) plan.vanished plan.claimed way g.R.Runner.tells g.R.Runner.next now now (c.in_ok-prepare.ensures.cleared tells) (c.run.ensures.others tells) refl
-        (λ means. subst (HasRun g.R.Runner.next project.rules sources now.tree) c.in-None.is (c.in_ok-bad.ensures.run tells means)) in
+    (λ means. subst (HasRun g.R.Runner.next project.rules sources now.tree) c.in-None.is (c.in_ok-bad.ensures.run tells means)) in
     finished_so g.S.Site.moment g.S.Site.left_since g.R.Runner.tells g.R.Runner.next project.rules old (store_reads project old is) is.asked site c.run.new.site c.finish.new.site now (λ t u w le left. site_laws.earlier c.run.new.site t u w tells le left) made ran (c.finish.ensures.crash tells)
