@@ -7,3 +7,5 @@ pub mod Ending
 pub mod Walking
 pub mod Recorded
 pub mod Recording
+pub mod Ordering
+pub mod Untouched

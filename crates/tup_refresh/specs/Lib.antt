@@ -3,3 +3,4 @@ pub mod Standing
 pub mod Found
 pub mod Walk
 pub mod Language
+pub mod Untouched

@@ -14,6 +14,8 @@ mod refreshing;
 mod standing;
 mod walk;
 
-pub use laws::{readings_are_true_records, refreshed_as_read, true_records_serve};
+pub use laws::{
+    readings_are_true_records, refreshed_as_read, true_records_serve, untouched_are_not_read,
+};
 pub use refreshed::Refreshed;
 pub use refreshing::refresh;
