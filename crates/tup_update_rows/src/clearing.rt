@@ -1,10 +1,9 @@
 //! The calls of `stale.rows`.
+use crate::left::{add_left, add_refusal};
 use crate::project::Project;
 use std::alloc::Global;
-use tup_graph::{GraphFault, Nodes};
 use tup_kept::Graph;
 use tup_path::{Bytes, Path, Paths};
-use tup_record::OwnedState;
 use tup_rows::{Answers, RowFault, Words};
 use tup_site::{Changed, Choice, MemSite};
 use tup_stale::{StaleFault, clear};
@@ -68,7 +67,7 @@ impl Clearings {
     fn clear_in(&self, alloc: Global, words: &mut Words, site: &mut MemSite) {
         add_clearing(alloc, words, site);
         site.run_on();
-        self.add_left(alloc, words, site);
+        add_left(alloc, words, &self.project, site);
     }
 
     /// Clears the project, stopped after so many calls of the site; a crash then leaves the store as it was after so many
@@ -93,10 +92,10 @@ impl Clearings {
     fn crash(&self, alloc: Global, words: &mut Words, site: &mut MemSite, choice: Choice) {
         match site.crash(alloc, choice) {
             Ok(()) => {
-                self.add_left(alloc, words, site);
+                add_left(alloc, words, &self.project, site);
                 words.put(alloc, b"again");
                 add_clearing(alloc, words, site);
-                self.add_left(alloc, words, site);
+                add_left(alloc, words, &self.project, site);
             }
             Err(fault) => words.show(alloc, &fault),
         }
@@ -115,18 +114,6 @@ impl Clearings {
             }),
             None => Err(RowFault::OtherKind),
         }
-    }
-
-    /// Adds the files that are left of the project's, and the paths that the store owns.
-    fn add_left(&self, alloc: Global, words: &mut Words, site: &mut MemSite) {
-        words.put(alloc, b"files");
-        for (path, _) in self.project.files.as_slice() {
-            if let Some(content) = site.file(path) {
-                words.show(alloc, path);
-                words.put(alloc, content.as_slice());
-            }
-        }
-        add_owned(alloc, words, site);
     }
 }
 
@@ -177,44 +164,5 @@ fn add_end(alloc: Global, words: &mut Words, ended: Result<Paths, StaleFault>) {
         }
         Err(StaleFault::Memory) => words.fail(RowFault::Memory),
         Err(fault) => words.show(alloc, &fault),
-    }
-}
-
-/// Adds the paths that the store of a site owns, each with its maker and its state.
-fn add_owned(alloc: Global, words: &mut Words, site: &mut MemSite) {
-    match Graph::open(alloc, site) {
-        Ok(graph) => add_nodes(alloc, words, graph.nodes()),
-        Err(fault) => add_refusal(alloc, words, fault),
-    }
-}
-
-fn add_nodes(alloc: Global, words: &mut Words, nodes: &Nodes) {
-    words.put(alloc, b"owned");
-    for (path, owned) in nodes.owned() {
-        words.show(alloc, path);
-        if owned.maker.is_some() {
-            words.put(alloc, b"made");
-        }
-        words.put(alloc, word_of(owned.state));
-    }
-    words.put(alloc, b"seen");
-    for (path, _) in nodes.files() {
-        words.show(alloc, path);
-    }
-}
-
-fn word_of(state: OwnedState) -> &'static [u8] {
-    match state {
-        OwnedState::Never => b"never",
-        OwnedState::Unsure => b"unsure",
-        OwnedState::Written(_) => b"written",
-    }
-}
-
-/// Adds why a store doesn't open; want of memory is no answer.
-fn add_refusal(alloc: Global, words: &mut Words, fault: GraphFault) {
-    match fault {
-        GraphFault::Memory => words.fail(RowFault::Memory),
-        fault => words.show(alloc, &fault),
     }
 }
