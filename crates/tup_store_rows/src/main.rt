@@ -14,6 +14,7 @@ mod say;
 mod scan;
 mod sites;
 mod swap;
+mod sweep;
 mod table;
 mod transaction;
 mod values;
@@ -25,6 +26,7 @@ use owned::OwnedLists;
 use record::Records;
 use sites::Sites;
 use std::io;
+use sweep::Sweeps;
 use table::Tables;
 use tup_rows::{try_file, try_file_by};
 
@@ -38,5 +40,6 @@ fn main(rt: HostRuntime) -> io::Result<()> {
     try_file(&rt, alloc, "graph.rows", &mut Graphs)?;
     try_file(&rt, alloc, "scan.rows", &mut Graphs)?;
     try_file(&rt, alloc, "swap.rows", &mut Graphs)?;
+    try_file_by(&rt, alloc, "sweep.rows", Sweeps::new(alloc))?;
     try_file_by(&rt, alloc, "kept.rows", KeptGraphs::new(alloc))
 }
