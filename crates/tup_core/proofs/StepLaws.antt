@@ -2,7 +2,7 @@
 use Rattle.std.proofs.Common.{◌≡◌, ◌↔◌, ℕ, ◌<◌, ◌≤◌, ◌==◌, nat_lt, min, Bool, true, false, List, [], length, get_or, map, Vec, Option, None, Some, Ok, Err, refl, sym, ap, ◌∙◌, subst, inl, inr, arith}
 use Rattle.std.specs.Prelude.{Result, if◌then◌else◌, slice_get, slice_set, unwrap_or, IsTrue}
 use Rattle.std.specs.Option.{option_map}
-use Rattle.std.specs.Result.{IsErrAnd}
+use Rattle.std.specs.Result.{IsErrAnd, OnErr}
 use Rattle.std.specs.Vec.{with_items}
 use Rattle.std.proofs.lemmas.Bool.{true≢false, cases_eq, cases_lt, le-leb, eqb-true, eq-eqb, ltb-true}
 use Rattle.std.proofs.lemmas.Option.{same_Some, none-some, slice_get_within, unwrap_or-slice_get, slice_get-get_or, slice_get_read}
@@ -28,6 +28,7 @@ use Rattle.tup_core.specs.declared.machine.Core.{Core}
 use Rattle.tup_core.specs.Step.{State, changed, with_stamps, is_reached, IsEnabled, IsReady, Runs, CanAsk, CanDeny, CanFinish, FitsEnd, Step, asked, refused, emptied, ended, stopped_by, told}
 use Rattle.tup_core.specs.Waiting.{flag, number, IsWaiting, CanRelease, Releases}
 use Rattle.tup_core.specs.Files.{stamp_in, has_room}
+use Rattle.tup_core.specs.Ending.{IsUnrefused}
 use Rattle.tup_core.specs.Machine.{entry, state_of, IsSettled, IsCore, TakesMemory, Answers, Takes, Completes, MayEnd}
 use Rattle.tup_core.proofs.ItemLaws.{set_same, set_other, items_set}
 use Rattle.tup_core.proofs.WaitingLaws.{can_release, released}
@@ -117,6 +118,10 @@ answer_memory {T} plan old from event result is takes seats refused_so = subst (
     stopped = old.stopped;
   };
 })
+
+-- a seat whose command may still ask
+pub unrefused_here : (seats : List (Option Running)) (seat : ℕ) (running : Running) → slice_get seats seat ≡ Some (Some running) → running.denied ≡ None → IsUnrefused (entry seats seat)
+unrefused_here seats seat running here going = (running, seat_here seats seat (Some running) here, going)
 
 sits : (plan : Plan) (core : Core) (seat : ℕ) → IsCore plan core → seat < 16 → seat < length core.seats.items
 sits plan core seat is within = subst (λ (n : ℕ). seat < n) (sym is.seats) within
@@ -503,3 +508,13 @@ items_written {X} v ws list at value same is =
 pub memory_is : {T : Type 0} (r : Result T CoreFault) → IsErrAnd r (λ (fault : CoreFault). fault ≡ Memory) → r ≡ Err Memory
 memory_is (Ok done) is = absurd is
 memory_is (Err fault) is = ap Err is
+
+-- a refusal that is another's, which came for want of memory
+pub memory_was : {T : Type 0} (r : Result T CoreFault) (was : CoreFault) → IsErrAnd r (λ (fault : CoreFault). fault ≡ was) → was ≡ Memory → r ≡ Err Memory
+memory_was (Ok done) was is same = absurd is
+memory_was (Err fault) was is same = ap Err (is ∙ same)
+
+-- what holds whatever is answered
+pub on_each_err : {T P : Type 0} (r : Result T CoreFault) → P → OnErr r P
+on_each_err (Ok done) p = tt
+on_each_err (Err fault) p = p

@@ -16,6 +16,7 @@ use Rattle.tup_core.specs.declared.machine.Core.{Core}
 use Rattle.tup_core.specs.Step.{State, Step, IsEnabled, FitsEnd, Runs, is_reached}
 use Rattle.tup_core.specs.Waiting.{flag, number, IsWaiting}
 use Rattle.tup_core.specs.Files.{stamp_in, HasRoomFor}
+use Rattle.tup_core.specs.Ending.{IsUnrefused}
 
 -- what stands at a place, which is nothing past the end
 abbrev pub entry : {A : Type 0} → List (Option A) → ℕ → Option A
@@ -54,13 +55,13 @@ pub record IsCore (plan : Plan) (core : Core) : Type 0 where
   pub settled : (at : ℕ) → is_reached plan at ≡ true → flag core.pending.items at ≡ false → number core.waiting.waits.items at ≡ 0
   pub running : (seat : ℕ) (running : Running) → entry core.seats.items seat ≡ Some running → IsSettled plan core running.rule
 
--- an event for which memory may be wanted: an ask, and an end that is bad and wasn't kept
+-- an event for which memory may be wanted: what a command asks that was refused nothing, and its bad end
 abbrev pub TakesMemory : State → CoreEvent → Type 0
 TakesMemory state (Claim seat rule) = ⊥
-TakesMemory state (Ask seat text answer) = Unit {0}
-TakesMemory state (Deny seat text verdict) = Unit {0}
+TakesMemory state (Ask seat text answer) = IsUnrefused (state.seats seat)
+TakesMemory state (Deny seat text verdict) = IsUnrefused (state.seats seat)
 TakesMemory state (Finish seat Good writes) = ⊥
-TakesMemory state (Finish seat verdict writes) = (running : Running) × (state.seats seat ≡ Some running) × (running.denied ≡ None)
+TakesMemory state (Finish seat verdict writes) = IsUnrefused (state.seats seat)
 TakesMemory state (Stop seat cause) = ⊥
 
 -- how a core answers an event, and what it is then

@@ -1,5 +1,5 @@
 //! The machine.
-ghost use Rattle.std.specs.Prelude.{◌≡◌, ◌≢◌, ◌↔◌, ◌<◌, true, None, Some, IsTrue, IfOk, IfErr, MatchOption, length, List, slice_get, unwrap_or};
+ghost use Rattle.std.specs.Prelude.{◌≡◌, ◌≢◌, ◌↔◌, ◌<◌, true, None, Some, IsTrue, IfOk, IfErr, OnErr, MatchOption, length, List, slice_get, unwrap_or};
 ghost use Rattle.tup_rule.specs.declared.rule.Rule.{Rule as RuleValue};
 ghost use Rattle.tup_core.specs.declared.running.Running.{Running as RunningValue};
 ghost use Rattle.tup_access.specs.Access.{access as access_of};
@@ -8,7 +8,8 @@ ghost use Rattle.tup_core.specs.Step as specs;
 ghost use Rattle.tup_core.specs.Step.{IsReady, opening, CanAsk, CanDeny, CanFinish};
 ghost use Rattle.tup_core.specs.Sound.{IsInRange};
 ghost use Rattle.tup_core.specs.Waiting.{flag, CanRelease};
-ghost use Rattle.tup_core.specs.Machine.{state_of, ready_test, IsCore, Answers, Takes, Completes, MayEnd};
+ghost use Rattle.tup_core.specs.Ending.{IsUnrefused};
+ghost use Rattle.tup_core.specs.Machine.{entry, state_of, ready_test, IsCore, Answers, Takes, Completes, MayEnd};
 
 mod reading;
 
@@ -88,8 +89,8 @@ impl Core {
             && self.waiting.is_clear(at)
     }
 
-    /// Takes an event where it is enabled. `NotEnabled` and `Memory` leave the state as it was; a Claim, a Stop, a
-    /// Good Finish and the Finish of a kept verdict take no memory.
+    /// Takes an event where it is enabled. `NotEnabled` and `Memory` leave the state as it was; `Memory` answers an Ask,
+    /// a Deny and a bad Finish of a command that was refused nothing, and no other event.
     pub fn step(&mut self, alloc: Global, plan: &Plan, event: &CoreEvent) -> Result<(), CoreFault>
         requires { IsCore plan.now self.old }
         ensures { Answers plan.now self.old event.now result self.new }
@@ -180,6 +181,7 @@ impl Core {
         ensures ok { IfOk result (λ may. IsTrue may
             ↔ CanAsk plan.now (state_of self.now) seat text.now answer) }
         ensures memory { IfErr result (λ fault. fault ≡ CoreFault.Memory) }
+        ensures asks { OnErr result (IsUnrefused (entry self.now.seats.items seat)) }
     {
         let Some(running) = self.asking(seat) else {
             return Ok(false);
@@ -204,6 +206,7 @@ impl Core {
         ensures ok { IfOk result (λ may. IsTrue may
             ↔ CanDeny plan.now (state_of self.now) seat text.now verdict.now) }
         ensures memory { IfErr result (λ fault. fault ≡ CoreFault.Memory) }
+        ensures asks { OnErr result (IsUnrefused (entry self.now.seats.items seat)) }
     {
         let Some(running) = self.asking(seat) else {
             return Ok(false);

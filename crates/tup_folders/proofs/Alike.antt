@@ -1,11 +1,11 @@
 -- Runs of one process that were told alike.
+pub use Rattle.tup_reader.proofs.Halting.{halts_keeps}
 use Rattle.std.proofs.Common.{◌≡◌, ◌⊎◌, inl, inr, [], ◌∷◌, ◌++◌, Option, Some, None, Result, refl, sym, ap, ◌∙◌, subst}
 use Rattle.tup_rule.specs.declared.question.Question.{Question}
 use Rattle.tup_rule.specs.declared.question.Told.{Told}
 use Rattle.tup_ask.specs.Reads.{Reads, Ends, Asks}
 use Rattle.tup_ask.specs.Log.{Log, told_before, Step, Ran, Halts}
-use Rattle.tup_ask.proofs.Runs.{told_more, told_new, ran_keeps}
-use Rattle.tup_folders.proofs.Logs.{one_step}
+use Rattle.tup_ask.proofs.Runs.{told_new, ran_keeps}
 
 -- logs that say the same of each question that both have
 abbrev pub ToldAlike : Log → Log → Type 0
@@ -20,16 +20,6 @@ two_steps : {R : Type 0} (asked : Question) (K M L N : Told → Type 0) (before 
     → ((told : Told) → before ≡ Some told → K told → L told → R) → ((a b : Told) → before ≡ None → M a → N b → R) → R
 two_steps asked K M L N (Some told) one other f g = f told refl one other
 two_steps asked K M L N None (a, fa, one) (b, fb, other) f g = g a b refl one other
-
--- what a halted process was told before stays told
-pub halts_keeps : {F A : Type 0} (log after : Log) (reads : Reads F A) (question asked : Question) (told : Told)
-    → Halts log reads after question → told_before log asked ≡ Some told → told_before after asked ≡ Some told
-halts_keeps log after (Ends result) question asked told halts before = absurd halts
-halts_keeps log after (Asks first goes_on) question asked told (inl here) before = ap (λ l. told_before l asked) here.2 ∙ before
-halts_keeps log after (Asks first goes_on) question asked told (inr halts) before =
-    one_step first (λ t. Halts log (goes_on t) after question) (λ t. Halts (log ++ (first, t) ∷ []) (goes_on t) after question) (told_before log first) halts
-    (λ t is more. halts_keeps log after (goes_on t) question asked told more before)
-    (λ t is fit more. halts_keeps (log ++ (first, t) ∷ []) after (goes_on t) question asked told more (told_more log (first, t) asked told before))
 
 -- two runs end alike
 pub runs_alike : {F A : Type 0} (log one other : Log) (reads : Reads F A) (x y : Result A F) → ToldAlike one other → Ran log reads one x → Ran log reads other y → (one ≡ other) × (x ≡ y)

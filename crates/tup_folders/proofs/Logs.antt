@@ -1,9 +1,10 @@
 -- What is in the log of a reading.
-use Rattle.std.proofs.Common.{◌≡◌, inl, inr, true, [], ◌∷◌, ◌++◌, Option, Some, None, Result, refl, sym, subst}
+pub use Rattle.tup_reader.proofs.Halting.{one_step}
+use Rattle.std.proofs.Common.{◌≡◌, inl, inr, true, [], ◌∷◌, ◌++◌, Some, Result, sym, subst}
 use Rattle.tup_rule.specs.declared.question.Question.{Question}
 use Rattle.tup_rule.specs.declared.question.Told.{Told}
 use Rattle.tup_ask.specs.Reads.{Reads, Ends, Asks}
-use Rattle.tup_ask.specs.Log.{Log, fits, told_before, Step, Ran, Halts}
+use Rattle.tup_ask.specs.Log.{Log, fits, told_before, Ran, Halts}
 use Rattle.tup_ask.proofs.Asking.{told_push}
 
 -- each answer is of its question's kind
@@ -19,12 +20,6 @@ one_more log asked told all fit other found e =
       | inl before ↦ all other found before
       | inr new ↦ subst (λ q. fits q found ≡ true) (sym new.0) (subst (λ t. fits asked t ≡ true) new.1 fit)
     ]
-
--- a step goes on with what was told before, or with a new answer of the question's kind
-pub one_step : {R : Type 0} (asked : Question) (K M : Told → Type 0) (before : Option Told) → Step asked K M before → ((told : Told) → before ≡ Some told → K told → R)
-    → ((told : Told) → before ≡ None → fits asked told ≡ true → M told → R) → R
-one_step asked K M (Some told) step f g = f told refl step
-one_step asked K M None (told, fit, step) f g = g told refl fit step
 
 -- so it stays in a run
 ran_fit : {F A : Type 0} (log after : Log) (reads : Reads F A) (end : Result A F) → AllFit log → Ran log reads after end → AllFit after

@@ -12,11 +12,12 @@ use Rattle.tup_ask.specs.declared.fault.ParseFault.{ParseFault}
 use Rattle.tup_ask.specs.declared.fault.ReadEnd.{ReadEnd}
 use Rattle.tup_ask.specs.declared.fault.ReadEnd.TheVariants.{Fault, Stopped, Memory}
 use Rattle.tup_ask.specs.Reads.{Reads}
-use Rattle.tup_ask.specs.Log.{Log, same_question, told_before, Ran, Says, noted_log, questions_of}
+use Rattle.tup_ask.specs.Log.{Log, StopsAt, same_question, told_before, Ran, Says, noted_log, questions_of}
 use Rattle.tup_reader.specs.Read.{IsReading, IsToldBy, KeepsAnswers, Agrees, AsksOnce}
 use Rattle.tup_reader.specs.Reading.{reading}
 use Rattle.tup_ask.specs.Went.{Asker, AskedAre, Asks, Comes, Went}
 use Rattle.tup_ask.proofs.Runs.{ran_outcome}
+use Rattle.tup_reader.proofs.Halting.{halts_once}
 
 -- nothing is said of what was not asked
 says_nothing : (answers : Question → Told) → Says answers []
@@ -96,19 +97,20 @@ asked_from {before = before} {after = after} {end = end} reads went empty earlie
     let none = subst (λ (questions : List Question). AskedAre before.asked questions) (sym (append-nil earlier)) asked in
     subst (λ l. Asks earlier l reads after end) empty (went.asks earlier (subst (λ (l : Log). AskedAre before.asked (earlier ++ questions_of l)) (sym empty) none))
 
-ended_asking : (dir : Names) (earlier : List Question) (after : Asker) (end : ReadEnd) → Comes [] (reading dir) after (Err end) → Asks earlier [] (reading dir) after (Err end)
-    → AsksOnce dir earlier after.asked (Err end)
-ended_asking dir earlier after (Fault fault) comes asks = (after.log, comes, asks)
-ended_asking dir earlier after Stopped comes (question, halts, asked) = (after.log, question, halts, asked)
-ended_asking dir earlier after Memory comes asks = tt
+ended_asking : (IsTold : Log → Type 0) (dir : Names) (earlier : List Question) (after : Asker) (end : ReadEnd) → IsTold after.log → Comes [] (reading dir) after (Err end) → Asks earlier [] (reading dir) after (Err end)
+    → AsksOnce IsTold dir after.stopped earlier after.asked (Err end)
+ended_asking IsTold dir earlier after (Fault fault) told comes asks = (after.log, told, comes, asks)
+ended_asking IsTold dir earlier after Stopped told (stop, at, stands) (question, halts, asked) =
+    (after.log, told, question, subst (StopsAt after.stopped) (halts_once [] after.log (reading dir) stop question stands halts) at, halts, asked)
+ended_asking IsTold dir earlier after Memory told comes asks = tt
 
 pub ended_asks : {tells : Bool} {before after : Asker} (dir : Names) (end : ReadEnd) → Went tells before (reading dir) after (Err end) → before.log ≡ []
-    → (earlier : List Question) → AskedAre before.asked earlier → AsksOnce dir earlier after.asked (Err end)
-ended_asks {after = after} dir end went empty earlier asked =
-    ended_asking dir earlier after end (comes_from (reading dir) went empty) (asked_from (reading dir) went empty earlier asked)
+    → (earlier : List Question) → AskedAre before.asked earlier → AsksOnce (IsToldBy tells before.answers) dir after.stopped earlier after.asked (Err end)
+ended_asks {tells = tells} {before = before} {after = after} dir end went empty earlier asked =
+    ended_asking (IsToldBy tells before.answers) dir earlier after end (λ told. said (reading dir) went empty told) (comes_from (reading dir) went empty) (asked_from (reading dir) went empty earlier asked)
 
 pub kept_asks : {tells : Bool} {before after : Asker} (dir : Names) (kept : Reading) → Went tells before (reading dir) after (Ok kept.drafts) → before.log ≡ [] → kept.asked ≡ noted_log after.log
-    → (earlier : List Question) → AskedAre before.asked earlier → AsksOnce dir earlier after.asked (Ok kept)
+    → (earlier : List Question) → AskedAre before.asked earlier → AsksOnce (IsToldBy tells before.answers) dir after.stopped earlier after.asked (Ok kept)
 kept_asks {after = after} dir kept went empty noted earlier asked =
     subst (λ (questions : List Question). AskedAre after.asked (earlier ++ questions)) (sym (ap (λ (l : List (Question × Noted)). map (λ (entry : Question × Noted). entry.0) l) noted ∙ questions_noted after.log))
     (asked_from (reading dir) went empty earlier asked)

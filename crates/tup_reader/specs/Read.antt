@@ -43,10 +43,12 @@ Agrees answers reads (Err Stopped) = (log : Log) × (question : Question) × Hal
 Agrees answers reads (Err Memory) = Unit {0}
 
 -- behind earlier questions one who answers was asked what the reading asks up to its end, each question once, in order: of
--- rules just what is kept; where it stopped, at last the one at which it did
-abbrev pub AsksOnce : Names → List Question → Option (List Question) → Result Reading ReadEnd → Type 0
-AsksOnce dir earlier asked (Ok left) = AskedAre asked (earlier ++ map (λ (entry : Question × Noted). entry.0) left.asked)
-AsksOnce dir earlier asked (Err (Fault fault)) = (log : Log) × Ran [] (reading dir) log (Err fault) × AskedAre asked (earlier ++ questions_of log)
-AsksOnce dir earlier asked (Err Stopped) =
-    (log : Log) × (question : Question) × Halts [] (reading dir) log question × AskedAre asked (earlier ++ (questions_of log ++ question ∷ []))
-AsksOnce dir earlier asked (Err Memory) = Unit {0}
+-- rules just what is kept, of a fault what was told so, and where it stopped, at last the question at which it did
+abbrev pub AsksOnce : (Log → Type 0) → Names → Option (Question → Bool) → List Question → Option (List Question) → Result Reading ReadEnd → Type 0
+AsksOnce IsTold dir stopped earlier asked (Ok left) = AskedAre asked (earlier ++ map (λ (entry : Question × Noted). entry.0) left.asked)
+AsksOnce IsTold dir stopped earlier asked (Err (Fault fault)) =
+    (log : Log) × IsTold log × Ran [] (reading dir) log (Err fault) × AskedAre asked (earlier ++ questions_of log)
+AsksOnce IsTold dir stopped earlier asked (Err Stopped) =
+    (log : Log) × IsTold log
+    × (question : Question) × StopsAt stopped question × Halts [] (reading dir) log question × AskedAre asked (earlier ++ (questions_of log ++ question ∷ []))
+AsksOnce IsTold dir stopped earlier asked (Err Memory) = Unit {0}

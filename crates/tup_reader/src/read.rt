@@ -14,17 +14,20 @@ use tup_rule::Reading;
 /// The reading of a folder's Tupfile: its rules, and what it asked, each question once in the order
 /// of first asking.
 ///
-/// `Fault` names the first fault, just where the reading has it over the same answers. `Stopped` comes
-/// just where the environment has stopped in this call, at a question that was not asked before. An
-/// environment that lists what it is asked is asked each question once.
+/// `Fault` names the first fault, just where the reading has it over the same answers. `Stopped`
+/// comes just where the environment has stopped in this call, at a question that was not asked
+/// before. An environment that lists what it is asked is asked each question once, and none but
+/// those of the reading up to its end.
 /// Where memory was wanting nothing is known of the rules.
 pub fn read_tupfile<E: Env>(alloc: Global, dir: &Path, env: &mut E) -> Result<Reading, ReadEnd>
     requires { is_some (E.stopped env.old) ≡ false }
-    ensures reading { IsReading (IsToldBy E.tells (E.answers env.old)) dir.now (E.stopped env.new) result }
+    ensures reading { IsReading (IsToldBy E.tells (E.answers env.old)) dir.now
+        (E.stopped env.new) result }
     ensures answers { IsTrue E.tells → Agrees (E.answers env.old) (reading dir.now) result }
     ensures stopped { is_some (E.stopped env.new) ≡ is_stopped result }
     ensures asks { (earlier : List Question) → AskedAre (E.asked env.old) earlier
-        → AsksOnce dir.now earlier (E.asked env.new) result }
+        → AsksOnce (IsToldBy E.tells (E.answers env.old)) dir.now (E.stopped env.new) earlier
+        (E.asked env.new) result }
     ensures same { IsTrue E.tells → E.answers env.new ≡ E.answers env.old }
 {
     let mut log = Log::new(alloc);

@@ -1,6 +1,6 @@
 mod Looked
-mod Removals
-mod Going
+pub mod Removals
+pub mod Going
 mod Forgotten
 mod Cleared
-mod Crashes
+pub mod Crashes

@@ -1,10 +1,10 @@
 -- The tree behind a bad rule: what was made before it, by rules that are Good.
-use Rattle.std.proofs.Common.{◌≡◌, ℕ, zero, suc, ◌-◌, Bool, true, false, List, [], ◌∷◌, ◌++◌, length, Option, None, Some, refl, sym, ap, ◌∙◌, subst, inl, inr}
-use Rattle.std.proofs.lemmas.Bool.{false≢true, cases_eq}
+use Rattle.std.proofs.Common.{◌≡◌, ℕ, zero, suc, ◌-◌, Bool, true, false, List, [], ◌∷◌, ◌++◌, length, Option, None, Some, refl, sym, ap, ◌∙◌, subst}
+use Rattle.std.proofs.lemmas.Bool.{false≢true}
 use Rattle.std.proofs.lemmas.Option.{same_Some, none-some, slice_get_within}
 use Rattle.std.specs.FinMap as finite
 use Rattle.std.specs.List.{slice_get, slice_set}
-use Rattle.tup_path.specs.Name.{Names, Content}
+use Rattle.tup_path.specs.Name.{Names}
 use Rattle.tup_path.specs.Tree.{Tree}
 use Rattle.tup_rule.specs.declared.rule.Rule.{Rule}
 use Rattle.tup_rule.specs.Rule.{writes, maker, is_generated}
@@ -12,7 +12,6 @@ use Rattle.tup_rule.proofs.Laws.{maker-Some, is_generated-at}
 use Rattle.tup_runner.specs.Next.{Next}
 use Rattle.tup_access.specs.declared.verdict.Verdict.{Verdict}
 use Rattle.tup_access.specs.declared.verdict.Verdict.TheVariants.{Good}
-use Rattle.tup_access.specs.Judge.{Judged}
 use Rattle.tup_access.specs.Verdict.{verdict}
 use Rattle.tup_clean.specs.AnyOrder.{MakeApart}
 use Rattle.tup_clean.specs.Clean.{Build, is_good, good_at, first_ready, given, builds_on, start, clean, with_files}

@@ -1,5 +1,5 @@
 -- Where two lists of files first differ, and what the clean build is beside which files are looked at.
-use Rattle.std.proofs.Common.{◌≡◌, ◌≢◌, T, ℕ, ◌<◌, Bool, true, false, cond, ◌&&◌, bytes_eq, if◌then◌else◌, List, [], ◌∷◌, length, Option, None, Some, Result, Ok, Err, IsTrue, inr, refl, sym, ◌∙◌, ap, subst}
+use Rattle.std.proofs.Common.{◌≡◌, ◌≢◌, ℕ, ◌<◌, Bool, true, false, cond, bytes_eq, if◌then◌else◌, List, [], ◌∷◌, length, Option, None, Some, Result, Ok, Err, IsTrue, inr, refl, sym, ◌∙◌, ap, subst}
 use Rattle.std.specs.Result.{result_err, IsErrAnd}
 use Rattle.std.specs.Ordering.{is_eq, is_lt, eq_by_cmp, match_ordering, ordering_reverse}
 use Rattle.std.specs.declared.cmp.Ordering.{Ordering}
@@ -16,11 +16,10 @@ use Rattle.tup_site.specs.World.{World}
 use Rattle.tup_site.specs.declared.fault.SiteFailed.TheVariants.{Fault, TooLarge, Memory}
 use Rattle.tup_rule.specs.declared.rule.Rule.{Rule}
 use Rattle.tup_runner.specs.Next.{Next}
-use Rattle.tup_access.specs.declared.verdict.Verdict.{Verdict}
 use Rattle.tup_access.specs.declared.verdict.Verdict.TheVariants.{Good}
 use Rattle.tup_clean.specs.AnyOrder.{IsWhole}
 use Rattle.tup_clean.specs.Buildable.{IsBuildable}
-use Rattle.tup_clean.specs.Clean.{clean, first_ready, good_at, succeeds}
+use Rattle.tup_clean.specs.Clean.{clean, first_ready, succeeds}
 use Rattle.tup_clean.specs.Ran.{commands}
 use Rattle.tup_clean.proofs.Agreeing.{make_apart}
 use Rattle.tup_clean.proofs.MayTake.{first_may}
@@ -30,7 +29,7 @@ use Rattle.tup_clean.proofs.Standing.{ready_stands}
 use Rattle.tup_clean.proofs.Whole.{good_is}
 use Rattle.tup_clean.proofs.Turns.{all_are_good, is_the_good, succeeds_all}
 use Rattle.tup_update.proofs.Reading.{from_T}
-use Rattle.tup_update.specs.Compared.{AreCompared, DifferFirstAt, HasCompared, HasBuilt, BuildsWell, BuildsAlike, IsGoodBuild, NoneIsBad, RunsBuildOf, RunsToCompare, compared_at, difference, first_of, same_file}
+use Rattle.tup_update.specs.Compared.{AreCompared, HasCompared, HasBuilt, BuildsWell, BuildsAlike, IsGoodBuild, NoneIsBad, RunsBuildOf, RunsToCompare, compared_at, difference, first_of, same_file}
 use Rattle.tup_update.specs.Outcome.{HasCause}
 use Rattle.tup_update.specs.Parts.{HasFileOf}
 use Rattle.tup_update.specs.Sources.{AsksFor, build, sources}
@@ -40,7 +39,6 @@ use Rattle.tup_update.specs.declared.stop.Stop.{Stop}
 use Rattle.tup_update.specs.declared.stop.Stop.TheVariants.{BadStore, Sources, Bad, Run, Outside}
 use Rattle.tup_update.specs.declared.stop.Unread.{Unread}
 use Rattle.tup_update.specs.declared.stop.Unread.TheVariants.{Store, Sources as NoRules, Outside as Unlucky}
-use Rattle.tup_update.specs.declared.compare.Compared.TheVariants.{Same, Differs}
 
 abbrev Entries : Type 0
 Entries = List (Names × Content)

@@ -1,5 +1,5 @@
 -- What an update promises, for each way in which it can come out.
-use Rattle.std.proofs.Common.{◌≡◌, ◌≢◌, ◌⊎◌, inl, inr, ℕ, Bool, IsTrue, true, if◌then◌else◌, ◌++◌, [], List, None, Some, Result, Ok, Err, refl, sym, ◌∙◌, ap, subst}
+use Rattle.std.proofs.Common.{◌≡◌, ◌≢◌, ◌⊎◌, inl, inr, ℕ, Bool, IsTrue, if◌then◌else◌, ◌++◌, [], List, None, Some, Result, Ok, Err, refl, sym, ◌∙◌, ap, subst}
 use Rattle.std.specs.Result.{result_err, IsErrAnd}
 use Rattle.std.specs.FinMap as finite
 use Rattle.tup_path.specs.Name.{Names}
@@ -9,7 +9,6 @@ use Rattle.tup_site.specs.declared.fault.SiteFailed.{SiteFailed}
 use Rattle.tup_site.specs.declared.fault.SiteFailed.TheVariants.{Fault, TooLarge, Memory}
 use Rattle.tup_rule.specs.declared.rule.Rule.{Rule}
 use Rattle.tup_rule.specs.declared.rule.RuleName.{RuleName}
-use Rattle.tup_rule.specs.Rule.{among}
 use Rattle.tup_access.specs.declared.verdict.Verdict.{Verdict}
 use Rattle.tup_runner.specs.Next.{Next}
 use Rattle.tup_clean.specs.Clean.{clean}
@@ -366,7 +365,15 @@ module _ (project : Project) (old mid : World) (vanishing claiming : List Names)
   is_built next ran new built same =
       subst (λ (t : Tree). IsBuilt (clean next project.rules (sources old)) t) (sym same) (subst (λ (t : Tree). HasRun next project.rules t ran.tree None) same_run built)
 
-  -- all was made, and the outside stopped what comes behind the rules
+  -- all was made
+  pub all_made : (tells : Bool) (next : Next) (ran new : World) → IsCleared vanishing old.tree mid.tree → SameBesideOutputs project.rules mid.tree ran.tree → TreeStays ran new →
+      (IsTrue tells → HasRun next project.rules (files_beside project.owned mid.tree) ran.tree None) → AllIsMade tells next project.rules old new
+  all_made tells next ran new cleared behind same built = record {
+    beside = ap (files_beside (outputs project.rules)) same ∙ beside_outputs (owned old) project.rules old.tree mid.tree ran.tree way.is.buildable same_left (owned_runnable cleared) behind;
+    built = λ means. is_built next ran new (built means) same;
+  }
+
+  -- and the outside stopped what comes behind the rules
   pub unfinished_stays : (tells : Bool) (next : Next) (ran new : World) (log : Log) (failed : SiteFailed) → IsCleared vanishing old.tree mid.tree → SameBesideOutputs project.rules mid.tree ran.tree → TreeStays ran new →
       IsSmallFailure failed → (IsTrue tells → HasRun next project.rules (files_beside project.owned mid.tree) ran.tree None) → TurnsFit project.rules log.ran log.ended None →
       Stays tells next project.rules old new (with_read project.read log) (Some (Outside failed))
@@ -375,10 +382,7 @@ module _ (project : Project) (old mid : World) (vanishing claiming : List Names)
     rules_fit = inr way.is.asked;
     nothing_forgotten = left_forgets_nothing tells next project.rules old new failed small (
       way.is.asked,
-      inr (inr (record {
-        beside = ap (files_beside (outputs project.rules)) same ∙ beside_outputs (owned old) project.rules old.tree mid.tree ran.tree way.is.buildable same_left (owned_runnable cleared) behind;
-        built = λ means. is_built next ran new (built means) same;
-      })),
+      inr (inr (all_made tells next ran new cleared behind same built)),
     );
     turns_fit = (turns.0, inl turns.1);
   }

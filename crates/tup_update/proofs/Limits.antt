@@ -1,5 +1,5 @@
 -- A limit of linking is told only where it is passed.
-use Rattle.std.proofs.Common.{◌≡◌, ◌⊎◌, inl, inr, ℕ, ◌+◌, ◌<◌, ◌==◌, Bool, true, false, if◌then◌else◌, nat_lt, List, [], ◌∷◌, length, Option, None, Some, Err, option_map, option_and_then, slice_get, refl, sym, subst}
+use Rattle.std.proofs.Common.{◌≡◌, inl, inr, ℕ, ◌+◌, ◌<◌, ◌==◌, Bool, true, false, if◌then◌else◌, nat_lt, List, [], ◌∷◌, length, Option, None, Some, Err, option_map, option_and_then, slice_get, refl, sym, subst}
 use Rattle.std.specs.Bool.{⊤}
 use Rattle.std.specs.List.{find}
 use Rattle.std.specs.Option.{option_or}
@@ -13,7 +13,7 @@ use Rattle.tup_link.specs.declared.fault.LinkFault.{LinkFault}
 use Rattle.tup_link.specs.declared.fault.LinkFault.TheVariants as linking
 use Rattle.tup_link.specs.declared.fault.What.{What}
 use Rattle.tup_link.specs.declared.fault.What.TheVariants.{Commands, Links}
-use Rattle.tup_link.specs.Faults.{HasCause, early_fault, fault_in, fault_of_groups, fault_of_rules, too_many, too_many_commands, too_many_links, missing_group, duplicate, repeated, twice, taken, links}
+use Rattle.tup_link.specs.Faults.{HasCause, early_fault, fault_in, too_many_commands, too_many_links, missing_group, duplicate, repeated, twice, taken, links}
 use Rattle.tup_link.specs.Groups.{members}
 use Rattle.tup_link.specs.Linked.{Members, rules_in}
 use Rattle.tup_link.specs.Placed.{Placed, placed, drafts_of}
@@ -22,7 +22,6 @@ use Rattle.tup_whole.specs.declared.fault.ProjectFault.{ProjectFault}
 use Rattle.tup_whole.specs.declared.fault.ProjectFault.TheVariants as project
 use Rattle.tup_update.specs.Parts.{IsOfRules}
 use Rattle.tup_update.specs.Stopped.{unread_of_project}
-use Rattle.tup_update.specs.Sources.{PassesLimit}
 
 -- what passes a limit of linking
 abbrev pub Passes : What → ℕ → Type 0

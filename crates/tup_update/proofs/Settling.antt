@@ -1,5 +1,5 @@
 -- What a crash leaves, once files and store are settled.
-use Rattle.std.proofs.Common.{◌≡◌, ℕ, ◌≤◌, Result, Ok, Err, OnOk, None, Some, ⊎_elim, sym, ap, subst, ◌∙◌, arith}
+use Rattle.std.proofs.Common.{◌≡◌, ℕ, ◌≤◌, Result, Ok, Err, OnOk, Some, ⊎_elim, sym, ap, ◌∙◌, arith}
 use Rattle.tup_site.specs.Crash.{GoesOn, PinsTree, PinsStore}
 use Rattle.tup_site.specs.World.{World, TreeStays}
 use Rattle.tup_site.specs.declared.fault.SiteFailed.{SiteFailed}

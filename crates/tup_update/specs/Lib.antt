@@ -10,4 +10,5 @@ pub mod Seeing
 pub mod SeeingLaws
 pub mod Outcome
 pub mod Settled
+pub mod Images
 pub mod Compared

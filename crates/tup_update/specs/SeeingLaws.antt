@@ -1,7 +1,8 @@
 -- How a command's view of a site goes on from ask to ask. These laws stand here, since the view itself cites them.
-use Rattle.std.proofs.Common.{◌≡◌, ℕ, Bool, IsTrue, List, [], ◌++◌, Option, None, Some, Err, refl, sym, ◌∙◌, subst}
+use Rattle.std.proofs.Common.{◌≡◌, inl, ⊎_elim, le_refl, le_trans, ℕ, Bool, IsTrue, List, [], ◌++◌, Option, None, Some, Err, refl, sym, ◌∙◌, subst}
 use Rattle.std.specs.Bool.{⊤}
 use Rattle.tup_path.specs.Tree.{Tree}
+use Rattle.tup_site.specs.Crash.{GoesOn, NoStep}
 use Rattle.tup_site.specs.World.{World}
 use Rattle.tup_rule.specs.declared.rule.Rule.{Rule}
 use Rattle.tup_runner.specs.Next.{Asks}
@@ -59,3 +60,16 @@ module _ (tells : Bool) (old new : World) (same : IsTrue tells → new ≡ old) 
         first = λ e. absurd (cc e);
         stays = λ r e. (then.0 ∙ e, then.1 ∙ at.1);
       }
+
+-- ---- what adds nothing to what a crash may leave
+
+module _ {S : Type 0} (moment : S → ℕ) (left_since : S → ℕ → World → Type 0) where
+  pub rests : (site : S) → GoesOn moment left_since site site NoStep
+  rests site = record { later = le_refl (moment site); kept = λ t w le left. left; since = λ t w le left. inl left }
+
+  pub rests_on : (old mid new : S) → GoesOn moment left_since old mid NoStep → GoesOn moment left_since mid new NoStep → GoesOn moment left_since old new NoStep
+  rests_on old mid new first last = record {
+    later = le_trans first.later last.later;
+    kept = λ t w le left. last.kept t w (le_trans le first.later) (first.kept t w le left);
+    since = λ t w le left. ⊎_elim (first.since t w le) (λ none. absurd none.2) (last.since t w (le_trans le first.later) left);
+  }

@@ -1,13 +1,14 @@
 //! The making of a project's files.
 ghost use Rattle.std.specs.Prelude.{◌≡◌, ◌⊎◌, ◌++◌, false, IsTrue, IfOk, IfErr, OnOk, Some};
 ghost use Rattle.std.specs.Result.{result_err};
-ghost use Rattle.tup_site.specs.Crash.{PinsTree};
+ghost use Rattle.tup_site.specs.Crash.{GoesOn, NoStep, PinsStore, PinsTree};
 ghost use Rattle.tup_site.specs.World.{TreeStays, StoreStays};
 ghost use Rattle.tup_site.specs.Cause.{CountsFaults, NeverTooLarge};
 ghost use Rattle.tup_access.specs.Generated.{IsGenerated};
 ghost use Rattle.tup_clean.specs.Clean.{is_good};
 ghost use Rattle.tup_owned.specs.Owned.{spelling};
 ghost use Rattle.tup_owned.specs.Ascending.{ascending};
+ghost use Rattle.tup_update.specs.Images.{FilesStep, ListedStep, MakesStep, SettledStep};
 ghost use Rattle.tup_update.specs.Log.{IsGrownByFront, IsUnused, with_read};
 ghost use Rattle.tup_update.specs.Outcome.{Keeps, Stays, HasCountedCause, HasRunCause};
 ghost use Rattle.tup_update.specs.Parts.{IsProject, IsCleared, SameBeside, StopsAt};
@@ -30,7 +31,7 @@ use tup_runner::Runner;
 use tup_site::{Site, SiteFailed};
 
 /// What is to be done for a project, made before anything is touched.
-#[derive(Debug, Drop)]
+#[derive(Drop)]
 pub(crate) struct Plan {
     /// The outputs of all rules, for quick look-ups.
     pub made: BTreeSet<Path>,
@@ -111,6 +112,8 @@ impl Project {
             self.now.rules (S.world site.old) (S.world site.new) told (result_err result) }
         ensures settled { IsTrue S.tells → let left = S.left_since site.new (S.moment site.new) in
             IsSettled left (S.world site.new) (result_err result) }
+        ensures crash { IsTrue S.tells → GoesOn S.moment S.left_since site.old site.new
+            (MakesStep R.tells R.next self.now.rules (S.world site.old)) }
         ensures ran { IsTrue R.tells_ran
             → RunsThese log.new.ran (R.ran runner.old) (R.ran runner.new) (result_err result) }
         ensures counted { let stopped = result_err result in
@@ -134,7 +137,7 @@ impl Project {
     }
 }
 
-/// Owns what may be written, and removes the files of vanished rules.
+/// Owns what may be written, durably, and then removes the files of vanished rules.
 fn prepare<S: Site>(
     alloc: Global,
     site: &mut S,
@@ -149,6 +152,10 @@ fn prepare<S: Site>(
         → OnOk result ((S.world site.new).store ≡ spelling plan.now.claimed) }
     ensures unclaimed { IsTrue S.tells → ((S.world site.new).store ≡ spelling plan.now.claimed)
         ⊎ TreeStays (S.world site.old) (S.world site.new) }
+    ensures crash { IsTrue S.tells → GoesOn S.moment S.left_since site.old site.new
+        (ListedStep (SameBeside plan.now.vanished) (spelling plan.now.claimed)) }
+    ensures pinned { IsTrue S.tells → let left = S.left_since site.new (S.moment site.new) in
+        OnOk result (PinsStore left (S.world site.new)) }
     ensures removed { OnOk result (removed.new ≡ removed.old ++ plan.now.vanished) }
     ensures part { IsGrownByFront removed.old removed.new plan.now.vanished }
     ensures never_too_large { NeverTooLarge result }
@@ -170,6 +177,8 @@ fn clear<S: Site>(
     ensures others { IsTrue S.tells
         → SameBeside vanished.now (S.world site.old).tree (S.world site.new).tree }
     ensures store { IsTrue S.tells → StoreStays (S.world site.old) (S.world site.new) }
+    ensures crash { IsTrue S.tells → GoesOn S.moment S.left_since site.old site.new
+        (FilesStep (SameBeside vanished.now)) }
     ensures removed { OnOk result (removed.new ≡ removed.old ++ vanished.now) }
     ensures part { IsGrownByFront removed.old removed.new vanished.now }
     ensures never_too_large { NeverTooLarge result }
@@ -187,6 +196,7 @@ fn stop_at<S: Site>(alloc: Global, site: &mut S, bad: BadRule) -> Stop
     requires { is_good (Some bad.1) ≡ false }
     ensures stops { StopsAt bad.0 bad.1 result }
     ensures same { IsTrue S.tells → S.world site.new ≡ S.world site.old }
+    ensures crash { IsTrue S.tells → GoesOn S.moment S.left_since site.old site.new NoStep }
     ensures settled { IsTrue S.tells → let left = S.left_since site.new (S.moment site.new) in
         IsSettled left (S.world site.new) (Some result) }
     ensures counted { HasCountedCause (S.faults site.old) (S.faults site.new) (Some result) }
@@ -202,6 +212,8 @@ fn stop_at<S: Site>(alloc: Global, site: &mut S, bad: BadRule) -> Stop
 fn finish<S: Site>(alloc: Global, site: &mut S, listed: &[Path]) -> Result<(), SiteFailed>
     ensures listed { IsTrue S.tells → OnOk result ((S.world site.new).store ≡ spelling listed.now) }
     ensures tree { IsTrue S.tells → TreeStays (S.world site.old) (S.world site.new) }
+    ensures crash { IsTrue S.tells → GoesOn S.moment S.left_since site.old site.new
+        (SettledStep (S.world site.old)) }
     ensures durable { IsTrue S.tells → OnOk result
         (IsDurable (S.left_since site.new (S.moment site.new)) (S.world site.new)) }
     ensures never_too_large { NeverTooLarge result }
@@ -215,6 +227,9 @@ fn finish<S: Site>(alloc: Global, site: &mut S, listed: &[Path]) -> Result<(), S
 fn write_store<S: Site>(alloc: Global, site: &mut S, paths: &[Path]) -> Result<(), SiteFailed>
     ensures owned { IsTrue S.tells → OnOk result ((S.world site.new).store ≡ spelling paths.now) }
     ensures tree { IsTrue S.tells → TreeStays (S.world site.old) (S.world site.new) }
+    ensures crash { IsTrue S.tells → GoesOn S.moment S.left_since site.old site.new TreeStays }
+    ensures pinned { IsTrue S.tells → let left = S.left_since site.new (S.moment site.new) in
+        OnOk result (PinsStore left (S.world site.new)) }
     // Where the files were settled before, a crash then leaves all as it is.
     ensures durable { IsTrue S.tells
         → PinsTree (S.left_since site.old (S.moment site.old)) (S.world site.old)

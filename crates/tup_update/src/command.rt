@@ -4,6 +4,7 @@ ghost use Rattle.tup_access.specs.Generated.{IsGenerated};
 ghost use Rattle.tup_access.specs.Judge.{IsJudged};
 ghost use Rattle.tup_access.specs.Verdict as specs;
 ghost use Rattle.tup_rule.specs.Rule.{name_of};
+ghost use Rattle.tup_site.specs.Crash.{GoesOn, NoStep};
 ghost use Rattle.tup_update.specs.Outside.{HandsOn, HandsOnLarge};
 ghost use Rattle.tup_update.specs.Put.{AreOwn};
 ghost use Rattle.tup_update.specs.Ran.{RunsOne, CountsRuns};
@@ -35,6 +36,7 @@ pub(crate) fn run<S: Site, R: Runner>(
         (specs.verdict R.next rules.now rule.now (S.world site.old).tree)) }
     ensures own { IfOk result (λ judged. AreOwn rule.now judged.1) }
     ensures same { IsTrue S.tells → S.world site.new ≡ S.world site.old }
+    ensures crash { IsTrue S.tells → GoesOn S.moment S.left_since site.old site.new NoStep }
     ensures large { IsTrue S.tells → HandsOnLarge Outside (S.world site.new).tree result }
     ensures ran { IsTrue R.tells_ran
         → RunsOne (name_of rule.now) (R.ran runner.old) (R.ran runner.new) result }
@@ -42,14 +44,41 @@ pub(crate) fn run<S: Site, R: Runner>(
     ensures run_cause { CountsRuns (R.faults runner.old) (R.faults runner.new) result }
 {
     let declared = declared(alloc, rule)?;
+    let sight = Sight {
+        rules,
+        made,
+        rule,
+        declared: &declared,
+    };
+    run_seeing(alloc, site, runner, sight)
+}
+
+/// The same, for the rule of a sight.
+fn run_seeing<S: Site, R: Runner>(
+    alloc: Global,
+    site: &mut S,
+    runner: &mut R,
+    sight: Sight<'_>,
+) -> Result<(Verdict, Files), Halt>
+    requires made { IsGenerated sight.rules.now sight.made.now }
+    requires declared { IsDeclared sight.rule.now sight.declared.now }
+    ensures judged { IsTrue S.tells → IsTrue R.tells
+        → let sight = sight.entry in let tree = (S.world site.old).tree in
+        IfOk result (λ judged. IsJudged judged.0 judged.1
+        (specs.verdict R.next sight.rules.now sight.rule.now tree)) }
+    ensures own { IfOk result (λ judged. AreOwn sight.entry.rule.now judged.1) }
+    ensures same { IsTrue S.tells → S.world site.new ≡ S.world site.old }
+    ensures crash { IsTrue S.tells → GoesOn S.moment S.left_since site.old site.new NoStep }
+    ensures large { IsTrue S.tells → HandsOnLarge Outside (S.world site.new).tree result }
+    ensures ran { IsTrue R.tells_ran
+        → RunsOne (name_of sight.entry.rule.now) (R.ran runner.old) (R.ran runner.new) result }
+    ensures cause { HandsOn Outside (S.faults site.old) (S.faults site.new) result }
+    ensures run_cause { CountsRuns (R.faults runner.old) (R.faults runner.new) result }
+{
+    let rule = sight.rule;
     let mut refused = None;
     let mut view = SiteView {
-        sight: Sight {
-            rules,
-            made,
-            rule,
-            declared: &declared,
-        },
+        sight,
         site,
         asked: 0,
         refused: &mut refused,

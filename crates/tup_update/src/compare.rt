@@ -5,6 +5,7 @@ ghost use Rattle.std.specs.Option.{option_copied};
 ghost use Rattle.std.specs.Result.{result_err};
 ghost use Rattle.tup_path.specs.Order.{by_names};
 ghost use Rattle.tup_site.specs.Cause.{CountsFaults, OnlyLarge};
+ghost use Rattle.tup_site.specs.Crash.{GoesOn, NoStep};
 ghost use Rattle.tup_clean.specs.Clean.{clean};
 ghost use Rattle.tup_clean.specs.Ran.{commands};
 ghost use Rattle.tup_update.specs.Compared as specs;
@@ -44,6 +45,7 @@ pub fn compare_site<S: Site, R: Runner>(
     ensures compared { IsTrue S.tells → IsTrue R.tells
         → HasCompared R.next (S.world site.old) result }
     ensures same { IsTrue S.tells → S.world site.new ≡ S.world site.old }
+    ensures crash { IsTrue S.tells → GoesOn S.moment S.left_since site.old site.new NoStep }
     ensures ran { IsTrue S.tells → IsTrue R.tells → IsTrue R.tells_ran
         → RunsToCompare R.next (S.world site.old) (R.ran runner.old) (R.ran runner.new)
         (result_err result) }
@@ -66,6 +68,7 @@ fn clean_files<S: Site, R: Runner>(
     ensures clean { IsTrue S.tells → IsTrue R.tells
         → HasBuilt R.next (S.world site.old) result }
     ensures same { IsTrue S.tells → S.world site.new ≡ S.world site.old }
+    ensures crash { IsTrue S.tells → GoesOn S.moment S.left_since site.old site.new NoStep }
     ensures ran { IsTrue S.tells → IsTrue R.tells → IsTrue R.tells_ran
         → RunsToCompare R.next (S.world site.old) (R.ran runner.old) (R.ran runner.new)
         (result_err result) }
@@ -151,6 +154,7 @@ fn all_files<S: Site>(alloc: Global, site: &mut S) -> Result<Files, SiteFailed>
     ensures files { IsTrue S.tells
         → IfOk result (λ files. files ≡ finite.entries (S.world site.old).tree) }
     ensures same { IsTrue S.tells → S.world site.new ≡ S.world site.old }
+    ensures crash { IsTrue S.tells → GoesOn S.moment S.left_since site.old site.new NoStep }
     ensures large { IsTrue S.tells → NamesALargeFile (S.world site.new).tree result }
     ensures only_large { OnlyLarge result }
     ensures counted { CountsFaults (S.faults site.old) (S.faults site.new) result }

@@ -3,6 +3,7 @@ ghost use Rattle.std.specs.Prelude.{◌≡◌, ◌≤◌, List, length, IsTrue, 
 ghost use Rattle.std.specs.FinMap as finite;
 ghost use Rattle.tup_path.specs.Order.{by_names};
 ghost use Rattle.tup_path.specs.Tree.{Tree, IsTree};
+ghost use Rattle.tup_site.specs.Crash.{GoesOn, NoStep};
 ghost use Rattle.tup_site.specs.World.{World};
 ghost use Rattle.tup_site.specs.Cause.{CountsFaults, NeverTooLarge, OnlyLarge};
 ghost use Rattle.tup_rule.specs.declared.rule.Rule.{Rule as RuleValue};
@@ -29,7 +30,7 @@ use tup_site::{Site, SiteFailed};
 use tup_whole::read_all;
 
 /// What a site holds.
-#[derive(Debug, Drop)]
+#[derive(Drop)]
 pub(crate) struct Found {
     /// The paths that the store lists.
     pub owned: Paths,
@@ -48,6 +49,8 @@ impl Found {
             → HasCause next rules (S.world site.old) (S.world site.new) (Some (stop_of unread))) }
         ensures limits { IfErr result KnowsLimits }
         ensures same { IsTrue S.tells → S.world site.new ≡ S.world site.old }
+        ensures crash { IsTrue S.tells
+            → GoesOn S.moment S.left_since site.old site.new NoStep }
         ensures counted { HandsOn Outside (S.faults site.old) (S.faults site.new) result }
     {
         let store = read_store(alloc, site)?;
@@ -81,6 +84,7 @@ impl Found {
 fn read_store<S: Site>(alloc: Global, site: &mut S) -> Result<Vec<u8>, SiteFailed>
     ensures bytes { IsTrue S.tells → IfOk result (λ bytes. bytes.items ≡ (S.world site.old).store) }
     ensures same { IsTrue S.tells → S.world site.new ≡ S.world site.old }
+    ensures crash { IsTrue S.tells → GoesOn S.moment S.left_since site.old site.new NoStep }
     ensures never_too_large { NeverTooLarge result }
     ensures counted { CountsFaults (S.faults site.old) (S.faults site.new) result }
 {
@@ -114,6 +118,7 @@ pub(crate) fn contents<S: Site>(
         → IfOk result (λ files. files ≡ finite.entries part) }
     ensures sorted { IfOk result (λ files. IsTrue (finite.is_sorted by_names files)) }
     ensures same { IsTrue S.tells → S.world site.new ≡ S.world site.old }
+    ensures crash { IsTrue S.tells → GoesOn S.moment S.left_since site.old site.new NoStep }
     ensures large { IsTrue S.tells → NamesALargeFile (S.world site.new).tree result }
     ensures only_large { OnlyLarge result }
     ensures counted { CountsFaults (S.faults site.old) (S.faults site.new) result }
@@ -135,6 +140,7 @@ fn add<S: Site>(
     ensures added { IsTrue S.tells → let found = finite.get (S.world site.old).tree path.now in
         OnOk result (AddsFile path.now found files.old files.new) }
     ensures same { IsTrue S.tells → S.world site.new ≡ S.world site.old }
+    ensures crash { IsTrue S.tells → GoesOn S.moment S.left_since site.old site.new NoStep }
     ensures large { IsTrue S.tells → NamesALargeFile (S.world site.new).tree result }
     ensures only_large { OnlyLarge result }
     ensures counted { CountsFaults (S.faults site.old) (S.faults site.new) result }

@@ -4,6 +4,7 @@ ghost use Rattle.std.specs.BTreeSet.{contains};
 ghost use Rattle.std.specs.Map.{keys_of};
 ghost use Rattle.tup_path.specs.Name.{Names};
 ghost use Rattle.tup_path.specs.Order.{by_names};
+ghost use Rattle.tup_site.specs.Crash.{GoesOn, NoStep};
 ghost use Rattle.tup_rule.specs.Rule.{among};
 ghost use Rattle.tup_rule.specs.declared.rule.Rule.{Rule as RuleValue};
 ghost use Rattle.tup_runner.specs.Next.{Next};
@@ -24,7 +25,7 @@ use tup_rule::Rules;
 use tup_site::Site;
 
 /// What a site asks for.
-#[derive(Debug, Drop)]
+#[derive(Drop)]
 pub(crate) struct Project {
     /// The paths that the store lists.
     pub owned: Paths,
@@ -45,6 +46,8 @@ impl Project {
             → HasCause next rules (S.world site.old) (S.world site.new) (Some (stop_of unread))) }
         ensures limits { IfErr result KnowsLimits }
         ensures same { IsTrue S.tells → S.world site.new ≡ S.world site.old }
+        ensures crash { IsTrue S.tells
+            → GoesOn S.moment S.left_since site.old site.new NoStep }
         ensures counted { HandsOn Outside (S.faults site.old) (S.faults site.new) result }
     {
         let found = Found::read(alloc, site)?;

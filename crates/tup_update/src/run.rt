@@ -1,6 +1,7 @@
 //! The running of rules.
 ghost use Rattle.std.specs.Prelude.{◌≡◌, ◌++◌, [], ◌∷◌, ℕ, List, map, false, IsTrue, IfOk, IfSome, Some, OnOk, OnErr};
 ghost use Rattle.tup_path.specs.Name.{Names};
+ghost use Rattle.tup_site.specs.Crash.{GoesOn};
 ghost use Rattle.tup_site.specs.World.{StoreStays};
 ghost use Rattle.tup_site.specs.Cause.{CountsFaults, NeverTooLarge};
 ghost use Rattle.tup_rule.specs.Rule.{name_of};
@@ -9,6 +10,7 @@ ghost use Rattle.tup_access.specs.Verdict as specs;
 ghost use Rattle.tup_clean.specs.Clean.{is_good, with_files};
 ghost use Rattle.tup_clean.specs.Taken.{takes, up_to_bad};
 ghost use Rattle.tup_update.specs.Sources.{files_beside};
+ghost use Rattle.tup_update.specs.Images.{FilesStep};
 ghost use Rattle.tup_update.specs.Outside.{HandsOn, HandsOnLarge};
 ghost use Rattle.tup_update.specs.Put.{HasRoom};
 ghost use Rattle.tup_update.specs.Parts.{HasRun, HasMade, AreNoted, ArePartNoted, Ends, BeginsIt, Leaves, SameBeside, SameBesideOutputs, IsRunnable, bad_of};
@@ -61,6 +63,8 @@ impl Project {
         ensures others { IsTrue S.tells
             → SameBesideOutputs self.now.rules (S.world site.old).tree (S.world site.new).tree }
         ensures store { IsTrue S.tells → StoreStays (S.world site.old) (S.world site.new) }
+        ensures crash { IsTrue S.tells → GoesOn S.moment S.left_since site.old site.new
+            (FilesStep (SameBesideOutputs self.now.rules)) }
 
         // Rules and verdicts are noted, where the run is halted as far as it came.
         ensures in_turn { IsTrue S.tells
@@ -120,6 +124,8 @@ impl Project {
         ensures others { IsTrue S.tells
             → SameBeside rule.now.outputs (S.world site.old).tree (S.world site.new).tree }
         ensures store { IsTrue S.tells → StoreStays (S.world site.old) (S.world site.new) }
+        ensures crash { IsTrue S.tells → GoesOn S.moment S.left_since site.old site.new
+            (FilesStep (SameBeside rule.now.outputs)) }
         ensures ran { IsTrue R.tells_ran → (first : List (Names × List ℕ))
             → RanAll ran.old first (R.ran runner.old)
             → RunsThese ran.new first (R.ran runner.new) (stopped_by result) }
@@ -149,6 +155,8 @@ impl Project {
         ensures others { IsTrue S.tells
             → SameBeside rule.now.outputs (S.world site.old).tree (S.world site.new).tree }
         ensures store { IsTrue S.tells → StoreStays (S.world site.old) (S.world site.new) }
+        ensures crash { IsTrue S.tells → GoesOn S.moment S.left_since site.old site.new
+            (FilesStep (SameBeside rule.now.outputs)) }
         ensures large { IsTrue S.tells → HandsOnLarge Outside (S.world site.new).tree result }
         ensures ran { IsTrue R.tells_ran
             → RunsOne (name_of rule.now) (R.ran runner.old) (R.ran runner.new) result }
@@ -204,6 +212,8 @@ fn put_all<S: Site>(alloc: Global, site: &mut S, files: &[(Path, Bytes)]) -> Res
     ensures others { IsTrue S.tells
         → SameBeside (map (λ file. file.0) files.now) (S.world site.old).tree (S.world site.new).tree }
     ensures store { IsTrue S.tells → StoreStays (S.world site.old) (S.world site.new) }
+    ensures crash { IsTrue S.tells → GoesOn S.moment S.left_since site.old site.new
+        (FilesStep (SameBeside (map (λ file. file.0) files.now))) }
     ensures never_too_large { NeverTooLarge result }
     ensures cause { CountsFaults (S.faults site.old) (S.faults site.new) result }
 {

@@ -33,27 +33,22 @@ pub enum Stop {
 }
 
 /// Why the reading of a project stops. Nothing was changed.
-#[derive(Debug, Drop, Error)]
+#[derive(Drop)]
 pub(crate) enum Unread {
     /// The store doesn't read from this byte on.
-    #[error("the store is damaged at byte {0}")]
     Store(u64),
     /// The sources ask for no rules, for this fault.
-    #[error("the sources ask for no rules")]
     Sources(SourcesFault),
     /// The site failed, or a file to be read is too large, or there was no memory.
-    #[error("{0}")]
     Outside(SiteFailed),
 }
 
 /// Why the rules of a project aren't run to the end. What ran before stands.
-#[derive(Debug, Drop, Error)]
+#[derive(Drop)]
 pub(crate) enum Halt {
     /// The runner failed, and its count of faults rose.
-    #[error("a command can't be run")]
     Run,
     /// The site failed, or a file to be read is too large, or there was no memory.
-    #[error("{0}")]
     Outside(SiteFailed),
 }
 

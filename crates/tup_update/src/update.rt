@@ -1,6 +1,8 @@
 //! One update, from the store and the sources to the files.
 ghost use Rattle.std.specs.Prelude.{◌≡◌, [], IsTrue};
 ghost use Rattle.std.specs.Result.{result_err};
+ghost use Rattle.tup_site.specs.Crash.{GoesOn};
+ghost use Rattle.tup_update.specs.Images.{MakesStep};
 ghost use Rattle.tup_update.specs.Log.{IsEmptyLog, LogFits, RulesFit};
 ghost use Rattle.tup_update.specs.Outcome.{Keeps, Stays, ExactlyTheFiles, MadeBeforeBad, SourcesStay, NothingForgotten, HasCause, HasCountedCause, HasRunCause};
 ghost use Rattle.tup_update.specs.Ran.{RunsThese};
@@ -64,6 +66,8 @@ pub fn update_site<S: Site, R: Runner>(alloc: Global, site: &mut S, runner: &mut
     ensures sources_stay { IsTrue S.tells → SourcesStay (S.world site.old) (S.world site.new) }
     ensures nothing_forgotten { IsTrue S.tells → NothingForgotten R.tells R.next
         result.rules (S.world site.old) (S.world site.new) result.stopped }
+    ensures crash { IsTrue S.tells → GoesOn S.moment S.left_since site.old site.new
+        (MakesStep R.tells R.next result.rules (S.world site.old)) }
     ensures settled { IsTrue S.tells → let left = S.left_since site.new (S.moment site.new) in
         IsSettled left (S.world site.new) result.stopped }
     ensures cause { IsTrue S.tells → IsTrue R.tells → HasCause R.next
@@ -102,6 +106,8 @@ fn carry_out<S: Site, R: Runner>(
         rules.new (S.world site.old) (S.world site.new) log.new (result_err result) }
     ensures kept { IsTrue S.tells → IsTrue R.tells → Keeps R.next
         rules.new (S.world site.old) (S.world site.new) log.new (result_err result) }
+    ensures crash { IsTrue S.tells → GoesOn S.moment S.left_since site.old site.new
+        (MakesStep R.tells R.next rules.new (S.world site.old)) }
     ensures settled { IsTrue S.tells → let left = S.left_since site.new (S.moment site.new) in
         IsSettled left (S.world site.new) (result_err result) }
     ensures ran { IsTrue R.tells_ran

@@ -89,9 +89,10 @@ impl<S: Site> View for SiteView<'_, '_, '_, S> {
     ghost use Rattle.std.proofs.Common.{◌∙◌, ap};
     ghost use Rattle.std.proofs.lemmas.Bool.{false≢true};
     ghost use Rattle.tup_update.specs.declared.view.Sight.{Sight as SightValue};
+    ghost use Rattle.tup_site.specs.Crash.{GoesOn, NoStep};
     ghost use Rattle.tup_access.specs.Answered.{HasSeen};
     ghost use Rattle.tup_update.specs.Seeing.{refusal_of, KeepsCount};
-    ghost use Rattle.tup_update.specs.SeeingLaws.{seen_itself, seen_further, keeps_itself, keeps_on};
+    ghost use Rattle.tup_update.specs.SeeingLaws.{seen_itself, seen_further, keeps_itself, keeps_on, rests, rests_on};
 
     ghost tells = { false };
 
@@ -111,7 +112,9 @@ impl<S: Site> View for SiteView<'_, '_, '_, S> {
         × (last.refused.ghost_name ≡ first.refused.ghost_name)
         × (IsTrue S.tells → S.world last.site.now ≡ S.world first.site.now)
         × KeepsCount S.tells (S.world last.site.now) (S.faults first.site.now)
-        (S.faults last.site.now) first.refused.now last.refused.now };
+        (S.faults last.site.now) first.refused.now last.refused.now
+        × (IsTrue S.tells
+        → GoesOn S.moment S.left_since first.site.now last.site.now NoStep) };
 
     fn ask(&mut self, alloc: Global, text: &Text) -> Result<Answer, ViewFailed> {
         let path = match self.sight.access(alloc, text, self.asked)? {
@@ -160,6 +163,7 @@ impl<S: Site> View for SiteView<'_, '_, '_, S> {
       refl,
       (λ tells. refl),
       keeps_itself S.tells _ _ view.refused.now,
+      (λ tells. rests S.moment S.left_since view.site.now),
     ) };
 
     ghost same_on = { λ first next last one two. (
@@ -171,6 +175,9 @@ impl<S: Site> View for SiteView<'_, '_, '_, S> {
           S.tells (S.world next.site.now) (S.world last.site.now) (λ tells. two.3 tells)
           (S.faults first.site.now) (S.faults next.site.now) (S.faults last.site.now)
           first.refused.now next.refused.now last.refused.now one.4 two.4,
+      (λ tells. rests_on
+          S.moment S.left_since first.site.now next.site.now last.site.now
+          (one.5 tells) (two.5 tells)),
     ) };
 
     ghost same_outputs = { λ first last one. ap (λ (s : SightValue). s.rule.now.outputs) one.0 };

@@ -1,7 +1,8 @@
-use Rattle.std.proofs.Common.{Ok, sym, ap, subst, ◌∙◌}
+use Rattle.std.proofs.Common.{ap, subst, ◌∙◌}
 use Rattle.std.specs.FinMap as finite
 use Rattle.tup_site.specs.World.{World}
 use Rattle.tup_update.specs.Compared.{HasBuilt, compared_at, difference}
+use Rattle.tup_update.specs.SeeingLaws.{rests_on}
 use Rattle.tup_update.proofs.Comparing.{compared_alike}
 use Rattle.tup_update.proofs.compare.compare_site.Goals as goal
 
@@ -12,3 +13,15 @@ returns-clause-compared g c = λ tells means.
     (subst (HasBuilt g.R.Runner.next w) c.in_ok-built.was (c.clean_files.ensures.clean tells means))
     (c.in_ok-files.ensures.files tells ∙ ap (λ (world : World). finite.entries world.tree) (c.clean_files.ensures.same tells))
     (c.in_ok-comparison.ensures ∙ (λ i. compared_at (difference (c.as_slice.ensures i) (c.as_slice-2.ensures i))))
+
+pub returns-in_err-files-clause-crash : goal.returns-in_err-files-clause-crash
+returns-in_err-files-clause-crash g c = λ tells.
+    rests_on g.S.Site.moment g.S.Site.left_since c.args.site.now c.clean_files.new.site c.all_files.new.site (c.clean_files.ensures.crash tells) (c.all_files.ensures.crash tells)
+
+pub returns-in_err-comparison-clause-crash : goal.returns-in_err-comparison-clause-crash
+returns-in_err-comparison-clause-crash g c = λ tells.
+    rests_on g.S.Site.moment g.S.Site.left_since c.args.site.now c.clean_files.new.site c.all_files.new.site (c.clean_files.ensures.crash tells) (c.all_files.ensures.crash tells)
+
+pub returns-clause-crash : goal.returns-clause-crash
+returns-clause-crash g c = λ tells.
+    rests_on g.S.Site.moment g.S.Site.left_since c.args.site.now c.clean_files.new.site c.all_files.new.site (c.clean_files.ensures.crash tells) (c.all_files.ensures.crash tells)

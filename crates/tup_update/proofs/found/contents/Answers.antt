@@ -7,12 +7,14 @@ use Rattle.tup_path.specs.Tree.{Tree}
 use Rattle.tup_site.specs.World.{World}
 use Rattle.tup_update.specs.Parts.{AddsFile}
 use Rattle.tup_update.proofs.Reading.{HasFilesAt, from_T, none_found, next_looked_for, all_found}
+use Rattle.tup_update.specs.SeeingLaws.{rests, rests_on}
 use Rattle.tup_update.proofs.found.contents.Goals as goal
 
 pub loop-path-init : goal.loop-path-init
 loop-path-init g c = record {
   files = λ tells. subst (HasFilesAt (g.S.Site.world c.args.site.now).tree []) (sym c.new-files.ensures) (none_found (g.S.Site.world c.args.site.now).tree);
   same = λ tells. refl;
+  crash = λ tells. rests g.S.Site.moment g.S.Site.left_since c.args.site.now;
   counted = refl;
 }
 
@@ -22,6 +24,7 @@ loop-path-preserved g c = record {
       (c.loop-path.invariant.files tells)
       (subst (λ (w : World). AddsFile c.path-item.result (finite.get w.tree c.path-item.result) c.loop-path.files c.add.new.files) (c.loop-path.invariant.same tells) (c.in_ok-add.ensures.added tells));
   same = λ tells. c.add.ensures.same tells ∙ c.loop-path.invariant.same tells;
+  crash = λ tells. rests_on g.S.Site.moment g.S.Site.left_since c.args.site.now c.loop-path.site c.add.new.site (c.loop-path.invariant.crash tells) (c.add.ensures.crash tells);
   counted = c.add.ensures.counted.steady (λ e. cc (c.in_ok-add.was, e)) ∙ c.loop-path.invariant.counted;
 }
 
@@ -35,3 +38,6 @@ returns-clause-files g c = λ tells part keys agrees.
 
 pub returns-clause-sorted : goal.returns-clause-sorted
 returns-clause-sorted g c = subst (λ (l : List (Names × Content)). IsTrue (finite.is_sorted by_names l)) (sym c.in_ok-into_items.ensures) (from_T (finite.is_sorted by_names (finite.entries c.loop-path.files)) (finite.entries_sorted c.loop-path.files))
+
+pub returns-in_err-add-clause-crash : goal.returns-in_err-add-clause-crash
+returns-in_err-add-clause-crash g c = λ tells. rests_on g.S.Site.moment g.S.Site.left_since c.args.site.now c.loop-path.site c.add.new.site (c.loop-path.invariant.crash tells) (c.add.ensures.crash tells)

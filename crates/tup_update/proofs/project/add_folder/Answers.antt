@@ -1,4 +1,4 @@
-use Rattle.std.proofs.Common.{◌≡◌, ℕ, ◌++◌, [], List, Bool, true, false, codes, bytes_eq, append-nil, sym, ap, ◌∙◌}
+use Rattle.std.proofs.Common.{◌≡◌, ℕ, ◌++◌, List, true, false, codes, bytes_eq, append-nil, sym, ap, ◌∙◌}
 use Rattle.tup_path.specs.Name.{Names}
 use Rattle.tup_update.proofs.Reading.{folder_listed, none_listed}
 use Rattle.tup_update.proofs.project.add_folder.Goals as goal

@@ -1,4 +1,4 @@
-use Rattle.std.proofs.Common.{◌≡◌, ◌++◌, [], ◌∷◌, List, sym, ap, arith, ◌∙◌}
+use Rattle.std.proofs.Common.{◌++◌, [], ◌∷◌, List, sym, ap, arith, ◌∙◌}
 use Rattle.std.specs.List.{filter_map}
 use Rattle.tup_path.specs.Name.{Names}
 use Rattle.tup_update.specs.Sources.{folder_of_tupfile}

@@ -1,7 +1,7 @@
 use Rattle.std.proofs.Common.{◌<◌, List, length, sym, ◌∙◌, subst}
 use Rattle.std.proofs.lemmas.Bool.{false≢true}
 use Rattle.tup_rule.specs.declared.rule.Rule.{Rule}
-use Rattle.tup_core.proofs.StepLaws.{IsAsking, rule_got, rule_within, ask_yes, ask_no}
+use Rattle.tup_core.proofs.StepLaws.{IsAsking, rule_got, rule_within, unrefused_here, on_each_err, ask_yes, ask_no}
 use Rattle.tup_core.proofs.machine.Core.may_ask.Goals as goal
 
 pub bounds-as_slice-running : goal.bounds-as_slice-running
@@ -26,3 +26,7 @@ returns-clause-ok c =
       λ can. absurd (ask_no c.args.plan.now c.args.self.now c.args.seat c.in-Some.running.now c.index-as_slice-running.result _ c.args.text.now c.args.answer asking
           (sym (c.in_ok-path.ensures.ok c.args.plan.now.rules c.requires.generated) ∙ c.in-No.is) can),
     )
+
+pub returns-in_err-path-clause-asks : goal.returns-in_err-path-clause-asks
+returns-in_err-path-clause-asks c =
+    on_each_err c.from_residual.result (unrefused_here c.args.self.now.seats.items c.args.seat c.in-Some.running.now c.in-Some.ensures.0 c.in-Some.ensures.1)

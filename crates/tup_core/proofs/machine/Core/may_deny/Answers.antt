@@ -1,7 +1,7 @@
 use Rattle.std.proofs.Common.{◌<◌, List, length, sym, ◌∙◌, subst}
 use Rattle.std.proofs.lemmas.Bool.{false≢true}
 use Rattle.tup_rule.specs.declared.rule.Rule.{Rule}
-use Rattle.tup_core.proofs.StepLaws.{IsAsking, rule_got, rule_within, deny_yes, deny_no}
+use Rattle.tup_core.proofs.StepLaws.{IsAsking, rule_got, rule_within, unrefused_here, on_each_err, deny_yes, deny_no}
 use Rattle.tup_core.proofs.machine.Core.may_deny.Goals as goal
 
 pub bounds-as_slice-running : goal.bounds-as_slice-running
@@ -25,3 +25,7 @@ returns-clause-ok c =
     let asking : IsAsking c.args.plan.now c.args.self.now c.args.seat c.in-Some.running.now c.index-as_slice-running.result = record { here = c.in-Some.ensures.0; going = c.in-Some.ensures.1; placed = placed } in
     deny_no c.args.plan.now c.args.self.now c.args.seat c.in-Some.running.now c.index-as_slice-running.result c.in-No.given c.args.verdict.now c.args.text.now c.same_verdict.result c.requires asking
     (sym (c.in_ok-access.ensures.ok c.args.plan.now.rules c.requires.generated) ∙ c.in-No.is) c.same_verdict.ensures
+
+pub returns-in_err-access-clause-asks : goal.returns-in_err-access-clause-asks
+returns-in_err-access-clause-asks c =
+    on_each_err c.from_residual.result (unrefused_here c.args.self.now.seats.items c.args.seat c.in-Some.running.now c.in-Some.ensures.0 c.in-Some.ensures.1)

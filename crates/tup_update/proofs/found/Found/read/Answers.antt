@@ -11,6 +11,7 @@ use Rattle.tup_update.specs.Sources.{files_beside}
 use Rattle.tup_update.proofs.Beside.{left_is}
 use Rattle.tup_update.proofs.Known.{sources_are as sources_of}
 use Rattle.tup_update.proofs.Reading.{sources_are}
+use Rattle.tup_update.specs.SeeingLaws.{rests_on}
 use Rattle.tup_update.proofs.found.Found.read.Goals as goal
 
 pub returns-clause-found : goal.returns-clause-found
@@ -31,3 +32,21 @@ returns-clause-found g c = λ tells.
       few = rw (sym files) (rw c.as_slice-2.ensures c.in_ok-few.ensures.few);
       sources = content ∙ ap (λ (t : Tree). finite.entries t) (sym (sources_of old owned owns));
     }
+
+pub returns-in_err-files-clause-crash : goal.returns-in_err-files-clause-crash
+returns-in_err-files-clause-crash g c = λ tells. rests_on g.S.Site.moment g.S.Site.left_since c.args.site.now c.read_store.new.site c.list.new.self (c.read_store.ensures.crash tells) (c.list.ensures.crash tells)
+
+pub returns-in_err-few-clause-crash : goal.returns-in_err-few-clause-crash
+returns-in_err-few-clause-crash g c = λ tells. rests_on g.S.Site.moment g.S.Site.left_since c.args.site.now c.read_store.new.site c.list.new.self (c.read_store.ensures.crash tells) (c.list.ensures.crash tells)
+
+pub returns-in_err-apart-clause-crash : goal.returns-in_err-apart-clause-crash
+returns-in_err-apart-clause-crash g c = λ tells. rests_on g.S.Site.moment g.S.Site.left_since c.args.site.now c.read_store.new.site c.list.new.self (c.read_store.ensures.crash tells) (c.list.ensures.crash tells)
+
+pub returns-in_err-owned_files-clause-crash : goal.returns-in_err-owned_files-clause-crash
+returns-in_err-owned_files-clause-crash g c = λ tells. rests_on g.S.Site.moment g.S.Site.left_since c.args.site.now c.read_store.new.site c.list.new.self (c.read_store.ensures.crash tells) (c.list.ensures.crash tells)
+
+pub returns-in_err-sources-clause-crash : goal.returns-in_err-sources-clause-crash
+returns-in_err-sources-clause-crash g c = λ tells. rests_on g.S.Site.moment g.S.Site.left_since c.args.site.now c.list.new.self c.contents.new.site (rests_on g.S.Site.moment g.S.Site.left_since c.args.site.now c.read_store.new.site c.list.new.self (c.read_store.ensures.crash tells) (c.list.ensures.crash tells)) (c.contents.ensures.crash tells)
+
+pub returns-clause-crash : goal.returns-clause-crash
+returns-clause-crash g c = λ tells. rests_on g.S.Site.moment g.S.Site.left_since c.args.site.now c.list.new.self c.contents.new.site (rests_on g.S.Site.moment g.S.Site.left_since c.args.site.now c.read_store.new.site c.list.new.self (c.read_store.ensures.crash tells) (c.list.ensures.crash tells)) (c.contents.ensures.crash tells)

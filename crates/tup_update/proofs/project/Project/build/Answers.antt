@@ -1,5 +1,5 @@
-use Rattle.std.proofs.Common.{ℕ, IfSome, Some, Ok, Err, sym, ◌∙◌, ap, subst}
-use Rattle.tup_owned.specs.Owned.{spelling}
+use Rattle.std.proofs.Common.{ℕ, IfSome, Some, Ok, Err, refl, sym, ◌∙◌, ap, subst}
+use Rattle.tup_owned.specs.Owned.{owned_of, spelling}
 use Rattle.tup_site.specs.World.{World}
 use Rattle.tup_site.specs.declared.fault.SiteFailed.TheVariants.{Memory}
 use Rattle.tup_update.specs.Log.{with_read}
@@ -15,8 +15,10 @@ use Rattle.tup_update.specs.declared.stop.Stop.TheVariants.{Outside}
 use Rattle.tup_update.specs.declared.update.Log.{Log}
 use Rattle.tup_update.proofs.Begun.{ran_none, ran_all_of, stopped_runs}
 use Rattle.tup_update.proofs.Ending.{vanished_are, claimed_are}
-use Rattle.tup_update.proofs.Keeping.{IsUnderWay, err_is, small_failure, way_runnable, unplanned_stays, unplanned_keeps, unprepared_stays, unprepared_keeps, unrun_stays, unrun_keeps, stopped_stays, stopped_keeps, unfinished_stays, unfinished_keeps, finished_stays, finished_keeps}
+use Rattle.tup_update.proofs.Keeping.{IsUnderWay, all_made, err_is, small_failure, way_runnable, unplanned_stays, unplanned_keeps, unprepared_stays, unprepared_keeps, unrun_stays, unrun_keeps, stopped_stays, stopped_keeps, unfinished_stays, unfinished_keeps, finished_stays, finished_keeps}
 use Rattle.tup_update.proofs.Settling.{halted_unsettled}
+use Rattle.tup_update.specs.Images.{MakesStep}
+use Rattle.tup_update.proofs.Crashing.{at_rest, then_quiet, store_reads, claims_read, prepared_so, ran_so, finished_so}
 use Rattle.tup_update.proofs.project.Project.build.Goals as goal
 
 -- ---- what could not be planned
@@ -321,3 +323,96 @@ run-requires-clause-runnable g c κs = λ lives tells.
       beside = c.prepare.ensures.others tells;
     } in
     way_runnable project old mid plan.vanished plan.claimed way (c.in_ok-prepare.ensures.cleared tells)
+
+-- ---- what it adds to what a crash may leave
+
+pub returns-in_err-plan-clause-crash : goal.returns-in_err-plan-clause-crash
+returns-in_err-plan-clause-crash g c = λ tells.
+    at_rest g.S.Site.moment g.S.Site.left_since c.args.site.now (MakesStep g.R.Runner.tells g.R.Runner.next c.args.self.now.rules (g.S.Site.world c.args.site.now))
+
+pub returns-in_err-prepare-clause-crash : goal.returns-in_err-prepare-clause-crash
+returns-in_err-prepare-clause-crash g c = λ tells.
+    let site = c.args.site.now in
+    let mid = c.prepare.new.site in
+    let old = g.S.Site.world site in
+    let project = c.args.self.now in
+    let plan = c.in_ok-plan.plan in
+    let is = c.requires.project tells in
+    let prepared = prepared_so g.S.Site.moment g.S.Site.left_since g.R.Runner.tells g.R.Runner.next project.rules old (store_reads project old is) is.asked site mid plan.vanished (spelling plan.claimed) (c.in_ok-plan.ensures.vanished ∙ vanished_are project old is) (claims_read project old plan.claimed is c.in_ok-plan.ensures.claimed) (c.prepare.ensures.crash tells) in
+    prepared
+
+pub returns-in_err-bad-clause-crash : goal.returns-in_err-bad-clause-crash
+returns-in_err-bad-clause-crash g c = λ tells.
+    let site_laws = g.met.S.Site g.world.𝓛 g.world.𝓜 g.world.𝓡 ((λ s x. x), (λ x. x), (λ x. x), λ x. x) in
+    let site = c.args.site.now in
+    let mid = c.prepare.new.site in
+    let old = g.S.Site.world site in
+    let project = c.args.self.now in
+    let plan = c.in_ok-plan.plan in
+    let is = c.requires.project tells in
+    let prepared = prepared_so g.S.Site.moment g.S.Site.left_since g.R.Runner.tells g.R.Runner.next project.rules old (store_reads project old is) is.asked site mid plan.vanished (spelling plan.claimed) (c.in_ok-plan.ensures.vanished ∙ vanished_are project old is) (claims_read project old plan.claimed is c.in_ok-plan.ensures.claimed) (c.prepare.ensures.crash tells) in
+    let stored = ap owned_of (c.in_ok-prepare.ensures.claimed tells) ∙ claims_read project old plan.claimed is c.in_ok-plan.ensures.claimed in
+    let ran = ran_so g.S.Site.moment g.S.Site.left_since g.R.Runner.tells g.R.Runner.next project.rules old (store_reads project old is) is.asked site mid c.run.new.site (g.S.Site.world mid) (λ t u w le left. site_laws.earlier mid t u w tells le left) (c.in_ok-prepare.ensures.pinned tells) stored prepared (c.run.ensures.crash tells) in
+    ran
+
+pub returns-in-Some-clause-crash : goal.returns-in-Some-clause-crash
+returns-in-Some-clause-crash g c = λ tells.
+    let site_laws = g.met.S.Site g.world.𝓛 g.world.𝓜 g.world.𝓡 ((λ s x. x), (λ x. x), (λ x. x), λ x. x) in
+    let site = c.args.site.now in
+    let mid = c.prepare.new.site in
+    let old = g.S.Site.world site in
+    let project = c.args.self.now in
+    let plan = c.in_ok-plan.plan in
+    let is = c.requires.project tells in
+    let prepared = prepared_so g.S.Site.moment g.S.Site.left_since g.R.Runner.tells g.R.Runner.next project.rules old (store_reads project old is) is.asked site mid plan.vanished (spelling plan.claimed) (c.in_ok-plan.ensures.vanished ∙ vanished_are project old is) (claims_read project old plan.claimed is c.in_ok-plan.ensures.claimed) (c.prepare.ensures.crash tells) in
+    let stored = ap owned_of (c.in_ok-prepare.ensures.claimed tells) ∙ claims_read project old plan.claimed is c.in_ok-plan.ensures.claimed in
+    let ran = ran_so g.S.Site.moment g.S.Site.left_since g.R.Runner.tells g.R.Runner.next project.rules old (store_reads project old is) is.asked site mid c.run.new.site (g.S.Site.world mid) (λ t u w le left. site_laws.earlier mid t u w tells le left) (c.in_ok-prepare.ensures.pinned tells) stored prepared (c.run.ensures.crash tells) in
+    then_quiet g.S.Site.moment g.S.Site.left_since site c.run.new.site c.stop_at.new.site (MakesStep g.R.Runner.tells g.R.Runner.next project.rules old) ran (c.stop_at.ensures.crash tells)
+
+pub returns-in_err-finish-in-None-clause-crash : goal.returns-in_err-finish-in-None-clause-crash
+returns-in_err-finish-in-None-clause-crash g c = λ tells.
+    let site_laws = g.met.S.Site g.world.𝓛 g.world.𝓜 g.world.𝓡 ((λ s x. x), (λ x. x), (λ x. x), λ x. x) in
+    let site = c.args.site.now in
+    let mid = c.prepare.new.site in
+    let old = g.S.Site.world site in
+    let project = c.args.self.now in
+    let plan = c.in_ok-plan.plan in
+    let is = c.requires.project tells in
+    let prepared = prepared_so g.S.Site.moment g.S.Site.left_since g.R.Runner.tells g.R.Runner.next project.rules old (store_reads project old is) is.asked site mid plan.vanished (spelling plan.claimed) (c.in_ok-plan.ensures.vanished ∙ vanished_are project old is) (claims_read project old plan.claimed is c.in_ok-plan.ensures.claimed) (c.prepare.ensures.crash tells) in
+    let stored = ap owned_of (c.in_ok-prepare.ensures.claimed tells) ∙ claims_read project old plan.claimed is c.in_ok-plan.ensures.claimed in
+    let ran = ran_so g.S.Site.moment g.S.Site.left_since g.R.Runner.tells g.R.Runner.next project.rules old (store_reads project old is) is.asked site mid c.run.new.site (g.S.Site.world mid) (λ t u w le left. site_laws.earlier mid t u w tells le left) (c.in_ok-prepare.ensures.pinned tells) stored prepared (c.run.ensures.crash tells) in
+    let way : IsUnderWay project old (g.S.Site.world mid) plan.vanished plan.claimed = record {
+      is = is;
+      vanishes = c.in_ok-plan.ensures.vanished ∙ vanished_are project old is;
+      claims = c.in_ok-plan.ensures.claimed ∙ claimed_are project old is;
+      beside = c.prepare.ensures.others tells;
+    } in
+    let now = g.S.Site.world c.run.new.site in
+    let sources = files_beside project.owned (g.S.Site.world mid).tree in
+    let made = all_made project old (g.S.Site.world mid) plan.vanished plan.claimed way g.R.Runner.tells g.R.Runner.next now now (c.in_ok-prepare.ensures.cleared tells) (c.run.ensures.others tells) refl
+    (λ means. subst (HasRun g.R.Runner.next project.rules sources now.tree) c.in-None.is (c.in_ok-bad.ensures.run tells means)) in
+    finished_so g.S.Site.moment g.S.Site.left_since g.R.Runner.tells g.R.Runner.next project.rules old (store_reads project old is) is.asked site c.run.new.site c.finish.new.site now (λ t u w le left. site_laws.earlier c.run.new.site t u w tells le left) made ran (c.finish.ensures.crash tells)
+
+pub returns-clause-crash : goal.returns-clause-crash
+returns-clause-crash g c = λ tells.
+    let site_laws = g.met.S.Site g.world.𝓛 g.world.𝓜 g.world.𝓡 ((λ s x. x), (λ x. x), (λ x. x), λ x. x) in
+    let site = c.args.site.now in
+    let mid = c.prepare.new.site in
+    let old = g.S.Site.world site in
+    let project = c.args.self.now in
+    let plan = c.in_ok-plan.plan in
+    let is = c.requires.project tells in
+    let prepared = prepared_so g.S.Site.moment g.S.Site.left_since g.R.Runner.tells g.R.Runner.next project.rules old (store_reads project old is) is.asked site mid plan.vanished (spelling plan.claimed) (c.in_ok-plan.ensures.vanished ∙ vanished_are project old is) (claims_read project old plan.claimed is c.in_ok-plan.ensures.claimed) (c.prepare.ensures.crash tells) in
+    let stored = ap owned_of (c.in_ok-prepare.ensures.claimed tells) ∙ claims_read project old plan.claimed is c.in_ok-plan.ensures.claimed in
+    let ran = ran_so g.S.Site.moment g.S.Site.left_since g.R.Runner.tells g.R.Runner.next project.rules old (store_reads project old is) is.asked site mid c.run.new.site (g.S.Site.world mid) (λ t u w le left. site_laws.earlier mid t u w tells le left) (c.in_ok-prepare.ensures.pinned tells) stored prepared (c.run.ensures.crash tells) in
+    let way : IsUnderWay project old (g.S.Site.world mid) plan.vanished plan.claimed = record {
+      is = is;
+      vanishes = c.in_ok-plan.ensures.vanished ∙ vanished_are project old is;
+      claims = c.in_ok-plan.ensures.claimed ∙ claimed_are project old is;
+      beside = c.prepare.ensures.others tells;
+    } in
+    let now = g.S.Site.world c.run.new.site in
+    let sources = files_beside project.owned (g.S.Site.world mid).tree in
+    let made = all_made project old (g.S.Site.world mid) plan.vanished plan.claimed way g.R.Runner.tells g.R.Runner.next now now (c.in_ok-prepare.ensures.cleared tells) (c.run.ensures.others tells) refl
+    (λ means. subst (HasRun g.R.Runner.next project.rules sources now.tree) c.in-None.is (c.in_ok-bad.ensures.run tells means)) in
+    finished_so g.S.Site.moment g.S.Site.left_since g.R.Runner.tells g.R.Runner.next project.rules old (store_reads project old is) is.asked site c.run.new.site c.finish.new.site now (λ t u w le left. site_laws.earlier c.run.new.site t u w tells le left) made ran (c.finish.ensures.crash tells)

@@ -1,8 +1,6 @@
-use Rattle.std.proofs.Common.{◌≡◌, List, sym, ◌∙◌, ap}
-use Rattle.std.specs.FinMap as finite
+use Rattle.std.proofs.Common.{List, ◌∙◌, ap}
 use Rattle.std.specs.Map.{keys_of}
 use Rattle.tup_path.specs.Name.{Names, Content}
-use Rattle.tup_site.specs.World.{World}
 use Rattle.tup_update.specs.Sources.{folders_of}
 use Rattle.tup_update.proofs.Handed.{err_if}
 use Rattle.tup_update.proofs.Keeping.{refusal_cause, refusal_knows, refusal_hands_on}

@@ -8,12 +8,14 @@ use Rattle.tup_clean.specs.Queue.{IsWhole}
 use Rattle.tup_clean.specs.Taken.{Taken, verdicts_of, takes, up_to_bad}
 use Rattle.tup_clean.proofs.Agreeing.{make_apart, agrees_first}
 use Rattle.tup_clean.proofs.Taking.{IsQueued, is_left, taken_at, can_note, ready_is, none_ready, queued_start, queued_more}
+use Rattle.tup_update.specs.Images.{FilesStep}
 use Rattle.tup_update.specs.Sources.{files_beside}
-use Rattle.tup_update.specs.Parts.{HasRun, HasMade, ArePartNoted}
+use Rattle.tup_update.specs.Parts.{HasRun, HasMade, ArePartNoted, SameBesideOutputs}
 use Rattle.tup_update.specs.Ran.{RunsThese, stopped_by, comes_to}
 use Rattle.tup_update.specs.Turns.{TurnsFit}
 use Rattle.tup_clean.proofs.Standing.{ready_untaken}
 use Rattle.tup_update.proofs.Behind.{same_more, has_made}
+use Rattle.tup_update.proofs.Crashing.{at_rest, ran_on}
 use Rattle.tup_update.proofs.Begun.{ran_none, ran_all_of, stopped_err, comes_err}
 use Rattle.tup_update.proofs.Running.{room_for, beside_made, beside_all, named_bad, unnamed_good}
 use Rattle.tup_site.specs.declared.fault.SiteFailed.TheVariants.{Memory}
@@ -54,6 +56,7 @@ loop-init g c =
       others = λ tells path unmade. refl;
       made = λ tells path unmade. refl;
       store = λ tells. refl;
+      crash = λ tells. at_rest g.S.Site.moment g.S.Site.left_since c.args.site.now (FilesStep (SameBesideOutputs all));
       runs = λ tells. ran_none c.args.ran.now _ c.requires.unused.0;
       counted = refl;
       counted_runs = refl;
@@ -320,6 +323,9 @@ loop-preserved g c =
           same_more all (make_apart _ all (c.requires.runnable tells).buildable) verdicts at rule here (ready_untaken all verdicts at ready) ends.verdict _ _ _ (verdicts_of all c.take.new.ended)
           (verdicts_of_more all c.loop.ended at ends.verdict c.take.new.ended ends.noted) good (c.loop.invariant.made tells) (c.take.ensures.others tells);
       store = λ tells. c.take.ensures.store tells ∙ c.loop.invariant.store tells;
+      crash = λ tells.
+          let site_laws = g.met.S.Site g.world.𝓛 g.world.𝓜 g.world.𝓡 ((λ s x. x), (λ x. x), (λ x. x), λ x. x) in
+          ran_on g.S.Site.moment g.S.Site.left_since c.args.site.now c.loop.site c.take.new.site all at rule (λ t u w le left. site_laws.earlier c.loop.site t u w tells le left) here (c.loop.invariant.crash tells) (c.take.ensures.crash tells);
       runs = λ tells. subst (λ r. RunsThese c.take.new.ran (g.R.Runner.ran c.args.runner.now) (g.R.Runner.ran c.take.new.runner) (stopped_by r)) c.in_ok-bad.was (c.take.ensures.ran tells (g.R.Runner.ran c.args.runner.now) (c.loop.invariant.runs tells));
       counted = c.take.ensures.cause.steady (λ e. cc (c.in_ok-bad.was, e)) ∙ c.loop.invariant.counted;
       counted_runs = c.in_ok-bad.ensures.run_cause ∙ c.loop.invariant.counted_runs;
@@ -383,3 +389,42 @@ returns-clause-part g c = λ tells means.
 
 pub returns-clause-ran : goal.returns-clause-ran
 returns-clause-ran g c = λ tells. c.loop.invariant.runs tells
+
+pub returns-in_err-bad-clause-crash : goal.returns-in_err-bad-clause-crash
+returns-in_err-bad-clause-crash g c = λ tells.
+    let all = c.args.self.now.rules in
+    let verdicts = verdicts_of all c.loop.ended in
+    let at = c.in-Some.at in
+    let next = c.in-Some.ensures all (is_left verdicts) (good_at verdicts) c.loop.invariant.queued.waiting in
+    let taken = taken_at all verdicts at _ next in
+    let rule = c.index-rules-at.result in
+    let here = rule_here all c.as_slice-rules.result.now at rule c.as_slice-rules.ensures taken.rule taken.here c.index-rules-at.is in
+    let site_laws = g.met.S.Site g.world.𝓛 g.world.𝓜 g.world.𝓡 ((λ s x. x), (λ x. x), (λ x. x), λ x. x) in
+    ran_on g.S.Site.moment g.S.Site.left_since c.args.site.now c.loop.site c.take.new.site all at rule (λ t u w le left. site_laws.earlier c.loop.site t u w tells le left) here (c.loop.invariant.crash tells) (c.take.ensures.crash tells)
+
+pub returns-then-is_some-clause-crash : goal.returns-then-is_some-clause-crash
+returns-then-is_some-clause-crash g c = λ tells.
+    let all = c.args.self.now.rules in
+    let verdicts = verdicts_of all c.loop.ended in
+    let at = c.in-Some.at in
+    let next = c.in-Some.ensures all (is_left verdicts) (good_at verdicts) c.loop.invariant.queued.waiting in
+    let taken = taken_at all verdicts at _ next in
+    let rule = c.index-rules-at.result in
+    let here = rule_here all c.as_slice-rules.result.now at rule c.as_slice-rules.ensures taken.rule taken.here c.index-rules-at.is in
+    let site_laws = g.met.S.Site g.world.𝓛 g.world.𝓜 g.world.𝓡 ((λ s x. x), (λ x. x), (λ x. x), λ x. x) in
+    ran_on g.S.Site.moment g.S.Site.left_since c.args.site.now c.loop.site c.take.new.site all at rule (λ t u w le left. site_laws.earlier c.loop.site t u w tells le left) here (c.loop.invariant.crash tells) (c.take.ensures.crash tells)
+
+pub returns-in_err-note-clause-crash : goal.returns-in_err-note-clause-crash
+returns-in_err-note-clause-crash g c = λ tells.
+    let all = c.args.self.now.rules in
+    let verdicts = verdicts_of all c.loop.ended in
+    let at = c.in-Some.at in
+    let next = c.in-Some.ensures all (is_left verdicts) (good_at verdicts) c.loop.invariant.queued.waiting in
+    let taken = taken_at all verdicts at _ next in
+    let rule = c.index-rules-at.result in
+    let here = rule_here all c.as_slice-rules.result.now at rule c.as_slice-rules.ensures taken.rule taken.here c.index-rules-at.is in
+    let site_laws = g.met.S.Site g.world.𝓛 g.world.𝓜 g.world.𝓡 ((λ s x. x), (λ x. x), (λ x. x), λ x. x) in
+    ran_on g.S.Site.moment g.S.Site.left_since c.args.site.now c.loop.site c.take.new.site all at rule (λ t u w le left. site_laws.earlier c.loop.site t u w tells le left) here (c.loop.invariant.crash tells) (c.take.ensures.crash tells)
+
+pub returns-in_err-queue-clause-crash : goal.returns-in_err-queue-clause-crash
+returns-in_err-queue-clause-crash g c = λ tells. at_rest g.S.Site.moment g.S.Site.left_since c.args.site.now (FilesStep (SameBesideOutputs c.args.self.now.rules))

@@ -1,6 +1,8 @@
 use Rattle.std.proofs.Common.{◌∙◌, ap}
 use Rattle.tup_site.specs.World.{World}
 use Rattle.tup_clean.specs.Clean.{with_files}
+use Rattle.tup_update.specs.Parts.{SameBeside}
+use Rattle.tup_update.proofs.Crashing.{put_own, quiet_files}
 use Rattle.tup_update.proofs.Running.{own_places, room_for_places, beside_places}
 use Rattle.tup_update.proofs.project.Project.run_rule.Goals as goal
 
@@ -32,3 +34,19 @@ returns-clause-leaves g c = λ tells means.
       is = judged.0;
       files = c.in_ok-put_all.ensures.put tells ∙ (λ i. with_files (c.in_ok-verdict.ensures.same tells i).tree ((c.as_slice.ensures ∙ judged.1) i));
     }
+
+pub returns-in_err-put_all-clause-crash : goal.returns-in_err-put_all-clause-crash
+returns-in_err-put_all-clause-crash g c = λ tells.
+    let site_laws = g.met.S.Site g.world.𝓛 g.world.𝓜 g.world.𝓡 ((λ s x. x), (λ x. x), (λ x. x), λ x. x) in
+    put_own g.S.Site.moment g.S.Site.left_since c.args.site.now c.run.new.site c.put_all.new.site c.args.rule.now _ (λ t u w le left. site_laws.earlier c.run.new.site t u w tells le left)
+    (own_places c.args.rule.now c.in_ok-verdict.files _ c.as_slice.ensures c.in_ok-verdict.ensures.own) (c.in_ok-verdict.ensures.crash tells) (c.put_all.ensures.crash tells)
+
+pub returns-clause-crash : goal.returns-clause-crash
+returns-clause-crash g c = λ tells.
+    let site_laws = g.met.S.Site g.world.𝓛 g.world.𝓜 g.world.𝓡 ((λ s x. x), (λ x. x), (λ x. x), λ x. x) in
+    put_own g.S.Site.moment g.S.Site.left_since c.args.site.now c.run.new.site c.put_all.new.site c.args.rule.now _ (λ t u w le left. site_laws.earlier c.run.new.site t u w tells le left)
+    (own_places c.args.rule.now c.in_ok-verdict.files _ c.as_slice.ensures c.in_ok-verdict.ensures.own) (c.in_ok-verdict.ensures.crash tells) (c.put_all.ensures.crash tells)
+
+pub returns-in_err-verdict-clause-crash : goal.returns-in_err-verdict-clause-crash
+returns-in_err-verdict-clause-crash g c = λ tells.
+    quiet_files g.S.Site.moment g.S.Site.left_since c.args.site.now c.run.new.site (SameBeside c.args.rule.now.outputs) (c.in_err-verdict.ensures.crash tells)

@@ -2,6 +2,9 @@ use Rattle.std.proofs.Common.{List, sym, subst, inl, inr}
 use Rattle.tup_rule.specs.Rule.{name_of}
 use Rattle.tup_rule.specs.declared.rule.RuleName.{RuleName}
 use Rattle.tup_update.specs.Ran.{RanAll, RunsOne, RunsThese}
+use Rattle.tup_update.specs.Images.{FilesStep}
+use Rattle.tup_update.specs.Parts.{SameBeside}
+use Rattle.tup_update.proofs.Crashing.{at_rest}
 use Rattle.tup_update.proofs.Begun.{ran_more, ran_all_of, ran_to_halt, stopped_err}
 use Rattle.tup_update.proofs.project.Project.take.Goals as goal
 
@@ -51,3 +54,8 @@ returns-clause-ends g c = record {
 pub returns-clause-ran : goal.returns-clause-ran
 returns-clause-ran g c = λ tells first ran.
     ran_more (name_of c.args.rule.now) _ _ _ _ _ ran c.in_ok-begin.ensures.noted (c.in_ok-verdict.ensures.ran tells)
+
+-- ---- what it adds to what a crash may leave
+
+pub returns-in_err-begin-clause-crash : goal.returns-in_err-begin-clause-crash
+returns-in_err-begin-clause-crash g c = λ tells. at_rest g.S.Site.moment g.S.Site.left_since c.args.site.now (FilesStep (SameBeside c.args.rule.now.outputs))

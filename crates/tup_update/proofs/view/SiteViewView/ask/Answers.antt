@@ -22,5 +22,6 @@ returns g c = record {
           (λ tells. c.get.ensures.length tells) (λ tells. c.get.ensures.same tells);
       stays = λ kept was. nothing_kept c.args.self.now.refused.now kept c.requires was;
     },
+    (λ tells. c.get.ensures.crash tells),
   );
 }

@@ -1,0 +1,4 @@
+pub mod Faults
+pub mod Committed
+pub mod Puts
+pub mod Made

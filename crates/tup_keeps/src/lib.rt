@@ -1,0 +1,12 @@
+//! What keeps a kept graph kept: scans, swaps of rules and edits of files; and which rules an update has to run.
+//!
+//! All of it are laws over the definitions of a graph, for the update that stands on them.
+#![tactic(auto)]
+
+mod edits;
+mod reach;
+mod transactions;
+
+pub use edits::{edits_keep_sites, edits_keep_worlds};
+pub use reach::{flagged_is_reached, nothing_is_reached};
+pub use transactions::{scan_agrees, scan_keeps, swap_keeps};

@@ -1,0 +1,224 @@
+-- What a crash may leave, one call of a site behind another.
+use Rattle.std.proofs.Common.{◌≡◌, ◌⊎◌, ℕ, ◌<◌, Bool, true, false, List, [], ◌++◌, Some, Ok, length, inl, inr, ⊎_elim, refl, sym, ap, subst, ◌∙◌, get_or, arith}
+use Rattle.std.specs.FinMap as finite
+use Rattle.std.specs.List.{slice_get}
+use Rattle.std.proofs.lemmas.Bool.{false≢true}
+use Rattle.std.proofs.lemmas.List.{get_or-map, length-map}
+use Rattle.std.proofs.lemmas.List.Folds.{list_any_at}
+use Rattle.tup_path.specs.Name.{Names, Content}
+use Rattle.tup_path.specs.Order.{same_path}
+use Rattle.tup_path.specs.Tree.{Tree}
+use Rattle.tup_path.proofs.Same.{same_path-decides}
+use Rattle.tup_site.specs.Cause.{SameBut}
+use Rattle.tup_site.specs.Crash.{GoesOn, NoStep, FileStep, WriteStep, CutStep, PinsStore}
+use Rattle.tup_site.specs.World.{World, TreeStays, StoreStays}
+use Rattle.tup_table.proofs.Going.{IsEarlier, as_step, nothing_then, then_on}
+use Rattle.tup_rule.specs.declared.rule.Rule.{Rule}
+use Rattle.tup_rule.specs.Rule.{among}
+use Rattle.tup_rule.proofs.Laws.{writes-at}
+use Rattle.tup_runner.specs.Next.{Next}
+use Rattle.tup_owned.specs.Ascending.{ascending}
+use Rattle.tup_owned.specs.Owned.{owned_of, spelling}
+use Rattle.tup_update.specs.Images.{FilesStep, ListedStep, SettledStep, MakesStep}
+use Rattle.tup_update.specs.Outcome.{claimed, AllIsMade}
+use Rattle.tup_update.specs.Parts.{IsBuilt, IsProject, SameBeside, SameBesideOutputs}
+use Rattle.tup_update.specs.SeeingLaws.{rests}
+use Rattle.tup_update.specs.Sources.{owned, outputs, sources, vanished, files_beside, build, AsksFor}
+use Rattle.tup_update.specs.declared.project.Project.{Project}
+use Rattle.tup_update.proofs.Ending.{project_owns, claimed_are}
+use Rattle.tup_update.proofs.Preparing.{kept_beside, claimed_reads}
+use Rattle.tup_update.proofs.Trees.{places}
+
+-- ---- how trees agree
+
+-- what is the same beside one of some paths is so beside them all
+pub beside_them : (paths : List Names) (path : Names) (old new : Tree) → among path paths ≡ true → SameBut path old new → SameBeside paths old new
+beside_them paths path old new among_them same other outside = same other (λ e. false≢true (sym outside ∙ ap (λ (p : Names). among p paths) e ∙ among_them))
+
+pub beside_then : (paths : List Names) (t u v : Tree) → SameBeside paths t u → SameBeside paths u v → SameBeside paths t v
+beside_then paths t u v one two other outside = two other outside ∙ one other outside
+
+-- the path at a place is among them
+pub among_here : (paths : List Names) (i : ℕ) (path : Names) → i < length paths → get_or paths i path ≡ path → among path paths ≡ true
+among_here paths i path within here = list_any_at (same_path path) paths i path within (ap (same_path path) here ∙ (same_path-decides path path).1 refl)
+
+pub place_here : (files : List (Names × Content)) (i : ℕ) (file : Names × Content) → i < length files → get_or files i file ≡ file → among file.0 (places files) ≡ true
+place_here files i file within here =
+    among_here (places files) i file.0 (simp length-map within)
+    (get_or-map (λ (f : Names × Content). f.0) files i file file.0 within ∙ ap (λ (f : Names × Content). f.0) here)
+
+-- ---- what a project's store lists
+
+pub store_reads : (project : Project) (old : World) → IsProject project old → owned_of old.store ≡ Ok (owned old)
+store_reads project old is = is.owned ∙ ap (λ (paths : List Names). Ok paths) (sym (project_owns project old is))
+
+-- what is claimed reads back
+pub claims_read : (project : Project) (old : World) (claiming : List Names) → IsProject project old → claiming ≡ ascending (project.owned ++ outputs project.rules) → owned_of (spelling claiming) ≡ Ok (claimed project.rules old)
+claims_read project old claiming is claims =
+    ap (λ (paths : List Names). owned_of (spelling paths)) (claims ∙ claimed_are project old is)
+    ∙ claimed_reads old.store (owned old) (sources old) project.rules (store_reads project old is) is.buildable
+
+module _ {S : Type 0} (moment : S → ℕ) (left_since : S → ℕ → World → Type 0) where
+  -- nothing was done
+  pub at_rest : (site : S) (step : World → World → Type 0) → GoesOn moment left_since site site step
+  at_rest site step = as_step moment left_since site site NoStep step (λ v w left none. absurd none) (rests moment left_since site)
+
+  -- a call behind another, one of which adds nothing
+  pub then_quiet : (old mid new : S) (step : World → World → Type 0) → GoesOn moment left_since old mid step → GoesOn moment left_since mid new NoStep → GoesOn moment left_since old new step
+  then_quiet old mid new step first last = record {
+    later = omega (arith, first.later, last.later);
+    kept = λ t w le left. last.kept t w (omega (arith, le, first.later)) (first.kept t w le left);
+    since = λ t w le left. ⊎_elim (first.since t w le) (λ none. absurd none.2) (last.since t w (omega (arith, le, first.later)) left);
+  }
+
+  -- a call that adds nothing adds no other file
+  pub quiet_files : (old new : S) (agree : Tree → Tree → Type 0) → GoesOn moment left_since old new NoStep → GoesOn moment left_since old new (FilesStep agree)
+  quiet_files old new agree quiet = as_step moment left_since old new NoStep (FilesStep agree) (λ v w left none. absurd none) quiet
+
+  -- a file was put or removed
+  pub one_file : (old new : S) (path : Names) (contents : List Content) (agree : Tree → Tree → Type 0) → ((t u : Tree) → SameBut path t u → agree t u) → GoesOn moment left_since old new (FileStep path contents) →
+      GoesOn moment left_since old new (FilesStep agree)
+  one_file old new path contents agree so on =
+      as_step moment left_since old new (FileStep path contents) (FilesStep agree)
+      (λ v w left step. (let is : FilesStep agree v w = record { files = so v.tree w.tree step.others; store = step.store } in is)) on
+
+  -- more files were
+  pub more_files : (old mid new : S) (agree : Tree → Tree → Type 0) → IsEarlier moment left_since mid → ((t u v : Tree) → agree t u → agree u v → agree t v) →
+      GoesOn moment left_since old mid (FilesStep agree) → GoesOn moment left_since mid new (FilesStep agree) → GoesOn moment left_since old new (FilesStep agree)
+  more_files old mid new agree earlier joined first last =
+      then_on moment left_since old mid new (FilesStep agree) earlier
+      (λ u v w one two. (let is : FilesStep agree u w = record { files = joined u.tree v.tree w.tree one.files two.files; store = two.store ∙ one.store } in is)) first last
+
+  -- behind some files one more was removed
+  pub removed_on : (old mid new : S) (paths : List Names) (i : ℕ) (path : Names) (contents : List Content) → IsEarlier moment left_since mid → i < length paths → get_or paths i path ≡ path →
+      GoesOn moment left_since old mid (FilesStep (SameBeside paths)) → GoesOn moment left_since mid new (FileStep path contents) → GoesOn moment left_since old new (FilesStep (SameBeside paths))
+  removed_on old mid new paths i path contents earlier within here before one =
+      more_files old mid new (SameBeside paths) earlier (beside_then paths) before
+      (one_file mid new path contents (SameBeside paths) (λ t u same. beside_them paths path t u (among_here paths i path within here) same) one)
+
+  -- or one more was put
+  pub put_on : (old mid new : S) (files : List (Names × Content)) (i : ℕ) (file : Names × Content) (contents : List Content) → IsEarlier moment left_since mid → i < length files → get_or files i file ≡ file →
+      GoesOn moment left_since old mid (FilesStep (SameBeside (places files))) → GoesOn moment left_since mid new (FileStep file.0 contents) → GoesOn moment left_since old new (FilesStep (SameBeside (places files)))
+  put_on old mid new files i file contents earlier within here before one =
+      more_files old mid new (SameBeside (places files)) earlier (beside_then (places files)) before
+      (one_file mid new file.0 contents (SameBeside (places files)) (λ t u same. beside_them (places files) file.0 t u (place_here files i file within here) same) one)
+
+  -- trees that agree so agree in another way too
+  pub as_files : (old new : S) (agree other : Tree → Tree → Type 0) → ((t u : Tree) → agree t u → other t u) → GoesOn moment left_since old new (FilesStep agree) → GoesOn moment left_since old new (FilesStep other)
+  as_files old new agree other so on =
+      as_step moment left_since old new (FilesStep agree) (FilesStep other)
+      (λ v w left step. (let is : FilesStep other v w = record { files = so v.tree w.tree step.files; store = step.store } in is)) on
+
+  -- behind the files of some rules those of one more were put
+  pub ran_on : (old mid new : S) (rules : List Rule) (at : ℕ) (rule : Rule) → IsEarlier moment left_since mid → slice_get rules at ≡ Some rule → GoesOn moment left_since old mid (FilesStep (SameBesideOutputs rules)) →
+      GoesOn moment left_since mid new (FilesStep (SameBeside rule.outputs)) → GoesOn moment left_since old new (FilesStep (SameBesideOutputs rules))
+  ran_on old mid new rules at rule earlier here before one =
+      more_files old mid new (SameBesideOutputs rules) earlier (λ t u v first last path unmade. last path unmade ∙ first path unmade) before
+      (as_files mid new (SameBeside rule.outputs) (SameBesideOutputs rules) (λ t u same path unmade. same path (writes-at rules path at rule unmade here)) one)
+
+  -- a command was run, and then the files of its rule were put
+  pub put_own : (old mid new : S) (rule : Rule) (paths : List Names) → IsEarlier moment left_since mid → (paths ≡ rule.outputs) ⊎ (paths ≡ []) → GoesOn moment left_since old mid NoStep →
+      GoesOn moment left_since mid new (FilesStep (SameBeside paths)) → GoesOn moment left_since old new (FilesStep (SameBeside rule.outputs))
+  put_own old mid new rule paths earlier own quiet put =
+      nothing_then moment left_since old mid new (FilesStep (SameBeside rule.outputs)) earlier quiet
+      (as_files mid new (SameBeside paths) (SameBeside rule.outputs) (λ t u same path outside. same path (by own path outside)) put)
+    where
+      by : (paths ≡ rule.outputs) ⊎ (paths ≡ []) → (path : Names) → among path rule.outputs ≡ false → among path paths ≡ false
+      by (inl is) path outside = ap (among path) is ∙ outside
+      by (inr none) path outside = ap (among path) none
+
+  -- two calls with steps of their own
+  pub joined_on : (old mid new : S) (first last both : World → World → Type 0) → IsEarlier moment left_since mid → ((v w : World) → first v w → both v w) → ((v w : World) → last v w → both v w) →
+      ((u v w : World) → first u v → last v w → both u w) → GoesOn moment left_since old mid first → GoesOn moment left_since mid new last → GoesOn moment left_since old new both
+  joined_on old mid new first last both earlier one two joined before behind = record {
+    later = omega (arith, before.later, behind.later);
+    kept = λ t w le left. behind.kept t w (omega (arith, le, before.later)) (before.kept t w le left);
+    since = λ t w le left.
+        ⊎_elim (λ now. ⊎_elim inl (λ from. inr (from.0, from.1, one from.0 w from.2)) (before.since t w le now))
+        (λ from. inr (⊎_elim (λ there. (from.0, there, two from.0 w from.2)) (λ back. (back.0, back.1, joined back.0 from.0 w back.2 from.2))
+        (before.since (moment old) from.0 (omega arith) (earlier (moment old) (moment mid) from.0 before.later from.1))))
+        (behind.since t w (omega (arith, le, before.later)) left);
+  }
+
+  -- ---- the store
+
+  -- the store is written, cut and synced
+  pub written_on : (old mid next new : S) (at n len : ℕ) → IsEarlier moment left_since mid → IsEarlier moment left_since next → GoesOn moment left_since old mid (WriteStep at n) →
+      GoesOn moment left_since mid next (CutStep len) → GoesOn moment left_since next new NoStep → GoesOn moment left_since old new TreeStays
+  written_on old mid next new at n len earlier later write cut sync =
+      then_quiet old next new TreeStays
+      (then_on moment left_since old mid next TreeStays earlier (λ u v w one two. two ∙ one) (as_step moment left_since old mid (WriteStep at n) TreeStays (λ v w left step. step.tree) write)
+      (as_step moment left_since mid next (CutStep len) TreeStays (λ v w left step. step.tree) cut)) sync
+
+  -- what is durable in the store stays so where files are changed
+  pub still_listed : (old new : S) (now later : World) (agree : Tree → Tree → Type 0) → IsEarlier moment left_since new → GoesOn moment left_since old new (FilesStep agree) → StoreStays now later →
+      PinsStore (left_since old (moment old)) now → PinsStore (left_since new (moment new)) later
+  still_listed old new now later agree earlier on same pinned w left =
+      ⊎_elim (λ (before : left_since old (moment old) w). pinned w before ∙ sym same) (λ from. from.2.store ∙ pinned from.0 from.1 ∙ sym same)
+      (on.since (moment old) w (omega arith) (earlier (moment old) (moment new) w on.later left))
+
+  -- the store is written, and no file was touched yet
+  pub written_only : (old new : S) (paths : List Names) (bytes : List ℕ) → GoesOn moment left_since old new TreeStays → GoesOn moment left_since old new (ListedStep (SameBeside paths) bytes)
+  written_only old new paths bytes on =
+      as_step moment left_since old new TreeStays (ListedStep (SameBeside paths) bytes)
+      (λ v w left same. (let step : ListedStep (SameBeside paths) bytes v w = record { files = λ path outside. ap (λ (t : Tree). finite.get t path) same; listed = inr same } in step)) on
+
+  -- the store is written durably, and then files are removed
+  pub prepared : (old mid new : S) (paths slice : List Names) (now : World) (bytes : List ℕ) → slice ≡ paths → IsEarlier moment left_since mid → GoesOn moment left_since old mid TreeStays →
+      PinsStore (left_since mid (moment mid)) now → now.store ≡ bytes → GoesOn moment left_since mid new (FilesStep (SameBeside slice)) → GoesOn moment left_since old new (ListedStep (SameBeside paths) bytes)
+  prepared old mid new paths slice now bytes is earlier written pinned stored removed =
+      joined_on old mid new TreeStays last (ListedStep (SameBeside paths) bytes) earlier
+      (λ v w same. (let step : ListedStep (SameBeside paths) bytes v w = record { files = λ path outside. ap (λ (t : Tree). finite.get t path) same; listed = inr same } in step))
+      (λ v w step. (let now : ListedStep (SameBeside paths) bytes v w = record { files = step.0; listed = inl step.1 } in now))
+      (λ u v w same step. (let now : ListedStep (SameBeside paths) bytes u w = record { files = λ path outside. step.0 path outside ∙ ap (λ (t : Tree). finite.get t path) same; listed = inl step.1 } in now))
+      written (as_step moment left_since mid new (FilesStep (SameBeside slice)) last
+      (λ v w left step. (λ path outside. step.files path (ap (among path) is ∙ outside), step.store ∙ pinned v left ∙ stored)) removed)
+    where
+      last : World → World → Type 0
+      last v w = SameBeside paths v.tree w.tree × (w.store ≡ bytes)
+
+  -- ---- a whole update: the store is written and vanished files are removed, rules are run, and the store is written again
+  module _ (tells : Bool) (next : Next) (rules : List Rule) (start : World) (read : owned_of start.store ≡ Ok (owned start)) (asked : AsksFor start rules) where
+    abbrev makes : World → World → Type 0
+    makes = MakesStep tells next rules start
+
+    pub prepared_so : (old new : S) (vanishing : List Names) (bytes : List ℕ) → vanishing ≡ vanished rules start → owned_of bytes ≡ Ok (claimed rules start) →
+        GoesOn moment left_since old new (ListedStep (SameBeside vanishing) bytes) → GoesOn moment left_since old new makes
+    prepared_so old new vanishing bytes is reads on =
+        as_step moment left_since old new (ListedStep (SameBeside vanishing) bytes) makes
+        (λ v w left step. (let now : makes v w = record {
+          read = read;
+          asked = asked;
+          files = λ path unowned unmade. step.files path (ap (among path) is ∙ kept_beside (owned start) (finite.keys start.tree) rules path unowned);
+          listed = ⊎_elim (λ stored. inl (ap owned_of stored ∙ reads)) (λ same. inr (inl same)) step.listed;
+        } in now)) on
+
+    pub ran_so : (old mid new : S) (now : World) → IsEarlier moment left_since mid → PinsStore (left_since mid (moment mid)) now → owned_of now.store ≡ Ok (claimed rules start) → GoesOn moment left_since old mid makes →
+        GoesOn moment left_since mid new (FilesStep (SameBesideOutputs rules)) → GoesOn moment left_since old new makes
+    ran_so old mid new now earlier pinned reads before ran =
+        joined_on old mid new makes last makes earlier (λ v w step. step)
+        (λ v w step. (let on : makes v w = record { read = read; asked = asked; files = λ path unowned unmade. step.0 path unmade; listed = inl step.1 } in on))
+        (λ u v w one two. (let on : makes u w = record { read = read; asked = asked; files = λ path unowned unmade. two.0 path unmade ∙ one.files path unowned unmade; listed = inl two.1 } in on))
+        before (as_step moment left_since mid new (FilesStep (SameBesideOutputs rules)) last (λ v w left step. (step.files, ap owned_of (step.store ∙ pinned v left) ∙ reads)) ran)
+      where
+        last : World → World → Type 0
+        last v w = SameBesideOutputs rules v.tree w.tree × (owned_of w.store ≡ Ok (claimed rules start))
+
+    -- all is made in every world with these files
+    made_in : (now w : World) → AllIsMade tells next rules start now → TreeStays now w → AllIsMade tells next rules start w
+    made_in now w made same = record {
+      beside = ap (files_beside (outputs rules)) same ∙ made.beside;
+      built = λ means. subst (IsBuilt (build next rules start)) (sym same) (made.built means);
+    }
+
+    pub finished_so : (old mid new : S) (now : World) → IsEarlier moment left_since mid → AllIsMade tells next rules start now → GoesOn moment left_since old mid makes → GoesOn moment left_since mid new (SettledStep now) →
+        GoesOn moment left_since old new makes
+    finished_so old mid new now earlier made before on =
+        joined_on old mid new makes (SettledStep now) makes earlier (λ v w step. step)
+        (λ v w step. (let last : makes v w = record { read = read; asked = asked; files = λ path unowned unmade. ap (λ (t : Tree). finite.get t path) step.0; listed = inr (inr (made_in now w made step.1)) } in last))
+        (λ u v w one step. (let last : makes u w = record {
+          read = read;
+          asked = asked;
+          files = λ path unowned unmade. ap (λ (t : Tree). finite.get t path) step.0 ∙ one.files path unowned unmade;
+          listed = inr (inr (made_in now w made step.1));
+        } in last)) before on
