@@ -26,7 +26,7 @@ use Rattle.tup_graph.specs.Kept.{Asked, HasSeenStamps, IsKept, IsRuleAt, IsUnfla
 use Rattle.tup_graph.specs.Records.{Language}
 use Rattle.tup_graph.specs.Swap.{IsFlaggedYet, IsNew, IsSwapped, ReadsNew, WasAt, owned_now}
 use Rattle.tup_graph.specs.declared.owned.Owned.{Owned}
-use Rattle.tup_keeps.specs.Fitting.{AreFitting}
+use Rattle.tup_keeps.specs.Fitting.{AreFitting, FitsTogether}
 use Rattle.tup_keeps.proofs.Stable.{Settled, settled_by}
 
 -- ---- where a rule stands in a list first, if it does
@@ -142,9 +142,8 @@ module _ (g new : GraphState) (fresh : List (Names × Reading)) (gone : List Nam
             let reads = ran_before other reader run there ran in
             inl (reader, there, inr (reads.0, reads.1, up before reads.0 rule reader run path given (subst (IsRuleAt g before) (same it at) was.0) flag reads.1.0 reads.2 asked wrote))
 
--- ---- of a kept graph, where what it brings fits
-module _ (next : Next) (language : Language) (known : List Content) (g new : GraphState) (fresh : List (Names × Reading)) (gone : List Names) (rules : List Rule) (kept : IsKept next language known g)
-    (fits : AreFitting language known g fresh gone rules) (is : IsSwapped g fresh gone rules new) where
+-- ---- where what it brings fits
+module _ (language : Language) (known : List Content) (g new : GraphState) (fresh : List (Names × Reading)) (gone : List Names) (rules : List Rule) (fits : AreFitting language known g fresh gone rules) (is : IsSwapped g fresh gone rules new) where
   readings_are : new.readings ≡ fits.readings
   readings_are = finite.same_map by_names-total by_names-antisymmetric new.readings fits.readings (λ dir. is.readings dir ∙ sym (fits.together dir))
 
@@ -175,44 +174,6 @@ module _ (next : Next) (language : Language) (known : List Content) (g new : Gra
       by : (found : Option ℕ) → maker path rules ≡ found → (now : Owned) × (finite.get new.owned path ≡ Some now) × (now.state ≡ o.state)
       by (Some number) makes = (record { maker = Some number; state = o.state }, owned_if path (Some number) makes ∙ ap (owned_by (Some number)) was, refl)
       by None makes = (record { maker = None; state = o.state }, owned_if path None makes ∙ ap (owned_by None) was, refl)
-
-  -- a path that a rule which isn't flagged asked was owned, if it is
-  was_owned : (number : ℕ) (rule : Rule) (run : RunRecord) (path : Names) (given : Option Stamp) → IsUnflagged new number rule → finite.get new.runs number ≡ Some run → Asked rule run path given → is_owned new path ≡ true
-      → is_owned g path ≡ true
-  was_owned number rule run path given unflagged ran asked owned = by (finite.get g.owned path) refl (maker path rules) refl
-    where
-      makes_here : (other : ℕ) (it : Rule) → slice_get rules other ≡ Some it → writes it path ≡ true → ((before : ℕ) × WasAt g it before) ⊎ IsNew g it → is_owned g path ≡ true
-      makes_here other it here wrote (inl (before, was)) = ap is_some (kept.made before it path was.0 wrote).1
-      makes_here other it here wrote (inr fresh_one) =
-          absurd (true≢false (sym ((is.flags number).1 (inr (zero, (other, it, stands g new fresh gone rules is other it here, fresh_one, (path, (run, given, ran, asked.0), wrote))))) ∙ unflagged.unflagged))
-
-      by : (before : Option Owned) → finite.get g.owned path ≡ before → (found : Option ℕ) → maker path rules ≡ found → is_owned g path ≡ true
-      by (Some o) was found makes = ap is_some was
-      by None was (Some other) makes =
-          (let here = maker-Some rules path other makes in
-          makes_here other here.rule here.here here.writes_it (was_or_new g here.rule))
-      by None was None makes = absurd (true≢false (sym owned ∙ ap is_some (owned_if path None makes ∙ ap (owned_by None) was)))
-
-  recorded : (number : ℕ) (rule : Rule) → IsUnflagged new number rule → (run : RunRecord) × (finite.get new.runs number ≡ Some run) × HasSeenStamps new rule run
-  recorded number rule unflagged =
-      let was = unflagged_before g new fresh gone rules is number rule unflagged in
-      let has = kept.recorded was.0 rule (record { here = was.1.0; unflagged = was.2 }) in (
-        has.0,
-        is.kept_runs number was.0 rule unflagged.here was.1 ∙ has.1,
-        record {
-          asked = λ path given asked. has.2.asked path given asked ∙ sym (ap (λ (m : finite.FinMap by_names Stamp). finite.get m path) is.seen);
-          wrote = λ at d less.
-              (let file = slice_index_or has.0.writes at d in
-              ap (λ (m : finite.FinMap by_names Stamp). finite.get m file.0) is.seen ∙ has.2.wrote at d less);
-        },
-      )
-
-  declared : (number : ℕ) (rule : Rule) (run : RunRecord) (path : Names) (given : Option Stamp) → IsUnflagged new number rule → finite.get new.runs number ≡ Some run → Asked rule run path given → is_owned new path ≡ true
-      → declares rule path ≡ true
-  declared number rule run path given unflagged ran asked owned =
-      let was = unflagged_before g new fresh gone rules is number rule unflagged in
-      kept.declared was.0 rule run path given (record { here = was.1.0; unflagged = was.2 }) (sym (is.kept_runs number was.0 rule unflagged.here was.1) ∙ ran) asked
-      (was_owned number rule run path given unflagged ran asked owned)
 
   made : (number : ℕ) (rule : Rule) (path : Names) → IsRuleAt new number rule → writes rule path ≡ true → (owned : Owned) × (finite.get new.owned path ≡ Some owned) × (owned.maker ≡ Some number)
   made number rule path at wrote = by (maker path rules) refl
@@ -249,27 +210,78 @@ module _ (next : Next) (language : Language) (known : List Content) (g new : Gra
           (it.rule, stands g new fresh gone rules is number it.rule it.here, it.writes_it))
       by None makes = absurd (none_made (finite.get g.owned path) (its_maker None makes))
 
-  pub swap_keeps : IsKept next language known new
-  swap_keeps = record {
-    true_runs = λ number rule run here ran.
-        (let was = ran_before g new fresh gone rules is number rule run here ran in kept.true_runs was.0 rule run was.1.0 was.2);
-    true_readings = λ dir reading here. fits.true_ones dir reading (subst (λ (r : Readings). finite.get r dir ≡ Some reading) readings_are here);
-    recorded = recorded;
-    declared = declared;
-    read = λ dir there unread.
-        subst (λ (r : Readings). is_some (finite.get r dir) ≡ true) (sym readings_are) (fits.stand.read dir (subst (λ (s : Sources). IsSource s (tupfile dir)) sources_stay there));
-    told = λ dir reading here unread.
-        subst (λ (s : Sources × Readings). All (λ (one : Question × Noted). IsAnswer known s.0 s.1 dir one.0 one.1) reading.asked) (λ i. (sym sources_stay i, sym readings_are i))
-        (fits.stand.told dir reading (subst (λ (r : Readings). finite.get r dir ≡ Some reading) readings_are here));
-    upward = swap_upward g new fresh gone rules is kept.upward;
-    made = made;
-    makers = makers;
-    linked = ap (λ (r : Readings). language.linked (finite.entries r)) readings_are ∙ fits.linked ∙ ap Some (sym is.rules_are);
-    written = λ number rule run unflagged ran.
-        (let was = unflagged_before g new fresh gone rules is number rule unflagged in
-        let all = kept.written was.0 rule run (record { here = was.1.0; unflagged = was.2 }) (sym (is.kept_runs number was.0 rule unflagged.here was.1) ∙ ran) in
-        λ at d less.
-        let one = all at d less in
-        let now = still_owned (slice_index_or run.writes at d).0 one.0 one.1 in
-        (now.0, now.1, now.2 ∙ one.2));
-  }
+  has_reading : (dir : Names) → IsSource (source new) (tupfile dir) → is_some (finite.get new.readings dir) ≡ true
+  has_reading dir there = subst (λ (r : Readings). is_some (finite.get r dir) ≡ true) (sym readings_are) (fits.stand.read dir (subst (λ (s : Sources). IsSource s (tupfile dir)) sources_stay there))
+
+  was_told : (dir : Names) (reading : Reading) → finite.get new.readings dir ≡ Some reading → All (λ (one : Question × Noted). IsAnswer known (source new) new.readings dir one.0 one.1) reading.asked
+  was_told dir reading here =
+      subst (λ (s : Sources × Readings). All (λ (one : Question × Noted). IsAnswer known s.0 s.1 dir one.0 one.1) reading.asked) (λ i. (sym sources_stay i, sym readings_are i))
+      (fits.stand.told dir reading (subst (λ (r : Readings). finite.get r dir ≡ Some reading) readings_are here))
+
+  linked : language.linked (finite.entries new.readings) ≡ Some new.rules
+  linked = ap (λ (r : Readings). language.linked (finite.entries r)) readings_are ∙ fits.linked ∙ ap Some (sym is.rules_are)
+
+  pub swap_fits : FitsTogether language known new
+  swap_fits = record { created = is.created; stand = record { read = has_reading; told = was_told }; made = made; makers = makers; linked = linked }
+
+  -- ---- of a kept graph
+  module _ (next : Next) (kept : IsKept next language known g) where
+    -- a path that a rule which isn't flagged asked was owned, if it is
+    was_owned : (number : ℕ) (rule : Rule) (run : RunRecord) (path : Names) (given : Option Stamp) → IsUnflagged new number rule → finite.get new.runs number ≡ Some run → Asked rule run path given → is_owned new path ≡ true
+        → is_owned g path ≡ true
+    was_owned number rule run path given unflagged ran asked owned = by (finite.get g.owned path) refl (maker path rules) refl
+      where
+        makes_here : (other : ℕ) (it : Rule) → slice_get rules other ≡ Some it → writes it path ≡ true → ((before : ℕ) × WasAt g it before) ⊎ IsNew g it → is_owned g path ≡ true
+        makes_here other it here wrote (inl (before, was)) = ap is_some (kept.made before it path was.0 wrote).1
+        makes_here other it here wrote (inr fresh_one) =
+            absurd (true≢false (sym ((is.flags number).1 (inr (zero, (other, it, stands g new fresh gone rules is other it here, fresh_one, (path, (run, given, ran, asked.0), wrote))))) ∙ unflagged.unflagged))
+
+        by : (before : Option Owned) → finite.get g.owned path ≡ before → (found : Option ℕ) → maker path rules ≡ found → is_owned g path ≡ true
+        by (Some o) was found makes = ap is_some was
+        by None was (Some other) makes =
+            (let here = maker-Some rules path other makes in
+            makes_here other here.rule here.here here.writes_it (was_or_new g here.rule))
+        by None was None makes = absurd (true≢false (sym owned ∙ ap is_some (owned_if path None makes ∙ ap (owned_by None) was)))
+
+    recorded : (number : ℕ) (rule : Rule) → IsUnflagged new number rule → (run : RunRecord) × (finite.get new.runs number ≡ Some run) × HasSeenStamps new rule run
+    recorded number rule unflagged =
+        let was = unflagged_before g new fresh gone rules is number rule unflagged in
+        let has = kept.recorded was.0 rule (record { here = was.1.0; unflagged = was.2 }) in (
+          has.0,
+          is.kept_runs number was.0 rule unflagged.here was.1 ∙ has.1,
+          record {
+            asked = λ path given asked. has.2.asked path given asked ∙ sym (ap (λ (m : finite.FinMap by_names Stamp). finite.get m path) is.seen);
+            wrote = λ at d less.
+                (let file = slice_index_or has.0.writes at d in
+                ap (λ (m : finite.FinMap by_names Stamp). finite.get m file.0) is.seen ∙ has.2.wrote at d less);
+          },
+        )
+
+    declared : (number : ℕ) (rule : Rule) (run : RunRecord) (path : Names) (given : Option Stamp) → IsUnflagged new number rule → finite.get new.runs number ≡ Some run → Asked rule run path given → is_owned new path ≡ true
+        → declares rule path ≡ true
+    declared number rule run path given unflagged ran asked owned =
+        let was = unflagged_before g new fresh gone rules is number rule unflagged in
+        kept.declared was.0 rule run path given (record { here = was.1.0; unflagged = was.2 }) (sym (is.kept_runs number was.0 rule unflagged.here was.1) ∙ ran) asked
+        (was_owned number rule run path given unflagged ran asked owned)
+
+    pub swap_keeps : IsKept next language known new
+    swap_keeps = record {
+      true_runs = λ number rule run here ran.
+          (let was = ran_before g new fresh gone rules is number rule run here ran in kept.true_runs was.0 rule run was.1.0 was.2);
+      true_readings = λ dir reading here. fits.true_ones dir reading (subst (λ (r : Readings). finite.get r dir ≡ Some reading) readings_are here);
+      recorded = recorded;
+      declared = declared;
+      read = λ dir there unread. has_reading dir there;
+      told = λ dir reading here unread. was_told dir reading here;
+      upward = swap_upward g new fresh gone rules is kept.upward;
+      made = made;
+      makers = makers;
+      linked = linked;
+      written = λ number rule run unflagged ran.
+          (let was = unflagged_before g new fresh gone rules is number rule unflagged in
+          let all = kept.written was.0 rule run (record { here = was.1.0; unflagged = was.2 }) (sym (is.kept_runs number was.0 rule unflagged.here was.1) ∙ ran) in
+          λ at d less.
+          let one = all at d less in
+          let now = still_owned (slice_index_or run.writes at d).0 one.0 one.1 in
+          (now.0, now.1, now.2 ∙ one.2));
+    }

@@ -9,8 +9,10 @@ use Rattle.tup_rule.specs.declared.question.Reading.{Reading}
 use Rattle.tup_rule.specs.declared.rule.Rule.{Rule}
 use Rattle.tup_graph.specs.Answers.{tupfile, Readings, Sources, IsAnswer, IsSource}
 use Rattle.tup_graph.specs.Graph.{GraphState, is_owned, source}
+use Rattle.tup_graph.specs.Kept.{IsRuleAt}
 use Rattle.tup_graph.specs.Records.{Language, IsTrueReading}
 use Rattle.tup_graph.specs.Swap.{reading_now}
+use Rattle.tup_graph.specs.declared.owned.Owned.{Owned}
 
 -- readings are those of sources: each folder with a Tupfile has one, and each was told what is so
 pub record AreReadingsOf (known : List Content) (sources : Sources) (readings : Readings) : Type 0 where
@@ -31,6 +33,17 @@ pub record AreFitting (language : Language) (known : List Content) (g : GraphSta
   pub stand : AreReadingsOf known (source g) readings
   pub linked : language.linked (finite.entries readings) ≡ Some rules
   pub beside : AreBeside (source g) rules
+
+-- a graph's readings and rules fit together: no folder is to be read, readings are those of the sources that are seen, the rules
+-- are those that linking gives, outputs are owned by their rules, and no other path has a maker
+pub record FitsTogether (language : Language) (known : List Content) (g : GraphState) : Type 0 where
+  pub created : g.created ≡ finite.empty
+  pub stand : AreReadingsOf known (source g) g.readings
+  pub made : (number : ℕ) (rule : Rule) (path : Names) → IsRuleAt g number rule → writes rule path ≡ true
+      → (owned : Owned) × (finite.get g.owned path ≡ Some owned) × (owned.maker ≡ Some number)
+  pub makers : (path : Names) (owned : Owned) (number : ℕ) → finite.get g.owned path ≡ Some owned → owned.maker ≡ Some number
+      → (rule : Rule) × IsRuleAt g number rule × (writes rule path ≡ true)
+  pub linked : language.linked (finite.entries g.readings) ≡ Some g.rules
 
 -- each rule stands once in a list
 abbrev pub AreOnce : List Rule → Type 0

@@ -9,4 +9,4 @@ mod transactions;
 
 pub use edits::{edits_keep_sites, edits_keep_worlds};
 pub use reach::{flagged_is_reached, nothing_is_reached};
-pub use transactions::{scan_agrees, scan_keeps, swap_keeps};
+pub use transactions::{scan_agrees, scan_keeps, swap_fits, swap_keeps};

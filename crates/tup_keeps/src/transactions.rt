@@ -11,7 +11,7 @@ ghost use Rattle.tup_graph.specs.Records.{Language};
 ghost use Rattle.tup_graph.specs.Scan.{IsScanned};
 ghost use Rattle.tup_graph.specs.Swap.{IsSwapped};
 ghost use Rattle.tup_keeps.specs.Agrees.{AgreesWithSeen};
-ghost use Rattle.tup_keeps.specs.Fitting.{AreFitting};
+ghost use Rattle.tup_keeps.specs.Fitting.{AreFitting, FitsTogether};
 
 /// A law: whatever graph it was, after a scan it agrees with the files that the scan found, where the content that was found
 /// in tup.config is known.
@@ -29,8 +29,17 @@ pub fn scan_keeps()
         → IsKept next language known new }
 {}
 
-/// A law: a swap keeps a kept graph, where it brings true readings of the sources that are seen, and the rules that linking
-/// gives of them, none of which has a source or another rule's output as an output.
+/// A law: whatever graph it was, after a swap its readings and rules fit together, where the swap brings true readings of the
+/// sources that are seen, and the rules that linking gives of them, none of which has a source or another rule's output as an
+/// output.
+pub fn swap_fits()
+    ensures { (language : Language) (known : List Content) (g new : GraphState)
+        (fresh : List (Names × Reading)) (gone : List Names) (rules : List Rule)
+        → AreFitting language known g fresh gone rules → IsSwapped g fresh gone rules new
+        → FitsTogether language known new }
+{}
+
+/// A law: a swap that brings such readings and rules keeps a kept graph.
 pub fn swap_keeps()
     ensures { (next : Next) (language : Language) (known : List Content) (g new : GraphState)
         (fresh : List (Names × Reading)) (gone : List Names) (rules : List Rule)

@@ -1,10 +1,12 @@
 //! The top call.
 ghost use Rattle.std.specs.Prelude.{IsTrue, map};
+ghost use Rattle.tup_site.specs.Crash.{GoesOn, NoStep};
 ghost use Rattle.tup_update.specs.Compared.{HasCompared};
+ghost use Rattle.tup_update.specs.Images.{MakesStep};
 ghost use Rattle.tup_update.specs.Log.{OfRules};
 ghost use Rattle.tup_update.specs.Settled.{IsSettled};
 ghost use Rattle.tup_update.specs.Outcome.{ExactlyTheFiles, MadeBeforeBad, SourcesStay, NothingForgotten, HasCause};
-ghost use Rattle.tup_top.specs.Order.{order};
+ghost use Rattle.tup_top.specs.Order.{IsUpdate, order};
 ghost use Rattle.tup_top.specs.Crew.{IsCrew, CrewRuns, CrewCompares, RanFits, RanInTurn, NothingRun};
 ghost use Rattle.tup_top.specs.Lines.{last_line as line_of};
 ghost use Rattle.tup_top.specs.Printed.{Printed, PrintedAlone, Prints};
@@ -58,6 +60,13 @@ pub fn tup<S: Site, R: Runner, K: Sink>(
     ensures nothing_forgotten { IsTrue S.tells → let old = S.world site in
         let new = S.world result.site in ForUpdate (order words.now) result.status
         (OfRules old (λ rules. NothingForgotten R.tells R.next rules old new)) }
+    // Whenever a crash comes: no file changes but owned ones and outputs, and nothing is forgotten.
+    ensures crash { IsTrue S.tells → let old = S.world site in
+        ForUpdate (order words.now) result.status (OfRules old (λ rules _.
+        GoesOn S.moment S.left_since site result.site (MakesStep R.tells R.next rules old))) }
+    // Only an update adds anything to what a crash may leave.
+    ensures quiet { IsTrue S.tells → (IsUpdate (order words.now) → ⊥)
+        → GoesOn S.moment S.left_since site result.site NoStep }
     ensures settled { IsTrue S.tells
         → let left = S.left_since result.site (S.moment result.site) in
         ForUpdate (order words.now) result.status (IsSettled left (S.world result.site)) }

@@ -1,10 +1,14 @@
 use Rattle.std.proofs.Common.{[], map, Ok, inl, refl, sym, subst}
 use Rattle.std.specs.Prelude.{slice_set}
+use Rattle.tup_site.specs.Crash.{GoesOn}
 use Rattle.tup_update.specs.Compared.{HasCompared}
+use Rattle.tup_update.specs.Images.{MakesStep}
 use Rattle.tup_update.specs.Outcome.{ExactlyTheFiles, MadeBeforeBad, SourcesStay, NothingForgotten, HasCause}
 use Rattle.tup_update.specs.Settled.{IsSettled}
 use Rattle.tup_update.specs.Sources.{ends}
+use Rattle.tup_update.specs.SeeingLaws.{rests}
 use Rattle.tup_update.specs.Turns.{names_of}
+use Rattle.tup_update.proofs.Crashing.{at_rest}
 use Rattle.tup_update.proofs.Ending.{no_front}
 use Rattle.tup_update.proofs.Keeping.{no_turns}
 use Rattle.tup_top.specs.Crew.{RanFits, RanInTurn, CrewRuns, CrewCompares}
@@ -143,3 +147,19 @@ returns-clause-compared_ran g c = λ _ _ _.
 
 pub returns-clause-printed_alone : goal.returns-clause-printed_alone
 returns-clause-printed_alone g c = λ _. memory_prints_alone (order c.args.words.now) (g.K.Sink.faults c.args.out.now) (g.K.Sink.held c.args.out.now)
+
+pub returns-clause-crash : goal.returns-clause-crash
+returns-clause-crash g c = λ _.
+    let site = c.args.site in
+    let world = g.S.Site.world site in
+    memory_of (order c.args.words.now) world (λ rules _. GoesOn g.S.Site.moment g.S.Site.left_since site site (MakesStep g.R.Runner.tells g.R.Runner.next rules world))
+    (at_rest g.S.Site.moment g.S.Site.left_since site (MakesStep g.R.Runner.tells g.R.Runner.next [] world))
+
+pub returns-in-Ok-Demo-clause-quiet : goal.returns-in-Ok-Demo-clause-quiet
+returns-in-Ok-Demo-clause-quiet g c = λ _ _. rests g.S.Site.moment g.S.Site.left_since c.args.site
+
+pub returns-in-Err-Usage-clause-quiet : goal.returns-in-Err-Usage-clause-quiet
+returns-in-Err-Usage-clause-quiet g c = λ _ _. rests g.S.Site.moment g.S.Site.left_since c.args.site
+
+pub returns-clause-quiet : goal.returns-clause-quiet
+returns-clause-quiet g c = λ _ _. rests g.S.Site.moment g.S.Site.left_since c.args.site
