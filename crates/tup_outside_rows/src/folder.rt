@@ -66,6 +66,10 @@ impl Folder {
 
     fn succeeds(&self, alloc: Global, line: &str) -> io::Result<bool> {
         let mut shell = Command::new(alloc, "sh")?;
+        self.runs(&mut shell, line)
+    }
+
+    fn runs(&self, shell: &mut Command, line: &str) -> io::Result<bool> {
         Ok(shell.arg("-c")?.arg(line)?.status(&self.rt)?.success())
     }
 

@@ -1,5 +1,6 @@
 //! The calls of `memory.rows`.
 use crate::answers::{ended, got, listed, number};
+use crate::scanned::{passes, scanned};
 use std::alloc::{AllocError, Global};
 use tup_path::{Bytes, Path};
 use tup_rows::{Answers, RowFault, Words};
@@ -48,6 +49,8 @@ impl Memory {
             "write" => self.write(alloc, said),
             "sync" => ended(alloc, self.site.db_sync(alloc)),
             "cut" => ended(alloc, self.site.db_cut(alloc, said.number_at(0))),
+            "scan" => scanned(alloc, &mut self.site),
+            "passes" => passes(alloc, &mut self.site),
             _ => Words::none(alloc, RowFault::NoSuchCall),
         }
     }

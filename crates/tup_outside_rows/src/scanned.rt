@@ -1,8 +1,9 @@
-//! The call `scan`.
+//! The calls `scan` and `passes`.
 use crate::answers::counted;
 use std::alloc::Global;
+use std::sync::atomic::{AtomicU64, Ordering};
 use tup_rows::{RowFault, Words};
-use tup_scan::{ScanFault, Seen, Still, scan};
+use tup_scan::{Pulse, ScanFault, Seen, Still, scan};
 use tup_site::Site;
 use tup_stamp::hex;
 
@@ -12,6 +13,29 @@ pub(crate) fn scanned<S: Site>(alloc: Global, site: &mut S) -> Words {
         Ok(seen) => shown(alloc, &seen),
         Err(fault) => refused(alloc, fault),
     }
+}
+
+/// A pulse that keeps what it is told, as digits: for each file one more than its place.
+#[derive(Drop)]
+struct Digits {
+    told: AtomicU64,
+}
+
+impl Pulse for Digits {
+    fn pass(&self, file: u32) {
+        let told = self.told.load(Ordering::SeqCst).wrapping_mul(10);
+        self.told
+            .store(told.wrapping_add(file as u64 + 1), Ordering::SeqCst);
+    }
+}
+
+/// What a scan's pulse is told.
+pub(crate) fn passes<S: Site>(alloc: Global, site: &mut S) -> Words {
+    let pulse = Digits {
+        told: AtomicU64::new(0),
+    };
+    let _ = scan(alloc, site, 1, &pulse);
+    Words::shown(alloc, &pulse.told.load(Ordering::SeqCst))
 }
 
 /// Each path with its stamp, and then the content of tup.config.

@@ -1,7 +1,7 @@
 //! The calls of `fs.rows`.
 use crate::answers::{ended, got, listed, number, refused};
 use crate::folder::Folder;
-use crate::scanned::scanned;
+use crate::scanned::{passes, scanned};
 use std::alloc::{AllocError, Global};
 use std::fs;
 use tup_fs::FsSite;
@@ -25,6 +25,7 @@ impl Answers for Session {
             "beside" => self.beside(alloc),
             "list" => listed(alloc, self.site.list(alloc)),
             "scan" => scanned(alloc, &mut self.site),
+            "passes" => passes(alloc, &mut self.site),
             "faults" => Words::shown(alloc, &self.site.faults()),
             "said" => self.last(alloc),
             _ => self.answer_of_files(alloc, call, said),
@@ -35,12 +36,12 @@ impl Answers for Session {
 impl Session {
     /// A site over a folder that is there.
     pub(crate) fn new(rt: HostRuntime, alloc: Global, place: &str) -> Result<Session, AllocError> {
+        let folder = Folder {
+            rt,
+            place: String::from_str(alloc, place)?,
+        };
         let site = FsSite::new(rt, alloc, place)?;
-        let place = String::from_str(alloc, place)?;
-        Ok(Session {
-            folder: Folder { rt, place },
-            site,
-        })
+        Ok(Session { folder, site })
     }
 
     fn answer_of_files(&mut self, alloc: Global, call: &str, said: &Words) -> Words {
