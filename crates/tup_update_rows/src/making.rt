@@ -96,7 +96,14 @@ impl Makings {
         let Made { mut ground, answer } = made;
         let mut words = Words::shown(alloc, &ground.site.calls().saturating_sub(before));
         words.put(alloc, answer_word(answer));
-        words.put(alloc, if ground.graph.fresh() { b"fresh" } else { b"stale" });
+        words.put(
+            alloc,
+            if ground.graph.fresh() {
+                b"fresh"
+            } else {
+                b"stale"
+            },
+        );
         ground.site.run_on();
         add_left(alloc, &mut words, &self.project, &mut ground.site);
         words
