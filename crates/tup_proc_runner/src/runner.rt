@@ -1,16 +1,17 @@
 //! The runner that starts a program for each command.
-ghost use Rattle.std.specs.Prelude.{◌≡◌, ◌∷◌, [], Some, None, Ok, Err, IfOk, IfErr};
+ghost use Rattle.std.specs.Prelude.{◌≡◌, ◌∷◌, ◌++◌, [], Some, None, Ok, Err, IfOk, IfErr, OnOk};
 ghost use Rattle.std.specs.Process.{command_program, command_args};
 ghost use Rattle.tup_runner.specs.Run.{CountsFaults};
 ghost use Rattle.tup_proc.specs.Log.{IsLog};
 ghost use Rattle.tup_proc_runner.specs.declared.fault.ProcFault.{ProcFault as FaultValue};
 ghost use Rattle.tup_proc_runner.specs.Asked.{IsOwn};
 ghost use Rattle.tup_proc_runner.specs.Told.{FollowsLog};
+ghost use Rattle.tup_proc_runner.specs.Refused.{IsMemoryOr};
 
 use crate::asking::ask_all;
 use crate::fault::{ProcFault, Refused};
 use crate::stage::Stage;
-use std::alloc::Global;
+use std::alloc::{AllocError, Global};
 use std::fs::File;
 use std::process::{Command, Processes};
 use std::rt::Files;
@@ -64,28 +65,60 @@ impl<R: Files<File = File> + Processes + Clone + Drop> ProcRunner<R> {
         ensures { IfOk result IsLog }
     {
         self.stage.prepare(alloc, own)?;
-        let Ok(dir) = dir.show(alloc) else {
-            return Err(Refused::Memory);
-        };
-        let mut command = self.command(alloc, &dir, text)?;
-        if let Err(e) = command.status(&self.stage.rt) {
-            return Err(Refused::of(&e, ProcFault::NotStarted));
-        }
+        self.run_in(alloc, dir, text)?;
         self.stage.log(alloc)
     }
 
+    /// Runs the program, told of this folder.
+    fn run_in(&self, alloc: Global, dir: &Path, text: &Text) -> Result<(), Refused>
+        ensures { IfErr result (IsMemoryOr ProcFault.NotStarted) }
+    {
+        match dir.show(alloc) {
+            Ok(dir) => self.run_with(alloc, &dir, text),
+            Err(_) => Err(Refused::Memory),
+        }
+    }
+
+    /// Runs the program with its words.
+    fn run_with(&self, alloc: Global, dir: &Text, text: &Text) -> Result<(), Refused>
+        ensures { IfErr result (IsMemoryOr ProcFault.NotStarted) }
+    {
+        let mut command = self.command(alloc, dir, text)?;
+        self.wait_for(&mut command)
+    }
+
+    /// Runs a command to its end.
+    fn wait_for(&self, command: &mut Command) -> Result<(), Refused>
+        ensures { IfErr result (IsMemoryOr ProcFault.NotStarted) }
+    {
+        match command.status(&self.stage.rt) {
+            Ok(_) => Ok(()),
+            Err(e) => Err(Refused::of(&e, ProcFault::NotStarted)),
+        }
+    }
+
     /// The program with its words.
-    fn command(&self, alloc: Global, dir: &Text, text: &Text) -> Result<Command, Refused>
+    fn command(&self, alloc: Global, dir: &Text, text: &Text) -> Result<Command, AllocError>
         ensures program { IfOk result (λ command. command_program command ≡ self.now.program) }
         ensures words { IfOk result (λ command. command_args command
             ≡ self.now.root ∷ dir.now ∷ self.now.stage.folder ∷ text.now ∷ []) }
     {
         let mut command = Command::new(alloc, self.program.as_str())?;
+        self.add_words(&mut command, dir, text)?;
+        Ok(command)
+    }
+
+    /// Adds the words of the program to those that stand.
+    fn add_words(&self, command: &mut Command, dir: &Text, text: &Text) -> Result<(), AllocError>
+        ensures program { OnOk result (command_program command.new ≡ command_program command.old) }
+        ensures words { OnOk result (command_args command.new ≡ command_args command.old
+            ++ self.now.root ∷ dir.now ∷ self.now.stage.folder ∷ text.now ∷ []) }
+    {
         command.arg(self.root.as_str())?;
         command.arg(dir.as_str())?;
         command.arg(self.stage.folder.as_str())?;
         command.arg(text.as_str())?;
-        Ok(command)
+        Ok(())
     }
 
     /// Puts the asks of a log to the view, and gives how the program ended by it.

@@ -96,10 +96,15 @@ impl<R: Files<File = File> + Clone + Drop> Stage<R> {
     ) -> Result<(), Refused>
         ensures { OnOk result (texts_of writes.new ≡ texts_of writes.old ++ text.now ∷ []) }
     {
-        let name = format!(in alloc; "w{file}")?;
-        let content = self.read(alloc, name.as_str())?;
-        writes.push((text.clone()?, Bytes::new(content)))?;
+        let content = self.written(alloc, file)?;
+        add_write(writes, text, content)?;
         Ok(())
+    }
+
+    /// The content of a write.
+    fn written(&self, alloc: Global, file: u32) -> Result<Bytes, Refused> {
+        let name = format!(in alloc; "w{file}")?;
+        Ok(Bytes::new(self.read(alloc, name.as_str())?))
     }
 
     /// What a file of the stage holds. The program should have left it: one that isn't there is a bad log.
@@ -163,5 +168,13 @@ fn list_path(alloc: Global, list: &mut Vec<u8>, path: &Path) -> Result<(), Refus
     };
     list.extend_from_slice(shown.as_str().as_bytes())?;
     list.push(b'\n')?;
+    Ok(())
+}
+
+/// Adds a write to others.
+fn add_write(writes: &mut Writes, text: &Text, content: Bytes) -> Result<(), AllocError>
+    ensures { OnOk result (texts_of writes.new ≡ texts_of writes.old ++ text.now ∷ []) }
+{
+    writes.push((text.clone()?, content))?;
     Ok(())
 }
