@@ -6,14 +6,20 @@
 //! meets. `specs/Refresh.antt` says which folders are read, and what a kept reading has to be.
 #![tactic(auto)]
 
+mod asking;
+mod fault;
+mod fetched;
 mod found;
 mod gone;
 mod laws;
+mod outline;
+mod part;
 mod refreshed;
 mod refreshing;
 mod standing;
 mod walk;
 
+pub use fault::RefreshFault;
 pub use laws::{
     readings_are_true_records, refreshed_as_read, true_records_serve, untouched_are_not_read,
 };

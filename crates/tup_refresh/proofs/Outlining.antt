@@ -1,0 +1,134 @@
+-- The outline of the sources that a graph sees.
+use Rattle.std.proofs.Common.{◌≡◌, Bool, true, false, cond, not, ◌&&◌, ◌||◌, List, [], ◌∷◌, map, Option, Some, None, is_some, IsSome, IsTrue, T, refl, sym, ap, ◌∙◌, subst}
+use Rattle.std.specs.BTreeSet.{contains}
+use Rattle.std.specs.Cmp.{eq_by_cmp_equiv}
+use Rattle.std.specs.FinMap as finite
+use Rattle.std.specs.List.{list_any}
+use Rattle.std.specs.Map.{keys_of}
+use Rattle.std.specs.Option.{option_map}
+use Rattle.std.specs.Ordering.{eq_by_cmp}
+use Rattle.std.proofs.lemmas.Bool.{true≢false}
+use Rattle.tup_path.specs.Name.{Names, Content}
+use Rattle.tup_path.specs.Order.{by_names, by_names-total, by_names-antisymmetric, same_path, same_path-by_names}
+use Rattle.tup_path.specs.Tree.{Tree}
+use Rattle.tup_path.proofs.Same.{same_path-decides}
+use Rattle.tup_stamp.specs.Stamp.{stamp}
+use Rattle.tup_stamp.specs.declared.Stamp.{Stamp}
+use Rattle.tup_rule.specs.Rule.{among}
+use Rattle.tup_folders.proofs.Indexed.{keys_sorted}
+use Rattle.tup_graph.specs.Answers.{tup_config}
+use Rattle.tup_graph.specs.Graph.{GraphState, is_owned, source}
+use Rattle.tup_ledger.specs.Sources.{sources_of}
+use Rattle.tup_refresh.specs.declared.fetched.Fetched.{Fetched}
+use Rattle.tup_refresh.specs.Part.{AddsConfig, AreFetched, AreFilesOf, HasConfig, HasPaths, IsUnfetched, is_source_at}
+use Rattle.tup_refresh.specs.Untouched.{SeesSources}
+use Rattle.tup_refresh.proofs.Hollow.{same_keys}
+
+-- whether a path is among the keys of a map
+among_keys : {X : Type 0} (m : finite.FinMap by_names X) (path : Names) → among path (finite.keys m) ≡ finite.contains_key m path
+among_keys m path = ap (λ (test : Names → Bool). list_any test (finite.keys m)) (λ i other. same_path-by_names path other i) ∙ sym (finite.contains_key-keys m path)
+
+-- ---- paths that are added one after another
+
+pub path_added : (path other : Names) (before : Bool) → cond (eq_by_cmp by_names path other) true before ≡ (before || same_path other path)
+path_added path other before = ap (λ b. cond b true before) test ∙ either (same_path other path) before
+  where
+    test : eq_by_cmp by_names path other ≡ same_path other path
+    test = (eq_by_cmp_equiv by_names-total).symm path other ∙ sym (same_path-by_names other path)
+
+    either : (b before : Bool) → cond b true before ≡ (before || b)
+    either true true = refl
+    either true false = refl
+    either false true = refl
+    either false false = refl
+
+pub source_added : {X : Type 0} (outline : finite.FinMap by_names X) (path other : Names) (value : X) → finite.contains_key (finite.insert outline path value) other ≡ (finite.contains_key outline other || (true && same_path other path))
+source_added outline path other value =
+    ap is_some (finite.get-insert outline path value other) ∙ ap (λ b. is_some (cond b (Some value) (finite.get outline other))) (sym (same_path-by_names other path))
+    ∙ either (same_path other path) (finite.get outline other)
+  where
+    either : (b : Bool) (found : Option _) → is_some (cond b (Some value) found) ≡ (is_some found || b)
+    either true (Some x) = refl
+    either true None = refl
+    either false (Some x) = refl
+    either false None = refl
+
+-- ---- the sources among the files that a graph sees
+
+module _ (g : GraphState) (path : Names) where
+  at_owned : (seen : Names) → is_source_at g path seen ≡ (not (is_owned g path) && same_path path seen)
+  at_owned seen = by (same_path path seen) refl
+    where
+      by : (b : Bool) → same_path path seen ≡ b → (not (is_owned g seen) && b) ≡ (not (is_owned g path) && b)
+      by true same = ap (λ p. not (is_owned g p) && true) (sym ((same_path-decides path seen).0 same))
+      by false apart = none (not (is_owned g seen)) ∙ sym (none (not (is_owned g path)))
+        where
+          none : (b : Bool) → (b && false) ≡ false
+          none true = refl
+          none false = refl
+
+  any_of : (b : Bool) (files : List (Names × Stamp)) → list_any (λ (file : Names × Stamp). b && same_path path file.0) files ≡ (b && list_any (same_path path) (map (λ (file : Names × Stamp). file.0) files))
+  any_of true [] = refl
+  any_of false [] = refl
+  any_of true (file ∷ files) = ap (λ b. same_path path file.0 || b) (any_of true files)
+  any_of false (file ∷ files) = any_of false files
+
+  pub any_source : list_any (λ (file : Names × Stamp). is_source_at g path file.0) (finite.entries g.seen) ≡ is_some (source g path)
+  any_source =
+      ap (λ (test : Names × Stamp → Bool). list_any test (finite.entries g.seen)) (λ i file. at_owned file.0 i)
+      ∙ any_of (not (is_owned g path)) (finite.entries g.seen) ∙ ap (λ b. not (is_owned g path) && b) (among_keys g.seen path) ∙ either (is_owned g path) (finite.get g.seen path)
+    where
+      either : (b : Bool) (found : Option Stamp) → (not b && is_some found) ≡ is_some (cond b None found)
+      either true found = refl
+      either false found = refl
+
+module _ (g : GraphState) (sources : Tree) (sees : SeesSources sources g) (before outline : Tree) (config : Option Content)
+    (all : (path : Names) → finite.contains_key before path ≡ list_any (λ (file : Names × Stamp). is_source_at g path file.0) (finite.entries g.seen)) (adds : AddsConfig config before outline) where
+  mapped : (found : Option Content) → is_some (option_map stamp found) ≡ is_some found
+  mapped (Some content) = refl
+  mapped None = refl
+
+  same_before : (path : Names) → finite.contains_key before path ≡ finite.contains_key sources path
+  same_before path = all path ∙ any_source g path ∙ ap is_some (sees path) ∙ mapped (finite.get sources path)
+
+  pub has_paths : HasPaths sources outline
+  has_paths = same_keys outline sources (λ path. adds.paths path ∙ same_before path)
+
+  pub has_config : (IsSome (finite.get sources tup_config) → config ≡ finite.get sources tup_config) → HasConfig sources outline
+  has_config is = by (finite.get sources tup_config) refl (finite.get outline tup_config) refl
+    where
+      by : (found : Option Content) → finite.get sources tup_config ≡ found → (here : Option Content) → finite.get outline tup_config ≡ here → finite.get outline tup_config ≡ finite.get sources tup_config
+      by (Some content) e here o =
+          adds.config content (is (subst IsSome (sym e) refl) ∙ e) (same_before tup_config ∙ ap is_some e) ∙ sym e
+      by None e None o = o ∙ sym e
+      by None e (Some content) o =
+          let wrong : true ≡ false = sym (ap is_some o) ∙ adds.paths tup_config ∙ same_before tup_config ∙ ap is_some e in
+          cc
+
+-- ---- what isn't fetched yet
+
+pub none_fetched : (sources : Tree) (files : List (Names × Content)) (fetched : Fetched) → IsTrue (finite.is_sorted by_names files) → HasPaths sources (finite.from_sorted files) → IsUnfetched (keys_of files) fetched → AreFetched sources fetched
+none_fetched sources files fetched up paths is = record {
+  known = λ path off. ap (λ (m : Tree). finite.get m path) is.contents ∙ finite.get-empty by_names path ∙ sym (nothing (finite.get sources path) (sym (there path) ∙ off));
+  missing = λ path on. sym (there path) ∙ on;
+}
+  where
+    there : (path : Names) → contains by_names fetched.missing path ≡ is_some (finite.get sources path)
+    there path =
+        is.missing path ∙ ap (among path) (sym (keys_sorted files up)) ∙ ap (among path) paths ∙ among_keys sources path
+
+    nothing : (found : Option Content) → is_some found ≡ false → found ≡ None
+    nothing None e = refl
+    nothing (Some content) e = cc
+
+-- ---- the sources of a tree
+
+pub files_of : (g : GraphState) (tree : Tree) → AreFilesOf tree (sources_of g tree)
+files_of g tree path some = by (not (is_owned g path)) (kept) (subst IsSome kept some)
+  where
+    kept : finite.get (sources_of g tree) path ≡ cond (not (is_owned g path)) (finite.get tree path) None
+    kept = finite.get-retain_keys tree (λ p. not (is_owned g p)) path (λ other tied. ap (λ (p : Names). not (is_owned g p)) (sym (by_names-antisymmetric path other tied)))
+
+    by : (b : Bool) → finite.get (sources_of g tree) path ≡ cond b (finite.get tree path) None → IsSome (cond b (finite.get tree path) None) → finite.get (sources_of g tree) path ≡ finite.get tree path
+    by true is some = is
+    by false is some = cc
