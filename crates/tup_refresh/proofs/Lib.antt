@@ -12,5 +12,8 @@ pub mod Untouched
 pub mod Outlined
 pub mod Told
 pub mod Hollow
+pub mod Fetching
 pub mod Outlining
 pub mod Outcome
+pub mod Causes
+pub mod Staying

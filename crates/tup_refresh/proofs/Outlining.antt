@@ -1,5 +1,6 @@
 -- The outline of the sources that a graph sees.
 use Rattle.std.proofs.Common.{◌≡◌, Bool, true, false, cond, not, ◌&&◌, ◌||◌, List, [], ◌∷◌, map, Option, Some, None, is_some, IsSome, IsTrue, T, refl, sym, ap, ◌∙◌, subst}
+use Rattle.std.specs.Prelude.{is_none}
 use Rattle.std.specs.BTreeSet.{contains}
 use Rattle.std.specs.Cmp.{eq_by_cmp_equiv}
 use Rattle.std.specs.FinMap as finite
@@ -16,8 +17,10 @@ use Rattle.tup_stamp.specs.Stamp.{stamp}
 use Rattle.tup_stamp.specs.declared.Stamp.{Stamp}
 use Rattle.tup_rule.specs.Rule.{among}
 use Rattle.tup_folders.proofs.Indexed.{keys_sorted}
+use Rattle.tup_folders.proofs.Working.{from_test}
 use Rattle.tup_graph.specs.Answers.{tup_config}
 use Rattle.tup_graph.specs.Graph.{GraphState, is_owned, source}
+use Rattle.tup_graph.specs.declared.owned.Owned.{Owned}
 use Rattle.tup_ledger.specs.Sources.{sources_of}
 use Rattle.tup_refresh.specs.declared.fetched.Fetched.{Fetched}
 use Rattle.tup_refresh.specs.Part.{AddsConfig, AreFetched, AreFilesOf, HasConfig, HasPaths, IsUnfetched, is_source_at}
@@ -28,21 +31,9 @@ use Rattle.tup_refresh.proofs.Hollow.{same_keys}
 among_keys : {X : Type 0} (m : finite.FinMap by_names X) (path : Names) → among path (finite.keys m) ≡ finite.contains_key m path
 among_keys m path = ap (λ (test : Names → Bool). list_any test (finite.keys m)) (λ i other. same_path-by_names path other i) ∙ sym (finite.contains_key-keys m path)
 
--- ---- paths that are added one after another
+-- ---- sources that are added one after another
 
-pub path_added : (path other : Names) (before : Bool) → cond (eq_by_cmp by_names path other) true before ≡ (before || same_path other path)
-path_added path other before = ap (λ b. cond b true before) test ∙ either (same_path other path) before
-  where
-    test : eq_by_cmp by_names path other ≡ same_path other path
-    test = (eq_by_cmp_equiv by_names-total).symm path other ∙ sym (same_path-by_names other path)
-
-    either : (b before : Bool) → cond b true before ≡ (before || b)
-    either true true = refl
-    either true false = refl
-    either false true = refl
-    either false false = refl
-
-pub source_added : {X : Type 0} (outline : finite.FinMap by_names X) (path other : Names) (value : X) → finite.contains_key (finite.insert outline path value) other ≡ (finite.contains_key outline other || (true && same_path other path))
+source_added : {X : Type 0} (outline : finite.FinMap by_names X) (path other : Names) (value : X) → finite.contains_key (finite.insert outline path value) other ≡ (finite.contains_key outline other || (true && same_path other path))
 source_added outline path other value =
     ap is_some (finite.get-insert outline path value other) ∙ ap (λ b. is_some (cond b (Some value) (finite.get outline other))) (sym (same_path-by_names other path))
     ∙ either (same_path other path) (finite.get outline other)
@@ -52,6 +43,52 @@ source_added outline path other value =
     either true None = refl
     either false (Some x) = refl
     either false None = refl
+
+module _ (g : GraphState) (path other : Names) (outline new : Tree) where
+  free : (found : Option Owned) → not (is_some found) ≡ is_none found
+  free None = refl
+  free (Some owned) = refl
+
+  -- a path that isn't owned is added
+  pub one_source : (content : Content) (test : Bool) → test ≡ is_none (finite.get g.owned path) → test ≡ true → new ≡ finite.insert outline path content
+      → finite.contains_key new other ≡ (finite.contains_key outline other || is_source_at g other path)
+  one_source content test is on now =
+      ap (λ (m : Tree). finite.contains_key m other) now ∙ source_added outline path other content
+      ∙ ap (λ b. finite.contains_key outline other || (b && same_path other path)) (sym on ∙ is ∙ sym (free (finite.get g.owned path)))
+
+  -- and one that is isn't
+  pub no_source : (test : Bool) → test ≡ is_none (finite.get g.owned path) → test ≡ false → finite.contains_key outline other ≡ (finite.contains_key outline other || is_source_at g other path)
+  no_source test is off = sym (either (finite.contains_key outline other)) ∙ ap (λ b. finite.contains_key outline other || (b && same_path other path)) (sym off ∙ is ∙ sym (free (finite.get g.owned path)))
+    where
+      either : (b : Bool) → (b || false) ≡ b
+      either true = refl
+      either false = refl
+
+-- tup.config gets its content
+pub config_set : (outline new : Tree) (content : Content) → finite.contains_key outline tup_config ≡ true → new ≡ finite.insert outline tup_config content → AddsConfig (Some content) outline new
+config_set outline new content there now = record {
+  paths = λ path. ap (λ (m : Tree). finite.contains_key m path) now ∙ source_added outline tup_config path content ∙ by path (same_path path tup_config) refl;
+  config = λ given e had.
+      ap (λ (m : Tree). finite.get m tup_config) now ∙ finite.get-insert outline tup_config content tup_config
+      ∙ ap (λ b. cond b (Some content) (finite.get outline tup_config)) (sym (same_path-by_names tup_config tup_config) ∙ (same_path-decides tup_config tup_config).1 refl) ∙ e;
+}
+  where
+    by : (path : Names) (b : Bool) → same_path path tup_config ≡ b → (finite.contains_key outline path || (true && b)) ≡ finite.contains_key outline path
+    by path true same =
+        ap (λ c. c || true) (ap (finite.contains_key outline) ((same_path-decides path tup_config).0 same) ∙ there)
+        ∙ sym (ap (finite.contains_key outline) ((same_path-decides path tup_config).0 same) ∙ there)
+    by path false apart = either (finite.contains_key outline path)
+      where
+        either : (c : Bool) → (c || false) ≡ c
+        either true = refl
+        either false = refl
+
+-- and where there is none, or it is no source, all is as it was
+pub config_unset : (outline : Tree) (config : Option Content) → ((content : Content) → config ≡ Some content → finite.contains_key outline tup_config ≡ false) → AddsConfig config outline outline
+config_unset outline config off = record {
+  paths = λ path. refl;
+  config = λ content e there. absurd (true≢false (sym there ∙ off content e));
+}
 
 -- ---- the sources among the files that a graph sees
 
@@ -104,6 +141,13 @@ module _ (g : GraphState) (sources : Tree) (sees : SeesSources sources g) (befor
       by None e (Some content) o =
           let wrong : true ≡ false = sym (ap is_some o) ∙ adds.paths tup_config ∙ same_before tup_config ∙ ap is_some e in
           cc
+
+-- a map is that of its entries
+pub listed_map : (m : Tree) (list : List (Names × Content)) → list ≡ finite.entries m → finite.from_sorted {R = by_names} list ≡ m
+listed_map m list are = finite.same_entries_map _ _ (finite.entries-from_sorted by_names list (subst (λ (l : List (Names × Content)). T (finite.is_sorted by_names l)) (sym are) (finite.entries_sorted m)) ∙ are)
+
+pub listed_sorted : (m : Tree) (list : List (Names × Content)) → list ≡ finite.entries m → IsTrue (finite.is_sorted by_names list)
+listed_sorted m list are = from_test (finite.is_sorted by_names list) (subst (λ (l : List (Names × Content)). T (finite.is_sorted by_names l)) (sym are) (finite.entries_sorted m))
 
 -- ---- what isn't fetched yet
 

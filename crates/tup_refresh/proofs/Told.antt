@@ -35,7 +35,7 @@ use Rattle.tup_refresh.specs.declared.found.Found.TheVariants as found
 use Rattle.tup_refresh.specs.Asking.{told_or_misfit, IsHalt, halted_at}
 use Rattle.tup_refresh.specs.Found.{HasRead, IsLack, come_of_halt}
 use Rattle.tup_refresh.specs.Part.{AreFetched, HasPaths}
-use Rattle.tup_refresh.proofs.Outlined.{awaited_alike, told_names_alike, told_kind_alike}
+use Rattle.tup_refresh.proofs.Outlined.{IsOfPaths, awaited_alike, told_names_alike, told_kind_alike}
 
 -- what is kept says why there was no answer
 pub halt_is : (outline : Tree) (readings : Readings) (reader : Names) (fetched : Fetched) (question : Question) (halt : Halt) → IsHalt outline readings reader fetched question halt
@@ -43,6 +43,17 @@ pub halt_is : (outline : Tree) (readings : Readings) (reader : Names) (fetched :
 halt_is outline readings reader fetched question (Lacks path) is = is
 halt_is outline readings reader fetched question (Awaits next) is = waits_for-refl outline readings reader next question is
 halt_is outline readings reader fetched question Memory is = refl
+
+-- what isn't about a content is told by the paths of the sources
+pub told_by_paths : (outline : Tree) (settings : Entries) (readings : Readings) (reader : Names) (fetched : Fetched) (question : Question) (result : Result Told Halt) → IsOfPaths question
+    → IfOk result (λ told. told ≡ answer_or_misfit outline settings readings reader question) → IfOk result (λ told. told ≡ told_or_misfit outline settings readings reader fetched question)
+told_by_paths outline settings readings reader fetched question result of is = subst (λ (given : Told). IfOk result (λ told. told ≡ given)) (same question of) is
+  where
+    same : (question : Question) → IsOfPaths question → answer_or_misfit outline settings readings reader question ≡ told_or_misfit outline settings readings reader fetched question
+    same (asks.Content path) of = absurd of
+    same (asks.Config name) of = refl
+    same (asks.Names dir) of = refl
+    same (asks.Kind path) of = refl
 
 module _ (sources outline : Tree) (settings : Entries) (readings : Readings) (reader : Names) (fetched : Fetched) (paths : HasPaths sources outline) (are : AreFetched sources fetched) where
   abbrev tells : Question → Told

@@ -1,7 +1,9 @@
 -- How the walk goes on.
-use Rattle.std.proofs.Common.{◌≡◌, Option, Some, None, Ok, Err, IsTrue, sym, ap, ◌∙◌, subst}
+use Rattle.std.proofs.Common.{◌≡◌, true, Option, Some, None, Ok, Err, IsTrue, sym, ap, ◌∙◌, subst}
+use Rattle.std.specs.BTreeSet.{contains}
 use Rattle.std.specs.FinMap as finite
 use Rattle.tup_path.specs.Name.{Names}
+use Rattle.tup_path.specs.Order.{by_names}
 use Rattle.tup_path.specs.Tree.{Tree}
 use Rattle.tup_rule.specs.Rule.{among}
 use Rattle.tup_rule.specs.declared.question.Reading.{Reading}
@@ -20,10 +22,14 @@ use Rattle.tup_refresh.specs.declared.found.Found.TheVariants.{Stands, Read}
 use Rattle.tup_refresh.specs.Found.{HasFound, IsFault}
 use Rattle.tup_refresh.specs.Part.{AreFetched, HasPaths, IsOutlined, IsPartOf}
 use Rattle.tup_refresh.specs.Refresh.{kept_reading}
-use Rattle.tup_refresh.specs.Walk.{AreParted, IsWalk, IsStart, NotesFresh}
+use Rattle.tup_refresh.specs.Walk.{AreParted, HasGone, IsWalk, IsStart, NotesFresh}
 use Rattle.tup_refresh.proofs.Finding.{fault_come}
 use Rattle.tup_refresh.proofs.Outlined.{tupfile_alike}
 use Rattle.tup_refresh.proofs.Parting.{part_none, part_fresh, part_kept}
+
+-- a content that is needed is missing
+pub lacks_one : (old new : Walk) (path : Names) → HasGone old new (Some path) → contains by_names new.fetched.missing path ≡ true
+lacks_one old new path gone = ap (λ (walk : Walk). contains by_names walk.fetched.missing path) gone.0 ∙ gone.1
 
 module _ (g : GraphState) (sources : Tree) (settings : Entries) where
   pub walk_started : (outline : Tree) (fetched : Fetched) (walk : Walk) → HasPaths sources outline → AreFetched sources fetched → IsStart outline fetched walk → IsWalk g sources settings walk

@@ -62,11 +62,22 @@ impl Fetched {
             → GoesOn S.moment S.left_since site.old site.new NoStep }
         ensures known { IsTrue S.tells → S.known site.new ≡ S.known site.old }
     {
-        if let Some(content) = site.get(alloc, &path)? {
-            self.contents.insert(path.clone()?, content)?;
-        }
+        let content = site.get(alloc, &path)?;
+        Ok(self.note(path, content)?)
+    }
+
+    /// Notes the content of a source.
+    fn note(&mut self, path: Path, content: Option<Bytes>) -> Result<(), AllocError>
+        requires { contains by_names self.old.missing path ≡ true }
+        ensures fetched { OnOk result ((sources : Tree) → content ≡ finite.get sources path
+            → AreFetched sources self.old → AreFetched sources self.new) }
+        ensures fewer { length self.new.missing.keys < length self.old.missing.keys }
+    {
         self.missing.remove(&path);
-        Ok(())
+        match content {
+            Some(content) => Ok(self.contents.insert(path, content)?),
+            None => Ok(()),
+        }
     }
 }
 

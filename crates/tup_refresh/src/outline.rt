@@ -56,9 +56,12 @@ fn add_config(
     ensures { OnOk result (AddsConfig config.now outline.old outline.new) }
 {
     let path = config_path(alloc)?;
+    if !outline.contains(&path) {
+        return Ok(());
+    }
     match config {
-        Some(content) if outline.contains(&path) => Ok(outline.insert(path, content.clone()?)?),
-        _ => Ok(()),
+        Some(content) => Ok(outline.insert(path, content.clone()?)?),
+        None => Ok(()),
     }
 }
 

@@ -64,10 +64,28 @@ fn stands(
     match question {
         Question::Content(path) => Ok(has_stamp(nodes, path, noted)),
         Question::Config(_) | Question::Names(_) | Question::Kind(_) => {
-            let told = asked.told(alloc, question)?;
-            Ok(told.noted() == *noted)
+            is_told(alloc, asked, question, noted)
         }
     }
+}
+
+/// Whether what a reading was told to a question is what is told now.
+fn is_told(
+    alloc: Global,
+    asked: &Asked<'_, '_>,
+    question: &Question,
+    noted: &Noted,
+) -> Result<bool, Stop>
+    ensures told { IfOk result (λ stands. Decides stands (kept_as (answer asked.now.sources.now
+        asked.now.settings.now asked.now.readings.now asked.now.reader.now question.now)
+        ≡ noted.now)) }
+    ensures ready { IfOk result (λ stands. awaited asked.now.sources.now
+        asked.now.readings.now asked.now.reader.now question.now ≡ None) }
+    ensures waits { IfErr result (IsWait (awaited asked.now.sources.now
+        asked.now.readings.now asked.now.reader.now question.now)) }
+{
+    let told = asked.told(alloc, question)?;
+    Ok(told.noted() == *noted)
 }
 
 /// Whether the content of the source at a path, or that there is none, was told so.

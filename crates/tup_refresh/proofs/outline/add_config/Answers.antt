@@ -1,0 +1,10 @@
+use Rattle.std.proofs.Common.{◌≡◌, Option, Some, sym, ap, subst, ◌∙◌}
+use Rattle.std.specs.FinMap as finite
+use Rattle.tup_path.specs.Name.{Names, Content}
+use Rattle.tup_refresh.specs.Part.{AddsConfig}
+use Rattle.tup_refresh.proofs.Outlining.{config_set, config_unset}
+use Rattle.tup_refresh.proofs.outline.add_config.Goals as goal
+
+pub returns-then-not-contains : goal.returns-then-not-contains
+returns-then-not-contains c =
+    config_unset c.args.outline.now c.args.config.now (λ content e. ap (finite.contains_key c.args.outline.now) (sym c.in_ok-path.ensures) ∙ sym c.contains.ensures ∙ c.if-not-contains.true)
