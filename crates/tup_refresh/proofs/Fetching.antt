@@ -45,7 +45,7 @@ module _ (sources : Tree) (old new : Fetched) (path : Names) (is : AreFetched so
   pub one_fetched : (content : Content) → Some content ≡ finite.get sources path → new.contents ≡ finite.insert old.contents path content → AreFetched sources new
   one_fetched content here now = record {
     known = λ other off.
-        ap (λ m. finite.get m other) now ∙ finite.get-insert old.contents path content other ∙ ap (λ b. cond b (Some content) (finite.get old.contents other)) (sym (same_path-by_names other path))
+        ap (λ m. finite.get m other) now ∙ finite.get-insert by_names-total old.contents path content other ∙ ap (λ b. cond b (Some content) (finite.get old.contents other)) (sym (same_path-by_names other path))
         ∙ by other off (same_path other path) refl;
     missing = still;
   }

@@ -9,7 +9,7 @@ use Rattle.tup_path.specs.Name.{Names}
 use Rattle.tup_path.specs.Order.{by_names, by_names-total, by_names-antisymmetric}
 
 -- entries without their values
-hollow : {X : Type 0} → List (Names × X) → List (Names × Bool)
+abbrev hollow : {X : Type 0} → List (Names × X) → List (Names × Bool)
 hollow [] = []
 hollow (e ∷ es) = (e.0, true) ∷ hollow es
 

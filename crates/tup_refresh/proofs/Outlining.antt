@@ -35,7 +35,7 @@ among_keys m path = ap (λ (test : Names → Bool). list_any test (finite.keys m
 
 source_added : {X : Type 0} (outline : finite.FinMap by_names X) (path other : Names) (value : X) → finite.contains_key (finite.insert outline path value) other ≡ (finite.contains_key outline other || (true && same_path other path))
 source_added outline path other value =
-    ap is_some (finite.get-insert outline path value other) ∙ ap (λ b. is_some (cond b (Some value) (finite.get outline other))) (sym (same_path-by_names other path))
+    ap is_some (finite.get-insert by_names-total outline path value other) ∙ ap (λ b. is_some (cond b (Some value) (finite.get outline other))) (sym (same_path-by_names other path))
     ∙ either (same_path other path) (finite.get outline other)
   where
     either : (b : Bool) (found : Option _) → is_some (cond b (Some value) found) ≡ (is_some found || b)
@@ -69,7 +69,7 @@ pub config_set : (outline new : Tree) (content : Content) → finite.contains_ke
 config_set outline new content there now = record {
   paths = λ path. ap (λ (m : Tree). finite.contains_key m path) now ∙ source_added outline tup_config path content ∙ by path (same_path path tup_config) refl;
   config = λ given e had.
-      ap (λ (m : Tree). finite.get m tup_config) now ∙ finite.get-insert outline tup_config content tup_config
+      ap (λ (m : Tree). finite.get m tup_config) now ∙ finite.get-insert by_names-total outline tup_config content tup_config
       ∙ ap (λ b. cond b (Some content) (finite.get outline tup_config)) (sym (same_path-by_names tup_config tup_config) ∙ (same_path-decides tup_config tup_config).1 refl) ∙ e;
 }
   where
