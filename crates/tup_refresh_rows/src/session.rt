@@ -85,11 +85,14 @@ impl Session {
     /// The build owns a path.
     fn owned(&mut self, alloc: Global, said: &Words) -> Words {
         let path = said.path_at(alloc, 0);
-        self.put(alloc, Record::Owned {
-            path,
-            maker: None,
-            state: OwnedState::Unsure,
-        })
+        self.put(
+            alloc,
+            Record::Owned {
+                path,
+                maker: None,
+                state: OwnedState::Unsure,
+            },
+        )
     }
 
     fn put(&mut self, alloc: Global, record: Record) -> Words {
@@ -150,11 +153,7 @@ impl Session {
 }
 
 /// What a refresh gave beside what reading all folders gives; it is kept where there is no fault.
-fn compared(
-    alloc: Global,
-    project: &mut Project,
-    found: Result<Refreshed, RefreshFault>,
-) -> Words {
+fn compared(alloc: Global, project: &mut Project, found: Result<Refreshed, RefreshFault>) -> Words {
     let Ok(sources) = project.sources(alloc) else {
         return Words::none(alloc, RowFault::Memory);
     };
