@@ -68,7 +68,7 @@ module _ (g : GraphState) (path other : Names) (outline new : Tree) where
 pub config_set : (outline new : Tree) (content : Content) → finite.contains_key outline tup_config ≡ true → new ≡ finite.insert outline tup_config content → AddsConfig (Some content) outline new
 config_set outline new content there now = record {
   paths = λ path. ap (λ (m : Tree). finite.contains_key m path) now ∙ source_added outline tup_config path content ∙ by path (same_path path tup_config) refl;
-  config = λ given e had.
+  content = λ given e had.
       ap (λ (m : Tree). finite.get m tup_config) now ∙ finite.get-insert by_names-total outline tup_config content tup_config
       ∙ ap (λ b. cond b (Some content) (finite.get outline tup_config)) (sym (same_path-by_names tup_config tup_config) ∙ (same_path-decides tup_config tup_config).1 refl) ∙ e;
 }
@@ -87,7 +87,7 @@ config_set outline new content there now = record {
 pub config_unset : (outline : Tree) (config : Option Content) → ((content : Content) → config ≡ Some content → finite.contains_key outline tup_config ≡ false) → AddsConfig config outline outline
 config_unset outline config off = record {
   paths = λ path. refl;
-  config = λ content e there. absurd (true≢false (sym there ∙ off content e));
+  content = λ content e there. absurd (true≢false (sym there ∙ off content e));
 }
 
 -- ---- the sources among the files that a graph sees
@@ -136,7 +136,7 @@ module _ (g : GraphState) (sources : Tree) (sees : SeesSources sources g) (befor
     where
       by : (found : Option Content) → finite.get sources tup_config ≡ found → (here : Option Content) → finite.get outline tup_config ≡ here → finite.get outline tup_config ≡ finite.get sources tup_config
       by (Some content) e here o =
-          adds.config content (is (subst IsSome (sym e) refl) ∙ e) (same_before tup_config ∙ ap is_some e) ∙ sym e
+          adds.content content (is (subst IsSome (sym e) refl) ∙ e) (same_before tup_config ∙ ap is_some e) ∙ sym e
       by None e None o = o ∙ sym e
       by None e (Some content) o =
           let wrong : true ≡ false = sym (ap is_some o) ∙ adds.paths tup_config ∙ same_before tup_config ∙ ap is_some e in

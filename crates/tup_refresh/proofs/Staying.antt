@@ -19,6 +19,6 @@ module _ {S : Type 0} (moment : S → ℕ) (left_since : S → ℕ → World →
     since = λ t w le left.
         elim (then.since t w (omega (arith, le, first.later)) left) [
           | inl was ↦ first.since t w le was
-          | inr by ↦ absurd by.2.1
+          | inr by ↦ absurd by.2
         ];
   }

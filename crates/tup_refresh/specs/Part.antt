@@ -45,7 +45,7 @@ AddsSource g path old new = (other : Names) → finite.contains_key new other �
 -- tup.config gets its content, where it is among them
 pub record AddsConfig (config : Option Content) (old new : Tree) : Type 0 where
   pub paths : (path : Names) → finite.contains_key new path ≡ finite.contains_key old path
-  pub config : (content : Content) → config ≡ Some content → finite.contains_key old tup_config ≡ true → finite.get new tup_config ≡ Some content
+  pub content : (content : Content) → config ≡ Some content → finite.contains_key old tup_config ≡ true → finite.get new tup_config ≡ Some content
 
 -- a path is added to some
 abbrev pub AddsPath : Names → BTreeSet Names → BTreeSet Names → Type 0
