@@ -14,4 +14,4 @@ returns-in_ok-insert-in-Some c =
     let old = c.args.outline.now in
     subst (λ (config : Option Content). AddsConfig config old c.insert.new.self) (sym c.in-Some.is)
     (config_set old c.insert.new.self _ c.in-Some.content _ (ap (finite.contains_key old) (sym c.in_ok-path.ensures) ∙ sym c.contains.ensures ∙ c.if-not-contains.false)
-    c.in_ok-path.ensures c.in_ok-clone-in-Some.ensures.cases c.in_ok-insert-in-Some.ensures.ok)
+    (c.path.view_is ∙ c.in_ok-path.ensures) c.in_ok-clone-in-Some.ensures.cases c.in_ok-insert-in-Some.ensures.ok)
