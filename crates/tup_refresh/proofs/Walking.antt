@@ -36,7 +36,7 @@ module _ (g : GraphState) (sources : Tree) (settings : Entries) where
   walk_started outline fetched walk paths are start = record {
     work = started sources settings walk.work work;
     parted = part_none g sources settings walk.work.readings walk.fresh start.work.readings start.fresh;
-    fetched = subst (AreFetched sources) (sym start.fetched) are;
+    fetched = subst (AreFetched sources) (sym start.contents) are;
   }
     where
       work : IsWorkStart sources walk.work
@@ -59,7 +59,7 @@ module _ (g : GraphState) (sources : Tree) (settings : Entries) where
   part_of outline walk outlined is = record {
     paths = outlined.paths;
     stamps = outlined.stamps;
-    fetched = is.fetched;
+    contents = is.fetched;
   }
 
   -- a content is fetched

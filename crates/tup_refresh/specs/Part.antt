@@ -60,7 +60,7 @@ pub record IsUnfetched (paths : List Names) (fetched : Fetched) : Type 0 where
 pub record IsPartOf (sources outline : Tree) (g : GraphState) (fetched : Fetched) : Type 0 where
   pub paths : HasPaths sources outline
   pub stamps : SeesSources sources g
-  pub fetched : AreFetched sources fetched
+  pub contents : AreFetched sources fetched
 
 abbrev pub IsPart : Tree → Part → Type 0
 IsPart sources part = IsPartOf sources part.outline.now part.nodes.now part.fetched.now

@@ -33,7 +33,7 @@ module _ (g : GraphState) (sources : Tree) (settings : Entries) where
 pub record IsStart (outline : Tree) (fetched : Fetched) (walk : Walk) : Type 0 where
   pub work : IsWorkStart outline walk.work
   pub fresh : walk.fresh ≡ finite.empty
-  pub fetched : walk.fetched ≡ fetched
+  pub contents : walk.fetched ≡ fetched
 
 -- how many steps are left at most: those of the folders, and one for each content that wasn't asked for
 abbrev pub steps_left : Walk → ℕ

@@ -3,7 +3,7 @@ ghost use Rattle.std.specs.Prelude.{◌≡◌, None, IfOk, IfErr};
 ghost use Rattle.std.specs.Bool.{Decides};
 ghost use Rattle.tup_path.specs.Tree.{Tree};
 ghost use Rattle.tup_rule.specs.Question.{noted as kept_as};
-ghost use Rattle.tup_rule.specs.declared.question.Noted.TheVariants as noted;
+ghost use Rattle.tup_rule.specs.declared.question.Noted.TheVariants as kept;
 ghost use Rattle.tup_folders.specs.Answers.{answer, awaited};
 ghost use Rattle.tup_folders.specs.Asked.{IsWait};
 ghost use Rattle.tup_graph.specs.Graph.{source as source_of};
@@ -90,7 +90,7 @@ fn is_told(
 
 /// Whether the content of the source at a path, or that there is none, was told so.
 fn has_stamp(nodes: &Nodes, path: &Path, noted: &Noted) -> bool
-    ensures { Decides result (noted.Content (source_of nodes.now path.now) ≡ noted.now) }
+    ensures { Decides result (kept.Content (source_of nodes.now path.now) ≡ noted.now) }
 {
     Noted::Content(source(nodes, path)) == *noted
 }
