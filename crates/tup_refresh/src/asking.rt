@@ -1,6 +1,7 @@
 //! Who answers what the reading of a folder asks, where contents are fetched first.
-ghost use Rattle.std.specs.Prelude.{◌≡◌, IfOk, IfErr};
+ghost use Rattle.std.specs.Prelude.{◌≡◌, IsTrue, IfOk, IfErr};
 ghost use Rattle.tup_rule.specs.declared.question.Question.TheVariants as asks;
+ghost use Rattle.tup_ask.specs.Log.{fits};
 ghost use Rattle.tup_folders.specs.Asked.{answer_or_misfit};
 ghost use Rattle.tup_refresh.specs.Asking.{told_or_misfit, IsHalt};
 
@@ -61,6 +62,7 @@ impl Asking<'_, '_> {
         ensures told { IfOk result (λ told. told ≡ told_or_misfit self.now.asked.sources.now
             self.now.asked.settings.now self.now.asked.readings.now self.now.asked.reader.now
             self.now.fetched.now question.now) }
+        ensures fits { IfOk result (λ told. IsTrue (fits question.now told)) }
         ensures halts { IfErr result (IsHalt self.now.asked.sources.now
             self.now.asked.readings.now self.now.asked.reader.now self.now.fetched.now
             question.now) }
@@ -78,6 +80,7 @@ impl Asking<'_, '_> {
         ensures told { IfOk result (λ told. told ≡ told_or_misfit self.now.asked.sources.now
             self.now.asked.settings.now self.now.asked.readings.now self.now.asked.reader.now
             self.now.fetched.now (asks.Content path.now)) }
+        ensures fits { IfOk result (λ told. IsTrue (fits (asks.Content path.now) told)) }
         ensures halts { IfErr result (IsHalt self.now.asked.sources.now
             self.now.asked.readings.now self.now.asked.reader.now self.now.fetched.now
             (asks.Content path.now)) }
@@ -96,6 +99,7 @@ impl Asking<'_, '_> {
         ensures told { IfOk result (λ told. told ≡ answer_or_misfit self.now.asked.sources.now
             self.now.asked.settings.now self.now.asked.readings.now self.now.asked.reader.now
             question.now) }
+        ensures fits { IfOk result (λ told. IsTrue (fits question.now told)) }
         ensures halts { IfErr result (IsHalt self.now.asked.sources.now
             self.now.asked.readings.now self.now.asked.reader.now self.now.fetched.now
             question.now) }

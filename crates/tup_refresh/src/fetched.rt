@@ -46,7 +46,7 @@ impl Fetched {
         site: &mut S,
         path: Path,
     ) -> Result<(), SiteFailed>
-        requires { contains by_names self.old.missing path ≡ true }
+        requires missing { contains by_names self.old.missing path ≡ true }
         ensures fetched { IsTrue S.tells → OnOk result ((sources : Tree) →
             finite.get sources path ≡ finite.get (S.world site.old).tree path →
             AreFetched sources self.old → AreFetched sources self.new) }

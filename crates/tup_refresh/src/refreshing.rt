@@ -69,7 +69,7 @@ fn refresh_outlined<S: Site>(
     files: &Files,
     fetched: Fetched,
 ) -> Result<Refreshed, RefreshFault>
-    requires { IsTrue (finite.is_sorted by_names files.now) }
+    requires sorted { IsTrue (finite.is_sorted by_names files.now) }
     ensures refreshed { IsTrue S.tells → (sources : Tree)
         → IsOutlined sources (finite.from_sorted files.now) nodes.now
         → HasConfig sources (finite.from_sorted files.now) → AreFetched sources fetched

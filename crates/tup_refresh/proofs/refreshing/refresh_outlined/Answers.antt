@@ -15,8 +15,8 @@ returns-in-Ok-clause-refreshed g c = λ tells sources outlined config are files 
     (sym (settings_alike sources c.in_ok-outline.outline (subst (HasConfig sources) (sym is) config)) ∙ c.in-Ok.ensures)
     (c.all_found.ensures.refreshed tells sources (subst (λ (outline : Tree). IsOutlined sources outline a.nodes.now) (sym is) outlined) are files trues)
 
-pub returns-clause-refreshed : goal.returns-clause-refreshed
-returns-clause-refreshed g c = λ tells sources outlined config are files trues.
+pub returns-in-Err-clause-refreshed : goal.returns-in-Err-clause-refreshed
+returns-in-Err-clause-refreshed g c = λ tells sources outlined config are files trues.
     let a = c.args in
     subst (λ (fault : RefreshFault). IsRefreshOf a.nodes.now sources (Err fault)) (sym c.from.ensures)
     (unset_of a.nodes.now sources c.in_ok-outline.outline c.in-Err.fault (subst (HasConfig sources) (sym c.in_ok-outline.ensures) config) c.in-Err.ensures)

@@ -1,11 +1,15 @@
 use Rattle.std.proofs.Common.{sym, ◌∙◌}
 use Rattle.std.proofs.lemmas.Bool.{true≢false}
+use Rattle.std.proofs.lemmas.List.Elements.{All-nil}
 use Rattle.std.proofs.lemmas.Result.{err_from_is_err_and}
+use Rattle.tup_refresh.specs.Standing.{Stands}
 use Rattle.tup_refresh.proofs.Answering.{stand_more, stand_all, one_other, ends_there}
 use Rattle.tup_refresh.proofs.standing.all_stand.Goals as goal
 
 pub loop-question-init : goal.loop-question-init
-loop-question-init c = λ sources paths sees. tt
+loop-question-init c = λ sources paths sees.
+    let asked = c.args.asked.now in
+    All-nil (Stands sources asked.settings.now asked.readings.now asked.reader.now)
 
 pub loop-question-preserved : goal.loop-question-preserved
 loop-question-preserved c = λ sources paths sees.

@@ -1,4 +1,4 @@
-use Rattle.std.proofs.Common.{◌≡◌, None, ap, subst, sym}
+use Rattle.std.proofs.Common.{◌≡◌, ⊎_elim, ap, subst, sym}
 use Rattle.std.specs.Bool.{Decides}
 use Rattle.tup_rule.specs.Question.{noted as kept_as}
 use Rattle.tup_rule.specs.declared.question.Noted.{Noted}
@@ -22,7 +22,7 @@ returns-in-Content-clause-ready c = λ sources paths.
 pub returns-in-Config-clause-stands : goal.returns-in-Config-clause-stands
 returns-in-Config-clause-stands c = λ sources paths sees.
     let asked = c.args.asked.now in
-    stand_alike sources asked.sources.now paths asked.readings.now asked.reader.now asked.settings.now c.args.question.now c.args.noted.now c.is_told.result (subst IsOfPaths (sym c.in-Config.is) tt) c.is_told.ensures.told
+    stand_alike sources asked.sources.now paths asked.readings.now asked.reader.now asked.settings.now c.args.question.now c.args.noted.now c.is_told.result (⊎_elim (λ one. subst IsOfPaths (sym one.1) tt) (⊎_elim (λ one. subst IsOfPaths (sym one.1) tt) (λ one. subst IsOfPaths (sym one.1) tt)) c.in-Config.is) c.is_told.ensures.told
 
 pub returns-in-Config-clause-ready : goal.returns-in-Config-clause-ready
 returns-in-Config-clause-ready c = λ sources paths.
