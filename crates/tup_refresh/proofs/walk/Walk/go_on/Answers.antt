@@ -30,9 +30,10 @@ returns-in_ok-wait-in-Ok-Waits-clause-walk c = λ sources outlined trues is.
     ((rw c.in-Ok-Waits.field-0-is at c.in-Ok-Waits.ensures.found) sources (part_of a.nodes.now sources a.settings.now a.outline.now a.self.now outlined is) has (trues a.dir)) c.in_ok-wait-in-Ok-Waits.ensures.begins
 
 pub returns-in_err-wait-in-Ok-Waits-clause-fault : goal.returns-in_err-wait-in-Ok-Waits-clause-fault
-returns-in_err-wait-in-Ok-Waits-clause-fault c = λ sources outlined trues is.
+returns-in_err-wait-in-Ok-Waits-clause-fault c =
     let a = c.args in
     let p = err_from_is_err_and c.from_residual-in_err-wait-in-Ok-Waits.result c.from_residual-in_err-wait-in-Ok-Waits.ensures.1 in
+    rw (p.1, p.2) (λ sources outlined trues is.
     let has = has_tup a.nodes.now sources a.settings.now a.self.now a.dir is c.requires in
-    rw (p.1, p.2) (walk_closes a.nodes.now sources a.settings.now a.self.now a.dir is c.requires c.in_err-wait-in-Ok-Waits.field-0.0 c.in-Ok-Waits.next
+    walk_closes a.nodes.now sources a.settings.now a.self.now a.dir is c.requires c.in_err-wait-in-Ok-Waits.field-0.0 c.in-Ok-Waits.next
     ((rw c.in-Ok-Waits.field-0-is at c.in-Ok-Waits.ensures.found) sources (part_of a.nodes.now sources a.settings.now a.outline.now a.self.now outlined is) has (trues a.dir)) c.in_err-wait-in-Ok-Waits.ensures.closes)
