@@ -12,7 +12,7 @@ pub returns-in-Content-clause-stands : goal.returns-in-Content-clause-stands
 returns-in-Content-clause-stands c = λ sources paths sees.
     let asked = c.args.asked.now in
     subst (λ (q : Question). Decides c.has_stamp.result (kept_as (answer sources asked.settings.now asked.readings.now asked.reader.now q) ≡ c.args.noted.now)) (sym c.in-Content.is)
-    (subst (λ (given : Noted). Decides c.has_stamp.result (given ≡ c.args.noted.now)) (ap (λ s. noted.Content s) (sees c.in-Content.path.now)) c.has_stamp.ensures)
+    (subst (λ (given : Noted). Decides c.has_stamp.result (given ≡ c.args.noted.now)) (ap (λ s. noted.Content s) (sees c.in-Content.path)) c.has_stamp.ensures)
 
 pub returns-in-Content-clause-ready : goal.returns-in-Content-clause-ready
 returns-in-Content-clause-ready c = λ sources paths.

@@ -25,7 +25,7 @@ returns-in_ok-fetch-in-Some-clause-walk g c = λ tells sources outlined files tr
 
 pub returns-in_err-path-clause-fault : goal.returns-in_err-path-clause-fault
 returns-in_err-path-clause-fault g c =
-    let p = err_from_is_err_and c.from_residual-in_err-path.result c.from_residual-in_err-path.ensures.1 in
+    let p = err_from_is_err_and c.from_residual.result c.from_residual.ensures.1 in
     rw (p.1, p.2) (λ sources outlined trues is. told_on sources c.args.settings.now c.in_err-path.field-0.0 (c.in_err-path.ensures.fault sources outlined trues is))
 
 pub returns-in_err-fetch-in-Some-clause-fault : goal.returns-in_err-fetch-in-Some-clause-fault
