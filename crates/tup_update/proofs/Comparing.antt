@@ -1,5 +1,5 @@
 -- Where two lists of files first differ, and what the clean build is beside which files are looked at.
-use Rattle.std.proofs.Common.{◌≡◌, ◌≢◌, ℕ, ◌<◌, Bool, true, false, cond, bytes_eq, if◌then◌else◌, List, [], ◌∷◌, length, Option, None, Some, Result, Ok, Err, IsTrue, inr, refl, sym, ◌∙◌, ap, subst}
+use Rattle.std.proofs.Common.{◌≡◌, ◌≢◌, ℕ, ◌<◌, Bool, true, false, cond, bytes_eq, if◌then◌else◌, List, [], ◌∷◌, length, Option, None, Some, Result, Ok, Err, IsTrue, inl, inr, refl, sym, ◌∙◌, ap, subst}
 use Rattle.std.specs.Result.{result_err, IsErrAnd}
 use Rattle.std.specs.Ordering.{is_eq, is_lt, eq_by_cmp, match_ordering, ordering_reverse}
 use Rattle.std.specs.declared.cmp.Ordering.{Ordering}
@@ -13,6 +13,7 @@ use Rattle.tup_path.specs.Order.{by_names, same_path, by_names-total, by_names-a
 use Rattle.tup_path.specs.Tree.{Tree}
 use Rattle.tup_path.proofs.Same.{same_path-decides, same_bytes-decides, by_names-decides}
 use Rattle.tup_site.specs.World.{World}
+use Rattle.tup_update.specs.Holding.{Holding, Shows, holding}
 use Rattle.tup_site.specs.declared.fault.SiteFailed.TheVariants.{Fault, TooLarge, Memory}
 use Rattle.tup_rule.specs.declared.rule.Rule.{Rule}
 use Rattle.tup_runner.specs.Next.{Next}
@@ -234,14 +235,20 @@ module _ (next : Next) (rules : List Rule) (sources : Tree) (buildable : IsBuild
 
 -- ---- what a comparison comes to
 
-module _ (next : Next) (w : World) where
+module _ (next : Next) (w : Holding) where
   -- where the sources can't be read, or ask for no rules
-  pub unread_compared : (new : World) (unread : Unread) → HasCause next [] w new (Some (stop_of unread)) → new ≡ w → HasCompared next w (Err (stop_of unread))
-  unread_compared new (Store offset) why same = why
-  unread_compared new (NoRules fault) why same = why
-  unread_compared new (Unlucky Fault) why same = tt
-  unread_compared new (Unlucky (TooLarge n)) why same = subst (λ (world : World). HasFileOf n world.tree) same why
-  unread_compared new (Unlucky Memory) why same = tt
+  pub unread_compared : (new : World) (unread : Unread) → HasCause next [] w new (Some (stop_of unread)) → Shows new w → HasCompared next w (Err (stop_of unread))
+  unread_compared new (Store offset) why shows = why
+  unread_compared new (NoRules fault) why shows = why
+  unread_compared new (Unlucky Fault) why shows = tt
+  unread_compared new (Unlucky (TooLarge n)) why shows = subst (HasFileOf n) (sym shows.tree) why
+  unread_compared new (Unlucky Memory) why shows = tt
+
+  -- then nothing was run
+  pub unread_runs : (ran : List (Names × List ℕ)) (unread : Unread) → RunsToCompare next w ran ran (Some (stop_of unread))
+  unread_runs ran (Store offset) = refl
+  unread_runs ran (NoRules fault) = refl
+  unread_runs ran (Unlucky failed) = inl refl
 
   pub built_err : (result : Result Entries Stop) (stop : Stop) → IsErrAnd result (λ e. e ≡ stop) → HasCompared next w (Err stop) → HasBuilt next w result
   built_err (Ok files) stop is has = absurd is

@@ -9,7 +9,6 @@ use Rattle.tup_rule.specs.Rule.{among}
 use Rattle.tup_owned.specs.Owned.{owned_of}
 use Rattle.tup_update.specs.Sources.{files_beside}
 use Rattle.tup_update.proofs.Beside.{left_is}
-use Rattle.tup_update.proofs.Known.{sources_are as sources_of}
 use Rattle.tup_update.proofs.Reading.{sources_are}
 use Rattle.tup_update.specs.SeeingLaws.{rests_on}
 use Rattle.tup_update.proofs.found.Found.read.Goals as goal
@@ -30,7 +29,7 @@ returns-clause-found g c = λ tells.
       owned = owns;
       files = c.in_ok-owned_files.ensures.inside ∙ (λ i. filter (λ path. inside path i) (files i));
       few = rw (sym files) (rw c.as_slice-2.ensures c.in_ok-few.ensures.few);
-      sources = content ∙ ap (λ (t : Tree). finite.entries t) (sym (sources_of old owned owns));
+      sources = content;
     }
 
 pub returns-in_err-files-clause-crash : goal.returns-in_err-files-clause-crash
