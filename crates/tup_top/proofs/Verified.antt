@@ -79,13 +79,13 @@ all_is_front all old new ran = (all, [], append-nil all, ran)
 
 -- whatever it came to, a front of the commands of the clean build was run, or nothing
 pub untold_compared : (next : Next) (w : World) (old new : List (Names × List ℕ)) (stopped : Option Stop) → RunsToCompare next w old new stopped → RunsToCompare next w old new (Some (Outside NoMemory))
-untold_compared next w old new None runs = inr (record { rules = runs.rules; asked = runs.asked; ran = all_is_front _ old new runs.ran })
+untold_compared next w old new None runs = inr (record { held = runs.held; shows = runs.shows; rules = runs.rules; asked = runs.asked; ran = all_is_front _ old new runs.ran })
 untold_compared next w old new (Some (StoreDamaged offset)) same = inl same
 untold_compared next w old new (Some (Sources fault)) same = inl same
-untold_compared next w old new (Some (Bad name verdict)) runs = inr (record { rules = runs.rules; asked = runs.asked; ran = all_is_front _ old new runs.ran })
-untold_compared next w old new (Some Run) runs = inr (record { rules = runs.rules; asked = runs.asked; ran = runs.ran })
+untold_compared next w old new (Some (Bad name verdict)) runs = inr (record { held = runs.held; shows = runs.shows; rules = runs.rules; asked = runs.asked; ran = all_is_front _ old new runs.ran })
+untold_compared next w old new (Some Run) runs = inr (record { held = runs.held; shows = runs.shows; rules = runs.rules; asked = runs.asked; ran = runs.ran })
 untold_compared next w old new (Some (Outside failed)) (inl same) = inl same
-untold_compared next w old new (Some (Outside failed)) (inr runs) = inr (record { rules = runs.rules; asked = runs.asked; ran = runs.ran })
+untold_compared next w old new (Some (Outside failed)) (inr runs) = inr (record { held = runs.held; shows = runs.shows; rules = runs.rules; asked = runs.asked; ran = runs.ran })
 
 -- ---- counts
 

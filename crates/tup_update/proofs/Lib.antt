@@ -13,6 +13,7 @@ pub mod Known
 pub mod Settling
 pub mod Crashing
 pub mod Behind
+pub mod Held
 pub mod Ending
 pub mod Keeping
 pub mod Comparing

@@ -6,6 +6,7 @@ use Rattle.std.specs.declared.cmp.Ordering.TheVariants.{Less}
 use Rattle.tup_path.specs.Name.{Names, Content}
 use Rattle.tup_path.specs.Order.{by_names, same_path}
 use Rattle.tup_path.specs.Tree.{Tree}
+use Rattle.tup_site.specs.World.{World}
 use Rattle.tup_site.specs.declared.fault.SiteFailed.TheVariants.{Fault, TooLarge, Memory}
 use Rattle.tup_rule.specs.declared.rule.Rule.{Rule}
 use Rattle.tup_rule.specs.declared.rule.RuleName.{RuleName}
@@ -15,13 +16,14 @@ use Rattle.tup_runner.specs.Next.{Next}
 use Rattle.tup_clean.specs.Buildable.{IsBuildable}
 use Rattle.tup_clean.specs.Clean.{Build, is_good, succeeds}
 use Rattle.tup_clean.specs.Ran.{commands, RunsFront}
-use Rattle.tup_update.specs.Holding.{Holding}
+use Rattle.tup_owned.specs.Owned.{owned_of}
+use Rattle.tup_update.specs.Holding.{Holding, Shows}
 use Rattle.tup_update.specs.declared.compare.Compared.{Compared}
 use Rattle.tup_update.specs.declared.compare.Compared.TheVariants.{Same, Differs}
 use Rattle.tup_update.specs.declared.stop.Stop.{Stop}
 use Rattle.tup_update.specs.declared.stop.Stop.TheVariants.{BadStore, Sources, Bad, Run, Outside}
 use Rattle.tup_update.specs.Parts.{HasFileOf}
-use Rattle.tup_update.specs.Sources.{AsksFor, Refuses, build, sources}
+use Rattle.tup_update.specs.Sources.{AsksFor, IsRefused, build, sources}
 
 -- two trees differ at a path, and at none before it
 pub record DifferFirstAt (one other : Tree) (path : Names) : Type 0 where
@@ -43,41 +45,47 @@ pub record IsFirstNotGood (rules : List Rule) (verdicts : List (Option Verdict))
   pub bad : is_good (Some verdict) ≡ false
   pub before : (place : ℕ) (other : Verdict) → place < at → slice_get verdicts place ≡ Some (Some other) → IsTrue (is_good (Some other))
 
--- the clean build of rules that succeeds compares so with the files that are held
-pub record BuildsAlike (next : Next) (held : Holding) (compared : Compared) : Type 0 where
+-- the clean build of rules that succeeds compares so with the files of a world
+pub record BuildsAlike (next : Next) (w : World) (compared : Compared) : Type 0 where
+  pub held : Holding
+  pub shows : Shows w held
   pub rules : List Rule
   pub asked : AsksFor held rules
   pub clean : IsTrue (succeeds (build next rules held))
   pub alike : AreCompared held.tree (build next rules held).tree compared
 
 -- this is the first rule that isn't Good in the clean build
-pub record BuildsBadly (next : Next) (held : Holding) (name : RuleName) (verdict : Verdict) : Type 0 where
+pub record BuildsBadly (next : Next) (w : World) (name : RuleName) (verdict : Verdict) : Type 0 where
+  pub held : Holding
+  pub shows : Shows w held
   pub rules : List Rule
   pub asked : AsksFor held rules
   pub first : IsFirstNotGood rules (build next rules held).verdicts name verdict
 
--- how the files that are held compare with a clean build, or why they can't be compared; the store reads
-abbrev pub HasCompared : Next → Holding → Result Compared Stop → Type 0
-HasCompared next held (Ok compared) = BuildsAlike next held compared
-HasCompared next held (Err (Bad name verdict)) = BuildsBadly next held name verdict
-HasCompared next held (Err (BadStore offset)) = ⊥
-HasCompared next held (Err (Sources fault)) = Refuses held fault
-HasCompared next held (Err Run) = ⊤
-HasCompared next held (Err (Outside (TooLarge n))) = HasFileOf n held.tree
-HasCompared next held (Err (Outside Fault)) = ⊤
-HasCompared next held (Err (Outside Memory)) = ⊤
+-- how the files of a world compare with a clean build, or why they can't be compared
+abbrev pub HasCompared : Next → World → Result Compared Stop → Type 0
+HasCompared next w (Ok compared) = BuildsAlike next w compared
+HasCompared next w (Err (Bad name verdict)) = BuildsBadly next w name verdict
+HasCompared next w (Err (BadStore offset)) = owned_of w.store ≡ Err offset
+HasCompared next w (Err (Sources fault)) = IsRefused w fault
+HasCompared next w (Err Run) = ⊤
+HasCompared next w (Err (Outside (TooLarge n))) = HasFileOf n w.tree
+HasCompared next w (Err (Outside Fault)) = ⊤
+HasCompared next w (Err (Outside Memory)) = ⊤
 
 -- a clean build that succeeds, with its files, or why there is none
-pub record BuildsWell (next : Next) (held : Holding) (files : List (Names × Content)) : Type 0 where
+pub record BuildsWell (next : Next) (w : World) (files : List (Names × Content)) : Type 0 where
+  pub held : Holding
+  pub shows : Shows w held
   pub rules : List Rule
   pub asked : AsksFor held rules
   pub buildable : IsBuildable (sources held) rules
   pub clean : IsTrue (succeeds (build next rules held))
   pub are : files ≡ finite.entries (build next rules held).tree
 
-abbrev pub HasBuilt : Next → Holding → Result (List (Names × Content)) Stop → Type 0
-HasBuilt next held (Ok files) = BuildsWell next held files
-HasBuilt next held (Err stop) = HasCompared next held (Err stop)
+abbrev pub HasBuilt : Next → World → Result (List (Names × Content)) Stop → Type 0
+HasBuilt next w (Ok files) = BuildsWell next w files
+HasBuilt next w (Err stop) = HasCompared next w (Err stop)
 
 -- ---- what was run
 
@@ -88,19 +96,21 @@ RunsBuildOf commands old new (Some (Bad name verdict)) = new ≡ old ++ commands
 RunsBuildOf commands old new (Some stop) = RunsFront commands old new
 
 -- the commands of the clean build of the sources were run so
-pub record RunsIt (next : Next) (held : Holding) (old new : List (Names × List ℕ)) (stopped : Option Stop) : Type 0 where
+pub record RunsIt (next : Next) (w : World) (old new : List (Names × List ℕ)) (stopped : Option Stop) : Type 0 where
+  pub held : Holding
+  pub shows : Shows w held
   pub rules : List Rule
   pub asked : AsksFor held rules
   pub ran : RunsBuildOf (commands next rules (sources held)) old new stopped
 
 -- what was run for a comparison: nothing where there are no rules
-abbrev pub RunsToCompare : Next → Holding → List (Names × List ℕ) → List (Names × List ℕ) → Option Stop → Type 0
-RunsToCompare next held old new None = RunsIt next held old new None
-RunsToCompare next held old new (Some (BadStore offset)) = new ≡ old
-RunsToCompare next held old new (Some (Sources fault)) = new ≡ old
-RunsToCompare next held old new (Some (Bad name verdict)) = RunsIt next held old new (Some (Bad name verdict))
-RunsToCompare next held old new (Some Run) = RunsIt next held old new (Some Run)
-RunsToCompare next held old new (Some (Outside failed)) = (new ≡ old) ⊎ RunsIt next held old new (Some (Outside failed))
+abbrev pub RunsToCompare : Next → World → List (Names × List ℕ) → List (Names × List ℕ) → Option Stop → Type 0
+RunsToCompare next w old new None = RunsIt next w old new None
+RunsToCompare next w old new (Some (BadStore offset)) = new ≡ old
+RunsToCompare next w old new (Some (Sources fault)) = new ≡ old
+RunsToCompare next w old new (Some (Bad name verdict)) = RunsIt next w old new (Some (Bad name verdict))
+RunsToCompare next w old new (Some Run) = RunsIt next w old new (Some Run)
+RunsToCompare next w old new (Some (Outside failed)) = (new ≡ old) ⊎ RunsIt next w old new (Some (Outside failed))
 
 -- ---- the verdicts of a build
 

@@ -22,6 +22,6 @@ pub record Shows (w : World) (held : Holding) : Type 0 where
 abbrev pub holding : World → List Names → Holding
 holding w paths = record { tree = w.tree; owned = paths }
 
--- a promise of what a world holds, if its store reads
+-- a promise of what a world holds, wherever its store reads
 abbrev pub OfHeld : World → (Holding → Type 0) → Type 0
 OfHeld w promise = (held : Holding) → Shows w held → promise held

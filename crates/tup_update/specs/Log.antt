@@ -5,7 +5,7 @@ use Rattle.tup_site.specs.World.{World}
 use Rattle.tup_update.specs.Holding.{Holding, OfHeld}
 use Rattle.tup_rule.specs.declared.rule.Rule.{Rule}
 use Rattle.tup_runner.specs.Next.{Next}
-use Rattle.tup_update.specs.Sources.{AsksFor, ends, folders_read, vanished}
+use Rattle.tup_update.specs.Sources.{IsAsked, ends, folders_read, vanished}
 use Rattle.tup_update.specs.Turns.{names_of}
 use Rattle.tup_update.specs.declared.update.Log.{Log}
 use Rattle.tup_update.specs.declared.stop.Stop.{Stop}
@@ -34,17 +34,17 @@ with_read folders log = record { read = folders; removed = log.removed; ran = lo
 -- ---- which rules were found
 
 -- the rules are those of the sources wherever they are used; where reading stops there may be none
-abbrev pub RulesFit : Holding → List Rule → Option Stop → Type 0
-RulesFit old rules None = AsksFor old rules
-RulesFit old rules (Some (Bad name verdict)) = AsksFor old rules
+abbrev pub RulesFit : World → List Rule → Option Stop → Type 0
+RulesFit old rules None = IsAsked old rules
+RulesFit old rules (Some (Bad name verdict)) = IsAsked old rules
 RulesFit old rules (Some (BadStore offset)) = rules ≡ []
 RulesFit old rules (Some (Sources fault)) = rules ≡ []
-RulesFit old rules (Some Run) = AsksFor old rules
-RulesFit old rules (Some (Outside failed)) = (rules ≡ []) ⊎ AsksFor old rules
+RulesFit old rules (Some Run) = IsAsked old rules
+RulesFit old rules (Some (Outside failed)) = (rules ≡ []) ⊎ IsAsked old rules
 
--- a promise of an update, of what the world before it held, and of the rules that it found there
-abbrev pub OfRules : World → (Holding → List Rule → Option Stop → Type 0) → Option Stop → Type 0
-OfRules w promise stopped = OfHeld w (λ old. (rules : List Rule) × RulesFit old rules stopped × promise old rules stopped)
+-- a promise of an update and of the rules that it found
+abbrev pub OfRules : World → (List Rule → Option Stop → Type 0) → Option Stop → Type 0
+OfRules old promise stopped = (rules : List Rule) × RulesFit old rules stopped × promise rules stopped
 
 -- ---- what the log tells
 
@@ -65,10 +65,10 @@ pub record IsPartOf (log whole : Log) : Type 0 where
   pub ended : IsFront log.ended whole.ended
 
 -- the log says what was done: all of it after an end or a bad rule, nothing where the sources couldn't be read
-abbrev pub LogFits : Next → List Rule → Holding → Log → Option Stop → Type 0
-LogFits next rules old log None = log ≡ whole_log next rules old
-LogFits next rules old log (Some (Bad name verdict)) = log ≡ whole_log next rules old
+abbrev pub LogFits : Next → List Rule → World → Log → Option Stop → Type 0
+LogFits next rules old log None = OfHeld old (λ held. log ≡ whole_log next rules held)
+LogFits next rules old log (Some (Bad name verdict)) = OfHeld old (λ held. log ≡ whole_log next rules held)
 LogFits next rules old log (Some (BadStore offset)) = IsEmptyLog log
 LogFits next rules old log (Some (Sources fault)) = IsEmptyLog log
-LogFits next rules old log (Some Run) = IsPartOf log (whole_log next rules old)
-LogFits next rules old log (Some (Outside failed)) = IsEmptyLog log ⊎ (AsksFor old rules × IsPartOf log (whole_log next rules old))
+LogFits next rules old log (Some Run) = OfHeld old (λ held. IsPartOf log (whole_log next rules held))
+LogFits next rules old log (Some (Outside failed)) = IsEmptyLog log ⊎ (IsAsked old rules × OfHeld old (λ held. IsPartOf log (whole_log next rules held)))

@@ -1,6 +1,6 @@
--- What an update promises, each promise a word and a table: what the site held before, the site after, the rules that it
--- found, and why it stopped before its end, if it did.
-use Rattle.std.specs.Prelude.{◌≡◌, ◌⊎◌, ◌++◌, ◌<◌, ⊤, ⊥, ℕ, Bool, true, false, List, [], Option, None, Some, IsSome, IsTrue, Ok, Err}
+-- What an update promises, each promise a word and a table: the site before, the site after, the rules that it found, and why
+-- it stopped before its end, if it did.
+use Rattle.std.specs.Prelude.{◌≡◌, ◌⊎◌, ◌++◌, ◌<◌, ⊤, ℕ, Bool, true, false, List, Option, None, Some, IsSome, IsTrue, Ok, Err}
 use Rattle.std.specs.FinMap as finite
 use Rattle.tup_path.specs.Count.{Rose}
 use Rattle.tup_path.specs.Name.{Names}
@@ -14,13 +14,13 @@ use Rattle.tup_access.specs.declared.verdict.Verdict.{Verdict}
 use Rattle.tup_clean.specs.Clean.{succeeds, is_good}
 use Rattle.tup_owned.specs.Ascending.{ascending}
 use Rattle.tup_owned.specs.Owned.{owned_of}
-use Rattle.tup_update.specs.Holding.{Holding, Lists, Shows, holding}
+use Rattle.tup_update.specs.Holding.{Holding, Lists, OfHeld, holding}
 use Rattle.tup_update.specs.declared.update.Log.{Log}
 use Rattle.tup_update.specs.declared.stop.Stop.{Stop}
 use Rattle.tup_update.specs.declared.stop.Stop.TheVariants.{BadStore, Sources, Bad, Run, Outside}
-use Rattle.tup_update.specs.Log.{IsEmptyLog, LogFits, RulesFit}
+use Rattle.tup_update.specs.Log.{LogFits, RulesFit}
 use Rattle.tup_update.specs.Parts.{HasFileOf, IsBuilt, IsFirstBad}
-use Rattle.tup_update.specs.Sources.{sources, files_beside, AsksFor, Refuses, PassesLimit, build, ends, outputs, vanished, is_made_in_turn}
+use Rattle.tup_update.specs.Sources.{sources, files_beside, IsAsked, IsRefused, PassesLimit, build, ends, outputs, vanished, is_made_in_turn}
 use Rattle.tup_update.specs.Turns.{TurnsFit}
 
 -- the files are those of the clean build, which succeeds, and the store lists just the outputs
@@ -30,8 +30,8 @@ pub record IsMade (next : Next) (rules : List Rule) (old : Holding) (new : World
   pub listed : Lists new.store (ascending (outputs rules))
 
 -- an update that came to its end has made exactly the files
-abbrev pub ExactlyTheFiles : Next → List Rule → Holding → World → Option Stop → Type 0
-ExactlyTheFiles next rules old new None = IsMade next rules old new
+abbrev pub ExactlyTheFiles : Next → List Rule → World → World → Option Stop → Type 0
+ExactlyTheFiles next rules old new None = OfHeld old (λ held. IsMade next rules held new)
 ExactlyTheFiles next rules old new (Some stop) = ⊤
 
 -- Behind a bad rule the rules that ran before it have their files as the clean build gives them, the files of vanished rules
@@ -42,41 +42,25 @@ pub record IsBehindBad (next : Next) (rules : List Rule) (old : Holding) (new : 
   pub others : (path : Names) → is_made_in_turn next rules (sources old) path ≡ false → among path (vanished rules old) ≡ false → finite.get new.tree path ≡ finite.get old.tree path
 
 -- an update that a bad rule stopped has made what ran before it, and nothing else
-abbrev pub MadeBeforeBad : Next → List Rule → Holding → World → Option Stop → Type 0
+abbrev pub MadeBeforeBad : Next → List Rule → World → World → Option Stop → Type 0
 MadeBeforeBad next rules old new None = ⊤
-MadeBeforeBad next rules old new (Some (Bad name verdict)) = IsBehindBad next rules old new
+MadeBeforeBad next rules old new (Some (Bad name verdict)) = OfHeld old (λ held. IsBehindBad next rules held new)
 MadeBeforeBad next rules old new (Some stop) = ⊤
 
 -- every file that was a source is what it was
-abbrev pub SourcesStay : Holding → World → Type 0
-SourcesStay old new = (path : Names) → IsSome (finite.get (sources old) path) → finite.get new.tree path ≡ finite.get (sources old) path
+abbrev pub SourcesStay : World → World → Type 0
+SourcesStay old new =
+    OfHeld old (λ held. (path : Names) → IsSome (finite.get (sources held) path) → finite.get new.tree path ≡ finite.get (sources held) path)
 
 -- a rule that isn't Good, the first that is run and isn't, and its verdict in the clean build
 abbrev pub IsBadRule : Next → List Rule → Holding → RuleName → Verdict → Type 0
 IsBadRule next rules old name verdict = IsFirstBad rules (ends next rules old) (build next rules old) name verdict
 
--- the store of a world reads
-abbrev pub HoldsSomething : World → Type 0
-HoldsSomething w = (held : Holding) × Shows w held
-
--- What the store of a world says of it: it is damaged just there, and nothing was done, or it reads. Where the outside stops
--- it before that is known nothing was done.
-abbrev pub StoreFits : World → Type 0 → Option Stop → Type 0
-StoreFits w undone (Some (BadStore offset)) = (owned_of w.store ≡ Err offset) × undone
-StoreFits w undone (Some (Outside failed)) = HoldsSomething w ⊎ undone
-StoreFits w undone stopped = HoldsSomething w
-
--- an update that did nothing: there are no rules, and nothing to tell
-pub record IsUndone (old new : World) (rules : List Rule) (log : Log) : Type 0 where
-  pub same : new ≡ old
-  pub unread : rules ≡ []
-  pub empty : IsEmptyLog log
-
--- why an update stops that could read the store, where the site tells
-abbrev pub HasCause : Next → List Rule → Holding → World → Option Stop → Type 0
-HasCause next rules old new (Some (BadStore offset)) = ⊥
-HasCause next rules old new (Some (Sources fault)) = Refuses old fault
-HasCause next rules old new (Some (Bad name verdict)) = IsBadRule next rules old name verdict
+-- why an update stops, where the site tells
+abbrev pub HasCause : Next → List Rule → World → World → Option Stop → Type 0
+HasCause next rules old new (Some (BadStore offset)) = owned_of old.store ≡ Err offset
+HasCause next rules old new (Some (Sources fault)) = IsRefused old fault
+HasCause next rules old new (Some (Bad name verdict)) = OfHeld old (λ held. IsBadRule next rules held name verdict)
 HasCause next rules old new (Some Run) = ⊤
 HasCause next rules old new (Some (Outside (TooLarge n))) = HasFileOf n new.tree
 HasCause next rules old new (Some (Outside SiteFault)) = ⊤
@@ -109,6 +93,13 @@ pub record IsListed (paths : List Names) (old : Holding) (new : World) : Type 0 
   pub listed : Lists new.store paths
   pub same : sources (holding new paths) ≡ sources old
 
+-- the same of all that was claimed, and of the outputs alone
+abbrev pub ClaimedListed : List Rule → World → World → Type 0
+ClaimedListed rules old new = OfHeld old (λ held. IsListed (claimed rules held) held new)
+
+abbrev pub OutputsListed : List Rule → World → World → Type 0
+OutputsListed rules old new = OfHeld old (λ held. IsListed (ascending (outputs rules)) held new)
+
 -- all was made, whatever the store lists: beside the outputs the tree has the sources of before, and the outputs are those
 -- of the clean build, where the runner tells
 pub record AllIsMade (tells : Bool) (next : Next) (rules : List Rule) (old : Holding) (new : World) : Type 0 where
@@ -117,32 +108,32 @@ pub record AllIsMade (tells : Bool) (next : Next) (rules : List Rule) (old : Hol
 
 -- what is left where the outside stops an update whose rules were read: all that was claimed is listed. Only a writing of
 -- the store that failed half way may leave a store that lists anything; then no file was touched yet, or all were made.
-abbrev pub IsLeft : Bool → Next → List Rule → Holding → World → Type 0
+abbrev pub IsLeft : Bool → Next → List Rule → World → World → Type 0
 IsLeft tells next rules old new =
-    AsksFor old rules × (IsListed (claimed rules old) old new ⊎ (new.tree ≡ old.tree) ⊎ AllIsMade tells next rules old new)
+    IsAsked old rules × (ClaimedListed rules old new ⊎ (new.tree ≡ old.tree) ⊎ OfHeld old (λ held. AllIsMade tells next rules held new))
 
--- Nothing is forgotten, wherever an update stops: what wasn't a source before is owned by the next update too. Where the
--- sources couldn't be read, nothing was changed. The store of a site that holds something reads.
-abbrev pub NothingForgotten : Bool → Next → List Rule → Holding → World → Option Stop → Type 0
-NothingForgotten tells next rules old new None = IsListed (ascending (outputs rules)) old new
-NothingForgotten tells next rules old new (Some (BadStore offset)) = ⊥
-NothingForgotten tells next rules old new (Some (Sources fault)) = Shows new old
-NothingForgotten tells next rules old new (Some (Bad name verdict)) = IsListed (claimed rules old) old new
-NothingForgotten tells next rules old new (Some Run) = IsListed (claimed rules old) old new
-NothingForgotten tells next rules old new (Some (Outside (TooLarge n))) = Shows new old ⊎ (AsksFor old rules × IsListed (claimed rules old) old new)
-NothingForgotten tells next rules old new (Some (Outside SiteFault)) = Shows new old ⊎ IsLeft tells next rules old new
-NothingForgotten tells next rules old new (Some (Outside Memory)) = Shows new old ⊎ IsLeft tells next rules old new
+-- nothing is forgotten, wherever an update stops: what wasn't a source before is owned by the next update too. Where the
+-- store or the sources couldn't be read, nothing was changed.
+abbrev pub NothingForgotten : Bool → Next → List Rule → World → World → Option Stop → Type 0
+NothingForgotten tells next rules old new None = OutputsListed rules old new
+NothingForgotten tells next rules old new (Some (BadStore offset)) = new ≡ old
+NothingForgotten tells next rules old new (Some (Sources fault)) = new ≡ old
+NothingForgotten tells next rules old new (Some (Bad name verdict)) = ClaimedListed rules old new
+NothingForgotten tells next rules old new (Some Run) = ClaimedListed rules old new
+NothingForgotten tells next rules old new (Some (Outside (TooLarge n))) = (new ≡ old) ⊎ (IsAsked old rules × ClaimedListed rules old new)
+NothingForgotten tells next rules old new (Some (Outside SiteFault)) = (new ≡ old) ⊎ IsLeft tells next rules old new
+NothingForgotten tells next rules old new (Some (Outside Memory)) = (new ≡ old) ⊎ IsLeft tells next rules old new
 
 -- what an update promises where the site tells, whatever its runner does; with the rules that it found, and the log that it
 -- tells of itself
-pub record Stays (tells : Bool) (next : Next) (rules : List Rule) (old : Holding) (new : World) (log : Log) (stopped : Option Stop) : Type 0 where
+pub record Stays (tells : Bool) (next : Next) (rules : List Rule) (old new : World) (log : Log) (stopped : Option Stop) : Type 0 where
   pub sources_stay : SourcesStay old new
   pub rules_fit : RulesFit old rules stopped
   pub nothing_forgotten : NothingForgotten tells next rules old new stopped
   pub turns_fit : TurnsFit rules log.ran log.ended stopped
 
 -- all that it promises where the runner tells what it means too
-pub record Keeps (next : Next) (rules : List Rule) (old : Holding) (new : World) (log : Log) (stopped : Option Stop) : Type 0 where
+pub record Keeps (next : Next) (rules : List Rule) (old new : World) (log : Log) (stopped : Option Stop) : Type 0 where
   pub exactly_the_files : ExactlyTheFiles next rules old new stopped
   pub made_before_bad : MadeBeforeBad next rules old new stopped
   pub cause : HasCause next rules old new stopped

@@ -19,9 +19,9 @@ use Rattle.tup_clean.specs.Buildable.{IsBuildable}
 use Rattle.tup_clean.specs.Clean.{Build, clean, is_good, succeeds, with_files}
 use Rattle.tup_clean.specs.Taken.{Taken, takes, up_to_bad, verdicts_of}
 use Rattle.tup_owned.specs.Owned.{owned_of}
-use Rattle.tup_update.specs.Holding.{Holding, Lists, Shows, holding}
+use Rattle.tup_update.specs.Holding.{Holding, Lists, holding}
 use Rattle.tup_update.specs.Log.{IsFront}
-use Rattle.tup_update.specs.Sources.{AsksFor, Refuses, PassesLimit, sources, files_beside, folder_of_tupfile, folders_read, is_made, is_made_in_turn}
+use Rattle.tup_update.specs.Sources.{AsksFor, IsRefused, Refuses, PassesLimit, sources, files_beside, folder_of_tupfile, folders_read, is_made, is_made_in_turn}
 use Rattle.tup_update.specs.Turns.{names_of, EndsBadly}
 use Rattle.tup_update.specs.declared.fault.SourcesFault.TheVariants.{TooManyFiles}
 use Rattle.tup_update.specs.declared.found.Found.{Found}
@@ -55,7 +55,7 @@ HasFileOf n tree = (path : Names) × IsTooLarge tree path n
 -- why a project couldn't be read: the store is damaged just there, or the sources ask for no rules, or a file is too large
 abbrev pub IsUnread : World → Unread → Type 0
 IsUnread w (Store offset) = owned_of w.store ≡ Err offset
-IsUnread w (NoRules fault) = (held : Holding) × Shows w held × Refuses held fault
+IsUnread w (NoRules fault) = IsRefused w fault
 IsUnread w (Outside (TooLarge n)) = HasFileOf n w.tree
 IsUnread w (Outside Fault) = ⊤
 IsUnread w (Outside Memory) = ⊤

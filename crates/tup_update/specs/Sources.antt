@@ -15,7 +15,8 @@ use Rattle.tup_whole.specs.Project.{ComeTo}
 use Rattle.tup_whole.specs.declared.fault.ProjectFault.{ProjectFault}
 use Rattle.tup_whole.specs.declared.fault.ProjectFault.TheVariants as project
 use Rattle.tup_owned.specs.Ascending.{ascending}
-use Rattle.tup_update.specs.Holding.{Holding}
+use Rattle.tup_site.specs.World.{World}
+use Rattle.tup_update.specs.Holding.{Holding, Shows}
 use Rattle.tup_update.specs.declared.fault.SourcesFault.{SourcesFault}
 use Rattle.tup_update.specs.declared.fault.SourcesFault.TheVariants.{TooManyFiles, Parse, CircularDirs, TooManyCommands, NoSuchGroup, TooManyLinks, CircularCommands}
 
@@ -41,6 +42,10 @@ pub record HasTooMany (held : Holding) (number : ℕ) : Type 0 where
 abbrev pub AsksFor : Holding → List Rule → Type 0
 AsksFor held rules = ReadAs held (Ok rules)
 
+-- the store of a world reads, and its sources ask for these rules
+abbrev pub IsAsked : World → List Rule → Type 0
+IsAsked w rules = (held : Holding) × Shows w held × AsksFor held rules
+
 -- the present sources ask for no rules, for this fault
 abbrev pub Refuses : Holding → SourcesFault → Type 0
 Refuses held (TooManyFiles number) = HasTooMany held number
@@ -50,6 +55,10 @@ Refuses held (TooManyCommands number) = ReadAs held (Err (project.TooMany Comman
 Refuses held (NoSuchGroup group) = ReadAs held (Err (project.NoSuchGroup group))
 Refuses held (TooManyLinks number) = ReadAs held (Err (project.TooMany Links number))
 Refuses held (CircularCommands names) = ReadAs held (Err (project.CircularCommands names))
+
+-- the store of a world reads, and its sources ask for no rules, for this fault
+abbrev pub IsRefused : World → SourcesFault → Type 0
+IsRefused w fault = (held : Holding) × Shows w held × Refuses held fault
 
 -- a limit is passed only by what is more than it
 abbrev pub PassesLimit : SourcesFault → Type 0

@@ -8,7 +8,6 @@ ghost use Rattle.tup_access.specs.Generated.{IsGenerated};
 ghost use Rattle.tup_clean.specs.Clean.{is_good};
 ghost use Rattle.tup_owned.specs.Owned.{spelling};
 ghost use Rattle.tup_owned.specs.Ascending.{ascending};
-ghost use Rattle.tup_update.specs.Holding.{holding};
 ghost use Rattle.tup_update.specs.Images.{FilesStep, ListedStep, MakesStep, SettledStep};
 ghost use Rattle.tup_update.specs.Log.{IsGrownByFront, IsUnused, with_read};
 ghost use Rattle.tup_update.specs.Outcome.{Keeps, Stays, HasCountedCause, HasRunCause};
@@ -106,12 +105,11 @@ impl Project {
         requires project { IsTrue S.tells → IsProject self.now (S.world site.old) }
         requires unused { IsUnused log.old }
         ensures stays { IsTrue S.tells → let told = with_read self.now.read log.new in
-            let old = holding (S.world site.old) self.now.owned in
-            Stays R.tells R.next self.now.rules old (S.world site.new) told (result_err result) }
-        ensures kept { IsTrue S.tells → IsTrue R.tells
-            → let told = with_read self.now.read log.new in
-            let old = holding (S.world site.old) self.now.owned in
-            Keeps R.next self.now.rules old (S.world site.new) told (result_err result) }
+            Stays R.tells R.next
+            self.now.rules (S.world site.old) (S.world site.new) told (result_err result) }
+        ensures kept { IsTrue S.tells → IsTrue R.tells → let told = with_read self.now.read log.new in
+            Keeps R.next
+            self.now.rules (S.world site.old) (S.world site.new) told (result_err result) }
         ensures settled { IsTrue S.tells → let left = S.left_since site.new (S.moment site.new) in
             IsSettled left (S.world site.new) (result_err result) }
         ensures crash { IsTrue S.tells → GoesOn S.moment S.left_since site.old site.new

@@ -1,5 +1,5 @@
 //! The files of a site beside a clean build of its sources.
-ghost use Rattle.std.specs.Prelude.{◌≡◌, ◌≢◌, ℕ, IsTrue, Err, IfOk};
+ghost use Rattle.std.specs.Prelude.{◌≡◌, ℕ, IsTrue, IfOk};
 ghost use Rattle.std.specs.FinMap as finite;
 ghost use Rattle.std.specs.Option.{option_copied};
 ghost use Rattle.std.specs.Result.{result_err};
@@ -9,10 +9,8 @@ ghost use Rattle.tup_site.specs.Crash.{GoesOn, NoStep};
 ghost use Rattle.tup_clean.specs.Clean.{clean};
 ghost use Rattle.tup_clean.specs.Ran.{commands};
 ghost use Rattle.tup_update.specs.Compared as specs;
-ghost use Rattle.tup_update.specs.Compared.{HasCompared, HasBuilt, IsGoodBuild, FindsNotGood};
-ghost use Rattle.tup_update.specs.Compared.{RunsToCompare, RunsBuildOf, compared_at};
-ghost use Rattle.tup_update.specs.Holding.{OfHeld};
-ghost use Rattle.tup_update.specs.Outcome.{HasCountedCause, HasRunCause, StoreFits};
+ghost use Rattle.tup_update.specs.Compared.{HasCompared, HasBuilt, IsGoodBuild, FindsNotGood, RunsToCompare, RunsBuildOf, compared_at};
+ghost use Rattle.tup_update.specs.Outcome.{HasCountedCause, HasRunCause};
 ghost use Rattle.tup_update.specs.Parts.{NamesALargeFile};
 
 use crate::found::{Found, contents};
@@ -45,15 +43,12 @@ pub fn compare_site<S: Site, R: Runner>(
     runner: &mut R,
 ) -> Result<Compared, Stop>
     ensures compared { IsTrue S.tells → IsTrue R.tells
-        → OfHeld (S.world site.old) (λ held. HasCompared R.next held result) }
-    ensures store { IsTrue S.tells
-        → let unrun = IsTrue R.tells_ran → R.ran runner.new ≡ R.ran runner.old in
-        StoreFits (S.world site.old) unrun (result_err result) }
+        → HasCompared R.next (S.world site.old) result }
     ensures same { IsTrue S.tells → S.world site.new ≡ S.world site.old }
     ensures crash { IsTrue S.tells → GoesOn S.moment S.left_since site.old site.new NoStep }
     ensures ran { IsTrue S.tells → IsTrue R.tells → IsTrue R.tells_ran
-        → OfHeld (S.world site.old) (λ held.
-        RunsToCompare R.next held (R.ran runner.old) (R.ran runner.new) (result_err result)) }
+        → RunsToCompare R.next (S.world site.old) (R.ran runner.old) (R.ran runner.new)
+        (result_err result) }
     ensures counted_cause { HasCountedCause (S.faults site.old) (S.faults site.new)
         (result_err result) }
     ensures run_cause { HasRunCause (R.faults runner.old) (R.faults runner.new)
@@ -71,15 +66,12 @@ fn clean_files<S: Site, R: Runner>(
     runner: &mut R,
 ) -> Result<Files, Stop>
     ensures clean { IsTrue S.tells → IsTrue R.tells
-        → OfHeld (S.world site.old) (λ held. HasBuilt R.next held result) }
-    ensures store { IsTrue S.tells
-        → let unrun = IsTrue R.tells_ran → R.ran runner.new ≡ R.ran runner.old in
-        StoreFits (S.world site.old) unrun (result_err result) }
+        → HasBuilt R.next (S.world site.old) result }
     ensures same { IsTrue S.tells → S.world site.new ≡ S.world site.old }
     ensures crash { IsTrue S.tells → GoesOn S.moment S.left_since site.old site.new NoStep }
     ensures ran { IsTrue S.tells → IsTrue R.tells → IsTrue R.tells_ran
-        → OfHeld (S.world site.old) (λ held.
-        RunsToCompare R.next held (R.ran runner.old) (R.ran runner.new) (result_err result)) }
+        → RunsToCompare R.next (S.world site.old) (R.ran runner.old) (R.ran runner.new)
+        (result_err result) }
     ensures counted_cause { HasCountedCause (S.faults site.old) (S.faults site.new)
         (result_err result) }
     ensures run_cause { HasRunCause (R.faults runner.old) (R.faults runner.new)
@@ -104,7 +96,6 @@ fn good_build<R: Runner>(
         → RunsBuildOf (commands R.next rules.now (finite.from_sorted sources.now))
         (R.ran runner.old) (R.ran runner.new) (result_err result) }
     ensures counted { (count : ℕ) → HasCountedCause count count (result_err result) }
-    ensures never_bad_store { (offset : ℕ) → result ≢ Err (Stop.BadStore offset) }
     ensures run_cause { HasRunCause (R.faults runner.old) (R.faults runner.new)
         (result_err result) }
 {

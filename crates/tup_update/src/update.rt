@@ -4,10 +4,7 @@ ghost use Rattle.std.specs.Result.{result_err};
 ghost use Rattle.tup_site.specs.Crash.{GoesOn};
 ghost use Rattle.tup_update.specs.Images.{MakesStep};
 ghost use Rattle.tup_update.specs.Log.{IsEmptyLog, LogFits, RulesFit};
-ghost use Rattle.tup_update.specs.Holding.{OfHeld};
-ghost use Rattle.tup_update.specs.Outcome.{Keeps, Stays, ExactlyTheFiles, MadeBeforeBad, SourcesStay};
-ghost use Rattle.tup_update.specs.Outcome.{NothingForgotten, IsUndone, StoreFits};
-ghost use Rattle.tup_update.specs.Outcome.{HasCause, HasCountedCause, HasRunCause};
+ghost use Rattle.tup_update.specs.Outcome.{Keeps, Stays, ExactlyTheFiles, MadeBeforeBad, SourcesStay, NothingForgotten, HasCause, HasCountedCause, HasRunCause};
 ghost use Rattle.tup_update.specs.Ran.{RunsThese};
 ghost use Rattle.tup_update.specs.Settled.{IsSettled};
 ghost use Rattle.tup_update.specs.Turns.{TurnsFit};
@@ -62,39 +59,28 @@ pub struct Update {
 /// rules, and has the runner run the rules in turn, the first that is ready again and again, up to
 /// the first that is bad. What was made by then is durable, whichever of the two ends it.
 pub fn update_site<S: Site, R: Runner>(alloc: Global, site: &mut S, runner: &mut R) -> Update
-    ensures exactly_the_files { IsTrue S.tells → IsTrue R.tells
-        → OfHeld (S.world site.old) (λ old. ExactlyTheFiles R.next
-        result.rules old (S.world site.new) result.stopped) }
-    ensures made_before_bad { IsTrue S.tells → IsTrue R.tells
-        → OfHeld (S.world site.old) (λ old. MadeBeforeBad R.next
-        result.rules old (S.world site.new) result.stopped) }
-    ensures sources_stay { IsTrue S.tells
-        → OfHeld (S.world site.old) (λ old. SourcesStay old (S.world site.new)) }
-    ensures nothing_forgotten { IsTrue S.tells
-        → OfHeld (S.world site.old) (λ old. NothingForgotten R.tells R.next
-        result.rules old (S.world site.new) result.stopped) }
-    // Of a store that doesn't read nothing is promised above: it is told, and nothing is changed.
-    ensures store { IsTrue S.tells
-        → let undone = IsUndone (S.world site.old) (S.world site.new) result.rules result.log in
-        StoreFits (S.world site.old) undone result.stopped }
+    ensures exactly_the_files { IsTrue S.tells → IsTrue R.tells → ExactlyTheFiles R.next
+        result.rules (S.world site.old) (S.world site.new) result.stopped }
+    ensures made_before_bad { IsTrue S.tells → IsTrue R.tells → MadeBeforeBad R.next
+        result.rules (S.world site.old) (S.world site.new) result.stopped }
+    ensures sources_stay { IsTrue S.tells → SourcesStay (S.world site.old) (S.world site.new) }
+    ensures nothing_forgotten { IsTrue S.tells → NothingForgotten R.tells R.next
+        result.rules (S.world site.old) (S.world site.new) result.stopped }
     ensures crash { IsTrue S.tells → GoesOn S.moment S.left_since site.old site.new
         (MakesStep R.tells R.next result.rules (S.world site.old)) }
     ensures settled { IsTrue S.tells → let left = S.left_since site.new (S.moment site.new) in
         IsSettled left (S.world site.new) result.stopped }
-    ensures cause { IsTrue S.tells → IsTrue R.tells
-        → OfHeld (S.world site.old) (λ old. HasCause R.next
-        result.rules old (S.world site.new) result.stopped) }
+    ensures cause { IsTrue S.tells → IsTrue R.tells → HasCause R.next
+        result.rules (S.world site.old) (S.world site.new) result.stopped }
     ensures counted_cause { HasCountedCause (S.faults site.old) (S.faults site.new) result.stopped }
     ensures run_cause { HasRunCause (R.faults runner.old) (R.faults runner.new) result.stopped }
     ensures ran { IsTrue R.tells_ran
         → RunsThese result.log.ran (R.ran runner.old) (R.ran runner.new) result.stopped }
     ensures in_turn { IsTrue S.tells
         → TurnsFit result.rules result.log.ran result.log.ended result.stopped }
-    ensures rules { IsTrue S.tells
-        → OfHeld (S.world site.old) (λ old. RulesFit old result.rules result.stopped) }
+    ensures rules { IsTrue S.tells → RulesFit (S.world site.old) result.rules result.stopped }
     ensures logged { IsTrue S.tells → IsTrue R.tells
-        → OfHeld (S.world site.old) (λ old. LogFits R.next
-        result.rules old result.log result.stopped) }
+        → LogFits R.next result.rules (S.world site.old) result.log result.stopped }
 {
     let mut rules = Rules::new(alloc);
     let mut log = Log::new(alloc);
@@ -116,16 +102,10 @@ fn carry_out<S: Site, R: Runner>(
 ) -> Result<(), Stop>
     requires rules { rules.old ≡ [] }
     requires log { IsEmptyLog log.old }
-    ensures stays { IsTrue S.tells → OfHeld (S.world site.old) (λ old. Stays R.tells R.next
-        rules.new old (S.world site.new) log.new (result_err result)) }
-    ensures kept { IsTrue S.tells → IsTrue R.tells
-        → OfHeld (S.world site.old) (λ old. Keeps R.next
-        rules.new old (S.world site.new) log.new (result_err result)) }
-    ensures store { IsTrue S.tells
-        → let undone = IsUndone (S.world site.old) (S.world site.new) rules.new log.new in
-        StoreFits (S.world site.old) undone (result_err result) }
-    ensures in_turn { IsTrue S.tells
-        → TurnsFit rules.new log.new.ran log.new.ended (result_err result) }
+    ensures stays { IsTrue S.tells → Stays R.tells R.next
+        rules.new (S.world site.old) (S.world site.new) log.new (result_err result) }
+    ensures kept { IsTrue S.tells → IsTrue R.tells → Keeps R.next
+        rules.new (S.world site.old) (S.world site.new) log.new (result_err result) }
     ensures crash { IsTrue S.tells → GoesOn S.moment S.left_since site.old site.new
         (MakesStep R.tells R.next rules.new (S.world site.old)) }
     ensures settled { IsTrue S.tells → let left = S.left_since site.new (S.moment site.new) in

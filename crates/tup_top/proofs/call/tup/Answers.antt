@@ -122,7 +122,7 @@ pub returns-clause-begun : goal.returns-clause-begun
 returns-clause-begun g c = λ _ _.
     let world = g.S.Site.world c.args.site in
     let ran = c.new-in-Err-Memory.result in
-    memory_of (order c.args.words.now) world (λ rules. RanFits g.R.Runner.next rules world ran) (no_front ran (names_of [] (ends g.R.Runner.next [] world)) c.new-in-Err-Memory.ensures)
+    memory_of (order c.args.words.now) world (λ rules. RanFits g.R.Runner.next rules world ran) (λ held shows. no_front ran (names_of [] (ends g.R.Runner.next [] held)) c.new-in-Err-Memory.ensures)
 
 pub returns-clause-in_turn : goal.returns-clause-in_turn
 returns-clause-in_turn g c = λ _.

@@ -1,61 +1,33 @@
-use Rattle.std.proofs.Common.{[], ℕ, List, refl, sym, subst}
+use Rattle.std.proofs.Common.{ℕ, List, refl, sym, subst}
 use Rattle.std.specs.FinMap as finite
 use Rattle.tup_path.specs.Order.{by_names}
 use Rattle.tup_rule.specs.declared.rule.Rule.{Rule}
 use Rattle.tup_clean.specs.Clean.{clean}
 use Rattle.tup_clean.specs.Ran.{commands}
 use Rattle.std.specs.Result.{result_err}
-use Rattle.tup_update.specs.Compared.{HasBuilt, IsGoodBuild, RunsBuildOf, RunsToCompare}
-use Rattle.tup_update.specs.Holding.{Holding, holding}
-use Rattle.tup_update.specs.Outcome.{HasCountedCause, StoreFits}
-use Rattle.tup_update.specs.declared.stop.Stop.TheVariants.{BadStore}
+use Rattle.tup_update.specs.Compared.{IsGoodBuild, RunsBuildOf}
+use Rattle.tup_update.specs.Holding.{holding}
+use Rattle.tup_update.specs.Outcome.{HasCountedCause}
 use Rattle.tup_update.specs.Stopped.{stop_of}
-use Rattle.tup_update.proofs.Comparing.{unread_compared, unread_runs, built_err, built_compared, built_runs}
-use Rattle.tup_update.proofs.Held.{held_is}
-use Rattle.tup_update.proofs.Keeping.{err_is, err_back, refusal_counts, refusal_unread, unread_cause, unread_store, read_store}
+use Rattle.tup_update.proofs.Comparing.{unread_compared, built_err, built_compared, built_runs}
+use Rattle.tup_update.proofs.Keeping.{err_is, refusal_counts, refusal_unread}
 use Rattle.tup_update.proofs.Reading.{sources_read}
 use Rattle.tup_update.proofs.compare.clean_files.Goals as goal
 
 pub returns-in_err-found-clause-clean : goal.returns-in_err-found-clause-clean
-returns-in_err-found-clause-clean g c = λ tells means held shows.
+returns-in_err-found-clause-clean g c = λ tells means.
     let w = g.S.Site.world c.args.site.now in
     let unread = c.in_err-found.field-0.0 in
-    built_err g.R.Runner.next held c.from_residual.result (stop_of unread) c.from_residual.ensures.1
-    (unread_compared g.R.Runner.next held w unread (unread_cause g.R.Runner.next [] w w held unread shows refl (c.in_err-found.ensures.cause tells)) shows)
-
-pub returns-in_err-found-clause-store : goal.returns-in_err-found-clause-store
-returns-in_err-found-clause-store g c = λ tells.
-    let w = g.S.Site.world c.args.site.now in
-    let unread = c.in_err-found.field-0.0 in
-    subst (StoreFits w _) (sym (err_is c.from_residual.result (stop_of unread) c.from_residual.ensures.1))
-    (unread_store w _ unread (c.in_err-found.ensures.cause tells) (λ shows. refl))
-
-pub returns-in_err-found-clause-ran : goal.returns-in_err-found-clause-ran
-returns-in_err-found-clause-ran g c = λ tells means shows held shown.
-    let unread = c.in_err-found.field-0.0 in
-    subst (RunsToCompare g.R.Runner.next held _ _) (sym (err_is c.from_residual.result (stop_of unread) c.from_residual.ensures.1)) (unread_runs g.R.Runner.next held _ unread)
+    built_err g.R.Runner.next w c.from_residual.result (stop_of unread) c.from_residual.ensures.1
+    (unread_compared g.R.Runner.next w unread (c.in_err-found.ensures.cause tells))
 
 pub returns-in_err-rules-clause-clean : goal.returns-in_err-rules-clause-clean
-returns-in_err-rules-clause-clean g c = λ tells means held shows.
+returns-in_err-rules-clause-clean g c = λ tells means.
     let w = g.S.Site.world c.args.site.now in
     let unread = c.in_err-rules.field-0.0 in
     let found = c.in_ok-found.ensures.found tells in
-    let why = refusal_unread w c.in_ok-found.found.owned unread found.owned (c.in_err-rules.ensures.refused w found) in
-    built_err g.R.Runner.next held c.from_residual-in_err-rules.result (stop_of unread) c.from_residual-in_err-rules.ensures.1
-    (unread_compared g.R.Runner.next held w unread (unread_cause g.R.Runner.next [] w w held unread shows refl why) shows)
-
-pub returns-in_err-rules-clause-store : goal.returns-in_err-rules-clause-store
-returns-in_err-rules-clause-store g c = λ tells.
-    let w = g.S.Site.world c.args.site.now in
-    let unread = c.in_err-rules.field-0.0 in
-    let found = c.in_ok-found.ensures.found tells in
-    let why = refusal_unread w c.in_ok-found.found.owned unread found.owned (c.in_err-rules.ensures.refused w found) in
-    subst (StoreFits w _) (sym (err_is c.from_residual-in_err-rules.result (stop_of unread) c.from_residual-in_err-rules.ensures.1)) (unread_store w _ unread why (λ shows. refl))
-
-pub returns-in_err-rules-clause-ran : goal.returns-in_err-rules-clause-ran
-returns-in_err-rules-clause-ran g c = λ tells means shows held shown.
-    let unread = c.in_err-rules.field-0.0 in
-    subst (RunsToCompare g.R.Runner.next held _ _) (sym (err_is c.from_residual-in_err-rules.result (stop_of unread) c.from_residual-in_err-rules.ensures.1)) (unread_runs g.R.Runner.next held _ unread)
+    built_err g.R.Runner.next w c.from_residual-in_err-rules.result (stop_of unread) c.from_residual-in_err-rules.ensures.1
+    (unread_compared g.R.Runner.next w unread (refusal_unread w c.in_ok-found.found.owned unread found.owned (c.in_err-rules.ensures.refused w found)))
 
 pub returns-in_err-rules-clause-counted_cause : goal.returns-in_err-rules-clause-counted_cause
 returns-in_err-rules-clause-counted_cause g c =
@@ -66,31 +38,22 @@ returns-in_err-rules-clause-counted_cause g c =
     (refusal_counts before now unread (c.read.ensures.counted.steady (λ e. cc (c.in_ok-found.was, e))) c.in_err-rules.ensures.fault)
 
 pub returns-clause-clean : goal.returns-clause-clean
-returns-clause-clean g c = λ tells means held shows.
+returns-clause-clean g c = λ tells means.
     let w = g.S.Site.world c.args.site.now in
     let found = c.in_ok-found.ensures.found tells in
     let site_laws = g.met.S.Site g.world.𝓛 g.world.𝓜 g.world.𝓡 ((λ s x. x), (λ x. x), (λ x. x), λ x. x) in
-    subst (λ (h : Holding). HasBuilt g.R.Runner.next h c.good_build.result) (held_is w held c.in_ok-found.found.owned found.owned shows)
-    (built_compared g.R.Runner.next (holding w c.in_ok-found.found.owned) c.in_ok-rules.rules _ c.good_build.result (c.in_ok-rules.ensures.asked w found)
+    built_compared g.R.Runner.next w (holding w c.in_ok-found.found.owned) c.in_ok-rules.rules _ c.good_build.result (record { lists = found.owned; tree = refl }) (c.in_ok-rules.ensures.asked w found)
     (c.in_ok-rules.ensures.buildable w (site_laws.is_tree c.args.site.now tells) found) (sources_read w c.in_ok-found.found found)
-    (subst (λ (l : List Rule). IsGoodBuild l (clean g.R.Runner.next l (finite.from_sorted {R = by_names} c.in_ok-found.found.sources)) c.good_build.result) c.as_slice.ensures (c.good_build.ensures.built means)))
-
-pub returns-clause-store : goal.returns-clause-store
-returns-clause-store g c = λ tells.
-    let w = g.S.Site.world c.args.site.now in
-    let found = c.in_ok-found.ensures.found tells in
-    read_store w _ (result_err c.good_build.result) (holding w c.in_ok-found.found.owned, record { lists = found.owned; tree = refl })
-    (λ offset is. c.good_build.ensures.never_bad_store offset (err_back c.good_build.result (BadStore offset) is))
+    (subst (λ (l : List Rule). IsGoodBuild l (clean g.R.Runner.next l (finite.from_sorted {R = by_names} c.in_ok-found.found.sources)) c.good_build.result) c.as_slice.ensures (c.good_build.ensures.built means))
 
 pub returns-clause-ran : goal.returns-clause-ran
-returns-clause-ran g c = λ tells means shows held shown.
+returns-clause-ran g c = λ tells means shows.
     let w = g.S.Site.world c.args.site.now in
     let found = c.in_ok-found.ensures.found tells in
     let sources = finite.from_sorted {R = by_names} c.in_ok-found.found.sources in
-    subst (λ (h : Holding). RunsToCompare g.R.Runner.next h (g.R.Runner.ran c.args.runner.now) (g.R.Runner.ran c.good_build.new.runner) (result_err c.good_build.result)) (held_is w held c.in_ok-found.found.owned found.owned shown)
-    (built_runs g.R.Runner.next (holding w c.in_ok-found.found.owned) c.in_ok-rules.rules sources _ _ c.good_build.result (c.in_ok-rules.ensures.asked w found) (sources_read w c.in_ok-found.found found)
+    built_runs g.R.Runner.next w (holding w c.in_ok-found.found.owned) c.in_ok-rules.rules sources _ _ c.good_build.result (record { lists = found.owned; tree = refl }) (c.in_ok-rules.ensures.asked w found) (sources_read w c.in_ok-found.found found)
     (subst (λ (l : List Rule). IsGoodBuild l (clean g.R.Runner.next l sources) c.good_build.result) c.as_slice.ensures (c.good_build.ensures.built means))
-    (subst (λ (l : List Rule). RunsBuildOf (commands g.R.Runner.next l sources) (g.R.Runner.ran c.args.runner.now) (g.R.Runner.ran c.good_build.new.runner) (result_err c.good_build.result)) c.as_slice.ensures (c.good_build.ensures.ran means shows)))
+    (subst (λ (l : List Rule). RunsBuildOf (commands g.R.Runner.next l sources) (g.R.Runner.ran c.args.runner.now) (g.R.Runner.ran c.good_build.new.runner) (result_err c.good_build.result)) c.as_slice.ensures (c.good_build.ensures.ran means shows))
 
 pub returns-clause-counted_cause : goal.returns-clause-counted_cause
 returns-clause-counted_cause g c =

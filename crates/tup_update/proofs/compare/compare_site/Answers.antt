@@ -1,5 +1,4 @@
-use Rattle.std.proofs.Common.{ap, sym, subst, ◌∙◌}
-use Rattle.tup_path.specs.Tree.{Tree}
+use Rattle.std.proofs.Common.{ap, subst, ◌∙◌}
 use Rattle.std.specs.FinMap as finite
 use Rattle.tup_site.specs.World.{World}
 use Rattle.tup_update.specs.Compared.{HasBuilt, compared_at, difference}
@@ -8,10 +7,11 @@ use Rattle.tup_update.proofs.Comparing.{compared_alike}
 use Rattle.tup_update.proofs.compare.compare_site.Goals as goal
 
 pub returns-clause-compared : goal.returns-clause-compared
-returns-clause-compared g c = λ tells means held shows.
-    compared_alike g.R.Runner.next held c.in_ok-files.files c.in_ok-built.built c.in_ok-comparison.field-0
-    (subst (HasBuilt g.R.Runner.next held) c.in_ok-built.was (c.clean_files.ensures.clean tells means held shows))
-    (c.in_ok-files.ensures.files tells ∙ ap (λ (world : World). finite.entries world.tree) (c.clean_files.ensures.same tells) ∙ ap (λ (t : Tree). finite.entries t) (sym shows.tree))
+returns-clause-compared g c = λ tells means.
+    let w = g.S.Site.world c.args.site.now in
+    compared_alike g.R.Runner.next w c.in_ok-files.files c.in_ok-built.built c.in_ok-comparison.field-0
+    (subst (HasBuilt g.R.Runner.next w) c.in_ok-built.was (c.clean_files.ensures.clean tells means))
+    (c.in_ok-files.ensures.files tells ∙ ap (λ (world : World). finite.entries world.tree) (c.clean_files.ensures.same tells))
     (c.in_ok-comparison.ensures ∙ (λ i. compared_at (difference (c.as_slice.ensures i) (c.as_slice-2.ensures i))))
 
 pub returns-in_err-files-clause-crash : goal.returns-in_err-files-clause-crash

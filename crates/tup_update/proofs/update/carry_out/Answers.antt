@@ -1,14 +1,9 @@
-use Rattle.std.proofs.Common.{refl, sym, subst}
-use Rattle.std.specs.Result.{result_err}
-use Rattle.tup_update.specs.Holding.{Holding, Lists, Shows, holding}
-use Rattle.tup_update.specs.Log.{with_read}
-use Rattle.tup_update.specs.Outcome.{Stays, Keeps, IsUndone, StoreFits}
+use Rattle.std.proofs.Common.{sym, subst}
+use Rattle.tup_update.specs.Outcome.{Stays, Keeps}
 use Rattle.tup_update.specs.Settled.{IsSettled}
 use Rattle.tup_update.specs.Stopped.{stop_of}
 use Rattle.tup_update.proofs.Begun.{ran_none, ran_all_of}
-use Rattle.tup_update.specs.Turns.{TurnsFit}
-use Rattle.tup_update.proofs.Held.{held_is}
-use Rattle.tup_update.proofs.Keeping.{err_is, unread_cause, unread_stays, unread_keeps, unread_store, unread_turns, stays_store}
+use Rattle.tup_update.proofs.Keeping.{err_is, unread_cause, unread_stays, unread_keeps}
 use Rattle.tup_update.proofs.Settling.{unread_unsettled}
 use Rattle.tup_site.specs.Crash.{GoesOn, NoStep}
 use Rattle.tup_site.specs.World.{World}
@@ -17,73 +12,20 @@ use Rattle.tup_update.specs.Images.{MakesStep}
 use Rattle.tup_update.proofs.update.carry_out.Goals as goal
 
 pub returns-in_err-project-clause-stays : goal.returns-in_err-project-clause-stays
-returns-in_err-project-clause-stays g c = λ tells held shows.
-    let was = g.S.Site.world c.args.site.now in
+returns-in_err-project-clause-stays g c = λ tells.
+    let old = g.S.Site.world c.args.site.now in
     let new = g.S.Site.world c.read.new.site in
     let unread = c.in_err-project.field-0.0 in
-    subst (Stays g.R.Runner.tells g.R.Runner.next c.args.rules.now held new c.args.log.now) (sym (err_is c.from_residual.result (stop_of unread) c.from_residual.ensures.1))
-    (unread_stays g.R.Runner.tells g.R.Runner.next c.args.rules.now was new held c.args.log.now unread shows (c.read.ensures.same tells) (c.in_err-project.ensures.cause tells) c.requires.rules c.requires.log)
+    subst (Stays g.R.Runner.tells g.R.Runner.next c.args.rules.now old new c.args.log.now) (sym (err_is c.from_residual.result (stop_of unread) c.from_residual.ensures.1))
+    (unread_stays g.R.Runner.tells g.R.Runner.next c.args.rules.now old new c.args.log.now unread (c.read.ensures.same tells) c.requires.rules c.requires.log)
 
 pub returns-in_err-project-clause-kept : goal.returns-in_err-project-clause-kept
-returns-in_err-project-clause-kept g c = λ tells means held shows.
-    let was = g.S.Site.world c.args.site.now in
+returns-in_err-project-clause-kept g c = λ tells means.
+    let old = g.S.Site.world c.args.site.now in
     let new = g.S.Site.world c.read.new.site in
     let unread = c.in_err-project.field-0.0 in
-    subst (Keeps g.R.Runner.next c.args.rules.now held new c.args.log.now) (sym (err_is c.from_residual.result (stop_of unread) c.from_residual.ensures.1))
-    (unread_keeps g.R.Runner.next c.args.rules.now held new c.args.log.now unread
-    (unread_cause g.R.Runner.next c.args.rules.now was new held unread shows (c.read.ensures.same tells) (c.in_err-project.ensures.cause tells)) c.requires.log)
-
-pub returns-in_err-project-clause-store : goal.returns-in_err-project-clause-store
-returns-in_err-project-clause-store g c = λ tells.
-    let was = g.S.Site.world c.args.site.now in
-    let new = g.S.Site.world c.read.new.site in
-    let unread = c.in_err-project.field-0.0 in
-    let undone : IsUndone was new c.args.rules.now c.args.log.now = record { same = c.read.ensures.same tells; unread = c.requires.rules; empty = c.requires.log } in
-    subst (StoreFits was (IsUndone was new c.args.rules.now c.args.log.now)) (sym (err_is c.from_residual.result (stop_of unread) c.from_residual.ensures.1))
-    (unread_store was (IsUndone was new c.args.rules.now c.args.log.now) unread (c.in_err-project.ensures.cause tells) undone)
-
-pub returns-in_err-project-clause-in_turn : goal.returns-in_err-project-clause-in_turn
-returns-in_err-project-clause-in_turn g c = λ tells.
-    let unread = c.in_err-project.field-0.0 in
-    subst (TurnsFit c.args.rules.now c.args.log.now.ran c.args.log.now.ended) (sym (err_is c.from_residual.result (stop_of unread) c.from_residual.ensures.1))
-    (unread_turns c.args.rules.now c.args.log.now unread c.requires.log)
-
--- ---- a project that was read
-
-pub returns-clause-stays : goal.returns-clause-stays
-returns-clause-stays g c = λ tells held shows.
-    let mid = g.S.Site.world c.read.new.site in
-    let new = g.S.Site.world c.build-built.new.site in
-    let project = c.in_ok-project.project in
-    let log = with_read project.read c.build-built.new.log in
-    subst (λ (old : Holding). Stays g.R.Runner.tells g.R.Runner.next project.rules old new log (result_err c.build-built.result))
-    (held_is mid held project.owned (subst (λ (w : World). Lists w.store project.owned) (sym (c.read.ensures.same tells)) (c.in_ok-project.ensures.project tells).owned) (subst (λ (w : World). Shows w held) (sym (c.read.ensures.same tells)) shows))
-    (c.build-built.ensures.stays tells)
-
-pub returns-clause-kept : goal.returns-clause-kept
-returns-clause-kept g c = λ tells means held shows.
-    let mid = g.S.Site.world c.read.new.site in
-    let new = g.S.Site.world c.build-built.new.site in
-    let project = c.in_ok-project.project in
-    let log = with_read project.read c.build-built.new.log in
-    subst (λ (old : Holding). Keeps g.R.Runner.next project.rules old new log (result_err c.build-built.result))
-    (held_is mid held project.owned (subst (λ (w : World). Lists w.store project.owned) (sym (c.read.ensures.same tells)) (c.in_ok-project.ensures.project tells).owned) (subst (λ (w : World). Shows w held) (sym (c.read.ensures.same tells)) shows))
-    (c.build-built.ensures.kept tells means)
-
-pub returns-clause-store : goal.returns-clause-store
-returns-clause-store g c = λ tells.
-    let was = g.S.Site.world c.args.site.now in
-    let mid = g.S.Site.world c.read.new.site in
-    let new = g.S.Site.world c.build-built.new.site in
-    let project = c.in_ok-project.project in
-    let log = with_read project.read c.build-built.new.log in
-    stays_store g.R.Runner.tells g.R.Runner.next project.rules (holding mid project.owned) was new log (IsUndone was new project.rules log) (result_err c.build-built.result)
-    (holding was project.owned, record { lists = (c.in_ok-project.ensures.project tells).owned; tree = refl }) (c.build-built.ensures.stays tells)
-
-pub returns-clause-in_turn : goal.returns-clause-in_turn
-returns-clause-in_turn g c = λ tells. (c.build-built.ensures.stays tells).turns_fit
-
--- ---- what is settled, what ran, and what a crash may leave
+    subst (Keeps g.R.Runner.next c.args.rules.now old new c.args.log.now) (sym (err_is c.from_residual.result (stop_of unread) c.from_residual.ensures.1))
+    (unread_keeps g.R.Runner.next c.args.rules.now old new c.args.log.now unread (unread_cause g.R.Runner.next c.args.rules.now old new unread (c.read.ensures.same tells) (c.in_err-project.ensures.cause tells)) c.requires.log)
 
 pub returns-in_err-project-clause-settled : goal.returns-in_err-project-clause-settled
 returns-in_err-project-clause-settled g c = λ tells.

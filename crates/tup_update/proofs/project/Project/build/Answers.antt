@@ -14,8 +14,8 @@ use Rattle.tup_update.specs.declared.stop.Halt.{Halt}
 use Rattle.tup_update.specs.declared.stop.Stop.TheVariants.{Outside}
 use Rattle.tup_update.specs.declared.update.Log.{Log}
 use Rattle.tup_update.proofs.Begun.{ran_none, ran_all_of, stopped_runs}
-use Rattle.tup_update.proofs.Ending.{vanished_are}
 use Rattle.tup_update.specs.Holding.{holding}
+use Rattle.tup_update.proofs.Ending.{vanished_are}
 use Rattle.tup_update.proofs.Keeping.{IsUnderWay, all_made, err_is, small_failure, way_runnable, unplanned_stays, unplanned_keeps, unprepared_stays, unprepared_keeps, unrun_stays, unrun_keeps, stopped_stays, stopped_keeps, unfinished_stays, unfinished_keeps, finished_stays, finished_keeps}
 use Rattle.tup_update.proofs.Settling.{halted_unsettled}
 use Rattle.tup_update.specs.Images.{MakesStep}
@@ -26,19 +26,17 @@ use Rattle.tup_update.proofs.project.Project.build.Goals as goal
 
 pub returns-in_err-plan-clause-stays : goal.returns-in_err-plan-clause-stays
 returns-in_err-plan-clause-stays g c = λ tells.
-    let was = g.S.Site.world c.args.site.now in
-    let old = holding was c.args.self.now.owned in
+    let old = g.S.Site.world c.args.site.now in
     let project = c.args.self.now in
-    subst (Stays g.R.Runner.tells g.R.Runner.next project.rules old was (with_read project.read c.args.log.now)) (sym (err_is c.from_residual.result (Outside Memory) c.from_residual.ensures.1))
-    (unplanned_stays project was (c.requires.project tells) g.R.Runner.tells g.R.Runner.next c.args.log.now c.requires.unused)
+    subst (Stays g.R.Runner.tells g.R.Runner.next project.rules old old (with_read project.read c.args.log.now)) (sym (err_is c.from_residual.result (Outside Memory) c.from_residual.ensures.1))
+    (unplanned_stays project old (c.requires.project tells) g.R.Runner.tells g.R.Runner.next c.args.log.now c.requires.unused)
 
 pub returns-in_err-plan-clause-kept : goal.returns-in_err-plan-clause-kept
 returns-in_err-plan-clause-kept g c = λ tells means.
-    let was = g.S.Site.world c.args.site.now in
-    let old = holding was c.args.self.now.owned in
+    let old = g.S.Site.world c.args.site.now in
     let project = c.args.self.now in
-    subst (Keeps g.R.Runner.next project.rules old was (with_read project.read c.args.log.now)) (sym (err_is c.from_residual.result (Outside Memory) c.from_residual.ensures.1))
-    (unplanned_keeps project was (c.requires.project tells) g.R.Runner.next c.args.log.now c.requires.unused)
+    subst (Keeps g.R.Runner.next project.rules old old (with_read project.read c.args.log.now)) (sym (err_is c.from_residual.result (Outside Memory) c.from_residual.ensures.1))
+    (unplanned_keeps project old (c.requires.project tells) g.R.Runner.next c.args.log.now c.requires.unused)
 
 pub returns-in_err-plan-clause-ran : goal.returns-in_err-plan-clause-ran
 returns-in_err-plan-clause-ran g c = λ _.
@@ -53,40 +51,38 @@ returns-in_err-plan-clause-settled g c = λ tells.
 
 pub returns-in_err-prepare-clause-stays : goal.returns-in_err-prepare-clause-stays
 returns-in_err-prepare-clause-stays g c = λ tells.
-    let was = g.S.Site.world c.args.site.now in
-    let old = holding was c.args.self.now.owned in
+    let old = g.S.Site.world c.args.site.now in
     let mid = g.S.Site.world c.prepare.new.site in
     let project = c.args.self.now in
     let plan = c.in_ok-plan.plan in
-    let way : IsUnderWay project was mid plan.vanished plan.claimed = record {
+    let way : IsUnderWay project old mid plan.vanished plan.claimed = record {
       is = c.requires.project tells;
-      vanishes = c.in_ok-plan.ensures.vanished ∙ vanished_are project was (c.requires.project tells);
+      vanishes = c.in_ok-plan.ensures.vanished ∙ vanished_are project old (c.requires.project tells);
       claims = c.in_ok-plan.ensures.claimed;
       beside = c.prepare.ensures.others tells;
     } in
     let log : Log = record { read = c.args.log.now.read; removed = c.prepare.new.removed; ran = c.args.log.now.ran; ended = c.args.log.now.ended } in
     let failed = c.in_err-prepare.field-0.0 in
     subst (Stays g.R.Runner.tells g.R.Runner.next project.rules old mid (with_read project.read log)) (sym (err_is c.from_residual-in_err-prepare.result (Outside failed) c.from_residual-in_err-prepare.ensures.1))
-    (unprepared_stays project was mid plan.vanished plan.claimed way g.R.Runner.tells g.R.Runner.next log failed (c.prepare.ensures.unclaimed tells)
+    (unprepared_stays project old mid plan.vanished plan.claimed way g.R.Runner.tells g.R.Runner.next log failed (c.prepare.ensures.unclaimed tells)
     (small_failure c.prepare.result failed c.in_err-prepare.was c.prepare.ensures.never_too_large) c.requires.unused.1 c.requires.unused.2)
 
 pub returns-in_err-prepare-clause-kept : goal.returns-in_err-prepare-clause-kept
 returns-in_err-prepare-clause-kept g c = λ tells means.
-    let was = g.S.Site.world c.args.site.now in
-    let old = holding was c.args.self.now.owned in
+    let old = g.S.Site.world c.args.site.now in
     let mid = g.S.Site.world c.prepare.new.site in
     let project = c.args.self.now in
     let plan = c.in_ok-plan.plan in
-    let way : IsUnderWay project was mid plan.vanished plan.claimed = record {
+    let way : IsUnderWay project old mid plan.vanished plan.claimed = record {
       is = c.requires.project tells;
-      vanishes = c.in_ok-plan.ensures.vanished ∙ vanished_are project was (c.requires.project tells);
+      vanishes = c.in_ok-plan.ensures.vanished ∙ vanished_are project old (c.requires.project tells);
       claims = c.in_ok-plan.ensures.claimed;
       beside = c.prepare.ensures.others tells;
     } in
     let log : Log = record { read = c.args.log.now.read; removed = c.prepare.new.removed; ran = c.args.log.now.ran; ended = c.args.log.now.ended } in
     let failed = c.in_err-prepare.field-0.0 in
     subst (Keeps g.R.Runner.next project.rules old mid (with_read project.read log)) (sym (err_is c.from_residual-in_err-prepare.result (Outside failed) c.from_residual-in_err-prepare.ensures.1))
-    (unprepared_keeps project was mid plan.vanished plan.claimed way g.R.Runner.next c.args.log.now.removed log failed
+    (unprepared_keeps project old mid plan.vanished plan.claimed way g.R.Runner.next c.args.log.now.removed log failed
     (small_failure c.prepare.result failed c.in_err-prepare.was c.prepare.ensures.never_too_large) c.requires.unused.0 c.prepare.ensures.part c.requires.unused.1 c.requires.unused.2)
 
 pub returns-in_err-prepare-clause-ran : goal.returns-in_err-prepare-clause-ran
@@ -102,14 +98,13 @@ returns-in_err-prepare-clause-settled g c = λ tells.
 
 pub returns-in_err-bad-clause-stays : goal.returns-in_err-bad-clause-stays
 returns-in_err-bad-clause-stays g c = λ tells.
-    let was = g.S.Site.world c.args.site.now in
-    let old = holding was c.args.self.now.owned in
+    let old = g.S.Site.world c.args.site.now in
     let mid = g.S.Site.world c.prepare.new.site in
     let project = c.args.self.now in
     let plan = c.in_ok-plan.plan in
-    let way : IsUnderWay project was mid plan.vanished plan.claimed = record {
+    let way : IsUnderWay project old mid plan.vanished plan.claimed = record {
       is = c.requires.project tells;
-      vanishes = c.in_ok-plan.ensures.vanished ∙ vanished_are project was (c.requires.project tells);
+      vanishes = c.in_ok-plan.ensures.vanished ∙ vanished_are project old (c.requires.project tells);
       claims = c.in_ok-plan.ensures.claimed;
       beside = c.prepare.ensures.others tells;
     } in
@@ -117,19 +112,18 @@ returns-in_err-bad-clause-stays g c = λ tells.
     let ran = g.S.Site.world c.run.new.site in
     let halt = c.in_err-bad.field-0.0 in
     subst (Stays g.R.Runner.tells g.R.Runner.next project.rules old ran (with_read project.read log)) (sym (err_is c.from_residual-in_err-bad.result (stop_of_halt halt) c.from_residual-in_err-bad.ensures.1))
-    (unrun_stays project was mid plan.vanished plan.claimed way g.R.Runner.tells g.R.Runner.next ran log halt (c.run.ensures.others tells) (c.run.ensures.store tells ∙ c.in_ok-prepare.ensures.claimed tells)
+    (unrun_stays project old mid plan.vanished plan.claimed way g.R.Runner.tells g.R.Runner.next ran log halt (c.run.ensures.others tells) (c.run.ensures.store tells ∙ c.in_ok-prepare.ensures.claimed tells)
     (subst (TurnsFit project.rules log.ran log.ended) (ap comes_to c.in_err-bad.was) (c.run.ensures.in_turn tells)))
 
 pub returns-in_err-bad-clause-kept : goal.returns-in_err-bad-clause-kept
 returns-in_err-bad-clause-kept g c = λ tells means.
-    let was = g.S.Site.world c.args.site.now in
-    let old = holding was c.args.self.now.owned in
+    let old = g.S.Site.world c.args.site.now in
     let mid = g.S.Site.world c.prepare.new.site in
     let project = c.args.self.now in
     let plan = c.in_ok-plan.plan in
-    let way : IsUnderWay project was mid plan.vanished plan.claimed = record {
+    let way : IsUnderWay project old mid plan.vanished plan.claimed = record {
       is = c.requires.project tells;
-      vanishes = c.in_ok-plan.ensures.vanished ∙ vanished_are project was (c.requires.project tells);
+      vanishes = c.in_ok-plan.ensures.vanished ∙ vanished_are project old (c.requires.project tells);
       claims = c.in_ok-plan.ensures.claimed;
       beside = c.prepare.ensures.others tells;
     } in
@@ -137,7 +131,7 @@ returns-in_err-bad-clause-kept g c = λ tells means.
     let ran = g.S.Site.world c.run.new.site in
     let halt = c.in_err-bad.field-0.0 in
     subst (Keeps g.R.Runner.next project.rules old ran (with_read project.read log)) (sym (err_is c.from_residual-in_err-bad.result (stop_of_halt halt) c.from_residual-in_err-bad.ensures.1))
-    (unrun_keeps project was mid plan.vanished plan.claimed way g.R.Runner.next ran c.args.log.now.removed log halt
+    (unrun_keeps project old mid plan.vanished plan.claimed way g.R.Runner.next ran c.args.log.now.removed log halt
     (λ n e. c.run.ensures.large tells n (c.in_err-bad.was ∙ ap (λ (h : Halt). Err h) e)) c.requires.unused.0 c.in_ok-prepare.ensures.removed
     (c.run.ensures.part tells means))
 
@@ -159,14 +153,13 @@ returns-in_err-bad-clause-settled g c = λ tells.
 
 pub returns-in-Some-clause-stays : goal.returns-in-Some-clause-stays
 returns-in-Some-clause-stays g c = λ tells.
-    let was = g.S.Site.world c.args.site.now in
-    let old = holding was c.args.self.now.owned in
+    let old = g.S.Site.world c.args.site.now in
     let mid = g.S.Site.world c.prepare.new.site in
     let project = c.args.self.now in
     let plan = c.in_ok-plan.plan in
-    let way : IsUnderWay project was mid plan.vanished plan.claimed = record {
+    let way : IsUnderWay project old mid plan.vanished plan.claimed = record {
       is = c.requires.project tells;
-      vanishes = c.in_ok-plan.ensures.vanished ∙ vanished_are project was (c.requires.project tells);
+      vanishes = c.in_ok-plan.ensures.vanished ∙ vanished_are project old (c.requires.project tells);
       claims = c.in_ok-plan.ensures.claimed;
       beside = c.prepare.ensures.others tells;
     } in
@@ -175,19 +168,18 @@ returns-in-Some-clause-stays g c = λ tells.
     let bad = c.in-Some.bad in
     let stop = c.stop_at.result in
     subst (λ (w : World). Stays g.R.Runner.tells g.R.Runner.next project.rules old w (with_read project.read log) (Some stop)) (sym (c.stop_at.ensures.same tells))
-    (stopped_stays project was mid plan.vanished plan.claimed way g.R.Runner.tells g.R.Runner.next ran log bad.0 bad.1 stop c.stop_at.ensures.stops (c.run.ensures.others tells) (c.run.ensures.store tells ∙ c.in_ok-prepare.ensures.claimed tells)
+    (stopped_stays project old mid plan.vanished plan.claimed way g.R.Runner.tells g.R.Runner.next ran log bad.0 bad.1 stop c.stop_at.ensures.stops (c.run.ensures.others tells) (c.run.ensures.store tells ∙ c.in_ok-prepare.ensures.claimed tells)
     (subst (TurnsFit project.rules log.ran log.ended) (ap comes_to (c.in_ok-bad.was ∙ ap (λ o. Ok o) c.in-Some.is)) (c.run.ensures.in_turn tells)))
 
 pub returns-in-Some-clause-kept : goal.returns-in-Some-clause-kept
 returns-in-Some-clause-kept g c = λ tells means.
-    let was = g.S.Site.world c.args.site.now in
-    let old = holding was c.args.self.now.owned in
+    let old = g.S.Site.world c.args.site.now in
     let mid = g.S.Site.world c.prepare.new.site in
     let project = c.args.self.now in
     let plan = c.in_ok-plan.plan in
-    let way : IsUnderWay project was mid plan.vanished plan.claimed = record {
+    let way : IsUnderWay project old mid plan.vanished plan.claimed = record {
       is = c.requires.project tells;
-      vanishes = c.in_ok-plan.ensures.vanished ∙ vanished_are project was (c.requires.project tells);
+      vanishes = c.in_ok-plan.ensures.vanished ∙ vanished_are project old (c.requires.project tells);
       claims = c.in_ok-plan.ensures.claimed;
       beside = c.prepare.ensures.others tells;
     } in
@@ -198,7 +190,7 @@ returns-in-Some-clause-kept g c = λ tells means.
     let sources = files_beside project.owned mid.tree in
     let made = c.in_ok-bad.ensures.made tells means in
     subst (λ (w : World). Keeps g.R.Runner.next project.rules old w (with_read project.read log) (Some stop)) (sym (c.stop_at.ensures.same tells))
-    (stopped_keeps project was mid plan.vanished plan.claimed way g.R.Runner.next ran c.args.log.now.removed log bad.0 bad.1 stop c.stop_at.ensures.stops (c.in_ok-prepare.ensures.cleared tells)
+    (stopped_keeps project old mid plan.vanished plan.claimed way g.R.Runner.next ran c.args.log.now.removed log bad.0 bad.1 stop c.stop_at.ensures.stops (c.in_ok-prepare.ensures.cleared tells)
     (subst (λ o. IfSome o (λ _. HasMade g.R.Runner.next project.rules sources mid.tree ran.tree)) c.in-Some.is made)
     (subst (HasRun g.R.Runner.next project.rules sources ran.tree) c.in-Some.is (c.in_ok-bad.ensures.run tells means)) c.requires.unused.0 c.in_ok-prepare.ensures.removed
     (c.in_ok-bad.ensures.noted tells means))
@@ -224,14 +216,13 @@ returns-in-Some-clause-counted_runs g c =
 
 pub returns-in_err-finish-in-None-clause-stays : goal.returns-in_err-finish-in-None-clause-stays
 returns-in_err-finish-in-None-clause-stays g c = λ tells.
-    let was = g.S.Site.world c.args.site.now in
-    let old = holding was c.args.self.now.owned in
+    let old = g.S.Site.world c.args.site.now in
     let mid = g.S.Site.world c.prepare.new.site in
     let project = c.args.self.now in
     let plan = c.in_ok-plan.plan in
-    let way : IsUnderWay project was mid plan.vanished plan.claimed = record {
+    let way : IsUnderWay project old mid plan.vanished plan.claimed = record {
       is = c.requires.project tells;
-      vanishes = c.in_ok-plan.ensures.vanished ∙ vanished_are project was (c.requires.project tells);
+      vanishes = c.in_ok-plan.ensures.vanished ∙ vanished_are project old (c.requires.project tells);
       claims = c.in_ok-plan.ensures.claimed;
       beside = c.prepare.ensures.others tells;
     } in
@@ -241,21 +232,20 @@ returns-in_err-finish-in-None-clause-stays g c = λ tells.
     let failed = c.in_err-finish-in-None.field-0.0 in
     let sources = files_beside project.owned mid.tree in
     subst (Stays g.R.Runner.tells g.R.Runner.next project.rules old new (with_read project.read log)) (sym (err_is c.from_residual-in_err-finish-in-None.result (Outside failed) c.from_residual-in_err-finish-in-None.ensures.1))
-    (unfinished_stays project was mid plan.vanished plan.claimed way g.R.Runner.tells g.R.Runner.next ran new log failed (c.in_ok-prepare.ensures.cleared tells) (c.run.ensures.others tells) (c.finish.ensures.tree tells)
+    (unfinished_stays project old mid plan.vanished plan.claimed way g.R.Runner.tells g.R.Runner.next ran new log failed (c.in_ok-prepare.ensures.cleared tells) (c.run.ensures.others tells) (c.finish.ensures.tree tells)
     (small_failure c.finish.result failed c.in_err-finish-in-None.was c.finish.ensures.never_too_large)
     (λ means. subst (HasRun g.R.Runner.next project.rules sources ran.tree) c.in-None.is (c.in_ok-bad.ensures.run tells means))
     (subst (TurnsFit project.rules log.ran log.ended) (ap comes_to (c.in_ok-bad.was ∙ ap (λ o. Ok o) c.in-None.is)) (c.run.ensures.in_turn tells)))
 
 pub returns-in_err-finish-in-None-clause-kept : goal.returns-in_err-finish-in-None-clause-kept
 returns-in_err-finish-in-None-clause-kept g c = λ tells means.
-    let was = g.S.Site.world c.args.site.now in
-    let old = holding was c.args.self.now.owned in
+    let old = g.S.Site.world c.args.site.now in
     let mid = g.S.Site.world c.prepare.new.site in
     let project = c.args.self.now in
     let plan = c.in_ok-plan.plan in
-    let way : IsUnderWay project was mid plan.vanished plan.claimed = record {
+    let way : IsUnderWay project old mid plan.vanished plan.claimed = record {
       is = c.requires.project tells;
-      vanishes = c.in_ok-plan.ensures.vanished ∙ vanished_are project was (c.requires.project tells);
+      vanishes = c.in_ok-plan.ensures.vanished ∙ vanished_are project old (c.requires.project tells);
       claims = c.in_ok-plan.ensures.claimed;
       beside = c.prepare.ensures.others tells;
     } in
@@ -263,7 +253,7 @@ returns-in_err-finish-in-None-clause-kept g c = λ tells means.
     let new = g.S.Site.world c.finish.new.site in
     let failed = c.in_err-finish-in-None.field-0.0 in
     subst (Keeps g.R.Runner.next project.rules old new (with_read project.read log)) (sym (err_is c.from_residual-in_err-finish-in-None.result (Outside failed) c.from_residual-in_err-finish-in-None.ensures.1))
-    (unfinished_keeps project was mid plan.vanished plan.claimed way g.R.Runner.next new c.args.log.now.removed log failed
+    (unfinished_keeps project old mid plan.vanished plan.claimed way g.R.Runner.next new c.args.log.now.removed log failed
     (small_failure c.finish.result failed c.in_err-finish-in-None.was c.finish.ensures.never_too_large)
     c.requires.unused.0 c.in_ok-prepare.ensures.removed (c.in_ok-bad.ensures.noted tells means))
 
@@ -279,34 +269,32 @@ returns-in_err-finish-in-None-clause-settled g c = λ tells.
 
 pub returns-clause-stays : goal.returns-clause-stays
 returns-clause-stays g c = λ tells.
-    let was = g.S.Site.world c.args.site.now in
-    let old = holding was c.args.self.now.owned in
+    let old = g.S.Site.world c.args.site.now in
     let mid = g.S.Site.world c.prepare.new.site in
     let project = c.args.self.now in
     let plan = c.in_ok-plan.plan in
-    let way : IsUnderWay project was mid plan.vanished plan.claimed = record {
+    let way : IsUnderWay project old mid plan.vanished plan.claimed = record {
       is = c.requires.project tells;
-      vanishes = c.in_ok-plan.ensures.vanished ∙ vanished_are project was (c.requires.project tells);
+      vanishes = c.in_ok-plan.ensures.vanished ∙ vanished_are project old (c.requires.project tells);
       claims = c.in_ok-plan.ensures.claimed;
       beside = c.prepare.ensures.others tells;
     } in
     let log : Log = record { read = c.args.log.now.read; removed = c.prepare.new.removed; ran = c.run.new.ran; ended = c.run.new.ended } in
     let ran = g.S.Site.world c.run.new.site in
     let new = g.S.Site.world c.finish.new.site in
-    finished_stays project was mid plan.vanished plan.claimed way g.R.Runner.tells g.R.Runner.next ran new plan.listed log (c.in_ok-prepare.ensures.cleared tells) (c.run.ensures.others tells) (c.finish.ensures.tree tells)
+    finished_stays project old mid plan.vanished plan.claimed way g.R.Runner.tells g.R.Runner.next ran new plan.listed log (c.in_ok-prepare.ensures.cleared tells) (c.run.ensures.others tells) (c.finish.ensures.tree tells)
     (c.in_ok-finish-in-None.ensures.listed tells ∙ ap spelling c.as_slice.ensures) c.in_ok-plan.ensures.listed
     (subst (TurnsFit project.rules log.ran log.ended) (ap comes_to (c.in_ok-bad.was ∙ ap (λ o. Ok o) c.in-None.is)) (c.run.ensures.in_turn tells))
 
 pub returns-clause-kept : goal.returns-clause-kept
 returns-clause-kept g c = λ tells means.
-    let was = g.S.Site.world c.args.site.now in
-    let old = holding was c.args.self.now.owned in
+    let old = g.S.Site.world c.args.site.now in
     let mid = g.S.Site.world c.prepare.new.site in
     let project = c.args.self.now in
     let plan = c.in_ok-plan.plan in
-    let way : IsUnderWay project was mid plan.vanished plan.claimed = record {
+    let way : IsUnderWay project old mid plan.vanished plan.claimed = record {
       is = c.requires.project tells;
-      vanishes = c.in_ok-plan.ensures.vanished ∙ vanished_are project was (c.requires.project tells);
+      vanishes = c.in_ok-plan.ensures.vanished ∙ vanished_are project old (c.requires.project tells);
       claims = c.in_ok-plan.ensures.claimed;
       beside = c.prepare.ensures.others tells;
     } in
@@ -314,7 +302,7 @@ returns-clause-kept g c = λ tells means.
     let ran = g.S.Site.world c.run.new.site in
     let new = g.S.Site.world c.finish.new.site in
     let sources = files_beside project.owned mid.tree in
-    finished_keeps project was mid plan.vanished plan.claimed way g.R.Runner.next ran new c.args.log.now.removed plan.listed log
+    finished_keeps project old mid plan.vanished plan.claimed way g.R.Runner.next ran new c.args.log.now.removed plan.listed log
     (subst (HasRun g.R.Runner.next project.rules sources ran.tree) c.in-None.is (c.in_ok-bad.ensures.run tells means)) (c.finish.ensures.tree tells)
     (c.in_ok-finish-in-None.ensures.listed tells ∙ ap spelling c.as_slice.ensures) c.in_ok-plan.ensures.listed
     c.requires.unused.0 c.in_ok-prepare.ensures.removed (c.in_ok-bad.ensures.noted tells means)
@@ -325,18 +313,17 @@ returns-clause-ran g c = λ tells.
 
 pub run-requires-clause-runnable : goal.run-requires-clause-runnable
 run-requires-clause-runnable g c κs = λ lives tells.
-    let was = g.S.Site.world c.args.site.now in
-    let old = holding was c.args.self.now.owned in
+    let old = g.S.Site.world c.args.site.now in
     let mid = g.S.Site.world c.prepare.new.site in
     let project = c.args.self.now in
     let plan = c.in_ok-plan.plan in
-    let way : IsUnderWay project was mid plan.vanished plan.claimed = record {
+    let way : IsUnderWay project old mid plan.vanished plan.claimed = record {
       is = c.requires.project tells;
-      vanishes = c.in_ok-plan.ensures.vanished ∙ vanished_are project was (c.requires.project tells);
+      vanishes = c.in_ok-plan.ensures.vanished ∙ vanished_are project old (c.requires.project tells);
       claims = c.in_ok-plan.ensures.claimed;
       beside = c.prepare.ensures.others tells;
     } in
-    way_runnable project was mid plan.vanished plan.claimed way (c.in_ok-prepare.ensures.cleared tells)
+    way_runnable project old mid plan.vanished plan.claimed way (c.in_ok-prepare.ensures.cleared tells)
 
 -- ---- what it adds to what a crash may leave
 
@@ -348,12 +335,11 @@ pub returns-in_err-prepare-clause-crash : goal.returns-in_err-prepare-clause-cra
 returns-in_err-prepare-clause-crash g c = λ tells.
     let site = c.args.site.now in
     let mid = c.prepare.new.site in
-    let was = g.S.Site.world site in
-    let old = holding was c.args.self.now.owned in
+    let old = g.S.Site.world site in
     let project = c.args.self.now in
     let plan = c.in_ok-plan.plan in
     let is = c.requires.project tells in
-    let prepared = prepared_so g.S.Site.moment g.S.Site.left_since g.R.Runner.tells g.R.Runner.next project.rules was old (store_reads project was is) is.asked site mid plan.vanished (spelling plan.claimed) (c.in_ok-plan.ensures.vanished ∙ vanished_are project was is) (claims_read project was plan.claimed is c.in_ok-plan.ensures.claimed) (c.prepare.ensures.crash tells) in
+    let prepared = prepared_so g.S.Site.moment g.S.Site.left_since g.R.Runner.tells g.R.Runner.next project.rules old (holding old project.owned) (store_reads project old is) is.asked site mid plan.vanished (spelling plan.claimed) (c.in_ok-plan.ensures.vanished ∙ vanished_are project old is) (claims_read project old plan.claimed is c.in_ok-plan.ensures.claimed) (c.prepare.ensures.crash tells) in
     prepared
 
 pub returns-in_err-bad-clause-crash : goal.returns-in_err-bad-clause-crash
@@ -361,14 +347,13 @@ returns-in_err-bad-clause-crash g c = λ tells.
     let site_laws = g.met.S.Site g.world.𝓛 g.world.𝓜 g.world.𝓡 ((λ s x. x), (λ x. x), (λ x. x), λ x. x) in
     let site = c.args.site.now in
     let mid = c.prepare.new.site in
-    let was = g.S.Site.world site in
-    let old = holding was c.args.self.now.owned in
+    let old = g.S.Site.world site in
     let project = c.args.self.now in
     let plan = c.in_ok-plan.plan in
     let is = c.requires.project tells in
-    let prepared = prepared_so g.S.Site.moment g.S.Site.left_since g.R.Runner.tells g.R.Runner.next project.rules was old (store_reads project was is) is.asked site mid plan.vanished (spelling plan.claimed) (c.in_ok-plan.ensures.vanished ∙ vanished_are project was is) (claims_read project was plan.claimed is c.in_ok-plan.ensures.claimed) (c.prepare.ensures.crash tells) in
-    let stored = ap owned_of (c.in_ok-prepare.ensures.claimed tells) ∙ claims_read project was plan.claimed is c.in_ok-plan.ensures.claimed in
-    let ran = ran_so g.S.Site.moment g.S.Site.left_since g.R.Runner.tells g.R.Runner.next project.rules was old (store_reads project was is) is.asked site mid c.run.new.site (g.S.Site.world mid) (λ t u w le left. site_laws.earlier mid t u w tells le left) (c.in_ok-prepare.ensures.pinned tells) stored prepared (c.run.ensures.crash tells) in
+    let prepared = prepared_so g.S.Site.moment g.S.Site.left_since g.R.Runner.tells g.R.Runner.next project.rules old (holding old project.owned) (store_reads project old is) is.asked site mid plan.vanished (spelling plan.claimed) (c.in_ok-plan.ensures.vanished ∙ vanished_are project old is) (claims_read project old plan.claimed is c.in_ok-plan.ensures.claimed) (c.prepare.ensures.crash tells) in
+    let stored = ap owned_of (c.in_ok-prepare.ensures.claimed tells) ∙ claims_read project old plan.claimed is c.in_ok-plan.ensures.claimed in
+    let ran = ran_so g.S.Site.moment g.S.Site.left_since g.R.Runner.tells g.R.Runner.next project.rules old (holding old project.owned) (store_reads project old is) is.asked site mid c.run.new.site (g.S.Site.world mid) (λ t u w le left. site_laws.earlier mid t u w tells le left) (c.in_ok-prepare.ensures.pinned tells) stored prepared (c.run.ensures.crash tells) in
     ran
 
 pub returns-in-Some-clause-crash : goal.returns-in-Some-clause-crash
@@ -376,62 +361,59 @@ returns-in-Some-clause-crash g c = λ tells.
     let site_laws = g.met.S.Site g.world.𝓛 g.world.𝓜 g.world.𝓡 ((λ s x. x), (λ x. x), (λ x. x), λ x. x) in
     let site = c.args.site.now in
     let mid = c.prepare.new.site in
-    let was = g.S.Site.world site in
-    let old = holding was c.args.self.now.owned in
+    let old = g.S.Site.world site in
     let project = c.args.self.now in
     let plan = c.in_ok-plan.plan in
     let is = c.requires.project tells in
-    let prepared = prepared_so g.S.Site.moment g.S.Site.left_since g.R.Runner.tells g.R.Runner.next project.rules was old (store_reads project was is) is.asked site mid plan.vanished (spelling plan.claimed) (c.in_ok-plan.ensures.vanished ∙ vanished_are project was is) (claims_read project was plan.claimed is c.in_ok-plan.ensures.claimed) (c.prepare.ensures.crash tells) in
-    let stored = ap owned_of (c.in_ok-prepare.ensures.claimed tells) ∙ claims_read project was plan.claimed is c.in_ok-plan.ensures.claimed in
-    let ran = ran_so g.S.Site.moment g.S.Site.left_since g.R.Runner.tells g.R.Runner.next project.rules was old (store_reads project was is) is.asked site mid c.run.new.site (g.S.Site.world mid) (λ t u w le left. site_laws.earlier mid t u w tells le left) (c.in_ok-prepare.ensures.pinned tells) stored prepared (c.run.ensures.crash tells) in
-    then_quiet g.S.Site.moment g.S.Site.left_since site c.run.new.site c.stop_at.new.site (MakesStep g.R.Runner.tells g.R.Runner.next project.rules was) ran (c.stop_at.ensures.crash tells)
+    let prepared = prepared_so g.S.Site.moment g.S.Site.left_since g.R.Runner.tells g.R.Runner.next project.rules old (holding old project.owned) (store_reads project old is) is.asked site mid plan.vanished (spelling plan.claimed) (c.in_ok-plan.ensures.vanished ∙ vanished_are project old is) (claims_read project old plan.claimed is c.in_ok-plan.ensures.claimed) (c.prepare.ensures.crash tells) in
+    let stored = ap owned_of (c.in_ok-prepare.ensures.claimed tells) ∙ claims_read project old plan.claimed is c.in_ok-plan.ensures.claimed in
+    let ran = ran_so g.S.Site.moment g.S.Site.left_since g.R.Runner.tells g.R.Runner.next project.rules old (holding old project.owned) (store_reads project old is) is.asked site mid c.run.new.site (g.S.Site.world mid) (λ t u w le left. site_laws.earlier mid t u w tells le left) (c.in_ok-prepare.ensures.pinned tells) stored prepared (c.run.ensures.crash tells) in
+    then_quiet g.S.Site.moment g.S.Site.left_since site c.run.new.site c.stop_at.new.site (MakesStep g.R.Runner.tells g.R.Runner.next project.rules old) ran (c.stop_at.ensures.crash tells)
 
 pub returns-in_err-finish-in-None-clause-crash : goal.returns-in_err-finish-in-None-clause-crash
 returns-in_err-finish-in-None-clause-crash g c = λ tells.
     let site_laws = g.met.S.Site g.world.𝓛 g.world.𝓜 g.world.𝓡 ((λ s x. x), (λ x. x), (λ x. x), λ x. x) in
     let site = c.args.site.now in
     let mid = c.prepare.new.site in
-    let was = g.S.Site.world site in
-    let old = holding was c.args.self.now.owned in
+    let old = g.S.Site.world site in
     let project = c.args.self.now in
     let plan = c.in_ok-plan.plan in
     let is = c.requires.project tells in
-    let prepared = prepared_so g.S.Site.moment g.S.Site.left_since g.R.Runner.tells g.R.Runner.next project.rules was old (store_reads project was is) is.asked site mid plan.vanished (spelling plan.claimed) (c.in_ok-plan.ensures.vanished ∙ vanished_are project was is) (claims_read project was plan.claimed is c.in_ok-plan.ensures.claimed) (c.prepare.ensures.crash tells) in
-    let stored = ap owned_of (c.in_ok-prepare.ensures.claimed tells) ∙ claims_read project was plan.claimed is c.in_ok-plan.ensures.claimed in
-    let ran = ran_so g.S.Site.moment g.S.Site.left_since g.R.Runner.tells g.R.Runner.next project.rules was old (store_reads project was is) is.asked site mid c.run.new.site (g.S.Site.world mid) (λ t u w le left. site_laws.earlier mid t u w tells le left) (c.in_ok-prepare.ensures.pinned tells) stored prepared (c.run.ensures.crash tells) in
-    let way : IsUnderWay project was (g.S.Site.world mid) plan.vanished plan.claimed = record {
+    let prepared = prepared_so g.S.Site.moment g.S.Site.left_since g.R.Runner.tells g.R.Runner.next project.rules old (holding old project.owned) (store_reads project old is) is.asked site mid plan.vanished (spelling plan.claimed) (c.in_ok-plan.ensures.vanished ∙ vanished_are project old is) (claims_read project old plan.claimed is c.in_ok-plan.ensures.claimed) (c.prepare.ensures.crash tells) in
+    let stored = ap owned_of (c.in_ok-prepare.ensures.claimed tells) ∙ claims_read project old plan.claimed is c.in_ok-plan.ensures.claimed in
+    let ran = ran_so g.S.Site.moment g.S.Site.left_since g.R.Runner.tells g.R.Runner.next project.rules old (holding old project.owned) (store_reads project old is) is.asked site mid c.run.new.site (g.S.Site.world mid) (λ t u w le left. site_laws.earlier mid t u w tells le left) (c.in_ok-prepare.ensures.pinned tells) stored prepared (c.run.ensures.crash tells) in
+    let way : IsUnderWay project old (g.S.Site.world mid) plan.vanished plan.claimed = record {
       is = is;
-      vanishes = c.in_ok-plan.ensures.vanished ∙ vanished_are project was is;
+      vanishes = c.in_ok-plan.ensures.vanished ∙ vanished_are project old is;
       claims = c.in_ok-plan.ensures.claimed;
       beside = c.prepare.ensures.others tells;
     } in
     let now = g.S.Site.world c.run.new.site in
     let sources = files_beside project.owned (g.S.Site.world mid).tree in
-    let made = all_made project was (g.S.Site.world mid) plan.vanished plan.claimed way g.R.Runner.tells g.R.Runner.next now now (c.in_ok-prepare.ensures.cleared tells) (c.run.ensures.others tells) refl
+    let made = all_made project old (g.S.Site.world mid) plan.vanished plan.claimed way g.R.Runner.tells g.R.Runner.next now now (c.in_ok-prepare.ensures.cleared tells) (c.run.ensures.others tells) refl
     (λ means. subst (HasRun g.R.Runner.next project.rules sources now.tree) c.in-None.is (c.in_ok-bad.ensures.run tells means)) in
-    finished_so g.S.Site.moment g.S.Site.left_since g.R.Runner.tells g.R.Runner.next project.rules was old (store_reads project was is) is.asked site c.run.new.site c.finish.new.site now (λ t u w le left. site_laws.earlier c.run.new.site t u w tells le left) made ran (c.finish.ensures.crash tells)
+    finished_so g.S.Site.moment g.S.Site.left_since g.R.Runner.tells g.R.Runner.next project.rules old (holding old project.owned) (store_reads project old is) is.asked site c.run.new.site c.finish.new.site now (λ t u w le left. site_laws.earlier c.run.new.site t u w tells le left) made ran (c.finish.ensures.crash tells)
 
 pub returns-clause-crash : goal.returns-clause-crash
 returns-clause-crash g c = λ tells.
     let site_laws = g.met.S.Site g.world.𝓛 g.world.𝓜 g.world.𝓡 ((λ s x. x), (λ x. x), (λ x. x), λ x. x) in
     let site = c.args.site.now in
     let mid = c.prepare.new.site in
-    let was = g.S.Site.world site in
-    let old = holding was c.args.self.now.owned in
+    let old = g.S.Site.world site in
     let project = c.args.self.now in
     let plan = c.in_ok-plan.plan in
     let is = c.requires.project tells in
-    let prepared = prepared_so g.S.Site.moment g.S.Site.left_since g.R.Runner.tells g.R.Runner.next project.rules was old (store_reads project was is) is.asked site mid plan.vanished (spelling plan.claimed) (c.in_ok-plan.ensures.vanished ∙ vanished_are project was is) (claims_read project was plan.claimed is c.in_ok-plan.ensures.claimed) (c.prepare.ensures.crash tells) in
-    let stored = ap owned_of (c.in_ok-prepare.ensures.claimed tells) ∙ claims_read project was plan.claimed is c.in_ok-plan.ensures.claimed in
-    let ran = ran_so g.S.Site.moment g.S.Site.left_since g.R.Runner.tells g.R.Runner.next project.rules was old (store_reads project was is) is.asked site mid c.run.new.site (g.S.Site.world mid) (λ t u w le left. site_laws.earlier mid t u w tells le left) (c.in_ok-prepare.ensures.pinned tells) stored prepared (c.run.ensures.crash tells) in
-    let way : IsUnderWay project was (g.S.Site.world mid) plan.vanished plan.claimed = record {
+    let prepared = prepared_so g.S.Site.moment g.S.Site.left_since g.R.Runner.tells g.R.Runner.next project.rules old (holding old project.owned) (store_reads project old is) is.asked site mid plan.vanished (spelling plan.claimed) (c.in_ok-plan.ensures.vanished ∙ vanished_are project old is) (claims_read project old plan.claimed is c.in_ok-plan.ensures.claimed) (c.prepare.ensures.crash tells) in
+    let stored = ap owned_of (c.in_ok-prepare.ensures.claimed tells) ∙ claims_read project old plan.claimed is c.in_ok-plan.ensures.claimed in
+    let ran = ran_so g.S.Site.moment g.S.Site.left_since g.R.Runner.tells g.R.Runner.next project.rules old (holding old project.owned) (store_reads project old is) is.asked site mid c.run.new.site (g.S.Site.world mid) (λ t u w le left. site_laws.earlier mid t u w tells le left) (c.in_ok-prepare.ensures.pinned tells) stored prepared (c.run.ensures.crash tells) in
+    let way : IsUnderWay project old (g.S.Site.world mid) plan.vanished plan.claimed = record {
       is = is;
-      vanishes = c.in_ok-plan.ensures.vanished ∙ vanished_are project was is;
+      vanishes = c.in_ok-plan.ensures.vanished ∙ vanished_are project old is;
       claims = c.in_ok-plan.ensures.claimed;
       beside = c.prepare.ensures.others tells;
     } in
     let now = g.S.Site.world c.run.new.site in
     let sources = files_beside project.owned (g.S.Site.world mid).tree in
-    let made = all_made project was (g.S.Site.world mid) plan.vanished plan.claimed way g.R.Runner.tells g.R.Runner.next now now (c.in_ok-prepare.ensures.cleared tells) (c.run.ensures.others tells) refl
+    let made = all_made project old (g.S.Site.world mid) plan.vanished plan.claimed way g.R.Runner.tells g.R.Runner.next now now (c.in_ok-prepare.ensures.cleared tells) (c.run.ensures.others tells) refl
     (λ means. subst (HasRun g.R.Runner.next project.rules sources now.tree) c.in-None.is (c.in_ok-bad.ensures.run tells means)) in
-    finished_so g.S.Site.moment g.S.Site.left_since g.R.Runner.tells g.R.Runner.next project.rules was old (store_reads project was is) is.asked site c.run.new.site c.finish.new.site now (λ t u w le left. site_laws.earlier c.run.new.site t u w tells le left) made ran (c.finish.ensures.crash tells)
+    finished_so g.S.Site.moment g.S.Site.left_since g.R.Runner.tells g.R.Runner.next project.rules old (holding old project.owned) (store_reads project old is) is.asked site c.run.new.site c.finish.new.site now (λ t u w le left. site_laws.earlier c.run.new.site t u w tells le left) made ran (c.finish.ensures.crash tells)
