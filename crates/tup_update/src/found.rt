@@ -45,7 +45,8 @@ impl Found {
     pub(crate) fn read<S: Site>(alloc: Global, site: &mut S) -> Result<Found, Unread>
         ensures found { IsTrue S.tells → IfOk result (IsFound (S.world site.old)) }
         ensures sorted { IfOk result (λ found. IsTrue (finite.is_sorted by_names found.sources)) }
-        ensures cause { IsTrue S.tells → IfErr result (λ unread. (next : Next) (rules : List RuleValue)
+        ensures cause { IsTrue S.tells
+            → IfErr result (λ unread. (next : Next) (rules : List RuleValue)
             → HasCause next rules (S.world site.old) (S.world site.new) (Some (stop_of unread))) }
         ensures limits { IfErr result KnowsLimits }
         ensures same { IsTrue S.tells → S.world site.new ≡ S.world site.old }

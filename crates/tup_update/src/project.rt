@@ -42,7 +42,8 @@ impl Project {
     pub(crate) fn read<S: Site>(alloc: Global, site: &mut S) -> Result<Project, Unread>
         ensures project { IsTrue S.tells
             → IfOk result (λ project. IsProject project (S.world site.old)) }
-        ensures cause { IsTrue S.tells → IfErr result (λ unread. (next : Next) (rules : List RuleValue)
+        ensures cause { IsTrue S.tells
+            → IfErr result (λ unread. (next : Next) (rules : List RuleValue)
             → HasCause next rules (S.world site.old) (S.world site.new) (Some (stop_of unread))) }
         ensures limits { IfErr result KnowsLimits }
         ensures same { IsTrue S.tells → S.world site.new ≡ S.world site.old }
