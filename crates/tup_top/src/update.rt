@@ -57,11 +57,13 @@ pub(crate) fn update<S: Site, R: Runner, K: Sink>(
     ensures cause { IsTrue S.tells → IsTrue R.tells → let old = S.world site.old in
         IfSome (came_to result.status)
         (OfRules old (λ rules. HasCause R.next rules old (S.world site.new))) }
-    ensures counted_cause { let before = counts S.faults R.faults K.faults site.old (runner.old ∷ []) out.old in
-        let now = counts S.faults R.faults K.faults site.new (runner.new ∷ []) out.new in
+    ensures counted_cause { let counted = counts S.faults R.faults K.faults in
+        let before = counted site.old (runner.old ∷ []) out.old in
+        let now = counted site.new (runner.new ∷ []) out.new in
         HasCountedCause before now result.status }
     ensures begun { IsTrue S.tells → IsTrue R.tells → let old = S.world site.old in
-        IfSome (came_to result.status) (OfRules old (λ rules. RanFits R.next rules old result.ran)) }
+        IfSome (came_to result.status)
+        (OfRules old (λ rules. RanFits R.next rules old result.ran)) }
     ensures in_turn { IsTrue S.tells → let old = S.world site.old in
         IfSome (came_to result.status) (OfRules old (λ rules. RanInTurn rules result.ran)) }
     ensures ran { IsTrue R.tells_ran → IfSome (came_to result.status)
