@@ -16,7 +16,8 @@ use Rattle.tup_update.specs.Holding.{holding}
 use Rattle.tup_clean.specs.Taken.{Taken}
 use Rattle.tup_update.specs.Log.{LogFits, RulesFit, OfRules}
 use Rattle.tup_update.specs.Ran.{RunsThese}
-use Rattle.tup_update.specs.Outcome.{ExactlyTheFiles, NothingForgotten, HasRunCause, HasCountedCause as StopHasCountedCause}
+use Rattle.tup_mini.specs.Means.{mini_next}
+use Rattle.tup_update.specs.Outcome.{ExactlyTheFiles, HasCause, NothingForgotten, HasRunCause, HasCountedCause as StopHasCountedCause}
 use Rattle.tup_update.specs.Sources.{sources as sources_of, files_beside, outputs, ends, PassesLimit}
 use Rattle.tup_update.specs.Turns.{names_of, TurnsFit}
 use Rattle.tup_update.proofs.Ending.{no_front, whole_front}
@@ -318,6 +319,11 @@ demo_cause site_before site_now before now SinkFault cause = cause.1
 demo_cause site_before site_now before now (Limit what number) cause = cause.1
 demo_cause site_before site_now before now Memory cause = tt
 demo_cause site_before site_now before now (Differs path) cause = cause
+
+-- of an update of some world, which left a new one
+pub with_new : (came : Option (Option Stop)) (old new : World) → IfSome came (OfRules old (λ rules. HasCause mini_next rules old new)) → IfSome came (λ stopped. (new : World) × OfRules old (λ rules. HasCause mini_next rules old new) stopped)
+with_new None old new cause = tt
+with_new (Some stopped) old new cause = (new, cause)
 
 -- an update that didn't begin, for want of memory
 abbrev pub told_nothing : (next : Next) (old : World) → Told next old

@@ -9,7 +9,9 @@ use Rattle.tup_rule.specs.declared.rule.Rule.{Rule}
 use Rattle.tup_runner.specs.Next.{Next}
 use Rattle.tup_clean.specs.Clean.{succeeds}
 use Rattle.tup_update.specs.Holding.{Holding, OfHeld, Shows}
-use Rattle.tup_update.specs.Log.{whole_log}
+use Rattle.tup_mini.specs.Means.{mini_next}
+use Rattle.tup_update.specs.Log.{OfRules, whole_log}
+use Rattle.tup_update.specs.Outcome.{HasCause}
 use Rattle.tup_update.specs.Sources.{IsAsked, IsRefused, build}
 use Rattle.tup_update.specs.declared.compare.Compared.{Compared}
 use Rattle.tup_update.specs.declared.fault.SourcesFault.{SourcesFault}
@@ -17,6 +19,7 @@ use Rattle.tup_update.specs.declared.stop.Stop.{Stop}
 use Rattle.tup_top.specs.Status.{status_of, came_to, compared_to}
 use Rattle.tup_top.specs.Order.{Wanted, IsUpdate, IsVerify}
 use Rattle.tup_top.specs.Crew.{OneRose}
+use Rattle.tup_top.specs.Printed.{demo_world}
 use Rattle.tup_top.specs.declared.order.Order.TheVariants.{Upd, Verify, Demo}
 use Rattle.tup_top.specs.declared.status.Status.{Status}
 use Rattle.tup_top.specs.declared.status.Status.TheVariants.{Done, Command, IllegalRead, IllegalWrite, Unwritten, TooManyReads, Usage, SiteFault, RunFault, SinkFault, Limit, Memory, Differs}
@@ -36,6 +39,17 @@ ForVerify (Ok (Upd program)) status promise = ⊤
 ForVerify (Ok Verify) status promise = IfSome (compared_to status) promise
 ForVerify (Ok Demo) status promise = ⊤
 ForVerify (Err place) status promise = ⊤
+
+-- a promise of a demo, of what its update came to
+abbrev pub ForDemo : Wanted → Status → (Option Stop → Type 0) → Type 0
+ForDemo (Ok (Upd program)) status promise = ⊤
+ForDemo (Ok Verify) status promise = ⊤
+ForDemo (Ok Demo) status promise = IfSome (came_to status) promise
+ForDemo (Err place) status promise = ⊤
+
+-- why the update of the small project stopped that a demo shows, as of every update
+abbrev pub StopsDemo : Option Stop → Type 0
+StopsDemo stopped = (new : World) × OfRules demo_world (λ rules. HasCause mini_next rules demo_world new) stopped
 
 -- only an update changes anything
 abbrev pub NothingDone : Wanted → World → World → Type 0
