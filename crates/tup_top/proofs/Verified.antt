@@ -14,6 +14,7 @@ use Rattle.tup_update.specs.declared.compare.Compared.TheVariants as compared
 use Rattle.tup_update.specs.declared.stop.Stop.{Stop}
 use Rattle.tup_update.specs.declared.stop.Stop.TheVariants.{BadStore as StoreDamaged, Sources, Bad, Run, Outside}
 use Rattle.tup_update.specs.declared.update.Log.{Log}
+use Rattle.tup_update.proofs.Comparing.{all_is_front}
 use Rattle.tup_top.specs.Lines.{compared_line}
 use Rattle.tup_top.specs.Printed.{IsDone, Ends, Prints, PrintsComparison}
 use Rattle.tup_top.specs.Promise.{Counts, HasCountedCause, HasComparedCause}
@@ -73,9 +74,6 @@ compared_answered P before now old new result status answer is (inr (inr (e, don
     subst (λ (s : Status). IfSome (compared_to s) P) (sym e) (subst P (done_is_same result (subst IsDone is done)) p)
 
 -- ---- what was run
-
-all_is_front : (all old new : List (Names × List ℕ)) → new ≡ old ++ all → RunsFront all old new
-all_is_front all old new ran = (all, [], append-nil all, ran)
 
 -- whatever it came to, a front of the commands of the clean build was run, or nothing
 pub untold_compared : (next : Next) (w : World) (old new : List (Names × List ℕ)) (stopped : Option Stop) → RunsToCompare next w old new stopped → RunsToCompare next w old new (Some (Outside NoMemory))

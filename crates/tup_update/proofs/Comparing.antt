@@ -1,5 +1,5 @@
 -- Where two lists of files first differ, and what the clean build is beside which files are looked at.
-use Rattle.std.proofs.Common.{◌≡◌, ◌≢◌, ℕ, ◌<◌, Bool, true, false, cond, bytes_eq, if◌then◌else◌, List, [], ◌∷◌, length, Option, None, Some, Result, Ok, Err, IsTrue, inr, refl, sym, ◌∙◌, ap, subst}
+use Rattle.std.proofs.Common.{◌≡◌, ◌≢◌, ℕ, ◌<◌, Bool, true, false, cond, bytes_eq, if◌then◌else◌, List, [], ◌∷◌, ◌++◌, length, append-nil, Option, None, Some, Result, Ok, Err, IsTrue, inr, refl, sym, ◌∙◌, ap, subst}
 use Rattle.std.specs.Result.{result_err, IsErrAnd}
 use Rattle.std.specs.Ordering.{is_eq, is_lt, eq_by_cmp, match_ordering, ordering_reverse}
 use Rattle.std.specs.declared.cmp.Ordering.{Ordering}
@@ -14,6 +14,7 @@ use Rattle.tup_path.specs.Tree.{Tree}
 use Rattle.tup_path.proofs.Same.{same_path-decides, same_bytes-decides, by_names-decides}
 use Rattle.tup_site.specs.World.{World}
 use Rattle.tup_update.specs.Holding.{Holding, Shows}
+use Rattle.tup_site.specs.declared.fault.SiteFailed.{SiteFailed}
 use Rattle.tup_site.specs.declared.fault.SiteFailed.TheVariants.{Fault, TooLarge, Memory}
 use Rattle.tup_rule.specs.declared.rule.Rule.{Rule}
 use Rattle.tup_runner.specs.Next.{Next}
@@ -21,7 +22,7 @@ use Rattle.tup_access.specs.declared.verdict.Verdict.TheVariants.{Good}
 use Rattle.tup_clean.specs.AnyOrder.{IsWhole}
 use Rattle.tup_clean.specs.Buildable.{IsBuildable}
 use Rattle.tup_clean.specs.Clean.{clean, first_ready, succeeds}
-use Rattle.tup_clean.specs.Ran.{commands}
+use Rattle.tup_clean.specs.Ran.{commands, RunsFront}
 use Rattle.tup_clean.proofs.Agreeing.{make_apart}
 use Rattle.tup_clean.proofs.MayTake.{first_may}
 use Rattle.tup_clean.proofs.OneBuild.{clean_taken, clean_whole}
@@ -234,6 +235,10 @@ module _ (next : Next) (rules : List Rule) (sources : Tree) (buildable : IsBuild
 
 -- ---- what a comparison comes to
 
+-- all was run, so a front was
+pub all_is_front : (all old new : List (Names × List ℕ)) → new ≡ old ++ all → RunsFront all old new
+all_is_front all old new ran = (all, [], append-nil all, ran)
+
 module _ (next : Next) (w : World) where
   -- where the sources can't be read, or ask for no rules
   pub unread_compared : (unread : Unread) → IsUnread w unread → HasCompared next w (Err (stop_of unread))
@@ -242,6 +247,10 @@ module _ (next : Next) (w : World) where
   unread_compared (Unlucky Fault) why = tt
   unread_compared (Unlucky (TooLarge n)) why = why
   unread_compared (Unlucky Memory) why = tt
+
+  -- where the outside stops it behind the build, all of it was run
+  pub runs_on : (old new : List (Names × List ℕ)) (failed : SiteFailed) → RunsToCompare next w old new None → RunsToCompare next w old new (Some (Outside failed))
+  runs_on old new failed runs = inr (record { held = runs.held; shows = runs.shows; rules = runs.rules; asked = runs.asked; ran = all_is_front (commands next runs.rules (sources runs.held)) old new runs.ran })
 
   pub built_err : (result : Result Entries Stop) (stop : Stop) → IsErrAnd result (λ e. e ≡ stop) → HasCompared next w (Err stop) → HasBuilt next w result
   built_err (Ok files) stop is has = absurd is

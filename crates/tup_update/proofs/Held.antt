@@ -10,6 +10,9 @@ held_is w held paths lists shows =
     let same : paths ≡ held.owned = cc read in
     λ i. record { tree = sym shows.tree i; owned = same i }
 
+pub shows_one : (w : World) (one other : Holding) → Shows w one → Shows w other → one ≡ other
+shows_one w one other first second = sym (held_is w one one.owned first.lists first) ∙ held_is w other one.owned first.lists second
+
 -- so what is promised of that is promised of all that it holds
 pub of_held : (w : World) (paths : List Names) (promise : Holding → Type 0) → Lists w.store paths → promise (holding w paths) → OfHeld w promise
 of_held w paths promise lists kept held shows = subst promise (held_is w held paths lists shows) kept

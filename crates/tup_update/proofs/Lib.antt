@@ -11,9 +11,9 @@ pub mod Preparing
 pub mod Trees
 pub mod Known
 pub mod Settling
+pub mod Held
 pub mod Crashing
 pub mod Behind
-pub mod Held
 pub mod Ending
 pub mod Keeping
 pub mod Comparing

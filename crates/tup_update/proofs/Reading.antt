@@ -24,11 +24,12 @@ use Rattle.tup_link.specs.declared.fault.What.TheVariants.{Commands, Links}
 use Rattle.tup_whole.specs.Project.{ComeTo}
 use Rattle.tup_whole.specs.declared.fault.ProjectFault.{ProjectFault}
 use Rattle.tup_whole.specs.declared.fault.ProjectFault.TheVariants as project
-use Rattle.tup_update.specs.Holding.{Holding, holding}
-use Rattle.tup_update.specs.Parts.{AddsFile, AgreesOnItsFiles, IsFolderOf, IsFound, IsRefusal}
+use Rattle.tup_update.specs.Holding.{Lists, holding}
+use Rattle.tup_update.specs.Parts.{AddsFile, AgreesOnItsFiles, IsFolderOf, IsFound, IsRefusal, IsTooMany, IsUnread}
 use Rattle.tup_update.specs.Sources.{files_beside, folder_of_tupfile, sources, ReadAs}
 use Rattle.tup_update.specs.Stopped.{unread_of_project}
 use Rattle.tup_update.specs.declared.found.Found.{Found}
+use Rattle.tup_update.specs.declared.stop.Unread.{Unread}
 use Rattle.tup_update.proofs.Beside.{get_beside, left_is}
 
 keys-where_key : (p : Names → Bool) (entries : List (Names × Content)) →
@@ -185,6 +186,11 @@ refused_as w found (project.CircularCommands names) is come = read_as w found _ 
 refused_as w found (project.TooMany Commands number) is come = read_as w found _ is come
 refused_as w found (project.TooMany Links number) is come = read_as w found _ is come
 refused_as w found project.Memory is come = refl
+
+-- there are more files than may be read
+pub too_many_unread : (w : World) (owned files : List Names) (unread : Unread) → Lists w.store owned → files ≡ finite.keys w.tree → IsTooMany (length files) unread → IsUnread w unread
+too_many_unread w owned files unread lists keys is =
+    subst (IsUnread w) (sym is.0) (holding w owned, record { lists = lists; tree = refl }, record { files = ap (λ (l : List Names). length l) keys; many = is.1 })
 
 -- ---- the folders of Tupfiles
 
