@@ -1,0 +1,33 @@
+//! Which rules an update of the present sources has to run.
+ghost use Rattle.std.specs.Prelude.{◌≡◌, ◌↔◌, ℕ, true, List, Option, Ok};
+ghost use Rattle.std.specs.FinMap as finite;
+ghost use Rattle.tup_path.specs.Name.{Names, Content};
+ghost use Rattle.tup_path.specs.Tree.{Tree};
+ghost use Rattle.tup_stamp.specs.declared.Stamp.{Stamp};
+ghost use Rattle.tup_rule.specs.declared.question.Reading.{Reading};
+ghost use Rattle.tup_rule.specs.declared.rule.Rule.{Rule};
+ghost use Rattle.tup_runner.specs.Next.{Next};
+ghost use Rattle.tup_whole.specs.Project.{ComeTo};
+ghost use Rattle.tup_graph.specs.Graph.{GraphState, is_flagged};
+ghost use Rattle.tup_graph.specs.Kept.{IsKept};
+ghost use Rattle.tup_graph.specs.Reach.{stamp_in, IsReached};
+ghost use Rattle.tup_graph.specs.Records.{Language};
+ghost use Rattle.tup_graph.specs.Scan.{IsScanned};
+ghost use Rattle.tup_graph.specs.Swap.{IsSwapped};
+ghost use Rattle.tup_refresh.specs.Untouched.{SeesSources};
+ghost use Rattle.tup_fits.specs.Language.{LinksReadings};
+
+/// A law: after a scan that found a tree, and a swap that brings the rules of the sources in it, just those
+/// rules are flagged that are reached from the graph that was kept before both.
+pub fn flagged_is_reach()
+    ensures { (next : Next) (language : Language) (known : List Content)
+        (g scanned swapped : GraphState) (files : List (Names × Stamp)) (config : Option Content)
+        (fresh : List (Names × Reading)) (gone : List Names) (rules : List Rule)
+        (tree sources : Tree) (number : ℕ)
+        → LinksReadings language → IsKept next language known g
+        → IsScanned g files config scanned
+        → ((path : Names) → finite.get scanned.seen path ≡ stamp_in tree path)
+        → SeesSources sources scanned → ComeTo sources (Ok rules)
+        → IsSwapped scanned fresh gone rules swapped
+        → (is_flagged swapped number ≡ true) ↔ IsReached g tree rules number }
+{}
