@@ -5,7 +5,7 @@ use Rattle.std.specs.FinMap as finite
 use Rattle.std.specs.Result.{result_ok}
 use Rattle.std.proofs.lemmas.Bool.{false≢true, true≢false, or_cases}
 use Rattle.std.proofs.lemmas.Cmp.{nat_list_cmp_total}
-use Rattle.std.proofs.lemmas.List.Elements.{All-contains, All-contains_itself, All-weaker, Contains-append_cases, Contains-append_left, Contains-append_right, Contains-push_cases}
+use Rattle.std.proofs.lemmas.List.Elements.{All-contains, All-contains_itself, All-nil, All-weaker, Contains-append_cases, Contains-append_left, Contains-append_right, Contains-push_cases}
 use Rattle.std.proofs.lemmas.List.Folds.{Any-from_list_any}
 use Rattle.std.proofs.lemmas.Option.{none-some, slice_get-get_or, slice_get_within, get_or_from_slice_get}
 use Rattle.tup_path.specs.Name.{Names}
@@ -100,6 +100,14 @@ drafted drafts path e =
     let found = Any-from_list_any (λ (draft : Draft). among path draft.outputs) drafts e in
     (found.1, (found.0, found.2, found.3), Contains-among path found.1.outputs found.4)
 
+-- what a group has is given to it
+member_given : (drafts : List Draft) (group : GroupRef) (path : Names) → Contains (members drafts group) path → Contains (given_to group drafts) path
+unfolding members
+member_given drafts group path h = elim (all_only by_names by_names-total by_names-antisymmetric [] (given_to group drafts) path h) [
+  | inl none ↦ absurd (none_in path none)
+  | inr given ↦ given
+]
+
 -- paths behind others
 in_paths : (paths others : List Names) (path : Names) → Contains (with_paths paths others) path → Contains paths path ⊎ Contains others path
 in_paths paths [] path h = inl h
@@ -112,6 +120,14 @@ in_paths paths (first ∷ others) path h = by (in_paths (with_path paths first) 
     by : Contains (with_path paths first) path ⊎ Contains others path → Contains paths path ⊎ Contains (first ∷ others) path
     by (inl there) = in_one (among first paths) there
     by (inr later) = inr (behind_front first path others later)
+
+-- what was read of a folder before is read of it in the end
+pub reading_stays : (sources : Tree) (settings : Entries) (all before : Readings) → AreAllReadings sources settings all → AreSomeReadings sources settings before → (dir : Names) (left : Reading) → finite.get before dir ≡ Some left → finite.get all dir ≡ Some left
+reading_stays sources settings all before are some dir left e = by (finite.get all dir) refl
+  where
+    by : (now : Option Reading) → finite.get all dir ≡ now → finite.get all dir ≡ Some left
+    by (Some other) here = here ∙ ap Some (readings_agree sources settings all before are.some some dir other left here e)
+    by None none = absurd (true≢false (sym (are.all dir (of_tupfiles sources settings some.0 before some.1 dir left e)) ∙ ap is_some none))
 
 module _ (sources : Tree) (settings : Entries) (list : List (Names × Reading)) (up : IsTrue (finite.is_sorted by_names list)) (all : AreAllReadings sources settings (finite.from_sorted list)) where
   abbrev readings : Readings
@@ -141,13 +157,6 @@ module _ (sources : Tree) (settings : Entries) (list : List (Names × Reading)) 
     abbrev made_in : Names → Option Names → Kind
     made_in path up = elim up as (λ _. Kind) [ Some dir ↦ made_kind before reader dir path | None ↦ Nothing ]
 
-    stays : (dir : Names) (left : Reading) → finite.get before dir ≡ Some left → finite.get readings dir ≡ Some left
-    stays dir left e = by (finite.get readings dir) refl
-      where
-        by : (now : Option Reading) → finite.get readings dir ≡ now → finite.get readings dir ≡ Some left
-        by (Some other) here = here ∙ ap Some (readings_agree sources settings readings before all.some some dir other left here e)
-        by None none = absurd (true≢false (sym (all.all dir (of_tupfiles sources settings some.0 before some.1 dir left e)) ∙ ap is_some none))
-
     -- a file that is told is there
     made_there : (path : Names) (up : Option Names) → made_in path up ≡ File → IsMade path
     made_there path None e = absurd (let wrong : Nothing ≡ File = e in cc)
@@ -159,7 +168,7 @@ module _ (sources : Tree) (settings : Entries) (list : List (Names × Reading)) 
 
         other : (now : Option Reading) → finite.get before dir ≡ now → cond (is_made (elim now as (λ _. List Draft) [ Some left ↦ left.drafts | None ↦ [] ]) path) File Nothing ≡ File → IsMade path
         other None none e = absurd (let wrong : Nothing ≡ File = e in cc)
-        other (Some left) here e = ((dir, left), listed dir left (stays dir left here), drafted left.drafts path (as_file (is_made left.drafts path) e))
+        other (Some left) here e = ((dir, left), listed dir left (reading_stays sources settings readings before all some dir left here), drafted left.drafts path (as_file (is_made left.drafts path) e))
 
         own : (b : Bool) → cond (is_made (cond b [] (drafts_of before dir)) path) File Nothing ≡ File → IsMade path
         own true e = absurd (let wrong : Nothing ≡ File = e in cc)
@@ -178,9 +187,6 @@ module _ (sources : Tree) (settings : Entries) (list : List (Names × Reading)) 
     names_files dir =
         All-weaker (Contains (names_in sources before reader dir)) (λ name. told_at answers (dir ++ name ∷ []) ≡ File) named (names_in sources before reader dir) (All-contains_itself (names_in sources before reader dir))
       where
-        drafts : List Draft
-        drafts = seen_drafts before reader dir
-
         free : All (IsFree sources) (made_by (seen_drafts before reader dir))
         free = own (same_path reader dir)
           where
@@ -192,13 +198,13 @@ module _ (sources : Tree) (settings : Entries) (list : List (Names × Reading)) 
             ]
 
             of : (now : Option Reading) → finite.get before dir ≡ now → All (IsFree sources) (made_by (elim now as (λ _. List Draft) [ Some left ↦ left.drafts | None ↦ [] ]))
-            of None none = All-weaker (Contains []) (IsFree sources) (λ path h. absurd (none_in path h)) [] (All-contains_itself [])
+            of None none = All-nil (IsFree sources)
             of (Some left) here =
                 All-weaker (Contains (made_by left.drafts)) (IsFree sources) (of_drafts [] left.drafts (all_keep sources settings some.0 before some.1 dir left here)) (made_by left.drafts)
                 (All-contains_itself (made_by left.drafts))
 
             own : (b : Bool) → All (IsFree sources) (made_by (cond b [] (drafts_of before dir)))
-            own true = All-weaker (Contains []) (IsFree sources) (λ path h. absurd (none_in path h)) [] (All-contains_itself [])
+            own true = All-nil (IsFree sources)
             own false = of (finite.get before dir) refl
 
         source_file : (path : Names) → Contains (finite.keys sources) path → told_at answers path ≡ File
@@ -269,11 +275,7 @@ module _ (sources : Tree) (settings : Entries) (list : List (Names × Reading)) 
 
   -- a member of a group is an output of a reading
   member_made : (group : GroupRef) (path : Names) → Contains (members (all_drafts (placed list)) group) path → IsMade path
-  unfolding members
-  member_made group path h = elim (all_only by_names by_names-total by_names-antisymmetric [] (given_to group (all_drafts (placed list))) path h) [
-    | inl none ↦ absurd (none_in path none)
-    | inr given ↦ by (in_flat_map (λ (draft : Draft). if gives_to group draft then draft.outputs else []) (all_drafts (placed list)) path given)
-  ]
+  member_made group path h = by (in_flat_map (λ (draft : Draft). if gives_to group draft then draft.outputs else []) (all_drafts (placed list)) path (member_given (all_drafts (placed list)) group path h))
     where
       as_output : (draft : Draft) (b : Bool) → Contains (cond b draft.outputs []) path → Contains draft.outputs path
       as_output draft true out = out
