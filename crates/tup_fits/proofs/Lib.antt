@@ -1,3 +1,4 @@
 pub mod Named
 pub mod Declared
+pub mod Tupfiles
 pub mod Reached

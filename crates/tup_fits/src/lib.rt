@@ -5,8 +5,10 @@
 //! has to run.
 #![tactic(auto)]
 
+mod language;
 mod reach;
 mod rules;
 
+pub use language::tupfiles_are_a_language;
 pub use reach::flagged_is_reach;
 pub use rules::{declared_are_there, linked_have_own_names};
