@@ -5,9 +5,8 @@ use Rattle.std.specs.FinMap as finite
 use Rattle.std.specs.Result.{result_ok}
 use Rattle.std.proofs.lemmas.Bool.{false≢true, true≢false, or_cases}
 use Rattle.std.proofs.lemmas.Cmp.{nat_list_cmp_total}
-use Rattle.std.proofs.lemmas.List.Elements.{All-contains, All-contains_itself, All-nil, All-weaker, Contains-append_cases, Contains-append_left, Contains-append_right, Contains-push_cases}
+use Rattle.std.proofs.lemmas.List.Elements.{All-contains, All-contains_itself, All-nil, All-weaker, Contains-append_cases, Contains-push_cases}
 use Rattle.std.proofs.lemmas.List.Folds.{Any-from_list_any}
-use Rattle.std.proofs.lemmas.Option.{none-some, slice_get-get_or, slice_get_within, get_or_from_slice_get}
 use Rattle.tup_path.specs.Name.{Names}
 use Rattle.tup_path.specs.Order.{by_bytes, by_names, by_names-antisymmetric, by_names-total, same_path}
 use Rattle.tup_path.specs.Resolve.{above}
@@ -51,48 +50,9 @@ use Rattle.tup_diff.proofs.Editing.{entry_found, found_entry}
 use Rattle.tup_diff.proofs.Ordered.{behind_front, front_or_behind, in_front, none_in}
 use Rattle.tup_refresh.proofs.Ordering.{all_only, named_there}
 use Rattle.tup_fits.specs.Rules.{DeclareWhatIsThere}
+use Rattle.tup_fits.proofs.Lists.{at_place, flat_map_in, in_flat_map, in_map, map_in, place_of}
 
--- ---- lists
-
-module _ {X Y : Type 0} where
-  in_map : (f : X → Y) (xs : List X) (y : Y) → Contains (map f xs) y → (x : X) × Contains xs x × (f x ≡ y)
-  in_map f [] y h = absurd (none_in y h)
-  in_map f (x ∷ xs) y h = by (front_or_behind (f x) y (map f xs) h) (in_map f xs y)
-    where
-      by : (f x ≡ y) ⊎ Contains (map f xs) y → (Contains (map f xs) y → (z : X) × Contains xs z × (f z ≡ y)) → (z : X) × Contains (x ∷ xs) z × (f z ≡ y)
-      by (inl is) more = (x, in_front x xs, is)
-      by (inr later) more = (let found = more later in (found.0, behind_front x found.0 xs found.1, found.2))
-
-  map_in : (f : X → Y) (xs : List X) (x : X) → Contains xs x → Contains (map f xs) (f x)
-  map_in f [] x h = absurd (none_in x h)
-  map_in f (first ∷ xs) x h = by (front_or_behind first x xs h) (map_in f xs x)
-    where
-      by : (first ≡ x) ⊎ Contains xs x → (Contains xs x → Contains (map f xs) (f x)) → Contains (f first ∷ map f xs) (f x)
-      by (inl is) more = subst (λ (z : X). Contains (f first ∷ map f xs) (f z)) is (in_front (f first) (map f xs))
-      by (inr later) more = behind_front (f first) (f x) (map f xs) (more later)
-
-  in_flat_map : (f : X → List Y) (xs : List X) (y : Y) → Contains (flat_map f xs) y → (x : X) × Contains xs x × Contains (f x) y
-  in_flat_map f [] y h = absurd (none_in y h)
-  in_flat_map f (x ∷ xs) y h = by (Contains-append_cases (f x) (flat_map f xs) y h) (in_flat_map f xs y)
-    where
-      by : Contains (f x) y ⊎ Contains (flat_map f xs) y → (Contains (flat_map f xs) y → (z : X) × Contains xs z × Contains (f z) y) → (z : X) × Contains (x ∷ xs) z × Contains (f z) y
-      by (inl here) more = (x, in_front x xs, here)
-      by (inr later) more = (let found = more later in (found.0, behind_front x found.0 xs found.1, found.2))
-
-  flat_map_in : (f : X → List Y) (xs : List X) (x : X) (y : Y) → Contains xs x → Contains (f x) y → Contains (flat_map f xs) y
-  flat_map_in f [] x y h here = absurd (none_in x h)
-  flat_map_in f (first ∷ xs) x y h here = by (front_or_behind first x xs h) (λ later. flat_map_in f xs x y later here)
-    where
-      by : (first ≡ x) ⊎ Contains xs x → (Contains xs x → Contains (flat_map f xs) y) → Contains (f first ++ flat_map f xs) y
-      by (inl is) more = Contains-append_left (f first) (flat_map f xs) y (subst (λ (z : X). Contains (f z) y) (sym is) here)
-      by (inr later) more = Contains-append_right (f first) (flat_map f xs) y (more later)
-
--- what stands at a place of a list is in it, and the other way round
-at_place : {X : Type 0} (xs : List X) (at : ℕ) (x : X) → slice_get xs at ≡ Some x → Contains xs x
-at_place xs at x e = (at, slice_get_within xs at x e, get_or_from_slice_get xs at x x e)
-
-place_of : {X : Type 0} (xs : List X) (x : X) → Contains xs x → (at : ℕ) × (slice_get xs at ≡ Some x)
-place_of xs x h = (h.0, slice_get-get_or xs h.0 x h.1 ∙ ap Some h.2)
+-- ---- outputs of drafts, and paths behind others
 
 -- the outputs of some drafts
 drafted : (drafts : List Draft) (path : Names) → is_made drafts path ≡ true → IsDrafted drafts path

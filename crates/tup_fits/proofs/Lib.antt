@@ -1,3 +1,4 @@
+pub mod Lists
 pub mod Named
 pub mod Declared
 pub mod Tupfiles
