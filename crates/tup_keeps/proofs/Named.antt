@@ -20,7 +20,7 @@ use Rattle.tup_link.specs.Linked.{rule_of, rules_in, rules_of}
 use Rattle.tup_link.specs.Placed.{Placed, drafts_of, placed}
 use Rattle.tup_link.specs.declared.fault.LinkFault.{LinkFault}
 use Rattle.tup_whole.specs.Project.{AreLinked}
-use Rattle.tup_fits.specs.Rules.{HaveOwnNames}
+use Rattle.tup_keeps.specs.Linking.{HaveOwnNames}
 
 -- ---- rules of which none repeats a command
 

@@ -1,14 +1,16 @@
 -- What a rule of a project declares is a source, or an output of one of its rules.
 use Rattle.std.proofs.Common.{◌≡◌, ◌⊎◌, inl, inr, ℕ, zero, suc, ◌<◌, Bool, true, false, cond, ◌||◌, List, [], ◌∷◌, ◌++◌, map, flat_map, fold, get_or, Option, Some, None, Result, Ok, Err, All, Contains, IsTrue, IsSome, is_some, if◌then◌else◌, slice_get, refl, sym, ap, ◌∙◌, subst, arith}
+use Rattle.std.specs.BTreeSet.{insert_key}
 use Rattle.std.specs.Bool.{passes}
 use Rattle.std.specs.FinMap as finite
+use Rattle.std.specs.List.{cons_option}
 use Rattle.std.specs.Result.{result_ok}
 use Rattle.std.proofs.lemmas.Bool.{false≢true, true≢false, or_cases}
-use Rattle.std.proofs.lemmas.Cmp.{nat_list_cmp_total}
-use Rattle.std.proofs.lemmas.List.Elements.{All-contains, All-contains_itself, All-nil, All-weaker, Contains-append_cases, Contains-push_cases}
+use Rattle.std.proofs.lemmas.List.Elements.{All-cons, All-contains, All-contains_itself, All-head, All-nil, All-tail, All-weaker, Contains-append_cases, Contains-push_cases}
 use Rattle.std.proofs.lemmas.List.Folds.{Any-from_list_any}
+use Rattle.std.proofs.lemmas.Map.Views.{All-insert_key}
 use Rattle.tup_path.specs.Name.{Names}
-use Rattle.tup_path.specs.Order.{by_bytes, by_names, by_names-antisymmetric, by_names-total, same_path}
+use Rattle.tup_path.specs.Order.{by_names, same_path}
 use Rattle.tup_path.specs.Resolve.{above}
 use Rattle.tup_path.specs.Tree.{Tree}
 use Rattle.tup_path.proofs.Same.{by_names-decides, same_path-decides}
@@ -27,13 +29,14 @@ use Rattle.tup_vars.specs.Table.{Entries}
 use Rattle.tup_vars.specs.declared.fault.ConfigFault.{ConfigFault}
 use Rattle.tup_ask.specs.Log.{Says}
 use Rattle.tup_ask.proofs.Runs.{ran_outcome}
-use Rattle.tup_draft.specs.Glob.{in_order, names_among}
+use Rattle.tup_draft.specs.Folder.{name_in}
+use Rattle.tup_draft.specs.Glob.{names_among}
 use Rattle.tup_draft.specs.Sound.{told_at, AreSound, IsSound, MayTake, NamesFiles}
 use Rattle.tup_draft.specs.State.{is_made, made_by}
-use Rattle.tup_draft.proofs.Soundness.{made_all}
+use Rattle.tup_draft.proofs.Soundness.{made_all, name_in-own, ordered-all}
 use Rattle.tup_reader.specs.Reading.{reading}
 use Rattle.tup_reader.proofs.Soundness.{reading-sound}
-use Rattle.tup_folders.specs.Answers.{Readings, answer, drafts_of, made_kind, names_in, seen_drafts}
+use Rattle.tup_folders.specs.Answers.{Readings, answer, drafts_of, made_kind, seen_drafts}
 use Rattle.tup_folders.specs.Readings.{AreAllReadings, AreReadWith, AreSomeReadings, IsOutcome, IsReadingOver}
 use Rattle.tup_folders.specs.Sources.{has_below, is_source, settings_of}
 use Rattle.tup_folders.proofs.One.{of_tupfiles, reading_in, readings_agree}
@@ -44,13 +47,11 @@ use Rattle.tup_link.specs.Placed.{Placed, placed, placed_in, drafts_of as all_dr
 use Rattle.tup_whole.specs.Project.{AreLinked, ComeTo}
 use Rattle.tup_whole.proofs.Making.{AllMakeHere, IsFree, MakesHere, all_keep}
 use Rattle.tup_graph.specs.Answers.{IsDrafted}
-use Rattle.tup_graph.proofs.Maps.{by_bytes-antisymmetric}
 use Rattle.tup_above.proofs.Members.{in_list}
 use Rattle.tup_diff.proofs.Editing.{entry_found, found_entry}
 use Rattle.tup_diff.proofs.Ordered.{behind_front, front_or_behind, in_front, none_in}
-use Rattle.tup_refresh.proofs.Ordering.{all_only, named_there}
-use Rattle.tup_fits.specs.Rules.{DeclareWhatIsThere}
-use Rattle.tup_fits.proofs.Lists.{at_place, flat_map_in, in_flat_map, in_map, map_in, place_of}
+use Rattle.tup_keeps.specs.Linking.{DeclareWhatIsThere}
+use Rattle.tup_keeps.proofs.Lists.{at_place, flat_map_in, in_flat_map, in_map, map_in, place_of}
 
 -- ---- outputs of drafts, and paths behind others
 
@@ -60,13 +61,25 @@ drafted drafts path e =
     let found = Any-from_list_any (λ (draft : Draft). among path draft.outputs) drafts e in
     (found.1, (found.0, found.2, found.3), Contains-among path found.1.outputs found.4)
 
+-- a fact of each file in a folder is one of its names
+named : (P : List ℕ → Type 0) (dir : Names) (paths : List Names) → ((name : List ℕ) → Contains paths (dir ++ name ∷ []) → P name) → All P (names_among dir paths)
+named P dir [] each = All-nil P
+named P dir (path ∷ paths) each = by (named P dir paths (λ name h. each name (behind_front path (dir ++ name ∷ []) paths h))) (name_in dir path) refl
+  where
+    by : All P (names_among dir paths) → (found : Option (List ℕ)) → name_in dir path ≡ found → All P (cons_option found (names_among dir paths))
+    by rest None e = rest
+    by rest (Some name) e = All-cons P name (names_among dir paths) (each name (subst (Contains (path ∷ paths)) (name_in-own dir path name e) (in_front path paths))) rest
+
 -- what a group has is given to it
+all_put : (P : Names → Type 0) (some paths : List Names) → All P some → All P paths → All P (fold (insert_key by_names) some paths)
+all_put P some [] old new = old
+all_put P some (path ∷ paths) old new = all_put P (insert_key by_names some path) paths (All-insert_key by_names path P some old (All-head P path paths new)) (All-tail P path paths new)
+
 member_given : (drafts : List Draft) (group : GroupRef) (path : Names) → Contains (members drafts group) path → Contains (given_to group drafts) path
 unfolding members
-member_given drafts group path h = elim (all_only by_names by_names-total by_names-antisymmetric [] (given_to group drafts) path h) [
-  | inl none ↦ absurd (none_in path none)
-  | inr given ↦ given
-]
+member_given drafts group path h =
+    All-contains (Contains (given_to group drafts)) (members drafts group) path
+    (all_put (Contains (given_to group drafts)) [] (given_to group drafts) (All-nil (Contains (given_to group drafts))) (All-contains_itself (given_to group drafts))) h
 
 -- paths behind others
 in_paths : (paths others : List Names) (path : Names) → Contains (with_paths paths others) path → Contains paths path ⊎ Contains others path
@@ -145,7 +158,8 @@ module _ (sources : Tree) (settings : Entries) (list : List (Names × Reading)) 
     -- the names that are told are those of files
     names_files : NamesFiles answers
     names_files dir =
-        All-weaker (Contains (names_in sources before reader dir)) (λ name. told_at answers (dir ++ name ∷ []) ≡ File) named (names_in sources before reader dir) (All-contains_itself (names_in sources before reader dir))
+        ordered-all (λ name. told_at answers (dir ++ name ∷ []) ≡ File) [] (names_among dir (finite.keys sources ++ made_by (seen_drafts before reader dir))) (All-nil (λ name. told_at answers (dir ++ name ∷ []) ≡ File))
+        (named (λ name. told_at answers (dir ++ name ∷ []) ≡ File) dir (finite.keys sources ++ made_by (seen_drafts before reader dir)) each)
       where
         free : All (IsFree sources) (made_by (seen_drafts before reader dir))
         free = own (same_path reader dir)
@@ -180,14 +194,10 @@ module _ (sources : Tree) (settings : Entries) (list : List (Names × Reading)) 
             ∙ ap (λ b. cond b File Nothing)
             (All-contains (λ p. is_made (seen_drafts before reader dir) p ≡ true) (made_by (seen_drafts before reader dir)) path (made_all (seen_drafts before reader dir)) made)
 
-        named : (name : List ℕ) → Contains (names_in sources before reader dir) name → told_at answers (dir ++ name ∷ []) ≡ File
-        named name h = elim (all_only by_bytes nat_list_cmp_total by_bytes-antisymmetric [] (names_among dir (finite.keys sources ++ made_by (seen_drafts before reader dir))) name h) [
-          | inl none ↦ absurd (none_in name none)
-          | inr some ↦ elim (Contains-append_cases (finite.keys sources) (made_by (seen_drafts before reader dir)) (dir ++ name ∷ [])
-              (named_there dir (finite.keys sources ++ made_by (seen_drafts before reader dir)) name some)) [
-                | inl key ↦ source_file (dir ++ name ∷ []) key
-                | inr made ↦ made_file name made
-              ]
+        each : (name : List ℕ) → Contains (finite.keys sources ++ made_by (seen_drafts before reader dir)) (dir ++ name ∷ []) → told_at answers (dir ++ name ∷ []) ≡ File
+        each name h = elim (Contains-append_cases (finite.keys sources) (made_by (seen_drafts before reader dir)) (dir ++ name ∷ []) h) [
+          | inl key ↦ source_file (dir ++ name ∷ []) key
+          | inr made ↦ made_file name made
         ]
 
     module _ (left : Reading) (here : Contains list (reader, left)) where

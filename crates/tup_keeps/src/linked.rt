@@ -5,7 +5,7 @@ ghost use Rattle.tup_path.specs.Tree.{Tree};
 ghost use Rattle.tup_rule.specs.declared.question.Reading.{Reading};
 ghost use Rattle.tup_rule.specs.declared.rule.Rule.{Rule};
 ghost use Rattle.tup_whole.specs.Project.{AreLinked, ComeTo};
-ghost use Rattle.tup_fits.specs.Rules.{DeclareWhatIsThere, HaveOwnNames};
+ghost use Rattle.tup_keeps.specs.Linking.{DeclareWhatIsThere, HaveOwnNames};
 
 /// A law: no two of the rules that readings are linked to have one name.
 pub fn linked_have_own_names()
