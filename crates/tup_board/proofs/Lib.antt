@@ -12,4 +12,6 @@ pub mod Coming
 pub mod Visiting
 pub mod Finishing
 pub mod Imaging
+pub mod Known
+pub mod Making
 pub mod Came
