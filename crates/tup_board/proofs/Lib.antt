@@ -13,5 +13,7 @@ pub mod Visiting
 pub mod Finishing
 pub mod Imaging
 pub mod Known
+pub mod Named
+pub mod Placing
 pub mod Making
 pub mod Came

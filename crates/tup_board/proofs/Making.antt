@@ -1,6 +1,6 @@
 -- What holds of a board holds once the files of a rule were made for it, or not.
 use Rattle.std.proofs.Common.{◌≡◌, ◌≢◌, ◌⊎◌, ℕ, ◌≤◌, Bool, true, false, List, [], ◌∷◌, ◌++◌, map, Option, None, Some, Result, Ok, Err, refl, sym, ap, ◌∙◌, subst, ⊎_elim, inl, inr, arith}
-use Rattle.std.specs.Prelude.{All, Contains, IsTrue, if◌then◌else◌, slice_get}
+use Rattle.std.specs.Prelude.{All, Contains, IsTrue, if◌then◌else◌, is_none, slice_get, ◌||◌}
 use Rattle.std.specs.FinMap as finite
 use Rattle.std.specs.Option.{option_map}
 use Rattle.std.proofs.lemmas.Bool.{true≢false, cases_Bool, false_from_ne_true, or_cases}
@@ -28,7 +28,7 @@ use Rattle.tup_graph.specs.Graph.{GraphState, outputs_of}
 use Rattle.tup_graph.specs.Opening.{IsGraphOf}
 use Rattle.tup_graph.specs.Transactions.{begun, finished, begin_edits, finish_edits}
 use Rattle.tup_kept.specs.Crash.{IsStoreOf}
-use Rattle.tup_kept.specs.Held.{Held}
+use Rattle.tup_kept.specs.Held.{Held, is_fresh}
 use Rattle.tup_kept.specs.Transaction.{IsFull}
 use Rattle.tup_stale.proofs.Crashes.{stores_now}
 use Rattle.tup_ledger.proofs.Guarding.{one_store}
@@ -300,7 +300,6 @@ module _ {S R : Type 0} (site : Site S) (runner : Runner R) (b : BoardState S) (
             run = λ ran ran_is.
                 let tries : commit.run ≡ Some run = ⊎_elim (λ began. absurd (none_or_run ran (sym began ∙ ran_is))) (λ kept. kept) loses.kept in
                 let same : run ≡ ran = same_run run ran (sym tries ∙ ran_is) in
-                let as_rule : IsRecordOf (plan_of b) (state b) seat commit.rule run = subst (λ (n : ℕ). IsRecordOf (plan_of b) (state b) seat n run) (sym loses.rule) kept in
                 could commit.rule (sym loses.rule) ran same (inr (commit, lost, tries));
           }
         where
@@ -439,15 +438,15 @@ module _ {S R : Type 0} (site : Site S) (runner : Runner R) (b : BoardState S) (
         later_is : site.moment b.opening.site ≤ site.moment new.site
         later_is = let first = sound.later told in let last = (makes.crash told).later in omega (arith, first, last)
 
-    pub refusal_true : IsGraphOf (entries_in new.graph.table) new.graph.nodes ⊎ (fault ≢ fault_by.Full) → IsTrueFault site refused_board seat fault
-    refusal_true room = by fault refl
+    pub refusal_true : (IsTrue (is_fresh new.graph) → IsGraphOf (entries_in new.graph.table) new.graph.nodes) → IsTrueFault site refused_board seat fault
+    refusal_true law = by fault refl
       where
         by : (it : BoardFault) → fault ≡ it → IsTrueFault site refused_board seat it
         by fault_by.Site is =
             ⊎_elim (λ rises. rose_since (site.faults b.opening.site) (site.faults b.site) (site.faults new.site) sound.counted rises) (λ was. absurd (none-some was.0 was.1))
             (counts.site (refused ∙ ap Err is))
         by (fault_by.TooLarge bytes) is = absurd (makes.small bytes (refused ∙ ap Err is))
-        by fault_by.Full is = λ told. elim room [ inl graph ↦ no_room told graph is | inr other ↦ absurd (other is) ]
+        by fault_by.Full is = λ told. no_room told (law (makes.is_ground.fresh ∙ ap is_none (still_fresh is))) is
         by fault_by.Memory is = tt
 
   -- ---- it was made: its command ended Good
