@@ -16,4 +16,5 @@ pub mod Known
 pub mod Named
 pub mod Placing
 pub mod Making
+pub mod Ended
 pub mod Came

@@ -30,7 +30,7 @@ none_lost lost = let none : (let no : Option Lost = None in no) ≡ Some lost.0 
 abbrev refused : {T : Type 0} → BoardFault → Result T BoardFault
 refused fault = Err fault
 
-same_fault : {T : Type 0} (one other : BoardFault) → refused {T = T} one ≡ Err other → one ≡ other
+pub same_fault : {T : Type 0} (one other : BoardFault) → refused {T = T} one ≡ Err other → one ≡ other
 same_fault one other e = cc
 
 same_refusal : {T U : Type 0} (one other : BoardFault) → refused {T = T} one ≡ Err other → refused {T = U} one ≡ Err other
