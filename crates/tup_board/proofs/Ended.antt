@@ -208,7 +208,7 @@ module _ {S : Type 0} (site : Site S) (b : BoardState S) (seat number : ℕ) (ru
 
     -- ---- it was made
     module _ (done : Unit {0}) (ok : result ≡ Ok done) where
-      none_before : b.lost ≡ None
+      pub none_before : b.lost ≡ None
       none_before = by b.lost refl
         where
           by : (lost : Option Lost) → b.lost ≡ lost → b.lost ≡ None

@@ -17,4 +17,5 @@ pub mod Named
 pub mod Placing
 pub mod Making
 pub mod Ended
+pub mod Finished
 pub mod Came
