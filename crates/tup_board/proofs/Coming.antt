@@ -35,6 +35,11 @@ number_itself : (n : ℕ) → eq_by_cmp nat_cmp n n ≡ true
 number_itself n = tied_itself nat_cmp_total n
 
 -- ---- the outputs of a rule in a graph
+
+-- who makes an output of a rule, by what owns it
+abbrev pub maker_in : ℕ → Option Owned → Option ℕ
+maker_in number o = elim o [ Some owned ↦ owned.maker | None ↦ Some number ]
+
 module _ (g : GraphState) (number : ℕ) (rule : Rule) (here : slice_get g.rules number ≡ Some rule) where
   abbrev unsure : Names → Owned
   unsure path = record { maker = maker_of g number path; state = Unsure }
@@ -57,12 +62,9 @@ module _ (g : GraphState) (number : ℕ) (rule : Rule) (here : slice_get g.rules
   pub begun_maker : (q : Names) → maker_of (begun g number) number q ≡ maker_of g number q
   begun_maker q = by (writes rule q) refl
     where
-      abbrev maker_in : Option Owned → Option ℕ
-      maker_in o = elim o [ Some owned ↦ owned.maker | None ↦ Some number ]
-
       by : (b : Bool) → writes rule q ≡ b → maker_of (begun g number) number q ≡ maker_of g number q
-      by true own = ap maker_in (begun_own q own)
-      by false other = ap maker_in (begun_else q other)
+      by true own = ap (maker_in number) (begun_own q own)
+      by false other = ap (maker_in number) (begun_else q other)
 
   -- and once it ended with a record
   module _ (run : RunRecord) (names : map (λ (file : Names × Stamp). file.0) run.writes ≡ rule.outputs) where

@@ -11,7 +11,6 @@ use Rattle.tup_rule.specs.Rule.{writes, is_generated}
 use Rattle.tup_rule.specs.Producer.{DeclaredProducer}
 use Rattle.tup_rule.proofs.Laws.{writes-at}
 use Rattle.tup_record.specs.declared.run.RunRecord.{RunRecord}
-use Rattle.tup_graph.specs.declared.owned.Owned.{Owned}
 use Rattle.tup_graph.specs.Graph.{GraphState, is_flagged}
 use Rattle.tup_graph.specs.Transactions.{maker_of, begun, finished}
 use Rattle.tup_kept.specs.Held.{Held}
@@ -25,7 +24,7 @@ use Rattle.tup_ground.specs.Lost.{Lost}
 use Rattle.tup_board.specs.Board.{BoardState, plan_of, first_graph, start, state}
 use Rattle.tup_board.specs.Come.{HasOf, HasBeside, HasCome, HasComeTo, IsPresent, WasToKeep}
 use Rattle.tup_board.specs.Ends.{HasEnded, IsRecordOf}
-use Rattle.tup_board.proofs.Coming.{begun_else, begun_maker, begun_of, ended_of, finished_maker, finished_owned, finished_seen, flag_else, flag_here, other_begun, other_of, run_else}
+use Rattle.tup_board.proofs.Coming.{begun_else, begun_maker, begun_of, ended_of, finished_maker, finished_owned, finished_seen, flag_else, flag_here, maker_in, other_begun, other_of, run_else}
 
 pub same_or_other : (m n : ℕ) → (m ≡ n) ⊎ (m ≢ n)
 same_or_other m n =
@@ -88,13 +87,10 @@ module _ {S : Type 0} (b : BoardState S) (none : b.lost ≡ None) (g : GraphStat
   names_of ran (inr lost) = absurd (none-some lost.commit (sym none ∙ lost.here))
 
   -- ---- its outputs have the makers that they had
-  abbrev maker_in : Option Owned → Option ℕ
-  maker_in o = elim o [ Some owned ↦ owned.maker | None ↦ Some number ]
-
   makers_by : HasCome b g number rule → (q : Names) → writes rule q ≡ true → maker_of g number q ≡ maker_of (first_graph b) number q
-  makers_by (inl has) q own = ap maker_in (has.owned q own)
-  makers_by (inr (inl has)) q own = ap maker_in (has.1.owned q own) ∙ begun_maker (first_graph b) number rule in_first q
-  makers_by (inr (inr has)) q own = ap maker_in (has.2.owned q own) ∙ finished_maker (first_graph b) number rule in_first has.0 (names_of has.0 has.1) q own
+  makers_by (inl has) q own = ap (maker_in number) (has.owned q own)
+  makers_by (inr (inl has)) q own = ap (maker_in number) (has.1.owned q own) ∙ begun_maker (first_graph b) number rule in_first q
+  makers_by (inr (inr has)) q own = ap (maker_in number) (has.2.owned q own) ∙ finished_maker (first_graph b) number rule in_first has.0 (names_of has.0 has.1) q own
 
   makers : (q : Names) → writes rule q ≡ true → maker_of g number q ≡ maker_of (first_graph b) number q
   makers = makers_by (present.come.each number rule placed)

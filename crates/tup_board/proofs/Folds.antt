@@ -21,12 +21,13 @@ module _ {A X : Type 0} (key : A → Names) where
   -- what is no key of theirs has what it had
   pub get_apart : (value : A → X) (items : List A) (m : finite.FinMap by_names X) (q : Names) → among q (map key items) ≡ false → finite.get (put_all value m items) q ≡ finite.get m q
   get_apart value [] m q apart = refl
-  get_apart value (item ∷ items) m q apart = by (same_path q (key item)) refl apart
+  get_apart value (item ∷ items) m q apart = by (same_path q (key item)) refl apart (λ rest. get_apart value items (finite.insert m (key item) (value item)) q rest)
     where
-      by : (b : Bool) → same_path q (key item) ≡ b → (b || among q (map key items)) ≡ false → finite.get (put_all value (finite.insert m (key item) (value item)) items) q ≡ finite.get m q
-      by true is both = absurd (true≢false both)
-      by false is both =
-          get_apart value items (finite.insert m (key item) (value item)) q both ∙ get_put value m item q ∙ ap (λ (b : Bool). cond b (Some (value item)) (finite.get m q)) is
+      by : (b : Bool) → same_path q (key item) ≡ b → (b || among q (map key items)) ≡ false
+          → (among q (map key items) ≡ false → finite.get (put_all value (finite.insert m (key item) (value item)) items) q ≡ finite.get (finite.insert m (key item) (value item)) q)
+          → finite.get (put_all value (finite.insert m (key item) (value item)) items) q ≡ finite.get m q
+      by true is both later = absurd (true≢false both)
+      by false is both later = later both ∙ get_put value m item q ∙ ap (λ (b : Bool). cond b (Some (value item)) (finite.get m q)) is
 
   -- what is one has the same in two maps into which the same values were put
   pub get_same : (value other : A → X) (items : List A) (m n : finite.FinMap by_names X) (q : Names) → ((item : A) → key item ≡ q → value item ≡ other item)
@@ -49,21 +50,22 @@ module _ {A X : Type 0} (key : A → Names) where
   pub get_own : (value : A → X) (items : List A) (m : finite.FinMap by_names X) (q : Names) → among q (map key items) ≡ true
       → (item : A) × (key item ≡ q) × (finite.get (put_all value m items) q ≡ Some (value item)) × Contains items item
   get_own value [] m q own = absurd (true≢false (sym own))
-  get_own value (item ∷ items) m q own = rest (cases_Bool (among q (map key items)))
+  get_own value (item ∷ items) m q own = rest (cases_Bool (among q (map key items))) (λ within. get_own value items (finite.insert m (key item) (value item)) q within)
     where
-      first : (b : Bool) → same_path q (key item) ≡ b → among q (map key items) ≡ false → (b || among q (map key items)) ≡ true
+      first_is : (b : Bool) → same_path q (key item) ≡ b → among q (map key items) ≡ false → (b || among q (map key items)) ≡ true
           → (one : A) × (key one ≡ q) × (finite.get (put_all value (finite.insert m (key item) (value item)) items) q ≡ Some (value one)) × Contains (item ∷ items) one
-      first true is none any = (
+      first_is true is none any = (
         item,
         sym ((same_path-decides q (key item)).0 is),
         get_apart value items (finite.insert m (key item) (value item)) q none ∙ get_put value m item q ∙ ap (λ (b : Bool). cond b (Some (value item)) (finite.get m q)) is,
         (0, omega arith, refl),
       )
-      first false is none any = absurd (true≢false (sym any ∙ none))
+      first_is false is none any = absurd (true≢false (sym any ∙ none))
 
       rest : (among q (map key items) ≡ true) ⊎ (among q (map key items) ≡ false)
+          → (among q (map key items) ≡ true → (one : A) × (key one ≡ q) × (finite.get (put_all value (finite.insert m (key item) (value item)) items) q ≡ Some (value one)) × Contains items one)
           → (one : A) × (key one ≡ q) × (finite.get (put_all value (finite.insert m (key item) (value item)) items) q ≡ Some (value one)) × Contains (item ∷ items) one
-      rest (inl within) =
-          let found = get_own value items (finite.insert m (key item) (value item)) q within in
+      rest (inl within) later =
+          let found = later within in
           (found.0, found.1, found.2, Contains-append_right (item ∷ []) items found.0 found.3)
-      rest (inr none) = first (same_path q (key item)) refl none own
+      rest (inr none) later = first_is (same_path q (key item)) refl none own

@@ -60,6 +60,7 @@ module _ (old new : List Content) (more : (content : Content) → Contains old c
 
   pub ends_more : (next : Next) (rule : Rule) (running : Running) (denied : Option (List ℕ × Verdict)) (given : Verdict) (written : List (Names × Stamp))
       → EndsHonestly next old rule running denied given written → EndsHonestly next new rule running denied given written
+  unfolding answers_more
   ends_more next rule running (Some denied) given written it = (answers_more next rule running it.0, it.1)
   ends_more next rule running None given written it = (
     answers_more next rule running it.0,
