@@ -1,0 +1,15 @@
+pub mod Sounds
+pub mod Openings
+pub mod Denied
+pub mod Records
+pub mod Kept
+pub mod Reads
+pub mod Seated
+pub mod Asking
+pub mod Ending
+pub mod Folds
+pub mod Coming
+pub mod Visiting
+pub mod Finishing
+pub mod Imaging
+pub mod Came

@@ -1,0 +1,10 @@
+pub mod Board
+pub mod Outputs
+pub mod Ends
+pub mod Come
+pub mod Images
+pub mod Cause
+pub mod Sound
+pub mod Calls
+pub mod Seat
+pub mod Entries
