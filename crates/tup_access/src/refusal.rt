@@ -3,7 +3,7 @@ use crate::verdict::Verdict;
 use std::alloc::{AllocError, AllocFailed};
 
 /// Why a command leaves no files.
-#[derive(Debug, Drop)]
+#[derive(Drop)]
 pub(crate) enum Refusal {
     /// It isn't Good.
     Bad(Verdict),

@@ -19,7 +19,7 @@ pub enum Verdict {
 }
 
 /// Whether a command may ask for a text.
-#[derive(Clone, Debug, Drop, PartialEq, Eq)]
+#[derive(Drop)]
 pub enum Access {
     /// It may, and the text names this path.
     Yes(Path),

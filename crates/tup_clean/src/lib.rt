@@ -29,7 +29,7 @@ use tup_access::Verdict;
 use tup_path::{Files, Items};
 
 /// What a clean build leaves.
-#[derive(Clone, Debug, Drop)]
+#[derive(Drop)]
 pub struct Cleaned {
     /// The sources, and the outputs of the Good rules.
     pub tree: Files,

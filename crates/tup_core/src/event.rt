@@ -7,7 +7,7 @@ use tup_stamp::Stamp;
 pub type Stamps = Items<(Path, Stamp)>;
 
 /// Why an update stops before all its rules are Good.
-#[derive(Clone, Copy, Debug, PartialEq, Eq)]
+#[derive(Clone, Copy, PartialEq, Eq)]
 pub enum Cause {
     /// A verdict isn't Good, and the plan doesn't keep going.
     Bad,
@@ -24,7 +24,7 @@ pub enum Cause {
 }
 
 /// One thing that happens in an update, at a seat: one of 16 places, numbered from 0, at which a command may run.
-#[derive(Clone, Debug, Drop)]
+#[derive(Drop)]
 pub enum CoreEvent {
     /// The seat takes the rule with this number, and runs it.
     Claim {

@@ -6,7 +6,7 @@ use tup_rule::Rules;
 pub type Numbers = Items<u32>;
 
 /// The rules of a project, and which of them an update has to run.
-#[derive(Debug, Drop)]
+#[derive(Drop)]
 pub struct Plan {
     pub rules: Rules,
     /// The places of the rules to be run, ascending.

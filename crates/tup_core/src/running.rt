@@ -13,7 +13,7 @@ use tup_stamp::Stamp;
 pub type StampAsks = Items<(Text, Option<Stamp>)>;
 
 /// A rule that a seat runs, and what its command did so far.
-#[derive(Debug, Drop)]
+#[derive(Drop)]
 pub struct Running {
     /// The place of the rule.
     pub rule: u32,

@@ -1,7 +1,7 @@
 //! What a claim answers.
 
 /// What a seat is to do next.
-#[derive(Clone, Copy, Debug, PartialEq, Eq)]
+#[derive(Clone, Copy, PartialEq, Eq)]
 pub enum Claimed {
     /// It runs the rule with this number.
     Rule(u32),

@@ -3,7 +3,7 @@ use tup_path::Items;
 use tup_record::Record;
 
 /// One thing that a transaction does to the graph.
-#[derive(Debug, Drop, PartialEq, Eq)]
+#[derive(Drop)]
 pub enum Edit {
     /// This record stands from now on, in the place of the one that stood under its key.
     Put(Record),

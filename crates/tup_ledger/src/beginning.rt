@@ -12,7 +12,7 @@ use tup_kept::Graph;
 use tup_site::Site;
 
 /// How a project began.
-#[derive(Clone, Copy, Debug, PartialEq, Eq)]
+#[derive(Clone, Copy, PartialEq, Eq)]
 pub enum Begun {
     /// There was no store, and now there is one, which owns nothing.
     Made,

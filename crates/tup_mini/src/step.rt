@@ -6,7 +6,7 @@ use std::alloc::{AllocError, Global};
 use tup_path::{Items, Text};
 
 /// One step of a small command. Files are named relative to the folder of its rule.
-#[derive(Clone, Debug, Drop)]
+#[derive(Drop)]
 pub(crate) enum MiniStep {
     /// `cp FROM TO` and `cat FROM.. > TO`: any number of files, one behind the other.
     Join { from: Items<Text>, to: Text },

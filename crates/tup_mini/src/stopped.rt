@@ -3,7 +3,7 @@ use std::alloc::{AllocError, AllocFailed};
 use tup_runner::{RunFailed, ViewFailed};
 
 /// Why a command goes no further.
-#[derive(Clone, Copy, Debug)]
+#[derive(Clone, Copy)]
 pub(crate) enum Stopped {
     /// It ends with this status.
     Status(u8),

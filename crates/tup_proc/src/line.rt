@@ -6,7 +6,7 @@ use tup_path::Text;
 use tup_stamp::Stamp;
 
 /// One line of a log. Texts name files relative to the command's folder.
-#[derive(Clone, Debug, Drop)]
+#[derive(Drop)]
 pub enum LogLine {
     /// It asked for this text, and found a content with this stamp.
     Read { stamp: Stamp, text: Text },

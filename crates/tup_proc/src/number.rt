@@ -29,7 +29,8 @@ pub(crate) fn number(alloc: Global, digits: &[u8]) -> Result<Option<u32>, LogFau
 
 /// The stamp that digits spell, if they are 64 hex digits in lower case.
 pub(crate) fn stamp(digits: &[u8]) -> Option<Stamp>
-    ensures { MatchOption result (IsNoDigest digits.now) (λ stamp. IsDigest stamp × (digits.now ≡ hex_text stamp.0)) }
+    ensures { MatchOption result (IsNoDigest digits.now)
+        (λ stamp. IsDigest stamp × (digits.now ≡ hex_text stamp.0)) }
 {
     let mut bytes = [0; 32];
     if decode_to_slice(digits, &mut bytes).is_err() {

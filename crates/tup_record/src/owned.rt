@@ -5,7 +5,7 @@ use tup_path::Bytes;
 use tup_stamp::Stamp;
 
 /// What is known of the file at a path that the build owns.
-#[derive(Clone, Copy, Debug, PartialEq, Eq)]
+#[derive(Clone, Copy, PartialEq, Eq)]
 pub enum OwnedState {
     /// The build never wrote it.
     Never,

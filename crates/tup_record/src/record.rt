@@ -9,7 +9,7 @@ use tup_rule::{Reading, Rule};
 use tup_stamp::Stamp;
 
 /// One thing that the store keeps of a project.
-#[derive(Debug, Drop, PartialEq, Eq)]
+#[derive(Drop)]
 pub enum Record {
     /// The stamp of the content that was last seen at a path.
     Seen {

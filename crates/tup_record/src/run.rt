@@ -14,7 +14,7 @@ pub type Asks = Items<(Path, Option<Stamp>)>;
 pub type Writes = Items<(Path, Stamp)>;
 
 /// What a run asked for and wrote.
-#[derive(Debug, Drop, PartialEq, Eq)]
+#[derive(Drop)]
 pub struct RunRecord {
     pub asks: Asks,
     pub writes: Writes,

@@ -3,7 +3,7 @@ use tup_path::{Items, Path, Paths};
 use tup_rule::Reading;
 
 /// The readings of a project's folders, and which of them are new.
-#[derive(Debug, Drop)]
+#[derive(Drop)]
 pub struct Refreshed {
     /// The readings of all folders that have a Tupfile, in the order of folders.
     pub all: Items<(Path, Reading)>,

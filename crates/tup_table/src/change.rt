@@ -5,7 +5,7 @@ use std::alloc::AllocError;
 use tup_path::Bytes;
 
 /// What a commit does to one key.
-#[derive(Debug, Drop, PartialEq, Eq)]
+#[derive(Drop)]
 pub enum Change {
     /// The key has this value from now on.
     Put { key: Bytes, value: Bytes },

@@ -2,7 +2,7 @@
 use tup_path::Bytes;
 
 /// What stands under a key.
-#[derive(Debug, Drop)]
+#[derive(Drop)]
 pub struct Entry {
     pub value: Bytes,
     /// The offset of the gate of the commit that put the value.

@@ -8,11 +8,11 @@ use thiserror::Error;
 use tup_path::Text;
 
 /// A word of the command line.
-#[derive(Debug, Drop)]
+#[derive(Drop)]
 pub struct Word(pub Text);
 
 /// What the words ask for.
-#[derive(Debug, Drop)]
+#[derive(Drop)]
 pub enum Order {
     /// Update the files; commands are run by the runner that comes with the program, or through this program.
     Upd { program: Option<Text> },

@@ -15,7 +15,7 @@ use tup_site::SiteFailed;
 use tup_update::{Compared, Log, SourcesFault, Stop};
 
 /// What has a limit.
-#[derive(Clone, Copy, Debug, PartialEq, Eq)]
+#[derive(Clone, Copy, PartialEq, Eq)]
 pub enum What {
     /// The files of the tree.
     Files,
@@ -28,7 +28,7 @@ pub enum What {
 }
 
 /// How an order ended.
-#[derive(Debug, Drop)]
+#[derive(Drop)]
 pub enum Status {
     /// The order was carried out: so many folders read, commands run and files removed.
     Done { read: u32, ran: u32, removed: u32 },

@@ -3,7 +3,7 @@ use crate::token::Token;
 use tup_path::{Bytes, Items};
 
 /// A call, or the end of a process, whose name is `+++`.
-#[derive(Clone, Debug, Drop)]
+#[derive(Clone, Drop)]
 pub struct Call {
     /// The number of the process, in digits.
     pub process: Bytes,

@@ -2,7 +2,7 @@
 use tup_path::Bytes;
 
 /// A part of a line. Spaces, commas, round brackets and bars part words.
-#[derive(Clone, Debug, Drop)]
+#[derive(Clone, Drop)]
 pub enum Token {
     /// A name, a number, a flag, or another sign outside of quotes and angles.
     Word(Bytes),

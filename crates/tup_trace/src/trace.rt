@@ -61,7 +61,8 @@ impl Trace {
     /// Reads a byte.
     fn read(&mut self, alloc: Global, byte: u8) -> Result<(), TraceFault>
         ensures ok { OnOk result (followed self.old byte ≡ Ok self.new) }
-        ensures bad { IfErr result (λ fault. (fault ≡ TraceFault.Memory) ⊎ (followed self.old byte ≡ Err fault)) }
+        ensures bad { IfErr result
+            (λ fault. (fault ≡ TraceFault.Memory) ⊎ (followed self.old byte ≡ Err fault)) }
     {
         if byte == b'\n' {
             self.end_line(alloc)
@@ -74,7 +75,8 @@ impl Trace {
     /// The line is over.
     fn end_line(&mut self, alloc: Global) -> Result<(), TraceFault>
         ensures ok { OnOk result (line_ended self.old ≡ Ok self.new) }
-        ensures bad { IfErr result (λ fault. (fault ≡ TraceFault.Memory) ⊎ (line_ended self.old ≡ Err fault)) }
+        ensures bad { IfErr result
+            (λ fault. (fault ≡ TraceFault.Memory) ⊎ (line_ended self.old ≡ Err fault)) }
     {
         let line = self.line;
         let reading = mem::replace(&mut self.reading, Reading::new(alloc));

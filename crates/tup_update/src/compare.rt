@@ -25,7 +25,7 @@ use tup_runner::Runner;
 use tup_site::{Site, SiteFailed};
 
 /// How the files of a site compare with a clean build of its sources.
-#[derive(Debug, Drop)]
+#[derive(Drop)]
 pub enum Compared {
     /// They are the same.
     Same,

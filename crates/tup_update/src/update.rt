@@ -19,7 +19,7 @@ use tup_runner::Runner;
 use tup_site::Site;
 
 /// What an update did, in the order in which it did it.
-#[derive(Debug, Drop)]
+#[derive(Drop)]
 pub struct Log {
     /// The folders whose Tupfile was read.
     pub read: Paths,
@@ -47,7 +47,7 @@ impl Log {
 }
 
 /// What an update did, and why it stopped before its end, if it did.
-#[derive(Debug, Drop)]
+#[derive(Drop)]
 pub struct Update {
     /// The rules of the sources; none where they couldn't be read.
     pub rules: Rules,

@@ -7,7 +7,7 @@ use std::alloc::{AllocError, Global};
 use tup_path::{Path, Paths};
 
 /// What a command does to a path.
-#[derive(Clone, Debug, Drop)]
+#[derive(Drop)]
 pub enum Step {
     /// It asks for what is there.
     Ask(Path),

@@ -2,7 +2,7 @@
 use tup_path::Bytes;
 
 /// What a command does to a place, by an absolute text in which links aren't resolved.
-#[derive(Clone, Debug, Drop)]
+#[derive(Drop)]
 pub enum Act {
     /// It asks for what is there, or, where a link is there and isn't followed, for the link.
     Ask { place: Bytes, follows: bool },
