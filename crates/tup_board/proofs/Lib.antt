@@ -13,3 +13,4 @@ pub mod Visiting
 pub mod Finishing
 pub mod Imaging
 pub mod Came
+pub mod Answering
