@@ -14,3 +14,4 @@ pub mod Finishing
 pub mod Imaging
 pub mod Came
 pub mod Answering
+pub mod Judging
