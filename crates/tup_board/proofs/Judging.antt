@@ -1,9 +1,9 @@
 -- The end of a command: one that isn't Good, one for which there was no memory, and the record of one that is Good.
-use Rattle.std.proofs.Common.{◌≡◌, ◌≢◌, ◌⊎◌, ℕ, ◌+◌, ◌<◌, ◌≤◌, Bool, true, false, List, [], ◌∷◌, ◌++◌, length, map, Option, None, Some, Result, Ok, Err, refl, sym, ap, ◌∙◌, subst, inl, inr, arith}
+use Rattle.std.proofs.Common.{◌≡◌, ◌≢◌, ◌⊎◌, ℕ, ◌<◌, ◌≤◌, Bool, true, false, List, [], ◌∷◌, ◌++◌, length, map, Option, None, Some, Result, Ok, Err, refl, sym, ap, ◌∙◌, subst, inl, inr, arith}
 use Rattle.std.specs.Prelude.{All, IsTrue, slice_get}
 use Rattle.std.specs.FinMap as finite
 use Rattle.std.proofs.lemmas.Option.{same_Some}
-use Rattle.std.proofs.lemmas.List.Elements.{All-nil}
+use Rattle.std.proofs.lemmas.List.Elements.{All-head, All-tail}
 use Rattle.tup_path.specs.Name.{Names, Content}
 use Rattle.tup_path.specs.Resolve.{resolve}
 use Rattle.tup_stamp.specs.declared.Stamp.{Stamp}
@@ -43,8 +43,8 @@ use Rattle.tup_board.proofs.Sounds.{IsHonestEvent}
 recorded : (dir : Names) (asks : List (List ℕ × Option Stamp)) → AreNamed dir asks → (noted : List (Names × Option Stamp)) × AreRecorded dir asks noted
 recorded dir [] named = ([], tt)
 recorded dir (ask ∷ asks) named =
-    let first : IsNamed dir ask.0 = named 0 (omega arith) in
-    let rest = recorded dir asks (λ k within. named (k + 1) (omega (arith, within))) in
+    let first = All-head (λ (one : List ℕ × Option Stamp). IsNamed dir one.0) ask asks named in
+    let rest = recorded dir asks (All-tail (λ (one : List ℕ × Option Stamp). IsNamed dir one.0) ask asks named) in
     ((first.0, ask.1) ∷ rest.0, (first.1, refl, rest.1))
 
 module _ {S : Type 0} (b : BoardState S) (seat : ℕ) where
@@ -55,8 +55,8 @@ module _ {S : Type 0} (b : BoardState S) (seat : ℕ) where
 module _ {S R : Type 0} (site : Site S) (runner : Runner R) (b : BoardState S) (sound : IsSound site runner b) (seat : ℕ) (ended : Ended) where
   -- what the command of a seat asked names paths
   pub asks_named : (it : RunsRule (course_of b) seat) → AreNamed it.rule.dir it.running.asks
-  asks_named it = λ k within.
-      let stands = asks_stand (plan_of b) (course_of b).files b.history sound.opening.apart.one_maker sound.run seat it.running it.rule it.runs k within in
+  asks_named it = λ k d within.
+      let stands = asks_stand (plan_of b) (course_of b).files b.history sound.opening.apart.one_maker sound.run seat it.running it.rule it.runs k d within in
       (stands.path, stands.named)
 
   -- there is a record of its Good end
