@@ -58,7 +58,7 @@ module _ {S : Type 0} (b : BoardState S) (seat : ℕ) (text : List ℕ) where
     goes.it.runs,
     goes.granted,
     ap (λ (r : Rule). access (plan_of b).rules r (length goes.it.running.asks) text) (same_rule_at (course_of b) seat goes.it for_it.it)
-    ∙ ap (λ (r : Running). access (plan_of b).rules for_it.it.rule (length r.asks) text) (same_running (course_of b) seat goes.it for_it.it) ∙ for_it.may,
+        ∙ ap (λ (r : Running). access (plan_of b).rules for_it.it.rule (length r.asks) text) (same_running (course_of b) seat goes.it for_it.it) ∙ for_it.may,
     is ∙ sym (ap (λ (own : Bool). if own then None else (state b).files path) (ap (λ (r : Rule). writes r path) (same_rule_at (course_of b) seat goes.it for_it.it) ∙ for_it.foreign)),
   )
 
@@ -70,7 +70,7 @@ module _ {S : Type 0} (b : BoardState S) (seat : ℕ) (text : List ℕ) where
     goes.it.runs,
     goes.granted,
     ap (λ (r : Rule). access (plan_of b).rules r (length goes.it.running.asks) text) (same_rule_at (course_of b) seat goes.it for_it.it)
-    ∙ ap (λ (r : Running). access (plan_of b).rules for_it.it.rule (length r.asks) text) (same_running (course_of b) seat goes.it for_it.it) ∙ for_it.may,
+        ∙ ap (λ (r : Running). access (plan_of b).rules for_it.it.rule (length r.asks) text) (same_running (course_of b) seat goes.it for_it.it) ∙ for_it.may,
     sym (ap (λ (own : Bool). if own then None else (state b).files for_it.path) (ap (λ (r : Rule). writes r for_it.path) (same_rule_at (course_of b) seat goes.it for_it.it) ∙ for_it.own)),
   )
 

@@ -57,7 +57,7 @@ module _ (g : GraphState) (number : ℕ) (rule : Rule) (here : slice_get g.rules
   pub begun_maker : (q : Names) → maker_of (begun g number) number q ≡ maker_of g number q
   begun_maker q = by (writes rule q) refl
     where
-      abbrev maker_in : Option Owned → Option ℕ
+      maker_in : Option Owned → Option ℕ
       maker_in o = elim o [ Some owned ↦ owned.maker | None ↦ Some number ]
 
       by : (b : Bool) → writes rule q ≡ b → maker_of (begun g number) number q ≡ maker_of g number q
