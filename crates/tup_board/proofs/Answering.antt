@@ -11,6 +11,8 @@ use Rattle.tup_stamp.specs.declared.Stamp.{Stamp}
 use Rattle.tup_stamp.specs.Stamp.{stamp}
 use Rattle.tup_rule.specs.declared.rule.Rule.{Rule}
 use Rattle.tup_rule.specs.Rule.{writes}
+use Rattle.tup_site.specs.Crash.{GoesOn as GoesOnFrom, NoStep}
+use Rattle.tup_site.specs.World.{World}
 use Rattle.tup_site.specs.declared.site.Site.{Ghosts as Site}
 use Rattle.tup_runner.specs.declared.runner.Runner.{Ghosts as Runner}
 use Rattle.tup_access.specs.Access.{access}
@@ -26,7 +28,10 @@ use Rattle.tup_core.specs.declared.plan.Plan.{Plan}
 use Rattle.tup_core.specs.declared.running.Running.{Running}
 use Rattle.tup_core.specs.Step.{CanAsk, CanDeny, IsEnabled, Runs, told}
 use Rattle.tup_course.specs.Course.{CourseState, GoesOn, RunsRule, now, with_events}
+use Rattle.tup_ground.specs.Fault.{CountsFaults}
+use Rattle.tup_ground.specs.Ground.{NamesLength, OnlyLarge, ReadsSite}
 use Rattle.tup_ground.specs.Lost.{Lost}
+use Rattle.tup_ground.specs.declared.ground.Ground.{Ground}
 use Rattle.tup_ground.specs.declared.fault.BoardFault.{BoardFault}
 use Rattle.tup_ground.specs.declared.fault.BoardFault.TheVariants as fault_by
 use Rattle.tup_board.specs.declared.answers.Asked.{Asked}
@@ -35,9 +40,11 @@ use Rattle.tup_board.specs.Board.{BoardState, course_of, plan_of, state, with_hi
 use Rattle.tup_board.specs.Calls.{Asks, AsksFor, AsksForOwn, told_of}
 use Rattle.tup_board.specs.Cause.{stops_by}
 use Rattle.tup_board.specs.Sound.{IsSound, IsTrueFault}
-use Rattle.tup_board.proofs.Asking.{denied_asks, memory_asks, own_asks, same_rule_at, same_running, told_asks}
+use Rattle.tup_board.proofs.Asking.{denied_asks, failed_asks, memory_asks, own_asks, read_asks, same_rule_at, same_running, told_asks}
 use Rattle.tup_board.proofs.Kept.{KeepsBoard, board_at, course_is, to_course, plan_here, sound_seen, added_seen, rest_seen, kept_same, ask_kept, deny_kept, refused_kept, site_true, large_true, full_true}
+use Rattle.tup_board.proofs.Reads.{sound_read}
 use Rattle.tup_board.proofs.Seated.{runs_at}
+use Rattle.tup_board.proofs.Visiting.{counts_as, large_as, length_as, visit_true}
 
 -- ---- what a command may ask, by what it may ask of the rule that its seat runs
 module _ {S : Type 0} (b : BoardState S) (seat : ℕ) (text : List ℕ) where
@@ -193,3 +200,82 @@ module _ {S R : Type 0} (site : Site S) (runner : Runner R) (course : CourseStat
       (sym (one_seen new (Ask seat text (option_map stamp found)) is
       (ask_kept site runner course first_graph graph first_site s lost given files sound view seat text (option_map stamp found) new (can_ask given seat text path goes (option_map stamp found) for_it stamps) is)))
       (told_asks site given seat text path for_it found there)
+
+-- what a site answered that couldn't read a file
+abbrev found_not : BoardFault → Result (Option Content) BoardFault
+found_not fault = Err fault
+
+-- ---- a board by its parts, once its site was read
+module _ {S R : Type 0} (site : Site S) (runner : Runner R) (course : CourseState) (first_graph graph : Held) (first_site s : S) (lost : Option Lost)
+    (given : BoardState S) (files : course.files ≡ finite.entries first_graph.nodes.seen) (sound : IsSound site runner (board_at site runner course first_graph graph first_site s lost course))
+    (view : board_at site runner course first_graph graph first_site s lost course ≡ given)
+    (read : Ground S) (reads : ReadsSite site (record { site = s; graph = graph; lost = lost }) read)
+    (earlier : (x : S) (t u : ℕ) (w : World) → IsTrue site.tells → t ≤ u → site.left_since x u w → site.left_since x t w) (later : site.faults s ≤ site.faults read.site) where
+  abbrev before : BoardState S
+  before = board_at site runner course first_graph graph first_site s lost course
+
+  abbrev pub after_read : BoardState S
+  after_read = board_at site runner course first_graph read.graph first_site read.site read.lost course
+
+  -- only its site is another
+  read_is : after_read ≡ record before { site = read.site }
+  read_is =
+      ap (λ (g : Held). record before { site = read.site; graph = g; lost = read.lost }) reads.graph ∙ ap (λ (l : Option Lost). record before { site = read.site; lost = l }) reads.lost
+
+  pub read_sound : IsSound site runner after_read
+  read_sound = subst (IsSound site runner) (sym read_is) (sound_read site runner before sound read.site (earlier read.site) reads.world reads.crash reads.known later)
+
+  pub read_seen : after_read ≡ record given { site = read.site }
+  read_seen = read_is ∙ ap (λ (b : BoardState S). record b { site = read.site }) view
+
+  site_is : given.site ≡ s
+  site_is = ap (λ (b : BoardState S). b.site) (sym view)
+
+  same_world : IsTrue site.tells → site.world read.site ≡ site.world given.site
+  same_world tells = reads.world tells ∙ ap site.world (sym site_is)
+
+  crash_since : IsTrue site.tells → GoesOnFrom site.moment site.left_since given.site read.site NoStep
+  crash_since tells = subst (λ (x : S). GoesOnFrom site.moment site.left_since x read.site NoStep) (sym site_is) (reads.crash tells)
+
+  same_known : IsTrue site.tells → site.known read.site ≡ site.known given.site
+  same_known tells = reads.known tells ∙ ap site.known (sym site_is)
+
+  -- what was said of the board before is said of the one after
+  pub goes_after : (seat : ℕ) → GoesOn (course_of given) seat → GoesOn (course_of after_read) seat
+  goes_after seat goes = subst (λ (b : BoardState S). GoesOn (course_of b) seat) (sym read_seen) (record { it = record { running = goes.it.running; rule = goes.it.rule; runs = goes.it.runs }; granted = goes.granted })
+
+  pub asks_after : (seat : ℕ) (text : List ℕ) (path : Names) → AsksFor given seat text path → AsksFor after_read seat text path
+  asks_after seat text path for_it =
+      subst (λ (b : BoardState S). AsksFor b seat text path) (sym read_seen)
+      (record { it = record { running = for_it.it.running; rule = for_it.it.rule; runs = for_it.it.runs }; may = for_it.may; foreign = for_it.foreign })
+
+  pub found_after : (path : Names) (found : Option Content) → (IsTrue site.tells → found ≡ finite.get (site.world s).tree path) → IsTrue site.tells
+      → found ≡ finite.get (site.world after_read.site).tree path
+  found_after path found is tells = is tells ∙ ap (λ (w : World). finite.get w.tree path) (sym (reads.world tells))
+
+  -- ---- what was read is told
+  pub told_after : (seat : ℕ) (text : List ℕ) (result : Result Asked BoardFault) (new : BoardState S) → site.faults read.site ≡ site.faults s → Asks site seat text after_read result new
+      → Asks site seat text given result new
+  told_after seat text result new steady asks =
+      read_asks site given seat text _ _ read.site same_world crash_since same_known result new (λ t u w tells. earlier read.site t u w tells) (steady ∙ ap site.faults (sym site_is))
+      (subst (λ (b : BoardState S). Asks site seat text b result new) read_seen asks)
+
+  -- ---- or a refusal
+  module _ (seat : ℕ) (text : List ℕ) (path : Names) (for_it : AsksFor given seat text path) (fault : BoardFault) (other : fault ≢ fault_by.Full)
+      (large : OnlyLarge (found_not fault)) (named : IsTrue site.tells → NamesLength (site.world s).tree path (found_not fault)) (counts : CountsFaults (site.faults s) (site.faults read.site) None (found_not fault)) where
+    named_there : IsTrue site.tells → NamesLength (site.world given.site).tree path (found_not fault)
+    named_there tells = subst (λ (x : S). NamesLength (site.world x).tree path (found_not fault)) (sym site_is) (named tells)
+
+    counts_there : CountsFaults (site.faults given.site) (site.faults read.site) None (found_not fault)
+    counts_there = subst (λ (x : S). CountsFaults (site.faults x) (site.faults read.site) None (found_not fault)) (sym site_is) counts
+
+    pub fault_true : IsTrueFault site after_read seat fault
+    fault_true =
+        subst (λ (b : BoardState S). IsTrueFault site b seat fault) (sym read_seen)
+        (visit_true site runner given (sound_seen site runner before given sound view) seat text path for_it read.site fault other same_world large named_there counts_there)
+
+    pub fault_after : Asks site seat text given (Err fault) (with_history after_read (after_read.history ++ stops_by seat fault))
+    fault_after =
+        subst (λ (b : BoardState S). Asks site seat text given (Err fault) (with_history b (b.history ++ stops_by seat fault))) (sym read_seen)
+        (failed_asks site given seat text path for_it read.site same_world crash_since same_known fault other (large_as fault large)
+        (λ tells. length_as (site.world given.site).tree path fault (named_there tells)) (counts_as (site.faults given.site) (site.faults read.site) fault counts_there))
