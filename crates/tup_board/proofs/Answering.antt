@@ -254,10 +254,10 @@ module _ {S R : Type 0} (site : Site S) (runner : Runner R) (course : CourseStat
   found_after path found is tells = is tells ∙ ap (λ (w : World). finite.get w.tree path) (sym (reads.world tells))
 
   -- ---- what was read is told
-  pub told_after : (seat : ℕ) (text : List ℕ) (result : Result Asked BoardFault) (new : BoardState S) → site.faults read.site ≡ site.faults s → Asks site seat text after_read result new
+  pub told_after : (seat : ℕ) (text : List ℕ) (path : Names) → AsksFor given seat text path → (result : Result Asked BoardFault) (new : BoardState S) → site.faults read.site ≡ site.faults s → Asks site seat text after_read result new
       → Asks site seat text given result new
-  told_after seat text result new steady asks =
-      read_asks site given seat text _ _ read.site same_world crash_since same_known result new (λ t u w tells. earlier read.site t u w tells) (steady ∙ ap site.faults (sym site_is))
+  told_after seat text path for_it result new steady asks =
+      read_asks site given seat text path for_it read.site same_world crash_since same_known result new (earlier read.site) (steady ∙ ap site.faults (sym site_is))
       (subst (λ (b : BoardState S). Asks site seat text b result new) read_seen asks)
 
   -- ---- or a refusal
