@@ -15,7 +15,7 @@ use Rattle.tup_runner.specs.Honest.{EndsAfter}
 use Rattle.tup_runner.specs.declared.step.Ended.{Ended}
 use Rattle.tup_access.specs.declared.verdict.Verdict.{Verdict}
 use Rattle.tup_access.specs.declared.verdict.Verdict.TheVariants.{Good}
-use Rattle.tup_access.specs.Judge.{Judged, good, judge}
+use Rattle.tup_access.specs.Judge.{IsJudged, Judged, good as good_of, judge}
 use Rattle.tup_access.proofs.Outputs.{judge-LeavesOutputs}
 use Rattle.tup_record.specs.declared.run.RunRecord.{RunRecord}
 use Rattle.tup_stale.proofs.Going.{at_rest}
@@ -32,7 +32,7 @@ use Rattle.tup_ground.specs.declared.fault.BoardFault.TheVariants.{Memory, Site 
 use Rattle.tup_ground.specs.Fault.{CountsFaults}
 use Rattle.tup_ground.specs.Ground.{MakeStep, WasTried}
 use Rattle.tup_board.specs.Board.{BoardState, course_of, plan_of, state, with_history}
-use Rattle.tup_board.specs.Calls.{Ends, IsGoodAt, IsReportOf, IsRunAt, IsVerdictAt, LeavesBeside}
+use Rattle.tup_board.specs.Calls.{AreFilesAt, Ends, IsGoodAt, IsReportOf, IsRunAt, IsVerdictAt, LeavesBeside}
 use Rattle.tup_board.specs.Ends.{AreNamed, AreRecorded, IsNamed}
 use Rattle.tup_board.specs.Sound.{IsSound}
 use Rattle.tup_board.proofs.Asking.{same_rule_at, same_running}
@@ -144,3 +144,15 @@ module _ {S R : Type 0} (site : Site S) (runner : Runner R) (b : BoardState S) (
       known = λ told content had. had;
       cause = record { later = omega arith; site = λ e. cc; steady = λ _. refl };
     }
+
+-- ---- what the judge said of the rule that a seat runs
+module _ {S : Type 0} (b : BoardState S) (seat : ℕ) (ended : Ended) (rule : Rule) (is : (it : RunsRule (course_of b) seat) → rule ≡ it.rule) (verdict : Verdict) (files : List (Names × Content))
+    (judged : IsJudged verdict files (judge rule ended)) where
+  pub verdict_at : IsVerdictAt b seat ended verdict
+  verdict_at it = judged.0 ∙ ap (λ (r : Rule). (judge r ended).verdict) (is it)
+
+  pub files_at : verdict ≡ Good → AreFilesAt b seat ended files
+  files_at good it = ap (λ (r : Rule). judge r ended) (sym (is it)) ∙ parts (judge rule ended) (sym judged.0 ∙ good) (sym judged.1)
+    where
+      parts : (it : Judged) → it.verdict ≡ Good → it.files ≡ files → it ≡ good_of files
+      parts it verdict_is files_are = ap (λ (v : Verdict). record it { verdict = v }) verdict_is ∙ ap (λ (fs : List (Names × Content)). good_of fs) files_are
