@@ -42,7 +42,7 @@ use Rattle.tup_board.specs.Cause.{stops_by}
 use Rattle.tup_board.specs.Sound.{IsSound, IsTrueFault}
 use Rattle.tup_board.proofs.Asking.{denied_asks, failed_asks, memory_asks, own_asks, read_asks, same_rule_at, same_running, told_asks}
 use Rattle.tup_board.proofs.Kept.{KeepsBoard, board_at, course_is, to_course, plan_here, sound_seen, added_seen, rest_seen, kept_same, ask_kept, deny_kept, refused_kept, site_true, large_true, full_true}
-use Rattle.tup_board.proofs.Reads.{sound_read}
+use Rattle.tup_board.proofs.WasRead.{sound_read}
 use Rattle.tup_board.proofs.Seated.{runs_at}
 use Rattle.tup_board.proofs.Visiting.{counts_as, large_as, length_as, visit_true}
 

@@ -39,7 +39,7 @@ module _ (g : GraphState) (number : ℕ) (rule : Rule) (here : slice_get g.rules
   abbrev unsure : Names → Owned
   unsure path = record { maker = maker_of g number path; state = Unsure }
 
-  outputs_are : outputs_of g number ≡ rule.outputs
+  pub outputs_are : outputs_of g number ≡ rule.outputs
   outputs_are = ap (λ (o : Option Rule). unwrap_or (option_map (λ (r : Rule). r.outputs) o) []) here
 
   own_is : (q : Names) → among q (map (λ (path : Names). path) (outputs_of g number)) ≡ writes rule q

@@ -54,6 +54,28 @@ module _ (rule : Rule) (ended : Ended) where
   pub judge_fits : Fits (judge rule ended)
   judge_fits = status_fits (ended.status == 0) refl
 
+  -- a Good one leaves a content for each output, also for one that is named twice
+  abbrev HasContents : Judged → Type 0
+  HasContents judged = judged.verdict ≡ Good → (content : Names → Content) × (judged.files ≡ map (λ path. (path, content path)) rule.outputs)
+
+  never_good : (given : Verdict) → given ≢ Good → HasContents (bad given)
+  never_good given other well = absurd (other well)
+
+  unwritten_has : (found : Option Names) → HasContents (by_unwritten found)
+  unwritten_has (Some path) = never_good (Unwritten path) (λ e. cc)
+  unwritten_has None = λ well. (λ path. unwrap_or (last_written rule path ended.writes) [], refl)
+
+  foreign_has : (found : Option (List ℕ × Content)) → HasContents (by_foreign found)
+  foreign_has (Some w) = never_good (IllegalWrite w.0) (λ e. cc)
+  foreign_has None = unwritten_has (unwritten rule ended.writes)
+
+  status_has : (ok : Bool) → HasContents (by_status ok)
+  status_has false = never_good (Failed ended.status) (λ e. cc)
+  status_has true = foreign_has (foreign_write rule ended.writes)
+
+  pub judge_contents : HasContents (judge rule ended)
+  judge_contents = status_has (ended.status == 0)
+
   -- a bad one leaves nothing
   pub bad_leaves : (judge rule ended).verdict ≢ Good → (judge rule ended).files ≡ []
   bad_leaves other = (judge-LeavesOutputs rule ended).other other
@@ -104,3 +126,15 @@ ends_badly next known rule running asks ended given stamps there means is other 
   where
     no_place : (k : ℕ) → k < 0 → ⊥
     no_place k below = omega arith
+
+pub ends_well : (next : Next) (known : List Content) (rule : Rule) (running : Running) (asks : Asks) (ended : Ended) (files : List (Names × Content)) (written : List (Names × Stamp)) → AreStamped running.asks asks → AreKnown known asks
+    → EndsAfter (next rule.dir rule.text) asks ended → judge rule ended ≡ good files → written ≡ map stamped files → All (λ (file : Names × Content). Contains known file.1) files
+    → EndsHonestly next known rule running None Good written
+ends_well next known rule running asks ended files written stamps there means is writes_are all = (
+  answered next known rule running asks ended stamps there means,
+  ended,
+  means.ends,
+  ap (λ (j : Judged). j.verdict) is,
+  ap (λ (j : Judged). map stamped j.files) is ∙ sym writes_are,
+  subst (λ (j : Judged). All (λ (file : Names × Content). Contains known file.1) j.files) (sym is) all,
+)

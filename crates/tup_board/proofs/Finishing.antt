@@ -3,7 +3,6 @@ use Rattle.std.proofs.Common.{◌≡◌, ◌≢◌, ◌⊎◌, ℕ, Bool, true, 
 use Rattle.std.specs.Prelude.{◌==◌, slice_get}
 use Rattle.std.specs.FinMap as finite
 use Rattle.std.proofs.lemmas.Bool.{true≢false, cases_Bool, eqb-true, eq-eqb}
-use Rattle.std.proofs.lemmas.List.{append_assoc}
 use Rattle.std.proofs.lemmas.Option.{same_Some, none-some}
 use Rattle.tup_path.specs.Name.{Names}
 use Rattle.tup_stamp.specs.declared.Stamp.{Stamp}
@@ -11,29 +10,24 @@ use Rattle.tup_rule.specs.declared.rule.Rule.{Rule}
 use Rattle.tup_rule.specs.Rule.{writes, is_generated}
 use Rattle.tup_rule.specs.Producer.{DeclaredProducer}
 use Rattle.tup_rule.proofs.Laws.{writes-at}
-use Rattle.tup_access.specs.declared.verdict.Verdict.TheVariants.{Good}
 use Rattle.tup_record.specs.declared.run.RunRecord.{RunRecord}
 use Rattle.tup_graph.specs.declared.owned.Owned.{Owned}
 use Rattle.tup_graph.specs.Graph.{GraphState, is_flagged}
 use Rattle.tup_graph.specs.Transactions.{maker_of, begun, finished}
 use Rattle.tup_kept.specs.Held.{Held}
 use Rattle.tup_core.specs.declared.event.CoreEvent.{CoreEvent}
-use Rattle.tup_core.specs.declared.event.CoreEvent.TheVariants.{Finish}
 use Rattle.tup_core.specs.declared.running.Running.{Running}
-use Rattle.tup_core.specs.Step.{State, after, changed, emptied, ended, is_reached}
+use Rattle.tup_core.specs.Step.{State, changed, is_reached}
 use Rattle.tup_core.specs.Sound.{HasOneMaker}
 use Rattle.tup_core.proofs.Changed.{changed_cases}
-use Rattle.tup_core.proofs.Orderly.{IsOrderly, finished_is}
-use Rattle.tup_course.specs.Course.{GoesOn, RunsRule}
-use Rattle.tup_course.proofs.Courses.{end_more}
+use Rattle.tup_core.proofs.Orderly.{IsOrderly}
 use Rattle.tup_ground.specs.Lost.{Lost}
-use Rattle.tup_board.specs.Board.{BoardState, course_of, plan_of, first_graph, start, state, with_history}
+use Rattle.tup_board.specs.Board.{BoardState, plan_of, first_graph, start, state}
 use Rattle.tup_board.specs.Come.{HasOf, HasBeside, HasCome, HasComeTo, IsPresent, WasToKeep}
 use Rattle.tup_board.specs.Ends.{HasEnded, IsRecordOf}
-use Rattle.tup_board.specs.Sound.{IsOpening}
 use Rattle.tup_board.proofs.Coming.{begun_else, begun_maker, begun_of, ended_of, finished_maker, finished_owned, finished_seen, flag_else, flag_here, other_begun, other_of, run_else}
 
-same_or_other : (m n : ℕ) → (m ≡ n) ⊎ (m ≢ n)
+pub same_or_other : (m n : ℕ) → (m ≡ n) ⊎ (m ≢ n)
 same_or_other m n =
     elim (cases_Bool (m == n)) [
       | inl same ↦ inl (eqb-true m n same)
@@ -49,10 +43,10 @@ module _ {S : Type 0} (b : BoardState S) (none : b.lost ≡ None) (g : GraphStat
   began = begun g number
 
   -- its rule
-  placed : slice_get (plan_of b).rules number ≡ Some rule
+  pub placed : slice_get (plan_of b).rules number ≡ Some rule
   placed = ap (slice_get (plan_of b).rules) (sym kept.here) ∙ kept.runs.placed
 
-  in_graph : slice_get g.rules number ≡ Some rule
+  pub in_graph : slice_get g.rules number ≡ Some rule
   in_graph = ap (λ (rs : List Rule). slice_get rs number) (present.come.beside.rules ∙ sym rules) ∙ placed
 
   in_first : slice_get (first_graph b).rules number ≡ Some rule
@@ -61,17 +55,17 @@ module _ {S : Type 0} (b : BoardState S) (none : b.lost ≡ None) (g : GraphStat
   runs_here : (state b).seats seat ≡ Some kept.running
   runs_here = kept.runs.here
 
-  reached : is_reached (plan_of b) number ≡ true
+  pub reached : is_reached (plan_of b) number ≡ true
   reached = subst (λ (n : ℕ). is_reached (plan_of b) n ≡ true) kept.here (orderly.reached kept.running.rule (orderly.pending seat kept.running runs_here))
 
-  claimed : (state b).claimed number ≡ true
+  pub claimed : (state b).claimed number ≡ true
   claimed = subst (λ (n : ℕ). (state b).claimed n ≡ true) kept.here (orderly.claimed seat kept.running runs_here)
 
-  flagged : is_flagged g number ≡ true
+  pub flagged : is_flagged g number ≡ true
   flagged = present.flags number ∙ subst (λ (n : ℕ). (state b).pending n ≡ true) kept.here (orderly.pending seat kept.running runs_here)
 
   -- another rule has other outputs
-  other_outputs : (m : ℕ) (another : Rule) → slice_get (plan_of b).rules m ≡ Some another → m ≢ number → (q : Names) → writes another q ≡ true → writes rule q ≡ false
+  pub other_outputs : (m : ℕ) (another : Rule) → slice_get (plan_of b).rules m ≡ Some another → m ≢ number → (q : Names) → writes another q ≡ true → writes rule q ≡ false
   other_outputs m another here differ q own =
       elim (cases_Bool (writes rule q)) [
         | inr apart ↦ apart
@@ -137,99 +131,93 @@ module _ {S : Type 0} (b : BoardState S) (none : b.lost ≡ None) (g : GraphStat
     producers = present.come.producers;
   }
 
-  -- ---- and its command ended Good
-  abbrev event : CoreEvent
-  event = Finish seat Good run.writes
-
+  -- ---- and its command ended Good, or the commit that was to keep that is lost
   abbrev done : GraphState
   done = finished began number run
 
-  -- the board then, whatever its site and its graph are
-  module _ (now : S) (held : Held) where
-    abbrev next : BoardState S
-    next = record b { history = b.history ++ event ∷ []; site = now; graph = held }
+  names : map (λ (file : Names × Stamp). file.0) run.writes ≡ rule.outputs
+  names = kept.writes
 
-    names : map (λ (file : Names × Stamp). file.0) run.writes ≡ rule.outputs
-    names = kept.writes
+  -- the flags: its own is gone
+  unflagged_on : (m : ℕ) → is_flagged g m ≡ false → is_flagged done m ≡ false
+  unflagged_on m was =
+      elim (same_or_other m number) [
+        | inl same ↦ subst (λ (n : ℕ). is_flagged done n ≡ false) (sym same) (flag_here began number rule in_graph run names)
+        | inr differ ↦ flag_else began number rule in_graph run names m differ ∙ was
+      ]
 
-    state_is : state next ≡ ended (plan_of b) (emptied (state b) seat) kept.running.rule Good run.writes
-    state_is = end_more (plan_of b) (start b) b.history event ∙ finished_is (plan_of b) (state b) seat kept.running Good run.writes runs_here
+  producers_on : (m other : ℕ) (another : Rule) → slice_get (plan_of b).rules m ≡ Some another → is_reached (plan_of b) m ≡ true → is_flagged done m ≡ false
+      → DeclaredProducer (plan_of b).rules another other → is_flagged done other ≡ false
+  producers_on m other another here within flag produced =
+      unflagged_on other (elim (same_or_other m number) [
+        | inr differ ↦ present.come.producers m other another here within (sym (flag_else began number rule in_graph run names m differ) ∙ flag) produced
+        | inl same ↦
+            let is : rule ≡ another = same_Some _ _ (sym placed ∙ ap (slice_get (plan_of b).rules) (sym same) ∙ here) in
+            present.flags other ∙ orderly.clear seat kept.running rule runs_here kept.runs.placed other (subst (λ (r : Rule). DeclaredProducer (plan_of b).rules r other) (sym is) produced)
+      ])
 
-    claimed_is : (m : ℕ) → (state b).claimed m ≡ true → (state next).claimed m ≡ true
-    claimed_is m was = ap (λ (s : State). s.claimed m) state_is ∙ was
+  -- another rule has what it had
+  keeps_of : (m : ℕ) (another : Rule) → slice_get (plan_of b).rules m ≡ Some another → m ≢ number → (f : GraphState) → HasOf f g m another → HasOf f done m another
+  keeps_of m another here differ f has =
+      other_of began number rule in_graph run names f m another differ (other_outputs m another here differ) (other_begun g number rule in_graph f m another (other_outputs m another here differ) has)
 
-    ended_on : (m : ℕ) (ran : RunRecord) → HasEnded (plan_of b) (start b) b.history m ran → HasEnded (plan_of b) (start b) (b.history ++ event ∷ []) m ran
-    ended_on m ran was = record {
-      before = was.before;
-      after = was.after ++ event ∷ [];
-      seat = was.seat;
-      whole = ap (λ (events : List CoreEvent). events ++ event ∷ []) was.whole ∙ append_assoc was.before _ (event ∷ []);
-      kept = was.kept;
-    }
+  -- the board then, with this history, whatever its site and its graph are: what was claimed is, and what ended has ended
+  module _ (hist : List CoreEvent) (now : S) (held : Held) (left : Option Lost) where
+    abbrev pub then_is : BoardState S
+    then_is = record b { history = hist; site = now; graph = held; lost = left }
 
-    -- its own rule has what its end leaves
-    own_come : HasCome next done number rule
-    own_come = inr (inr (
-      run,
-      inl (record { before = b.history; after = []; seat = seat; whole = refl; kept = kept }),
-      ended_of began number rule in_graph run names (first_graph b) in_first (λ q own. begun_maker g number rule in_graph q ∙ makers q own),
-    ))
+    module _ (claims_on : (m : ℕ) → (state b).claimed m ≡ true → (state then_is).claimed m ≡ true)
+        (ended_on : (m : ℕ) (ran : RunRecord) → HasEnded (plan_of b) (start b) b.history m ran → HasEnded (plan_of b) (start b) hist m ran) where
+      -- a graph has come as far with each rule
+      kept_or_lost : (m : ℕ) (ran : RunRecord) → HasEnded (plan_of b) (start b) b.history m ran ⊎ WasToKeep b.lost m ran → HasEnded (plan_of b) (start b) hist m ran ⊎ WasToKeep left m ran
+      kept_or_lost m ran (inl was) = inl (ended_on m ran was)
+      kept_or_lost m ran (inr lost) = absurd (none-some lost.commit (sym none ∙ lost.here))
 
-    -- another has what it had
-    keeps_of : (m : ℕ) (another : Rule) → slice_get (plan_of b).rules m ≡ Some another → m ≢ number → (f : GraphState) → HasOf f g m another → HasOf f done m another
-    keeps_of m another here differ f has =
-        other_of began number rule in_graph run names f m another differ (other_outputs m another here differ) (other_begun g number rule in_graph f m another (other_outputs m another here differ) has)
+      later_come : (h k : GraphState) (m : ℕ) (another : Rule) → ((f : GraphState) → HasOf f h m another → HasOf f k m another) → HasCome b h m another → HasCome then_is k m another
+      later_come h k m another keeps (inl has) = inl (keeps (first_graph b) has)
+      later_come h k m another keeps (inr (inl has)) = inr (inl (claims_on m has.0, keeps (begun (first_graph b) m) has.1))
+      later_come h k m another keeps (inr (inr has)) = inr (inr (has.0, kept_or_lost m has.0 has.1, keeps (finished (first_graph b) m has.0) has.2))
 
-    later_come : (m : ℕ) (another : Rule) → slice_get (plan_of b).rules m ≡ Some another → m ≢ number → HasCome b g m another → HasCome next done m another
-    later_come m another here differ (inl has) = inl (keeps_of m another here differ (first_graph b) has)
-    later_come m another here differ (inr (inl has)) = inr (inl (claimed_is m has.0, keeps_of m another here differ (begun (first_graph b) m) has.1))
-    later_come m another here differ (inr (inr has)) = inr (inr (has.0, ⊎_elim (λ was. inl (ended_on m has.0 was)) inr has.1, keeps_of m another here differ (finished (first_graph b) m has.0) has.2))
+      pub come_then : (h : GraphState) → HasComeTo b h → HasComeTo then_is h
+      come_then h come = record {
+        beside = come.beside;
+        each = λ m another here. later_come h h m another (λ f has. has) (come.each m another here);
+        producers = come.producers;
+      }
 
-    -- the flags: its own is gone
-    unflagged_on : (m : ℕ) → is_flagged g m ≡ false → is_flagged done m ≡ false
-    unflagged_on m was =
-        elim (same_or_other m number) [
-          | inl same ↦ subst (λ (n : ℕ). is_flagged done n ≡ false) (sym same) (flag_here began number rule in_graph run names)
-          | inr differ ↦ flag_else began number rule in_graph run names m differ ∙ was
-        ]
+      -- its own rule has what its end leaves
+      module _ (ends : HasEnded (plan_of b) (start b) hist number run ⊎ WasToKeep left number run) where
+        own_come : HasCome then_is done number rule
+        own_come = inr (inr (run, ends, ended_of began number rule in_graph run names (first_graph b) in_first (λ q own. begun_maker g number rule in_graph q ∙ makers q own)))
 
-    producers_on : (m other : ℕ) (another : Rule) → slice_get (plan_of b).rules m ≡ Some another → is_reached (plan_of b) m ≡ true → is_flagged done m ≡ false
-        → DeclaredProducer (plan_of b).rules another other → is_flagged done other ≡ false
-    producers_on m other another here within flag produced =
-        unflagged_on other (elim (same_or_other m number) [
-          | inr differ ↦ present.come.producers m other another here within (sym (flag_else began number rule in_graph run names m differ) ∙ flag) produced
-          | inl same ↦
-              let is : rule ≡ another = same_Some _ _ (sym placed ∙ ap (slice_get (plan_of b).rules) (sym same) ∙ here) in
-              present.flags other ∙ orderly.clear seat kept.running rule runs_here kept.runs.placed other (subst (λ (r : Rule). DeclaredProducer (plan_of b).rules r other) (sym is) produced)
-        ])
+        pub come_done : HasComeTo then_is done
+        come_done = record {
+          beside = record {
+            readings = present.come.beside.readings;
+            rules = present.come.beside.rules;
+            places = present.come.beside.places;
+            created = present.come.beside.created;
+            owned = λ q free. finished_owned began number rule in_graph run names q (not_own q free) ∙ begun_else g number rule in_graph q (not_own q free) ∙ present.come.beside.owned q free;
+            seen = λ q free. finished_seen began number rule in_graph run names q (not_own q free) ∙ present.come.beside.seen q free;
+            runs = λ m missing. run_else began number rule in_graph run names m (not_here m missing) ∙ present.come.beside.runs m missing;
+            flags = λ m missing. flag_else began number rule in_graph run names m (not_here m missing) ∙ present.come.beside.flags m missing;
+          };
+          each = λ m another here.
+              elim (same_or_other m number) [
+                | inl same ↦ subst (λ (n : ℕ). HasCome then_is done n another) (sym same)
+                    (subst (λ (r : Rule). HasCome then_is done number r) (same_Some _ _ (sym placed ∙ ap (slice_get (plan_of b).rules) (sym same) ∙ here)) own_come)
+                | inr differ ↦ later_come g done m another (keeps_of m another here differ) (present.come.each m another here)
+              ];
+          producers = producers_on;
+        }
 
-    pub come_done : HasComeTo next done
-    come_done = record {
-      beside = record {
-        readings = present.come.beside.readings;
-        rules = present.come.beside.rules;
-        places = present.come.beside.places;
-        created = present.come.beside.created;
-        owned = λ q free. finished_owned began number rule in_graph run names q (not_own q free) ∙ begun_else g number rule in_graph q (not_own q free) ∙ present.come.beside.owned q free;
-        seen = λ q free. finished_seen began number rule in_graph run names q (not_own q free) ∙ present.come.beside.seen q free;
-        runs = λ m missing. run_else began number rule in_graph run names m (not_here m missing) ∙ present.come.beside.runs m missing;
-        flags = λ m missing. flag_else began number rule in_graph run names m (not_here m missing) ∙ present.come.beside.flags m missing;
-      };
-      each = λ m another here.
-          elim (same_or_other m number) [
-            | inl same ↦ subst (λ (n : ℕ). HasCome next done n another) (sym same)
-                (subst (λ (r : Rule). HasCome next done number r) (same_Some _ _ (sym placed ∙ ap (slice_get (plan_of b).rules) (sym same) ∙ here)) own_come)
-            | inr differ ↦ later_come m another here differ (present.come.each m another here)
-          ];
-      producers = producers_on;
-    }
-
-    pub present_done : IsPresent next done
-    present_done = record {
-      come = come_done;
-      flags = λ m.
-          elim (changed_cases (state b).pending kept.running.rule false m) [
-            | inl same ↦ subst (λ (n : ℕ). is_flagged done n ≡ false) (sym (same.0 ∙ kept.here)) (flag_here began number rule in_graph run names) ∙ sym (ap (λ (s : State). s.pending m) state_is ∙ same.1)
-            | inr apart ↦ flag_else began number rule in_graph run names m (λ is. apart.0 (is ∙ sym kept.here)) ∙ present.flags m ∙ sym (ap (λ (s : State). s.pending m) state_is ∙ apart.1)
-          ];
-    }
+        -- the rules that are pending then are those that were, without its own
+        pub present_done : ((m : ℕ) → (state then_is).pending m ≡ changed (state b).pending number false m) → IsPresent then_is done
+        present_done pending_is = record {
+          come = come_done;
+          flags = λ m.
+              elim (changed_cases (state b).pending number false m) [
+                | inl same ↦ subst (λ (n : ℕ). is_flagged done n ≡ false) (sym same.0) (flag_here began number rule in_graph run names) ∙ sym (pending_is m ∙ same.1)
+                | inr apart ↦ flag_else began number rule in_graph run names m apart.0 ∙ present.flags m ∙ sym (pending_is m ∙ apart.1)
+              ];
+        }

@@ -3,9 +3,7 @@ use Rattle.std.proofs.Common.{◌≡◌, ◌≢◌, ◌⊎◌, ℕ, ◌<◌, ◌
 use Rattle.std.specs.Prelude.{All, IsTrue, slice_get}
 use Rattle.std.specs.FinMap as finite
 use Rattle.std.proofs.lemmas.Option.{same_Some}
-use Rattle.std.proofs.lemmas.List.Elements.{All-head, All-tail}
 use Rattle.tup_path.specs.Name.{Names, Content}
-use Rattle.tup_path.specs.Resolve.{resolve}
 use Rattle.tup_stamp.specs.declared.Stamp.{Stamp}
 use Rattle.tup_rule.specs.declared.rule.Rule.{Rule}
 use Rattle.tup_site.specs.declared.site.Site.{Ghosts as Site}
@@ -23,9 +21,7 @@ use Rattle.tup_core.specs.declared.event.CoreEvent.{CoreEvent}
 use Rattle.tup_core.specs.declared.event.CoreEvent.TheVariants.{Finish}
 use Rattle.tup_core.specs.declared.running.Running.{Running}
 use Rattle.tup_core.specs.Honest.{EndsHonestly, stamped}
-use Rattle.tup_core.specs.Sound.{Stands}
 use Rattle.tup_core.specs.Step.{IsEnabled, Runs}
-use Rattle.tup_core.proofs.Standing.{asks_stand}
 use Rattle.tup_course.specs.Course.{GoesOn, RunsRule}
 use Rattle.tup_ground.specs.declared.fault.BoardFault.{BoardFault}
 use Rattle.tup_ground.specs.declared.fault.BoardFault.TheVariants.{Memory, Site as ByVisit}
@@ -33,19 +29,12 @@ use Rattle.tup_ground.specs.Fault.{CountsFaults}
 use Rattle.tup_ground.specs.Ground.{MakeStep, WasTried}
 use Rattle.tup_board.specs.Board.{BoardState, course_of, plan_of, state, with_history}
 use Rattle.tup_board.specs.Calls.{AreFilesAt, Ends, IsGoodAt, IsReportOf, IsRunAt, IsVerdictAt, LeavesBeside}
-use Rattle.tup_board.specs.Ends.{AreNamed, AreRecorded, IsNamed}
+use Rattle.tup_board.specs.Ends.{AreNamed}
 use Rattle.tup_board.specs.Sound.{IsSound}
 use Rattle.tup_board.proofs.Asking.{same_rule_at, same_running}
 use Rattle.tup_board.proofs.Ending.{bad_fits, bad_leaves, ends_badly}
+use Rattle.tup_board.proofs.Named.{asks_named, recorded}
 use Rattle.tup_board.proofs.Sounds.{IsHonestEvent}
-
--- ---- what was asked has a record, where it names paths
-recorded : (dir : Names) (asks : List (List ℕ × Option Stamp)) → AreNamed dir asks → (noted : List (Names × Option Stamp)) × AreRecorded dir asks noted
-recorded dir [] named = ([], tt)
-recorded dir (ask ∷ asks) named =
-    let first = All-head (λ (one : List ℕ × Option Stamp). IsNamed dir one.0) ask asks named in
-    let rest = recorded dir asks (All-tail (λ (one : List ℕ × Option Stamp). IsNamed dir one.0) ask asks named) in
-    ((first.0, ask.1) ∷ rest.0, (first.1, refl, rest.1))
 
 module _ {S : Type 0} (b : BoardState S) (seat : ℕ) where
   -- one rule is judged, whatever a seat is said to run
@@ -54,15 +43,13 @@ module _ {S : Type 0} (b : BoardState S) (seat : ℕ) where
 
 module _ {S R : Type 0} (site : Site S) (runner : Runner R) (b : BoardState S) (sound : IsSound site runner b) (seat : ℕ) (ended : Ended) where
   -- what the command of a seat asked names paths
-  pub asks_named : (it : RunsRule (course_of b) seat) → AreNamed it.rule.dir it.running.asks
-  asks_named it = λ k d within.
-      let stands = asks_stand (plan_of b) (course_of b).files b.history sound.opening.apart.one_maker sound.run seat it.running it.rule it.runs k d within in
-      (stands.path, stands.named)
+  pub named_at : (it : RunsRule (course_of b) seat) → AreNamed it.rule.dir it.running.asks
+  named_at it = asks_named (plan_of b) (course_of b).files b.history sound.opening.apart.one_maker sound.run seat it.running it.rule it.runs
 
   -- there is a record of its Good end
   pub run_there : GoesOn (course_of b) seat → IsGoodAt b seat ended → (number : ℕ) × (run : RunRecord) × IsRunAt b seat ended number run
   run_there goes is =
-      let noted = recorded goes.it.rule.dir goes.it.running.asks (asks_named goes.it) in
+      let noted = recorded goes.it.rule.dir goes.it.running.asks (named_at goes.it) in
       let good = good_here b seat ended is.0 goes.it is.1 in (
         goes.it.running.rule,
         record { asks = noted.0; writes = map stamped (judge goes.it.rule ended).files },

@@ -20,7 +20,7 @@ use Rattle.tup_board.specs.Board.{BoardState, course_of, plan_of, state}
 use Rattle.tup_board.specs.Calls.{AsksFor}
 use Rattle.tup_board.specs.Outputs.{IsPending}
 use Rattle.tup_board.specs.Sound.{IsSound, IsTrueFault}
-use Rattle.tup_board.proofs.Reads.{rose_since}
+use Rattle.tup_board.proofs.WasRead.{rose_since}
 use Rattle.tup_board.proofs.Seated.{not_to_come}
 
 none_lost : WasLostToSite None → ⊥
@@ -30,7 +30,7 @@ none_lost lost = let none : (let no : Option Lost = None in no) ≡ Some lost.0 
 abbrev refused : {T : Type 0} → BoardFault → Result T BoardFault
 refused fault = Err fault
 
-same_fault : {T : Type 0} (one other : BoardFault) → refused {T = T} one ≡ Err other → one ≡ other
+pub same_fault : {T : Type 0} (one other : BoardFault) → refused {T = T} one ≡ Err other → one ≡ other
 same_fault one other e = cc
 
 same_refusal : {T U : Type 0} (one other : BoardFault) → refused {T = T} one ≡ Err other → refused {T = U} one ≡ Err other

@@ -89,12 +89,17 @@ impl<S: Site, R: Runner> Board<S, R> {
     {
         let (end, event) = self.good_end(alloc, plan, seat, files)?;
         let rule = end.rule;
+        // A law, also after the call: a fresh graph has the nodes for which its table stands.
+        let _ = self.ground.graph.nodes();
         match self.ground.make(alloc, end, files) {
             Ok(()) => {
                 self.course.finish_well(plan, rule, event);
                 Ok(Verdict::Good)
             }
-            Err(fault) => Err(self.fail(plan, seat, fault)),
+            Err(fault) => {
+                let _ = self.ground.graph.nodes();
+                Err(self.fail(plan, seat, fault))
+            }
         }
     }
 
