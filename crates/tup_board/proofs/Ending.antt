@@ -77,7 +77,7 @@ module _ (rule : Rule) (ended : Ended) where
   judge_contents = status_has (ended.status == 0)
 
   -- a bad one leaves nothing
-  bad_leaves : (judge rule ended).verdict ≢ Good → (judge rule ended).files ≡ []
+  pub bad_leaves : (judge rule ended).verdict ≢ Good → (judge rule ended).files ≡ []
   bad_leaves other = (judge-LeavesOutputs rule ended).other other
 
   -- so it may end so

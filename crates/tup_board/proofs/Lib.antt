@@ -3,7 +3,7 @@ pub mod Openings
 pub mod Denied
 pub mod Records
 pub mod Kept
-pub mod Reads
+pub mod WasRead
 pub mod Seated
 pub mod Asking
 pub mod Ending
@@ -12,10 +12,11 @@ pub mod Coming
 pub mod Visiting
 pub mod Finishing
 pub mod Imaging
+pub mod Answering
+pub mod Judging
 pub mod Known
 pub mod Named
 pub mod Placing
 pub mod Making
 pub mod Ended
 pub mod Finished
-pub mod Came

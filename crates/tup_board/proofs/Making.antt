@@ -62,7 +62,7 @@ use Rattle.tup_board.proofs.Coming.{outputs_are}
 use Rattle.tup_board.proofs.Finishing.{claimed, come_begun, come_done, come_then, flagged, in_graph, other_outputs, placed, present_done, reached, same_or_other}
 use Rattle.tup_board.proofs.Imaging.{is_begun, is_done, not_begun}
 use Rattle.tup_board.proofs.Known.{honest_known, keeps_all, known_among}
-use Rattle.tup_board.proofs.Reads.{rose_on, rose_since}
+use Rattle.tup_board.proofs.WasRead.{rose_on, rose_since}
 use Rattle.tup_board.proofs.Seated.{orderly}
 use Rattle.tup_board.proofs.Sounds.{IsHonestEvent, honest_more}
 
@@ -118,7 +118,7 @@ module _ {S R : Type 0} (site : Site S) (runner : Runner R) (b : BoardState S) (
     (knows_tree : (s : S) → IsTrue site.tells → KnowsTree (site.known s) (site.world s).tree)
     (seat number : ℕ) (run : RunRecord) (files : List (Names × Content)) (kept : IsRecordOf (plan_of b) (state b) seat number run) (writes_are : run.writes ≡ map stamped files)
     (ends : IsTrue site.tells → IsTrue runner.tells → (known : List Content) → ((content : Content) → Contains (site.known b.site) content → Contains known content)
-      → All (λ (file : Names × Content). Contains known file.1) files → EndsHonestly runner.next known kept.rule kept.running None Good run.writes)
+    → All (λ (file : Names × Content). Contains known file.1) files → EndsHonestly runner.next known kept.rule kept.running None Good run.writes)
     (result : Result (Unit {0}) BoardFault) (new : Ground S) (makes : MakesFiles site number run files (record { site = b.site; graph = b.graph; lost = b.lost }) result new)
     (counts : CountsFaults (site.faults b.site) (site.faults new.site) None result) where
   abbrev g : GraphState
@@ -255,17 +255,17 @@ module _ {S R : Type 0} (site : Site S) (runner : Runner R) (b : BoardState S) (
         image_step (inl not) = (
           g,
           not_begun b then_board g number rule run files tried refl come_now come_began come_ended claims_on claimed_now here graph_has flagged_now apart_now kept.writes stamps_in v u w image
-          (⊎_elim (λ same. subst (IsStoreOf g) (sym same) store) (λ it. it) not.0) not.1,
+              (⊎_elim (λ same. subst (IsStoreOf g) (sym same) store) (λ it. it) not.0) not.1,
         )
         image_step (inr (inl began)) = (
           begun g number,
           is_begun b then_board g number rule run files tried refl come_now come_began come_ended claims_on claimed_now here graph_has flagged_now apart_now kept.writes stamps_in v u w image
-          (beside_in u w (inr (inl began))) began.0,
+              (beside_in u w (inr (inl began))) began.0,
         )
         image_step (inr (inr ended)) = (
           finished (begun g number) number run,
           is_done b then_board g number rule run files tried refl come_now come_began come_ended claims_on claimed_now here graph_has flagged_now apart_now kept.writes stamps_in v u w image
-          (beside_in u w (inr (inr ended))) ended.0 ended.1.0 ended.1.1,
+              (beside_in u w (inr (inr ended))) ended.0 ended.1.0 ended.1.1,
         )
 
       image_now : IsTrue site.tells → (h : GraphState) × IsImageOver then_board (site.world b.opening.site) (site.world new.site) h

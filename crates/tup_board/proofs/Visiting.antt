@@ -20,7 +20,7 @@ use Rattle.tup_board.specs.Board.{BoardState, course_of, plan_of, state}
 use Rattle.tup_board.specs.Calls.{AsksFor}
 use Rattle.tup_board.specs.Outputs.{IsPending}
 use Rattle.tup_board.specs.Sound.{IsSound, IsTrueFault}
-use Rattle.tup_board.proofs.Reads.{rose_since}
+use Rattle.tup_board.proofs.WasRead.{rose_since}
 use Rattle.tup_board.proofs.Seated.{not_to_come}
 
 none_lost : WasLostToSite None → ⊥

@@ -8,3 +8,4 @@ pub mod Sound
 pub mod Calls
 pub mod Seat
 pub mod Entries
+pub mod CameLaws

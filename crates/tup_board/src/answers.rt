@@ -7,7 +7,7 @@ use tup_path::Bytes;
 use tup_site::Site;
 
 /// What a command is told about a file that it asks for.
-#[derive(Debug, Drop)]
+#[derive(Drop)]
 pub enum Asked {
     /// What stands there.
     Content(Bytes),
@@ -18,7 +18,7 @@ pub enum Asked {
 }
 
 /// How an update ended.
-#[derive(Clone, Copy, Debug, PartialEq, Eq)]
+#[derive(Clone, Copy, PartialEq, Eq)]
 pub enum Drained {
     /// Each rule to be run became Good.
     Done,

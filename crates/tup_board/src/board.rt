@@ -127,9 +127,10 @@ impl<S: Site, R: Runner> Board<S, R> {
         ensures keeps { IsSound S.Site.own R.Runner.own self }
     {
         let cause = self.course.stopped();
+        let Ground { site, graph, .. } = self.ground;
         BoardParts {
-            site: self.ground.site,
-            graph: self.ground.graph,
+            site,
+            graph,
             history: self.course.into_history(),
             cause,
         }

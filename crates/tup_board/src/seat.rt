@@ -36,7 +36,7 @@ impl<S: Site, R: Runner> View for SeatView<'_, S, R> {
     ghost use Rattle.std.proofs.Common.{◌∙◌, ap};
     ghost use Rattle.std.proofs.lemmas.Bool.{false≢true};
     ghost use Rattle.tup_board.specs.Seat.{CameBy, refusal_of};
-    ghost use Rattle.tup_board.proofs.Came.{came_none, came_then};
+    ghost use Rattle.tup_board.specs.CameLaws.{came_none, came_then};
 
     ghost tells = { false };
 
