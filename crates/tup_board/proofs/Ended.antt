@@ -1,5 +1,5 @@
 -- What the end of a Good command does, by what making its files did.
-use Rattle.std.proofs.Common.{◌≡◌, ◌≢◌, ◌⊎◌, ℕ, ◌≤◌, Bool, true, false, List, [], ◌∷◌, ◌++◌, map, Option, None, Some, Result, Ok, Err, refl, sym, ap, ◌∙◌, subst, ⊎_elim, inl, inr, arith}
+use Rattle.std.proofs.Common.{◌≡◌, ◌≢◌, ◌⊎◌, ℕ, ◌≤◌, Bool, true, false, List, [], ◌∷◌, ◌++◌, map, Option, None, Some, Result, Ok, Err, refl, sym, ap, ◌∙◌, subst, ⊎_elim, inl, inr}
 use Rattle.std.specs.Prelude.{IsTrue, if◌then◌else◌, slice_get}
 use Rattle.std.proofs.lemmas.List.{append-nil}
 use Rattle.std.proofs.lemmas.Option.{same_Some, none-some}
@@ -14,16 +14,15 @@ use Rattle.tup_runner.specs.declared.step.Ended.{Ended}
 use Rattle.tup_access.specs.Judge.{Judged, good, judge}
 use Rattle.tup_access.specs.declared.verdict.Verdict.{Verdict}
 use Rattle.tup_access.specs.declared.verdict.Verdict.TheVariants.{Good}
-use Rattle.tup_access.proofs.Outputs.{judge-LeavesOutputs}
 use Rattle.tup_record.specs.declared.run.RunRecord.{RunRecord}
 use Rattle.tup_table.proofs.Going.{as_step}
+use Rattle.tup_stale.proofs.Going.{at_rest}
 use Rattle.tup_kept.specs.Held.{Held}
 use Rattle.tup_core.specs.declared.event.CoreEvent.{CoreEvent}
 use Rattle.tup_core.specs.declared.event.CoreEvent.TheVariants.{Finish}
 use Rattle.tup_core.specs.declared.running.Running.{Running}
 use Rattle.tup_core.specs.Honest.{stamped}
 use Rattle.tup_core.specs.Step.{Runs}
-use Rattle.tup_course.specs.Course.{GoesOn as CommandGoesOn, RunsRule}
 use Rattle.tup_ground.specs.declared.fault.BoardFault.{BoardFault}
 use Rattle.tup_ground.specs.declared.fault.BoardFault.TheVariants as fault_by
 use Rattle.tup_ground.specs.declared.ground.Ground.{Ground}
@@ -33,8 +32,8 @@ use Rattle.tup_ground.specs.Lost.{Lost}
 use Rattle.tup_board.specs.Board.{BoardState, course_of, plan_of, state, with_history}
 use Rattle.tup_board.specs.Calls.{Ends, Finishes, IsGoodAt, IsRunAt, LacksRoom, LeavesBeside, MayLose, Touches}
 use Rattle.tup_board.specs.Cause.{stops_by}
-use Rattle.tup_board.specs.Ends.{AreNamed, AreRecorded, IsRecordOf}
-use Rattle.tup_board.proofs.Named.{one_recorded, recorded}
+use Rattle.tup_board.specs.Ends.{AreRecorded, IsRecordOf}
+use Rattle.tup_board.proofs.Named.{one_recorded}
 use Rattle.tup_board.proofs.Visiting.{counts_as, same_fault}
 
 abbrev judged_so : Type 0
@@ -62,61 +61,6 @@ lost_not_full commit = by commit.by_site
     by : (site : Bool) → (if site then fault_by.Site else fault_by.Memory) ≡ fault_by.Full → ⊥
     by true e = cc
     by false e = cc
-
--- nothing is done: any step may be said of it
-idle : {S : Type 0} (moment : S → ℕ) (left_since : S → ℕ → World → Type 0) (site : S) (step : World → World → Type 0) → GoesOn moment left_since site site step
-idle moment left_since site step = record { later = omega arith; kept = λ t w le left. left; since = λ t w le left. inl left }
-
--- ---- memory is wanting before anything is done: that there is a run to speak of, the asks tell
-module _ {S : Type 0} (site : Site S) (b : BoardState S) (seat : ℕ) (ended : Ended) (it : CommandGoesOn (course_of b) seat) (named : AreNamed it.it.rule.dir it.it.running.asks) where
-  run_of : (judge it.it.rule ended).verdict ≡ Good → (run : RunRecord) × IsRunAt b seat ended it.it.running.rule run
-  run_of well =
-      let paths = recorded it.it.rule.dir it.it.running.asks named in (
-        record { asks = paths.0; writes = map stamped (judge it.it.rule ended).files },
-        record {
-          kept = record {
-            running = it.it.running;
-            rule = it.it.rule;
-            runs = it.it.runs;
-            here = refl;
-            granted = it.granted;
-            asks = paths.1;
-            writes = names_stamped (judge it.it.rule ended).files ∙ (judge-LeavesOutputs it.it.rule ended).good well;
-          };
-          writes = refl;
-        },
-      )
-    where
-      names_stamped : (files : List (Names × Content)) → map (λ (file : Names × Stamp). file.0) (map stamped files) ≡ map (λ (file : Names × Content). file.0) files
-      names_stamped [] = refl
-      names_stamped (file ∷ files) = ap (λ (more : List Names). file.0 ∷ more) (names_stamped files)
-
-  -- a seat runs one rule
-  good_here : IsGoodAt b seat ended → (judge it.it.rule ended).verdict ≡ Good
-  good_here is =
-      let same : is.0.running ≡ it.it.running = same_Some _ _ (sym is.0.runs.here ∙ it.it.runs.here) in
-      let placed : is.0.rule ≡ it.it.rule = same_Some _ _ (sym is.0.runs.placed ∙ ap (λ (r : Running). slice_get (plan_of b).rules r.rule) same ∙ it.it.runs.placed) in
-      ap (λ (r : Rule). (judge r ended).verdict) (sym placed) ∙ is.1
-
-  pub ends_memory : Ends site seat ended b (Err fault_by.Memory) b
-  ends_memory = record {
-    finishes = refl;
-    lost = inl refl;
-    touches = record {
-      opening = refl;
-      bad = λ not. refl;
-      good = λ told is.
-          let run = run_of (good_here is) in record {
-            number = it.it.running.rule;
-            run = run.0;
-            is = run.1;
-            now = inl (inl refl, refl);
-            crash = idle site.moment site.left_since b.site _;
-          };
-    };
-    known = λ told content had. had;
-    cause = record { later = omega arith; site = λ e. cc; steady = λ other. refl };
-  }
 
 module _ {S : Type 0} (site : Site S) (b : BoardState S) (seat number : ℕ) (run : RunRecord) (files : List (Names × Content)) (ended : Ended)
     (kept : IsRecordOf (plan_of b) (state b) seat number run) (writes_are : run.writes ≡ map stamped files) (judged : judge kept.rule ended ≡ good files) where
@@ -185,7 +129,7 @@ module _ {S : Type 0} (site : Site S) (b : BoardState S) (seat number : ℕ) (ru
       idle_now same = subst (λ (s : S). step_left (site.world b.site) (site.world s)) (sym (ap (λ (it : Ground S). it.site) same)) (inl (inl refl, refl))
 
       idle_crash : new ≡ record { site = b.site; graph = b.graph; lost = b.lost } → GoesOn site.moment site.left_since b.site new.site step_left
-      idle_crash same = subst (λ (s : S). GoesOn site.moment site.left_since b.site s step_left) (sym (ap (λ (it : Ground S). it.site) same)) (idle site.moment site.left_since b.site step_left)
+      idle_crash same = subst (λ (s : S). GoesOn site.moment site.left_since b.site s step_left) (sym (ap (λ (it : Ground S). it.site) same)) (at_rest site.moment site.left_since b.site step_left)
 
       leaves_now : IsTrue site.tells → (lost : Option Lost) → b.lost ≡ lost → step_left (site.world b.site) (site.world new.site)
       leaves_now told None none = step_on _ _ ((makes.makes none).now told)

@@ -35,12 +35,12 @@ use Rattle.tup_ground.specs.Lost.{Lost}
 use Rattle.tup_board.specs.Board.{BoardState, course_of, plan_of, state, with_history}
 use Rattle.tup_board.specs.Calls.{AreFilesAt, AreKnown, AreStamped, Ends, IsGoodEndAt, IsReportOf}
 use Rattle.tup_board.specs.Cause.{stops_by}
-use Rattle.tup_board.specs.Ends.{AreNamed, IsRecordOf}
+use Rattle.tup_board.specs.Ends.{IsRecordOf}
 use Rattle.tup_board.specs.Sound.{IsSound, IsTrueFault}
-use Rattle.tup_board.proofs.Ended.{ends_memory, ends_ok, ends_refused, none_before}
+use Rattle.tup_board.proofs.Ended.{ends_ok, ends_refused, none_before}
 use Rattle.tup_board.proofs.Ending.{ends_well}
+use Rattle.tup_board.proofs.Judging.{memory_ends}
 use Rattle.tup_board.proofs.Making.{enabled, refusal_true, sound_ended, sound_refused}
-use Rattle.tup_board.proofs.Named.{asks_named}
 use Rattle.tup_board.proofs.Placing.{can_make}
 
 made_refused : (one other : BoardFault) → (let refused : Result (Unit {0}) BoardFault = Err one in refused) ≡ Err other → one ≡ other
@@ -49,11 +49,8 @@ made_refused one other e = cc
 module _ {S R : Type 0} (site : Site S) (runner : Runner R) (b : BoardState S) (sound : IsSound site runner b) (seat : ℕ) (dir : Names) (text : List ℕ) (asks : Asks) (ended : Ended)
     (report : IsReportOf site b seat dir text asks) (means : IsTrue runner.tells → EndsAfter (runner.next dir text) asks ended) where
   -- ---- memory is wanting before anything is done
-  named : AreNamed report.it.it.rule.dir report.it.it.running.asks
-  named = asks_named (plan_of b) (course_of b).files b.history sound.opening.apart.one_maker sound.run seat report.it.it.running report.it.it.rule report.it.it.runs
-
   pub ends_early : Ends site seat ended b (Err fault_by.Memory) b
-  ends_early = ends_memory site b seat ended report.it named
+  ends_early = memory_ends site runner b sound seat ended report.it
 
   module _ (files : List (Names × Content)) (judged : AreFilesAt b seat ended files) (number : ℕ) (run : RunRecord) (event : CoreEvent) (good_end : IsGoodEndAt b seat files number run event) where
     abbrev kept : IsRecordOf (plan_of b) (state b) seat number run
