@@ -62,6 +62,9 @@ lost_not_full commit = by commit.by_site
     by true e = cc
     by false e = cc
 
+abbrev run_with : List (Names × Option Stamp) → List (Names × Stamp) → RunRecord
+run_with asks written = record { asks = asks; writes = written }
+
 module _ {S : Type 0} (site : Site S) (b : BoardState S) (seat number : ℕ) (run : RunRecord) (files : List (Names × Content)) (ended : Ended)
     (kept : IsRecordOf (plan_of b) (state b) seat number run) (writes_are : run.writes ≡ map stamped files) (judged : judge kept.rule ended ≡ good files) where
   abbrev rule : Rule
@@ -73,10 +76,10 @@ module _ {S : Type 0} (site : Site S) (b : BoardState S) (seat number : ℕ) (ru
   files_are : files ≡ left
   files_are = sym (ap (λ (j : Judged). j.files) judged)
 
-  run_at : IsRunAt b seat ended number run
+  abbrev run_at : IsRunAt b seat ended number run
   run_at = record { kept = kept; writes = writes_are ∙ ap (map stamped) files_are }
 
-  good_at : IsGoodAt b seat ended
+  abbrev good_at : IsGoodAt b seat ended
   good_at = (record { running = kept.running; rule = kept.rule; runs = kept.runs }, ap (λ (j : Judged). j.verdict) judged)
 
   -- there is one run of what a seat runs
@@ -99,7 +102,7 @@ module _ {S : Type 0} (site : Site S) (b : BoardState S) (seat number : ℕ) (ru
     same_writes = at.writes ∙ ap (λ (r : Rule). map stamped (judge r ended).files) same_rule ∙ sym run_at.writes
 
     one_run : ran ≡ run
-    one_run = ap (λ asks. record { asks = asks; writes = ran.writes }) same_asks ∙ ap (λ written. record { asks = run.asks; writes = written }) same_writes
+    one_run = ap (λ (asks : List (Names × Option Stamp)). run_with asks ran.writes) same_asks ∙ ap (λ (written : List (Names × Stamp)). run_with run.asks written) same_writes
 
     lacks_here : LacksRoomFor b.graph m ran → LacksRoomFor b.graph number run
     lacks_here lacks = subst (λ (n : ℕ). LacksRoomFor b.graph n run) same_number (subst (LacksRoomFor b.graph m) one_run lacks)

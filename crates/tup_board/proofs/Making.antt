@@ -24,7 +24,7 @@ use Rattle.tup_access.specs.declared.verdict.Verdict.{Verdict}
 use Rattle.tup_access.specs.declared.verdict.Verdict.TheVariants.{Good}
 use Rattle.tup_record.specs.declared.run.RunRecord.{RunRecord}
 use Rattle.tup_table.specs.Table.{entries_in}
-use Rattle.tup_graph.specs.Graph.{GraphState, outputs_of}
+use Rattle.tup_graph.specs.Graph.{GraphState, is_flagged, outputs_of}
 use Rattle.tup_graph.specs.Opening.{IsGraphOf}
 use Rattle.tup_graph.specs.Transactions.{begun, finished, begin_edits, finish_edits}
 use Rattle.tup_kept.specs.Crash.{IsStoreOf}
@@ -242,7 +242,7 @@ module _ {S R : Type 0} (site : Site S) (runner : Runner R) (b : BoardState S) (
         claimed_now : (state then_board).claimed number ≡ true
         claimed_now = claims_on number (claimed b none g rules_are one_maker in_order at_present seat number run kept)
 
-        flagged_now : _
+        flagged_now : is_flagged g number ≡ true
         flagged_now = flagged b none g rules_are one_maker in_order at_present seat number run kept
 
         apart_now : (m : ℕ) (another : Rule) → slice_get (plan_of b).rules m ≡ Some another → m ≢ number → (q : Names) → writes another q ≡ true → writes rule q ≡ false

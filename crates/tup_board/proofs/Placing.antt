@@ -3,7 +3,7 @@ use Rattle.std.proofs.Common.{◌≡◌, ◌≢◌, ◌⊎◌, ℕ, ◌<◌, Boo
 use Rattle.std.specs.Prelude.{All, Contains, IsSome, IsTrue, slice_get}
 use Rattle.std.specs.FinMap as finite
 use Rattle.std.specs.Option.{option_map}
-use Rattle.std.proofs.lemmas.Bool.{lt-ltb}
+use Rattle.std.proofs.lemmas.Bool.{false≢true, lt-ltb}
 use Rattle.std.proofs.lemmas.List.Elements.{All-contains, All-map}
 use Rattle.std.proofs.lemmas.Option.{slice_get_within}
 use Rattle.tup_path.specs.Name.{Names, Content}
@@ -68,7 +68,7 @@ some_stamp None there = absurd there
 module _ {S R : Type 0} (site : Site S) (runner : Runner R) (b : BoardState S) (sound : IsSound site runner b) where
   claimed_reached : (m : ℕ) → (state b).claimed m ≡ true → is_reached (plan_of b) m ≡ true
   claimed_reached =
-      claimed_run (plan_of b) b.history (opening (plan_of b) (course_of b).files) (orderly_opening (plan_of b) (course_of b).files) (λ m was. cc) sound.run
+      claimed_run (plan_of b) b.history (opening (plan_of b) (course_of b).files) (orderly_opening (plan_of b) (course_of b).files) (λ m was. absurd (false≢true was)) sound.run
 
   -- a file that stands was seen at the opening, or is an output that is to be made
   seen_at : IsTrue site.tells → (path : Names) → IsSome (finite.get (site.world b.site).tree path) → (IsClaimed (plan_of b) (state b) path → ⊥) → IsSome (finite.get (first_graph b).seen path)
