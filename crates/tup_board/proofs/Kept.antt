@@ -73,7 +73,7 @@ module _ {S R : Type 0} (site : Site S) (runner : Runner R) (b : BoardState S) (
   verdict_is = one_denied (sym (denied_is was.it.running (running_is was.it.running was.it.runs.here)) ∙ was.denied)
     where
       one_denied : {text other : List ℕ} {one verdict : Verdict} → (let left : Option (List ℕ × Verdict) = Some (text, one) in left) ≡ Some (other, verdict) → one ≡ verdict
-      one_denied e = cc
+      one_denied {text} {other} {one} {verdict} e = ap (λ (p : List ℕ × Verdict). p.1) (same_Some (text, one) (other, verdict) e)
 
   pub denied_honest : IsTrue site.tells → IsTrue runner.tells → IsHonestEvent runner.next (site.known b.site) (plan_of b) (state b) (Finish seat was.verdict [])
   denied_honest told tells = (λ running rule runs. ends running rule (running_is running runs.here) runs.placed, tt)

@@ -45,7 +45,7 @@ pub record StandsForBytes (graph : Held) (bytes : List ℕ) : Type 0 where
   pub rests : IsAtRest commits bytes
   pub entries : entries_in graph.table ≡ (opened_of commits).entries
   pub gate : gate_of graph.table ≡ (opened_of commits).gate
-  pub graph : IsGraphOf (entries_in graph.table) graph.nodes
+  pub nodes : IsGraphOf (entries_in graph.table) graph.nodes
 
 -- a seat was stopped for want of room, and over these bytes there was none for the begin of its rule, or for what its
 -- end would keep

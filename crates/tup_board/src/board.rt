@@ -33,6 +33,8 @@ pub struct Board<S: Site, R: Runner> {
 }
 
 impl<S: Site, R: Runner> Model for Board<S, R> {
+    ghost use Rattle.std.specs.Prelude.{◌≡◌};
+    ghost use Rattle.std.specs.FinMap as finite;
     ghost use Rattle.tup_board.specs.Board.{BoardState, board_code};
     ghost use Rattle.tup_board.specs.Sound.{IsSound};
 
@@ -127,13 +129,7 @@ impl<S: Site, R: Runner> Board<S, R> {
         ensures keeps { IsSound S.Site.own R.Runner.own self }
     {
         let cause = self.course.stopped();
-        let Ground { site, graph, .. } = self.ground;
-        BoardParts {
-            site,
-            graph,
-            history: self.course.into_history(),
-            cause,
-        }
+        parts_of(self.ground, self.course, cause)
     }
 
     /// Gives a seat that runs nothing the first rule that is ready. It takes no memory.
@@ -197,6 +193,23 @@ impl<S: Site, R: Runner> Board<S, R> {
             BoardFault::Memory => {}
         }
         fault
+    }
+}
+
+/// What a board is made of.
+fn parts_of<S: Site>(ground: Ground<S>, course: Course, cause: Option<Cause>) -> BoardParts<S>
+    ensures { result ≡ record {
+      site = ground.site;
+      graph = ground.graph;
+      history = course.history;
+      cause = cause;
+    } }
+{
+    BoardParts {
+        site: ground.site,
+        graph: ground.graph,
+        history: course.into_history(),
+        cause,
     }
 }
 
