@@ -420,7 +420,7 @@ module _ {S R : Type 0} (site : Site S) (runner : Runner R) (b : BoardState S) (
           earlier new.site (site.moment b.opening.site) (site.moment new.site) (site.world new.site) told later_is (present_now new.site told),
           record {
             graph = new.graph;
-            stands = record { commits = stands.commits; rests = stands.rests.bytes; entries = stands.entries; gate = stands.gate; graph = is_graph_now };
+            stands = record { commits = stands.commits; rests = stands.rests.bytes; entries = stands.entries; gate = stands.gate; nodes = is_graph_now };
             before = b.history;
             after = [];
             seat = seat;
