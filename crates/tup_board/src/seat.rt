@@ -22,16 +22,16 @@ pub(crate) struct Refused {
 
 /// The view of the command that a seat runs.
 #[derive(Drop)]
-pub(crate) struct SeatView<'b, S: Site, R: Runner> {
+pub(crate) struct SeatView<'b, 'p, 'o, S: Site, R: Runner> {
     pub(crate) board: &'b mut Board<S, R>,
-    pub(crate) plan: &'b Plan,
+    pub(crate) plan: &'p Plan,
     pub(crate) seat: u32,
-    pub(crate) own: &'b [Path],
+    pub(crate) own: &'o [Path],
     pub(crate) refused: Option<Refused>,
     ghost of_board: { plan.now ≡ plan_of board.now },
 }
 
-impl<S: Site, R: Runner> View for SeatView<'_, S, R> {
+impl<S: Site + Send, R: Runner + Send> View for SeatView<'_, '_, '_, S, R> {
     ghost use Rattle.std.specs.Prelude.{◌≡◌, [], false, refl};
     ghost use Rattle.std.proofs.Common.{◌∙◌, ap};
     ghost use Rattle.std.proofs.lemmas.Bool.{false≢true};
@@ -98,7 +98,7 @@ impl<S: Site, R: Runner> View for SeatView<'_, S, R> {
     ghost told = { λ first last some tells came. absurd (false≢true tells) };
 }
 
-impl<S: Site, R: Runner> SeatView<'_, S, R> {
+impl<S: Site, R: Runner> SeatView<'_, '_, '_, S, R> {
     /// Notes that a text wasn't answered.
     fn refuse(&mut self, text: &Text, why: ViewFailed) -> Result<Answer, ViewFailed>
         ensures failed { result ≡ Err why }
