@@ -43,7 +43,7 @@ impl<S: Site + Send, R: Runner + Send> View for SeatView<'_, '_, '_, S, R> {
     ghost asks = { λ _. [] };
 
     ghost came = { λ first some last. (last.seat ≡ first.seat)
-        × CameBy S.Site.own first.seat first.board.now (refusal_of first.refused)
+        × CameBy S.Site first.seat first.board.now (refusal_of first.refused)
         some last.board.now (refusal_of last.refused) };
 
     ghost refusal = { λ view. refusal_of view.refused };
@@ -73,13 +73,13 @@ impl<S: Site + Send, R: Runner + Send> View for SeatView<'_, '_, '_, S, R> {
 
     ghost stays = { λ view. (
       refl,
-      came_none S.Site.own view.seat view.board.now (refusal_of view.refused),
+      came_none S.Site view.seat view.board.now (refusal_of view.refused),
     ) };
 
     ghost goes_on = { λ first next last some more one two. (
       two.0 ∙ one.0,
       came_then
-          S.Site.own first.seat next.seat one.0 first.board.now next.board.now last.board.now
+          S.Site first.seat next.seat one.0 first.board.now next.board.now last.board.now
           (refusal_of first.refused) (refusal_of next.refused) (refusal_of last.refused)
           some more one.1 two.1,
     ) };
