@@ -3,7 +3,7 @@ use Rattle.std.proofs.Common.{◌≡◌, ◌≢◌, ◌⊎◌, ℕ, Bool, true, 
 use Rattle.std.specs.Prelude.{Contains, slice_get, unwrap_or}
 use Rattle.std.specs.FinMap as finite
 use Rattle.std.specs.FinMap.{nat_cmp-IsAntisymmetric}
-use Rattle.std.specs.Ordering.{eq_by_cmp, nat_cmp}
+use Rattle.std.specs.Ordering.{eq_by_cmp, is_eq, nat_cmp}
 use Rattle.std.specs.Cmp.{nat_cmp_total}
 use Rattle.std.specs.Option.{option_map}
 use Rattle.std.proofs.lemmas.Bool.{true≢false, cases_Bool}
@@ -32,7 +32,7 @@ number_apart : (m n : ℕ) → m ≢ n → eq_by_cmp nat_cmp m n ≡ false
 number_apart m n differ = not_true (eq_by_cmp nat_cmp m n) (λ same. differ (nat_cmp-IsAntisymmetric m n (equal_of (nat_cmp m n) same)))
 
 number_itself : (n : ℕ) → eq_by_cmp nat_cmp n n ≡ true
-number_itself n = tied_itself nat_cmp_total n
+number_itself n = ap is_eq (tied_itself nat_cmp_total n)
 
 -- ---- the outputs of a rule in a graph
 

@@ -51,7 +51,7 @@ impl<S: Site, R: Runner> Model for Board<S, R> {
     } };
 
     ghost invariant = { λ b. (b.course.files ≡ finite.entries b.first_graph.value.nodes.seen)
-        × IsSound S.Site.own R.Runner.own (record {
+        × IsSound S.Site R.Runner (record {
           opening = record { plan = b.course.plan; graph = b.first_graph.value; site = b.first_site.value };
           history = b.course.history;
           site = b.ground.site;

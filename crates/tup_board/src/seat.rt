@@ -22,16 +22,16 @@ pub(crate) struct Refused {
 
 /// The view of the command that a seat runs.
 #[derive(Drop)]
-pub(crate) struct SeatView<'b, S: Site, R: Runner> {
+pub(crate) struct SeatView<'b, 'p, 'o, S: Site, R: Runner> {
     pub(crate) board: &'b mut Board<S, R>,
-    pub(crate) plan: &'b Plan,
+    pub(crate) plan: &'p Plan,
     pub(crate) seat: u32,
-    pub(crate) own: &'b [Path],
+    pub(crate) own: &'o [Path],
     pub(crate) refused: Option<Refused>,
     ghost of_board: { plan.now ≡ plan_of board.now },
 }
 
-impl<S: Site, R: Runner> View for SeatView<'_, S, R> {
+impl<S: Site + Send, R: Runner + Send> View for SeatView<'_, '_, '_, S, R> {
     ghost use Rattle.std.specs.Prelude.{◌≡◌, [], false, refl};
     ghost use Rattle.std.proofs.Common.{◌∙◌, ap};
     ghost use Rattle.std.proofs.lemmas.Bool.{false≢true};
@@ -43,7 +43,7 @@ impl<S: Site, R: Runner> View for SeatView<'_, S, R> {
     ghost asks = { λ _. [] };
 
     ghost came = { λ first some last. (last.seat ≡ first.seat)
-        × CameBy S.Site.own first.seat first.board.now (refusal_of first.refused)
+        × CameBy S.Site first.seat first.board.now (refusal_of first.refused)
         some last.board.now (refusal_of last.refused) };
 
     ghost refusal = { λ view. refusal_of view.refused };
@@ -73,13 +73,13 @@ impl<S: Site, R: Runner> View for SeatView<'_, S, R> {
 
     ghost stays = { λ view. (
       refl,
-      came_none S.Site.own view.seat view.board.now (refusal_of view.refused),
+      came_none S.Site view.seat view.board.now (refusal_of view.refused),
     ) };
 
     ghost goes_on = { λ first next last some more one two. (
       two.0 ∙ one.0,
       came_then
-          S.Site.own first.seat next.seat one.0 first.board.now next.board.now last.board.now
+          S.Site first.seat next.seat one.0 first.board.now next.board.now last.board.now
           (refusal_of first.refused) (refusal_of next.refused) (refusal_of last.refused)
           some more one.1 two.1,
     ) };
@@ -98,7 +98,7 @@ impl<S: Site, R: Runner> View for SeatView<'_, S, R> {
     ghost told = { λ first last some tells came. absurd (false≢true tells) };
 }
 
-impl<S: Site, R: Runner> SeatView<'_, S, R> {
+impl<S: Site, R: Runner> SeatView<'_, '_, '_, S, R> {
     /// Notes that a text wasn't answered.
     fn refuse(&mut self, text: &Text, why: ViewFailed) -> Result<Answer, ViewFailed>
         ensures failed { result ≡ Err why }
