@@ -1,7 +1,8 @@
 -- What is kept of a board once its course went on, while its site and graph stay.
 use Rattle.std.proofs.Common.{◌≡◌, ◌⊎◌, ℕ, ◌<◌, Bool, true, false, List, [], ◌∷◌, ◌++◌, Option, None, Some, refl, sym, ap, ◌∙◌, subst, ⊎_elim, inl, inr}
 use Rattle.std.specs.Prelude.{IsTrue, IsSome, if◌then◌else◌, length, slice_get, unwrap_or}
-use Rattle.std.proofs.lemmas.Option.{same_Some}
+use Rattle.std.proofs.lemmas.Bool.{true≢false}
+use Rattle.std.proofs.lemmas.Option.{same_Some, none-some}
 use Rattle.std.specs.FinMap as finite
 use Rattle.tup_stamp.specs.declared.Stamp.{Stamp}
 use Rattle.tup_access.specs.declared.verdict.Verdict.{Verdict}
@@ -226,9 +227,9 @@ module _ {S R : Type 0} (site : Site S) (runner : Runner R) (course : CourseStat
 
     -- ---- a stop
     stopped_or_not : (runs : Option Running) (why : Option Cause) → ((runs ≡ None) × IsSome why) ⊎ ((runs ≡ None) × IsSome why → ⊥)
-    stopped_or_not None None = inr (λ is. absurd is.1)
-    stopped_or_not None (Some cause) = inl (refl, tt)
-    stopped_or_not (Some running) why = inr (λ is. cc)
+    stopped_or_not None None = inr (λ is. absurd (true≢false (sym is.1)))
+    stopped_or_not None (Some cause) = inl (refl, refl)
+    stopped_or_not (Some running) why = inr (λ is. none-some running (sym is.0))
 
     pub stop_kept : (seat : ℕ) (cause : Cause) (new : CourseState) → seat < 16 → (cause ≡ Run) ⊎ (cause ≡ Memory) → Stops seat cause course new → KeepsBoard new
     stop_kept seat cause new within why stops =

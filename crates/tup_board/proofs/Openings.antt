@@ -81,7 +81,7 @@ stamps_of_entries seen path = with_sorted (finite.entries seen) (λ _. None) pat
 -- ---- a board at its opening
 module _ {S R : Type 0} (site : Site S) (runner : Runner R) (plan : Plan) (graph : Held) (s : S) (opening : IsOpening site (opened_as plan graph s)) (is : IsGraphOf (entries_in graph.table) graph.nodes)
     (present : IsTrue site.tells → site.left_since s (site.moment s) (site.world s)) where
-  board : BoardState S
+  abbrev board : BoardState S
   board = opened_as plan graph s
 
   -- each world that a crash now may leave has the graph
@@ -125,7 +125,7 @@ module _ {S R : Type 0} (site : Site S) (runner : Runner R) (plan : Plan) (graph
 -- ---- the same of what was remembered of graph and site, and of a course that begins
 module _ {S R : Type 0} (site : Site S) (runner : Runner R) (course : CourseState) (graph first_graph : Held) (s first_site : S)
     (graph_is : first_graph ≡ graph) (site_is : first_site ≡ s) (none : course.history ≡ []) where
-  made : BoardState S
+  abbrev pub made : BoardState S
   made = record { opening = record { plan = course.plan; graph = first_graph; site = first_site }; history = course.history; site = s; graph = graph; lost = None }
 
   pub made_as : made ≡ opened_as course.plan graph s
