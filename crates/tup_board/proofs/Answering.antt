@@ -1,11 +1,11 @@
 -- What a board by its parts does at an ask, at a refusal and at a bad end, as its callers see it.
-use Rattle.std.proofs.Common.{◌≡◌, ◌≢◌, ◌⊎◌, ◌↔◌, ℕ, ◌<◌, ◌≤◌, Bool, true, false, List, [], ◌∷◌, ◌++◌, length, Option, None, Some, Result, Ok, Err, refl, sym, ap, ◌∙◌, subst, ⊎_elim, inl, inr, arith}
+use Rattle.std.proofs.Common.{◌≡◌, ◌≢◌, ◌⊎◌, ◌↔◌, ℕ, ◌<◌, ◌≤◌, Bool, true, false, List, [], ◌∷◌, ◌++◌, length, get_or, Option, None, Some, Result, Ok, Err, refl, sym, ap, ◌∙◌, subst, ⊎_elim, inl, inr, arith}
 use Rattle.std.specs.Prelude.{IsTrue, is_none, slice_get, if◌then◌else◌}
 use Rattle.std.specs.FinMap as finite
 use Rattle.std.specs.Option.{option_map}
 use Rattle.std.proofs.lemmas.Bool.{true≢false}
 use Rattle.std.proofs.lemmas.List.{append-nil}
-use Rattle.std.proofs.lemmas.Option.{same_Some, none-some, slice_get_within}
+use Rattle.std.proofs.lemmas.Option.{same_Some, none-some, slice_get_within, slice_get_read}
 use Rattle.tup_path.specs.Name.{Names, Content}
 use Rattle.tup_stamp.specs.declared.Stamp.{Stamp}
 use Rattle.tup_stamp.specs.Stamp.{stamp}
@@ -111,6 +111,16 @@ module _ {S R : Type 0} (site : Site S) (runner : Runner R) (course : CourseStat
 
   pub rule_seen : (seat : ℕ) (running : Running) → (now course).seats seat ≡ Some running → (it : RunsRule (course_of given) seat) → slice_get (plan_of given).rules running.rule ≡ Some it.rule
   rule_seen seat running here it = ap (λ (r : Running). slice_get (plan_of given).rules r.rule) (sym (running_seen seat running here it)) ∙ it.runs.placed
+
+  module _ (plan : Plan) (plan_is : plan ≡ plan_of given) (seat : ℕ) (running : Running) (here : (now course).seats seat ≡ Some running) (it : RunsRule (course_of given) seat) (rules : List Rule) (rules_are : rules ≡ plan.rules) where
+    placed_there : slice_get rules running.rule ≡ Some it.rule
+    placed_there = ap (λ (l : List Rule). slice_get l running.rule) (rules_are ∙ ap (λ (p : Plan). p.rules) plan_is) ∙ rule_seen seat running here it
+
+    pub place_within : running.rule < length rules
+    place_within = slice_get_within rules running.rule it.rule placed_there
+
+    pub rule_there : (rule : Rule) → rule ≡ get_or rules running.rule rule → rule ≡ it.rule
+    rule_there rule is = same_Some _ _ (sym (slice_get_read rules (length rules) running.rule rule refl place_within is) ∙ placed_there)
 
   pub none_runs : (seat : ℕ) → (now course).seats seat ≡ None → RunsRule (course_of given) seat → ⊥
   none_runs seat none it = none-some it.running (sym none ∙ seats_seen seat ∙ it.runs.here)
