@@ -20,4 +20,3 @@ pub mod Placing
 pub mod Making
 pub mod Ended
 pub mod Finished
-pub mod Seeing

@@ -36,8 +36,6 @@ use Rattle.tup_core.specs.Run.{claims}
 use Rattle.tup_core.specs.Step.{State}
 use Rattle.tup_board.specs.declared.answers.Asked.{Asked}
 use Rattle.tup_board.specs.declared.answers.Asked.TheVariants.{Content as Told, Absent, Denied}
-use Rattle.tup_board.specs.declared.answers.Drained.{Drained}
-use Rattle.tup_board.specs.declared.answers.Drained.TheVariants.{Done, Left}
 use Rattle.tup_ground.specs.declared.fault.BoardFault.{BoardFault}
 use Rattle.tup_ground.specs.declared.fault.BoardFault.TheVariants.{Site as ByVisit, TooLarge, Full, Memory}
 use Rattle.tup_board.specs.Board.{BoardState, course_of, plan_of, state, with_history}
@@ -208,57 +206,3 @@ pub record IsGoodEndAt {S : Type 0} (board : BoardState S) (seat : ℕ) (files :
   pub kept : IsRecordOf (plan_of board) (state board) seat number run
   pub writes : run.writes ≡ map stamped files
   pub event_is : event ≡ Finish seat Good run.writes
-
--- ---- drain
--- what an update that is over came to
-abbrev pub Drains : State → Drained → Type 0
-Drains end Done = (end.stopped ≡ None) × ((number : ℕ) → end.bad number ≡ None)
-Drains end (Left cause) = (end.stopped ≡ Some cause) ⊎ ((end.stopped ≡ None) × (cause ≡ Bad) × ((number : ℕ) × IsSome (end.bad number)))
-
--- nothing goes on any more
-abbrev pub IsOver : {S : Type 0} → BoardState S → Type 0
-IsOver board = NoneRuns (course_of board) × (IsSome (state board).stopped ⊎ NoneReady (course_of board))
-
--- the commands of the rules that are claimed, in their order
-abbrev pub command_of : Rule → Names × List ℕ
-command_of rule = (rule.dir, rule.text)
-
-abbrev pub commands : Plan → List CoreEvent → List (Names × List ℕ)
-commands plan events = filter_map (λ number. option_map command_of (slice_get plan.rules number)) (claims events)
-
--- a runner ran the commands of the rules that were claimed; where an update is left for want of memory, perhaps not the last
-abbrev pub RanAll : Plan → List CoreEvent → List (Names × List ℕ) → List (Names × List ℕ) → Drained → Type 0
-RanAll plan events old new (Left StoppedByMemory) =
-    (new ≡ old ++ commands plan events) ⊎ (new ≡ old ++ take (length (commands plan events) - 1) (commands plan events))
-RanAll plan events old new result = new ≡ old ++ commands plan events
-
--- the runner failed where that is the first cause, unless it was before; it failed at no other answer
-pub record HasRunCause (before : Option Cause) (was now : ℕ) (result : Drained) : Type 0 where
-  pub later : was ≤ now
-  pub run : result ≡ Left Run → (before ≡ Some Run) ⊎ Rose was now
-  pub steady : result ≢ Left Run → now ≡ was
-
--- ---- one rule of a drain
--- seat 0 runs the rule of this number, whose command did nothing yet; nothing is stopped, and no other seat runs one
-pub record StartsAlone {S : Type 0} (board : BoardState S) (number : ℕ) : Type 0 where
-  pub here : (state board).seats 0 ≡ Some (record { rule = number; asks = []; denied = None })
-  pub alone : (other : ℕ) → other ≢ 0 → (state board).seats other ≡ None
-  pub going : (state board).stopped ≡ None
-
--- it was run or left: no seat runs one any more, and none was claimed
-pub record RunsOne {S : Type 0} (old new : BoardState S) : Type 0 where
-  pub opening : new.opening ≡ old.opening
-  pub events : List CoreEvent
-  pub adds : new.history ≡ old.history ++ events
-  pub none_claimed : claims events ≡ []
-  pub none_runs : NoneRuns (course_of new)
-
--- its command was run; where all is stopped for want of memory, perhaps not
-abbrev pub HasRun : Names × List ℕ → List (Names × List ℕ) → List (Names × List ℕ) → Option Cause → Type 0
-HasRun command old new stopped = (new ≡ old ++ command ∷ []) ⊎ ((new ≡ old) × (stopped ≡ Some StoppedByMemory))
-
--- the runner's count rose just where all is stopped for that
-pub record HasFailed (was now : ℕ) (stopped : Option Cause) : Type 0 where
-  pub later : was ≤ now
-  pub run : stopped ≡ Some Run → Rose was now
-  pub steady : stopped ≢ Some Run → now ≡ was

@@ -1,5 +1,5 @@
 //! What a command is told.
-ghost use Rattle.std.specs.Prelude.{◌≡◌, ◌↔◌, length, IsTrue, None};
+ghost use Rattle.std.specs.Prelude.{◌≡◌, length, IsTrue, None};
 ghost use Rattle.std.specs.FinMap as finite;
 ghost use Rattle.std.specs.Option.{option_map};
 ghost use Rattle.tup_path.specs.Name.{Names};
@@ -56,16 +56,6 @@ impl<S: Site, R: Runner> Board<S, R> {
         match self.course.access(alloc, plan, seat, text)? {
             Access::Yes(path) => self.answer(alloc, plan, seat, text, &path),
             Access::No(verdict) => self.deny(alloc, plan, seat, text, verdict),
-        }
-    }
-
-    /// Whether a seat runs a rule whose command was denied nothing.
-    pub(crate) fn goes_on(&self, seat: u32) -> bool
-        ensures { IsTrue result ↔ GoesOn (course_of self.now) seat }
-    {
-        match self.course.running(seat) {
-            Some(running) => running.denied.is_none(),
-            None => false,
         }
     }
 
