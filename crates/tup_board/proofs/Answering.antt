@@ -1,9 +1,8 @@
 -- What a board by its parts does at an ask, at a refusal and at a bad end, as its callers see it.
-use Rattle.std.proofs.Common.{◌≡◌, ◌≢◌, ◌⊎◌, ◌↔◌, ℕ, ◌<◌, ◌≤◌, Bool, true, false, List, [], ◌∷◌, ◌++◌, length, get_or, Option, None, Some, Result, Ok, Err, refl, sym, ap, ◌∙◌, subst, ⊎_elim, inl, inr, arith}
-use Rattle.std.specs.Prelude.{IsTrue, is_none, slice_get, if◌then◌else◌}
+use Rattle.std.proofs.Common.{◌≡◌, ◌≢◌, ◌⊎◌, ℕ, ◌<◌, ◌≤◌, Bool, true, false, List, [], ◌∷◌, ◌++◌, length, get_or, Option, None, Some, Result, Ok, Err, refl, sym, ap, ◌∙◌, subst, ⊎_elim, inl, inr, arith}
+use Rattle.std.specs.Prelude.{IsTrue, slice_get, if◌then◌else◌}
 use Rattle.std.specs.FinMap as finite
 use Rattle.std.specs.Option.{option_map}
-use Rattle.std.proofs.lemmas.Bool.{true≢false}
 use Rattle.std.proofs.lemmas.List.{append-nil}
 use Rattle.std.proofs.lemmas.Option.{same_Some, none-some, slice_get_within, slice_get_read}
 use Rattle.tup_path.specs.Name.{Names, Content}
@@ -43,7 +42,6 @@ use Rattle.tup_board.specs.Sound.{IsSound, IsTrueFault}
 use Rattle.tup_board.proofs.Asking.{denied_asks, failed_asks, memory_asks, own_asks, read_asks, same_rule_at, same_running, told_asks}
 use Rattle.tup_board.proofs.Kept.{KeepsBoard, board_at, course_is, to_course, plan_here, sound_seen, added_seen, rest_seen, kept_same, ask_kept, deny_kept, refused_kept, site_true, large_true, full_true}
 use Rattle.tup_board.proofs.WasRead.{sound_read}
-use Rattle.tup_board.proofs.Seated.{runs_at}
 use Rattle.tup_board.proofs.Visiting.{counts_as, large_as, length_as, visit_true}
 
 -- ---- what a command may ask, by what it may ask of the rule that its seat runs
@@ -125,33 +123,9 @@ module _ {S R : Type 0} (site : Site S) (runner : Runner R) (course : CourseStat
   pub none_runs : (seat : ℕ) → (now course).seats seat ≡ None → RunsRule (course_of given) seat → ⊥
   none_runs seat none it = none-some it.running (sym none ∙ seats_seen seat ∙ it.runs.here)
 
-  pub runs_it : (seat : ℕ) (running : Running) → (now course).seats seat ≡ Some running → RunsRule (course_of given) seat
-  runs_it seat running here =
-      let it = runs_at (plan_of given) (course_of given).files given.history given_sound.run given_sound.opening.plan.in_range seat running (sym (seats_seen seat) ∙ here) in
-      record { running = running; rule = it.0; runs = it.1 }
-
-  pub goes_seen : (seat : ℕ) (running : Running) → (now course).seats seat ≡ Some running → IsTrue (is_none running.denied) ↔ GoesOn (course_of given) seat
-  goes_seen seat running here = (
-    λ granted. record { it = runs_it seat running here; granted = none_is running.denied granted },
-    λ goes. is_none_of running.denied (ap (λ (r : Running). r.denied) (sym (running_seen seat running here goes.it)) ∙ goes.granted),
-  )
-    where
-      none_is : {A : Type 0} (o : Option A) → IsTrue (is_none o) → o ≡ None
-      none_is None is = refl
-      none_is (Some x) is = absurd (true≢false (sym is))
-
-      is_none_of : {A : Type 0} (o : Option A) → o ≡ None → IsTrue (is_none o)
-      is_none_of o is = ap is_none is
-
-  pub none_goes : (seat : ℕ) → (now course).seats seat ≡ None → IsTrue false ↔ GoesOn (course_of given) seat
-  none_goes seat none = (λ no. absurd (true≢false (sym no)), λ goes. absurd (none_runs seat none goes.it))
-
   -- ---- a seat that runs a rule may stop
   pub one_stop : (seat : ℕ) → RunsRule (course_of given) seat → (now course).seats seat ≡ None → (now course).stopped ≡ None
   one_stop seat it none = absurd (none_runs seat none it)
-
-  pub seat_within : (seat : ℕ) → RunsRule (course_of given) seat → seat < 16
-  seat_within seat it = it.runs.within
 
   pub enabled_there : (event : CoreEvent) → IsEnabled (plan_of given) (state given) event → IsEnabled course.plan (now course) event
   enabled_there event enabled = to_course site runner course first_graph graph first_site s lost given files sound view (λ c. IsEnabled c.plan (now c) event) enabled
