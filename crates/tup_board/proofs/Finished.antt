@@ -233,4 +233,4 @@ module _ {S R : Type 0} (site : Site S) (runner : Runner R) (first_graph graph :
 -- the course of a board has the files that its graph had seen
 pub end_of_course : (course : CourseState) (first_graph : Held) (number : ℕ) (event : CoreEvent) → course.files ≡ finite.entries first_graph.nodes.seen
     → IsGoodEnd (record course { files = finite.entries first_graph.nodes.seen }) number event → IsGoodEnd course number event
-end_of_course course first_graph number event files end = subst (λ (it : CourseState). IsGoodEnd it number event) (sym (ap (λ fs. record course { files = fs }) files)) end
+end_of_course course first_graph number event files end = subst (λ (it : CourseState). IsGoodEnd it number event) (sym (ap (λ (fs : List (Names × Stamp)). record course { files = fs }) files)) end
