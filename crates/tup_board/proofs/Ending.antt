@@ -114,6 +114,7 @@ answered next known rule running asks ended stamps there means = record { asks =
 
 pub ends_badly : (next : Next) (known : List Content) (rule : Rule) (running : Running) (asks : Asks) (ended : Ended) (given : Verdict) → AreStamped running.asks asks → AreKnown known asks
     → EndsAfter (next rule.dir rule.text) asks ended → given ≡ (judge rule ended).verdict → given ≢ Good → EndsHonestly next known rule running None given []
+unfolding answered
 ends_badly next known rule running asks ended given stamps there means is other =
     let none = bad_leaves rule ended (λ e. other (is ∙ e)) in (
       answered next known rule running asks ended stamps there means,
@@ -130,6 +131,7 @@ ends_badly next known rule running asks ended given stamps there means is other 
 pub ends_well : (next : Next) (known : List Content) (rule : Rule) (running : Running) (asks : Asks) (ended : Ended) (files : List (Names × Content)) (written : List (Names × Stamp)) → AreStamped running.asks asks → AreKnown known asks
     → EndsAfter (next rule.dir rule.text) asks ended → judge rule ended ≡ good files → written ≡ map stamped files → All (λ (file : Names × Content). Contains known file.1) files
     → EndsHonestly next known rule running None Good written
+unfolding answered
 ends_well next known rule running asks ended files written stamps there means is writes_are all = (
   answered next known rule running asks ended stamps there means,
   ended,

@@ -160,3 +160,77 @@ module _ {S R : Type 0} (site : Site S) (runner : Runner R) (b : BoardState S) (
         made_ends =
             as_event (λ (e : CoreEvent). Ends site seat ended b (Ok Good) (record b { history = b.history ++ e ∷ []; site = new.site; graph = new.graph; lost = new.lost }))
             (ends_ok site b seat number run files ended kept good_end.writes judged_here result new makes counts done ok)
+
+-- ---- the same as callers see it, of a board by its parts
+module _ {S R : Type 0} (site : Site S) (runner : Runner R) (b given : BoardState S) (sound : IsSound site runner b) (view : b ≡ given) (seat : ℕ) (dir : Names) (text : List ℕ) (asks : Asks) (ended : Ended)
+    (report : IsReportOf site given seat dir text asks) (means : IsTrue runner.tells → EndsAfter (runner.next dir text) asks ended) where
+  report_here : IsReportOf site b seat dir text asks
+  report_here = subst (λ (it : BoardState S). IsReportOf site it seat dir text asks) (sym view) report
+
+  pub early_seen : Ends site seat ended given (Err fault_by.Memory) given
+  early_seen = subst (λ (it : BoardState S). Ends site seat ended it (Err fault_by.Memory) it) view (ends_early site runner b sound seat dir text asks ended report_here means)
+
+  module _ (files : List (Names × Content)) (judged : AreFilesAt given seat ended files) (number : ℕ) (run : RunRecord) (event : CoreEvent) (good_end : IsGoodEndAt given seat files number run event) where
+    judged_so : AreFilesAt b seat ended files
+    judged_so = subst (λ (it : BoardState S). AreFilesAt it seat ended files) (sym view) judged
+
+    good_so : IsGoodEndAt b seat files number run event
+    good_so = subst (λ (it : BoardState S). IsGoodEndAt it seat files number run event) (sym view) good_end
+
+    pub can_make_seen : b.lost ≡ None → CanMake site (record { site = b.site; graph = b.graph; lost = b.lost }) number files
+    can_make_seen = can_make_here site runner b sound seat dir text asks ended report_here means files judged_so number run event good_so
+
+    module _ (law_before : IsTrue (is_fresh b.graph) → IsGraphOf (entries_in b.graph.table) b.graph.nodes)
+        (present : (s : S) → IsTrue site.tells → site.left_since s (site.moment s) (site.world s))
+        (earlier : (s : S) (t u : ℕ) (w : World) → IsTrue site.tells → t ≤ u → site.left_since s u w → site.left_since s t w)
+        (knows_tree : (s : S) → IsTrue site.tells → KnowsTree (site.known s) (site.world s).tree)
+        (result : Result (Unit {0}) BoardFault) (new : Ground S) (makes : Makes site number run files (record { site = b.site; graph = b.graph; lost = b.lost }) result new)
+        (counts : CountsFaults (site.faults b.site) (site.faults new.site) b.lost result) where
+      abbrev pub now_refused : BoardState S
+      now_refused = record b { site = new.site; graph = new.graph; lost = new.lost }
+
+      pub refused_kept_here : (fault : BoardFault) → result ≡ Err fault → IsSound site runner now_refused
+      refused_kept_here = refused_sound site runner b sound seat dir text asks ended report_here means files judged_so number run event good_so law_before present earlier knows_tree result new makes counts
+
+      pub refused_true_here : (fault : BoardFault) → result ≡ Err fault → (IsTrue (is_fresh new.graph) → IsGraphOf (entries_in new.graph.table) new.graph.nodes) → IsTrueFault site now_refused seat fault
+      refused_true_here = refused_true site runner b sound seat dir text asks ended report_here means files judged_so number run event good_so law_before present earlier knows_tree result new makes counts
+
+      -- the seat still runs its rule then
+      pub runs_still : RunsRule (course_of now_refused) seat
+      runs_still = record { running = good_so.kept.running; rule = good_so.kept.rule; runs = good_so.kept.runs }
+
+      pub refused_seen : (fault : BoardFault) → result ≡ Err fault → (after : BoardState S) → after ≡ with_history now_refused (b.history ++ stops_by seat fault) → Ends site seat ended given (Err fault) after
+      refused_seen fault refused after is =
+          subst (Ends site seat ended given (Err fault)) (sym is)
+          (subst (λ (it : BoardState S). Ends site seat ended it (Err fault) (with_history now_refused (b.history ++ stops_by seat fault))) view
+          (refused_ends site runner b sound seat dir text asks ended report_here means files judged_so number run event good_so law_before present earlier knows_tree result new makes counts fault refused))
+
+      module _ (done : Unit {0}) (ok : result ≡ Ok done) where
+        pub end_here : IsGoodEnd (course_of b) number event
+        end_here = made_end site runner b sound seat dir text asks ended report_here means files judged_so number run event good_so law_before present earlier knows_tree result new makes counts done ok
+
+        pub made_kept_here : IsSound site runner (record b { history = b.history ++ event ∷ []; site = new.site; graph = new.graph; lost = new.lost })
+        made_kept_here = made_sound site runner b sound seat dir text asks ended report_here means files judged_so number run event good_so law_before present earlier knows_tree result new makes counts done ok
+
+        pub made_seen : (after : BoardState S) → after ≡ record b { history = b.history ++ event ∷ []; site = new.site; graph = new.graph; lost = new.lost } → Ends site seat ended given (Ok Good) after
+        made_seen after is =
+            subst (Ends site seat ended given (Ok Good)) (sym is)
+            (subst (λ (it : BoardState S). Ends site seat ended it (Ok Good) (record b { history = b.history ++ event ∷ []; site = new.site; graph = new.graph; lost = new.lost })) view
+            (made_ends site runner b sound seat dir text asks ended report_here means files judged_so number run event good_so law_before present earlier knows_tree result new makes counts done ok))
+
+-- ---- a board whose course has taken one more event
+module _ {S R : Type 0} (site : Site S) (runner : Runner R) (first_graph graph : Held) (first_site s : S) (lost : Option Lost) where
+  abbrev board_of : CourseState → BoardState S
+  board_of it = record { opening = record { plan = it.plan; graph = first_graph; site = first_site }; history = it.history; site = s; graph = graph; lost = lost }
+
+  module _ (course new : CourseState) (event : CoreEvent) (is : new ≡ with_events course (event ∷ [])) where
+    pub board_more : board_of new ≡ board_of (with_events course (event ∷ []))
+    board_more = ap board_of is
+
+    pub more_kept : course.files ≡ finite.entries first_graph.nodes.seen → IsSound site runner (board_of (with_events course (event ∷ []))) → (new.files ≡ finite.entries first_graph.nodes.seen) × IsSound site runner (board_of new)
+    more_kept files sound = (ap (λ (it : CourseState). it.files) is ∙ files, subst (λ (it : CourseState). IsSound site runner (board_of it)) (sym is) sound)
+
+-- the course of a board has the files that its graph had seen
+pub end_of_course : (course : CourseState) (first_graph : Held) (number : ℕ) (event : CoreEvent) → course.files ≡ finite.entries first_graph.nodes.seen
+    → IsGoodEnd (record course { files = finite.entries first_graph.nodes.seen }) number event → IsGoodEnd course number event
+end_of_course course first_graph number event files end = subst (λ (it : CourseState). IsGoodEnd it number event) (sym (ap (λ (fs : List (Names × Stamp)). record course { files = fs }) files)) end

@@ -66,7 +66,7 @@ module _ {S : Type 0} (b next : BoardState S) (g : GraphState) (number : ℕ) (r
 
   module _ (v u w : World) (image : IsImageOver b v u g) where
     -- ---- nothing yet
-    not_begun : IsStoreOf g w.store → w.tree ≡ u.tree → IsImageOver next v w g
+    pub not_begun : IsStoreOf g w.store → w.tree ≡ u.tree → IsImageOver next v w g
     not_begun store tree = record {
       store = store;
       come = come;
@@ -109,7 +109,7 @@ module _ {S : Type 0} (b next : BoardState S) (g : GraphState) (number : ℕ) (r
           (image.unmade m path mk (sym flags ∙ flag))
 
       -- ---- its run began
-      is_begun : IsStoreOf began w.store → IsImageOver next v w began
+      pub is_begun : IsStoreOf began w.store → IsImageOver next v w began
       is_begun store = record {
         store = store;
         come = come_begun;
@@ -131,7 +131,7 @@ module _ {S : Type 0} (b next : BoardState S) (g : GraphState) (number : ℕ) (r
       done_owned : (q : Names) → writes rule q ≡ false → finite.get done.owned q ≡ finite.get g.owned q
       done_owned q other = finished_owned began number rule in_graph run names q other ∙ begun_else g number rule in_graph q other
 
-      is_done : tried → IsStoreOf done w.store → All (λ (file : Names × Content). finite.get w.tree file.0 ≡ Some file.1) files → IsImageOver next v w done
+      pub is_done : tried → IsStoreOf done w.store → All (λ (file : Names × Content). finite.get w.tree file.0 ≡ Some file.1) files → IsImageOver next v w done
       is_done was store stand = record {
         store = store;
         come = come_done was;

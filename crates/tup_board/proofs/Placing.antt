@@ -62,8 +62,8 @@ claimed_run plan (event ∷ events) before in_order within (enabled, run) =
     claimed_run plan events (after plan before event) (orderly_after plan before event in_order enabled) (claimed_more plan before event in_order within enabled) run
 
 some_stamp : (found : Option Content) → IsSome found → IsSome (option_map stamp found)
-some_stamp (Some content) there = tt
-some_stamp None there = absurd there
+some_stamp (Some content) there = there
+some_stamp None there = absurd (false≢true there)
 
 module _ {S R : Type 0} (site : Site S) (runner : Runner R) (b : BoardState S) (sound : IsSound site runner b) where
   claimed_reached : (m : ℕ) → (state b).claimed m ≡ true → is_reached (plan_of b) m ≡ true
