@@ -40,7 +40,7 @@ use Rattle.tup_board.specs.Calls.{Asks, AsksFor, AsksForOwn, told_of}
 use Rattle.tup_board.specs.Cause.{stops_by}
 use Rattle.tup_board.specs.Sound.{IsSound, IsTrueFault}
 use Rattle.tup_board.proofs.Asking.{denied_asks, failed_asks, memory_asks, own_asks, read_asks, same_rule_at, same_running, told_asks}
-use Rattle.tup_board.proofs.Kept.{KeepsBoard, board_at, course_is, to_course, plan_here, sound_seen, added_seen, rest_seen, kept_same, ask_kept, deny_kept, refused_kept, site_true, large_true, full_true}
+use Rattle.tup_board.proofs.Kept.{KeepsBoard, board_at, course_is, to_course, plan_here, sound_seen, added_seen, kept_more, ask_kept, deny_kept, refused_kept, site_true, large_true, full_true}
 use Rattle.tup_board.proofs.WasRead.{sound_read}
 use Rattle.tup_board.proofs.Visiting.{counts_as, large_as, length_as, visit_true}
 
@@ -81,7 +81,7 @@ module _ {S : Type 0} (b : BoardState S) (seat : ℕ) (text : List ℕ) where
 
   pub can_deny : (it : GoesOn (course_of b) seat) (verdict : Verdict) → access (plan_of b).rules it.it.rule (length it.it.running.asks) text ≡ No verdict
       → CanDeny (plan_of b) (state b) seat text verdict
-  can_deny goes verdict no = (goes.it.running, goes.it.rule, goes.it.runs, goes.granted, no)
+  can_deny goes verdict refused = (goes.it.running, goes.it.rule, goes.it.runs, goes.granted, refused)
 
 -- ---- a board by its parts
 module _ {S R : Type 0} (site : Site S) (runner : Runner R) (course : CourseState) (first_graph graph : Held) (first_site s : S) (lost : Option Lost)
@@ -102,6 +102,9 @@ module _ {S R : Type 0} (site : Site S) (runner : Runner R) (course : CourseStat
 
   pub seats_seen : (seat : ℕ) → (now course).seats seat ≡ (state given).seats seat
   seats_seen seat = ap (λ (c : CourseState). (now c).seats seat) seen_is
+
+  pub files_seen : (path : Names) → (now course).files path ≡ (state given).files path
+  files_seen path = ap (λ (c : CourseState). (now c).files path) seen_is
 
   -- ---- what a seat runs
   pub running_seen : (seat : ℕ) (running : Running) → (now course).seats seat ≡ Some running → (it : RunsRule (course_of given) seat) → it.running ≡ running
@@ -145,6 +148,12 @@ module _ {S R : Type 0} (site : Site S) (runner : Runner R) (course : CourseStat
   full_kept seat new it holds is =
       refused_kept site runner course first_graph graph first_site s lost given files sound view seat cause_by.Full new it.runs.within (λ e. cc)
       (full_true site runner course first_graph graph first_site s lost given files sound view seat holds) is
+
+  -- ---- a bad end
+  pub bad_kept : (seat : ℕ) (verdict : Verdict) (new : CourseState) → new ≡ with_events course (Finish seat verdict [] ∷ []) → IsSound site runner (with_history given (given.history ++ Finish seat verdict [] ∷ [])) → Keeps new
+  bad_kept seat verdict new is more =
+      kept_more site runner course first_graph graph first_site s lost given files sound view new (Finish seat verdict []) is
+      (subst (λ (b : BoardState S). IsSound site runner (with_history b (b.history ++ Finish seat verdict [] ∷ []))) (sym view) more)
 
   -- what callers see of one more event, and of none
   pub one_seen : (new : CourseState) (event : CoreEvent) → new ≡ with_events course (event ∷ []) → Keeps new → at new ≡ with_history given (given.history ++ event ∷ [])

@@ -149,7 +149,7 @@ module _ {S : Type 0} (site : Site S) (b : BoardState S) (seat : ℕ) (text : Li
 
       read_for : (fault : BoardFault) → OnlyLarge (let refused : Result Asked BoardFault = Err fault in refused) → HasAskedFor seat text b (Err fault)
       read_for ByVisit large = (path, asks_for)
-      read_for (TooLarge bytes) large = (large bytes refl, path, asks_for)
+      read_for (TooLarge bytes) large = (large bytes refl, (path, asks_for))
       read_for Full large = tt
       read_for Memory large = tt
 
@@ -182,7 +182,7 @@ module _ {S : Type 0} (site : Site S) (b : BoardState S) (seat : ℕ) (text : Li
       for_on (Ok Absent) it = tt
       for_on (Ok (Denied verdict)) it = tt
       for_on (Err ByVisit) it = (it.0, record { it = it.1.it; may = it.1.may; foreign = it.1.foreign })
-      for_on (Err (TooLarge bytes)) it = (it.0, it.1, record { it = it.2.it; may = it.2.may; foreign = it.2.foreign })
+      for_on (Err (TooLarge bytes)) it = (it.0, (it.1.0, record { it = it.1.1.it; may = it.1.1.may; foreign = it.1.1.foreign }))
       for_on (Err Full) it = tt
       for_on (Err Memory) it = tt
 

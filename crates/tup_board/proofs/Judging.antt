@@ -26,15 +26,21 @@ use Rattle.tup_course.specs.Course.{GoesOn, RunsRule}
 use Rattle.tup_ground.specs.declared.fault.BoardFault.{BoardFault}
 use Rattle.tup_ground.specs.declared.fault.BoardFault.TheVariants.{Memory, Site as ByVisit}
 use Rattle.tup_ground.specs.Fault.{CountsFaults}
-use Rattle.tup_ground.specs.Ground.{MakeStep, WasTried}
+use Rattle.tup_ground.specs.Ground.{MakeStep, WasTried, paths_of}
 use Rattle.tup_board.specs.Board.{BoardState, course_of, plan_of, state, with_history}
-use Rattle.tup_board.specs.Calls.{AreFilesAt, Ends, IsGoodAt, IsReportOf, IsRunAt, IsVerdictAt, LeavesBeside}
-use Rattle.tup_board.specs.Ends.{AreNamed}
+use Rattle.tup_board.specs.Calls.{AreFilesAt, Ends, IsGoodAt, IsGoodEndAt, IsReportOf, IsRunAt, IsVerdictAt, LeavesBeside}
+use Rattle.tup_board.specs.Ends.{AreNamed, AreRecorded}
 use Rattle.tup_board.specs.Sound.{IsSound}
 use Rattle.tup_board.proofs.Asking.{same_rule_at, same_running}
 use Rattle.tup_board.proofs.Ending.{bad_fits, bad_leaves, ends_badly}
+use Rattle.tup_board.proofs.Kept.{sound_bad}
 use Rattle.tup_board.proofs.Named.{asks_named, recorded}
 use Rattle.tup_board.proofs.Sounds.{IsHonestEvent}
+
+-- ---- the files of a Good command are its rule's outputs
+names_kept : (files : List (Names × Content)) → map (λ (file : Names × Stamp). file.0) (map stamped files) ≡ paths_of files
+names_kept [] = refl
+names_kept (file ∷ files) = ap (λ (rest : List Names). file.0 ∷ rest) (names_kept files)
 
 module _ {S : Type 0} (b : BoardState S) (seat : ℕ) where
   -- one rule is judged, whatever a seat is said to run
@@ -61,15 +67,11 @@ module _ {S R : Type 0} (site : Site S) (runner : Runner R) (b : BoardState S) (
             here = refl;
             granted = goes.granted;
             asks = noted.1;
-            writes = names_stamped (judge goes.it.rule ended).files ∙ (judge-LeavesOutputs goes.it.rule ended).good good;
+            writes = names_kept (judge goes.it.rule ended).files ∙ (judge-LeavesOutputs goes.it.rule ended).good good;
           };
           writes = refl;
         },
       )
-    where
-      names_stamped : (fs : List (Names × Content)) → map (λ (file : Names × Stamp). file.0) (map stamped fs) ≡ map (λ (file : Names × Content). file.0) fs
-      names_stamped [] = refl
-      names_stamped (file ∷ fs) = ap (λ (rest : List Names). file.0 ∷ rest) (names_stamped fs)
 
   -- ---- there was no memory: nothing happened
   pub memory_ends : GoesOn (course_of b) seat → Ends site seat ended b (Err Memory) b
@@ -94,7 +96,7 @@ module _ {S R : Type 0} (site : Site S) (runner : Runner R) (b : BoardState S) (
 
   -- ---- a verdict that isn't Good
   module _ (dir : Names) (text : List ℕ) (asks : Asks) (report : IsReportOf site b seat dir text asks) (verdict : Verdict) (judged : IsVerdictAt b seat ended verdict) (bad : verdict ≢ Good) where
-    it : RunsRule (course_of b) seat
+    abbrev it : RunsRule (course_of b) seat
     it = report.it.it
 
     pub bad_can : IsEnabled (plan_of b) (state b) (Finish seat verdict [])
@@ -104,6 +106,10 @@ module _ {S R : Type 0} (site : Site S) (runner : Runner R) (b : BoardState S) (
         → IsHonestEvent runner.next (site.known b.site) (plan_of b) (state b) (Finish seat verdict [])
     bad_honest means told tells = (λ running rule runs. ends (record { running = running; rule = rule; runs = runs }), tt)
       where
+        meant : EndsAfter (runner.next dir text) asks ended → EndsAfter (runner.next it.rule.dir it.rule.text) asks ended
+        meant given =
+            subst (λ (t : List ℕ). EndsAfter (runner.next it.rule.dir t) asks ended) report.text_is (subst (λ (d : Names). EndsAfter (runner.next d text) asks ended) report.dir_is given)
+
         ends : (other : RunsRule (course_of b) seat) → EndsHonestly runner.next (site.known b.site) other.rule other.running other.running.denied verdict []
         ends other =
             let ran : it.running ≡ other.running = same_running (course_of b) seat it other in
@@ -113,9 +119,8 @@ module _ {S R : Type 0} (site : Site S) (runner : Runner R) (b : BoardState S) (
             (subst (λ (r : Rule). EndsHonestly runner.next (site.known b.site) r it.running None verdict []) ruled
             (ends_badly runner.next (site.known b.site) it.rule it.running asks ended verdict report.asks_are (report.known told) (meant (means tells)) (judged it) bad)))
 
-        meant : EndsAfter (runner.next dir text) asks ended → EndsAfter (runner.next it.rule.dir it.rule.text) asks ended
-        meant given =
-            subst (λ (t : List ℕ). EndsAfter (runner.next it.rule.dir t) asks ended) report.text_is (subst (λ (d : Names). EndsAfter (runner.next d text) asks ended) report.dir_is given)
+    pub bad_sound : (IsTrue runner.tells → EndsAfter (runner.next dir text) asks ended) → IsSound site runner (with_history b (b.history ++ Finish seat verdict [] ∷ []))
+    bad_sound means = sound_bad site runner b sound seat it.running verdict it.runs.here bad bad_can (bad_honest means)
 
     pub bad_ends : Ends site seat ended b (Ok verdict) (with_history b (b.history ++ Finish seat verdict [] ∷ []))
     bad_ends = record {
@@ -131,6 +136,37 @@ module _ {S R : Type 0} (site : Site S) (runner : Runner R) (b : BoardState S) (
       known = λ told content had. had;
       cause = record { later = omega arith; site = λ e. cc; steady = λ _. refl };
     }
+
+module _ {S : Type 0} (b : BoardState S) (seat : ℕ) (ended : Ended) (files : List (Names × Content)) (judged : AreFilesAt b seat ended files) where
+  pub outputs_at : (it : RunsRule (course_of b) seat) → paths_of files ≡ it.rule.outputs
+  outputs_at it = sym (ap (λ (j : Judged). paths_of j.files) (judged it)) ∙ (judge-LeavesOutputs it.rule ended).good (ap (λ (j : Judged). j.verdict) (judged it))
+
+-- what the store is told of it
+module _ {S R : Type 0} (site : Site S) (runner : Runner R) (b : BoardState S) (sound : IsSound site runner b) (seat : ℕ) (goes : GoesOn (course_of b) seat) (running : Running) (ran : goes.it.running ≡ running)
+    (rule : Rule) (is : (it : RunsRule (course_of b) seat) → rule ≡ it.rule) where
+  pub names_there : AreNamed rule.dir running.asks
+  names_there =
+      subst (λ (r : Running). AreNamed rule.dir r.asks) ran
+      (subst (λ (r : Rule). AreNamed r.dir goes.it.running.asks) (sym (is goes.it))
+      (asks_named (plan_of b) (course_of b).files b.history sound.opening.apart.one_maker sound.run seat goes.it.running goes.it.rule goes.it.runs))
+
+  pub end_told : (files : List (Names × Content)) (run : RunRecord) (event : CoreEvent) → AreRecorded rule.dir running.asks run.asks → run.writes ≡ map stamped files → paths_of files ≡ goes.it.rule.outputs
+      → event ≡ Finish seat Good run.writes → IsGoodEndAt b seat files running.rule run event
+  end_told files run event asks writes outputs event_is = record {
+    kept = record {
+      running = goes.it.running;
+      rule = goes.it.rule;
+      runs = goes.it.runs;
+      here = ap (λ (r : Running). r.rule) ran;
+      granted = goes.granted;
+      asks =
+          subst (λ (r : Rule). AreRecorded r.dir goes.it.running.asks run.asks) (is goes.it)
+          (subst (λ (r : Running). AreRecorded rule.dir r.asks run.asks) (sym ran) asks);
+      writes = ap (map (λ (file : Names × Stamp). file.0)) writes ∙ names_kept files ∙ outputs;
+    };
+    writes = writes;
+    event_is = event_is;
+  }
 
 -- ---- what the judge said of the rule that a seat runs
 module _ {S : Type 0} (b : BoardState S) (seat : ℕ) (ended : Ended) (rule : Rule) (is : (it : RunsRule (course_of b) seat) → rule ≡ it.rule) (verdict : Verdict) (files : List (Names × Content))

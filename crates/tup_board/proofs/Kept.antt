@@ -126,7 +126,7 @@ module _ {S R : Type 0} (site : Site S) (runner : Runner R) (b : BoardState S) (
 -- ---- a board by its parts
 module _ {S R : Type 0} (site : Site S) (runner : Runner R) (course : CourseState) (first_graph graph : Held) (first_site s : S) (lost : Option Lost) where
   -- the board whose course has come so far
-  abbrev board_at : CourseState → BoardState S
+  abbrev pub board_at : CourseState → BoardState S
   board_at c = record { opening = record { plan = c.plan; graph = first_graph; site = first_site }; history = c.history; site = s; graph = graph; lost = lost }
 
   -- what is kept of it
@@ -149,11 +149,14 @@ module _ {S R : Type 0} (site : Site S) (runner : Runner R) (course : CourseStat
     pub to_course : (P : CourseState → Type 0) → P (course_of given) → P course
     to_course P it = subst P (sym course_is) it
 
+    pub from_course : (P : CourseState → Type 0) → P course → P (course_of given)
+    from_course P it = subst P course_is it
+
     pub kept_same : (new : CourseState) → new ≡ course → KeepsBoard new
     kept_same new is = subst KeepsBoard (sym is) (record { files = files; plan = refl; sound = sound })
 
     -- one more event
-    kept_more : (new : CourseState) (event : CoreEvent) → new ≡ with_events course (event ∷ []) → IsSound site runner (with_history (board_at course) (course.history ++ event ∷ [])) → KeepsBoard new
+    pub kept_more : (new : CourseState) (event : CoreEvent) → new ≡ with_events course (event ∷ []) → IsSound site runner (with_history (board_at course) (course.history ++ event ∷ [])) → KeepsBoard new
     kept_more new event is more = subst KeepsBoard (sym is) (record { files = files; plan = refl; sound = more })
 
     -- an event that may happen for callers may happen here

@@ -1,13 +1,14 @@
 //! The end of a command.
 ghost use Rattle.std.specs.Prelude.{◌≡◌, ◌≢◌, IsTrue, IfOk, IfErr};
 ghost use Rattle.tup_access.specs.declared.verdict.Verdict.TheVariants.{Good};
+ghost use Rattle.tup_core.specs.declared.event.CoreEvent.TheVariants.{Finish};
 ghost use Rattle.tup_site.specs.Known.{Keeps};
 
 use crate::board::Board;
 use crate::record::record_of;
-use std::alloc::Global;
+use std::alloc::{AllocError, Global};
 use tup_access::{Verdict, judge};
-use tup_core::{CoreEvent, Plan};
+use tup_core::{CoreEvent, Plan, Stamps};
 use tup_ground::{BoardFault, GoodEnd};
 use tup_path::Files;
 use tup_runner::{Report, Runner};
@@ -17,7 +18,8 @@ impl<S: Site, R: Runner> Board<S, R> {
     ghost use Rattle.tup_runner.specs.Report.{asks_of, ended_of};
     ghost use Rattle.tup_board.specs.Board.{course_of, plan_of};
     ghost use Rattle.tup_board.specs.Calls.{AreFilesAt, Ends, IsGoodEndAt, IsReportOf, IsVerdictAt, Finishes, MayLose, Touches};
-    ghost use Rattle.tup_course.specs.Course.{GoesOn};
+    ghost use Rattle.tup_course.specs.Course.{GoesOn, RunsRule};
+    ghost use Rattle.tup_ground.specs.Ground.{paths_of};
     ghost use Rattle.tup_ground.specs.Fault.{CountsFaults};
 
     /// Ends the command of a seat: judges what came of it, and if that is Good takes it into the tree and the store. A
@@ -113,6 +115,8 @@ impl<S: Site, R: Runner> Board<S, R> {
     ) -> Result<(GoodEnd, CoreEvent), BoardFault>
         requires plan { plan.now ≡ plan_of self.now }
         requires runs { GoesOn (course_of self.now) seat }
+        requires outputs { (it : RunsRule (course_of self.now) seat)
+            → paths_of files.now ≡ it.rule.outputs }
         ensures end { IfOk result (λ both. IsGoodEndAt self.now seat files.now
             both.0.rule both.0.run both.1) }
         ensures memory { IfErr result (λ fault. fault ≡ BoardFault.Memory) }
@@ -121,15 +125,22 @@ impl<S: Site, R: Runner> Board<S, R> {
             unreachable!()
         };
         let run = record_of(alloc, self.rule_of(plan, seat), running, files)?;
-        let event = CoreEvent::Finish {
-            seat,
-            verdict: Verdict::Good,
-            writes: run.writes.clone()?,
-        };
+        let event = good_event(seat, &run.writes)?;
         let end = GoodEnd {
             rule: running.rule,
             run,
         };
         Ok((end, event))
     }
+}
+
+/// The event that a command ends Good with these stamps.
+fn good_event(seat: u32, writes: &Stamps) -> Result<CoreEvent, AllocError>
+    ensures { IfOk result (λ event. event ≡ Finish seat Good writes.now) }
+{
+    Ok(CoreEvent::Finish {
+        seat,
+        verdict: Verdict::Good,
+        writes: writes.clone()?,
+    })
 }

@@ -10,7 +10,7 @@ use Rattle.tup_board.proofs.board.seen_files.Goals as goal
 pub loop-path-preserved : goal.loop-path-preserved
 loop-path-preserved c =
     c.in_ok-push.ensures.ok ∙ ap (λ (files : List (Names × Stamp)). files ++ (c.in_ok-clone.field-0, c.in-Some.stamp.now) ∷ []) c.loop-path.invariant
-    ∙ ap (λ (path : Names). map deref_pair c.loop-path.yielded ++ (path, c.in-Some.stamp.now) ∷ []) c.in_ok-clone.ensures
+    ∙ ap (λ (path : Names). map deref_pair c.loop-path.yielded ++ (path, c.in-Some.stamp.now) ∷ []) c.in_ok-clone.ensures.cases
     ∙ sym (map-append deref_pair c.loop-path.yielded ((c.in-Some.path, c.in-Some.stamp) ∷ []))
 
 pub returns : goal.returns

@@ -11,15 +11,15 @@ claim-requires-clause-free g c = to_course g.S.Site g.R.Runner _ _ _ _ _ _ _ c.s
 
 pub invariant_of-self : goal.invariant_of-self
 invariant_of-self g c =
-    let kept = claim_kept g.S.Site g.R.Runner _ _ _ _ _ _ _ c.self.invariant.0 c.self.invariant.1 c.self.view_is c.args.seat c.claim.result c.claim.new.course c.requires.seat c.requires.free c.claim.ensures in
+    let kept = claim_kept g.S.Site g.R.Runner _ _ _ _ _ _ _ c.self.invariant.0 c.self.invariant.1 c.self.view_is c.args.seat c.claim.result c.claim.new.self c.requires.seat c.requires.free c.claim.ensures in
     (kept.files, kept.sound)
 
 pub returns-clause-claims : goal.returns-clause-claims
 returns-clause-claims g c =
-    both_seen g.S.Site g.R.Runner _ _ _ _ _ _ _ c.self.invariant.0 c.self.invariant.1 c.self.view_is (λ old new. Claims c.args.seat old c.claim.result new) c.claim.new.course
-    (claim_kept g.S.Site g.R.Runner _ _ _ _ _ _ _ c.self.invariant.0 c.self.invariant.1 c.self.view_is c.args.seat c.claim.result c.claim.new.course c.requires.seat c.requires.free c.claim.ensures) c.claim.ensures
+    both_seen g.S.Site g.R.Runner _ _ _ _ _ _ _ c.self.invariant.0 c.self.invariant.1 c.self.view_is (λ old new. Claims c.args.seat old c.claim.result new) c.claim.new.self
+    (claim_kept g.S.Site g.R.Runner _ _ _ _ _ _ _ c.self.invariant.0 c.self.invariant.1 c.self.view_is c.args.seat c.claim.result c.claim.new.self c.requires.seat c.requires.free c.claim.ensures) c.claim.ensures
 
 pub returns-clause-rest : goal.returns-clause-rest
 returns-clause-rest g c =
-    rest_seen g.S.Site g.R.Runner _ _ _ _ _ _ _ c.self.invariant.0 c.self.invariant.1 c.self.view_is c.claim.new.course
-    (claim_kept g.S.Site g.R.Runner _ _ _ _ _ _ _ c.self.invariant.0 c.self.invariant.1 c.self.view_is c.args.seat c.claim.result c.claim.new.course c.requires.seat c.requires.free c.claim.ensures)
+    rest_seen g.S.Site g.R.Runner _ _ _ _ _ _ _ c.self.invariant.0 c.self.invariant.1 c.self.view_is c.claim.new.self
+    (claim_kept g.S.Site g.R.Runner _ _ _ _ _ _ _ c.self.invariant.0 c.self.invariant.1 c.self.view_is c.args.seat c.claim.result c.claim.new.self c.requires.seat c.requires.free c.claim.ensures)

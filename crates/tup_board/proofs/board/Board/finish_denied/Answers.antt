@@ -10,15 +10,15 @@ finish_denied-requires-clause-seat g c = to_course g.S.Site g.R.Runner _ _ _ _ _
 
 pub invariant_of-self : goal.invariant_of-self
 invariant_of-self g c =
-    let kept = denied_kept g.S.Site g.R.Runner _ _ _ _ _ _ _ c.self.invariant.0 c.self.invariant.1 c.self.view_is c.args.seat c.finish_denied.new.course c.requires.denied c.finish_denied.ensures in
+    let kept = denied_kept g.S.Site g.R.Runner _ _ _ _ _ _ _ c.self.invariant.0 c.self.invariant.1 c.self.view_is c.args.seat c.finish_denied.new.self c.requires.denied c.finish_denied.ensures in
     (kept.files, kept.sound)
 
 pub returns-clause-ends : goal.returns-clause-ends
 returns-clause-ends g c =
-    both_seen g.S.Site g.R.Runner _ _ _ _ _ _ _ c.self.invariant.0 c.self.invariant.1 c.self.view_is (EndsDenied c.args.seat) c.finish_denied.new.course
-    (denied_kept g.S.Site g.R.Runner _ _ _ _ _ _ _ c.self.invariant.0 c.self.invariant.1 c.self.view_is c.args.seat c.finish_denied.new.course c.requires.denied c.finish_denied.ensures) c.finish_denied.ensures
+    both_seen g.S.Site g.R.Runner _ _ _ _ _ _ _ c.self.invariant.0 c.self.invariant.1 c.self.view_is (EndsDenied c.args.seat) c.finish_denied.new.self
+    (denied_kept g.S.Site g.R.Runner _ _ _ _ _ _ _ c.self.invariant.0 c.self.invariant.1 c.self.view_is c.args.seat c.finish_denied.new.self c.requires.denied c.finish_denied.ensures) c.finish_denied.ensures
 
 pub returns-clause-rest : goal.returns-clause-rest
 returns-clause-rest g c =
-    rest_seen g.S.Site g.R.Runner _ _ _ _ _ _ _ c.self.invariant.0 c.self.invariant.1 c.self.view_is c.finish_denied.new.course
-    (denied_kept g.S.Site g.R.Runner _ _ _ _ _ _ _ c.self.invariant.0 c.self.invariant.1 c.self.view_is c.args.seat c.finish_denied.new.course c.requires.denied c.finish_denied.ensures)
+    rest_seen g.S.Site g.R.Runner _ _ _ _ _ _ _ c.self.invariant.0 c.self.invariant.1 c.self.view_is c.finish_denied.new.self
+    (denied_kept g.S.Site g.R.Runner _ _ _ _ _ _ _ c.self.invariant.0 c.self.invariant.1 c.self.view_is c.args.seat c.finish_denied.new.self c.requires.denied c.finish_denied.ensures)

@@ -6,10 +6,14 @@ use Rattle.tup_ground.specs.declared.fault.BoardFault.{BoardFault}
 use Rattle.tup_runner.specs.Report.{asks_of, ended_of}
 use Rattle.tup_board.specs.Calls.{Ends}
 use Rattle.tup_board.proofs.Finished.{can_make_seen, early_seen, end_here, board_more, end_of_course, made_kept_here, made_seen, more_kept, refused_kept_here, refused_seen, refused_true_here}
+use Rattle.tup_board.proofs.Judging.{outputs_at}
 use Rattle.tup_board.proofs.board.Board.finish_well.Goals as goal
 
 pub good_end-requires-clause-runs : goal.good_end-requires-clause-runs
 good_end-requires-clause-runs g c κs within = c.requires.report.it
+
+pub good_end-requires-clause-outputs : goal.good_end-requires-clause-outputs
+good_end-requires-clause-outputs g c κs within = outputs_at c.args.self.now c.args.seat (ended_of c.args.report.now) c.args.files.now c.requires.judged
 
 pub returns-in_err-end : goal.returns-in_err-end
 returns-in_err-end g c =
@@ -54,11 +58,13 @@ returns-in-Ok g c =
 
 pub invariant_of-self-in-Err : goal.invariant_of-self-in-Err
 invariant_of-self-in-Err g c =
-    let site_laws = g.met.S.Site g.world.𝓛 g.world.𝓜 g.world.𝓡 ((λ s x. x), (λ x. x), (λ x. x), λ x. x) in
-    (c.self.invariant.0, refused_kept_here g.S.Site g.R.Runner _ c.args.self.now c.self.invariant.1 c.self.view_is c.args.seat c.args.report.now.dir c.args.report.now.text (asks_of c.args.report.now) (ended_of c.args.report.now) c.requires.report c.args.report.now.means
-    c.args.files.now c.requires.judged c.in_ok-end.end.rule c.in_ok-end.end.run c.in_ok-end.event c.in_ok-end.ensures.end
-    (λ fresh. subst (IsGraphOf (entries_in c.self.inside.ground.graph.table)) c.nodes.ensures.value (c.nodes.ensures.graph fresh)) site_laws.present site_laws.earlier site_laws.knows_tree
-    c.make.result c.make.new.self c.make.ensures.makes c.make.ensures.cause c.in-Err.fault c.in-Err.is)
+    let site_laws = g.met.S.Site g.world.𝓛 g.world.𝓜 g.world.𝓡 ((λ s x. x), (λ x. x), (λ x. x), λ x. x) in (
+      c.self.invariant.0,
+      refused_kept_here g.S.Site g.R.Runner _ c.args.self.now c.self.invariant.1 c.self.view_is c.args.seat c.args.report.now.dir c.args.report.now.text (asks_of c.args.report.now) (ended_of c.args.report.now) c.requires.report c.args.report.now.means
+          c.args.files.now c.requires.judged c.in_ok-end.end.rule c.in_ok-end.end.run c.in_ok-end.event c.in_ok-end.ensures.end
+          (λ fresh. subst (IsGraphOf (entries_in c.self.inside.ground.graph.table)) c.nodes.ensures.value (c.nodes.ensures.graph fresh)) site_laws.present site_laws.earlier site_laws.knows_tree
+          c.make.result c.make.new.self c.make.ensures.makes c.make.ensures.cause c.in-Err.fault c.in-Err.is,
+    )
 
 pub fail-requires-clause-true_cause : goal.fail-requires-clause-true_cause
 fail-requires-clause-true_cause g c κs within =

@@ -1,8 +1,5 @@
-use Rattle.tup_board.proofs.Kept.{sound_seen, events_seen}
+use Rattle.tup_board.proofs.Kept.{sound_seen}
 use Rattle.tup_board.proofs.board.Board.into_parts.Goals as goal
-
-pub returns-clause-history : goal.returns-clause-history
-returns-clause-history g c = events_seen g.S.Site g.R.Runner _ _ c.self.invariant.1 c.self.view_is _ c.into_history.ensures.events
 
 pub returns-clause-keeps : goal.returns-clause-keeps
 returns-clause-keeps g c = sound_seen g.S.Site g.R.Runner _ _ c.self.invariant.1 c.self.view_is

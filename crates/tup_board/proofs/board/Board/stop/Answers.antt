@@ -10,15 +10,15 @@ stop-requires-clause-cause g c = other_cause c.args.cause c.requires.cause
 
 pub invariant_of-self : goal.invariant_of-self
 invariant_of-self g c =
-    let kept = stop_kept g.S.Site g.R.Runner _ _ _ _ _ _ _ c.self.invariant.0 c.self.invariant.1 c.self.view_is c.args.seat c.args.cause c.stop.new.course c.requires.seat c.requires.cause c.stop.ensures in
+    let kept = stop_kept g.S.Site g.R.Runner _ _ _ _ _ _ _ c.self.invariant.0 c.self.invariant.1 c.self.view_is c.args.seat c.args.cause c.stop.new.self c.requires.seat c.requires.cause c.stop.ensures in
     (kept.files, kept.sound)
 
 pub returns-clause-stops : goal.returns-clause-stops
 returns-clause-stops g c =
-    both_seen g.S.Site g.R.Runner _ _ _ _ _ _ _ c.self.invariant.0 c.self.invariant.1 c.self.view_is (Stops c.args.seat c.args.cause) c.stop.new.course
-    (stop_kept g.S.Site g.R.Runner _ _ _ _ _ _ _ c.self.invariant.0 c.self.invariant.1 c.self.view_is c.args.seat c.args.cause c.stop.new.course c.requires.seat c.requires.cause c.stop.ensures) c.stop.ensures
+    both_seen g.S.Site g.R.Runner _ _ _ _ _ _ _ c.self.invariant.0 c.self.invariant.1 c.self.view_is (Stops c.args.seat c.args.cause) c.stop.new.self
+    (stop_kept g.S.Site g.R.Runner _ _ _ _ _ _ _ c.self.invariant.0 c.self.invariant.1 c.self.view_is c.args.seat c.args.cause c.stop.new.self c.requires.seat c.requires.cause c.stop.ensures) c.stop.ensures
 
 pub returns-clause-rest : goal.returns-clause-rest
 returns-clause-rest g c =
-    rest_seen g.S.Site g.R.Runner _ _ _ _ _ _ _ c.self.invariant.0 c.self.invariant.1 c.self.view_is c.stop.new.course
-    (stop_kept g.S.Site g.R.Runner _ _ _ _ _ _ _ c.self.invariant.0 c.self.invariant.1 c.self.view_is c.args.seat c.args.cause c.stop.new.course c.requires.seat c.requires.cause c.stop.ensures)
+    rest_seen g.S.Site g.R.Runner _ _ _ _ _ _ _ c.self.invariant.0 c.self.invariant.1 c.self.view_is c.stop.new.self
+    (stop_kept g.S.Site g.R.Runner _ _ _ _ _ _ _ c.self.invariant.0 c.self.invariant.1 c.self.view_is c.args.seat c.args.cause c.stop.new.self c.requires.seat c.requires.cause c.stop.ensures)
