@@ -113,6 +113,11 @@ module _ {S R : Type 0} (site : Site S) (runner : Runner R) (course : CourseStat
   pub rule_seen : (seat : ℕ) (running : Running) → (now course).seats seat ≡ Some running → (it : RunsRule (course_of given) seat) → slice_get (plan_of given).rules running.rule ≡ Some it.rule
   rule_seen seat running here it = ap (λ (r : Running). slice_get (plan_of given).rules r.rule) (sym (running_seen seat running here it)) ∙ it.runs.placed
 
+  -- what it may ask
+  pub access_seen : (seat : ℕ) (rules : List Rule) (text : List ℕ) (found : Access) → ((it : RunsRule course seat) → found ≡ access rules it.rule (length it.running.asks) text)
+      → (it : RunsRule (course_of given) seat) → found ≡ access rules it.rule (length it.running.asks) text
+  access_seen seat rules text found is = subst (λ (c : CourseState). (it : RunsRule c seat) → found ≡ access rules it.rule (length it.running.asks) text) seen_is is
+
   module _ (plan : Plan) (plan_is : plan ≡ plan_of given) (seat : ℕ) (running : Running) (here : (now course).seats seat ≡ Some running) (it : RunsRule (course_of given) seat) (rules : List Rule) (rules_are : rules ≡ plan.rules) where
     placed_there : slice_get rules running.rule ≡ Some it.rule
     placed_there = ap (λ (l : List Rule). slice_get l running.rule) (rules_are ∙ ap (λ (p : Plan). p.rules) plan_is) ∙ rule_seen seat running here it

@@ -179,3 +179,7 @@ module _ {S : Type 0} (b : BoardState S) (seat : ℕ) (ended : Ended) (rule : Ru
     where
       parts : (it : Judged) → it.verdict ≡ Good → it.files ≡ files → it ≡ good_of files
       parts it verdict_is files_are = ap (λ (v : Verdict). record it { verdict = v }) verdict_is ∙ ap (λ (fs : List (Names × Content)). good_of fs) files_are
+
+-- what was judged of an end is what was of the same end
+pub judged_of : (rule : Rule) (ended given : Ended) → ended ≡ given → (verdict : Verdict) (files : List (Names × Content)) → IsJudged verdict files (judge rule ended) → IsJudged verdict files (judge rule given)
+judged_of rule ended given same verdict files judged = subst (λ (e : Ended). IsJudged verdict files (judge rule e)) same judged

@@ -149,9 +149,6 @@ module _ {S R : Type 0} (site : Site S) (runner : Runner R) (course : CourseStat
     pub to_course : (P : CourseState → Type 0) → P (course_of given) → P course
     to_course P it = subst P (sym course_is) it
 
-    pub from_course : (P : CourseState → Type 0) → P course → P (course_of given)
-    from_course P it = subst P course_is it
-
     pub kept_same : (new : CourseState) → new ≡ course → KeepsBoard new
     kept_same new is = subst KeepsBoard (sym is) (record { files = files; plan = refl; sound = sound })
 

@@ -47,6 +47,8 @@ impl<S: Site, R: Runner> Board<S, R> {
         ensures cause { CountsFaults (S.faults self.old.site) (S.faults self.new.site)
             self.old.lost result }
     {
+        // A law: what a board keeps at every moment.
+        let _ = &self.ground;
         match judge(alloc, self.rule_of(plan, seat), report.ended()) {
             Ok((Verdict::Good, files)) => self.finish_well(alloc, plan, seat, report, &files),
             Ok((verdict, _)) => self.finish_badly(alloc, plan, seat, report, verdict),

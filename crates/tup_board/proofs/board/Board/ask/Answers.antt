@@ -1,22 +1,18 @@
-use Rattle.std.proofs.Common.{◌≡◌, length, sym, ◌∙◌, subst}
-use Rattle.tup_access.specs.Access.{access}
+use Rattle.std.proofs.Common.{sym, ◌∙◌, subst}
 use Rattle.tup_core.specs.declared.plan.Plan.{Plan}
 use Rattle.tup_core.specs.Step.{Runs}
-use Rattle.tup_course.specs.Course.{CourseState, RunsRule}
 use Rattle.tup_board.specs.Board.{state}
-use Rattle.tup_board.proofs.Kept.{from_course}
+use Rattle.tup_board.proofs.Answering.{access_seen}
 use Rattle.tup_board.proofs.board.Board.ask.Goals as goal
 
 pub answer-requires-clause-may : goal.answer-requires-clause-may
 answer-requires-clause-may g c κs within =
-    let told = from_course g.S.Site g.R.Runner _ _ _ _ _ _ _ c.self.invariant.0 c.self.invariant.1 c.self.view_is
-    (λ (x : CourseState). (it : RunsRule x c.args.seat) → c.in_ok-access.field-0 ≡ access c.args.plan.now.rules it.rule (length it.running.asks) c.args.text.now) c.in_ok-access.ensures in
+    let told = access_seen g.S.Site g.R.Runner _ _ _ _ _ _ _ c.self.invariant.0 c.self.invariant.1 c.self.view_is c.args.seat c.args.plan.now.rules c.args.text.now _ c.in_ok-path.ensures in
     λ it. sym (told it) ∙ c.in-Yes.is
 
 pub deny-requires-clause-denied : goal.deny-requires-clause-denied
 deny-requires-clause-denied g c κs within =
-    let told = from_course g.S.Site g.R.Runner _ _ _ _ _ _ _ c.self.invariant.0 c.self.invariant.1 c.self.view_is
-    (λ (x : CourseState). (it : RunsRule x c.args.seat) → c.in_ok-access.field-0 ≡ access c.args.plan.now.rules it.rule (length it.running.asks) c.args.text.now) c.in_ok-access.ensures in
+    let told = access_seen g.S.Site g.R.Runner _ _ _ _ _ _ _ c.self.invariant.0 c.self.invariant.1 c.self.view_is c.args.seat c.args.plan.now.rules c.args.text.now _ c.in_ok-path.ensures in
     let it = c.requires.runs.it in (
       it.running,
       it.rule,

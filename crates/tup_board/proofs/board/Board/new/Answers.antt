@@ -6,7 +6,7 @@ use Rattle.tup_board.specs.Sound.{IsOpening}
 use Rattle.tup_board.proofs.board.Board.new.Goals as goal
 
 pub opened-requires : goal.opened-requires
-opened-requires g c κs within = c.requires.plan.in_range
+opened-requires g c = c.requires.plan.in_range
 
 pub of-requires-clause-opening : goal.of-requires-clause-opening
 of-requires-clause-opening g c κs within =
