@@ -100,7 +100,8 @@ impl<S: Site, R: Runner> Board<S, R> {
         requires plan { plan.now ≡ plan_of self.old }
         requires runs { GoesOn (course_of self.old) seat }
         requires may { (it : RunsRule (course_of self.old) seat)
-            → access plan.now.rules it.rule (length it.running.asks) text.now ≡ Access.Yes path.now }
+            → access plan.now.rules it.rule (length it.running.asks) text.now
+            ≡ Access.Yes path.now }
         ensures asks { Asks S.Site.own seat text.now self.old result self.new }
     {
         if self.rule_of(plan, seat).writes(path) {
@@ -143,7 +144,8 @@ impl<S: Site, R: Runner> Board<S, R> {
         requires plan { plan.now ≡ plan_of self.old }
         requires runs { GoesOn (course_of self.old) seat }
         requires asks_for { AsksFor self.old seat text.now path.now }
-        requires found { IsTrue S.tells → found ≡ finite.get (S.world self.old.site).tree path.now }
+        requires found { IsTrue S.tells
+            → found ≡ finite.get (S.world self.old.site).tree path.now }
         ensures asks { Asks S.Site.own seat text.now self.old result self.new }
     {
         let stamp = stamp_at(&found);

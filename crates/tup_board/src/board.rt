@@ -43,7 +43,11 @@ impl<S: Site, R: Runner> Model for Board<S, R> {
     ghost coded = { board_code S.code };
 
     ghost view = { λ b. record {
-      opening = record { plan = b.course.plan; graph = b.first_graph.value; site = b.first_site.value };
+      opening = record {
+        plan = b.course.plan;
+        graph = b.first_graph.value;
+        site = b.first_site.value;
+      };
       history = b.course.history;
       site = b.ground.site;
       graph = b.ground.graph;
@@ -52,7 +56,11 @@ impl<S: Site, R: Runner> Model for Board<S, R> {
 
     ghost invariant = { λ b. (b.course.files ≡ finite.entries b.first_graph.value.nodes.seen)
         × IsSound S.Site R.Runner (record {
-          opening = record { plan = b.course.plan; graph = b.first_graph.value; site = b.first_site.value };
+          opening = record {
+            plan = b.course.plan;
+            graph = b.first_graph.value;
+            site = b.first_site.value;
+          };
           history = b.course.history;
           site = b.ground.site;
           graph = b.ground.graph;
@@ -114,7 +122,8 @@ impl<S: Site, R: Runner> Board<S, R> {
         ensures events { result.now ≡ self.now.history }
         ensures run { IsRun (plan_of self.now) (start self.now) result.now }
         ensures honest { IsTrue S.tells → IsTrue R.tells
-            → IsHonest R.next (S.known self.now.site) (plan_of self.now) (start self.now) result.now }
+            → IsHonest R.next (S.known self.now.site)
+            (plan_of self.now) (start self.now) result.now }
         ensures keeps { IsSound S.Site.own R.Runner.own self.now }
     {
         self.course.history()
@@ -182,7 +191,8 @@ impl<S: Site, R: Runner> Board<S, R> {
         requires runs { RunsRule (course_of self.old) seat }
         requires true_cause { IsTrueFault S.Site.own self.old seat fault }
         ensures same { result ≡ fault }
-        ensures adds { self.new ≡ with_history self.old (self.old.history ++ stops_by seat fault) }
+        ensures adds { self.new
+            ≡ with_history self.old (self.old.history ++ stops_by seat fault) }
     {
         match fault {
             BoardFault::Site => self.course.end_by(plan, seat, Cause::Site),
