@@ -1,30 +1,34 @@
 -- After a scan and a swap just the rules that are reached are flagged.
-use Rattle.std.specs.Prelude.{◌≡◌, ◌≢◌, ◌⊎◌, ◌<◌, ℕ, zero, suc, Bool, true, false, List, Option, None, Some, Contains, is_some, slice_get}
+use Rattle.std.specs.Prelude.{◌≡◌, ◌≢◌, ◌⊎◌, ◌<◌, ℕ, zero, suc, Bool, true, false, List, Option, None, Some, Contains, IsSome, cond, is_some, option_map, slice_get}
 use Rattle.std.proofs.Common.{refl, sym, ap, subst, ◌∙◌, inl, inr, arith}
 use Rattle.std.specs.FinMap as finite
+use Rattle.std.proofs.lemmas.Bool.{true≢false}
 use Rattle.std.proofs.lemmas.Option.{none-some, same_Some}
 use Rattle.tup_path.specs.Name.{Names, Content}
 use Rattle.tup_path.specs.Tree.{Tree}
 use Rattle.tup_stamp.specs.declared.Stamp.{Stamp}
-use Rattle.tup_rule.specs.Rule.{writes}
+use Rattle.tup_stamp.specs.Stamp.{stamp}
+use Rattle.tup_rule.specs.Rule.{declares, writes}
 use Rattle.tup_rule.specs.declared.question.Reading.{Reading}
 use Rattle.tup_rule.specs.declared.rule.Rule.{Rule}
+use Rattle.tup_rule.proofs.Laws.{maker-Some}
+use Rattle.tup_clean.proofs.Among.{is_generated-maker}
 use Rattle.tup_runner.specs.Next.{Next}
 use Rattle.tup_record.specs.declared.run.RunRecord.{RunRecord}
 use Rattle.tup_graph.specs.Above.{AboveOver, IsAbove, HasReadOf}
-use Rattle.tup_graph.specs.Graph.{GraphState, is_flagged, is_owned}
+use Rattle.tup_graph.specs.Graph.{GraphState, is_flagged, is_owned, source}
 use Rattle.tup_graph.specs.Kept.{IsKept, IsRuleAt}
 use Rattle.tup_graph.specs.Reach.{stamp_in, HasRecord, IsChanged, IsReachRoot, ReachedOver, IsReached}
 use Rattle.tup_graph.specs.Records.{Language}
 use Rattle.tup_graph.specs.Scan.{IsScanned, IsTouched}
 use Rattle.tup_graph.specs.Swap.{IsFlaggedYet, IsNew, IsSwapped, ReadsNew, WasAt}
-use Rattle.tup_keeps.specs.Fitting.{AreMade, AreOnce}
+use Rattle.tup_keeps.specs.Linking.{DeclareWhatIsThere, HaveOwnNames}
 use Rattle.tup_keeps.proofs.Scanning.{scan_upward}
 use Rattle.tup_keeps.proofs.Swapping.{ran_before, stands, stood, swap_upward, was_or_new}
 
-module _ (next : Next) (language : Language) (known : List Content) (g scanned swapped : GraphState) (files : List (Names × Stamp)) (config : Option Content) (fresh : List (Names × Reading)) (gone : List Names) (rules : List Rule) (tree : Tree)
+module _ (next : Next) (language : Language) (known : List Content) (g scanned swapped : GraphState) (files : List (Names × Stamp)) (config : Option Content) (fresh : List (Names × Reading)) (gone : List Names) (rules : List Rule) (tree sources : Tree)
     (kept : IsKept next language known g) (scan : IsScanned g files config scanned) (swap : IsSwapped scanned fresh gone rules swapped) (as_seen : (path : Names) → finite.get scanned.seen path ≡ stamp_in tree path)
-    (once : AreOnce g.rules) (made : AreMade g rules) where
+    (sees : (path : Names) → source scanned path ≡ stamp_in sources path) (own_names : HaveOwnNames g.rules) (declare : DeclareWhatIsThere sources rules) where
   abbrev Root : ℕ → Type 0
   Root root = (is_flagged g root ≡ true) ⊎ IsTouched scanned root
 
@@ -51,6 +55,22 @@ module _ (next : Next) (language : Language) (known : List Content) (g scanned s
       let two = kept.made b y path there yours in
       let same = same_Some one.0 two.0 (sym one.1 ∙ two.1) in
       same_Some a b (sym one.2 ∙ (λ i. (same i).maker) ∙ two.2)
+
+  -- what is owned is no source
+  owned_no_source : (path : Names) → is_owned scanned path ≡ true → IsSome (finite.get sources path) → ⊥
+  owned_no_source path owned some = by (finite.get sources path) some (sym (sees path) ∙ ap (λ b. cond b None (finite.get scanned.seen path)) owned)
+    where
+      by : (found : Option Content) → IsSome found → option_map stamp found ≡ None → ⊥
+      by (Some content) there none = true≢false (ap is_some none)
+      by None there none = true≢false (sym there)
+
+  -- an owned path that a new rule declares is made by one
+  made : (number : ℕ) (rule : Rule) (path : Names) → slice_get rules number ≡ Some rule → declares rule path ≡ true → is_owned g path ≡ true
+      → (other : ℕ) × (it : Rule) × (slice_get rules other ≡ Some it) × (writes it path ≡ true)
+  made number rule path here declared owned = elim (declare number rule path here declared) [
+    | inl source ↦ absurd (owned_no_source path ((λ i. finite.contains_key (scan.owned i) path) ∙ owned) source)
+    | inr generated ↦ (let at = is_generated-maker rules path generated in let maker = maker-Some rules path at.0 at.1 in (at.0, maker.rule, maker.here, maker.writes_it))
+  ]
 
   -- ---- what is flagged is reached
 
@@ -142,7 +162,7 @@ module _ (next : Next) (language : Language) (known : List Content) (g scanned s
   was_at before rule here = (rule_out before rule here, earlier)
     where
       earlier : (e : ℕ) → e < before → IsRuleAt scanned e rule → ⊥
-      earlier e less there = let same : e ≡ before = once e before rule (rule_in e rule there) here in omega (arith, less, same)
+      earlier e less there = let same : e ≡ before = own_names e before rule rule (rule_in e rule there) here refl in omega (arith, less, same)
 
   flagged_if : (number before : ℕ) (rule : Rule) → slice_get rules number ≡ Some rule → IsRuleAt g before rule → Root before → is_flagged swapped number ≡ true
   flagged_if number before rule there here root =

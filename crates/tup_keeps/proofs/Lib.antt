@@ -4,4 +4,8 @@ pub mod Scanning
 pub mod Edited
 pub mod Reached
 pub mod Swapping
+pub mod Lists
+pub mod Named
+pub mod Declared
 pub mod Flagging
+pub mod Reaching

@@ -2,13 +2,13 @@
 use Rattle.std.specs.Prelude.{◌≡◌, ℕ, true, List, None, Some, All, IsSome, slice_get}
 use Rattle.std.specs.FinMap as finite
 use Rattle.tup_path.specs.Name.{Names, Content}
-use Rattle.tup_rule.specs.Rule.{declares, writes}
+use Rattle.tup_rule.specs.Rule.{writes}
 use Rattle.tup_rule.specs.declared.question.Noted.{Noted}
 use Rattle.tup_rule.specs.declared.question.Question.{Question}
 use Rattle.tup_rule.specs.declared.question.Reading.{Reading}
 use Rattle.tup_rule.specs.declared.rule.Rule.{Rule}
 use Rattle.tup_graph.specs.Answers.{tupfile, Readings, Sources, IsAnswer, IsSource}
-use Rattle.tup_graph.specs.Graph.{GraphState, is_owned, source}
+use Rattle.tup_graph.specs.Graph.{GraphState, source}
 use Rattle.tup_graph.specs.Kept.{IsRuleAt}
 use Rattle.tup_graph.specs.Records.{Language, IsTrueReading}
 use Rattle.tup_graph.specs.Swap.{reading_now}
@@ -44,13 +44,3 @@ pub record FitsTogether (language : Language) (known : List Content) (g : GraphS
   pub makers : (path : Names) (owned : Owned) (number : ℕ) → finite.get g.owned path ≡ Some owned → owned.maker ≡ Some number
       → (rule : Rule) × IsRuleAt g number rule × (writes rule path ≡ true)
   pub linked : language.linked (finite.entries g.readings) ≡ Some g.rules
-
--- each rule stands once in a list
-abbrev pub AreOnce : List Rule → Type 0
-AreOnce rules = (number other : ℕ) (rule : Rule) → slice_get rules number ≡ Some rule → slice_get rules other ≡ Some rule → number ≡ other
-
--- an owned path that one of some rules declares is made by one of them
-abbrev pub AreMade : GraphState → List Rule → Type 0
-AreMade g rules =
-    (number : ℕ) (rule : Rule) (path : Names) → slice_get rules number ≡ Some rule → declares rule path ≡ true → is_owned g path ≡ true
-    → (other : ℕ) × (maker : Rule) × (slice_get rules other ≡ Some maker) × (writes maker path ≡ true)

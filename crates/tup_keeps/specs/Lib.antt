@@ -1,3 +1,4 @@
 pub mod Agrees
 pub mod Edited
 pub mod Fitting
+pub mod Linking
