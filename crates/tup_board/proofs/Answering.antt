@@ -1,5 +1,5 @@
 -- What a board by its parts does at an ask, at a refusal and at a bad end, as its callers see it.
-use Rattle.std.proofs.Common.{◌≡◌, ◌≢◌, ◌⊎◌, ℕ, ◌<◌, ◌≤◌, Bool, true, false, List, [], ◌∷◌, ◌++◌, length, get_or, Option, None, Some, Result, Ok, Err, refl, sym, ap, ◌∙◌, subst, ⊎_elim, inl, inr, arith}
+use Rattle.std.proofs.Common.{◌≡◌, ◌≢◌, ℕ, ◌<◌, ◌≤◌, Bool, true, false, List, [], ◌∷◌, ◌++◌, length, get_or, Option, None, Some, Result, Ok, Err, refl, sym, ap, ◌∙◌, subst}
 use Rattle.std.specs.Prelude.{IsTrue, slice_get, if◌then◌else◌}
 use Rattle.std.specs.FinMap as finite
 use Rattle.std.specs.Option.{option_map}
@@ -19,13 +19,12 @@ use Rattle.tup_access.specs.declared.verdict.Access.{Access}
 use Rattle.tup_access.specs.declared.verdict.Access.TheVariants.{Yes, No}
 use Rattle.tup_access.specs.declared.verdict.Verdict.{Verdict}
 use Rattle.tup_kept.specs.Held.{Held}
-use Rattle.tup_core.specs.declared.event.Cause.{Cause}
 use Rattle.tup_core.specs.declared.event.Cause.TheVariants as cause_by
 use Rattle.tup_core.specs.declared.event.CoreEvent.{CoreEvent}
 use Rattle.tup_core.specs.declared.event.CoreEvent.TheVariants.{Ask, Deny, Finish, Stop}
 use Rattle.tup_core.specs.declared.plan.Plan.{Plan}
 use Rattle.tup_core.specs.declared.running.Running.{Running}
-use Rattle.tup_core.specs.Step.{CanAsk, CanDeny, IsEnabled, Runs, told}
+use Rattle.tup_core.specs.Step.{CanAsk, CanDeny, IsEnabled}
 use Rattle.tup_course.specs.Course.{CourseState, GoesOn, RunsRule, now, with_events}
 use Rattle.tup_ground.specs.Fault.{CountsFaults}
 use Rattle.tup_ground.specs.Ground.{NamesLength, OnlyLarge, ReadsSite}
@@ -40,7 +39,7 @@ use Rattle.tup_board.specs.Calls.{Asks, AsksFor, AsksForOwn, told_of}
 use Rattle.tup_board.specs.Cause.{stops_by}
 use Rattle.tup_board.specs.Sound.{IsSound, IsTrueFault}
 use Rattle.tup_board.proofs.Asking.{denied_asks, failed_asks, memory_asks, own_asks, read_asks, same_rule_at, same_running, told_asks}
-use Rattle.tup_board.proofs.Kept.{KeepsBoard, board_at, course_is, to_course, plan_here, sound_seen, added_seen, kept_more, ask_kept, deny_kept, refused_kept, site_true, large_true, full_true}
+use Rattle.tup_board.proofs.Kept.{KeepsBoard, board_at, course_is, to_course, sound_seen, added_seen, kept_more, ask_kept, deny_kept, refused_kept, site_true, large_true, full_true}
 use Rattle.tup_board.proofs.WasRead.{sound_read}
 use Rattle.tup_board.proofs.Visiting.{counts_as, large_as, length_as, visit_true}
 

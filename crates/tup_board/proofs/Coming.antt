@@ -1,19 +1,16 @@
 -- What the begin and the good end of one rule make of a graph, rule by rule.
-use Rattle.std.proofs.Common.{◌≡◌, ◌≢◌, ◌⊎◌, ℕ, Bool, true, false, cond, ◌||◌, is_some, List, [], ◌∷◌, map, fold, Option, None, Some, refl, sym, ap, ◌∙◌, subst, inl, inr}
+use Rattle.std.proofs.Common.{◌≡◌, ◌≢◌, ℕ, Bool, true, false, cond, is_some, List, [], ◌∷◌, map, Option, None, Some, refl, sym, ap, ◌∙◌, inl}
 use Rattle.std.specs.Prelude.{Contains, slice_get, unwrap_or}
 use Rattle.std.specs.FinMap as finite
 use Rattle.std.specs.FinMap.{nat_cmp-IsAntisymmetric}
 use Rattle.std.specs.Ordering.{eq_by_cmp, is_eq, nat_cmp}
 use Rattle.std.specs.Cmp.{nat_cmp_total}
 use Rattle.std.specs.Option.{option_map}
-use Rattle.std.proofs.lemmas.Bool.{true≢false, cases_Bool}
 use Rattle.std.proofs.lemmas.Cmp.{tied_itself}
 use Rattle.tup_path.specs.Name.{Names}
-use Rattle.tup_path.specs.Order.{by_names, same_path}
 use Rattle.tup_stamp.specs.declared.Stamp.{Stamp}
 use Rattle.tup_rule.specs.declared.rule.Rule.{Rule}
-use Rattle.tup_rule.specs.Rule.{among, writes, is_generated}
-use Rattle.tup_record.specs.declared.owned.OwnedState.{OwnedState}
+use Rattle.tup_rule.specs.Rule.{among, writes}
 use Rattle.tup_record.specs.declared.owned.OwnedState.TheVariants.{Unsure, Written}
 use Rattle.tup_record.specs.declared.run.RunRecord.{RunRecord}
 use Rattle.tup_graph.specs.declared.owned.Owned.{Owned}

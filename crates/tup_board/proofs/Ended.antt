@@ -1,8 +1,8 @@
 -- What the end of a Good command does, by what making its files did.
-use Rattle.std.proofs.Common.{◌≡◌, ◌≢◌, ◌⊎◌, ℕ, ◌≤◌, Bool, true, false, List, [], ◌∷◌, ◌++◌, map, Option, None, Some, Result, Ok, Err, refl, sym, ap, ◌∙◌, subst, ⊎_elim, inl, inr}
+use Rattle.std.proofs.Common.{◌≡◌, ℕ, Bool, true, false, List, [], ◌∷◌, ◌++◌, map, Option, None, Some, Result, Ok, Err, refl, sym, ap, ◌∙◌, subst, ⊎_elim, inl, inr}
 use Rattle.std.specs.Prelude.{IsTrue, if◌then◌else◌, slice_get}
 use Rattle.std.proofs.lemmas.List.{append-nil}
-use Rattle.std.proofs.lemmas.Option.{same_Some, none-some}
+use Rattle.std.proofs.lemmas.Option.{same_Some}
 use Rattle.tup_path.specs.Name.{Names, Content}
 use Rattle.tup_stamp.specs.declared.Stamp.{Stamp}
 use Rattle.tup_rule.specs.declared.rule.Rule.{Rule}
@@ -17,24 +17,22 @@ use Rattle.tup_access.specs.declared.verdict.Verdict.TheVariants.{Good}
 use Rattle.tup_record.specs.declared.run.RunRecord.{RunRecord}
 use Rattle.tup_table.proofs.Going.{as_step}
 use Rattle.tup_stale.proofs.Going.{at_rest}
-use Rattle.tup_kept.specs.Held.{Held}
 use Rattle.tup_core.specs.declared.event.CoreEvent.{CoreEvent}
 use Rattle.tup_core.specs.declared.event.CoreEvent.TheVariants.{Finish}
 use Rattle.tup_core.specs.declared.running.Running.{Running}
 use Rattle.tup_core.specs.Honest.{stamped}
-use Rattle.tup_core.specs.Step.{Runs}
 use Rattle.tup_ground.specs.declared.fault.BoardFault.{BoardFault}
 use Rattle.tup_ground.specs.declared.fault.BoardFault.TheVariants as fault_by
 use Rattle.tup_ground.specs.declared.ground.Ground.{Ground}
 use Rattle.tup_ground.specs.Fault.{CountsFaults, lost_fault}
-use Rattle.tup_ground.specs.Ground.{LacksRoomFor, Loses, MakeStep, Makes, MakesFiles, WasTried, WasFull, after_begin}
+use Rattle.tup_ground.specs.Ground.{LacksRoomFor, MakeStep, Makes, WasTried}
 use Rattle.tup_ground.specs.Lost.{Lost}
-use Rattle.tup_board.specs.Board.{BoardState, course_of, plan_of, state, with_history}
+use Rattle.tup_board.specs.Board.{BoardState, plan_of, state}
 use Rattle.tup_board.specs.Calls.{Ends, Finishes, IsGoodAt, IsRunAt, LacksRoom, LeavesBeside, MayLose, Touches}
 use Rattle.tup_board.specs.Cause.{stops_by}
 use Rattle.tup_board.specs.Ends.{AreRecorded, IsRecordOf}
 use Rattle.tup_board.proofs.Named.{one_recorded}
-use Rattle.tup_board.proofs.Visiting.{counts_as, same_fault}
+use Rattle.tup_board.proofs.Visiting.{same_fault}
 
 abbrev judged_so : Type 0
 judged_so = Result Verdict BoardFault

@@ -1,6 +1,6 @@
 -- How a command ends: its verdict fits what it leaves, and the end is what its runner means.
 use Rattle.std.proofs.Common.{◌≡◌, ◌≢◌, ℕ, ◌<◌, Bool, true, false, not, List, [], ◌∷◌, Option, None, Some, refl, sym, ap, ◌∙◌, subst, arith, map}
-use Rattle.std.specs.Prelude.{◌==◌, All, Contains, Ok, Err, if◌then◌else◌, IsTrue, unwrap_or}
+use Rattle.std.specs.Prelude.{◌==◌, All, Contains, if◌then◌else◌, unwrap_or}
 use Rattle.std.proofs.lemmas.Bool.{true≢false, eq-eqb}
 use Rattle.std.proofs.lemmas.List.Elements.{Contains-append_right}
 use Rattle.tup_path.specs.Name.{Names, Content}

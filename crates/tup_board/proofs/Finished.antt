@@ -1,5 +1,5 @@
 -- The end of a Good command of a board: before its files are made, and after, whether or not a commit was lost before.
-use Rattle.std.proofs.Common.{◌≡◌, ◌≢◌, ◌⊎◌, ℕ, ◌≤◌, Bool, true, false, List, [], ◌∷◌, ◌++◌, map, Option, None, Some, Result, Ok, Err, refl, sym, ap, ◌∙◌, subst, inl, inr}
+use Rattle.std.proofs.Common.{◌≡◌, ℕ, ◌≤◌, Bool, true, false, List, [], ◌∷◌, ◌++◌, Option, None, Some, Result, Ok, Err, refl, sym, ap, ◌∙◌, subst}
 use Rattle.std.specs.Prelude.{All, Contains, IsTrue, if◌then◌else◌, is_none, slice_get}
 use Rattle.std.specs.FinMap as finite
 use Rattle.std.proofs.lemmas.Option.{same_Some}
@@ -14,7 +14,6 @@ use Rattle.tup_runner.specs.Next.{Asks}
 use Rattle.tup_runner.specs.declared.runner.Runner.{Ghosts as Runner}
 use Rattle.tup_runner.specs.declared.step.Ended.{Ended}
 use Rattle.tup_access.specs.Judge.{good, judge}
-use Rattle.tup_access.specs.declared.verdict.Verdict.{Verdict}
 use Rattle.tup_access.specs.declared.verdict.Verdict.TheVariants.{Good}
 use Rattle.tup_record.specs.declared.run.RunRecord.{RunRecord}
 use Rattle.tup_table.specs.Table.{entries_in}
@@ -23,9 +22,9 @@ use Rattle.tup_kept.specs.Held.{Held, is_fresh}
 use Rattle.tup_core.specs.declared.event.CoreEvent.{CoreEvent}
 use Rattle.tup_core.specs.declared.event.CoreEvent.TheVariants.{Finish}
 use Rattle.tup_core.specs.declared.running.Running.{Running}
-use Rattle.tup_core.specs.Honest.{EndsHonestly, stamped}
-use Rattle.tup_core.specs.Step.{IsEnabled, Runs}
-use Rattle.tup_course.specs.Course.{CourseState, GoesOn, IsGoodEnd, RunsRule, now, with_events}
+use Rattle.tup_core.specs.Honest.{EndsHonestly}
+use Rattle.tup_core.specs.Step.{IsEnabled}
+use Rattle.tup_course.specs.Course.{CourseState, IsGoodEnd, RunsRule, with_events}
 use Rattle.tup_ground.specs.declared.fault.BoardFault.{BoardFault}
 use Rattle.tup_ground.specs.declared.fault.BoardFault.TheVariants as fault_by
 use Rattle.tup_ground.specs.declared.ground.Ground.{Ground}
@@ -33,7 +32,7 @@ use Rattle.tup_ground.specs.Fault.{CountsFaults, lost_fault}
 use Rattle.tup_ground.specs.Ground.{CanMake, Makes}
 use Rattle.tup_ground.specs.Lost.{Lost}
 use Rattle.tup_board.specs.Board.{BoardState, course_of, plan_of, state, with_history}
-use Rattle.tup_board.specs.Calls.{AreFilesAt, AreKnown, AreStamped, Ends, IsGoodEndAt, IsReportOf}
+use Rattle.tup_board.specs.Calls.{AreFilesAt, AreStamped, Ends, IsGoodEndAt, IsReportOf}
 use Rattle.tup_board.specs.Cause.{stops_by}
 use Rattle.tup_board.specs.Ends.{IsRecordOf}
 use Rattle.tup_board.specs.Sound.{IsSound, IsTrueFault}

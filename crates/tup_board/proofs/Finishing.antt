@@ -1,7 +1,6 @@
 -- How far a graph has come once the run of a rule began, and once its command ended Good.
-use Rattle.std.proofs.Common.{◌≡◌, ◌≢◌, ◌⊎◌, ℕ, Bool, true, false, List, [], ◌∷◌, ◌++◌, map, Option, None, Some, refl, sym, ap, ◌∙◌, subst, ⊎_elim, inl, inr}
+use Rattle.std.proofs.Common.{◌≡◌, ◌≢◌, ◌⊎◌, ℕ, true, false, List, map, Option, None, Some, sym, ap, ◌∙◌, subst, inl, inr}
 use Rattle.std.specs.Prelude.{◌==◌, slice_get}
-use Rattle.std.specs.FinMap as finite
 use Rattle.std.proofs.lemmas.Bool.{true≢false, cases_Bool, eqb-true, eq-eqb}
 use Rattle.std.proofs.lemmas.Option.{same_Some, none-some}
 use Rattle.tup_path.specs.Name.{Names}
@@ -15,14 +14,13 @@ use Rattle.tup_graph.specs.Graph.{GraphState, is_flagged}
 use Rattle.tup_graph.specs.Transactions.{maker_of, begun, finished}
 use Rattle.tup_kept.specs.Held.{Held}
 use Rattle.tup_core.specs.declared.event.CoreEvent.{CoreEvent}
-use Rattle.tup_core.specs.declared.running.Running.{Running}
-use Rattle.tup_core.specs.Step.{State, changed, is_reached}
+use Rattle.tup_core.specs.Step.{changed, is_reached}
 use Rattle.tup_core.specs.Sound.{HasOneMaker}
 use Rattle.tup_core.proofs.Changed.{changed_cases}
 use Rattle.tup_core.proofs.Orderly.{IsOrderly}
 use Rattle.tup_ground.specs.Lost.{Lost}
 use Rattle.tup_board.specs.Board.{BoardState, plan_of, first_graph, start, state}
-use Rattle.tup_board.specs.Come.{HasOf, HasBeside, HasCome, HasComeTo, IsPresent, WasToKeep}
+use Rattle.tup_board.specs.Come.{HasOf, HasCome, HasComeTo, IsPresent, WasToKeep}
 use Rattle.tup_board.specs.Ends.{HasEnded, IsRecordOf}
 use Rattle.tup_board.proofs.Coming.{begun_else, begun_maker, begun_of, ended_of, finished_maker, finished_owned, finished_seen, flag_else, flag_here, maker_in, other_begun, other_of, run_else}
 

@@ -1,6 +1,6 @@
 -- What a crash leaves while the files of a rule are made: of each rule by itself there is what was, or its run had begun, or its
 -- Good end was kept.
-use Rattle.std.proofs.Common.{◌≡◌, ◌≢◌, ◌⊎◌, ℕ, Bool, true, false, List, map, Option, None, Some, refl, sym, ap, ◌∙◌, subst, ⊎_elim, inl, inr}
+use Rattle.std.proofs.Common.{◌≡◌, ◌≢◌, ◌⊎◌, ℕ, true, false, List, map, Some, refl, sym, ap, ◌∙◌, subst, ⊎_elim, inl, inr}
 use Rattle.std.specs.Prelude.{All, Contains, slice_get}
 use Rattle.std.specs.FinMap as finite
 use Rattle.std.specs.Option.{option_map}
@@ -13,16 +13,13 @@ use Rattle.tup_stamp.specs.Stamp.{stamp}
 use Rattle.tup_rule.specs.declared.rule.Rule.{Rule}
 use Rattle.tup_rule.specs.Rule.{writes}
 use Rattle.tup_site.specs.World.{World}
-use Rattle.tup_record.specs.declared.owned.OwnedState.{OwnedState}
 use Rattle.tup_record.specs.declared.owned.OwnedState.TheVariants.{Unsure, Written}
 use Rattle.tup_record.specs.declared.run.RunRecord.{RunRecord}
-use Rattle.tup_graph.specs.declared.owned.Owned.{Owned}
-use Rattle.tup_graph.specs.Graph.{GraphState, is_flagged, outputs_of}
+use Rattle.tup_graph.specs.Graph.{GraphState, is_flagged}
 use Rattle.tup_graph.specs.Transactions.{maker_of, begun, finished}
 use Rattle.tup_kept.specs.Crash.{IsStoreOf}
 use Rattle.tup_core.specs.declared.plan.Plan.{Plan}
 use Rattle.tup_core.specs.Step.{is_reached}
-use Rattle.tup_ground.specs.Ground.{IsNotBegun, IsBegun, IsEnded, MakeStep}
 use Rattle.tup_board.specs.Board.{BoardState, plan_of, state}
 use Rattle.tup_board.specs.Come.{HasComeTo}
 use Rattle.tup_board.specs.Images.{HasFileOf, HoldsWritten, IsImageOver, IsOwnedAs}

@@ -1,8 +1,6 @@
 -- The end of a command: one that isn't Good, one for which there was no memory, and the record of one that is Good.
-use Rattle.std.proofs.Common.{◌≡◌, ◌≢◌, ◌⊎◌, ℕ, ◌<◌, ◌≤◌, Bool, true, false, List, [], ◌∷◌, ◌++◌, length, map, Option, None, Some, Result, Ok, Err, refl, sym, ap, ◌∙◌, subst, inl, inr, arith}
-use Rattle.std.specs.Prelude.{All, IsTrue, slice_get}
-use Rattle.std.specs.FinMap as finite
-use Rattle.std.proofs.lemmas.Option.{same_Some}
+use Rattle.std.proofs.Common.{◌≡◌, ◌≢◌, ℕ, List, [], ◌∷◌, ◌++◌, map, Option, None, Ok, Err, refl, sym, ap, ◌∙◌, subst, inl, arith}
+use Rattle.std.specs.Prelude.{IsTrue}
 use Rattle.tup_path.specs.Name.{Names, Content}
 use Rattle.tup_stamp.specs.declared.Stamp.{Stamp}
 use Rattle.tup_rule.specs.declared.rule.Rule.{Rule}
@@ -21,14 +19,12 @@ use Rattle.tup_core.specs.declared.event.CoreEvent.{CoreEvent}
 use Rattle.tup_core.specs.declared.event.CoreEvent.TheVariants.{Finish}
 use Rattle.tup_core.specs.declared.running.Running.{Running}
 use Rattle.tup_core.specs.Honest.{EndsHonestly, stamped}
-use Rattle.tup_core.specs.Step.{IsEnabled, Runs}
+use Rattle.tup_core.specs.Step.{IsEnabled}
 use Rattle.tup_course.specs.Course.{GoesOn, RunsRule}
-use Rattle.tup_ground.specs.declared.fault.BoardFault.{BoardFault}
-use Rattle.tup_ground.specs.declared.fault.BoardFault.TheVariants.{Memory, Site as ByVisit}
-use Rattle.tup_ground.specs.Fault.{CountsFaults}
-use Rattle.tup_ground.specs.Ground.{MakeStep, WasTried, paths_of}
+use Rattle.tup_ground.specs.declared.fault.BoardFault.TheVariants.{Memory}
+use Rattle.tup_ground.specs.Ground.{paths_of}
 use Rattle.tup_board.specs.Board.{BoardState, course_of, plan_of, state, with_history}
-use Rattle.tup_board.specs.Calls.{AreFilesAt, Ends, IsGoodAt, IsGoodEndAt, IsReportOf, IsRunAt, IsVerdictAt, LeavesBeside}
+use Rattle.tup_board.specs.Calls.{AreFilesAt, Ends, IsGoodAt, IsGoodEndAt, IsReportOf, IsRunAt, IsVerdictAt}
 use Rattle.tup_board.specs.Ends.{AreNamed, AreRecorded}
 use Rattle.tup_board.specs.Sound.{IsSound}
 use Rattle.tup_board.proofs.Asking.{same_rule_at, same_running}

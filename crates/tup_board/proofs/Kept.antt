@@ -26,11 +26,10 @@ use Rattle.tup_core.specs.Step.{State, Runs, IsEnabled, after, emptied}
 use Rattle.tup_core.proofs.Orderly.{finished_is}
 use Rattle.tup_course.specs.declared.claimed.Claimed.{Claimed}
 use Rattle.tup_course.specs.declared.claimed.Claimed.TheVariants.{Rule as Gives, Wait, Over}
-use Rattle.tup_course.specs.Course.{CourseState, Claims, IsStopped, Stops, EndsDenied, WasDenied, first, now, with_events}
+use Rattle.tup_course.specs.Course.{CourseState, Claims, Stops, EndsDenied, WasDenied, first, now, with_events}
 use Rattle.tup_course.proofs.Courses.{denied_can, end_more}
 use Rattle.tup_course.proofs.Going.{bad_ended}
 use Rattle.tup_ground.specs.Lost.{Lost}
-use Rattle.tup_ground.specs.declared.fault.BoardFault.{BoardFault}
 use Rattle.tup_ground.specs.declared.fault.BoardFault.TheVariants as fault_by
 use Rattle.tup_board.specs.Board.{BoardState, course_of, plan_of, start, state, with_history}
 use Rattle.tup_board.specs.Calls.{MeansDenied}

@@ -1,6 +1,6 @@
 -- More contents are known: what a runner meant by those that were, it means by these.
-use Rattle.std.proofs.Common.{◌≡◌, ℕ, zero, suc, ◌<◌, Bool, true, false, List, [], ◌∷◌, length, Option, None, Some, get_or, refl, sym, inl, inr, arith}
-use Rattle.std.specs.Prelude.{All, Contains, IsTrue, bytes_eq}
+use Rattle.std.proofs.Common.{◌≡◌, ℕ, zero, suc, ◌<◌, List, [], ◌∷◌, length, Option, None, Some, get_or, sym, inl, inr, arith}
+use Rattle.std.specs.Prelude.{Contains, IsTrue, bytes_eq}
 use Rattle.std.specs.List.{list_any}
 use Rattle.std.proofs.lemmas.Bool.{or_cases, or_left, or_right}
 use Rattle.std.proofs.lemmas.List.Elements.{All-weaker}

@@ -3,7 +3,7 @@ use Rattle.std.proofs.Common.{◌≡◌, ◌≢◌, ◌⊎◌, ℕ, ◌≤◌, B
 use Rattle.std.specs.Prelude.{All, Contains, IsTrue, if◌then◌else◌, is_none, slice_get}
 use Rattle.std.specs.FinMap as finite
 use Rattle.std.specs.Option.{option_map}
-use Rattle.std.proofs.lemmas.Bool.{true≢false, cases_Bool, false_from_ne_true, or_cases}
+use Rattle.std.proofs.lemmas.Bool.{true≢false, false_from_ne_true}
 use Rattle.std.proofs.lemmas.List.{append_assoc, append-nil}
 use Rattle.std.proofs.lemmas.List.Elements.{All-contains, All-head, All-map, All-tail, All-weaker}
 use Rattle.std.proofs.lemmas.Option.{same_Some, none-some}
@@ -16,7 +16,7 @@ use Rattle.tup_stamp.specs.declared.Stamp.{Stamp}
 use Rattle.tup_stamp.specs.Stamp.{stamp}
 use Rattle.tup_rule.specs.declared.rule.Rule.{Rule}
 use Rattle.tup_rule.specs.Rule.{among, writes}
-use Rattle.tup_site.specs.Known.{KnowsTree, knows}
+use Rattle.tup_site.specs.Known.{KnowsTree}
 use Rattle.tup_site.specs.World.{World}
 use Rattle.tup_site.specs.declared.site.Site.{Ghosts as Site}
 use Rattle.tup_runner.specs.declared.runner.Runner.{Ghosts as Runner}
@@ -35,8 +35,7 @@ use Rattle.tup_ledger.proofs.Guarding.{one_store}
 use Rattle.tup_core.specs.declared.event.Cause.{Cause}
 use Rattle.tup_core.specs.declared.event.Cause.TheVariants as causes
 use Rattle.tup_core.specs.declared.event.CoreEvent.{CoreEvent}
-use Rattle.tup_core.specs.declared.event.CoreEvent.TheVariants.{Finish, Stop}
-use Rattle.tup_core.specs.declared.plan.Plan.{Plan}
+use Rattle.tup_core.specs.declared.event.CoreEvent.TheVariants.{Finish}
 use Rattle.tup_core.specs.declared.running.Running.{Running}
 use Rattle.tup_core.specs.Honest.{EndsHonestly, IsHonest, stamped}
 use Rattle.tup_core.specs.Run.{IsRun}
@@ -49,7 +48,7 @@ use Rattle.tup_ground.specs.declared.fault.BoardFault.{BoardFault}
 use Rattle.tup_ground.specs.declared.fault.BoardFault.TheVariants as fault_by
 use Rattle.tup_ground.specs.declared.ground.Ground.{Ground}
 use Rattle.tup_ground.specs.Fault.{CountsFaults, lost_fault}
-use Rattle.tup_ground.specs.Ground.{HoldsFiles, MakeStep, MakesFiles, WasTried, after_begin}
+use Rattle.tup_ground.specs.Ground.{HoldsFiles, MakeStep, MakesFiles, WasTried}
 use Rattle.tup_ground.specs.Lost.{Lost}
 use Rattle.tup_board.specs.Board.{BoardState, course_of, plan_of, first_graph, start, state, with_history}
 use Rattle.tup_board.specs.Cause.{IsTrueCause, HasNoRoom, stops_by}

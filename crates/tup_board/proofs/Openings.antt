@@ -1,12 +1,11 @@
 -- What holds of a board that was just made.
-use Rattle.std.proofs.Common.{◌≡◌, ◌≢◌, ℕ, ◌≤◌, ◌⊎◌, Bool, true, false, ◌&&◌, cond, T, List, [], ◌∷◌, Option, None, Some, refl, sym, ap, ◌∙◌, subst, ⊎_elim, inl, inr, arith}
-use Rattle.std.specs.Prelude.{if◌then◌else◌, IsTrue, slice_get}
+use Rattle.std.proofs.Common.{◌≡◌, ◌⊎◌, Bool, true, false, ◌&&◌, cond, T, List, [], ◌∷◌, Option, None, Some, refl, sym, ap, ◌∙◌, subst, ⊎_elim, inl, inr, arith}
+use Rattle.std.specs.Prelude.{if◌then◌else◌, IsTrue}
 use Rattle.std.specs.FinMap as finite
 use Rattle.std.specs.FinMap.Entries.{find, is_sorted, below_all}
 use Rattle.std.specs.Ordering.{is_lt, is_eq, eq_by_cmp}
 use Rattle.std.specs.declared.cmp.Ordering.{Ordering}
 use Rattle.std.specs.declared.cmp.Ordering.TheVariants.{Less, Equal, Greater}
-use Rattle.std.specs.Option.{option_map}
 use Rattle.std.proofs.lemmas.Bool.{true≢false, cases_Bool}
 use Rattle.tup_path.specs.Name.{Names}
 use Rattle.tup_path.specs.Order.{by_names, same_path, same_path-by_names}
@@ -24,9 +23,9 @@ use Rattle.tup_core.specs.declared.event.CoreEvent.{CoreEvent}
 use Rattle.tup_core.specs.declared.plan.Plan.{Plan}
 use Rattle.tup_course.specs.Course.{CourseState}
 use Rattle.tup_core.specs.Step.{with_stamps}
-use Rattle.tup_board.specs.Board.{BoardState, plan_of, first_graph, start, state}
+use Rattle.tup_board.specs.Board.{BoardState}
 use Rattle.tup_board.specs.Calls.{opened_as}
-use Rattle.tup_board.specs.Come.{HasOf, HasBeside, HasComeTo}
+use Rattle.tup_board.specs.Come.{HasComeTo}
 use Rattle.tup_board.specs.Images.{IsImageOver}
 use Rattle.tup_board.specs.Sound.{IsOpening, IsSound}
 

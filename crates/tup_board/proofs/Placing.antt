@@ -1,24 +1,21 @@
 -- Where the outputs of a running rule may be put: no file stands above or below them, whatever stands at them.
-use Rattle.std.proofs.Common.{◌≡◌, ◌≢◌, ◌⊎◌, ℕ, ◌<◌, Bool, true, false, List, [], ◌∷◌, length, map, Option, None, Some, refl, sym, ap, ◌∙◌, subst, inl, inr}
-use Rattle.std.specs.Prelude.{All, Contains, IsSome, IsTrue, slice_get}
+use Rattle.std.proofs.Common.{◌≡◌, ℕ, Bool, true, false, List, [], ◌∷◌, length, map, Option, None, Some, refl, sym, ap, ◌∙◌, subst, inl, inr}
+use Rattle.std.specs.Prelude.{All, IsSome, IsTrue, slice_get}
 use Rattle.std.specs.FinMap as finite
 use Rattle.std.specs.Option.{option_map}
 use Rattle.std.proofs.lemmas.Bool.{false≢true, lt-ltb}
 use Rattle.std.proofs.lemmas.List.Elements.{All-contains, All-map}
 use Rattle.std.proofs.lemmas.Option.{slice_get_within}
 use Rattle.tup_path.specs.Name.{Names, Content}
-use Rattle.tup_path.specs.Tree.{Tree, IsBelow}
 use Rattle.tup_stamp.specs.Stamp.{stamp}
 use Rattle.tup_rule.specs.declared.rule.Rule.{Rule}
-use Rattle.tup_rule.specs.Rule.{among, writes}
-use Rattle.tup_site.specs.World.{World}
+use Rattle.tup_rule.specs.Rule.{among}
 use Rattle.tup_site.specs.declared.site.Site.{Ghosts as Site}
 use Rattle.tup_runner.specs.declared.runner.Runner.{Ghosts as Runner}
 use Rattle.tup_runner.specs.declared.step.Ended.{Ended}
 use Rattle.tup_access.specs.Judge.{Judged, good, judge}
 use Rattle.tup_access.proofs.Outputs.{judge-LeavesOutputs}
 use Rattle.tup_record.specs.declared.run.RunRecord.{RunRecord}
-use Rattle.tup_graph.specs.Graph.{GraphState, is_rule, outputs_of}
 use Rattle.tup_core.specs.declared.event.CoreEvent.{CoreEvent}
 use Rattle.tup_core.specs.declared.event.CoreEvent.TheVariants.{Claim, Ask, Deny, Finish, Stop}
 use Rattle.tup_core.specs.declared.plan.Plan.{Plan}
@@ -27,13 +24,11 @@ use Rattle.tup_core.specs.Sound.{HasOneMaker}
 use Rattle.tup_core.specs.Step.{State, IsEnabled, after, emptied, is_reached, opening}
 use Rattle.tup_core.proofs.Changed.{changed_cases}
 use Rattle.tup_core.proofs.Orderly.{IsOrderly, claimed_ended, finished_is, orderly_after, orderly_opening}
-use Rattle.tup_stale.specs.Files.{SameBeside}
-use Rattle.tup_ground.specs.declared.ground.Ground.{Ground}
-use Rattle.tup_ground.specs.Ground.{AreAtOnce, CanMake, HavePlaces, IsGround, paths_of}
+use Rattle.tup_ground.specs.Ground.{AreAtOnce, CanMake, HavePlaces, paths_of}
 use Rattle.tup_board.specs.Board.{BoardState, course_of, plan_of, first_graph, state}
 use Rattle.tup_board.specs.Come.{IsPresent}
 use Rattle.tup_board.specs.Ends.{IsRecordOf}
-use Rattle.tup_board.specs.Outputs.{IsClaimed, IsToMake, Makes}
+use Rattle.tup_board.specs.Outputs.{IsClaimed, IsToMake}
 use Rattle.tup_board.specs.Sound.{IsSound}
 use Rattle.tup_board.proofs.Coming.{outputs_are}
 use Rattle.tup_board.proofs.Ending.{judge_contents}

@@ -1,5 +1,5 @@
 -- The record of a run, ask by ask.
-use Rattle.std.proofs.Common.{◌≡◌, ℕ, List, [], ◌∷◌, ◌++◌, Option, refl}
+use Rattle.std.proofs.Common.{◌≡◌, ℕ, List, [], ◌∷◌, ◌++◌, Option}
 use Rattle.std.specs.Prelude.{Ok}
 use Rattle.tup_path.specs.Name.{Names}
 use Rattle.tup_path.specs.Resolve.{resolve}

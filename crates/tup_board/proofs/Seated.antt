@@ -1,7 +1,6 @@
 -- What seats run in a run, and that a file which a command may read is no output that is still to be made.
-use Rattle.std.proofs.Common.{◌≡◌, ℕ, zero, suc, ◌<◌, Bool, true, false, not, ◌&&◌, List, [], ◌∷◌, length, Option, None, Some, refl, sym, ap, ◌∙◌, subst, inl, inr, arith}
+use Rattle.std.proofs.Common.{◌≡◌, ℕ, zero, suc, ◌<◌, Bool, true, false, not, ◌&&◌, List, [], ◌∷◌, length, None, Some, refl, sym, ap, ◌∙◌, subst, inl, inr, arith}
 use Rattle.std.specs.Prelude.{slice_get}
-use Rattle.std.specs.Option.{option_map}
 use Rattle.std.proofs.lemmas.Bool.{true≢false, cases_Bool}
 use Rattle.std.proofs.lemmas.Option.{none-some}
 use Rattle.tup_path.specs.Name.{Names}
@@ -17,7 +16,7 @@ use Rattle.tup_core.specs.declared.plan.Plan.{Plan}
 use Rattle.tup_core.specs.declared.running.Running.{Running}
 use Rattle.tup_core.specs.Run.{IsRun, end_of}
 use Rattle.tup_core.specs.Sound.{HasOneMaker, IsInRange}
-use Rattle.tup_core.specs.Step.{State, Runs, IsClear, IsEnabled, after, asked, changed, emptied, ended, is_reached, opening, refused}
+use Rattle.tup_core.specs.Step.{State, Runs, IsClear, IsEnabled, after, asked, emptied, ended, is_reached, opening, refused}
 use Rattle.tup_core.proofs.Changed.{changed_cases}
 use Rattle.tup_core.proofs.Orderly.{IsOrderly, orderly_after, orderly_opening, finished_is, same_rule, seat_emptied, seats_ended}
 use Rattle.tup_board.specs.Outputs.{IsPending}

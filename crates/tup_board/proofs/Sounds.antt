@@ -1,7 +1,6 @@
 -- What holds of a board holds once something more happened that leaves site and store: a claim, an ask, a bad end, a stop.
-use Rattle.std.proofs.Common.{◌≡◌, ℕ, ◌<◌, ◌⊎◌, Bool, true, false, List, [], ◌∷◌, ◌++◌, Option, None, Some, refl, sym, ap, ◌∙◌, subst, ⊎_elim, inl, inr}
-use Rattle.std.specs.Prelude.{IsTrue, if◌then◌else◌, unwrap_or, slice_get}
-use Rattle.std.specs.FinMap as finite
+use Rattle.std.proofs.Common.{◌≡◌, ℕ, ◌<◌, Bool, true, List, [], ◌∷◌, ◌++◌, Option, None, Some, refl, sym, ap, ◌∙◌, subst, ⊎_elim, inl, inr}
+use Rattle.std.specs.Prelude.{IsTrue, unwrap_or}
 use Rattle.std.proofs.lemmas.List.{append_assoc}
 use Rattle.std.proofs.lemmas.Option.{same_Some}
 use Rattle.tup_path.specs.Name.{Names, Content}
@@ -12,7 +11,7 @@ use Rattle.tup_site.specs.World.{World}
 use Rattle.tup_site.specs.declared.site.Site.{Ghosts as Site}
 use Rattle.tup_runner.specs.declared.runner.Runner.{Ghosts as Runner}
 use Rattle.tup_access.specs.declared.verdict.Verdict.{Verdict}
-use Rattle.tup_access.specs.declared.verdict.Verdict.TheVariants.{Good, Failed, IllegalRead, IllegalWrite, Unwritten, TooManyReads}
+use Rattle.tup_access.specs.declared.verdict.Verdict.TheVariants.{Good}
 use Rattle.tup_record.specs.declared.run.RunRecord.{RunRecord}
 use Rattle.tup_graph.specs.Graph.{GraphState}
 use Rattle.tup_core.specs.declared.event.Cause.{Cause}
@@ -23,18 +22,17 @@ use Rattle.tup_core.specs.declared.event.CoreEvent.TheVariants.{Claim, Ask, Deny
 use Rattle.tup_core.specs.declared.plan.Plan.{Plan}
 use Rattle.tup_core.specs.declared.running.Running.{Running}
 use Rattle.tup_core.specs.Honest.{IsHonest, EndsHonestly}
-use Rattle.tup_core.specs.Run.{IsRun, end_of}
-use Rattle.tup_core.specs.Step.{State, Runs, IsEnabled, after, changed, emptied, ended, stopped_by}
+use Rattle.tup_core.specs.Run.{end_of}
+use Rattle.tup_core.specs.Step.{State, IsEnabled, after, emptied, ended}
 use Rattle.tup_core.proofs.Changed.{changed_cases}
 use Rattle.tup_core.proofs.Orderly.{finished_is}
-use Rattle.tup_board.specs.Board.{BoardState, plan_of, first_graph, start, state, with_history}
-use Rattle.tup_board.specs.Cause.{IsTrueCause, HasLargeFile, HasNoRoom}
-use Rattle.tup_board.specs.Come.{HasCome, HasComeTo, IsPresent}
+use Rattle.tup_board.specs.Board.{BoardState, plan_of, start, state, with_history}
+use Rattle.tup_board.specs.Cause.{IsTrueCause}
+use Rattle.tup_board.specs.Come.{HasCome, HasComeTo}
 use Rattle.tup_board.specs.Ends.{HasEnded, CouldEnd}
 use Rattle.tup_board.specs.Images.{IsImageOver}
-use Rattle.tup_ground.specs.Lost.{Lost}
-use Rattle.tup_board.specs.Outputs.{IsPending, IsClaimed}
-use Rattle.tup_board.specs.Sound.{IsSound, IsOpening, WasToHappen, Since}
+use Rattle.tup_board.specs.Outputs.{IsPending}
+use Rattle.tup_board.specs.Sound.{IsSound, Since}
 use Rattle.tup_turn.specs.Turn.{IsFirstReady}
 use Rattle.tup_course.proofs.Courses.{end_more, run_more}
 use Rattle.tup_course.proofs.Going.{bad_ended}

@@ -1,16 +1,14 @@
 -- What holds of a board holds once its site was read: the world stays, and a crash leaves no more than before.
-use Rattle.std.proofs.Common.{◌≡◌, ◌⊎◌, ℕ, ◌<◌, ◌≤◌, Bool, true, false, Option, None, Some, refl, sym, ap, ◌∙◌, subst, ⊎_elim, inl, inr, arith}
+use Rattle.std.proofs.Common.{◌≡◌, ℕ, ◌≤◌, None, sym, ap, ◌∙◌, subst, ⊎_elim, inl, inr, arith}
 use Rattle.std.specs.Prelude.{IsTrue, List}
 use Rattle.std.specs.FinMap as finite
 use Rattle.std.specs.Option.{option_map}
 use Rattle.std.proofs.lemmas.Bool.{cases_lt}
 use Rattle.tup_path.specs.Count.{Rose}
-use Rattle.tup_path.specs.Name.{Names, Content}
-use Rattle.tup_stamp.specs.declared.Stamp.{Stamp}
+use Rattle.tup_path.specs.Name.{Content}
 use Rattle.tup_stamp.specs.Stamp.{stamp}
-use Rattle.tup_rule.specs.declared.rule.Rule.{Rule}
 use Rattle.tup_site.specs.Crash.{GoesOn, NoStep}
-use Rattle.tup_site.specs.Known.{Keeps, knows}
+use Rattle.tup_site.specs.Known.{knows}
 use Rattle.tup_site.specs.World.{World}
 use Rattle.tup_site.specs.declared.site.Site.{Ghosts as Site}
 use Rattle.tup_runner.specs.declared.runner.Runner.{Ghosts as Runner}
@@ -20,8 +18,7 @@ use Rattle.tup_graph.specs.Graph.{GraphState}
 use Rattle.tup_core.specs.declared.event.Cause.{Cause}
 use Rattle.tup_core.specs.declared.event.Cause.TheVariants as causes
 use Rattle.tup_core.specs.Honest.{IsHonest, EndsHonestly}
-use Rattle.tup_ground.specs.Lost.{Lost}
-use Rattle.tup_board.specs.Board.{BoardState, plan_of, start, state}
+use Rattle.tup_board.specs.Board.{BoardState, plan_of, start}
 use Rattle.tup_board.specs.Cause.{IsTrueCause}
 use Rattle.tup_board.specs.Come.{HasComeTo}
 use Rattle.tup_board.specs.Images.{IsImageOver}

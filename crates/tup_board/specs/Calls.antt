@@ -1,8 +1,7 @@
 -- What each call of a board leaves, by its answer (own). All that happens to the core is told by the events that the call
 -- adds to the history.
-use Rattle.std.specs.Prelude.{◌≡◌, ◌≢◌, ◌⊎◌, ℕ, ◌<◌, ◌≤◌, true, false, List, [], ◌∷◌, ◌++◌, length, Option, None, Some, IsSome, Result, Ok, Err, Contains, map, filter_map, option_map, slice_get, take, ◌-◌, IsTrue}
+use Rattle.std.specs.Prelude.{◌≡◌, ◌≢◌, ◌⊎◌, ℕ, ◌<◌, true, false, List, [], ◌∷◌, ◌++◌, length, Option, None, Some, Result, Ok, Err, Contains, map, IsTrue}
 use Rattle.std.specs.FinMap as finite
-use Rattle.tup_path.specs.Count.{Rose}
 use Rattle.tup_path.specs.Name.{Names, Content}
 use Rattle.tup_path.specs.Tree.{Tree}
 use Rattle.tup_stamp.specs.declared.Stamp.{Stamp}
@@ -12,7 +11,6 @@ use Rattle.tup_site.specs.Crash.{GoesOn as GoesOnFrom, NoStep}
 use Rattle.tup_site.specs.Known.{Keeps}
 use Rattle.tup_site.specs.declared.site.Site.{Ghosts as Site}
 use Rattle.tup_runner.specs.declared.runner.Runner.{Ghosts as Runner}
-use Rattle.tup_rule.specs.declared.rule.Rule.{Rule}
 use Rattle.tup_rule.specs.Rule.{writes}
 use Rattle.tup_runner.specs.Next.{Asks as Answered}
 use Rattle.tup_runner.specs.declared.step.Answer.{Answer}
@@ -25,21 +23,16 @@ use Rattle.tup_access.specs.declared.verdict.Verdict.{Verdict}
 use Rattle.tup_access.specs.declared.verdict.Verdict.TheVariants.{Good}
 use Rattle.tup_record.specs.declared.run.RunRecord.{RunRecord}
 use Rattle.tup_kept.specs.Held.{Held}
-use Rattle.tup_core.specs.declared.event.Cause.{Cause}
-use Rattle.tup_core.specs.declared.event.Cause.TheVariants.{Bad, Run, Memory as StoppedByMemory}
 use Rattle.tup_core.specs.declared.event.CoreEvent.{CoreEvent}
 use Rattle.tup_core.specs.declared.event.CoreEvent.TheVariants.{Ask, Deny, Finish}
-use Rattle.tup_core.specs.declared.running.Running.{Running}
 use Rattle.tup_core.specs.Honest.{EndsHonestly, stamped}
 use Rattle.tup_core.specs.declared.plan.Plan.{Plan}
-use Rattle.tup_core.specs.Run.{claims}
-use Rattle.tup_core.specs.Step.{State}
 use Rattle.tup_board.specs.declared.answers.Asked.{Asked}
 use Rattle.tup_board.specs.declared.answers.Asked.TheVariants.{Content as Told, Absent, Denied}
 use Rattle.tup_ground.specs.declared.fault.BoardFault.{BoardFault}
 use Rattle.tup_ground.specs.declared.fault.BoardFault.TheVariants.{Site as ByVisit, TooLarge, Full, Memory}
 use Rattle.tup_board.specs.Board.{BoardState, course_of, plan_of, state, with_history}
-use Rattle.tup_course.specs.Course.{RunsRule, GoesOn, WasDenied, NoneReady, NoneRuns}
+use Rattle.tup_course.specs.Course.{RunsRule, GoesOn, WasDenied}
 use Rattle.tup_board.specs.Cause.{stops_by}
 use Rattle.tup_board.specs.Ends.{IsRecordOf}
 use Rattle.tup_ground.specs.Fault.{CountsFaults}

@@ -4,7 +4,6 @@ use Rattle.std.specs.FinMap as finite
 use Rattle.tup_path.specs.Count.{Rose}
 use Rattle.tup_path.specs.Name.{Names, Content}
 use Rattle.tup_site.specs.World.{World}
-use Rattle.tup_table.specs.Entries.{Standing}
 use Rattle.tup_table.specs.Reading.{opened_of}
 use Rattle.tup_table.specs.Table.{IsAtRest, entries_in, gate_of}
 use Rattle.tup_table.specs.declared.change.Change.{Change}

@@ -1,5 +1,5 @@
 //! What a command is told.
-ghost use Rattle.std.specs.Prelude.{◌≡◌, length, IsTrue, None};
+ghost use Rattle.std.specs.Prelude.{◌≡◌, ◌↔◌, length, IsTrue, None};
 ghost use Rattle.std.specs.FinMap as finite;
 ghost use Rattle.std.specs.Option.{option_map};
 ghost use Rattle.tup_path.specs.Name.{Names};
@@ -149,7 +149,7 @@ impl<S: Site, R: Runner> Board<S, R> {
         ensures asks { Asks S.Site.own seat text.now self.old result self.new }
     {
         let stamp = stamp_at(&found);
-        if stamp != self.course.file(path) {
+        if !same_stamp(&stamp, &self.course.file(path)) {
             return Err(BoardFault::Memory);
         }
         self.course.ask(alloc, plan, seat, text, stamp)?;
@@ -165,6 +165,13 @@ fn stamp_at(found: &Option<Bytes>) -> Option<Stamp>
         Some(content) => Some(stamp_of(content.as_slice())),
         None => None,
     }
+}
+
+/// Whether two stamps are the same, or both are absent.
+fn same_stamp(one: &Option<Stamp>, other: &Option<Stamp>) -> bool
+    ensures { IsTrue result ↔ (one.now ≡ other.now) }
+{
+    one == other
 }
 
 /// What a command is told of what was found.

@@ -7,7 +7,7 @@ use Rattle.tup_ground.specs.declared.fault.BoardFault.{BoardFault}
 use Rattle.tup_ground.specs.declared.fault.BoardFault.TheVariants.{Full}
 use Rattle.tup_ground.specs.Fault.{CountsFaults}
 use Rattle.tup_ground.specs.Ground.{NamesLength, OnlyLarge}
-use Rattle.tup_board.specs.Board.{BoardState, with_history}
+use Rattle.tup_board.specs.Board.{BoardState}
 use Rattle.tup_board.specs.Calls.{Asks}
 use Rattle.tup_board.proofs.Answering.{asks_after, asks_for, asks_for_own, fault_after, fault_true, read_sound, told_after}
 use Rattle.tup_board.proofs.board.Board.answer.Goals as goal

@@ -1,4 +1,4 @@
-use Rattle.std.proofs.Common.{◌≡◌, sym, ap, ◌∙◌, subst}
+use Rattle.std.proofs.Common.{sym, ap, subst}
 use Rattle.tup_core.specs.declared.plan.Plan.{Plan}
 use Rattle.tup_course.specs.Course.{CourseState}
 use Rattle.tup_board.specs.Calls.{opened_as}
