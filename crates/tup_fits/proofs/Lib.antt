@@ -1,0 +1,4 @@
+pub mod Tupfiles
+pub mod Brought
+pub mod Ordered
+pub mod Planned
