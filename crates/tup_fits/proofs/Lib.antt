@@ -1,4 +1,4 @@
 pub mod Tupfiles
-pub mod Brought
+pub mod Fitting
 pub mod Ordered
 pub mod Planned

@@ -1,4 +1,4 @@
-use Rattle.tup_fits.proofs.Brought.{refresh_brings}
+use Rattle.tup_fits.proofs.Fitting.{refresh_brings}
 use Rattle.tup_fits.proofs.brought.refreshed_fits.Goals as goal
 
 pub returns : goal.returns
