@@ -9,6 +9,7 @@ VERSION = $(shell sed -n 's/^const VERSION: &str = "\(.*\)";/\1/p' crates/tup/sr
 .PHONY: help build runners demo test edits try shell killed fmt times install uninstall clean
 
 help:
+	@echo 'make build      proves and builds the program, and has it print its version'
 	@echo 'make demo       builds the programs and shows them on copies of examples/tree, examples/hello and examples/c'
 	@echo 'make test       the gate: every proof, every edit that must be refused, every test, the program as a user meets it'
 	@echo 'make edits      the edits that must be refused and that the gate leaves out; CRATES=tup_stamp tries those of that crate alone'

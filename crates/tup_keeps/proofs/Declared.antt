@@ -1,11 +1,11 @@
 -- What a rule of a project declares is a source, or an output of one of its rules.
-use Rattle.std.proofs.Common.{◌≡◌, ◌⊎◌, inl, inr, ℕ, zero, suc, ◌<◌, Bool, true, false, cond, ◌||◌, List, [], ◌∷◌, ◌++◌, map, flat_map, fold, get_or, Option, Some, None, Result, Ok, Err, All, Contains, IsTrue, IsSome, is_some, if◌then◌else◌, slice_get, refl, sym, ap, ◌∙◌, subst, arith}
+use Rattle.std.proofs.Common.{◌≡◌, ◌⊎◌, inl, inr, ℕ, Bool, true, false, cond, List, [], ◌∷◌, ◌++◌, map, flat_map, fold, Option, Some, None, Result, Ok, Err, All, Contains, IsTrue, IsSome, is_some, if◌then◌else◌, refl, sym, ap, ◌∙◌, subst}
 use Rattle.std.specs.BTreeSet.{insert_key}
 use Rattle.std.specs.Bool.{passes}
 use Rattle.std.specs.FinMap as finite
 use Rattle.std.specs.List.{cons_option}
 use Rattle.std.specs.Result.{result_ok}
-use Rattle.std.proofs.lemmas.Bool.{false≢true, true≢false, or_cases}
+use Rattle.std.proofs.lemmas.Bool.{true≢false, or_cases}
 use Rattle.std.proofs.lemmas.List.Elements.{All-cons, All-contains, All-contains_itself, All-head, All-nil, All-tail, All-weaker, Contains-append_cases, Contains-push_cases}
 use Rattle.std.proofs.lemmas.List.Folds.{Any-from_list_any}
 use Rattle.std.proofs.lemmas.Map.Views.{All-insert_key}
@@ -13,8 +13,8 @@ use Rattle.tup_path.specs.Name.{Names}
 use Rattle.tup_path.specs.Order.{by_names, same_path}
 use Rattle.tup_path.specs.Resolve.{above}
 use Rattle.tup_path.specs.Tree.{Tree}
-use Rattle.tup_path.proofs.Same.{by_names-decides, same_path-decides}
-use Rattle.tup_rule.specs.Rule.{among, declares, is_generated, writes}
+use Rattle.tup_path.proofs.Same.{by_names-decides}
+use Rattle.tup_rule.specs.Rule.{among, declares, is_generated}
 use Rattle.tup_rule.specs.declared.draft.Draft.{Draft}
 use Rattle.tup_rule.specs.declared.draft.GroupRef.{GroupRef}
 use Rattle.tup_rule.specs.declared.question.Kind.{Kind}
@@ -37,7 +37,7 @@ use Rattle.tup_draft.proofs.Soundness.{made_all, name_in-own, ordered-all}
 use Rattle.tup_reader.specs.Reading.{reading}
 use Rattle.tup_reader.proofs.Soundness.{reading-sound}
 use Rattle.tup_folders.specs.Answers.{Readings, answer, drafts_of, made_kind, seen_drafts}
-use Rattle.tup_folders.specs.Readings.{AreAllReadings, AreReadWith, AreSomeReadings, IsOutcome, IsReadingOver}
+use Rattle.tup_folders.specs.Readings.{AreAllReadings, AreReadWith, AreSomeReadings, IsReadingOver}
 use Rattle.tup_folders.specs.Sources.{has_below, is_source, settings_of}
 use Rattle.tup_folders.proofs.One.{of_tupfiles, reading_in, readings_agree}
 use Rattle.tup_folders.proofs.Told.{kind_is}

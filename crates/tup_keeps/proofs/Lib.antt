@@ -8,4 +8,4 @@ pub mod Lists
 pub mod Named
 pub mod Declared
 pub mod Flagging
-pub mod Linked
+pub mod Reaching

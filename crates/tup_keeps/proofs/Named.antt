@@ -1,5 +1,5 @@
 -- No two linked rules have one name.
-use Rattle.std.proofs.Common.{◌≡◌, ◌⊎◌, inl, inr, ℕ, zero, suc, ◌+◌, ◌<◌, Bool, true, false, cond, ◌&&◌, List, [], ◌∷◌, ◌++◌, length, take, map, Option, Some, None, slice_get, bytes_eq, option_map, refl, sym, ap, ◌∙◌, subst, append_assoc, append-nil, arith, length-append, length-take, get_or-take}
+use Rattle.std.proofs.Common.{◌≡◌, inl, inr, ℕ, zero, suc, ◌+◌, ◌<◌, Bool, true, false, cond, List, [], ◌∷◌, ◌++◌, length, take, Option, Some, None, slice_get, bytes_eq, option_map, refl, sym, ap, ◌∙◌, subst, append_assoc, append-nil, arith, length-append, length-take, get_or-take}
 use Rattle.std.specs.List.{list_any}
 use Rattle.std.specs.Option.{option_or, option_and_then}
 use Rattle.std.proofs.lemmas.Bool.{and_from, both_ways, cases_order}

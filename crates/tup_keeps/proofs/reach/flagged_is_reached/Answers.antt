@@ -1,4 +1,4 @@
-use Rattle.tup_keeps.proofs.Linked.{flags_are_reach}
+use Rattle.tup_keeps.proofs.Reaching.{flags_are_reach}
 use Rattle.tup_keeps.proofs.reach.flagged_is_reached.Goals as goal
 
 pub returns : goal.returns
