@@ -1,4 +1,3 @@
 pub mod Tupfiles
 pub mod Fitting
-pub mod Ordered
 pub mod Planned
