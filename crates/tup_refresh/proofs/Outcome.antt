@@ -1,5 +1,5 @@
 -- What a refresh over a site comes to.
-use Rattle.std.proofs.Common.{◌≡◌, inl, inr, List, [], Option, Some, None, Result, Ok, Err, sym, ap, ◌∙◌, subst}
+use Rattle.std.proofs.Common.{◌≡◌, [], Option, Result, Ok, Err, sym, ap, subst}
 use Rattle.std.specs.Prelude.{unwrap_or}
 use Rattle.tup_path.specs.Name.{Content}
 use Rattle.tup_path.specs.Tree.{Tree}

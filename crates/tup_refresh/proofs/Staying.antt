@@ -1,5 +1,5 @@
 -- Calls that add nothing to what a crash may leave.
-use Rattle.std.proofs.Common.{◌≡◌, ◌≤◌, ℕ, inl, inr, arith}
+use Rattle.std.proofs.Common.{ℕ, inl, inr, arith}
 use Rattle.tup_site.specs.Crash.{GoesOn, NoStep}
 use Rattle.tup_site.specs.World.{World}
 

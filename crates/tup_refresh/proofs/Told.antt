@@ -1,5 +1,5 @@
 -- What is told by one who answers as far as contents are known.
-use Rattle.std.proofs.Common.{◌≡◌, Bool, true, false, cond, List, [], Option, Some, None, Result, Ok, Err, IsTrue, refl, sym, ap, ◌∙◌, subst}
+use Rattle.std.proofs.Common.{◌≡◌, Bool, true, false, cond, [], Option, Some, None, Result, Ok, Err, IsTrue, refl, sym, ap, ◌∙◌, subst}
 use Rattle.std.specs.BTreeSet.{contains}
 use Rattle.std.specs.FinMap as finite
 use Rattle.std.specs.Result.{IfOk}
@@ -15,7 +15,7 @@ use Rattle.tup_rule.specs.declared.question.Told.{Told}
 use Rattle.tup_rule.specs.declared.question.Told.TheVariants as told
 use Rattle.tup_vars.specs.Table.{Entries}
 use Rattle.tup_ask.specs.declared.fault.ParseFault.{ParseFault}
-use Rattle.tup_ask.specs.Log.{Log, Ran, Halts, Says, StopsAt, fits, told_before, noted_log}
+use Rattle.tup_ask.specs.Log.{Log, Ran, Halts, Says, StopsAt, fits, noted_log}
 use Rattle.tup_reader.specs.Read.{IsToldBy}
 use Rattle.tup_reader.specs.Reading.{reading}
 use Rattle.tup_folders.specs.Answers.{Readings, awaited, answer}

@@ -154,13 +154,22 @@ impl Session {
 
 /// What a refresh gave beside what reading all folders gives; it is kept where there is no fault.
 fn compared(alloc: Global, project: &mut Project, found: Result<Refreshed, RefreshFault>) -> Words {
-    let Ok(sources) = project.sources(alloc) else {
-        return Words::none(alloc, RowFault::Memory);
-    };
-    let words = shown(alloc, &found, &read_folders(alloc, &sources));
+    let words = beside_whole(alloc, project, &found);
     match found {
         Ok(given) => kept(alloc, project, given, words),
-        Err(_) => words,
+        Err(_fault) => words,
+    }
+}
+
+/// What a refresh gave beside what reading all folders gives.
+fn beside_whole(
+    alloc: Global,
+    project: &Project,
+    found: &Result<Refreshed, RefreshFault>,
+) -> Words {
+    match project.sources(alloc) {
+        Ok(sources) => shown(alloc, found, &read_folders(alloc, &sources)),
+        Err(_) => Words::none(alloc, RowFault::Memory),
     }
 }
 

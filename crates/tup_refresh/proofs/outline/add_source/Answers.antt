@@ -1,4 +1,4 @@
-use Rattle.std.proofs.Common.{◌≡◌, not, is_some, ap, sym, ◌∙◌}
+use Rattle.std.proofs.Common.{not, is_some, ap, sym, ◌∙◌}
 use Rattle.tup_refresh.proofs.Outlining.{one_source, no_source}
 use Rattle.tup_refresh.proofs.outline.add_source.Goals as goal
 

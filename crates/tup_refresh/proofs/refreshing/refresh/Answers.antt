@@ -1,9 +1,6 @@
-use Rattle.std.proofs.Common.{◌≡◌, List, sym, ap, ◌∙◌, subst}
-use Rattle.std.specs.FinMap as finite
+use Rattle.std.proofs.Common.{List, sym, ◌∙◌, subst}
 use Rattle.std.specs.Map.{keys_of}
-use Rattle.std.proofs.lemmas.Result.{err_from_is_err_and}
 use Rattle.tup_path.specs.Name.{Names, Content}
-use Rattle.tup_path.specs.Tree.{Tree}
 use Rattle.tup_graph.specs.Answers.{tup_config}
 use Rattle.tup_ledger.specs.Sources.{sources_of}
 use Rattle.tup_refresh.specs.Part.{HasConfig, HasPaths, IsUnfetched}

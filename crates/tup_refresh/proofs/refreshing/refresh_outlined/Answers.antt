@@ -1,4 +1,4 @@
-use Rattle.std.proofs.Common.{◌≡◌, Err, Result, sym, ap, ◌∙◌, subst}
+use Rattle.std.proofs.Common.{Err, sym, ◌∙◌, subst}
 use Rattle.std.proofs.lemmas.Result.{err_from_is_err_and}
 use Rattle.tup_path.specs.Tree.{Tree}
 use Rattle.tup_refresh.specs.Cause.{IsRefreshOf}

@@ -1,10 +1,6 @@
-use Rattle.std.proofs.Common.{◌≡◌, ◌<◌, ◌+◌, true, length, Option, Some, ap, sym, subst, ◌∙◌, arith}
-use Rattle.std.specs.BTreeSet.{contains}
+use Rattle.std.proofs.Common.{subst}
 use Rattle.std.proofs.lemmas.Result.{err_from_is_err_and}
-use Rattle.tup_path.specs.Name.{Names}
-use Rattle.tup_path.specs.Order.{by_names}
 use Rattle.tup_refresh.specs.Walk.{HasGone}
-use Rattle.tup_refresh.specs.declared.walk.Walk.{Walk}
 use Rattle.tup_refresh.proofs.Causes.{named_on, none_told, told_on}
 use Rattle.tup_refresh.proofs.Walking.{walk_fetched, lacks_one}
 use Rattle.tup_refresh.proofs.walk.Walk.advance.Goals as goal
