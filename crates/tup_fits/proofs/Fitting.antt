@@ -1,9 +1,8 @@
 -- What is read and linked of the sources that a graph sees fits it.
-use Rattle.std.proofs.Common.{◌≡◌, inl, inr, ℕ, true, List, [], Option, Some, None, Result, Ok, Err, All, IsTrue, IsSome, is_some, option_map, slice_get, refl, sym, ap, ◌∙◌, subst}
+use Rattle.std.proofs.Common.{◌≡◌, inl, inr, ℕ, List, [], Option, Some, None, Result, Ok, Err, All, option_map, refl, sym, ap, ◌∙◌, subst}
 use Rattle.std.specs.Prelude.{unwrap_or}
 use Rattle.std.specs.Bool.{passes}
 use Rattle.std.specs.FinMap as finite
-use Rattle.std.proofs.lemmas.Bool.{true≢false}
 use Rattle.std.proofs.lemmas.List.Elements.{All-map, All-nil}
 use Rattle.tup_path.specs.Name.{Names, Content}
 use Rattle.tup_path.specs.Order.{by_names}
@@ -12,7 +11,6 @@ use Rattle.tup_stamp.specs.declared.Stamp.{Stamp}
 use Rattle.tup_stamp.specs.Stamp.{stamp}
 use Rattle.tup_site.specs.Known.{KnowsTree}
 use Rattle.tup_rule.specs.Question.{noted as kept_as}
-use Rattle.tup_rule.specs.Rule.{writes}
 use Rattle.tup_rule.specs.declared.question.Noted.{Noted}
 use Rattle.tup_rule.specs.declared.question.Question.{Question}
 use Rattle.tup_rule.specs.declared.question.Question.TheVariants as asks
@@ -29,9 +27,9 @@ use Rattle.tup_reader.specs.Reading.{reading}
 use Rattle.tup_folders.specs.Answers.{Readings, answer, awaited}
 use Rattle.tup_folders.specs.Readings.{AreAllReadings, AreSomeReadings}
 use Rattle.tup_folders.specs.Sources.{settings_of}
-use Rattle.tup_folders.proofs.One.{AreOfTupfiles, of_tupfiles, reading_in}
+use Rattle.tup_folders.proofs.One.{of_tupfiles, reading_in}
 use Rattle.tup_whole.specs.Project.{AreLinked}
-use Rattle.tup_graph.specs.Answers.{IsAnswer, IsSetTo, IsSource, tup_config, tupfile}
+use Rattle.tup_graph.specs.Answers.{IsAnswer, IsSetTo, tup_config, tupfile}
 use Rattle.tup_graph.specs.Graph.{GraphState, source}
 use Rattle.tup_graph.specs.Records.{Language}
 use Rattle.tup_keeps.specs.Fitting.{AreBeside, AreFitting, AreReadingsOf}

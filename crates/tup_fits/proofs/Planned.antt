@@ -1,31 +1,27 @@
 -- What a kept graph keeps is kept for the core of an update.
-use Rattle.std.proofs.Common.{◌≡◌, ◌≢◌, ℕ, zero, suc, ◌<◌, ◌≤◌, Bool, true, false, List, [], ◌∷◌, ◌++◌, length, take, Option, Some, None, All, Contains, IsSome, is_some, slice_get, slice_index_or, option_map, refl, sym, ap, ◌∙◌, subst, append_assoc, append-nil}
+use Rattle.std.proofs.Common.{◌≡◌, ◌≢◌, ℕ, zero, suc, ◌<◌, ◌≤◌, true, false, List, [], ◌∷◌, ◌++◌, length, take, Option, Some, None, Contains, IsSome, is_some, slice_get, slice_index_or, option_map, refl, sym, ap, ◌∙◌, subst, append_assoc, append-nil}
 use Rattle.std.specs.FinMap as finite
 use Rattle.std.proofs.lemmas.Bool.{ltb-true, true≢false}
 use Rattle.std.proofs.lemmas.List.Elements.{All-contains_itself}
-use Rattle.std.proofs.lemmas.Option.{none-some, same_Some, slice_get_within}
+use Rattle.std.proofs.lemmas.Option.{none-some, same_Some}
 use Rattle.tup_path.specs.Name.{Names, Content}
 use Rattle.tup_path.specs.Tree.{Tree}
 use Rattle.tup_stamp.specs.declared.Stamp.{Stamp}
 use Rattle.tup_stamp.specs.Stamp.{stamp}
-use Rattle.tup_rule.specs.Rule.{declares, is_generated, writes}
+use Rattle.tup_rule.specs.Rule.{is_generated}
 use Rattle.tup_rule.specs.declared.rule.Rule.{Rule}
 use Rattle.tup_rule.proofs.Laws.{is_generated-at}
-use Rattle.tup_runner.specs.Honest.{AsksJust}
 use Rattle.tup_runner.specs.Next.{Next, Asks}
 use Rattle.tup_runner.specs.declared.step.Answer.{Answer}
 use Rattle.tup_runner.specs.declared.step.Answer.TheVariants.{Content as Holds, Absent}
-use Rattle.tup_runner.specs.declared.step.Step.{Step}
 use Rattle.tup_runner.specs.declared.step.Step.TheVariants.{Ask}
-use Rattle.tup_record.specs.declared.owned.OwnedState.{OwnedState}
-use Rattle.tup_record.specs.declared.owned.OwnedState.TheVariants.{Written}
 use Rattle.tup_record.specs.declared.run.RunRecord.{RunRecord}
-use Rattle.tup_graph.specs.Graph.{GraphState, is_flagged, is_owned, is_rule}
-use Rattle.tup_graph.specs.Kept.{HasSeenStamps, IsKept, IsRuleAt, IsUnflagged}
+use Rattle.tup_graph.specs.Graph.{GraphState, is_flagged, is_rule}
+use Rattle.tup_graph.specs.Kept.{HasSeenStamps, IsKept, IsUnflagged}
 use Rattle.tup_graph.specs.Records.{GoesOnAsking, IsStampOf, IsTrueRun, Language, AreRecorded as AreRecordedIn}
 use Rattle.tup_graph.specs.declared.owned.Owned.{Owned}
 use Rattle.tup_core.specs.Honest.{IsKnown, StandsFor}
-use Rattle.tup_core.specs.Kept.{AreRecorded, HasState, IsCurrent, IsTrueRecord, Kept, Owner, IsKept as IsKeptForCore}
+use Rattle.tup_core.specs.Kept.{AreRecorded, IsCurrent, IsTrueRecord, Owner, IsKept as IsKeptForCore}
 use Rattle.tup_core.specs.Planned.{IsPlanned}
 use Rattle.tup_core.specs.Step.{is_reached, opening}
 use Rattle.tup_core.specs.declared.plan.Plan.{Plan}
@@ -89,16 +85,20 @@ there_is f None y e = absurd (none-some y e)
 
 module _ (next : Next) (language : Language) (known : List Content) (g : GraphState) (kept : IsKept next language known g) where
   current : (at : ℕ) (rule : Rule) → slice_get g.rules at ≡ Some rule → is_flagged g at ≡ false → (run : RunRecord) × (finite.get g.runs at ≡ Some run) × IsCurrent (kept_of g) rule run
-  current at rule here off = (has.0, has.1, record {
-    asks = λ k d less. (let ask = slice_index_or has.0.asks k d in λ other. has.2.asked ask.0 ask.1 (All-contains_itself has.0.asks k d less, other));
-    seen = has.2.wrote;
-    declared = λ k d less.
-        (let ask = slice_index_or has.0.asks k d in
-        λ other some. kept.declared at rule has.0 ask.0 ask.1 unflagged has.1 (All-contains_itself has.0.asks k d less, other) (is_there owner_of (finite.get g.owned ask.0) some));
-    written = λ k d less.
-        (let one = kept.written at rule has.0 unflagged has.1 k d less in
-        (owner_of one.0, ap (option_map owner_of) one.1, one.2));
-  })
+  current at rule here off = (
+    has.0,
+    has.1,
+    record {
+      asks = λ k d less. (let ask = slice_index_or has.0.asks k d in λ other. has.2.asked ask.0 ask.1 (All-contains_itself has.0.asks k d less, other));
+      seen = has.2.wrote;
+      declared = λ k d less.
+          (let ask = slice_index_or has.0.asks k d in
+          λ other some. kept.declared at rule has.0 ask.0 ask.1 unflagged has.1 (All-contains_itself has.0.asks k d less, other) (is_there owner_of (finite.get g.owned ask.0) some));
+      written = λ k d less.
+          (let one = kept.written at rule has.0 unflagged has.1 k d less in
+          (owner_of one.0, ap (option_map owner_of) one.1, one.2));
+    },
+  )
     where
       unflagged : IsUnflagged g at rule
       unflagged = record { here = here; unflagged = off }

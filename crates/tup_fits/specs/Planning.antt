@@ -1,8 +1,6 @@
 -- What a graph keeps, as the core of an update has it (own).
-use Rattle.std.specs.Prelude.{ℕ}
 use Rattle.std.specs.FinMap as finite
 use Rattle.std.specs.Option.{option_map}
-use Rattle.tup_path.specs.Name.{Names}
 use Rattle.tup_graph.specs.Graph.{GraphState, is_flagged}
 use Rattle.tup_graph.specs.declared.owned.Owned.{Owned}
 use Rattle.tup_core.specs.Kept.{Kept, Owner}
