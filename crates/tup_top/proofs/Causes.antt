@@ -12,16 +12,17 @@ use Rattle.tup_rule.specs.declared.rule.RuleName.{RuleName}
 use Rattle.tup_runner.specs.Next.{Next}
 use Rattle.tup_access.specs.declared.verdict.Verdict.TheVariants.{Good, Failed, IllegalRead as ReadsIllegally, IllegalWrite as WritesIllegally, Unwritten as LeavesUnwritten, TooManyReads as ReadsTooOften}
 use Rattle.tup_owned.specs.Ascending.{ascending}
-use Rattle.tup_owned.specs.Owned.{owned_of}
+use Rattle.tup_update.specs.Holding.{holding}
 use Rattle.tup_clean.specs.Taken.{Taken}
 use Rattle.tup_update.specs.Log.{LogFits, RulesFit, OfRules}
 use Rattle.tup_update.specs.Ran.{RunsThese}
-use Rattle.tup_update.specs.Outcome.{ExactlyTheFiles, NothingForgotten, HasRunCause, HasCountedCause as StopHasCountedCause}
+use Rattle.tup_mini.specs.Means.{mini_next}
+use Rattle.tup_update.specs.Outcome.{ExactlyTheFiles, HasCause, NothingForgotten, HasRunCause, HasCountedCause as StopHasCountedCause}
 use Rattle.tup_update.specs.Sources.{sources as sources_of, files_beside, outputs, ends, PassesLimit}
 use Rattle.tup_update.specs.Turns.{names_of, TurnsFit}
 use Rattle.tup_update.proofs.Ending.{no_front, whole_front}
 use Rattle.tup_update.proofs.Keeping.{no_turns}
-use Rattle.tup_update.proofs.Known.{sources_are, among_ascending}
+use Rattle.tup_update.proofs.Known.{among_ascending}
 use Rattle.tup_update.specs.declared.fault.SourcesFault.{SourcesFault}
 use Rattle.tup_update.specs.declared.fault.SourcesFault.TheVariants as sources
 use Rattle.tup_update.specs.declared.update.Log.{Log}
@@ -122,16 +123,16 @@ told_of old rules promise (Some stopped) fits kept = (rules, fits, kept)
 -- ---- what is left
 
 -- outputs in their order are the same paths
-same_listed : (paths : List Names) (w : World) → owned_of w.store ≡ Ok (ascending paths) → files_beside paths w.tree ≡ sources_of w
-same_listed paths w reads = sym (sources_are w (ascending paths) reads ∙ (λ i. finite.retain_keys w.tree (λ path. not (among_ascending paths path i))))
+same_listed : (paths : List Names) (w : World) → files_beside paths w.tree ≡ sources_of (holding w (ascending paths))
+same_listed paths w = sym (λ i. finite.retain_keys w.tree (λ path. not (among_ascending paths path i)))
 
 pub untold_left : (tells : Bool) (next : Next) (rules : List Rule) (old new : World) (stopped : Option Stop) → RulesFit old rules stopped → NothingForgotten tells next rules old new stopped →
     (IsTrue tells → ExactlyTheFiles next rules old new stopped) → NothingForgotten tells next rules old new (Some (Outside NoMemory))
 untold_left tells next rules old new None fits listed files = inr (
   fits,
-  inr (inr (record {
-    beside = same_listed (outputs rules) new listed.listed ∙ listed.same;
-    built = λ means. let made = files means in record { clean = made.clean; files = made.files };
+  inr (inr (λ held shows. record {
+    beside = same_listed (outputs rules) new ∙ (listed held shows).same;
+    built = λ means. let made = files means held shows in record { clean = made.clean; files = made.files };
   })),
 )
 untold_left tells next rules old new (Some (StoreDamaged offset)) fits same files = inl same
@@ -155,7 +156,7 @@ counts_of_sources next rules old (sources.TooManyLinks number) = tt
 counts_of_sources next rules old (sources.CircularCommands cycle) = tt
 
 counts_of_stop : (next : Next) (rules : List Rule) (old : World) (log : Log) (stopped : Option Stop) → LogFits next rules old log stopped → CountsAll next rules old (status_of log stopped)
-counts_of_stop next rules old log None fits = ap (λ (l : Log). status_of l None) fits
+counts_of_stop next rules old log None fits = λ held shows. ap (λ (l : Log). status_of l None) (fits held shows)
 counts_of_stop next rules old log (Some (StoreDamaged offset)) fits = tt
 counts_of_stop next rules old log (Some (Sources fault)) fits = counts_of_sources next rules old fault
 counts_of_stop next rules old log (Some (Bad rule Good)) fits = tt
@@ -319,6 +320,11 @@ demo_cause site_before site_now before now (Limit what number) cause = cause.1
 demo_cause site_before site_now before now Memory cause = tt
 demo_cause site_before site_now before now (Differs path) cause = cause
 
+-- of an update of some world, which left a new one
+pub with_new : (came : Option (Option Stop)) (old new : World) → IfSome came (OfRules old (λ rules. HasCause mini_next rules old new)) → IfSome came (λ stopped. (new : World) × OfRules old (λ rules. HasCause mini_next rules old new) stopped)
+with_new None old new cause = tt
+with_new (Some stopped) old new cause = (new, cause)
+
 -- an update that didn't begin, for want of memory
 abbrev pub told_nothing : (next : Next) (old : World) → Told next old
 told_nothing next old = record {
@@ -340,20 +346,20 @@ prints_no_update next old before now held = record {
 
 -- a log that fits tells what was begun
 pub ran_fits : (next : Next) (rules : List Rule) (old : World) (log : Log) (stopped : Option Stop) → LogFits next rules old log stopped → RanFits next rules old log.ran stopped
-ran_fits next rules old log None fits = ap (λ (l : Log). l.ran) fits
+ran_fits next rules old log None fits = λ held shows. ap (λ (l : Log). l.ran) (fits held shows)
 ran_fits next rules old log (Some (StoreDamaged offset)) fits = fits.2
 ran_fits next rules old log (Some (Sources fault)) fits = fits.2
-ran_fits next rules old log (Some (Bad rule verdict)) fits = ap (λ (l : Log). l.ran) fits
-ran_fits next rules old log (Some Run) fits = fits.ran
-ran_fits next rules old log (Some (Outside failed)) (inl empty) = no_front log.ran (names_of rules (ends next rules old)) empty.2
-ran_fits next rules old log (Some (Outside failed)) (inr (asks, part)) = part.ran
+ran_fits next rules old log (Some (Bad rule verdict)) fits = λ held shows. ap (λ (l : Log). l.ran) (fits held shows)
+ran_fits next rules old log (Some Run) fits = λ held shows. (fits held shows).ran
+ran_fits next rules old log (Some (Outside failed)) (inl empty) = λ held shows. no_front log.ran (names_of rules (ends next rules held)) empty.2
+ran_fits next rules old log (Some (Outside failed)) (inr (asks, part)) = λ held shows. (part held shows).ran
 
 -- whatever it came to, a front of the rules was begun
 pub untold_ran : (next : Next) (rules : List Rule) (old : World) (ran : List RuleName) (stopped : Option Stop) → RanFits next rules old ran stopped → RanFits next rules old ran (Some (Outside NoMemory))
-untold_ran next rules old ran None fits = whole_front ran (names_of rules (ends next rules old)) fits
-untold_ran next rules old ran (Some (StoreDamaged offset)) fits = no_front ran (names_of rules (ends next rules old)) fits
-untold_ran next rules old ran (Some (Sources fault)) fits = no_front ran (names_of rules (ends next rules old)) fits
-untold_ran next rules old ran (Some (Bad rule verdict)) fits = whole_front ran (names_of rules (ends next rules old)) fits
+untold_ran next rules old ran None fits = λ held shows. whole_front ran (names_of rules (ends next rules held)) (fits held shows)
+untold_ran next rules old ran (Some (StoreDamaged offset)) fits = λ held shows. no_front ran (names_of rules (ends next rules held)) fits
+untold_ran next rules old ran (Some (Sources fault)) fits = λ held shows. no_front ran (names_of rules (ends next rules held)) fits
+untold_ran next rules old ran (Some (Bad rule verdict)) fits = λ held shows. whole_front ran (names_of rules (ends next rules held)) (fits held shows)
 untold_ran next rules old ran (Some Run) fits = fits
 untold_ran next rules old ran (Some (Outside failed)) fits = fits
 

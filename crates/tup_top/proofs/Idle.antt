@@ -12,7 +12,7 @@ use Rattle.tup_update.specs.declared.stop.Stop.TheVariants.{Outside}
 use Rattle.tup_top.specs.Lines.{last_line, compared_line}
 use Rattle.tup_top.specs.Order.{Wanted}
 use Rattle.tup_top.specs.Printed.{Printed, PrintedAlone, demo_world}
-use Rattle.tup_top.specs.Promise.{ForUpdate, ForVerify}
+use Rattle.tup_top.specs.Promise.{ForUpdate, ForVerify, ForDemo}
 use Rattle.tup_top.specs.declared.order.Order.TheVariants.{Upd, Verify, Demo}
 use Rattle.tup_top.specs.declared.status.Status.TheVariants.{Usage, Memory}
 use Rattle.tup_top.proofs.Causes.{prints_nothing, prints_no_update}
@@ -30,6 +30,13 @@ memory_for_verify (Ok (Upd program)) P p = tt
 memory_for_verify (Ok Verify) P p = p
 memory_for_verify (Ok Demo) P p = tt
 memory_for_verify (Err place) P p = tt
+
+-- and a demo
+pub memory_for_demo : (wanted : Wanted) (P : Option Stop → Type 0) → P (Some (Outside NoMemory)) → ForDemo wanted Memory P
+memory_for_demo (Ok (Upd program)) P p = tt
+memory_for_demo (Ok Verify) P p = tt
+memory_for_demo (Ok Demo) P p = p
+memory_for_demo (Err place) P p = tt
 
 -- and what is printed then
 pub memory_prints : (wanted : Wanted) (next : Next) (old : World) (count : ℕ) (held : List ℕ) → Printed wanted next old count count held held Memory

@@ -3,6 +3,8 @@ use Rattle.std.proofs.Common.{◌≡◌, inl, inr, ℕ, ◌-◌, ◌^◌, ◌<�
 use Rattle.std.specs.List.{list_all, slice_get}
 use Rattle.std.proofs.lemmas.List.Sums.{AllPass-from_list_all}
 use Rattle.std.proofs.lemmas.Option.{slice_get_within, get_or_from_slice_get}
+use Rattle.std.specs.FinMap as finite
+use Rattle.tup_path.specs.Tree.{Tree}
 use Rattle.tup_site.specs.World.{World}
 use Rattle.tup_rule.specs.declared.rule.RuleName.{RuleName}
 use Rattle.tup_runner.specs.Next.{Next}
@@ -13,7 +15,7 @@ use Rattle.tup_path.specs.Count.{Rose}
 use Rattle.tup_update.specs.Log.{OfRules}
 use Rattle.tup_update.specs.Outcome.{SourcesStay, HasCause}
 use Rattle.tup_update.specs.Parts.{HasFileOf}
-use Rattle.tup_update.specs.Sources.{owned, build}
+use Rattle.tup_update.specs.Sources.{build}
 use Rattle.tup_update.specs.Compared.{HasCompared}
 use Rattle.tup_update.specs.declared.fault.SourcesFault.TheVariants as sources
 use Rattle.tup_update.specs.declared.stop.Stop.TheVariants.{Bad}
@@ -34,7 +36,8 @@ true_is_not_false b is not = let no : true ≡ false = sym is ∙ not in cc
 
 no_bad_rule : (next : Next) (old new : World) (name : RuleName) (verdict : Verdict) → IsClear next old new → OfRules old (λ rules. HasCause next rules old new) (Some (Bad name verdict)) → ⊥
 no_bad_rule next old new name verdict clear (rules, asks, bad) =
-    true_is_not_false (is_good (Some verdict)) (list_all_at is_good (build next rules old).verdicts bad.ending.at (Some verdict) (clear.clean rules asks) bad.given) bad.ending.bad
+    let first = bad clear.held clear.store_reads in
+    true_is_not_false (is_good (Some verdict)) (list_all_at is_good (build next rules clear.held).verdicts first.ending.at (Some verdict) (clear.clean rules asks) first.given) first.ending.bad
 
 not_rose : (before now : ℕ) → now ≡ before → now < 2 ^ 64 - 1 → Rose before now → ⊥
 not_rose before now same counts (inl more) = omega (arith, same, more)
@@ -61,7 +64,7 @@ succeeds_so next old new before now (IllegalWrite rule text) cause counted clear
 succeeds_so next old new before now (Unwritten rule path) cause counted clear fine = no_bad_rule next old new rule (LeavesUnwritten path) clear cause
 succeeds_so next old new before now (TooManyReads rule) cause counted clear fine = no_bad_rule next old new rule ReadsTooOften clear cause
 succeeds_so next old new before now (Usage place) cause counted clear fine = absurd counted
-succeeds_so next old new before now (BadStore offset) (rules, fits, damaged) counted clear fine = let reads = clear.store_reads in absurd (cc)
+succeeds_so next old new before now (BadStore offset) (rules, fits, damaged) counted clear fine = absurd (cc (sym damaged ∙ clear.store_reads.lists))
 succeeds_so next old new before now (Parse fault) (rules, fits, refused) counted clear fine = absurd (clear.sources_read (sources.Parse fault) refused)
 succeeds_so next old new before now (CircularDirs cycle) (rules, fits, refused) counted clear fine = absurd (clear.sources_read (sources.CircularDirs cycle) refused)
 succeeds_so next old new before now (CircularCommands cycle) (rules, fits, refused) counted clear fine = absurd (clear.sources_read (sources.CircularCommands cycle) refused)
@@ -91,7 +94,7 @@ compares_so next w before now (IllegalWrite rule text) cause counted can fine = 
 compares_so next w before now (Unwritten rule path) cause counted can fine = tt
 compares_so next w before now (TooManyReads rule) cause counted can fine = tt
 compares_so next w before now (Usage place) cause counted can fine = absurd counted
-compares_so next w before now (BadStore offset) cause counted can fine = let reads = can.store_reads in absurd (cc)
+compares_so next w before now (BadStore offset) cause counted can fine = absurd (cc (sym cause ∙ can.store_reads.lists))
 compares_so next w before now (Parse fault) cause counted can fine = absurd (can.sources_read (sources.Parse fault) cause)
 compares_so next w before now (CircularDirs cycle) cause counted can fine = absurd (can.sources_read (sources.CircularDirs cycle) cause)
 compares_so next w before now (CircularCommands cycle) cause counted can fine = absurd (can.sources_read (sources.CircularCommands cycle) cause)
@@ -108,4 +111,4 @@ compares_so next w before now (Differs path) cause counted can fine = tt
 
 -- where nothing was done the sources stay
 pub sources_stay_so : (w : World) → SourcesStay w w
-sources_stay_so w path there = sym (left_is (owned w) w.tree path there).1
+sources_stay_so w held shows path there = ap (λ (t : Tree). finite.get t path) (sym shows.tree) ∙ sym (left_is held.owned held.tree path there).1

@@ -14,6 +14,7 @@ use Rattle.tup_update.specs.declared.compare.Compared.TheVariants as compared
 use Rattle.tup_update.specs.declared.stop.Stop.{Stop}
 use Rattle.tup_update.specs.declared.stop.Stop.TheVariants.{BadStore as StoreDamaged, Sources, Bad, Run, Outside}
 use Rattle.tup_update.specs.declared.update.Log.{Log}
+use Rattle.tup_update.proofs.Comparing.{all_is_front}
 use Rattle.tup_top.specs.Lines.{compared_line}
 use Rattle.tup_top.specs.Printed.{IsDone, Ends, Prints, PrintsComparison}
 use Rattle.tup_top.specs.Promise.{Counts, HasCountedCause, HasComparedCause}
@@ -74,18 +75,15 @@ compared_answered P before now old new result status answer is (inr (inr (e, don
 
 -- ---- what was run
 
-all_is_front : (all old new : List (Names × List ℕ)) → new ≡ old ++ all → RunsFront all old new
-all_is_front all old new ran = (all, [], append-nil all, ran)
-
 -- whatever it came to, a front of the commands of the clean build was run, or nothing
 pub untold_compared : (next : Next) (w : World) (old new : List (Names × List ℕ)) (stopped : Option Stop) → RunsToCompare next w old new stopped → RunsToCompare next w old new (Some (Outside NoMemory))
-untold_compared next w old new None runs = inr (record { rules = runs.rules; asked = runs.asked; ran = all_is_front _ old new runs.ran })
+untold_compared next w old new None runs = inr (record { held = runs.held; shows = runs.shows; rules = runs.rules; asked = runs.asked; ran = all_is_front _ old new runs.ran })
 untold_compared next w old new (Some (StoreDamaged offset)) same = inl same
 untold_compared next w old new (Some (Sources fault)) same = inl same
-untold_compared next w old new (Some (Bad name verdict)) runs = inr (record { rules = runs.rules; asked = runs.asked; ran = all_is_front _ old new runs.ran })
-untold_compared next w old new (Some Run) runs = inr (record { rules = runs.rules; asked = runs.asked; ran = runs.ran })
+untold_compared next w old new (Some (Bad name verdict)) runs = inr (record { held = runs.held; shows = runs.shows; rules = runs.rules; asked = runs.asked; ran = all_is_front _ old new runs.ran })
+untold_compared next w old new (Some Run) runs = inr (record { held = runs.held; shows = runs.shows; rules = runs.rules; asked = runs.asked; ran = runs.ran })
 untold_compared next w old new (Some (Outside failed)) (inl same) = inl same
-untold_compared next w old new (Some (Outside failed)) (inr runs) = inr (record { rules = runs.rules; asked = runs.asked; ran = runs.ran })
+untold_compared next w old new (Some (Outside failed)) (inr runs) = inr (record { held = runs.held; shows = runs.shows; rules = runs.rules; asked = runs.asked; ran = runs.ran })
 
 -- ---- counts
 

@@ -8,6 +8,7 @@ use Rattle.tup_rule.specs.declared.rule.Rule.{Rule}
 use Rattle.tup_rule.specs.declared.rule.RuleName.{RuleName}
 use Rattle.tup_runner.specs.Next.{Next}
 use Rattle.tup_clean.specs.Taken.{Taken}
+use Rattle.tup_update.specs.Holding.{OfHeld}
 use Rattle.tup_update.specs.Log.{IsFront}
 use Rattle.tup_update.specs.Ran.{RunsThese}
 use Rattle.tup_update.specs.Sources.{ends}
@@ -34,12 +35,12 @@ pub record OneRose (before now : List ℕ) : Type 0 where
 -- the rules that an update began are those that the clean build takes, in its order: all of them up to the first that is
 -- bad, or as many as it came to
 abbrev pub RanFits : Next → List Rule → World → List RuleName → Option Stop → Type 0
-RanFits next rules old ran None = ran ≡ names_of rules (ends next rules old)
-RanFits next rules old ran (Some (Bad name verdict)) = ran ≡ names_of rules (ends next rules old)
+RanFits next rules old ran None = OfHeld old (λ held. ran ≡ names_of rules (ends next rules held))
+RanFits next rules old ran (Some (Bad name verdict)) = OfHeld old (λ held. ran ≡ names_of rules (ends next rules held))
 RanFits next rules old ran (Some (BadStore offset)) = ran ≡ []
 RanFits next rules old ran (Some (Sources fault)) = ran ≡ []
-RanFits next rules old ran (Some Run) = IsFront ran (names_of rules (ends next rules old))
-RanFits next rules old ran (Some (Outside failed)) = IsFront ran (names_of rules (ends next rules old))
+RanFits next rules old ran (Some Run) = OfHeld old (λ held. IsFront ran (names_of rules (ends next rules held)))
+RanFits next rules old ran (Some (Outside failed)) = OfHeld old (λ held. IsFront ran (names_of rules (ends next rules held)))
 
 -- the rules that it began, whatever its runners mean: each was the first that was ready, by the verdicts that came out, and
 -- at the end all of them are Good

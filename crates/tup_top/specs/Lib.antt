@@ -2,5 +2,5 @@ pub mod Order
 pub mod Status
 pub mod Lines
 pub mod Crew
-pub mod Promise
 pub mod Printed
+pub mod Promise

@@ -8,15 +8,18 @@ use Rattle.tup_site.specs.World.{World}
 use Rattle.tup_rule.specs.declared.rule.Rule.{Rule}
 use Rattle.tup_runner.specs.Next.{Next}
 use Rattle.tup_clean.specs.Clean.{succeeds}
-use Rattle.tup_owned.specs.Owned.{owned_of}
-use Rattle.tup_update.specs.Log.{whole_log}
-use Rattle.tup_update.specs.Sources.{AsksFor, Refuses, build}
+use Rattle.tup_update.specs.Holding.{Holding, OfHeld, Shows}
+use Rattle.tup_mini.specs.Means.{mini_next}
+use Rattle.tup_update.specs.Log.{OfRules, whole_log}
+use Rattle.tup_update.specs.Outcome.{HasCause}
+use Rattle.tup_update.specs.Sources.{IsAsked, IsRefused, build}
 use Rattle.tup_update.specs.declared.compare.Compared.{Compared}
 use Rattle.tup_update.specs.declared.fault.SourcesFault.{SourcesFault}
 use Rattle.tup_update.specs.declared.stop.Stop.{Stop}
 use Rattle.tup_top.specs.Status.{status_of, came_to, compared_to}
 use Rattle.tup_top.specs.Order.{Wanted, IsUpdate, IsVerify}
 use Rattle.tup_top.specs.Crew.{OneRose}
+use Rattle.tup_top.specs.Printed.{demo_world}
 use Rattle.tup_top.specs.declared.order.Order.TheVariants.{Upd, Verify, Demo}
 use Rattle.tup_top.specs.declared.status.Status.{Status}
 use Rattle.tup_top.specs.declared.status.Status.TheVariants.{Done, Command, IllegalRead, IllegalWrite, Unwritten, TooManyReads, Usage, SiteFault, RunFault, SinkFault, Limit, Memory, Differs}
@@ -37,13 +40,24 @@ ForVerify (Ok Verify) status promise = IfSome (compared_to status) promise
 ForVerify (Ok Demo) status promise = ⊤
 ForVerify (Err place) status promise = ⊤
 
+-- a promise of a demo, of what its update came to
+abbrev pub ForDemo : Wanted → Status → (Option Stop → Type 0) → Type 0
+ForDemo (Ok (Upd program)) status promise = ⊤
+ForDemo (Ok Verify) status promise = ⊤
+ForDemo (Ok Demo) status promise = IfSome (came_to status) promise
+ForDemo (Err place) status promise = ⊤
+
+-- why the update of the small project stopped that a demo shows, as of every update
+abbrev pub StopsDemo : Option Stop → Type 0
+StopsDemo stopped = (new : World) × OfRules demo_world (λ rules. HasCause mini_next rules demo_world new) stopped
+
 -- only an update changes anything
 abbrev pub NothingDone : Wanted → World → World → Type 0
 NothingDone wanted old new = (IsUpdate wanted → ⊥) → new ≡ old
 
 -- what is counted as done is all that there was to do
 abbrev pub CountsAll : Next → List Rule → World → Status → Type 0
-CountsAll next rules old (Done read ran removed) = Done read ran removed ≡ status_of (whole_log next rules old) None
+CountsAll next rules old (Done read ran removed) = OfHeld old (λ held. Done read ran removed ≡ status_of (whole_log next rules held) None)
 CountsAll next rules old other = ⊤
 
 -- the failures that a site, the runners of a crew and a sink have counted
@@ -117,12 +131,12 @@ pub record NothingFailed (before now : Counts) : Type 0 where
   pub sink : now.sink ≡ before.sink
   pub sink_counts : now.sink < 2 ^ 64 - 1
 
--- nothing stands in the way of an update
+-- nothing stands in the way of an update: the store reads, the sources ask for rules, and their clean build succeeds
 pub record IsClear (next : Next) (old new : World) : Type 0 where
-  pub store : List Names
-  pub store_reads : owned_of old.store ≡ Ok store
-  pub sources_read : (fault : SourcesFault) → Refuses old fault → ⊥
-  pub clean : (rules : List Rule) → AsksFor old rules → IsTrue (succeeds (build next rules old))
+  pub held : Holding
+  pub store_reads : Shows old held
+  pub sources_read : (fault : SourcesFault) → IsRefused old fault → ⊥
+  pub clean : (rules : List Rule) → IsAsked old rules → IsTrue (succeeds (build next rules held))
   pub small : (path : Names) (content : Content) → finite.get new.tree path ≡ Some content → length content ≤ 16777216
 
 -- an answer that is free, or says that all was done
@@ -137,9 +151,9 @@ Succeeds wanted next old new before now status = IsUpdate wanted → IsClear nex
 
 -- nothing stands in the way of a comparison
 pub record CanBeCompared (w : World) : Type 0 where
-  pub store : List Names
-  pub store_reads : owned_of w.store ≡ Ok store
-  pub sources_read : (fault : SourcesFault) → Refuses w fault → ⊥
+  pub held : Holding
+  pub store_reads : Shows w held
+  pub sources_read : (fault : SourcesFault) → IsRefused w fault → ⊥
   pub small : (path : Names) (content : Content) → finite.get w.tree path ≡ Some content → length content ≤ 16777216
 
 -- an answer that is free, or says how the files compare with a clean build, or which rule of it isn't Good

@@ -10,7 +10,8 @@ ghost use Rattle.tup_top.specs.Order.{IsUpdate, order};
 ghost use Rattle.tup_top.specs.Crew.{IsCrew, CrewRuns, CrewCompares, RanFits, RanInTurn, NothingRun};
 ghost use Rattle.tup_top.specs.Lines.{last_line as line_of};
 ghost use Rattle.tup_top.specs.Printed.{Printed, PrintedAlone, Prints};
-ghost use Rattle.tup_top.specs.Promise.{ForUpdate, ForVerify, NothingDone, CountsAll, HasPlainCause, IsRefusal, Succeeds, Compares, counts};
+ghost use Rattle.tup_top.specs.Promise.{ForUpdate, ForVerify, ForDemo, StopsDemo, NothingDone, CountsAll};
+ghost use Rattle.tup_top.specs.Promise.{HasPlainCause, IsRefusal, Succeeds, Compares, counts};
 ghost use Rattle.tup_top.specs.declared.status.Status.TheVariants.{Usage};
 
 use crate::order::{Order, OrderFault, Word, order_of};
@@ -38,10 +39,10 @@ pub struct Ran<S, R> {
 
 /// Carries out what the words ask for, and prints its lines to `out` in one write.
 ///
-/// No words, or `upd`, update the files of the site; the first runner of the crew runs the commands. `verify` has it
-/// run those of a clean build beside them, and changes nothing. `demo` shows an update of a small project in
-/// memory, and leaves site and crew alone. Other words are refused by the place of
-/// the first that can't stand there. A crew has 1 to 16 runners.
+/// No words, or `upd`, update the files of the site; the first runner of the crew runs the
+/// commands. `verify` has it run those of a clean build beside them, and changes nothing. `demo`
+/// shows an update of a small project in memory, and leaves site and crew alone. Other words are
+/// refused by the place of the first that can't stand there. A crew has 1 to 16 runners.
 pub fn tup<S: Site, R: Runner, K: Sink>(
     alloc: Global,
     words: &[Word],
@@ -83,6 +84,8 @@ pub fn tup<S: Site, R: Runner, K: Sink>(
     ensures cause { IsTrue S.tells → IsTrue R.tells → let old = S.world site in
         let new = S.world result.site in ForUpdate (order words.now) result.status
         (OfRules old (λ rules. HasCause R.next rules old new)) }
+    // A demo stops for the same causes as an update, of the small project that it shows.
+    ensures demo_cause { ForDemo (order words.now) result.status StopsDemo }
     ensures plain_cause { let before = counts S.faults R.faults K.faults site crew.items out.old in
         let now = counts S.faults R.faults K.faults result.site result.crew.items out.new in
         HasPlainCause (order words.now) before now result.status }

@@ -14,7 +14,8 @@ pub struct Word(pub Text);
 /// What the words ask for.
 #[derive(Drop)]
 pub enum Order {
-    /// Update the files; commands are run by the runner that comes with the program, or through this program.
+    /// Update the files; commands are run by the runner that comes with the program, or through
+    /// this program.
     Upd { program: Option<Text> },
     /// Compare the files with a clean build of the sources, and change nothing.
     Verify,
@@ -25,8 +26,8 @@ pub enum Order {
 /// Why the words ask for nothing.
 #[derive(Clone, Copy, Debug, PartialEq, Eq, Error)]
 pub enum OrderFault {
-    /// The first word that can't stand where it stands, counted from 1; a word that is missing has the place behind the
-    /// last.
+    /// The first word that can't stand where it stands, counted from 1; a word that is missing has
+    /// the place behind the last.
     #[error("word {place} can't stand there")]
     Usage { place: u32 },
     /// There was no memory.

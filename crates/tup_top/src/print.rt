@@ -114,8 +114,8 @@ fn add_verdict(text: &mut String, rule: &Rule, verdict: &Verdict) -> Result<(), 
     writeln!(text, "{what} {}: {label}", rule.dir)
 }
 
-/// Writes the text of an order that ends with this status, all of it at once, and says how the order
-/// ends then.
+/// Writes the text of an order that ends with this status, all of it at once, and says how the
+/// order ends then.
 pub(crate) fn print<K: Sink>(alloc: Global, text: &Bytes, status: Status, out: &mut K) -> Status
     ensures ends { Ends (K.faults out.old) (K.faults out.new) status result }
     ensures counted { IsDone result → K.faults out.new ≡ K.faults out.old }

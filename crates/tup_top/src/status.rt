@@ -51,8 +51,8 @@ pub enum Status {
     /// These folders wait for each other: each for the next one, and the last one for the first.
     /// Nothing was done.
     CircularDirs { cycle: Paths },
-    /// These rules wait for each other: each for the next one, and the last one for the first. Nothing
-    /// was done.
+    /// These rules wait for each other: each for the next one, and the last one for the first.
+    /// Nothing was done.
     CircularCommands { cycle: RuleNames },
     /// A rule takes this group, and no rule gives to it. Nothing was done.
     NoSuchGroup { group: GroupRef },
@@ -187,7 +187,8 @@ fn status_of_outside(failed: SiteFailed) -> Status
     }
 }
 
-/// A count as it is told; one that is too large for a number of 32 bits is told as the last of these.
+/// A count as it is told; one that is too large for a number of 32 bits is told as the last of
+/// these.
 fn capped(count: usize) -> u32
     ensures { result ≡ specs.capped count }
 {

@@ -11,7 +11,7 @@ ghost use Rattle.tup_update.specs.Settled.{IsSettled};
 ghost use Rattle.tup_update.specs.Outcome.{ExactlyTheFiles, MadeBeforeBad, SourcesStay, NothingForgotten, HasCause};
 ghost use Rattle.tup_top.specs.Crew.{RanFits, RanInTurn};
 ghost use Rattle.tup_top.specs.Printed.{PrintsUpdate, demo_world};
-ghost use Rattle.tup_top.specs.Promise.{CountsAll, HasCountedCause, HasDemoCause, counts};
+ghost use Rattle.tup_top.specs.Promise.{CountsAll, HasCountedCause, HasDemoCause, StopsDemo, counts};
 ghost use Rattle.tup_top.specs.Status.{came_to};
 
 use crate::print::{lines, print};
@@ -57,11 +57,13 @@ pub(crate) fn update<S: Site, R: Runner, K: Sink>(
     ensures cause { IsTrue S.tells → IsTrue R.tells → let old = S.world site.old in
         IfSome (came_to result.status)
         (OfRules old (λ rules. HasCause R.next rules old (S.world site.new))) }
-    ensures counted_cause { let before = counts S.faults R.faults K.faults site.old (runner.old ∷ []) out.old in
-        let now = counts S.faults R.faults K.faults site.new (runner.new ∷ []) out.new in
+    ensures counted_cause { let counted = counts S.faults R.faults K.faults in
+        let before = counted site.old (runner.old ∷ []) out.old in
+        let now = counted site.new (runner.new ∷ []) out.new in
         HasCountedCause before now result.status }
     ensures begun { IsTrue S.tells → IsTrue R.tells → let old = S.world site.old in
-        IfSome (came_to result.status) (OfRules old (λ rules. RanFits R.next rules old result.ran)) }
+        IfSome (came_to result.status)
+        (OfRules old (λ rules. RanFits R.next rules old result.ran)) }
     ensures in_turn { IsTrue S.tells → let old = S.world site.old in
         IfSome (came_to result.status) (OfRules old (λ rules. RanInTurn rules result.ran)) }
     ensures ran { IsTrue R.tells_ran → IfSome (came_to result.status)
@@ -96,6 +98,7 @@ pub(crate) fn update<S: Site, R: Runner, K: Sink>(
 /// Updates a small project in memory and prints the lines of this update.
 pub(crate) fn demo<K: Sink>(alloc: Global, out: &mut K) -> Status
     ensures cause { HasDemoCause (K.faults out.old) (K.faults out.new) result }
+    ensures stops { IfSome (came_to result) StopsDemo }
     ensures printed { IsTrue K.tells
         → let before = K.faults out.old in let now = K.faults out.new in
         PrintsUpdate mini_next demo_world before now (K.held out.old) (K.held out.new) result }

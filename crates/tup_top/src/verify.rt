@@ -15,8 +15,8 @@ use tup_site::Site;
 use tup_tell::Sink;
 use tup_update::compare_site;
 
-/// Compares the files of a site with a clean build of its sources by a runner, and prints the line of
-/// this comparison.
+/// Compares the files of a site with a clean build of its sources by a runner, and prints the line
+/// of this comparison.
 pub(crate) fn verify<S: Site, R: Runner, K: Sink>(
     alloc: Global,
     site: &mut S,
@@ -30,8 +30,9 @@ pub(crate) fn verify<S: Site, R: Runner, K: Sink>(
     ensures ran { IsTrue S.tells → IsTrue R.tells → IsTrue R.tells_ran
         → let old = S.world site.old in IfSome (compared_to result) (λ compared.
         RunsToCompare R.next old (R.ran runner.old) (R.ran runner.new) (result_err compared)) }
-    ensures counted_cause { let before = counts S.faults R.faults K.faults site.old (runner.old ∷ []) out.old in
-        let now = counts S.faults R.faults K.faults site.new (runner.new ∷ []) out.new in
+    ensures counted_cause { let counted = counts S.faults R.faults K.faults in
+        let before = counted site.old (runner.old ∷ []) out.old in
+        let now = counted site.new (runner.new ∷ []) out.new in
         HasComparedCause before now result }
     ensures printed { IsTrue S.tells → IsTrue R.tells → IsTrue K.tells
         → let before = K.faults out.old in let now = K.faults out.new in

@@ -1,5 +1,5 @@
 -- Where two lists of files first differ, and what the clean build is beside which files are looked at.
-use Rattle.std.proofs.Common.{◌≡◌, ◌≢◌, ℕ, ◌<◌, Bool, true, false, cond, bytes_eq, if◌then◌else◌, List, [], ◌∷◌, length, Option, None, Some, Result, Ok, Err, IsTrue, inr, refl, sym, ◌∙◌, ap, subst}
+use Rattle.std.proofs.Common.{◌≡◌, ◌≢◌, ℕ, ◌<◌, Bool, true, false, cond, bytes_eq, if◌then◌else◌, List, [], ◌∷◌, ◌++◌, length, append-nil, Option, None, Some, Result, Ok, Err, IsTrue, inr, refl, sym, ◌∙◌, ap, subst}
 use Rattle.std.specs.Result.{result_err, IsErrAnd}
 use Rattle.std.specs.Ordering.{is_eq, is_lt, eq_by_cmp, match_ordering, ordering_reverse}
 use Rattle.std.specs.declared.cmp.Ordering.{Ordering}
@@ -13,6 +13,8 @@ use Rattle.tup_path.specs.Order.{by_names, same_path, by_names-total, by_names-a
 use Rattle.tup_path.specs.Tree.{Tree}
 use Rattle.tup_path.proofs.Same.{same_path-decides, same_bytes-decides, by_names-decides}
 use Rattle.tup_site.specs.World.{World}
+use Rattle.tup_update.specs.Holding.{Holding, Shows}
+use Rattle.tup_site.specs.declared.fault.SiteFailed.{SiteFailed}
 use Rattle.tup_site.specs.declared.fault.SiteFailed.TheVariants.{Fault, TooLarge, Memory}
 use Rattle.tup_rule.specs.declared.rule.Rule.{Rule}
 use Rattle.tup_runner.specs.Next.{Next}
@@ -20,7 +22,7 @@ use Rattle.tup_access.specs.declared.verdict.Verdict.TheVariants.{Good}
 use Rattle.tup_clean.specs.AnyOrder.{IsWhole}
 use Rattle.tup_clean.specs.Buildable.{IsBuildable}
 use Rattle.tup_clean.specs.Clean.{clean, first_ready, succeeds}
-use Rattle.tup_clean.specs.Ran.{commands}
+use Rattle.tup_clean.specs.Ran.{commands, RunsFront}
 use Rattle.tup_clean.proofs.Agreeing.{make_apart}
 use Rattle.tup_clean.proofs.MayTake.{first_may}
 use Rattle.tup_clean.proofs.OneBuild.{clean_taken, clean_whole}
@@ -30,8 +32,7 @@ use Rattle.tup_clean.proofs.Whole.{good_is}
 use Rattle.tup_clean.proofs.Turns.{all_are_good, is_the_good, succeeds_all}
 use Rattle.tup_update.proofs.Reading.{from_T}
 use Rattle.tup_update.specs.Compared.{AreCompared, HasCompared, HasBuilt, BuildsWell, BuildsAlike, IsGoodBuild, NoneIsBad, RunsBuildOf, RunsToCompare, compared_at, difference, first_of, same_file}
-use Rattle.tup_update.specs.Outcome.{HasCause}
-use Rattle.tup_update.specs.Parts.{HasFileOf}
+use Rattle.tup_update.specs.Parts.{IsUnread}
 use Rattle.tup_update.specs.Sources.{AsksFor, build, sources}
 use Rattle.tup_update.specs.Stopped.{stop_of}
 use Rattle.tup_update.specs.declared.compare.Compared.{Compared}
@@ -234,27 +235,36 @@ module _ (next : Next) (rules : List Rule) (sources : Tree) (buildable : IsBuild
 
 -- ---- what a comparison comes to
 
+-- all was run, so a front was
+pub all_is_front : (all old new : List (Names × List ℕ)) → new ≡ old ++ all → RunsFront all old new
+all_is_front all old new ran = (all, [], append-nil all, ran)
+
 module _ (next : Next) (w : World) where
   -- where the sources can't be read, or ask for no rules
-  pub unread_compared : (new : World) (unread : Unread) → HasCause next [] w new (Some (stop_of unread)) → new ≡ w → HasCompared next w (Err (stop_of unread))
-  unread_compared new (Store offset) why same = why
-  unread_compared new (NoRules fault) why same = why
-  unread_compared new (Unlucky Fault) why same = tt
-  unread_compared new (Unlucky (TooLarge n)) why same = subst (λ (world : World). HasFileOf n world.tree) same why
-  unread_compared new (Unlucky Memory) why same = tt
+  pub unread_compared : (unread : Unread) → IsUnread w unread → HasCompared next w (Err (stop_of unread))
+  unread_compared (Store offset) why = why
+  unread_compared (NoRules fault) why = why
+  unread_compared (Unlucky Fault) why = tt
+  unread_compared (Unlucky (TooLarge n)) why = why
+  unread_compared (Unlucky Memory) why = tt
+
+  -- where the outside stops it behind the build, all of it was run
+  pub runs_on : (old new : List (Names × List ℕ)) (failed : SiteFailed) → RunsToCompare next w old new None → RunsToCompare next w old new (Some (Outside failed))
+  runs_on old new failed runs = inr (record { held = runs.held; shows = runs.shows; rules = runs.rules; asked = runs.asked; ran = all_is_front (commands next runs.rules (sources runs.held)) old new runs.ran })
 
   pub built_err : (result : Result Entries Stop) (stop : Stop) → IsErrAnd result (λ e. e ≡ stop) → HasCompared next w (Err stop) → HasBuilt next w result
   built_err (Ok files) stop is has = absurd is
   built_err (Err given) stop is has = subst (λ (s : Stop). HasCompared next w (Err s)) (sym is) has
 
   -- the clean build of rules that the sources ask for
-  pub built_compared : (rules : List Rule) (sorted : Tree) (result : Result Entries Stop) → AsksFor w rules → IsBuildable (sources w) rules → sorted ≡ sources w → IsGoodBuild rules (clean next rules sorted) result → HasBuilt next w result
-  built_compared rules sorted result asked buildable same is =
+  pub built_compared : (held : Holding) (rules : List Rule) (sorted : Tree) (result : Result Entries Stop) → Shows w held → AsksFor held rules → IsBuildable (sources held) rules → sorted ≡ sources held →
+      IsGoodBuild rules (clean next rules sorted) result → HasBuilt next w result
+  built_compared held rules sorted result shows asked buildable same is =
       by result (subst (λ (t : Tree). IsGoodBuild rules (clean next rules t) result) same is)
     where
-      by : (r : Result Entries Stop) → IsGoodBuild rules (clean next rules (sources w)) r → HasBuilt next w r
-      by (Ok files) (good, are) = record { rules = rules; asked = asked; buildable = buildable; clean = good_succeeds next rules (sources w) buildable good; are = are }
-      by (Err (Bad name verdict)) first = record { rules = rules; asked = asked; first = first }
+      by : (r : Result Entries Stop) → IsGoodBuild rules (clean next rules (sources held)) r → HasBuilt next w r
+      by (Ok files) (good, are) = record { held = held; shows = shows; rules = rules; asked = asked; buildable = buildable; clean = good_succeeds next rules (sources held) buildable good; are = are }
+      by (Err (Bad name verdict)) first = record { held = held; shows = shows; rules = rules; asked = asked; first = first }
       by (Err (BadStore offset)) never = absurd never
       by (Err (Sources fault)) never = absurd never
       by (Err Run) is = tt
@@ -263,24 +273,28 @@ module _ (next : Next) (w : World) where
       by (Err (Outside Memory)) is = tt
 
   -- and what was run of it
-  pub built_runs : (rules : List Rule) (sorted : Tree) (old new : List (Names × List ℕ)) (result : Result Entries Stop) → AsksFor w rules → sorted ≡ sources w → IsGoodBuild rules (clean next rules sorted) result →
+  pub built_runs : (held : Holding) (rules : List Rule) (sorted : Tree) (old new : List (Names × List ℕ)) (result : Result Entries Stop) → Shows w held → AsksFor held rules → sorted ≡ sources held → IsGoodBuild rules (clean next rules sorted) result →
       RunsBuildOf (commands next rules sorted) old new (result_err result) → RunsToCompare next w old new (result_err result)
-  built_runs rules sorted old new result asked same is runs =
+  built_runs held rules sorted old new result shows asked same is runs =
       by result is (subst (λ (t : Tree). RunsBuildOf (commands next rules t) old new (result_err result)) same runs)
     where
-      by : (r : Result Entries Stop) → IsGoodBuild rules (clean next rules sorted) r → RunsBuildOf (commands next rules (sources w)) old new (result_err r) → RunsToCompare next w old new (result_err r)
-      by (Ok files) is ran = record { rules = rules; asked = asked; ran = ran }
-      by (Err (Bad name verdict)) is ran = record { rules = rules; asked = asked; ran = ran }
+      by : (r : Result Entries Stop) → IsGoodBuild rules (clean next rules sorted) r → RunsBuildOf (commands next rules (sources held)) old new (result_err r) → RunsToCompare next w old new (result_err r)
+      by (Ok files) is ran = record { held = held; shows = shows; rules = rules; asked = asked; ran = ran }
+      by (Err (Bad name verdict)) is ran = record { held = held; shows = shows; rules = rules; asked = asked; ran = ran }
       by (Err (BadStore offset)) never ran = absurd never
       by (Err (Sources fault)) never ran = absurd never
-      by (Err Run) is ran = record { rules = rules; asked = asked; ran = ran }
-      by (Err (Outside failed)) is ran = inr (record { rules = rules; asked = asked; ran = ran })
+      by (Err Run) is ran = record { held = held; shows = shows; rules = rules; asked = asked; ran = ran }
+      by (Err (Outside failed)) is ran = inr (record { held = held; shows = shows; rules = rules; asked = asked; ran = ran })
 
   -- the files beside those of a build that succeeds
   pub compared_alike : (files built : Entries) (compared : Compared) → BuildsWell next w built → files ≡ finite.entries w.tree → compared ≡ compared_at (difference files built) → BuildsAlike next w compared
-  compared_alike files built compared well are is = record {
+  compared_alike files built compared well are is = let of_held : files ≡ finite.entries well.held.tree = are ∙ ap (λ (t : Tree). finite.entries t) (sym well.shows.tree) in record {
+    held = well.held;
+    shows = well.shows;
     rules = well.rules;
     asked = well.asked;
     clean = well.clean;
-    alike = subst (AreCompared w.tree (build next well.rules w).tree) (sym (is ∙ (λ i. compared_at (difference (are i) (well.are i))))) (compared_are w.tree (build next well.rules w).tree);
+    alike =
+        subst (AreCompared well.held.tree (build next well.rules well.held).tree) (sym (is ∙ (λ i. compared_at (difference (of_held i) (well.are i)))))
+        (compared_are well.held.tree (build next well.rules well.held).tree);
   }

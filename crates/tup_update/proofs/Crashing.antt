@@ -19,13 +19,14 @@ use Rattle.tup_rule.proofs.Laws.{writes-at}
 use Rattle.tup_runner.specs.Next.{Next}
 use Rattle.tup_owned.specs.Ascending.{ascending}
 use Rattle.tup_owned.specs.Owned.{owned_of, spelling}
+use Rattle.tup_update.specs.Holding.{Holding, Lists, Shows, holding}
 use Rattle.tup_update.specs.Images.{FilesStep, ListedStep, SettledStep, MakesStep}
 use Rattle.tup_update.specs.Outcome.{claimed, AllIsMade}
-use Rattle.tup_update.specs.Parts.{IsBuilt, IsProject, SameBeside, SameBesideOutputs}
+use Rattle.tup_update.specs.Parts.{Changes, IsBuilt, IsProject, SameBeside, SameBesideOutputs}
 use Rattle.tup_update.specs.SeeingLaws.{rests}
-use Rattle.tup_update.specs.Sources.{owned, outputs, sources, vanished, files_beside, build, AsksFor}
+use Rattle.tup_update.specs.Sources.{outputs, sources, vanished, files_beside, build, AsksFor}
 use Rattle.tup_update.specs.declared.project.Project.{Project}
-use Rattle.tup_update.proofs.Ending.{project_owns, claimed_are}
+use Rattle.tup_update.proofs.Held.{shows_one}
 use Rattle.tup_update.proofs.Preparing.{kept_beside, claimed_reads}
 use Rattle.tup_update.proofs.Trees.{places}
 
@@ -49,14 +50,15 @@ place_here files i file within here =
 
 -- ---- what a project's store lists
 
-pub store_reads : (project : Project) (old : World) → IsProject project old → owned_of old.store ≡ Ok (owned old)
-store_reads project old is = is.owned ∙ ap (λ (paths : List Names). Ok paths) (sym (project_owns project old is))
+pub store_reads : (project : Project) (was : World) → IsProject project was → Shows was (holding was project.owned)
+store_reads project was is = record { lists = is.owned; tree = refl }
 
 -- what is claimed reads back
-pub claims_read : (project : Project) (old : World) (claiming : List Names) → IsProject project old → claiming ≡ ascending (project.owned ++ outputs project.rules) → owned_of (spelling claiming) ≡ Ok (claimed project.rules old)
-claims_read project old claiming is claims =
-    ap (λ (paths : List Names). owned_of (spelling paths)) (claims ∙ claimed_are project old is)
-    ∙ claimed_reads old.store (owned old) (sources old) project.rules (store_reads project old is) is.buildable
+pub claims_read : (project : Project) (was : World) (claiming : List Names) → IsProject project was → claiming ≡ ascending (project.owned ++ outputs project.rules)
+    → Lists (spelling claiming) (claimed project.rules (holding was project.owned))
+claims_read project was claiming is claims =
+    ap (λ (paths : List Names). owned_of (spelling paths)) claims
+    ∙ claimed_reads was.store project.owned (sources (holding was project.owned)) project.rules is.owned is.buildable
 
 module _ {S : Type 0} (moment : S → ℕ) (left_since : S → ℕ → World → Type 0) where
   -- nothing was done
@@ -178,31 +180,39 @@ module _ {S : Type 0} (moment : S → ℕ) (left_since : S → ℕ → World →
       last v w = SameBeside paths v.tree w.tree × (w.store ≡ bytes)
 
   -- ---- a whole update: the store is written and vanished files are removed, rules are run, and the store is written again
-  module _ (tells : Bool) (next : Next) (rules : List Rule) (start : World) (read : owned_of start.store ≡ Ok (owned start)) (asked : AsksFor start rules) where
+  module _ (tells : Bool) (next : Next) (rules : List Rule) (was : World) (start : Holding) (read : Shows was start) (asked : AsksFor start rules) where
     abbrev makes : World → World → Type 0
-    makes = MakesStep tells next rules start
+    makes = MakesStep tells next rules was
 
-    pub prepared_so : (old new : S) (vanishing : List Names) (bytes : List ℕ) → vanishing ≡ vanished rules start → owned_of bytes ≡ Ok (claimed rules start) →
+    abbrev left_by : World → World → Holding → Type 0
+    left_by v w held = Lists w.store (claimed rules held) ⊎ TreeStays v w ⊎ AllIsMade tells next rules held w
+
+    -- what is so of what was held then is so of all that the world held
+    made_step : (v w : World) → Changes start.owned rules v.tree w.tree → left_by v w start → makes v w
+    made_step v w changes left = record {
+      asked = (start, read, asked);
+      files = λ held shows. subst (λ (h : Holding). Changes h.owned rules v.tree w.tree) (shows_one was start held read shows) changes;
+      listed = λ held shows. subst (left_by v w) (shows_one was start held read shows) left;
+    }
+
+    pub prepared_so : (old new : S) (vanishing : List Names) (bytes : List ℕ) → vanishing ≡ vanished rules start → Lists bytes (claimed rules start) →
         GoesOn moment left_since old new (ListedStep (SameBeside vanishing) bytes) → GoesOn moment left_since old new makes
     prepared_so old new vanishing bytes is reads on =
         as_step moment left_since old new (ListedStep (SameBeside vanishing) bytes) makes
-        (λ v w left step. (let now : makes v w = record {
-          read = read;
-          asked = asked;
-          files = λ path unowned unmade. step.files path (ap (among path) is ∙ kept_beside (owned start) (finite.keys start.tree) rules path unowned);
-          listed = ⊎_elim (λ stored. inl (ap owned_of stored ∙ reads)) (λ same. inr (inl same)) step.listed;
-        } in now)) on
+        (λ v w left step.
+        made_step v w (λ path unowned unmade. step.files path (ap (among path) is ∙ kept_beside start.owned (finite.keys start.tree) rules path unowned))
+        (⊎_elim (λ stored. inl (ap owned_of stored ∙ reads)) (λ same. inr (inl same)) step.listed)) on
 
-    pub ran_so : (old mid new : S) (now : World) → IsEarlier moment left_since mid → PinsStore (left_since mid (moment mid)) now → owned_of now.store ≡ Ok (claimed rules start) → GoesOn moment left_since old mid makes →
+    pub ran_so : (old mid new : S) (now : World) → IsEarlier moment left_since mid → PinsStore (left_since mid (moment mid)) now → Lists now.store (claimed rules start) → GoesOn moment left_since old mid makes →
         GoesOn moment left_since mid new (FilesStep (SameBesideOutputs rules)) → GoesOn moment left_since old new makes
     ran_so old mid new now earlier pinned reads before ran =
         joined_on old mid new makes last makes earlier (λ v w step. step)
-        (λ v w step. (let on : makes v w = record { read = read; asked = asked; files = λ path unowned unmade. step.0 path unmade; listed = inl step.1 } in on))
-        (λ u v w one two. (let on : makes u w = record { read = read; asked = asked; files = λ path unowned unmade. two.0 path unmade ∙ one.files path unowned unmade; listed = inl two.1 } in on))
+        (λ v w step. made_step v w (λ path unowned unmade. step.0 path unmade) (inl step.1))
+        (λ u v w one two. made_step u w (λ path unowned unmade. two.0 path unmade ∙ one.files start read path unowned unmade) (inl two.1))
         before (as_step moment left_since mid new (FilesStep (SameBesideOutputs rules)) last (λ v w left step. (step.files, ap owned_of (step.store ∙ pinned v left) ∙ reads)) ran)
       where
         last : World → World → Type 0
-        last v w = SameBesideOutputs rules v.tree w.tree × (owned_of w.store ≡ Ok (claimed rules start))
+        last v w = SameBesideOutputs rules v.tree w.tree × Lists w.store (claimed rules start)
 
     -- all is made in every world with these files
     made_in : (now w : World) → AllIsMade tells next rules start now → TreeStays now w → AllIsMade tells next rules start w
@@ -215,10 +225,5 @@ module _ {S : Type 0} (moment : S → ℕ) (left_since : S → ℕ → World →
         GoesOn moment left_since old new makes
     finished_so old mid new now earlier made before on =
         joined_on old mid new makes (SettledStep now) makes earlier (λ v w step. step)
-        (λ v w step. (let last : makes v w = record { read = read; asked = asked; files = λ path unowned unmade. ap (λ (t : Tree). finite.get t path) step.0; listed = inr (inr (made_in now w made step.1)) } in last))
-        (λ u v w one step. (let last : makes u w = record {
-          read = read;
-          asked = asked;
-          files = λ path unowned unmade. ap (λ (t : Tree). finite.get t path) step.0 ∙ one.files path unowned unmade;
-          listed = inr (inr (made_in now w made step.1));
-        } in last)) before on
+        (λ v w step. made_step v w (λ path unowned unmade. ap (λ (t : Tree). finite.get t path) step.0) (inr (inr (made_in now w made step.1))))
+        (λ u v w one step. made_step u w (λ path unowned unmade. ap (λ (t : Tree). finite.get t path) step.0 ∙ one.files start read path unowned unmade) (inr (inr (made_in now w made step.1)))) before on

@@ -6,55 +6,39 @@ use Rattle.std.proofs.lemmas.Bool.{false≢true}
 use Rattle.tup_path.specs.Name.{Names, Content}
 use Rattle.tup_path.specs.Tree.{Tree}
 use Rattle.tup_site.specs.World.{World}
+use Rattle.tup_update.specs.Holding.{Holding, holding}
 use Rattle.tup_rule.specs.declared.rule.Rule.{Rule}
 use Rattle.tup_rule.specs.Rule.{among, is_generated}
 use Rattle.tup_clean.specs.Buildable.{IsBuildable}
 use Rattle.tup_owned.specs.Ascending.{ascending}
-use Rattle.tup_owned.specs.Owned.{owned_of}
 use Rattle.tup_update.specs.Log.{IsFront}
 use Rattle.tup_update.specs.Outcome.{claimed}
 use Rattle.tup_update.specs.Parts.{IsProject, Changes}
-use Rattle.tup_update.specs.Sources.{owned, sources, files_beside, outputs, vanished, gone, left_over}
+use Rattle.tup_update.specs.Sources.{sources, files_beside, outputs, vanished, gone, left_over}
 use Rattle.tup_update.specs.declared.project.Project.{Project}
 use Rattle.tup_update.proofs.Beside.{left_is}
 use Rattle.tup_update.proofs.Running.{made_at}
 
-pub owned_is : (w : World) (paths : List Names) → owned_of w.store ≡ Ok paths → owned w ≡ paths
-owned_is w paths e = ap (λ (found : Result (List Names) ℕ). elim found [ Ok p ↦ p | Err offset ↦ [] ]) e
-
 -- a source is no owned file and no output, so it stays
-pub sources_are_kept : (w : World) (found : List Rule) (new : Tree) → IsBuildable (sources w) found → Changes (owned w) found w.tree new →
+pub sources_are_kept : (w : Holding) (found : List Rule) (new : Tree) → IsBuildable (sources w) found → Changes w.owned found w.tree new →
     (path : Names) → IsSome (finite.get (sources w) path) → finite.get new path ≡ finite.get (sources w) path
 sources_are_kept w found new buildable changes path there =
     changes path left.0 (unmade (is_generated found path) refl) ∙ sym left.1
   where
-    left : (among path (owned w) ≡ false) × (finite.get (sources w) path ≡ finite.get w.tree path)
-    left = left_is (owned w) w.tree path there
+    left : (among path w.owned ≡ false) × (finite.get (sources w) path ≡ finite.get w.tree path)
+    left = left_is w.owned w.tree path there
 
     unmade : (b : Bool) → is_generated found path ≡ b → is_generated found path ≡ false
     unmade true made = let output = made_at found path made in
         absurd (false≢true (subst (λ (file : Option Content). IsSome file) (buildable.no_source output.0 path output.1) there))
     unmade false e = e
 
--- what a project lists is what its world owns
-pub project_owns : (project : Project) (w : World) → IsProject project w → owned w ≡ project.owned
-project_owns project w is = owned_is w project.owned is.owned
-
-pub project_sources : (project : Project) (w : World) → IsProject project w → sources w ≡ files_beside project.owned w.tree
-project_sources project w is = ap (λ (p : List Names). files_beside p w.tree) (project_owns project w is)
-
-pub project_builds : (project : Project) (w : World) → IsProject project w → IsBuildable (files_beside project.owned w.tree) project.rules
-project_builds project w is = subst (λ (t : Tree). IsBuildable t project.rules) (project_sources project w is) is.buildable
-
 -- the files that are removed are those of its vanished rules
 pub gone_are : (project : Project) (w : World) → IsProject project w → left_over project.owned_files project.rules ≡ gone project.owned (finite.keys w.tree) project.rules
 gone_are project w is = ap (λ (l : List Names). left_over l project.rules) is.files
 
-pub vanished_are : (project : Project) (w : World) → IsProject project w → left_over project.owned_files project.rules ≡ vanished project.rules w
-vanished_are project w is = gone_are project w is ∙ ap (λ (p : List Names). gone p (finite.keys w.tree) project.rules) (sym (project_owns project w is))
-
-pub claimed_are : (project : Project) (w : World) → IsProject project w → ascending (project.owned ++ outputs project.rules) ≡ claimed project.rules w
-claimed_are project w is = ap (λ (p : List Names). ascending (p ++ outputs project.rules)) (sym (project_owns project w is))
+pub vanished_are : (project : Project) (w : World) → IsProject project w → left_over project.owned_files project.rules ≡ vanished project.rules (holding w project.owned)
+vanished_are project w is = gone_are project w is
 
 -- nothing, and the whole, are fronts of the whole
 pub no_front : {A : Type 0} (log whole : List A) → log ≡ [] → IsFront log whole

@@ -1,5 +1,5 @@
 -- What an update promises, for each way in which it can come out.
-use Rattle.std.proofs.Common.{◌≡◌, ◌≢◌, ◌⊎◌, inl, inr, ℕ, Bool, IsTrue, if◌then◌else◌, ◌++◌, [], List, None, Some, Result, Ok, Err, refl, sym, ◌∙◌, ap, subst}
+use Rattle.std.proofs.Common.{◌≡◌, ◌≢◌, ◌⊎◌, inl, inr, ℕ, Bool, IsTrue, if◌then◌else◌, ◌++◌, [], List, None, Some, IsSome, Result, Ok, Err, refl, sym, ◌∙◌, ap, subst}
 use Rattle.std.specs.Result.{result_err, IsErrAnd}
 use Rattle.std.specs.FinMap as finite
 use Rattle.tup_path.specs.Name.{Names}
@@ -14,12 +14,13 @@ use Rattle.tup_runner.specs.Next.{Next}
 use Rattle.tup_clean.specs.Clean.{clean}
 use Rattle.tup_clean.specs.Taken.{Taken, takes, up_to_bad, verdicts_of}
 use Rattle.tup_owned.specs.Owned.{owned_of, spelling}
+use Rattle.tup_update.specs.Holding.{Holding, Lists, OfHeld, holding}
 use Rattle.tup_owned.specs.Ascending.{ascending}
 use Rattle.tup_update.specs.Log.{IsFront, IsGrownByFront, IsPartOf, IsEmptyLog, IsUnused, LogFits, RulesFit, whole_log, with_read}
-use Rattle.tup_update.specs.Outcome.{Stays, Keeps, MadeBeforeBad, IsBehindBad, HasCause, HasCountedCause, IsListed, AllIsMade, IsLeft, NothingForgotten, SourcesStay, claimed}
+use Rattle.tup_update.specs.Outcome.{Stays, Keeps, MadeBeforeBad, IsBehindBad, HasCause, HasCountedCause, IsBadRule, IsMade, IsListed, ClaimedListed, AllIsMade, IsLeft, NothingForgotten, SourcesStay, claimed}
 use Rattle.tup_update.specs.Outside.{HandsOn}
-use Rattle.tup_update.specs.Parts.{IsOfRules, IsRefusal, KnowsLimits, Changes, SameBeside, SameBesideOutputs, IsCleared, IsRunnable, HasFileOf, HasRun, AreNoted, ArePartNoted, IsBuilt, IsProject, HasMade, StopsAt}
-use Rattle.tup_update.specs.Sources.{owned, sources, files_beside, ends, outputs, vanished}
+use Rattle.tup_update.specs.Parts.{IsOfRules, IsRefusal, IsUnread, KnowsLimits, Changes, SameBeside, SameBesideOutputs, IsCleared, IsRunnable, HasFileOf, HasRun, AreNoted, ArePartNoted, IsBuilt, IsProject, HasMade, StopsAt}
+use Rattle.tup_update.specs.Sources.{IsAsked, sources, files_beside, ends, outputs, vanished}
 use Rattle.tup_update.specs.Stopped.{stop_of, stop_of_halt}
 use Rattle.tup_update.specs.Turns.{names_of, AreInTurn, AreBegun, TurnsFit}
 use Rattle.tup_update.specs.declared.project.Project.{Project}
@@ -31,9 +32,10 @@ use Rattle.tup_update.specs.declared.stop.Unread.{Unread}
 use Rattle.tup_update.specs.declared.stop.Unread.TheVariants.{Store, Sources, Outside as Unlucky}
 use Rattle.tup_update.specs.declared.update.Log.{Log}
 use Rattle.tup_update.proofs.Beside.{left_is}
+use Rattle.tup_update.proofs.Held.{of_held}
 use Rattle.tup_update.proofs.Behind.{none_made}
-use Rattle.tup_update.proofs.Ending.{sources_are_kept, project_owns, project_builds, gone_are, vanished_are, no_front, whole_front, grown_from_nothing}
-use Rattle.tup_update.proofs.Known.{sources_are, claimed_known, beside_outputs, beside_ascending}
+use Rattle.tup_update.proofs.Ending.{sources_are_kept, no_front, whole_front, grown_from_nothing}
+use Rattle.tup_update.proofs.Known.{claimed_known, beside_outputs, beside_ascending}
 use Rattle.tup_update.proofs.Preparing.{same_sources, changes, gone_unmade, listed_reads, runnable}
 use Rattle.tup_update.proofs.Turning.{noted_part}
 
@@ -42,13 +44,24 @@ pub err_is : {A E : Type 0} (result : Result A E) (stop : E) → IsErrAnd result
 err_is {A} {E} (Ok value) stop is = absurd is
 err_is {A} {E} (Err given) stop is = ap (λ (e : E). Some e) is
 
+pub err_back : {A E : Type 0} (result : Result A E) (stop : E) → result_err result ≡ Some stop → result ≡ Err stop
+err_back {A} {E} (Ok value) stop is = absurd (cc is)
+err_back {A} {E} (Err given) stop is = let same : given ≡ stop = cc is in ap (λ (e : E). Err e) same
+
 -- why a project has no rules
-pub refusal_cause : (next : Next) (rules : List Rule) (old new : World) (unread : Unread) → IsRefusal old unread → HasCause next rules old new (Some (stop_of unread))
-refusal_cause next rules old new (Store offset) refused = absurd refused
-refusal_cause next rules old new (Sources fault) refused = refused
-refusal_cause next rules old new (Unlucky Fault) refused = tt
-refusal_cause next rules old new (Unlucky (TooLarge n)) refused = absurd (cc refused)
-refusal_cause next rules old new (Unlucky Memory) refused = tt
+pub refusal_unread : (w : World) (paths : List Names) (unread : Unread) → Lists w.store paths → IsRefusal (holding w paths) unread → IsUnread w unread
+refusal_unread w paths (Store offset) lists refused = absurd refused
+refusal_unread w paths (Sources fault) lists refused = (holding w paths, record { lists = lists; tree = refl }, refused)
+refusal_unread w paths (Unlucky Fault) lists refused = tt
+refusal_unread w paths (Unlucky (TooLarge n)) lists refused = absurd (cc refused)
+refusal_unread w paths (Unlucky Memory) lists refused = tt
+
+pub unread_cause : (next : Next) (rules : List Rule) (old new : World) (unread : Unread) → new ≡ old → IsUnread old unread → HasCause next rules old new (Some (stop_of unread))
+unread_cause next rules old new (Store offset) same why = why
+unread_cause next rules old new (Sources fault) same why = why
+unread_cause next rules old new (Unlucky Fault) same why = tt
+unread_cause next rules old new (Unlucky (TooLarge n)) same why = subst (λ (w : World). HasFileOf n w.tree) (sym same) why
+unread_cause next rules old new (Unlucky Memory) same why = tt
 
 -- what is told of the rules tells of no failure of the site
 pub refusal_knows : (unread : Unread) → IsOfRules unread → KnowsLimits unread
@@ -83,7 +96,8 @@ unread_counts before now result (Unlucky Memory) is hands limits = hands.steady 
 -- ---- an update that changed nothing
 
 unchanged_sources : (old new : World) → new ≡ old → SourcesStay old new
-unchanged_sources old new same path there = ap (λ (w : World). finite.get w.tree path) same ∙ sym (left_is (owned old) old.tree path there).1
+unchanged_sources old new same held shows path there =
+    ap (λ (w : World). finite.get w.tree path) same ∙ ap (λ (t : Tree). finite.get t path) (sym shows.tree) ∙ sym (left_is held.owned held.tree path there).1
 
 -- where nothing was run nothing was run out of turn
 pub no_turns : (rules : List Rule) (ran : List RuleName) (ended : List Taken) → ran ≡ [] → ended ≡ [] → AreInTurn rules ended × AreBegun rules ran ended
@@ -166,19 +180,29 @@ large_cause next rules old new (Halted Memory) large = tt
 -- what was planned for a project of a world, and the world from which files of vanished rules are taken
 pub record IsUnderWay (project : Project) (old mid : World) (vanishing claiming : List Names) : Type 0 where
   pub is : IsProject project old
-  pub vanishes : vanishing ≡ vanished project.rules old
-  pub claims : claiming ≡ claimed project.rules old
+  pub vanishes : vanishing ≡ vanished project.rules (holding old project.owned)
+  pub claims : claiming ≡ claimed project.rules (holding old project.owned)
   pub beside : SameBeside vanishing old.tree mid.tree
 
 module _ (project : Project) (old : World) (is : IsProject project old) where
+  abbrev held : Holding
+  held = holding old project.owned
+
+  -- what is promised of it
+  promised : (promise : Holding → Type 0) → promise held → OfHeld old promise
+  promised promise kept = of_held old project.owned promise is.owned kept
+
   -- the rules of a project that was read are those that are told of
+  asks : IsAsked old project.rules
+  asks = (held, record { lists = is.owned; tree = refl }, is.asked)
+
   rules_fit : (halt : Halt) → RulesFit old project.rules (Some (stop_of_halt halt))
-  rules_fit RunHalted = is.asked
-  rules_fit (Halted failed) = inr is.asked
+  rules_fit RunHalted = asks
+  rules_fit (Halted failed) = inr asks
 
   -- the making was stopped under way
   halted_keeps : (next : Next) (new : World) (log : Log) (halt : Halt) → HasCause next project.rules old new (Some (stop_of_halt halt)) →
-      IsFront log.removed (vanished project.rules old) → ArePartNoted project.rules (ends next project.rules old) log.ran log.ended →
+      IsFront log.removed (vanished project.rules held) → ArePartNoted project.rules (ends next project.rules held) log.ran log.ended →
       Keeps next project.rules old new (with_read project.read log) (Some (stop_of_halt halt))
   halted_keeps next new log halt why removed noted = record { exactly_the_files = tt; made_before_bad = before halt; cause = why; log_fits = fits halt }
     where
@@ -186,67 +210,75 @@ module _ (project : Project) (old : World) (is : IsProject project old) where
       before RunHalted = tt
       before (Halted failed) = tt
 
-      part : IsPartOf (with_read project.read log) (whole_log next project.rules old)
-      part = record { read = whole_front project.read (whole_log next project.rules old).read is.read; removed = removed; ran = noted.0; ended = noted.1 }
+      part : IsPartOf (with_read project.read log) (whole_log next project.rules held)
+      part = record { read = whole_front project.read (whole_log next project.rules held).read is.read; removed = removed; ran = noted.0; ended = noted.1 }
+
+      told : OfHeld old (λ held. IsPartOf (with_read project.read log) (whole_log next project.rules held))
+      told = promised (λ held. IsPartOf (with_read project.read log) (whole_log next project.rules held)) part
 
       fits : (halt : Halt) → LogFits next project.rules old (with_read project.read log) (Some (stop_of_halt halt))
-      fits RunHalted = part
-      fits (Halted failed) = inr (is.asked, part)
+      fits RunHalted = told
+      fits (Halted failed) = inr (asks, told)
 
   -- nothing was noted
-  none_noted : (next : Next) (ran : List RuleName) (ended : List Taken) → ran ≡ [] → ended ≡ [] → ArePartNoted project.rules (ends next project.rules old) ran ended
-  none_noted next ran ended nothing none = (no_front ran (names_of project.rules (ends next project.rules old)) nothing, no_front ended (ends next project.rules old) none)
+  none_noted : (next : Next) (ran : List RuleName) (ended : List Taken) → ran ≡ [] → ended ≡ [] → ArePartNoted project.rules (ends next project.rules held) ran ended
+  none_noted next ran ended nothing none = (no_front ran (names_of project.rules (ends next project.rules held)) nothing, no_front ended (ends next project.rules held) none)
 
   -- before it began
   pub unplanned_stays : (tells : Bool) (next : Next) (log : Log) → IsUnused log → Stays tells next project.rules old old (with_read project.read log) (Some (Outside Memory))
   unplanned_stays tells next log unused = record {
     sources_stay = unchanged_sources old old refl;
-    rules_fit = inr is.asked;
+    rules_fit = inr asks;
     nothing_forgotten = inl refl;
     turns_fit = no_turns project.rules log.ran log.ended unused.1 unused.2;
   }
 
   pub unplanned_keeps : (next : Next) (log : Log) → IsUnused log → Keeps next project.rules old old (with_read project.read log) (Some (Outside Memory))
   unplanned_keeps next log unused =
-      halted_keeps next old log (Halted Memory) tt (no_front log.removed (vanished project.rules old) unused.0) (none_noted next log.ran log.ended unused.1 unused.2)
+      halted_keeps next old log (Halted Memory) tt (no_front log.removed (vanished project.rules held) unused.0) (none_noted next log.ran log.ended unused.1 unused.2)
 
 -- ---- the making, from the first writing of the store on
 
 module _ (project : Project) (old mid : World) (vanishing claiming : List Names) (way : IsUnderWay project old mid vanishing claiming) where
+  abbrev held_then : Holding
+  held_then = holding old project.owned
+
+  kept_then : (promise : Holding → Type 0) → promise held_then → OfHeld old promise
+  kept_then = promised project old way.is
+
+  asks_then : IsAsked old project.rules
+  asks_then = asks project old way.is
+
   -- only files of vanished rules were touched, so the sources are the same
-  beside_gone : SameBeside (vanished project.rules old) old.tree mid.tree
+  beside_gone : SameBeside (vanished project.rules held_then) old.tree mid.tree
   beside_gone = subst (λ (l : List Names). SameBeside l old.tree mid.tree) way.vanishes way.beside
 
-  same_left : files_beside (owned old) mid.tree ≡ sources old
-  same_left = same_sources (owned old) (finite.keys old.tree) project.rules old.tree mid.tree beside_gone
+  same_run : files_beside project.owned mid.tree ≡ sources held_then
+  same_run = same_sources project.owned (finite.keys old.tree) project.rules old.tree mid.tree beside_gone
 
-  same_run : files_beside project.owned mid.tree ≡ sources old
-  same_run = ap (λ (p : List Names). files_beside p mid.tree) (sym (project_owns project old way.is)) ∙ same_left
-
-  same_ends : (next : Next) → up_to_bad (takes next project.rules (files_beside project.owned mid.tree)) ≡ ends next project.rules old
+  same_ends : (next : Next) → up_to_bad (takes next project.rules (files_beside project.owned mid.tree)) ≡ ends next project.rules held_then
   same_ends next = ap (λ (t : Tree). up_to_bad (takes next project.rules t)) same_run
 
   -- what is left of the owned files the rules make
   pub way_runnable : IsCleared vanishing old.tree mid.tree → IsRunnable project.owned project.rules mid.tree
   way_runnable cleared =
-      let is_gone = way.vanishes ∙ sym (vanished_are project old way.is) ∙ gone_are project old way.is in
-      runnable project.owned (finite.keys old.tree) project.rules old.tree mid.tree refl (project_builds project old way.is)
-      (subst (λ (l : List Names). IsCleared l old.tree mid.tree) is_gone cleared) (subst (λ (l : List Names). SameBeside l old.tree mid.tree) is_gone way.beside)
-
-  owned_runnable : IsCleared vanishing old.tree mid.tree → IsRunnable (owned old) project.rules mid.tree
-  owned_runnable cleared = subst (λ (p : List Names). IsRunnable p project.rules mid.tree) (sym (project_owns project old way.is)) (way_runnable cleared)
+      runnable project.owned (finite.keys old.tree) project.rules old.tree mid.tree refl way.is.buildable
+      (subst (λ (l : List Names). IsCleared l old.tree mid.tree) way.vanishes cleared) beside_gone
 
   -- where only outputs are touched behind it, nothing but owned files and outputs changes
-  changed : (now : World) → SameBesideOutputs project.rules mid.tree now.tree → Changes (owned old) project.rules old.tree now.tree
-  changed now behind = changes (owned old) (finite.keys old.tree) project.rules old.tree mid.tree now.tree beside_gone behind
+  changed : (now : World) → SameBesideOutputs project.rules mid.tree now.tree → Changes project.owned project.rules old.tree now.tree
+  changed now behind = changes project.owned (finite.keys old.tree) project.rules old.tree mid.tree now.tree beside_gone behind
 
   stay : (ran now : World) → SameBesideOutputs project.rules mid.tree ran.tree → TreeStays ran now → SourcesStay old now
   stay ran now behind same =
-      sources_are_kept old project.rules now.tree way.is.buildable (subst (λ (t : Tree). Changes (owned old) project.rules old.tree t) (sym same) (changed ran behind))
+      kept_then (λ held. (path : Names) → IsSome (finite.get (sources held) path) → finite.get now.tree path ≡ finite.get (sources held) path)
+      (sources_are_kept held_then project.rules now.tree way.is.buildable (subst (λ (t : Tree). Changes project.owned project.rules old.tree t) (sym same) (changed ran behind)))
 
   -- all that was claimed is listed
-  listed : (now : World) → SameBesideOutputs project.rules mid.tree now.tree → now.store ≡ spelling claiming → IsListed (claimed project.rules old) old now
-  listed now behind stored = claimed_known old now project.owned project.rules way.is.owned way.is.buildable (changed now behind) (stored ∙ ap spelling way.claims)
+  listed : (now : World) → SameBesideOutputs project.rules mid.tree now.tree → now.store ≡ spelling claiming → ClaimedListed project.rules old now
+  listed now behind stored =
+      kept_then (λ held. IsListed (claimed project.rules held) held now)
+      (claimed_known old.store held_then now project.rules way.is.owned way.is.buildable (changed now behind) (stored ∙ ap spelling way.claims))
 
   -- ---- the outside stopped what comes before the rules
 
@@ -254,16 +286,16 @@ module _ (project : Project) (old mid : World) (vanishing claiming : List Names)
       log.ran ≡ [] → log.ended ≡ [] → Stays tells next project.rules old mid (with_read project.read log) (Some (Outside failed))
   unprepared_stays tells next log failed left small nothing none = record {
     sources_stay = stay mid mid (λ path unmade. refl) refl;
-    rules_fit = inr way.is.asked;
-    nothing_forgotten = left_forgets_nothing tells next project.rules old mid failed small (way.is.asked, by left);
+    rules_fit = inr asks_then;
+    nothing_forgotten = left_forgets_nothing tells next project.rules old mid failed small (asks_then, by left);
     turns_fit = no_turns project.rules log.ran log.ended nothing none;
   }
     where
-      by : (mid.store ≡ spelling claiming) ⊎ TreeStays old mid → IsListed (claimed project.rules old) old mid ⊎ (mid.tree ≡ old.tree) ⊎ AllIsMade tells next project.rules old mid
+      by : (mid.store ≡ spelling claiming) ⊎ TreeStays old mid → ClaimedListed project.rules old mid ⊎ (mid.tree ≡ old.tree) ⊎ OfHeld old (λ held. AllIsMade tells next project.rules held mid)
       by (inl stored) = inl (listed mid (λ path unmade. refl) stored)
       by (inr same) = inr (inl same)
 
-  removed_whole : (before removed : List Names) → before ≡ [] → removed ≡ before ++ vanishing → removed ≡ vanished project.rules old
+  removed_whole : (before removed : List Names) → before ≡ [] → removed ≡ before ++ vanishing → removed ≡ vanished project.rules held_then
   removed_whole before removed none grown = grown ∙ ap (λ (l : List Names). l ++ vanishing) none ∙ way.vanishes
 
   pub unprepared_keeps : (next : Next) (before : List Names) (log : Log) (failed : SiteFailed) → IsSmallFailure failed → before ≡ [] → IsGrownByFront before log.removed vanishing →
@@ -285,48 +317,48 @@ module _ (project : Project) (old mid : World) (vanishing claiming : List Names)
     where
       by : (halt : Halt) → NothingForgotten tells next project.rules old now (Some (stop_of_halt halt))
       by RunHalted = listed now behind stored
-      by (Halted Fault) = inr (way.is.asked, inl (listed now behind stored))
-      by (Halted (TooLarge n)) = inr (way.is.asked, listed now behind stored)
-      by (Halted Memory) = inr (way.is.asked, inl (listed now behind stored))
+      by (Halted Fault) = inr (asks_then, inl (listed now behind stored))
+      by (Halted (TooLarge n)) = inr (asks_then, listed now behind stored)
+      by (Halted Memory) = inr (asks_then, inl (listed now behind stored))
 
   pub unrun_keeps : (next : Next) (now : World) (before : List Names) (log : Log) (halt : Halt) → ((n : ℕ) → halt ≡ Halted (TooLarge n) → HasFileOf n now.tree) → before ≡ [] →
       log.removed ≡ before ++ vanishing → ArePartNoted project.rules (up_to_bad (takes next project.rules (files_beside project.owned mid.tree))) log.ran log.ended →
       Keeps next project.rules old now (with_read project.read log) (Some (stop_of_halt halt))
   unrun_keeps next now before log halt large none removed noted =
       halted_keeps project old way.is next now log halt (large_cause next project.rules old now halt large)
-      (whole_front log.removed (vanished project.rules old) (removed_whole before log.removed none removed))
+      (whole_front log.removed (vanished project.rules held_then) (removed_whole before log.removed none removed))
       (subst (λ (l : List Taken). ArePartNoted project.rules l log.ran log.ended) (same_ends next) noted)
 
   -- ---- the rules were run to their end
 
   -- the log tells of all of them
   told_whole : (next : Next) (before : List Names) (log : Log) → before ≡ [] → log.removed ≡ before ++ vanishing →
-      AreNoted project.rules (up_to_bad (takes next project.rules (files_beside project.owned mid.tree))) log.ran log.ended → with_read project.read log ≡ whole_log next project.rules old
+      AreNoted project.rules (up_to_bad (takes next project.rules (files_beside project.owned mid.tree))) log.ran log.ended → OfHeld old (λ held. with_read project.read log ≡ whole_log next project.rules held)
   told_whole next before log none removed noted =
       let names = noted.0 ∙ ap (names_of project.rules) (same_ends next) in
       let all = noted.1 ∙ same_ends next in
       let gone = removed_whole before log.removed none removed in
-      λ i. record { read = way.is.read i; removed = gone i; ran = names i; ended = all i }
+      kept_then (λ held. with_read project.read log ≡ whole_log next project.rules held) (λ i. record { read = way.is.read i; removed = gone i; ran = names i; ended = all i })
 
   -- a rule was bad
   pub bad_stays : (tells : Bool) (next : Next) (now : World) (log : Log) (name : RuleName) (verdict : Verdict) → SameBesideOutputs project.rules mid.tree now.tree → now.store ≡ spelling claiming →
       TurnsFit project.rules log.ran log.ended (Some (Bad name verdict)) → Stays tells next project.rules old now (with_read project.read log) (Some (Bad name verdict))
   bad_stays tells next now log name verdict behind stored turns = record {
     sources_stay = stay now now behind refl;
-    rules_fit = way.is.asked;
+    rules_fit = asks_then;
     nothing_forgotten = listed now behind stored;
     turns_fit = turns;
   }
 
   -- what was made before it
-  behind_bad : (next : Next) (now : World) → IsCleared vanishing old.tree mid.tree → HasMade next project.rules (files_beside project.owned mid.tree) mid.tree now.tree → IsBehindBad next project.rules old now
+  behind_bad : (next : Next) (now : World) → IsCleared vanishing old.tree mid.tree → HasMade next project.rules (files_beside project.owned mid.tree) mid.tree now.tree → IsBehindBad next project.rules held_then now
   behind_bad next now cleared made =
       let has = subst (λ (t : Tree). HasMade next project.rules t mid.tree now.tree) same_run made in
       let without = subst (λ (l : List Names). IsCleared l old.tree mid.tree) way.vanishes cleared in
       record {
         made = has.made;
         gone = λ path is.
-            has.others path (none_made project.rules (verdicts_of project.rules (ends next project.rules old)) path (gone_unmade (owned old) (finite.keys old.tree) project.rules path is))
+            has.others path (none_made project.rules (verdicts_of project.rules (ends next project.rules held_then)) path (gone_unmade project.owned (finite.keys old.tree) project.rules path is))
             ∙ without path ∙ ap (λ (b : Bool). if b then None else finite.get old.tree path) is;
         others = λ path unmade kept. has.others path unmade ∙ beside_gone path kept;
       }
@@ -337,8 +369,8 @@ module _ (project : Project) (old mid : World) (vanishing claiming : List Names)
       Keeps next project.rules old now (with_read project.read log) (Some (Bad name verdict))
   bad_keeps next now before log name verdict cleared made first none removed noted = record {
     exactly_the_files = tt;
-    made_before_bad = behind_bad next now cleared made;
-    cause = subst (λ (t : Tree). HasRun next project.rules t now.tree (Some (name, verdict))) same_run first;
+    made_before_bad = kept_then (λ held. IsBehindBad next project.rules held now) (behind_bad next now cleared made);
+    cause = kept_then (λ held. IsBadRule next project.rules held name verdict) (subst (λ (t : Tree). HasRun next project.rules t now.tree (Some (name, verdict))) same_run first);
     log_fits = told_whole next before log none removed noted;
   }
 
@@ -361,15 +393,15 @@ module _ (project : Project) (old mid : World) (vanishing claiming : List Names)
       (unrun_keeps next now before log (Halted failed) (λ n e. absurd (small n (cc e))) none removed
       (noted_part project.rules (up_to_bad (takes next project.rules (files_beside project.owned mid.tree))) log.ran log.ended noted))
 
-  is_built : (next : Next) (ran new : World) → HasRun next project.rules (files_beside project.owned mid.tree) ran.tree None → TreeStays ran new → IsBuilt (clean next project.rules (sources old)) new.tree
+  is_built : (next : Next) (ran new : World) → HasRun next project.rules (files_beside project.owned mid.tree) ran.tree None → TreeStays ran new → IsBuilt (clean next project.rules (sources held_then)) new.tree
   is_built next ran new built same =
-      subst (λ (t : Tree). IsBuilt (clean next project.rules (sources old)) t) (sym same) (subst (λ (t : Tree). HasRun next project.rules t ran.tree None) same_run built)
+      subst (λ (t : Tree). IsBuilt (clean next project.rules (sources held_then)) t) (sym same) (subst (λ (t : Tree). HasRun next project.rules t ran.tree None) same_run built)
 
   -- all was made
   pub all_made : (tells : Bool) (next : Next) (ran new : World) → IsCleared vanishing old.tree mid.tree → SameBesideOutputs project.rules mid.tree ran.tree → TreeStays ran new →
-      (IsTrue tells → HasRun next project.rules (files_beside project.owned mid.tree) ran.tree None) → AllIsMade tells next project.rules old new
+      (IsTrue tells → HasRun next project.rules (files_beside project.owned mid.tree) ran.tree None) → AllIsMade tells next project.rules held_then new
   all_made tells next ran new cleared behind same built = record {
-    beside = ap (files_beside (outputs project.rules)) same ∙ beside_outputs (owned old) project.rules old.tree mid.tree ran.tree way.is.buildable same_left (owned_runnable cleared) behind;
+    beside = ap (files_beside (outputs project.rules)) same ∙ beside_outputs project.owned project.rules old.tree mid.tree ran.tree way.is.buildable same_run (way_runnable cleared) behind;
     built = λ means. is_built next ran new (built means) same;
   }
 
@@ -379,10 +411,10 @@ module _ (project : Project) (old mid : World) (vanishing claiming : List Names)
       Stays tells next project.rules old new (with_read project.read log) (Some (Outside failed))
   unfinished_stays tells next ran new log failed cleared behind same small built turns = record {
     sources_stay = stay ran new behind same;
-    rules_fit = inr way.is.asked;
+    rules_fit = inr asks_then;
     nothing_forgotten = left_forgets_nothing tells next project.rules old new failed small (
-      way.is.asked,
-      inr (inr (all_made tells next ran new cleared behind same built)),
+      asks_then,
+      inr (inr (kept_then (λ held. AllIsMade tells next project.rules held new) (all_made tells next ran new cleared behind same built))),
     );
     turns_fit = (turns.0, inl turns.1);
   }
@@ -392,14 +424,14 @@ module _ (project : Project) (old mid : World) (vanishing claiming : List Names)
       Keeps next project.rules old new (with_read project.read log) (Some (Outside failed))
   unfinished_keeps next new before log failed small none removed noted =
       halted_keeps project old way.is next new log (Halted failed) (small_cause next project.rules old new failed small)
-      (whole_front log.removed (vanished project.rules old) (removed_whole before log.removed none removed)) (
-        whole_front log.ran (names_of project.rules (ends next project.rules old)) (noted.0 ∙ ap (names_of project.rules) (same_ends next)),
-        whole_front log.ended (ends next project.rules old) (noted.1 ∙ same_ends next),
+      (whole_front log.removed (vanished project.rules held_then) (removed_whole before log.removed none removed)) (
+        whole_front log.ran (names_of project.rules (ends next project.rules held_then)) (noted.0 ∙ ap (names_of project.rules) (same_ends next)),
+        whole_front log.ended (ends next project.rules held_then) (noted.1 ∙ same_ends next),
       )
 
   -- all was made and the outputs are owned
-  made_reads : (new : World) (listing : List Names) → new.store ≡ spelling listing → listing ≡ ascending (outputs project.rules) → owned_of new.store ≡ Ok (ascending (outputs project.rules))
-  made_reads new listing stored lists = ap owned_of (stored ∙ ap spelling lists) ∙ listed_reads (sources old) project.rules way.is.buildable
+  made_reads : (new : World) (listing : List Names) → new.store ≡ spelling listing → listing ≡ ascending (outputs project.rules) → Lists new.store (ascending (outputs project.rules))
+  made_reads new listing stored lists = ap owned_of (stored ∙ ap spelling lists) ∙ listed_reads (sources held_then) project.rules way.is.buildable
 
   pub finished_stays : (tells : Bool) (next : Next) (ran new : World) (listing : List Names) (log : Log) → IsCleared vanishing old.tree mid.tree → SameBesideOutputs project.rules mid.tree ran.tree → TreeStays ran new →
       new.store ≡ spelling listing → listing ≡ ascending (outputs project.rules) → TurnsFit project.rules log.ran log.ended None →
@@ -408,13 +440,13 @@ module _ (project : Project) (old mid : World) (vanishing claiming : List Names)
       let reads = made_reads new listing stored lists in
       record {
         sources_stay = stay ran new behind same;
-        rules_fit = way.is.asked;
-        nothing_forgotten = record {
+        rules_fit = asks_then;
+        nothing_forgotten = kept_then (λ held. IsListed (ascending (outputs project.rules)) held new) (record {
           listed = reads;
           same =
-              sources_are new (ascending (outputs project.rules)) reads ∙ ap (files_beside (ascending (outputs project.rules))) same
-              ∙ beside_ascending (owned old) project.rules old.tree mid.tree ran.tree way.is.buildable same_left (owned_runnable cleared) behind;
-        };
+              ap (files_beside (ascending (outputs project.rules))) same
+              ∙ beside_ascending project.owned project.rules old.tree mid.tree ran.tree way.is.buildable same_run (way_runnable cleared) behind;
+        });
         turns_fit = turns;
       }
 
@@ -424,7 +456,7 @@ module _ (project : Project) (old mid : World) (vanishing claiming : List Names)
   finished_keeps next ran new before listing log built same stored lists none removed noted =
       let made = is_built next ran new built same in
       record {
-        exactly_the_files = record { clean = made.clean; files = made.files; listed = made_reads new listing stored lists };
+        exactly_the_files = kept_then (λ held. IsMade next project.rules held new) (record { clean = made.clean; files = made.files; listed = made_reads new listing stored lists });
         made_before_bad = tt;
         cause = tt;
         log_fits = told_whole next before log none removed noted;

@@ -1,5 +1,5 @@
 -- After an update the sources are what they were: what the store lists then, and what stands beside it.
-use Rattle.std.proofs.Common.{◌≡◌, ◌++◌, ◌||◌, Bool, true, false, cond, not, List, None, Ok, refl, sym, ◌∙◌, ap}
+use Rattle.std.proofs.Common.{◌≡◌, ℕ, ◌++◌, ◌||◌, Bool, true, false, cond, not, List, None, Ok, refl, sym, ◌∙◌, ap}
 use Rattle.std.specs.FinMap as finite
 use Rattle.std.proofs.lemmas.Bool.{or_right}
 use Rattle.std.proofs.lemmas.List.Folds.{list_any-append}
@@ -15,14 +15,14 @@ use Rattle.tup_owned.specs.Owned.{owned_of, spelling}
 use Rattle.tup_owned.specs.Ascending.{ascending}
 use Rattle.tup_owned.specs.Members.{ascending_has, ascending_has_only}
 use Rattle.tup_site.specs.World.{World}
-use Rattle.tup_update.specs.Sources.{owned, sources, files_beside, outputs}
+use Rattle.tup_update.specs.Holding.{Holding, Lists}
+use Rattle.tup_update.specs.Sources.{sources, files_beside, outputs}
 use Rattle.tup_update.specs.Parts.{Changes, SameBesideOutputs, IsRunnable}
 use Rattle.tup_update.specs.Outcome.{IsListed, claimed}
 use Rattle.tup_update.proofs.Beside.{get_beside}
 use Rattle.tup_update.proofs.Fronts.{among_outputs}
 use Rattle.tup_update.proofs.Running.{made_at, beside_made}
 use Rattle.tup_update.proofs.Preparing.{claimed_reads}
-use Rattle.tup_update.proofs.Ending.{owned_is}
 
 same_tests : (a b : Bool) → (a ≡ true → b ≡ true) → (b ≡ true → a ≡ true) → a ≡ b
 same_tests true b there back = sym (there refl)
@@ -97,16 +97,9 @@ module _ (owned : List Names) (rules : List Rule) (old between new : Tree) (buil
 
 -- ---- of worlds
 
--- the sources of a world, by what its store lists
-pub sources_are : (w : World) (paths : List Names) → owned_of w.store ≡ Ok paths → sources w ≡ files_beside paths w.tree
-sources_are w paths owns = ap (λ (p : List Names). files_beside p w.tree) (owned_is w paths owns)
-
-pub claimed_known : (old new : World) (paths : List Names) (found : List Rule) → owned_of old.store ≡ Ok paths →
-    IsBuildable (sources old) found → Changes (owned old) found old.tree new.tree → new.store ≡ spelling (claimed found old) → IsListed (claimed found old) old new
-claimed_known old new paths found owns buildable changes stored =
-    let owns_it : owned_of old.store ≡ Ok (owned old) = owns ∙ ap (λ (p : List Names). Ok p) (sym (owned_is old paths owns)) in
-    let reads : owned_of new.store ≡ Ok (claimed found old) = ap owned_of stored ∙ claimed_reads old.store (owned old) (sources old) found owns_it buildable in
-    record {
-      listed = reads;
-      same = sources_are new (claimed found old) reads ∙ same_beside_claimed (owned old) found old.tree new.tree buildable changes;
-    }
+pub claimed_known : (store : List ℕ) (old : Holding) (new : World) (found : List Rule) → Lists store old.owned →
+    IsBuildable (sources old) found → Changes old.owned found old.tree new.tree → new.store ≡ spelling (claimed found old) → IsListed (claimed found old) old new
+claimed_known store old new found owns buildable changes stored = record {
+  listed = ap owned_of stored ∙ claimed_reads store old.owned (sources old) found owns buildable;
+  same = same_beside_claimed old.owned found old.tree new.tree buildable changes;
+}

@@ -11,6 +11,7 @@ pub mod Preparing
 pub mod Trees
 pub mod Known
 pub mod Settling
+pub mod Held
 pub mod Crashing
 pub mod Behind
 pub mod Ending

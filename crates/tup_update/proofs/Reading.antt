@@ -24,10 +24,12 @@ use Rattle.tup_link.specs.declared.fault.What.TheVariants.{Commands, Links}
 use Rattle.tup_whole.specs.Project.{ComeTo}
 use Rattle.tup_whole.specs.declared.fault.ProjectFault.{ProjectFault}
 use Rattle.tup_whole.specs.declared.fault.ProjectFault.TheVariants as project
-use Rattle.tup_update.specs.Parts.{AddsFile, AgreesOnItsFiles, IsFolderOf, IsFound, IsRefusal}
-use Rattle.tup_update.specs.Sources.{files_beside, folder_of_tupfile, owned, sources, ReadAs}
+use Rattle.tup_update.specs.Holding.{Lists, holding}
+use Rattle.tup_update.specs.Parts.{AddsFile, AgreesOnItsFiles, IsFolderOf, IsFound, IsRefusal, IsTooMany, IsUnread}
+use Rattle.tup_update.specs.Sources.{files_beside, folder_of_tupfile, sources, ReadAs}
 use Rattle.tup_update.specs.Stopped.{unread_of_project}
 use Rattle.tup_update.specs.declared.found.Found.{Found}
+use Rattle.tup_update.specs.declared.stop.Unread.{Unread}
 use Rattle.tup_update.proofs.Beside.{get_beside, left_is}
 
 keys-where_key : (p : Names → Bool) (entries : List (Names × Content)) →
@@ -160,23 +162,23 @@ all_found tree part files paths keys agrees has = same_tree files part (λ path.
 -- ---- what is read of them
 
 -- the sources are a tree of files
-pub is_tree_of_sources : (w : World) (found : Found) → IsTree w.tree → IsFound w found → IsTree (sources w)
-is_tree_of_sources w found tree is = is_tree_beside (owned w) w.tree tree
+pub is_tree_of_sources : (w : World) (found : Found) → IsTree w.tree → IsFound w found → IsTree (sources (holding w found.owned))
+is_tree_of_sources w found tree is = is_tree_beside found.owned w.tree tree
 
 -- the files that were found are the sources
-pub sources_read : (w : World) (found : Found) → IsFound w found → finite.from_sorted {R = by_names} found.sources ≡ sources w
+pub sources_read : (w : World) (found : Found) → IsFound w found → finite.from_sorted {R = by_names} found.sources ≡ sources (holding w found.owned)
 sources_read w found is =
     ap (λ (l : List (Names × Content)). finite.from_sorted {R = by_names} l) is.sources
-    ∙ finite.same_entries_map _ _ (finite.entries-from_sorted by_names (finite.entries (sources w)) (finite.entries_sorted (sources w)))
+    ∙ finite.same_entries_map _ _ (finite.entries-from_sorted by_names (finite.entries (sources (holding w found.owned))) (finite.entries_sorted (sources (holding w found.owned))))
 
-pub read_as : (w : World) (found : Found) (result : Result (List Rule) ProjectFault) → IsFound w found → ComeTo (finite.from_sorted {R = by_names} found.sources) result → ReadAs w result
+pub read_as : (w : World) (found : Found) (result : Result (List Rule) ProjectFault) → IsFound w found → ComeTo (finite.from_sorted {R = by_names} found.sources) result → ReadAs (holding w found.owned) result
 read_as w found result is come = record {
   few = is.few;
   come_to = subst (λ (t : Tree). ComeTo t result) (sources_read w found is) come;
 }
 
 -- a fault of the project is one of the sources, or there was no memory
-pub refused_as : (w : World) (found : Found) (fault : ProjectFault) → IsFound w found → ComeTo (finite.from_sorted {R = by_names} found.sources) (Err fault) → IsRefusal w (unread_of_project fault)
+pub refused_as : (w : World) (found : Found) (fault : ProjectFault) → IsFound w found → ComeTo (finite.from_sorted {R = by_names} found.sources) (Err fault) → IsRefusal (holding w found.owned) (unread_of_project fault)
 refused_as w found (project.Parse fault) is come = read_as w found _ is come
 refused_as w found (project.CircularDirs dirs) is come = read_as w found _ is come
 refused_as w found (project.NoSuchGroup group) is come = read_as w found _ is come
@@ -184,6 +186,11 @@ refused_as w found (project.CircularCommands names) is come = read_as w found _ 
 refused_as w found (project.TooMany Commands number) is come = read_as w found _ is come
 refused_as w found (project.TooMany Links number) is come = read_as w found _ is come
 refused_as w found project.Memory is come = refl
+
+-- there are more files than may be read
+pub too_many_unread : (w : World) (owned files : List Names) (unread : Unread) → Lists w.store owned → files ≡ finite.keys w.tree → IsTooMany (length files) unread → IsUnread w unread
+too_many_unread w owned files unread lists keys is =
+    subst (IsUnread w) (sym is.0) (holding w owned, record { lists = lists; tree = refl }, record { files = ap (λ (l : List Names). length l) keys; many = is.1 })
 
 -- ---- the folders of Tupfiles
 

@@ -17,12 +17,13 @@ use Rattle.tup_clean.specs.Buildable.{IsBuildable}
 use Rattle.tup_clean.specs.Clean.{Build, is_good, succeeds}
 use Rattle.tup_clean.specs.Ran.{commands, RunsFront}
 use Rattle.tup_owned.specs.Owned.{owned_of}
+use Rattle.tup_update.specs.Holding.{Holding, Shows}
 use Rattle.tup_update.specs.declared.compare.Compared.{Compared}
 use Rattle.tup_update.specs.declared.compare.Compared.TheVariants.{Same, Differs}
 use Rattle.tup_update.specs.declared.stop.Stop.{Stop}
 use Rattle.tup_update.specs.declared.stop.Stop.TheVariants.{BadStore, Sources, Bad, Run, Outside}
 use Rattle.tup_update.specs.Parts.{HasFileOf}
-use Rattle.tup_update.specs.Sources.{AsksFor, Refuses, build, sources}
+use Rattle.tup_update.specs.Sources.{AsksFor, IsRefused, build, sources}
 
 -- two trees differ at a path, and at none before it
 pub record DifferFirstAt (one other : Tree) (path : Names) : Type 0 where
@@ -46,23 +47,27 @@ pub record IsFirstNotGood (rules : List Rule) (verdicts : List (Option Verdict))
 
 -- the clean build of rules that succeeds compares so with the files of a world
 pub record BuildsAlike (next : Next) (w : World) (compared : Compared) : Type 0 where
+  pub held : Holding
+  pub shows : Shows w held
   pub rules : List Rule
-  pub asked : AsksFor w rules
-  pub clean : IsTrue (succeeds (build next rules w))
-  pub alike : AreCompared w.tree (build next rules w).tree compared
+  pub asked : AsksFor held rules
+  pub clean : IsTrue (succeeds (build next rules held))
+  pub alike : AreCompared held.tree (build next rules held).tree compared
 
 -- this is the first rule that isn't Good in the clean build
 pub record BuildsBadly (next : Next) (w : World) (name : RuleName) (verdict : Verdict) : Type 0 where
+  pub held : Holding
+  pub shows : Shows w held
   pub rules : List Rule
-  pub asked : AsksFor w rules
-  pub first : IsFirstNotGood rules (build next rules w).verdicts name verdict
+  pub asked : AsksFor held rules
+  pub first : IsFirstNotGood rules (build next rules held).verdicts name verdict
 
 -- how the files of a world compare with a clean build, or why they can't be compared
 abbrev pub HasCompared : Next → World → Result Compared Stop → Type 0
 HasCompared next w (Ok compared) = BuildsAlike next w compared
 HasCompared next w (Err (Bad name verdict)) = BuildsBadly next w name verdict
 HasCompared next w (Err (BadStore offset)) = owned_of w.store ≡ Err offset
-HasCompared next w (Err (Sources fault)) = Refuses w fault
+HasCompared next w (Err (Sources fault)) = IsRefused w fault
 HasCompared next w (Err Run) = ⊤
 HasCompared next w (Err (Outside (TooLarge n))) = HasFileOf n w.tree
 HasCompared next w (Err (Outside Fault)) = ⊤
@@ -70,11 +75,13 @@ HasCompared next w (Err (Outside Memory)) = ⊤
 
 -- a clean build that succeeds, with its files, or why there is none
 pub record BuildsWell (next : Next) (w : World) (files : List (Names × Content)) : Type 0 where
+  pub held : Holding
+  pub shows : Shows w held
   pub rules : List Rule
-  pub asked : AsksFor w rules
-  pub buildable : IsBuildable (sources w) rules
-  pub clean : IsTrue (succeeds (build next rules w))
-  pub are : files ≡ finite.entries (build next rules w).tree
+  pub asked : AsksFor held rules
+  pub buildable : IsBuildable (sources held) rules
+  pub clean : IsTrue (succeeds (build next rules held))
+  pub are : files ≡ finite.entries (build next rules held).tree
 
 abbrev pub HasBuilt : Next → World → Result (List (Names × Content)) Stop → Type 0
 HasBuilt next w (Ok files) = BuildsWell next w files
@@ -90,9 +97,11 @@ RunsBuildOf commands old new (Some stop) = RunsFront commands old new
 
 -- the commands of the clean build of the sources were run so
 pub record RunsIt (next : Next) (w : World) (old new : List (Names × List ℕ)) (stopped : Option Stop) : Type 0 where
+  pub held : Holding
+  pub shows : Shows w held
   pub rules : List Rule
-  pub asked : AsksFor w rules
-  pub ran : RunsBuildOf (commands next rules (sources w)) old new stopped
+  pub asked : AsksFor held rules
+  pub ran : RunsBuildOf (commands next rules (sources held)) old new stopped
 
 -- what was run for a comparison: nothing where there are no rules
 abbrev pub RunsToCompare : Next → World → List (Names × List ℕ) → List (Names × List ℕ) → Option Stop → Type 0

@@ -1,13 +1,13 @@
 -- What a crash may leave while the files of a project are made.
-use Rattle.std.specs.Prelude.{◌≡◌, ◌⊎◌, ℕ, Bool, List, Ok}
+use Rattle.std.specs.Prelude.{◌≡◌, ◌⊎◌, ℕ, Bool, List}
 use Rattle.tup_path.specs.Tree.{Tree}
 use Rattle.tup_site.specs.World.{World, TreeStays, StoreStays}
 use Rattle.tup_rule.specs.declared.rule.Rule.{Rule}
 use Rattle.tup_runner.specs.Next.{Next}
-use Rattle.tup_owned.specs.Owned.{owned_of}
+use Rattle.tup_update.specs.Holding.{Lists, OfHeld}
 use Rattle.tup_update.specs.Outcome.{claimed, AllIsMade}
 use Rattle.tup_update.specs.Parts.{Changes}
-use Rattle.tup_update.specs.Sources.{owned, AsksFor}
+use Rattle.tup_update.specs.Sources.{IsAsked}
 
 -- what a change of files adds to what a crash may leave: worlds with the same store, whose trees agree so
 pub record FilesStep (agree : Tree → Tree → Type 0) (v w : World) : Type 0 where
@@ -27,8 +27,7 @@ SettledStep now v w = TreeStays v w × TreeStays now w
 -- What an update adds to what a crash may leave, and only one that read the store and the sources adds anything: each file
 -- that is neither owned nor an output of its rules is what it was. The store lists all that was claimed; a store that may list
 -- anything is left only where no file was touched yet, or all were made.
-pub record MakesStep (tells : Bool) (next : Next) (rules : List Rule) (old v w : World) : Type 0 where
-  pub read : owned_of old.store ≡ Ok (owned old)
-  pub asked : AsksFor old rules
-  pub files : Changes (owned old) rules v.tree w.tree
-  pub listed : (owned_of w.store ≡ Ok (claimed rules old)) ⊎ TreeStays v w ⊎ AllIsMade tells next rules old w
+pub record MakesStep (tells : Bool) (next : Next) (rules : List Rule) (was v w : World) : Type 0 where
+  pub asked : IsAsked was rules
+  pub files : OfHeld was (λ old. Changes old.owned rules v.tree w.tree)
+  pub listed : OfHeld was (λ old. Lists w.store (claimed rules old) ⊎ TreeStays v w ⊎ AllIsMade tells next rules old w)

@@ -2,9 +2,10 @@
 use Rattle.std.specs.Prelude.{◌≡◌, ◌⊎◌, List, [], ◌++◌, Option, None, Some}
 use Rattle.tup_path.specs.Name.{Names}
 use Rattle.tup_site.specs.World.{World}
+use Rattle.tup_update.specs.Holding.{Holding, OfHeld}
 use Rattle.tup_rule.specs.declared.rule.Rule.{Rule}
 use Rattle.tup_runner.specs.Next.{Next}
-use Rattle.tup_update.specs.Sources.{AsksFor, ends, folders_read, vanished}
+use Rattle.tup_update.specs.Sources.{IsAsked, ends, folders_read, vanished}
 use Rattle.tup_update.specs.Turns.{names_of}
 use Rattle.tup_update.specs.declared.update.Log.{Log}
 use Rattle.tup_update.specs.declared.stop.Stop.{Stop}
@@ -34,12 +35,12 @@ with_read folders log = record { read = folders; removed = log.removed; ran = lo
 
 -- the rules are those of the sources wherever they are used; where reading stops there may be none
 abbrev pub RulesFit : World → List Rule → Option Stop → Type 0
-RulesFit old rules None = AsksFor old rules
-RulesFit old rules (Some (Bad name verdict)) = AsksFor old rules
+RulesFit old rules None = IsAsked old rules
+RulesFit old rules (Some (Bad name verdict)) = IsAsked old rules
 RulesFit old rules (Some (BadStore offset)) = rules ≡ []
 RulesFit old rules (Some (Sources fault)) = rules ≡ []
-RulesFit old rules (Some Run) = AsksFor old rules
-RulesFit old rules (Some (Outside failed)) = (rules ≡ []) ⊎ AsksFor old rules
+RulesFit old rules (Some Run) = IsAsked old rules
+RulesFit old rules (Some (Outside failed)) = (rules ≡ []) ⊎ IsAsked old rules
 
 -- a promise of an update and of the rules that it found
 abbrev pub OfRules : World → (List Rule → Option Stop → Type 0) → Option Stop → Type 0
@@ -48,12 +49,12 @@ OfRules old promise stopped = (rules : List Rule) × RulesFit old rules stopped 
 -- ---- what the log tells
 
 -- the log of an update that goes as far as its rules let it
-abbrev pub whole_log : Next → List Rule → World → Log
-whole_log next rules w = record {
-  read = folders_read w;
-  removed = vanished rules w;
-  ran = names_of rules (ends next rules w);
-  ended = ends next rules w;
+abbrev pub whole_log : Next → List Rule → Holding → Log
+whole_log next rules held = record {
+  read = folders_read held;
+  removed = vanished rules held;
+  ran = names_of rules (ends next rules held);
+  ended = ends next rules held;
 }
 
 -- the log of an update that was stopped under way: it goes as far as it goes
@@ -65,9 +66,9 @@ pub record IsPartOf (log whole : Log) : Type 0 where
 
 -- the log says what was done: all of it after an end or a bad rule, nothing where the sources couldn't be read
 abbrev pub LogFits : Next → List Rule → World → Log → Option Stop → Type 0
-LogFits next rules old log None = log ≡ whole_log next rules old
-LogFits next rules old log (Some (Bad name verdict)) = log ≡ whole_log next rules old
+LogFits next rules old log None = OfHeld old (λ held. log ≡ whole_log next rules held)
+LogFits next rules old log (Some (Bad name verdict)) = OfHeld old (λ held. log ≡ whole_log next rules held)
 LogFits next rules old log (Some (BadStore offset)) = IsEmptyLog log
 LogFits next rules old log (Some (Sources fault)) = IsEmptyLog log
-LogFits next rules old log (Some Run) = IsPartOf log (whole_log next rules old)
-LogFits next rules old log (Some (Outside failed)) = IsEmptyLog log ⊎ (AsksFor old rules × IsPartOf log (whole_log next rules old))
+LogFits next rules old log (Some Run) = OfHeld old (λ held. IsPartOf log (whole_log next rules held))
+LogFits next rules old log (Some (Outside failed)) = IsEmptyLog log ⊎ (IsAsked old rules × OfHeld old (λ held. IsPartOf log (whole_log next rules held)))

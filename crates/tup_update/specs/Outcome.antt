@@ -14,28 +14,29 @@ use Rattle.tup_access.specs.declared.verdict.Verdict.{Verdict}
 use Rattle.tup_clean.specs.Clean.{succeeds, is_good}
 use Rattle.tup_owned.specs.Ascending.{ascending}
 use Rattle.tup_owned.specs.Owned.{owned_of}
+use Rattle.tup_update.specs.Holding.{Holding, Lists, OfHeld, holding}
 use Rattle.tup_update.specs.declared.update.Log.{Log}
 use Rattle.tup_update.specs.declared.stop.Stop.{Stop}
 use Rattle.tup_update.specs.declared.stop.Stop.TheVariants.{BadStore, Sources, Bad, Run, Outside}
 use Rattle.tup_update.specs.Log.{LogFits, RulesFit}
 use Rattle.tup_update.specs.Parts.{HasFileOf, IsBuilt, IsFirstBad}
-use Rattle.tup_update.specs.Sources.{owned, sources, files_beside, AsksFor, Refuses, PassesLimit, build, ends, outputs, vanished, is_made_in_turn}
+use Rattle.tup_update.specs.Sources.{sources, files_beside, IsAsked, IsRefused, PassesLimit, build, ends, outputs, vanished, is_made_in_turn}
 use Rattle.tup_update.specs.Turns.{TurnsFit}
 
 -- the files are those of the clean build, which succeeds, and the store lists just the outputs
-pub record IsMade (next : Next) (rules : List Rule) (old new : World) : Type 0 where
+pub record IsMade (next : Next) (rules : List Rule) (old : Holding) (new : World) : Type 0 where
   pub clean : IsTrue (succeeds (build next rules old))
   pub files : new.tree ≡ (build next rules old).tree
-  pub listed : owned_of new.store ≡ Ok (ascending (outputs rules))
+  pub listed : Lists new.store (ascending (outputs rules))
 
 -- an update that came to its end has made exactly the files
 abbrev pub ExactlyTheFiles : Next → List Rule → World → World → Option Stop → Type 0
-ExactlyTheFiles next rules old new None = IsMade next rules old new
+ExactlyTheFiles next rules old new None = OfHeld old (λ held. IsMade next rules held new)
 ExactlyTheFiles next rules old new (Some stop) = ⊤
 
 -- Behind a bad rule the rules that ran before it have their files as the clean build gives them, the files of vanished rules
 -- are gone, and every other path, each output of the bad rule too, holds what it held.
-pub record IsBehindBad (next : Next) (rules : List Rule) (old new : World) : Type 0 where
+pub record IsBehindBad (next : Next) (rules : List Rule) (old : Holding) (new : World) : Type 0 where
   pub made : (path : Names) → is_made_in_turn next rules (sources old) path ≡ true → finite.get new.tree path ≡ finite.get (build next rules old).tree path
   pub gone : (path : Names) → among path (vanished rules old) ≡ true → finite.get new.tree path ≡ None
   pub others : (path : Names) → is_made_in_turn next rules (sources old) path ≡ false → among path (vanished rules old) ≡ false → finite.get new.tree path ≡ finite.get old.tree path
@@ -43,22 +44,23 @@ pub record IsBehindBad (next : Next) (rules : List Rule) (old new : World) : Typ
 -- an update that a bad rule stopped has made what ran before it, and nothing else
 abbrev pub MadeBeforeBad : Next → List Rule → World → World → Option Stop → Type 0
 MadeBeforeBad next rules old new None = ⊤
-MadeBeforeBad next rules old new (Some (Bad name verdict)) = IsBehindBad next rules old new
+MadeBeforeBad next rules old new (Some (Bad name verdict)) = OfHeld old (λ held. IsBehindBad next rules held new)
 MadeBeforeBad next rules old new (Some stop) = ⊤
 
 -- every file that was a source is what it was
 abbrev pub SourcesStay : World → World → Type 0
-SourcesStay old new = (path : Names) → IsSome (finite.get (sources old) path) → finite.get new.tree path ≡ finite.get (sources old) path
+SourcesStay old new =
+    OfHeld old (λ held. (path : Names) → IsSome (finite.get (sources held) path) → finite.get new.tree path ≡ finite.get (sources held) path)
 
 -- a rule that isn't Good, the first that is run and isn't, and its verdict in the clean build
-abbrev pub IsBadRule : Next → List Rule → World → RuleName → Verdict → Type 0
+abbrev pub IsBadRule : Next → List Rule → Holding → RuleName → Verdict → Type 0
 IsBadRule next rules old name verdict = IsFirstBad rules (ends next rules old) (build next rules old) name verdict
 
 -- why an update stops, where the site tells
 abbrev pub HasCause : Next → List Rule → World → World → Option Stop → Type 0
 HasCause next rules old new (Some (BadStore offset)) = owned_of old.store ≡ Err offset
-HasCause next rules old new (Some (Sources fault)) = Refuses old fault
-HasCause next rules old new (Some (Bad name verdict)) = IsBadRule next rules old name verdict
+HasCause next rules old new (Some (Sources fault)) = IsRefused old fault
+HasCause next rules old new (Some (Bad name verdict)) = OfHeld old (λ held. IsBadRule next rules held name verdict)
 HasCause next rules old new (Some Run) = ⊤
 HasCause next rules old new (Some (Outside (TooLarge n))) = HasFileOf n new.tree
 HasCause next rules old new (Some (Outside SiteFault)) = ⊤
@@ -82,18 +84,25 @@ HasRunCause before now (Some Run) = Rose before now
 HasRunCause before now stopped = now ≡ before
 
 -- what the store lists while files are made: what it listed before, and what the rules make
-abbrev pub claimed : List Rule → World → List Names
-claimed rules w = ascending (owned w ++ outputs rules)
+abbrev pub claimed : List Rule → Holding → List Names
+claimed rules held = ascending (held.owned ++ outputs rules)
 
 -- the store lists these paths, and beside them the tree has the sources of before: every other file is listed, no source
 -- is, and the next update asks for the same rules
-pub record IsListed (paths : List Names) (old new : World) : Type 0 where
-  pub listed : owned_of new.store ≡ Ok paths
-  pub same : sources new ≡ sources old
+pub record IsListed (paths : List Names) (old : Holding) (new : World) : Type 0 where
+  pub listed : Lists new.store paths
+  pub same : sources (holding new paths) ≡ sources old
+
+-- the same of all that was claimed, and of the outputs alone
+abbrev pub ClaimedListed : List Rule → World → World → Type 0
+ClaimedListed rules old new = OfHeld old (λ held. IsListed (claimed rules held) held new)
+
+abbrev pub OutputsListed : List Rule → World → World → Type 0
+OutputsListed rules old new = OfHeld old (λ held. IsListed (ascending (outputs rules)) held new)
 
 -- all was made, whatever the store lists: beside the outputs the tree has the sources of before, and the outputs are those
 -- of the clean build, where the runner tells
-pub record AllIsMade (tells : Bool) (next : Next) (rules : List Rule) (old new : World) : Type 0 where
+pub record AllIsMade (tells : Bool) (next : Next) (rules : List Rule) (old : Holding) (new : World) : Type 0 where
   pub beside : files_beside (outputs rules) new.tree ≡ sources old
   pub built : IsTrue tells → IsBuilt (build next rules old) new.tree
 
@@ -101,17 +110,17 @@ pub record AllIsMade (tells : Bool) (next : Next) (rules : List Rule) (old new :
 -- the store that failed half way may leave a store that lists anything; then no file was touched yet, or all were made.
 abbrev pub IsLeft : Bool → Next → List Rule → World → World → Type 0
 IsLeft tells next rules old new =
-    AsksFor old rules × (IsListed (claimed rules old) old new ⊎ (new.tree ≡ old.tree) ⊎ AllIsMade tells next rules old new)
+    IsAsked old rules × (ClaimedListed rules old new ⊎ (new.tree ≡ old.tree) ⊎ OfHeld old (λ held. AllIsMade tells next rules held new))
 
 -- nothing is forgotten, wherever an update stops: what wasn't a source before is owned by the next update too. Where the
 -- store or the sources couldn't be read, nothing was changed.
 abbrev pub NothingForgotten : Bool → Next → List Rule → World → World → Option Stop → Type 0
-NothingForgotten tells next rules old new None = IsListed (ascending (outputs rules)) old new
+NothingForgotten tells next rules old new None = OutputsListed rules old new
 NothingForgotten tells next rules old new (Some (BadStore offset)) = new ≡ old
 NothingForgotten tells next rules old new (Some (Sources fault)) = new ≡ old
-NothingForgotten tells next rules old new (Some (Bad name verdict)) = IsListed (claimed rules old) old new
-NothingForgotten tells next rules old new (Some Run) = IsListed (claimed rules old) old new
-NothingForgotten tells next rules old new (Some (Outside (TooLarge n))) = (new ≡ old) ⊎ (AsksFor old rules × IsListed (claimed rules old) old new)
+NothingForgotten tells next rules old new (Some (Bad name verdict)) = ClaimedListed rules old new
+NothingForgotten tells next rules old new (Some Run) = ClaimedListed rules old new
+NothingForgotten tells next rules old new (Some (Outside (TooLarge n))) = (new ≡ old) ⊎ (IsAsked old rules × ClaimedListed rules old new)
 NothingForgotten tells next rules old new (Some (Outside SiteFault)) = (new ≡ old) ⊎ IsLeft tells next rules old new
 NothingForgotten tells next rules old new (Some (Outside Memory)) = (new ≡ old) ⊎ IsLeft tells next rules old new
 

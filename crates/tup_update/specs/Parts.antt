@@ -8,7 +8,7 @@ use Rattle.tup_path.specs.Tree.{Tree}
 use Rattle.tup_site.specs.World.{World}
 use Rattle.tup_site.specs.Cause.{IsTooLarge}
 use Rattle.tup_site.specs.declared.fault.SiteFailed.{SiteFailed}
-use Rattle.tup_site.specs.declared.fault.SiteFailed.TheVariants.{TooLarge, Memory}
+use Rattle.tup_site.specs.declared.fault.SiteFailed.TheVariants.{Fault, TooLarge, Memory}
 use Rattle.tup_rule.specs.declared.rule.Rule.{Rule}
 use Rattle.tup_rule.specs.declared.rule.RuleName.{RuleName}
 use Rattle.tup_rule.specs.Rule.{among, is_generated, name_of}
@@ -19,8 +19,9 @@ use Rattle.tup_clean.specs.Buildable.{IsBuildable}
 use Rattle.tup_clean.specs.Clean.{Build, clean, is_good, succeeds, with_files}
 use Rattle.tup_clean.specs.Taken.{Taken, takes, up_to_bad, verdicts_of}
 use Rattle.tup_owned.specs.Owned.{owned_of}
+use Rattle.tup_update.specs.Holding.{Holding, Lists, holding}
 use Rattle.tup_update.specs.Log.{IsFront}
-use Rattle.tup_update.specs.Sources.{AsksFor, Refuses, PassesLimit, sources, files_beside, folder_of_tupfile, folders_read, is_made, is_made_in_turn}
+use Rattle.tup_update.specs.Sources.{AsksFor, IsRefused, Refuses, PassesLimit, sources, files_beside, folder_of_tupfile, folders_read, is_made, is_made_in_turn}
 use Rattle.tup_update.specs.Turns.{names_of, EndsBadly}
 use Rattle.tup_update.specs.declared.fault.SourcesFault.TheVariants.{TooManyFiles}
 use Rattle.tup_update.specs.declared.found.Found.{Found}
@@ -32,20 +33,32 @@ use Rattle.tup_update.specs.declared.stop.Unread.TheVariants.{Store, Sources as 
 
 -- what is found in a world: what the store lists, the files among that, and the sources, which are no more files than may be
 pub record IsFound (w : World) (found : Found) : Type 0 where
-  pub owned : owned_of w.store ≡ Ok found.owned
+  pub owned : Lists w.store found.owned
   pub files : found.owned_files ≡ filter (λ path. among path found.owned) (finite.keys w.tree)
   pub few : length (finite.keys w.tree) ≤ 65536
-  pub sources : found.sources ≡ finite.entries (sources w)
+  pub sources : found.sources ≡ finite.entries (sources (holding w found.owned))
 
 -- there are so many files, too many
 abbrev pub IsTooMany : ℕ → Unread → Type 0
 IsTooMany count unread = (unread ≡ NoRules (TooManyFiles count)) × (65536 < count)
 
 -- the sources ask for no rules, or there was no memory
-abbrev pub IsRefusal : World → Unread → Type 0
-IsRefusal w (Store offset) = ⊥
-IsRefusal w (NoRules fault) = Refuses w fault
-IsRefusal w (Outside failed) = failed ≡ Memory
+abbrev pub IsRefusal : Holding → Unread → Type 0
+IsRefusal held (Store offset) = ⊥
+IsRefusal held (NoRules fault) = Refuses held fault
+IsRefusal held (Outside failed) = failed ≡ Memory
+
+-- some file of the tree has so many bytes
+abbrev pub HasFileOf : ℕ → Tree → Type 0
+HasFileOf n tree = (path : Names) × IsTooLarge tree path n
+
+-- why a project couldn't be read: the store is damaged just there, or the sources ask for no rules, or a file is too large
+abbrev pub IsUnread : World → Unread → Type 0
+IsUnread w (Store offset) = owned_of w.store ≡ Err offset
+IsUnread w (NoRules fault) = IsRefused w fault
+IsUnread w (Outside (TooLarge n)) = HasFileOf n w.tree
+IsUnread w (Outside Fault) = ⊤
+IsUnread w (Outside Memory) = ⊤
 
 -- a limit is told only where it is passed
 abbrev pub KnowsLimits : Unread → Type 0
@@ -69,11 +82,11 @@ AddsFolder path old new = new ≡ old ++ filter_map folder_of_tupfile (path ∷ 
 
 -- a project is what a world asks for, and its rules can be built
 pub record IsProject (project : Project) (w : World) : Type 0 where
-  pub owned : owned_of w.store ≡ Ok project.owned
+  pub owned : Lists w.store project.owned
   pub files : project.owned_files ≡ filter (λ path. among path project.owned) (finite.keys w.tree)
-  pub read : project.read ≡ folders_read w
-  pub asked : AsksFor w project.rules
-  pub buildable : IsBuildable (sources w) project.rules
+  pub read : project.read ≡ folders_read (holding w project.owned)
+  pub asked : AsksFor (holding w project.owned) project.rules
+  pub buildable : IsBuildable (sources (holding w project.owned)) project.rules
 
 -- files with the one more that was found at a path, if there is one
 abbrev pub AddsFile : Names → Option Content → Tree → Tree → Type 0
@@ -103,10 +116,6 @@ SameUnmade rules verdicts old new = (path : Names) → is_made rules verdicts pa
 -- nothing changes but owned files and outputs
 abbrev pub Changes : List Names → List Rule → Tree → Tree → Type 0
 Changes owned rules old new = (path : Names) → among path owned ≡ false → is_generated rules path ≡ false → finite.get new path ≡ finite.get old path
-
--- some file of the tree has so many bytes
-abbrev pub HasFileOf : ℕ → Tree → Type 0
-HasFileOf n tree = (path : Names) × IsTooLarge tree path n
 
 -- what is too large is a file of this tree, of the length that the answer names
 abbrev pub NamesALargeFile : {T : Type 0} → Tree → Result T SiteFailed → Type 0

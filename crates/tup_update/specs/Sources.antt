@@ -1,10 +1,9 @@
--- What a site's world holds as an update sees it: which files are owned, which are sources, and what these ask for.
+-- What a site holds as an update sees it: which files are sources, and what these ask for.
 use Rattle.std.specs.Prelude.{◌≡◌, ◌<◌, ◌≤◌, Bool, false, not, if◌then◌else◌, ⊤, ℕ, List, [], ◌∷◌, length, codes, bytes_eq, filter, filter_map, Option, None, Some, option_map, Ok, Err, Result}
 use Rattle.std.specs.List.{flat_map}
 use Rattle.std.specs.FinMap as finite
 use Rattle.tup_path.specs.Name.{Names}
 use Rattle.tup_path.specs.Tree.{Tree}
-use Rattle.tup_site.specs.World.{World}
 use Rattle.tup_rule.specs.declared.rule.Rule.{Rule}
 use Rattle.tup_rule.specs.Rule.{among, maker}
 use Rattle.tup_runner.specs.Next.{Next}
@@ -16,45 +15,50 @@ use Rattle.tup_whole.specs.Project.{ComeTo}
 use Rattle.tup_whole.specs.declared.fault.ProjectFault.{ProjectFault}
 use Rattle.tup_whole.specs.declared.fault.ProjectFault.TheVariants as project
 use Rattle.tup_owned.specs.Ascending.{ascending}
-use Rattle.tup_owned.specs.Owned.{owned_of}
+use Rattle.tup_site.specs.World.{World}
+use Rattle.tup_update.specs.Holding.{Holding, Shows}
 use Rattle.tup_update.specs.declared.fault.SourcesFault.{SourcesFault}
 use Rattle.tup_update.specs.declared.fault.SourcesFault.TheVariants.{TooManyFiles, Parse, CircularDirs, TooManyCommands, NoSuchGroup, TooManyLinks, CircularCommands}
-
--- the paths that the program owns: those that the store lists
-abbrev pub owned : World → List Names
-owned w = elim (owned_of w.store) [ Ok paths ↦ paths | Err offset ↦ [] ]
 
 -- the files of a tree that aren't among some paths
 abbrev pub files_beside : List Names → Tree → Tree
 files_beside paths tree = finite.retain_keys tree (λ path. not (among path paths))
 
 -- the sources: the files that it doesn't own
-abbrev pub sources : World → Tree
-sources w = files_beside (owned w) w.tree
+abbrev pub sources : Holding → Tree
+sources held = files_beside held.owned held.tree
 
 -- the sources come to these rules, or to this fault, and there are no more files than may be read
-pub record ReadAs (w : World) (result : Result (List Rule) ProjectFault) : Type 0 where
-  pub few : length (finite.keys w.tree) ≤ 65536
-  pub come_to : ComeTo (sources w) result
+pub record ReadAs (held : Holding) (result : Result (List Rule) ProjectFault) : Type 0 where
+  pub few : length (finite.keys held.tree) ≤ 65536
+  pub come_to : ComeTo (sources held) result
 
 -- there are so many files in the tree, too many
-pub record HasTooMany (w : World) (number : ℕ) : Type 0 where
-  pub files : number ≡ length (finite.keys w.tree)
+pub record HasTooMany (held : Holding) (number : ℕ) : Type 0 where
+  pub files : number ≡ length (finite.keys held.tree)
   pub many : 65536 < number
 
 -- the present sources ask for these rules
-abbrev pub AsksFor : World → List Rule → Type 0
-AsksFor w rules = ReadAs w (Ok rules)
+abbrev pub AsksFor : Holding → List Rule → Type 0
+AsksFor held rules = ReadAs held (Ok rules)
+
+-- the store of a world reads, and its sources ask for these rules
+abbrev pub IsAsked : World → List Rule → Type 0
+IsAsked w rules = (held : Holding) × Shows w held × AsksFor held rules
 
 -- the present sources ask for no rules, for this fault
-abbrev pub Refuses : World → SourcesFault → Type 0
-Refuses w (TooManyFiles number) = HasTooMany w number
-Refuses w (Parse fault) = ReadAs w (Err (project.Parse fault))
-Refuses w (CircularDirs dirs) = ReadAs w (Err (project.CircularDirs dirs))
-Refuses w (TooManyCommands number) = ReadAs w (Err (project.TooMany Commands number))
-Refuses w (NoSuchGroup group) = ReadAs w (Err (project.NoSuchGroup group))
-Refuses w (TooManyLinks number) = ReadAs w (Err (project.TooMany Links number))
-Refuses w (CircularCommands names) = ReadAs w (Err (project.CircularCommands names))
+abbrev pub Refuses : Holding → SourcesFault → Type 0
+Refuses held (TooManyFiles number) = HasTooMany held number
+Refuses held (Parse fault) = ReadAs held (Err (project.Parse fault))
+Refuses held (CircularDirs dirs) = ReadAs held (Err (project.CircularDirs dirs))
+Refuses held (TooManyCommands number) = ReadAs held (Err (project.TooMany Commands number))
+Refuses held (NoSuchGroup group) = ReadAs held (Err (project.NoSuchGroup group))
+Refuses held (TooManyLinks number) = ReadAs held (Err (project.TooMany Links number))
+Refuses held (CircularCommands names) = ReadAs held (Err (project.CircularCommands names))
+
+-- the store of a world reads, and its sources ask for no rules, for this fault
+abbrev pub IsRefused : World → SourcesFault → Type 0
+IsRefused w fault = (held : Holding) × Shows w held × Refuses held fault
 
 -- a limit is passed only by what is more than it
 abbrev pub PassesLimit : SourcesFault → Type 0
@@ -64,12 +68,12 @@ PassesLimit (TooManyLinks number) = 4194304 < number
 PassesLimit fault = ⊤
 
 -- the clean build of rules over the present sources, by what a runner means
-abbrev pub build : Next → List Rule → World → Build
-build next rules w = clean next rules (sources w)
+abbrev pub build : Next → List Rule → Holding → Build
+build next rules held = clean next rules (sources held)
 
 -- the rules that are run in turn, with their verdicts: those of the clean build, up to the first that isn't Good
-abbrev pub ends : Next → List Rule → World → List Taken
-ends next rules w = up_to_bad (takes next rules (sources w))
+abbrev pub ends : Next → List Rule → Holding → List Taken
+ends next rules held = up_to_bad (takes next rules (sources held))
 
 -- whether a path is made by a rule that is Good by these verdicts
 abbrev pub is_good_maker : List (Option Verdict) → Option ℕ → Bool
@@ -98,8 +102,8 @@ abbrev pub folders_of : List Names → List Names
 folders_of paths = ascending (filter_map folder_of_tupfile paths)
 
 -- the folders whose Tupfile is read: those that have one among the sources
-abbrev pub folders_read : World → List Names
-folders_read w = folders_of (finite.keys (sources w))
+abbrev pub folders_read : Holding → List Names
+folders_read held = folders_of (finite.keys (sources held))
 
 -- the paths that no rule makes any more
 abbrev pub left_over : List Names → List Rule → List Names
@@ -109,5 +113,5 @@ left_over paths rules = filter (λ path. not (among path (outputs rules))) paths
 abbrev pub gone : List Names → List Names → List Rule → List Names
 gone owned files rules = left_over (filter (λ path. among path owned) files) rules
 
-abbrev pub vanished : List Rule → World → List Names
-vanished rules w = gone (owned w) (finite.keys w.tree) rules
+abbrev pub vanished : List Rule → Holding → List Names
+vanished rules held = gone held.owned (finite.keys held.tree) rules

@@ -107,7 +107,8 @@ impl Project {
         ensures stays { IsTrue S.tells → let told = with_read self.now.read log.new in
             Stays R.tells R.next
             self.now.rules (S.world site.old) (S.world site.new) told (result_err result) }
-        ensures kept { IsTrue S.tells → IsTrue R.tells → let told = with_read self.now.read log.new in
+        ensures kept { IsTrue S.tells → IsTrue R.tells
+            → let told = with_read self.now.read log.new in
             Keeps R.next
             self.now.rules (S.world site.old) (S.world site.new) told (result_err result) }
         ensures settled { IsTrue S.tells → let left = S.left_since site.new (S.moment site.new) in
@@ -144,8 +145,8 @@ fn prepare<S: Site>(
     plan: &Plan,
     removed: &mut Paths,
 ) -> Result<(), SiteFailed>
-    ensures cleared { IsTrue S.tells
-        → OnOk result (IsCleared plan.now.vanished (S.world site.old).tree (S.world site.new).tree) }
+    ensures cleared { IsTrue S.tells → OnOk result
+        (IsCleared plan.now.vanished (S.world site.old).tree (S.world site.new).tree) }
     ensures others { IsTrue S.tells
         → SameBeside plan.now.vanished (S.world site.old).tree (S.world site.new).tree }
     ensures claimed { IsTrue S.tells
@@ -191,7 +192,8 @@ fn clear<S: Site>(
     Ok(())
 }
 
-/// Stops at a bad rule. The files are settled first: what ran before it stays made, whatever crash comes.
+/// Stops at a bad rule. The files are settled first: what ran before it stays made, whatever crash
+/// comes.
 fn stop_at<S: Site>(alloc: Global, site: &mut S, bad: BadRule) -> Stop
     requires { is_good (Some bad.1) ≡ false }
     ensures stops { StopsAt bad.0 bad.1 result }
@@ -208,7 +210,8 @@ fn stop_at<S: Site>(alloc: Global, site: &mut S, bad: BadRule) -> Stop
     }
 }
 
-/// Settles the files, and owns what was made and nothing else. After `Ok` a crash leaves all as it is then.
+/// Settles the files, and owns what was made and nothing else. After `Ok` a crash leaves all as it
+/// is then.
 fn finish<S: Site>(alloc: Global, site: &mut S, listed: &[Path]) -> Result<(), SiteFailed>
     ensures listed { IsTrue S.tells → OnOk result ((S.world site.new).store ≡ spelling listed.now) }
     ensures tree { IsTrue S.tells → TreeStays (S.world site.old) (S.world site.new) }

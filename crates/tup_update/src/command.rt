@@ -32,7 +32,8 @@ pub(crate) fn run<S: Site, R: Runner>(
     rule: &Rule,
 ) -> Result<(Verdict, Files), Halt>
     requires { IsGenerated rules.now made.now }
-    ensures judged { IsTrue S.tells → IsTrue R.tells → IfOk result (λ judged. IsJudged judged.0 judged.1
+    ensures judged { IsTrue S.tells → IsTrue R.tells
+        → IfOk result (λ judged. IsJudged judged.0 judged.1
         (specs.verdict R.next rules.now rule.now (S.world site.old).tree)) }
     ensures own { IfOk result (λ judged. AreOwn rule.now judged.1) }
     ensures same { IsTrue S.tells → S.world site.new ≡ S.world site.old }

@@ -33,8 +33,8 @@ pub enum Compared {
     Differs(Path),
 }
 
-/// Compares the files of a site with a clean build of its sources, whose commands the runner runs beside
-/// them. The site stays as it is.
+/// Compares the files of a site with a clean build of its sources, whose commands the runner runs
+/// beside them. The site stays as it is.
 ///
 /// A rule that isn't Good is a `Bad` stop: the first in the order of the rules.
 pub fn compare_site<S: Site, R: Runner>(

@@ -1,20 +1,19 @@
 //! What a site holds: which paths are owned, and the sources with their contents.
-ghost use Rattle.std.specs.Prelude.{◌≡◌, ◌≤◌, List, length, IsTrue, IfOk, IfErr, OnOk, Some};
+ghost use Rattle.std.specs.Prelude.{◌≡◌, ◌≤◌, length, IsTrue, IfOk, IfErr, OnOk};
 ghost use Rattle.std.specs.FinMap as finite;
 ghost use Rattle.tup_path.specs.Order.{by_names};
 ghost use Rattle.tup_path.specs.Tree.{Tree, IsTree};
 ghost use Rattle.tup_site.specs.Crash.{GoesOn, NoStep};
 ghost use Rattle.tup_site.specs.World.{World};
 ghost use Rattle.tup_site.specs.Cause.{CountsFaults, NeverTooLarge, OnlyLarge};
-ghost use Rattle.tup_rule.specs.declared.rule.Rule.{Rule as RuleValue};
-ghost use Rattle.tup_runner.specs.Next.{Next};
 ghost use Rattle.tup_clean.specs.Buildable.{IsBuildable};
-ghost use Rattle.tup_update.specs.Outcome.{HasCause};
+ghost use Rattle.tup_update.specs.Holding.{holding};
 ghost use Rattle.tup_update.specs.Outside.{HandsOn};
-ghost use Rattle.tup_update.specs.Parts.{AddsFile, IsFound, IsOfRules, IsRefusal, KnowsLimits, IsTooMany, NamesALargeFile, AgreesOnItsFiles};
+ghost use Rattle.tup_update.specs.Parts.{IsFound, IsOfRules, IsRefusal, IsTooMany};
+ghost use Rattle.tup_update.specs.Parts.{KnowsLimits, IsUnread};
+ghost use Rattle.tup_update.specs.Parts.{AddsFile, AgreesOnItsFiles, NamesALargeFile};
 ghost use Rattle.tup_update.specs.Sources as specs;
 ghost use Rattle.tup_update.specs.Sources.{AsksFor};
-ghost use Rattle.tup_update.specs.Stopped.{stop_of};
 ghost use Rattle.tup_update.specs.declared.stop.Unread.TheVariants.{Outside};
 
 use crate::fault::SourcesFault;
@@ -45,8 +44,7 @@ impl Found {
     pub(crate) fn read<S: Site>(alloc: Global, site: &mut S) -> Result<Found, Unread>
         ensures found { IsTrue S.tells → IfOk result (IsFound (S.world site.old)) }
         ensures sorted { IfOk result (λ found. IsTrue (finite.is_sorted by_names found.sources)) }
-        ensures cause { IsTrue S.tells → IfErr result (λ unread. (next : Next) (rules : List RuleValue)
-            → HasCause next rules (S.world site.old) (S.world site.new) (Some (stop_of unread))) }
+        ensures cause { IsTrue S.tells → IfErr result (IsUnread (S.world site.old)) }
         ensures limits { IfErr result KnowsLimits }
         ensures same { IsTrue S.tells → S.world site.new ≡ S.world site.old }
         ensures crash { IsTrue S.tells
@@ -70,10 +68,12 @@ impl Found {
     /// The rules of the sources.
     pub(crate) fn rules(&self, alloc: Global) -> Result<Rules, Unread>
         requires { IsTrue (finite.is_sorted by_names self.now.sources) }
-        ensures asked { (w : World) → IsFound w self.now → IfOk result (AsksFor w) }
+        ensures asked { (w : World) → IsFound w self.now
+            → IfOk result (AsksFor (holding w self.now.owned)) }
         ensures buildable { (w : World) → IsTree w.tree → IsFound w self.now
-            → IfOk result (IsBuildable (specs.sources w)) }
-        ensures refused { (w : World) → IsFound w self.now → IfErr result (IsRefusal w) }
+            → IfOk result (IsBuildable (specs.sources (holding w self.now.owned))) }
+        ensures refused { (w : World) → IsFound w self.now
+            → IfErr result (IsRefusal (holding w self.now.owned)) }
         ensures fault { IfErr result IsOfRules }
     {
         Ok(read_all(alloc, &self.sources)?)

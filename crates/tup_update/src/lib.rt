@@ -1,8 +1,8 @@
 //! One update of a project, over any site.
 //!
 //! Read `update`, which reads the `project` that the site asks for, by the sources that are `found`
-//! there, and makes its files: `build` owns what may be written, removes what no rule makes any more and runs the rules (`run`), each a
-//! `command` over the site's files.
+//! there, and makes its files: `build` owns what may be written, removes what no rule makes any
+//! more and runs the rules (`run`), each a `command` over the site's files.
 #![tactic(auto)]
 
 mod build;

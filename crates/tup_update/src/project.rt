@@ -1,18 +1,14 @@
 //! What a site asks for: its owned files, and the rules of its sources.
-ghost use Rattle.std.specs.Prelude.{◌≡◌, ◌||◌, List, not, filter, IsTrue, IfOk, IfErr, OnOk, Some};
+ghost use Rattle.std.specs.Prelude.{◌≡◌, ◌||◌, not, filter, IsTrue, IfOk, IfErr, OnOk};
 ghost use Rattle.std.specs.BTreeSet.{contains};
 ghost use Rattle.std.specs.Map.{keys_of};
 ghost use Rattle.tup_path.specs.Name.{Names};
 ghost use Rattle.tup_path.specs.Order.{by_names};
 ghost use Rattle.tup_site.specs.Crash.{GoesOn, NoStep};
 ghost use Rattle.tup_rule.specs.Rule.{among};
-ghost use Rattle.tup_rule.specs.declared.rule.Rule.{Rule as RuleValue};
-ghost use Rattle.tup_runner.specs.Next.{Next};
-ghost use Rattle.tup_update.specs.Outcome.{HasCause};
 ghost use Rattle.tup_update.specs.Outside.{HandsOn};
-ghost use Rattle.tup_update.specs.Parts.{IsProject, IsFolderOf, KnowsLimits, AddsFolder};
+ghost use Rattle.tup_update.specs.Parts.{IsProject, IsFolderOf, KnowsLimits, IsUnread, AddsFolder};
 ghost use Rattle.tup_update.specs.Sources as specs;
-ghost use Rattle.tup_update.specs.Stopped.{stop_of};
 ghost use Rattle.tup_update.specs.declared.stop.Unread.TheVariants.{Outside};
 
 use crate::found::Found;
@@ -42,8 +38,7 @@ impl Project {
     pub(crate) fn read<S: Site>(alloc: Global, site: &mut S) -> Result<Project, Unread>
         ensures project { IsTrue S.tells
             → IfOk result (λ project. IsProject project (S.world site.old)) }
-        ensures cause { IsTrue S.tells → IfErr result (λ unread. (next : Next) (rules : List RuleValue)
-            → HasCause next rules (S.world site.old) (S.world site.new) (Some (stop_of unread))) }
+        ensures cause { IsTrue S.tells → IfErr result (IsUnread (S.world site.old)) }
         ensures limits { IfErr result KnowsLimits }
         ensures same { IsTrue S.tells → S.world site.new ≡ S.world site.old }
         ensures crash { IsTrue S.tells

@@ -37,8 +37,8 @@ pub(crate) type BadRule = (RuleName, Verdict);
 pub(crate) type Ended = Items<(usize, Verdict)>;
 
 impl Project {
-    /// Runs the rules in turn, the first that is ready again and again, up to the first that is bad,
-    /// which it names. It notes the rules that are begun, and what becomes of them.
+    /// Runs the rules in turn, the first that is ready again and again, up to the first that is
+    /// bad, which it names. It notes the rules that are begun, and what becomes of them.
     pub(crate) fn run<S: Site, R: Runner>(
         &self,
         alloc: Global,
@@ -57,8 +57,9 @@ impl Project {
             IfOk result (HasRun R.next self.now.rules sources (S.world site.new).tree) }
         ensures made { IsTrue S.tells → IsTrue R.tells
             → let sources = files_beside self.now.owned (S.world site.old).tree in
-            let made = HasMade R.next self.now.rules sources (S.world site.old).tree (S.world site.new).tree in
-            IfOk result (λ found. IfSome found (λ _. made)) }
+            let made = HasMade R.next self.now.rules sources in
+            IfOk result (λ found. IfSome found
+            (λ _. made (S.world site.old).tree (S.world site.new).tree)) }
         ensures bad { IfOk result (λ found. IfSome found (λ bad. is_good (Some bad.1) ≡ false)) }
         ensures others { IsTrue S.tells
             → SameBesideOutputs self.now.rules (S.world site.old).tree (S.world site.new).tree }
@@ -99,8 +100,8 @@ impl Project {
         Ok(None)
     }
 
-    /// Runs the rule at a place, and names it where it isn't Good. It notes that it is begun, and what
-    /// becomes of it.
+    /// Runs the rule at a place, and names it where it isn't Good. It notes that it is begun, and
+    /// what becomes of it.
     fn take<S: Site, R: Runner>(
         &self,
         alloc: Global,
@@ -115,9 +116,10 @@ impl Project {
         requires made { IsGenerated self.now.rules made.now }
         requires room { IsTrue S.tells → HasRoom (S.world site.old).tree rule.now.outputs }
         ensures ends { let old = (S.world site.old).tree in
-            let leaves = Leaves (specs.verdict R.next self.now.rules rule.now old) old (S.world site.new).tree in
-            IfOk result (Ends at rule.now (λ verdict. IsTrue S.tells → IsTrue R.tells → leaves verdict)
-            ended.old ended.new) }
+            let judged = specs.verdict R.next self.now.rules rule.now old in
+            let leaves = Leaves judged old (S.world site.new).tree in
+            IfOk result (Ends at rule.now
+            (λ verdict. IsTrue S.tells → IsTrue R.tells → leaves verdict) ended.old ended.new) }
         ensures unended { OnErr result (ended.new ≡ ended.old) }
         ensures begins { OnOk result (ran.new ≡ ran.old ++ name_of rule.now ∷ []) }
         ensures begins_it { BeginsIt rule.now ran.old ran.new }
@@ -209,8 +211,8 @@ fn put_all<S: Site>(alloc: Global, site: &mut S, files: &[(Path, Bytes)]) -> Res
     requires { IsTrue S.tells → HasRoom (S.world site.old).tree (map (λ file. file.0) files.now) }
     ensures put { IsTrue S.tells
         → OnOk result ((S.world site.new).tree ≡ with_files (S.world site.old).tree files.now) }
-    ensures others { IsTrue S.tells
-        → SameBeside (map (λ file. file.0) files.now) (S.world site.old).tree (S.world site.new).tree }
+    ensures others { IsTrue S.tells → let paths = map (λ file. file.0) files.now in
+        SameBeside paths (S.world site.old).tree (S.world site.new).tree }
     ensures store { IsTrue S.tells → StoreStays (S.world site.old) (S.world site.new) }
     ensures crash { IsTrue S.tells → GoesOn S.moment S.left_since site.old site.new
         (FilesStep (SameBeside (map (λ file. file.0) files.now))) }

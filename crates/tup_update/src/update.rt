@@ -27,8 +27,8 @@ pub struct Log {
     pub removed: Paths,
     /// The rules that were begun.
     pub ran: Items<RuleName>,
-    /// What became of them: the place of each among the rules of the sources, and its verdict. The last one that
-    /// was begun isn't here where the update was stopped while it ran.
+    /// What became of them: the place of each among the rules of the sources, and its verdict. The
+    /// last one that was begun isn't here where the update was stopped while it ran.
     pub ended: Items<(usize, Verdict)>,
 }
 

@@ -154,7 +154,8 @@ impl<S: Site> View for SiteView<'_, '_, '_, S> {
       (λ tells. two.1 tells ∙ one.1 tells),
       (λ tells. seen_further
           first.sight next.sight (S.world first.site.now) (S.world next.site.now)
-          first.asked next.asked last.asked some more one.0 (one.1 tells) (one.2 tells) (two.2 tells)),
+          first.asked next.asked last.asked some more
+          one.0 (one.1 tells) (one.2 tells) (two.2 tells)),
     ) };
 
     ghost same_itself = { λ view. (

@@ -13,11 +13,11 @@ use Rattle.tup_update.proofs.Ending.{no_front}
 use Rattle.tup_update.proofs.Keeping.{no_turns}
 use Rattle.tup_top.specs.Crew.{RanFits, RanInTurn, CrewRuns, CrewCompares}
 use Rattle.tup_top.specs.Order.{Wanted, order}
-use Rattle.tup_top.specs.Promise.{ForUpdate, ForVerify, CountsAll, HasPlainCause, counts}
+use Rattle.tup_top.specs.Promise.{ForUpdate, ForVerify, StopsDemo, CountsAll, HasPlainCause, counts}
 use Rattle.tup_top.specs.Status.{came_to, compared_to}
 use Rattle.tup_top.specs.declared.status.Status.TheVariants.{Memory}
 use Rattle.tup_top.proofs.Crewed.{crew_cause, crew_compared, crew_runs, crew_compares, no_crew_ran}
-use Rattle.tup_top.proofs.Idle.{memory_of, memory_for_update, memory_for_verify, memory_prints, memory_prints_alone}
+use Rattle.tup_top.proofs.Idle.{memory_of, memory_for_update, memory_for_verify, memory_for_demo, memory_prints, memory_prints_alone}
 use Rattle.tup_top.proofs.Success.{succeeds_so, compares_so, sources_stay_so}
 use Rattle.tup_top.proofs.call.tup.Goals as goal
 
@@ -118,11 +118,14 @@ returns-clause-cause g c = λ _ _.
     let world = g.S.Site.world c.args.site in
     memory_of (order c.args.words.now) world (λ rules. HasCause g.R.Runner.next rules world world) tt
 
+pub returns-clause-demo_cause : goal.returns-clause-demo_cause
+returns-clause-demo_cause g c = memory_for_demo (order c.args.words.now) StopsDemo (g.S.Site.world c.args.site, ([], inl refl, tt))
+
 pub returns-clause-begun : goal.returns-clause-begun
 returns-clause-begun g c = λ _ _.
     let world = g.S.Site.world c.args.site in
     let ran = c.new-in-Err-Memory.result in
-    memory_of (order c.args.words.now) world (λ rules. RanFits g.R.Runner.next rules world ran) (no_front ran (names_of [] (ends g.R.Runner.next [] world)) c.new-in-Err-Memory.ensures)
+    memory_of (order c.args.words.now) world (λ rules. RanFits g.R.Runner.next rules world ran) (λ held shows. no_front ran (names_of [] (ends g.R.Runner.next [] held)) c.new-in-Err-Memory.ensures)
 
 pub returns-clause-in_turn : goal.returns-clause-in_turn
 returns-clause-in_turn g c = λ _.

@@ -1,4 +1,4 @@
-use Rattle.std.proofs.Common.{[], ℕ, List, sym, subst}
+use Rattle.std.proofs.Common.{ℕ, List, refl, sym, subst}
 use Rattle.std.specs.FinMap as finite
 use Rattle.tup_path.specs.Order.{by_names}
 use Rattle.tup_rule.specs.declared.rule.Rule.{Rule}
@@ -6,10 +6,11 @@ use Rattle.tup_clean.specs.Clean.{clean}
 use Rattle.tup_clean.specs.Ran.{commands}
 use Rattle.std.specs.Result.{result_err}
 use Rattle.tup_update.specs.Compared.{IsGoodBuild, RunsBuildOf}
+use Rattle.tup_update.specs.Holding.{holding}
 use Rattle.tup_update.specs.Outcome.{HasCountedCause}
 use Rattle.tup_update.specs.Stopped.{stop_of}
 use Rattle.tup_update.proofs.Comparing.{unread_compared, built_err, built_compared, built_runs}
-use Rattle.tup_update.proofs.Keeping.{err_is, refusal_counts}
+use Rattle.tup_update.proofs.Keeping.{err_is, refusal_counts, refusal_unread}
 use Rattle.tup_update.proofs.Reading.{sources_read}
 use Rattle.tup_update.proofs.compare.clean_files.Goals as goal
 
@@ -18,7 +19,15 @@ returns-in_err-found-clause-clean g c = λ tells means.
     let w = g.S.Site.world c.args.site.now in
     let unread = c.in_err-found.field-0.0 in
     built_err g.R.Runner.next w c.from_residual.result (stop_of unread) c.from_residual.ensures.1
-    (unread_compared g.R.Runner.next w (g.S.Site.world c.read.new.site) unread (c.in_err-found.ensures.cause tells g.R.Runner.next []) (c.read.ensures.same tells))
+    (unread_compared g.R.Runner.next w unread (c.in_err-found.ensures.cause tells))
+
+pub returns-in_err-rules-clause-clean : goal.returns-in_err-rules-clause-clean
+returns-in_err-rules-clause-clean g c = λ tells means.
+    let w = g.S.Site.world c.args.site.now in
+    let unread = c.in_err-rules.field-0.0 in
+    let found = c.in_ok-found.ensures.found tells in
+    built_err g.R.Runner.next w c.from_residual-in_err-rules.result (stop_of unread) c.from_residual-in_err-rules.ensures.1
+    (unread_compared g.R.Runner.next w unread (refusal_unread w c.in_ok-found.found.owned unread found.owned (c.in_err-rules.ensures.refused w found)))
 
 pub returns-in_err-rules-clause-counted_cause : goal.returns-in_err-rules-clause-counted_cause
 returns-in_err-rules-clause-counted_cause g c =
@@ -33,7 +42,7 @@ returns-clause-clean g c = λ tells means.
     let w = g.S.Site.world c.args.site.now in
     let found = c.in_ok-found.ensures.found tells in
     let site_laws = g.met.S.Site g.world.𝓛 g.world.𝓜 g.world.𝓡 ((λ s x. x), (λ x. x), (λ x. x), λ x. x) in
-    built_compared g.R.Runner.next w c.in_ok-rules.rules _ c.good_build.result (c.in_ok-rules.ensures.asked w found)
+    built_compared g.R.Runner.next w (holding w c.in_ok-found.found.owned) c.in_ok-rules.rules _ c.good_build.result (record { lists = found.owned; tree = refl }) (c.in_ok-rules.ensures.asked w found)
     (c.in_ok-rules.ensures.buildable w (site_laws.is_tree c.args.site.now tells) found) (sources_read w c.in_ok-found.found found)
     (subst (λ (l : List Rule). IsGoodBuild l (clean g.R.Runner.next l (finite.from_sorted {R = by_names} c.in_ok-found.found.sources)) c.good_build.result) c.as_slice.ensures (c.good_build.ensures.built means))
 
@@ -42,7 +51,7 @@ returns-clause-ran g c = λ tells means shows.
     let w = g.S.Site.world c.args.site.now in
     let found = c.in_ok-found.ensures.found tells in
     let sources = finite.from_sorted {R = by_names} c.in_ok-found.found.sources in
-    built_runs g.R.Runner.next w c.in_ok-rules.rules sources _ _ c.good_build.result (c.in_ok-rules.ensures.asked w found) (sources_read w c.in_ok-found.found found)
+    built_runs g.R.Runner.next w (holding w c.in_ok-found.found.owned) c.in_ok-rules.rules sources _ _ c.good_build.result (record { lists = found.owned; tree = refl }) (c.in_ok-rules.ensures.asked w found) (sources_read w c.in_ok-found.found found)
     (subst (λ (l : List Rule). IsGoodBuild l (clean g.R.Runner.next l sources) c.good_build.result) c.as_slice.ensures (c.good_build.ensures.built means))
     (subst (λ (l : List Rule). RunsBuildOf (commands g.R.Runner.next l sources) (g.R.Runner.ran c.args.runner.now) (g.R.Runner.ran c.good_build.new.runner) (result_err c.good_build.result)) c.as_slice.ensures (c.good_build.ensures.ran means shows))
 

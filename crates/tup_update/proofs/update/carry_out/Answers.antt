@@ -3,7 +3,7 @@ use Rattle.tup_update.specs.Outcome.{Stays, Keeps}
 use Rattle.tup_update.specs.Settled.{IsSettled}
 use Rattle.tup_update.specs.Stopped.{stop_of}
 use Rattle.tup_update.proofs.Begun.{ran_none, ran_all_of}
-use Rattle.tup_update.proofs.Keeping.{err_is, unread_stays, unread_keeps}
+use Rattle.tup_update.proofs.Keeping.{err_is, unread_cause, unread_stays, unread_keeps}
 use Rattle.tup_update.proofs.Settling.{unread_unsettled}
 use Rattle.tup_site.specs.Crash.{GoesOn, NoStep}
 use Rattle.tup_site.specs.World.{World}
@@ -25,7 +25,7 @@ returns-in_err-project-clause-kept g c = λ tells means.
     let new = g.S.Site.world c.read.new.site in
     let unread = c.in_err-project.field-0.0 in
     subst (Keeps g.R.Runner.next c.args.rules.now old new c.args.log.now) (sym (err_is c.from_residual.result (stop_of unread) c.from_residual.ensures.1))
-    (unread_keeps g.R.Runner.next c.args.rules.now old new c.args.log.now unread (c.in_err-project.ensures.cause tells g.R.Runner.next c.args.rules.now) c.requires.log)
+    (unread_keeps g.R.Runner.next c.args.rules.now old new c.args.log.now unread (unread_cause g.R.Runner.next c.args.rules.now old new unread (c.read.ensures.same tells) (c.in_err-project.ensures.cause tells)) c.requires.log)
 
 pub returns-in_err-project-clause-settled : goal.returns-in_err-project-clause-settled
 returns-in_err-project-clause-settled g c = λ tells.

@@ -9,8 +9,9 @@ use Rattle.tup_rule.specs.Rule.{among}
 use Rattle.tup_owned.specs.Owned.{owned_of}
 use Rattle.tup_update.specs.Sources.{files_beside}
 use Rattle.tup_update.proofs.Beside.{left_is}
-use Rattle.tup_update.proofs.Known.{sources_are as sources_of}
-use Rattle.tup_update.proofs.Reading.{sources_are}
+use Rattle.tup_update.specs.Parts.{IsUnread}
+use Rattle.tup_update.proofs.Handed.{err_if}
+use Rattle.tup_update.proofs.Reading.{sources_are, too_many_unread}
 use Rattle.tup_update.specs.SeeingLaws.{rests_on}
 use Rattle.tup_update.proofs.found.Found.read.Goals as goal
 
@@ -30,8 +31,16 @@ returns-clause-found g c = λ tells.
       owned = owns;
       files = c.in_ok-owned_files.ensures.inside ∙ (λ i. filter (λ path. inside path i) (files i));
       few = rw (sym files) (rw c.as_slice-2.ensures c.in_ok-few.ensures.few);
-      sources = content ∙ ap (λ (t : Tree). finite.entries t) (sym (sources_of old owned owns));
+      sources = content;
     }
+
+pub returns-in_err-few-clause-cause : goal.returns-in_err-few-clause-cause
+returns-in_err-few-clause-cause g c = λ tells.
+    let old = g.S.Site.world c.args.site.now in
+    let owns = ap owned_of (sym (c.in_ok-store.ensures.bytes tells)) ∙ ap owned_of (sym c.deref.ensures.value) ∙ c.in_ok-owned.ensures.owned in
+    let files = c.in_ok-files.ensures.paths tells ∙ ap (λ (w : World). finite.keys w.tree) (c.in_ok-store.ensures.same tells) in
+    err_if c.from_residual-in_err-few.result c.in_err-few.field-0.0 (IsUnread old) c.from_residual-in_err-few.ensures.1
+    (too_many_unread old c.in_ok-owned.owned c.in_ok-files.files c.in_err-few.field-0.0 owns files c.in_err-few.ensures.many)
 
 pub returns-in_err-files-clause-crash : goal.returns-in_err-files-clause-crash
 returns-in_err-files-clause-crash g c = λ tells. rests_on g.S.Site.moment g.S.Site.left_since c.args.site.now c.read_store.new.site c.list.new.self (c.read_store.ensures.crash tells) (c.list.ensures.crash tells)

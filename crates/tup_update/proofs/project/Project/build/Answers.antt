@@ -14,7 +14,8 @@ use Rattle.tup_update.specs.declared.stop.Halt.{Halt}
 use Rattle.tup_update.specs.declared.stop.Stop.TheVariants.{Outside}
 use Rattle.tup_update.specs.declared.update.Log.{Log}
 use Rattle.tup_update.proofs.Begun.{ran_none, ran_all_of, stopped_runs}
-use Rattle.tup_update.proofs.Ending.{vanished_are, claimed_are}
+use Rattle.tup_update.specs.Holding.{holding}
+use Rattle.tup_update.proofs.Ending.{vanished_are}
 use Rattle.tup_update.proofs.Keeping.{IsUnderWay, all_made, err_is, small_failure, way_runnable, unplanned_stays, unplanned_keeps, unprepared_stays, unprepared_keeps, unrun_stays, unrun_keeps, stopped_stays, stopped_keeps, unfinished_stays, unfinished_keeps, finished_stays, finished_keeps}
 use Rattle.tup_update.proofs.Settling.{halted_unsettled}
 use Rattle.tup_update.specs.Images.{MakesStep}
@@ -57,7 +58,7 @@ returns-in_err-prepare-clause-stays g c = λ tells.
     let way : IsUnderWay project old mid plan.vanished plan.claimed = record {
       is = c.requires.project tells;
       vanishes = c.in_ok-plan.ensures.vanished ∙ vanished_are project old (c.requires.project tells);
-      claims = c.in_ok-plan.ensures.claimed ∙ claimed_are project old (c.requires.project tells);
+      claims = c.in_ok-plan.ensures.claimed;
       beside = c.prepare.ensures.others tells;
     } in
     let log : Log = record { read = c.args.log.now.read; removed = c.prepare.new.removed; ran = c.args.log.now.ran; ended = c.args.log.now.ended } in
@@ -75,7 +76,7 @@ returns-in_err-prepare-clause-kept g c = λ tells means.
     let way : IsUnderWay project old mid plan.vanished plan.claimed = record {
       is = c.requires.project tells;
       vanishes = c.in_ok-plan.ensures.vanished ∙ vanished_are project old (c.requires.project tells);
-      claims = c.in_ok-plan.ensures.claimed ∙ claimed_are project old (c.requires.project tells);
+      claims = c.in_ok-plan.ensures.claimed;
       beside = c.prepare.ensures.others tells;
     } in
     let log : Log = record { read = c.args.log.now.read; removed = c.prepare.new.removed; ran = c.args.log.now.ran; ended = c.args.log.now.ended } in
@@ -104,7 +105,7 @@ returns-in_err-bad-clause-stays g c = λ tells.
     let way : IsUnderWay project old mid plan.vanished plan.claimed = record {
       is = c.requires.project tells;
       vanishes = c.in_ok-plan.ensures.vanished ∙ vanished_are project old (c.requires.project tells);
-      claims = c.in_ok-plan.ensures.claimed ∙ claimed_are project old (c.requires.project tells);
+      claims = c.in_ok-plan.ensures.claimed;
       beside = c.prepare.ensures.others tells;
     } in
     let log : Log = record { read = c.args.log.now.read; removed = c.prepare.new.removed; ran = c.run.new.ran; ended = c.run.new.ended } in
@@ -123,7 +124,7 @@ returns-in_err-bad-clause-kept g c = λ tells means.
     let way : IsUnderWay project old mid plan.vanished plan.claimed = record {
       is = c.requires.project tells;
       vanishes = c.in_ok-plan.ensures.vanished ∙ vanished_are project old (c.requires.project tells);
-      claims = c.in_ok-plan.ensures.claimed ∙ claimed_are project old (c.requires.project tells);
+      claims = c.in_ok-plan.ensures.claimed;
       beside = c.prepare.ensures.others tells;
     } in
     let log : Log = record { read = c.args.log.now.read; removed = c.prepare.new.removed; ran = c.run.new.ran; ended = c.run.new.ended } in
@@ -159,7 +160,7 @@ returns-in-Some-clause-stays g c = λ tells.
     let way : IsUnderWay project old mid plan.vanished plan.claimed = record {
       is = c.requires.project tells;
       vanishes = c.in_ok-plan.ensures.vanished ∙ vanished_are project old (c.requires.project tells);
-      claims = c.in_ok-plan.ensures.claimed ∙ claimed_are project old (c.requires.project tells);
+      claims = c.in_ok-plan.ensures.claimed;
       beside = c.prepare.ensures.others tells;
     } in
     let log : Log = record { read = c.args.log.now.read; removed = c.prepare.new.removed; ran = c.run.new.ran; ended = c.run.new.ended } in
@@ -179,7 +180,7 @@ returns-in-Some-clause-kept g c = λ tells means.
     let way : IsUnderWay project old mid plan.vanished plan.claimed = record {
       is = c.requires.project tells;
       vanishes = c.in_ok-plan.ensures.vanished ∙ vanished_are project old (c.requires.project tells);
-      claims = c.in_ok-plan.ensures.claimed ∙ claimed_are project old (c.requires.project tells);
+      claims = c.in_ok-plan.ensures.claimed;
       beside = c.prepare.ensures.others tells;
     } in
     let log : Log = record { read = c.args.log.now.read; removed = c.prepare.new.removed; ran = c.run.new.ran; ended = c.run.new.ended } in
@@ -222,7 +223,7 @@ returns-in_err-finish-in-None-clause-stays g c = λ tells.
     let way : IsUnderWay project old mid plan.vanished plan.claimed = record {
       is = c.requires.project tells;
       vanishes = c.in_ok-plan.ensures.vanished ∙ vanished_are project old (c.requires.project tells);
-      claims = c.in_ok-plan.ensures.claimed ∙ claimed_are project old (c.requires.project tells);
+      claims = c.in_ok-plan.ensures.claimed;
       beside = c.prepare.ensures.others tells;
     } in
     let log : Log = record { read = c.args.log.now.read; removed = c.prepare.new.removed; ran = c.run.new.ran; ended = c.run.new.ended } in
@@ -245,7 +246,7 @@ returns-in_err-finish-in-None-clause-kept g c = λ tells means.
     let way : IsUnderWay project old mid plan.vanished plan.claimed = record {
       is = c.requires.project tells;
       vanishes = c.in_ok-plan.ensures.vanished ∙ vanished_are project old (c.requires.project tells);
-      claims = c.in_ok-plan.ensures.claimed ∙ claimed_are project old (c.requires.project tells);
+      claims = c.in_ok-plan.ensures.claimed;
       beside = c.prepare.ensures.others tells;
     } in
     let log : Log = record { read = c.args.log.now.read; removed = c.prepare.new.removed; ran = c.run.new.ran; ended = c.run.new.ended } in
@@ -275,7 +276,7 @@ returns-clause-stays g c = λ tells.
     let way : IsUnderWay project old mid plan.vanished plan.claimed = record {
       is = c.requires.project tells;
       vanishes = c.in_ok-plan.ensures.vanished ∙ vanished_are project old (c.requires.project tells);
-      claims = c.in_ok-plan.ensures.claimed ∙ claimed_are project old (c.requires.project tells);
+      claims = c.in_ok-plan.ensures.claimed;
       beside = c.prepare.ensures.others tells;
     } in
     let log : Log = record { read = c.args.log.now.read; removed = c.prepare.new.removed; ran = c.run.new.ran; ended = c.run.new.ended } in
@@ -294,7 +295,7 @@ returns-clause-kept g c = λ tells means.
     let way : IsUnderWay project old mid plan.vanished plan.claimed = record {
       is = c.requires.project tells;
       vanishes = c.in_ok-plan.ensures.vanished ∙ vanished_are project old (c.requires.project tells);
-      claims = c.in_ok-plan.ensures.claimed ∙ claimed_are project old (c.requires.project tells);
+      claims = c.in_ok-plan.ensures.claimed;
       beside = c.prepare.ensures.others tells;
     } in
     let log : Log = record { read = c.args.log.now.read; removed = c.prepare.new.removed; ran = c.run.new.ran; ended = c.run.new.ended } in
@@ -319,7 +320,7 @@ run-requires-clause-runnable g c κs = λ lives tells.
     let way : IsUnderWay project old mid plan.vanished plan.claimed = record {
       is = c.requires.project tells;
       vanishes = c.in_ok-plan.ensures.vanished ∙ vanished_are project old (c.requires.project tells);
-      claims = c.in_ok-plan.ensures.claimed ∙ claimed_are project old (c.requires.project tells);
+      claims = c.in_ok-plan.ensures.claimed;
       beside = c.prepare.ensures.others tells;
     } in
     way_runnable project old mid plan.vanished plan.claimed way (c.in_ok-prepare.ensures.cleared tells)
@@ -338,7 +339,7 @@ returns-in_err-prepare-clause-crash g c = λ tells.
     let project = c.args.self.now in
     let plan = c.in_ok-plan.plan in
     let is = c.requires.project tells in
-    let prepared = prepared_so g.S.Site.moment g.S.Site.left_since g.R.Runner.tells g.R.Runner.next project.rules old (store_reads project old is) is.asked site mid plan.vanished (spelling plan.claimed) (c.in_ok-plan.ensures.vanished ∙ vanished_are project old is) (claims_read project old plan.claimed is c.in_ok-plan.ensures.claimed) (c.prepare.ensures.crash tells) in
+    let prepared = prepared_so g.S.Site.moment g.S.Site.left_since g.R.Runner.tells g.R.Runner.next project.rules old (holding old project.owned) (store_reads project old is) is.asked site mid plan.vanished (spelling plan.claimed) (c.in_ok-plan.ensures.vanished ∙ vanished_are project old is) (claims_read project old plan.claimed is c.in_ok-plan.ensures.claimed) (c.prepare.ensures.crash tells) in
     prepared
 
 pub returns-in_err-bad-clause-crash : goal.returns-in_err-bad-clause-crash
@@ -350,9 +351,9 @@ returns-in_err-bad-clause-crash g c = λ tells.
     let project = c.args.self.now in
     let plan = c.in_ok-plan.plan in
     let is = c.requires.project tells in
-    let prepared = prepared_so g.S.Site.moment g.S.Site.left_since g.R.Runner.tells g.R.Runner.next project.rules old (store_reads project old is) is.asked site mid plan.vanished (spelling plan.claimed) (c.in_ok-plan.ensures.vanished ∙ vanished_are project old is) (claims_read project old plan.claimed is c.in_ok-plan.ensures.claimed) (c.prepare.ensures.crash tells) in
+    let prepared = prepared_so g.S.Site.moment g.S.Site.left_since g.R.Runner.tells g.R.Runner.next project.rules old (holding old project.owned) (store_reads project old is) is.asked site mid plan.vanished (spelling plan.claimed) (c.in_ok-plan.ensures.vanished ∙ vanished_are project old is) (claims_read project old plan.claimed is c.in_ok-plan.ensures.claimed) (c.prepare.ensures.crash tells) in
     let stored = ap owned_of (c.in_ok-prepare.ensures.claimed tells) ∙ claims_read project old plan.claimed is c.in_ok-plan.ensures.claimed in
-    let ran = ran_so g.S.Site.moment g.S.Site.left_since g.R.Runner.tells g.R.Runner.next project.rules old (store_reads project old is) is.asked site mid c.run.new.site (g.S.Site.world mid) (λ t u w le left. site_laws.earlier mid t u w tells le left) (c.in_ok-prepare.ensures.pinned tells) stored prepared (c.run.ensures.crash tells) in
+    let ran = ran_so g.S.Site.moment g.S.Site.left_since g.R.Runner.tells g.R.Runner.next project.rules old (holding old project.owned) (store_reads project old is) is.asked site mid c.run.new.site (g.S.Site.world mid) (λ t u w le left. site_laws.earlier mid t u w tells le left) (c.in_ok-prepare.ensures.pinned tells) stored prepared (c.run.ensures.crash tells) in
     ran
 
 pub returns-in-Some-clause-crash : goal.returns-in-Some-clause-crash
@@ -364,9 +365,9 @@ returns-in-Some-clause-crash g c = λ tells.
     let project = c.args.self.now in
     let plan = c.in_ok-plan.plan in
     let is = c.requires.project tells in
-    let prepared = prepared_so g.S.Site.moment g.S.Site.left_since g.R.Runner.tells g.R.Runner.next project.rules old (store_reads project old is) is.asked site mid plan.vanished (spelling plan.claimed) (c.in_ok-plan.ensures.vanished ∙ vanished_are project old is) (claims_read project old plan.claimed is c.in_ok-plan.ensures.claimed) (c.prepare.ensures.crash tells) in
+    let prepared = prepared_so g.S.Site.moment g.S.Site.left_since g.R.Runner.tells g.R.Runner.next project.rules old (holding old project.owned) (store_reads project old is) is.asked site mid plan.vanished (spelling plan.claimed) (c.in_ok-plan.ensures.vanished ∙ vanished_are project old is) (claims_read project old plan.claimed is c.in_ok-plan.ensures.claimed) (c.prepare.ensures.crash tells) in
     let stored = ap owned_of (c.in_ok-prepare.ensures.claimed tells) ∙ claims_read project old plan.claimed is c.in_ok-plan.ensures.claimed in
-    let ran = ran_so g.S.Site.moment g.S.Site.left_since g.R.Runner.tells g.R.Runner.next project.rules old (store_reads project old is) is.asked site mid c.run.new.site (g.S.Site.world mid) (λ t u w le left. site_laws.earlier mid t u w tells le left) (c.in_ok-prepare.ensures.pinned tells) stored prepared (c.run.ensures.crash tells) in
+    let ran = ran_so g.S.Site.moment g.S.Site.left_since g.R.Runner.tells g.R.Runner.next project.rules old (holding old project.owned) (store_reads project old is) is.asked site mid c.run.new.site (g.S.Site.world mid) (λ t u w le left. site_laws.earlier mid t u w tells le left) (c.in_ok-prepare.ensures.pinned tells) stored prepared (c.run.ensures.crash tells) in
     then_quiet g.S.Site.moment g.S.Site.left_since site c.run.new.site c.stop_at.new.site (MakesStep g.R.Runner.tells g.R.Runner.next project.rules old) ran (c.stop_at.ensures.crash tells)
 
 pub returns-in_err-finish-in-None-clause-crash : goal.returns-in_err-finish-in-None-clause-crash
@@ -378,20 +379,20 @@ returns-in_err-finish-in-None-clause-crash g c = λ tells.
     let project = c.args.self.now in
     let plan = c.in_ok-plan.plan in
     let is = c.requires.project tells in
-    let prepared = prepared_so g.S.Site.moment g.S.Site.left_since g.R.Runner.tells g.R.Runner.next project.rules old (store_reads project old is) is.asked site mid plan.vanished (spelling plan.claimed) (c.in_ok-plan.ensures.vanished ∙ vanished_are project old is) (claims_read project old plan.claimed is c.in_ok-plan.ensures.claimed) (c.prepare.ensures.crash tells) in
+    let prepared = prepared_so g.S.Site.moment g.S.Site.left_since g.R.Runner.tells g.R.Runner.next project.rules old (holding old project.owned) (store_reads project old is) is.asked site mid plan.vanished (spelling plan.claimed) (c.in_ok-plan.ensures.vanished ∙ vanished_are project old is) (claims_read project old plan.claimed is c.in_ok-plan.ensures.claimed) (c.prepare.ensures.crash tells) in
     let stored = ap owned_of (c.in_ok-prepare.ensures.claimed tells) ∙ claims_read project old plan.claimed is c.in_ok-plan.ensures.claimed in
-    let ran = ran_so g.S.Site.moment g.S.Site.left_since g.R.Runner.tells g.R.Runner.next project.rules old (store_reads project old is) is.asked site mid c.run.new.site (g.S.Site.world mid) (λ t u w le left. site_laws.earlier mid t u w tells le left) (c.in_ok-prepare.ensures.pinned tells) stored prepared (c.run.ensures.crash tells) in
+    let ran = ran_so g.S.Site.moment g.S.Site.left_since g.R.Runner.tells g.R.Runner.next project.rules old (holding old project.owned) (store_reads project old is) is.asked site mid c.run.new.site (g.S.Site.world mid) (λ t u w le left. site_laws.earlier mid t u w tells le left) (c.in_ok-prepare.ensures.pinned tells) stored prepared (c.run.ensures.crash tells) in
     let way : IsUnderWay project old (g.S.Site.world mid) plan.vanished plan.claimed = record {
       is = is;
       vanishes = c.in_ok-plan.ensures.vanished ∙ vanished_are project old is;
-      claims = c.in_ok-plan.ensures.claimed ∙ claimed_are project old is;
+      claims = c.in_ok-plan.ensures.claimed;
       beside = c.prepare.ensures.others tells;
     } in
     let now = g.S.Site.world c.run.new.site in
     let sources = files_beside project.owned (g.S.Site.world mid).tree in
     let made = all_made project old (g.S.Site.world mid) plan.vanished plan.claimed way g.R.Runner.tells g.R.Runner.next now now (c.in_ok-prepare.ensures.cleared tells) (c.run.ensures.others tells) refl
     (λ means. subst (HasRun g.R.Runner.next project.rules sources now.tree) c.in-None.is (c.in_ok-bad.ensures.run tells means)) in
-    finished_so g.S.Site.moment g.S.Site.left_since g.R.Runner.tells g.R.Runner.next project.rules old (store_reads project old is) is.asked site c.run.new.site c.finish.new.site now (λ t u w le left. site_laws.earlier c.run.new.site t u w tells le left) made ran (c.finish.ensures.crash tells)
+    finished_so g.S.Site.moment g.S.Site.left_since g.R.Runner.tells g.R.Runner.next project.rules old (holding old project.owned) (store_reads project old is) is.asked site c.run.new.site c.finish.new.site now (λ t u w le left. site_laws.earlier c.run.new.site t u w tells le left) made ran (c.finish.ensures.crash tells)
 
 pub returns-clause-crash : goal.returns-clause-crash
 returns-clause-crash g c = λ tells.
@@ -402,17 +403,17 @@ returns-clause-crash g c = λ tells.
     let project = c.args.self.now in
     let plan = c.in_ok-plan.plan in
     let is = c.requires.project tells in
-    let prepared = prepared_so g.S.Site.moment g.S.Site.left_since g.R.Runner.tells g.R.Runner.next project.rules old (store_reads project old is) is.asked site mid plan.vanished (spelling plan.claimed) (c.in_ok-plan.ensures.vanished ∙ vanished_are project old is) (claims_read project old plan.claimed is c.in_ok-plan.ensures.claimed) (c.prepare.ensures.crash tells) in
+    let prepared = prepared_so g.S.Site.moment g.S.Site.left_since g.R.Runner.tells g.R.Runner.next project.rules old (holding old project.owned) (store_reads project old is) is.asked site mid plan.vanished (spelling plan.claimed) (c.in_ok-plan.ensures.vanished ∙ vanished_are project old is) (claims_read project old plan.claimed is c.in_ok-plan.ensures.claimed) (c.prepare.ensures.crash tells) in
     let stored = ap owned_of (c.in_ok-prepare.ensures.claimed tells) ∙ claims_read project old plan.claimed is c.in_ok-plan.ensures.claimed in
-    let ran = ran_so g.S.Site.moment g.S.Site.left_since g.R.Runner.tells g.R.Runner.next project.rules old (store_reads project old is) is.asked site mid c.run.new.site (g.S.Site.world mid) (λ t u w le left. site_laws.earlier mid t u w tells le left) (c.in_ok-prepare.ensures.pinned tells) stored prepared (c.run.ensures.crash tells) in
+    let ran = ran_so g.S.Site.moment g.S.Site.left_since g.R.Runner.tells g.R.Runner.next project.rules old (holding old project.owned) (store_reads project old is) is.asked site mid c.run.new.site (g.S.Site.world mid) (λ t u w le left. site_laws.earlier mid t u w tells le left) (c.in_ok-prepare.ensures.pinned tells) stored prepared (c.run.ensures.crash tells) in
     let way : IsUnderWay project old (g.S.Site.world mid) plan.vanished plan.claimed = record {
       is = is;
       vanishes = c.in_ok-plan.ensures.vanished ∙ vanished_are project old is;
-      claims = c.in_ok-plan.ensures.claimed ∙ claimed_are project old is;
+      claims = c.in_ok-plan.ensures.claimed;
       beside = c.prepare.ensures.others tells;
     } in
     let now = g.S.Site.world c.run.new.site in
     let sources = files_beside project.owned (g.S.Site.world mid).tree in
     let made = all_made project old (g.S.Site.world mid) plan.vanished plan.claimed way g.R.Runner.tells g.R.Runner.next now now (c.in_ok-prepare.ensures.cleared tells) (c.run.ensures.others tells) refl
     (λ means. subst (HasRun g.R.Runner.next project.rules sources now.tree) c.in-None.is (c.in_ok-bad.ensures.run tells means)) in
-    finished_so g.S.Site.moment g.S.Site.left_since g.R.Runner.tells g.R.Runner.next project.rules old (store_reads project old is) is.asked site c.run.new.site c.finish.new.site now (λ t u w le left. site_laws.earlier c.run.new.site t u w tells le left) made ran (c.finish.ensures.crash tells)
+    finished_so g.S.Site.moment g.S.Site.left_since g.R.Runner.tells g.R.Runner.next project.rules old (holding old project.owned) (store_reads project old is) is.asked site c.run.new.site c.finish.new.site now (λ t u w le left. site_laws.earlier c.run.new.site t u w tells le left) made ran (c.finish.ensures.crash tells)

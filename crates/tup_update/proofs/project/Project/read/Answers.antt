@@ -3,7 +3,7 @@ use Rattle.std.specs.Map.{keys_of}
 use Rattle.tup_path.specs.Name.{Names, Content}
 use Rattle.tup_update.specs.Sources.{folders_of}
 use Rattle.tup_update.proofs.Handed.{err_if}
-use Rattle.tup_update.proofs.Keeping.{refusal_cause, refusal_knows, refusal_hands_on}
+use Rattle.tup_update.proofs.Keeping.{refusal_unread, refusal_knows, refusal_hands_on}
 use Rattle.tup_update.proofs.project.Project.read.Goals as goal
 
 pub returns-clause-project : goal.returns-clause-project
@@ -23,7 +23,7 @@ pub returns-in_err-rules-clause-cause : goal.returns-in_err-rules-clause-cause
 returns-in_err-rules-clause-cause g c = λ tells.
     let old = g.S.Site.world c.args.site.now in
     err_if c.from_residual-in_err-rules.result c.in_err-rules.field-0.0 _ c.from_residual-in_err-rules.ensures.1
-    (λ next rules. refusal_cause next rules old (g.S.Site.world c.read.new.site) c.in_err-rules.field-0.0 (c.in_err-rules.ensures.refused old (c.in_ok-found.ensures.found tells)))
+    (refusal_unread old c.in_ok-found.found.owned c.in_err-rules.field-0.0 (c.in_ok-found.ensures.found tells).owned (c.in_err-rules.ensures.refused old (c.in_ok-found.ensures.found tells)))
 
 pub returns-in_err-rules-clause-limits : goal.returns-in_err-rules-clause-limits
 returns-in_err-rules-clause-limits g c =

@@ -1,0 +1,5 @@
+pub mod Entries
+pub mod Adding
+pub mod Keeping
+pub mod Asking
+pub mod Answering

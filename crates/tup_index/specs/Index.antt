@@ -1,0 +1,65 @@
+-- Who asked what, by the records of a graph (own).
+use Rattle.std.specs.Prelude.{◌≡◌, ◌↔◌, ℕ, true, List, Option, Some, Contains}
+use Rattle.std.specs.BTreeMap.{get}
+use Rattle.std.specs.BTreeSet.{BTreeSet}
+use Rattle.std.specs.FinMap as finite
+use Rattle.std.specs.Ordering.{nat_cmp}
+use Rattle.tup_path.specs.Name.{Names}
+use Rattle.tup_path.specs.Order.{by_bytes, by_names}
+use Rattle.tup_stamp.specs.declared.Stamp.{Stamp}
+use Rattle.tup_rule.specs.declared.question.Noted.{Noted}
+use Rattle.tup_rule.specs.declared.question.Question.{Question}
+use Rattle.tup_rule.specs.declared.question.Question.TheVariants as asks
+use Rattle.tup_rule.specs.declared.question.Reading.{Reading}
+use Rattle.tup_record.specs.declared.run.RunRecord.{RunRecord}
+use Rattle.tup_graph.specs.Graph.{GraphState}
+use Rattle.tup_index.specs.Records.{AreIn}
+use Rattle.tup_index.specs.Sets.{Has, is_in}
+use Rattle.tup_index.specs.declared.askers.Askers.{Askers}
+use Rattle.tup_index.specs.declared.index.Index.{Index}
+use Rattle.tup_index.specs.declared.readers.Readers.{Readers}
+
+-- the reading of a folder asked a question
+abbrev pub HasQuestioned : GraphState → Names → Question → Type 0
+HasQuestioned g dir question = (reading : Reading) × (told : Noted) × (finite.get g.readings dir ≡ Some reading) × Contains reading.asked (question, told)
+
+-- what a run's record asks, and the path of an ask
+abbrev pub asks_of : RunRecord → List (Names × Option Stamp)
+asks_of run = run.asks
+
+abbrev pub path_of : Names × Option Stamp → Names
+path_of ask = ask.0
+
+-- a rule is among the readers of a path
+abbrev pub HasReader : Readers → Names × ℕ → Type 0
+HasReader readers = Has by_names nat_cmp readers.sets
+
+-- just the rules whose records ask a path are its readers
+abbrev pub AreReaders : finite.FinMap nat_cmp RunRecord → Readers → Type 0
+AreReaders runs readers = (x : Names × ℕ) → HasReader readers x ↔ AreIn path_of asks_of runs x
+
+-- what a reading asked, and the question of what it was told
+abbrev pub asked_of : Reading → List (Question × Noted)
+asked_of reading = reading.asked
+
+abbrev pub question_of : Question × Noted → Question
+question_of one = one.0
+
+-- the set of those who asked a question, where there are some
+abbrev pub askers_of : Askers → Question → Option (BTreeSet Names)
+askers_of askers (asks.Content path) = get by_names askers.contents.map path
+askers_of askers (asks.Config name) = get by_bytes askers.configs.map name
+askers_of askers (asks.Names dir) = get by_names askers.names.map dir
+askers_of askers (asks.Kind path) = get by_names askers.kinds.map path
+
+-- a folder is among the askers of a question
+abbrev pub HasAsker : Askers → Question × Names → Type 0
+HasAsker askers (question, dir) = is_in by_names (askers_of askers question) dir ≡ true
+
+-- just the folders whose readings asked a question are its askers
+abbrev pub AreAskers : finite.FinMap by_names Reading → Askers → Type 0
+AreAskers readings askers = (x : Question × Names) → HasAsker askers x ↔ AreIn question_of asked_of readings x
+
+-- an index of a graph: it has just those who asked, by the records of the graph
+abbrev pub IsIndexOf : GraphState → Index → Type 0
+IsIndexOf g index = AreReaders g.runs index.readers × AreAskers g.readings index.askers

@@ -1,0 +1,5 @@
+pub mod Exact
+pub mod Changes
+pub mod Sets
+pub mod Records
+pub mod Index
