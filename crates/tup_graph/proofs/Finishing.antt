@@ -82,7 +82,7 @@ module _ {X : Type 0} (value : Names × Stamp → X) where
   )
 
 -- ---- numbers
-same_number : (m n : ℕ) → eq_by_cmp nat_cmp m n ≡ true → m ≡ n
+pub same_number : (m n : ℕ) → eq_by_cmp nat_cmp m n ≡ true → m ≡ n
 same_number m n is = nat_cmp-IsAntisymmetric m n (equal_of (nat_cmp m n) is)
 
 module _ (next : Next) (language : Language) (known : List Content) (g : GraphState) (kept : IsKept next language known g) (number : ℕ) (rule : Rule) (run : RunRecord) (ends : EndsWell next known g number rule run) where

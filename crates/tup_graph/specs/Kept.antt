@@ -98,6 +98,13 @@ pub record EndsWell (next : Next) (known : List Content) (g : GraphState) (numbe
   pub unflagged : (path : Names) (given : Option Stamp) (other : ℕ) (maker : Rule) → Contains run.asks (path, given) → IsRuleAt g other maker → writes maker path ≡ true
       → other ≢ number → is_flagged g other ≡ false
 
+-- rules with their readers: whoever asked an output of one of them is one of them too, or is flagged already
+abbrev pub AreWithReaders : GraphState → List ℕ → Type 0
+AreWithReaders g numbers =
+    (number other : ℕ) (rule reader : Rule) (run : RunRecord) (path : Names) (given : Option Stamp) → Contains numbers number → IsRuleAt g number rule
+    → IsRuleAt g other reader → finite.get g.runs other ≡ Some run → Contains run.asks (path, given) → writes rule path ≡ true
+    → Contains numbers other ⊎ (is_flagged g other ≡ true)
+
 -- the graph in the bytes of a store
 pub record IsGraphIn (store : List ℕ) (g : GraphState) : Type 0 where
   pub commits : List (List Change)
