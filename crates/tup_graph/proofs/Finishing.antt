@@ -86,7 +86,7 @@ pub same_number : (m n : ℕ) → eq_by_cmp nat_cmp m n ≡ true → m ≡ n
 same_number m n is = nat_cmp-IsAntisymmetric m n (equal_of (nat_cmp m n) is)
 
 module _ (next : Next) (language : Language) (known : List Content) (g : GraphState) (kept : IsKept next language known g) (number : ℕ) (rule : Rule) (run : RunRecord) (ends : EndsWell next known g number rule run) where
-  abbrev now : GraphState
+  abbrev pub now : GraphState
   now = finished g number run
 
   abbrev owned_as : Names × Stamp → Owned
@@ -129,7 +129,7 @@ module _ (next : Next) (language : Language) (known : List Content) (g : GraphSt
           ap made_by (owned_now q ∙ found.2) ∙ ap (λ (path : Names). Some (maker_of g number path)) found.1
           ∙ ap (λ (there : Option Owned). Some (elim there [ Some owned ↦ owned.maker | None ↦ Some number ])) o.1 ∙ sym (ap made_by o.1)
 
-  owned_alike : (q : Names) → is_owned now q ≡ is_owned g q
+  pub owned_alike : (q : Names) → is_owned now q ≡ is_owned g q
   owned_alike q = some_alike (finite.get now.owned q) (finite.get g.owned q) (makers_alike q)
 
   sources_alike : source now ≡ source g

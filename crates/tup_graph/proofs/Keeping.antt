@@ -143,7 +143,7 @@ module _ (g : GraphState) (number : ℕ) where
       ∙ ap (cond (among q paths) (Some (started q))) (finite.get-insert by_names-total owned path (started path) q ∙ ap (λ (b : Bool). cond b (Some (started path)) (finite.get owned q)) (sym (same_path-by_names q path)))
       ∙ either_here (same_path q path) (among q paths) (started q) (started path) (finite.get owned q) (λ is. ap started (sym ((same_path-decides q path).0 is)))
 
-  same_makers : ((path : Names) → among path (outputs_of g number) ≡ true → (o : Owned) × (finite.get g.owned path ≡ Some o) × (o.maker ≡ Some number)) → SameMakers g.owned (begun g number).owned
+  pub same_makers : ((path : Names) → among path (outputs_of g number) ≡ true → (o : Owned) × (finite.get g.owned path ≡ Some o) × (o.maker ≡ Some number)) → SameMakers g.owned (begun g number).owned
   same_makers mine path = by (among path (outputs_of g number)) refl
     where
       by : (b : Bool) → among path (outputs_of g number) ≡ b → made_by (finite.get (begun g number).owned path) ≡ made_by (finite.get g.owned path)
@@ -179,7 +179,7 @@ begin_keeps next language known g number rule kept here flagged =
 
 -- ---- owned paths without a maker
 module _ (g : GraphState) where
-  abbrev one_unsure : OwnedPaths → Names → OwnedPaths
+  abbrev pub one_unsure : OwnedPaths → Names → OwnedPaths
   one_unsure owned path = unsure_as path (finite.get g.owned path) owned
 
   get_unsure : (owned : OwnedPaths) (path : Names) (one : Owned) (q : Names)
@@ -196,7 +196,7 @@ module _ (g : GraphState) where
       by true here = sym (ap made_by (ap (finite.get g.owned) ((same_path-decides q path).0 here) ∙ is))
       by false here = same q
 
-  all_doomed : (paths : List Names) (owned : OwnedPaths) → SameMakers g.owned owned → SameMakers g.owned (fold one_unsure owned paths)
+  pub all_doomed : (paths : List Names) (owned : OwnedPaths) → SameMakers g.owned owned → SameMakers g.owned (fold one_unsure owned paths)
   all_doomed [] owned same = same
   all_doomed (path ∷ paths) owned same = all_doomed paths (one_unsure owned path) (one_doomed owned path (finite.get g.owned path) refl same)
 
