@@ -79,7 +79,7 @@ pub maker-None : (rules : List Rule) (path : Names) (at : ℕ) (rule : Rule) →
 maker-None rules path at rule none = none_from (λ (r : Rule). writes r path) 0 rules at rule (sym (position_from-zero (λ (r : Rule). writes r path) rules) ∙ none)
 
 -- how a path is owned by a maker
-abbrev owned_by : Option ℕ → Option Owned → Option Owned
+abbrev pub owned_by : Option ℕ → Option Owned → Option Owned
 owned_by (Some number) before = Some (record { maker = Some number; state = unwrap_or (option_map (λ (owned : Owned). owned.state) before) Never })
 owned_by None before = option_map (λ (owned : Owned). record { maker = None; state = owned.state }) before
 
@@ -150,7 +150,7 @@ module _ (language : Language) (known : List Content) (g new : GraphState) (fres
   owned_are : (path : Names) → finite.get new.owned path ≡ owned_by (maker path rules) (finite.get g.owned path)
   owned_are path = is.owned path ∙ owned_so rules path (finite.get g.owned path)
 
-  owned_if : (path : Names) (found : Option ℕ) → maker path rules ≡ found → finite.get new.owned path ≡ owned_by found (finite.get g.owned path)
+  pub owned_if : (path : Names) (found : Option ℕ) → maker path rules ≡ found → finite.get new.owned path ≡ owned_by found (finite.get g.owned path)
   owned_if path found makes = owned_are path ∙ ap (λ (m : Option ℕ). owned_by m (finite.get g.owned path)) makes
 
   -- the same files are sources

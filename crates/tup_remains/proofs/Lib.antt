@@ -1,3 +1,6 @@
 pub mod Stores
 pub mod Remaining
 pub mod Following
+pub mod Noting
+pub mod Files
+pub mod Laws

@@ -33,6 +33,12 @@ pub record StandsOver {S : Type 0} (site : Site S) (next : Next) (language : Lan
   pub graph : IsGraphOf (entries_in graph.table) graph.nodes
   pub kept : IsKeptSite next language known first (site.left_since at since)
 
+-- a path is owned, and it is open what stands there
+pub record IsUnsure (g : GraphState) (path : Names) : Type 0 where
+  pub owned : Owned
+  pub here : finite.get g.owned path ≡ Some owned
+  pub state : owned.state ≡ Unsure
+
 -- none of some worlds has a file there
 abbrev pub HasNoFile : (World → Type 0) → Names → Type 0
 HasNoFile Left path = (w : World) → Left w → finite.get w.tree path ≡ None
