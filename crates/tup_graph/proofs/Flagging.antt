@@ -1,7 +1,7 @@
 -- Rules that become flagged with all that asked their outputs keep a kept graph.
-use Rattle.std.proofs.Common.{◌≡◌, ◌⊎◌, inl, inr, ℕ, zero, suc, ◌<◌, Bool, true, false, cond, is_some, List, [], ◌∷◌, fold, length, slice_index_or, Option, None, Some, Contains, refl, sym, ap, subst, ◌∙◌}
+use Rattle.std.proofs.Common.{◌≡◌, ◌⊎◌, inl, inr, ℕ, zero, suc, ◌<◌, Bool, true, false, cond, is_some, List, [], ◌∷◌, fold, length, slice_index_or, Option, None, Some, Contains, refl, sym, ap, subst, ◌∙◌, arith}
 use Rattle.std.specs.FinMap as finite
-use Rattle.std.specs.Ordering.{eq_by_cmp, nat_cmp}
+use Rattle.std.specs.Ordering.{eq_by_cmp, is_eq, nat_cmp}
 use Rattle.std.specs.Cmp.{nat_cmp_total}
 use Rattle.std.proofs.lemmas.Cmp.{tied_itself}
 use Rattle.tup_path.specs.Name.{Names, Content}
@@ -39,7 +39,9 @@ stays (n ∷ numbers) flags m is = stays numbers (more flags n) m (one_more flag
 comes : (numbers : List ℕ) (flags : Flags) (m at : ℕ) → at < length numbers → slice_index_or numbers at m ≡ m → finite.contains_key (fold more flags numbers) m ≡ true
 comes [] flags m at within is = absurd (let less = within in omega (arith, less))
 comes (n ∷ numbers) flags m zero within is =
-    stays numbers (more flags n) m (one_more flags n m ∙ ap (λ (b : Bool). is_some (cond b (Some tt) (finite.get flags m))) (subst (λ (k : ℕ). eq_by_cmp nat_cmp k n ≡ true) is (tied_itself nat_cmp_total n)))
+    let first : n ≡ m = is in
+    let same : eq_by_cmp nat_cmp m n ≡ true = subst (λ (k : ℕ). eq_by_cmp nat_cmp k n ≡ true) first (ap is_eq (tied_itself nat_cmp_total n)) in
+    stays numbers (more flags n) m (one_more flags n m ∙ ap (λ (b : Bool). is_some (cond b (Some tt) (finite.get flags m))) same)
 comes (n ∷ numbers) flags m (suc at) within is = comes numbers (more flags n) m at (let less = within in omega (arith, less)) is
 
 -- what is flagged is one of the numbers, or was flagged

@@ -1,5 +1,5 @@
 -- Which graphs may follow a kept one on a kept site: those that the transactions leave.
-use Rattle.std.proofs.Common.{◌≡◌, ◌⊎◌, inl, inr, ℕ, zero, suc, Bool, true, false, cond, is_some, unwrap_or, List, [], ◌∷◌, fold, length, slice_index_or, Option, None, Some, All, Contains, refl, sym, ap, subst, ◌∙◌}
+use Rattle.std.proofs.Common.{◌≡◌, ◌⊎◌, inl, inr, ℕ, zero, suc, Bool, true, false, cond, is_some, unwrap_or, List, [], ◌∷◌, fold, length, slice_index_or, Option, None, Some, All, Contains, refl, sym, ap, subst, ◌∙◌, arith}
 use Rattle.std.specs.FinMap as finite
 use Rattle.std.specs.Option.{option_map}
 use Rattle.std.proofs.lemmas.List.Elements.{All-contains}
