@@ -42,7 +42,7 @@ begun_or_same : (g : GraphState) (number : ℕ) (paths : List Names) (owned : Ow
 begun_or_same g number [] owned q o is = inr is
 begun_or_same g number (path ∷ paths) owned q o is = by (begun_or_same g number paths (with_state g number Unsure owned path) q o is)
   where
-    abbrev one : Owned
+    one : Owned
     one = record { maker = maker_of g number path; state = Unsure }
 
     there : (finite.get owned q ≡ Some o) ⊎ ((q ≡ path) × (o ≡ one)) → (o.state ≡ Unsure) ⊎ (finite.get owned q ≡ Some o)
@@ -74,10 +74,10 @@ written_or_same : (g : GraphState) (number : ℕ) (files : List (Names × Stamp)
 written_or_same g number [] owned q o is = inr is
 written_or_same g number (file ∷ files) owned q o is = by (written_or_same g number files (with_state g number (Written file.1) owned file.0) q o is)
   where
-    abbrev IsOf : List (Names × Stamp) → Type 0
+    IsOf : List (Names × Stamp) → Type 0
     IsOf all = (f : Names × Stamp) × Contains all f × (f.0 ≡ q) × (o.state ≡ Written f.1)
 
-    abbrev one : Owned
+    one : Owned
     one = record { maker = maker_of g number file.0; state = Written file.1 }
 
     there : (finite.get owned q ≡ Some o) ⊎ ((q ≡ file.0) × (o ≡ one)) → IsOf (file ∷ files) ⊎ (finite.get owned q ≡ Some o)

@@ -2,5 +2,5 @@ pub mod Stores
 pub mod Remaining
 pub mod Following
 pub mod Noting
-pub mod Files
+pub mod Changing
 pub mod Laws

@@ -45,7 +45,7 @@ module _ {S : Type 0} (site : Site S) (next : Next) (language : Language) (known
 
   pub has_graph : (v : World) → LeftNow site old v → IsGraphIn v.store g
   has_graph v left =
-      in_bytes g v.store (⊎_elim (λ (is : IsStoreOf g v.store). is) (λ (is : IsStoreOf g v.store). is) ((as_it_was site.world site.moment site.left_since graph.table g old over.stands over.graph g).only.each v left))
+      in_bytes g v.store (⊎_elim (λ (is : IsStoreOf g v.store). is) (λ (is : IsStoreOf g v.store). is) ((as_it_was site.world site.moment site.left_since graph.table g old over.stands over.is_graph g).only.each v left))
 
   pub is_kept : (v : World) → LeftNow site old v → IsKept next language known g
   is_kept v left =

@@ -30,7 +30,7 @@ IsKeptNow site next language known at = IsKeptSite next language known (site.wor
 pub record StandsOver {S : Type 0} (site : Site S) (next : Next) (language : Language) (known : List Content) (first : World) (since : ℕ) (graph : Held) (at : S) : Type 0 where
   pub began : since ≤ site.moment at
   pub stands : StandsFor site.world site.moment site.left_since graph at
-  pub graph : IsGraphOf (entries_in graph.table) graph.nodes
+  pub is_graph : IsGraphOf (entries_in graph.table) graph.nodes
   pub kept : IsKeptSite next language known first (site.left_since at since)
 
 -- a path is owned, and it is open what stands there

@@ -1,4 +1,4 @@
-use Rattle.tup_remains.proofs.Files.{file_remains, file_remains_now}
+use Rattle.tup_remains.proofs.Changing.{file_remains, file_remains_now}
 use Rattle.tup_remains.proofs.Laws.{before}
 use Rattle.tup_remains.proofs.files.files_keep_sites.Goals as goal
 

@@ -1,0 +1,33 @@
+//! What a board leaves of a kept site.
+ghost use Rattle.std.specs.Prelude.{List, IsTrue};
+ghost use Rattle.tup_path.specs.Name.{Content};
+ghost use Rattle.tup_site.specs.World.{World};
+ghost use Rattle.tup_runner.specs.Next.{Next};
+ghost use Rattle.tup_table.specs.Table.{entries_in};
+ghost use Rattle.tup_graph.specs.Graph.{GraphState};
+ghost use Rattle.tup_graph.specs.Kept.{IsGraphIn};
+ghost use Rattle.tup_graph.specs.Opening.{IsGraphOf};
+ghost use Rattle.tup_graph.specs.Records.{Language};
+ghost use Rattle.tup_board.specs.Board.{BoardState, first_graph};
+ghost use Rattle.tup_board.specs.Sound.{IsSound, Since};
+ghost use Rattle.tup_remains.specs.Over.{IsKeptNow};
+ghost use Rattle.tup_lasting.specs.Beside.{StaysBeside};
+
+use tup_runner::Runner;
+use tup_site::Site;
+
+/// A law: where a board was made over a kept site, each world that a crash since then may leave has the sources that the site had,
+/// and in it an owned path that isn't unsure holds what it held then, or is written with the stamp of what it holds. So has the
+/// site as it is, which a crash may leave too.
+pub fn boards_keep_sources<S: Site, R: Runner>(site: &S, runner: &R)
+    ensures { (next : Next) (language : Language) (known : List Content) (board : BoardState S)
+        (w : World) (g : GraphState) → IsTrue S.tells
+        → IsSound S.Site.own R.Runner.own board
+        → IsGraphOf (entries_in board.opening.graph.table) (first_graph board)
+        → IsKeptNow S.Site.own next language known board.opening.site
+        → Since S.Site.own board w → IsGraphIn w.store g
+        → StaysBeside (S.world board.opening.site) (first_graph board) w g }
+{
+    let _ = site;
+    let _ = runner;
+}
