@@ -85,9 +85,8 @@ module _ {S : Type 0} (site : Site S) (next : Next) (language : Language) (known
         hold first first v w (λ other apart. refl) step.others q owned mine (holds_before site next language known first since graph old over earlier v left q owned mine)
 
     pub file_remains : IsKeptSite next language more first (site.left_since new since)
-    unfolding world_more
     file_remains = record {
-      now = world_more known more also next language first first refl over.kept.now;
+      now = record { graph = over.kept.now.graph; reads = over.kept.now.reads; kept = kept_more known more also next language over.kept.now.graph over.kept.now.kept };
       later = λ w left. world_kept w (either w left);
       sources = λ w k left reads q. same_sources w k (either w left) reads q;
       own = λ w k q owned left reads is. holds_own w k q owned (either w left) reads is;
