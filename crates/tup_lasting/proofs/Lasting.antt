@@ -1,5 +1,5 @@
 -- Whatever a board did, each world that a crash may leave has the sources that were, and holds its own.
-use Rattle.std.proofs.Common.{◌≡◌, ◌⊎◌, inl, inr, ℕ, Bool, true, false, is_some, IsTrue, List, [], ◌∷◌, ◌++◌, map, Option, None, Some, refl, sym, ap, subst, ◌∙◌, arith}
+use Rattle.std.proofs.Common.{◌≡◌, ◌⊎◌, inl, inr, ℕ, ◌≤◌, Bool, true, false, is_some, IsTrue, List, [], ◌∷◌, ◌++◌, map, Option, None, Some, refl, sym, ap, subst, ◌∙◌, arith}
 use Rattle.std.specs.Prelude.{slice_get}
 use Rattle.std.specs.FinMap as finite
 use Rattle.std.specs.Option.{option_map}
@@ -11,7 +11,8 @@ use Rattle.tup_site.specs.declared.site.Site.{Ghosts as Site}
 use Rattle.tup_stamp.specs.declared.Stamp.{Stamp}
 use Rattle.tup_rule.specs.Rule.{is_generated, writes}
 use Rattle.tup_rule.specs.declared.rule.Rule.{Rule}
-use Rattle.tup_rule.proofs.Laws.{is_generated-maker, maker-Some, writes-at}
+use Rattle.tup_rule.proofs.Laws.{maker-Some, writes-at}
+use Rattle.tup_clean.proofs.Among.{is_generated-maker}
 use Rattle.tup_runner.specs.Next.{Next}
 use Rattle.tup_runner.specs.declared.runner.Runner.{Ghosts as Runner}
 use Rattle.tup_record.specs.declared.owned.OwnedState.TheVariants.{Unsure, Written}
@@ -23,11 +24,13 @@ use Rattle.tup_graph.specs.Kept.{HoldsItsOwn, IsGraphIn, IsKept, file_beside}
 use Rattle.tup_graph.specs.Opening.{IsGraphOf}
 use Rattle.tup_graph.specs.Records.{Language}
 use Rattle.tup_graph.specs.Transactions.{begun, finished}
+use Rattle.tup_access.specs.declared.verdict.Verdict.TheVariants.{Good}
 use Rattle.tup_core.specs.declared.event.CoreEvent.{CoreEvent}
+use Rattle.tup_core.specs.declared.event.CoreEvent.TheVariants.{Finish}
 use Rattle.tup_core.specs.declared.plan.Plan.{Plan}
 use Rattle.tup_core.specs.Run.{IsRun, end_of}
 use Rattle.tup_core.specs.Step.{State, after, is_reached}
-use Rattle.tup_board.specs.Board.{BoardState, plan_of, first_graph, start, state}
+use Rattle.tup_board.specs.Board.{BoardState, course_of, plan_of, first_graph, start, state}
 use Rattle.tup_board.specs.Come.{HasCome, HasOf, WasToKeep}
 use Rattle.tup_board.specs.Ends.{HasEnded, IsRecordOf}
 use Rattle.tup_board.specs.Images.{HasFileOf, HoldsWritten, IsImageOver, IsOwnedAs}
@@ -40,11 +43,7 @@ use Rattle.tup_remains.specs.Over.{IsKeptNow, StandsOver}
 use Rattle.tup_remains.proofs.Remaining.{holds_alike, holds_before, is_kept, sources_before}
 use Rattle.tup_remains.proofs.Stores.{in_bytes, one_in_bytes}
 use Rattle.tup_lasting.specs.Beside.{StaysBeside}
-
--- a run goes as far as each of its parts in front
-run_front : (plan : Plan) (before after_them : List CoreEvent) (at : State) → IsRun plan at (before ++ after_them) → IsRun plan at before
-run_front plan [] after_them at run = tt
-run_front plan (event ∷ before) after_them at (enabled, run) = (enabled, run_front plan before after_them (after plan at event) run)
+use Rattle.tup_lasting.proofs.Runs.{run_front}
 
 module _ {S R : Type 0} (site : Site S) (runner : Runner R) (b : BoardState S) (sound : IsSound site runner b) (tells : IsTrue site.tells)
     (next : Next) (language : Language) (known : List Content) (kept : IsKeptNow site next language known b.opening.site) (is_graph : IsGraphOf (entries_in b.opening.graph.table) (first_graph b))
@@ -87,7 +86,7 @@ module _ {S R : Type 0} (site : Site S) (runner : Runner R) (b : BoardState S) (
   -- a run that ended, or was to, is one of a rule that is to be run, and names its outputs
   ended_reached : (number : ℕ) (run : RunRecord) → HasEnded plan (start b) b.history number run ⊎ WasToKeep b.lost number run → is_reached plan number ≡ true
   ended_reached number run (inl done) =
-      let order = orderly plan _ done.before (run_front plan done.before _ (start b) (subst (IsRun plan (start b)) done.whole sound.run)) in
+      let order = orderly plan (course_of b).files done.before (run_front plan done.before (Finish done.seat Good run.writes ∷ done.after) (start b) (subst (IsRun plan (start b)) done.whole sound.run)) in
       subst (λ (n : ℕ). is_reached plan n ≡ true) done.kept.here (order.reached done.kept.running.rule (order.pending done.seat done.kept.running done.kept.runs.here))
   ended_reached number run (inr lost) = subst (λ (n : ℕ). is_reached plan n ≡ true) lost.rule (sound.lost lost.commit lost.here).reached
 
@@ -162,7 +161,7 @@ module _ {S R : Type 0} (site : Site S) (runner : Runner R) (b : BoardState S) (
       unsure o is has = inl (ap (λ (x : Owned). x.state) (same_Some o _ (sym is ∙ has.owned path makes.output ∙ begun_own fg number rule here path makes.output)))
 
       while_flagged : (o : Owned) → finite.get g.owned path ≡ Some o → is_flagged g number ≡ true → HasCome b g number rule → IsOwnedAs g path Unsure ⊎ HasFileOf v w path → HoldsItsOwn first w path o
-      while_flagged o is flagged has (inl open) = inl (ap (λ (x : Owned). x.state) (same_Some o open.owned (sym is ∙ open.here)) ∙ open.state)
+      while_flagged o is flagged has (inl begins) = inl (ap (λ (x : Owned). x.state) (same_Some o begins.owned (sym is ∙ begins.here)) ∙ begins.state)
       while_flagged o is flagged (inl has) (inr file) = stays o is has file
       while_flagged o is flagged (inr (inl has)) (inr file) = unsure o is has.1
       while_flagged o is flagged (inr (inr (run, ends, has))) (inr file) =
