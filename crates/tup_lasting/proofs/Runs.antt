@@ -1,10 +1,11 @@
 -- The files of the core while a run goes on: what is an output of no pending rule stays, and what a rule that ended Good wrote.
-use Rattle.std.proofs.Common.{◌≡◌, ◌⊎◌, inl, inr, ⊎_elim, ℕ, zero, suc, Bool, true, false, cond, ◌||◌, List, [], ◌∷◌, ◌++◌, map, Option, None, Some, Contains, refl, sym, ap, subst, ◌∙◌, arith}
+use Rattle.std.proofs.Common.{◌≡◌, ◌⊎◌, inl, inr, ⊎_elim, ℕ, zero, suc, Bool, true, false, cond, ◌||◌, List, [], ◌∷◌, ◌++◌, fold, map, Option, None, Some, Contains, refl, sym, ap, subst, ◌∙◌, arith}
 use Rattle.std.specs.Prelude.{slice_get}
+use Rattle.std.specs.FinMap as finite
 use Rattle.std.specs.List.{AllByRecursion, IsDistinct}
 use Rattle.std.proofs.lemmas.Bool.{true≢false, cases_Bool}
 use Rattle.tup_path.specs.Name.{Names, Content}
-use Rattle.tup_path.specs.Order.{same_path}
+use Rattle.tup_path.specs.Order.{by_names, by_names-total, same_path, same_path-by_names}
 use Rattle.tup_path.proofs.Same.{same_path-decides}
 use Rattle.tup_stamp.specs.declared.Stamp.{Stamp}
 use Rattle.tup_rule.specs.Rule.{among, writes}
@@ -145,3 +146,19 @@ module _ where
       by behind (inl a) (inr b) = absurd (apart one other a b same)
       by behind (inr a) (inl b) = absurd (apart other one b a (sym same))
       by behind (inr a) (inr b) = behind a b
+
+pub contains_name : (files : List (Names × Stamp)) (file : Names × Stamp) → Contains files file → Contains (named files) file.0
+contains_name [] file (at, less, is) = absurd (let within = less in omega (arith, within))
+contains_name (first ∷ files) file there =
+    ⊎_elim (λ same. (zero, omega arith, ap (λ (f : Names × Stamp). f.0) same))
+    (λ more. (let found = contains_name files file more in (suc found.0, (let within = found.1 in omega (arith, within)), found.2)))
+    (first_or_behind first files file there)
+
+-- files that are put into a map one after another
+pub seen_as : (files : List (Names × Stamp)) (m : finite.FinMap by_names Stamp) (q : Names)
+    → finite.get (fold (λ m (file : Names × Stamp). finite.insert m file.0 file.1) m files) q ≡ with_stamps (λ (p : Names). finite.get m p) files q
+seen_as [] m q = refl
+seen_as (file ∷ files) m q = seen_as files (finite.insert m file.0 file.1) q ∙ ap (λ (f : Names → Option Stamp). with_stamps f files q) (λ i p. put p i)
+  where
+    put : (p : Names) → finite.get (finite.insert m file.0 file.1) p ≡ cond (same_path p file.0) (Some file.1) (finite.get m p)
+    put p = finite.get-insert by_names-total m file.0 file.1 p ∙ ap (λ (b : Bool). cond b (Some file.1) (finite.get m p)) (sym (same_path-by_names p file.0))
