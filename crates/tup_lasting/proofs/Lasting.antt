@@ -82,7 +82,7 @@ module _ {S R : Type 0} (site : Site S) (runner : Runner R) (b : BoardState S) (
   abbrev plan : Plan
   plan = plan_of b
 
-  over : StandsOver site next language known first (site.moment b.opening.site) b.opening.graph b.opening.site
+  pub over : StandsOver site next language known first (site.moment b.opening.site) b.opening.graph b.opening.site
   over = record { began = omega arith; stands = sound.opening.stands tells; is_graph = is_graph; kept = kept }
 
   fg_kept : IsKept next language known fg

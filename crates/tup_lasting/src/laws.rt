@@ -5,13 +5,14 @@ ghost use Rattle.tup_site.specs.World.{World};
 ghost use Rattle.tup_runner.specs.Next.{Next};
 ghost use Rattle.tup_table.specs.Table.{entries_in};
 ghost use Rattle.tup_graph.specs.Graph.{GraphState};
-ghost use Rattle.tup_graph.specs.Kept.{IsGraphIn};
+ghost use Rattle.tup_graph.specs.Kept.{IsGraphIn, IsKeptSite};
 ghost use Rattle.tup_graph.specs.Opening.{IsGraphOf};
 ghost use Rattle.tup_graph.specs.Records.{Language};
 ghost use Rattle.tup_board.specs.Board.{BoardState, first_graph};
 ghost use Rattle.tup_board.specs.Sound.{IsSound, Since};
 ghost use Rattle.tup_remains.specs.Over.{IsKeptNow};
 ghost use Rattle.tup_lasting.specs.Beside.{StaysBeside};
+ghost use Rattle.tup_lasting.specs.Kept.{HoldsTogether};
 
 use tup_runner::Runner;
 use tup_site::Site;
@@ -27,6 +28,22 @@ pub fn boards_keep_sources<S: Site, R: Runner>(site: &S, runner: &R)
         → IsKeptNow S.Site.own next language known board.opening.site
         → Since S.Site.own board w → IsGraphIn w.store g
         → StaysBeside (S.world board.opening.site) (first_graph board) w g }
+{
+    let _ = site;
+    let _ = runner;
+}
+
+/// A law: so a site that was kept stays so, in each world that a crash since then may leave, where the board's runner tells what
+/// commands mean, and the board holds together: each owned path of its graph has a maker, no rule names an output twice, and the
+/// rule of a lost commit is still pending.
+pub fn boards_keep_sites<S: Site, R: Runner>(site: &S, runner: &R)
+    ensures { (language : Language) (board : BoardState S) → IsTrue S.tells → IsTrue R.tells
+        → IsSound S.Site.own R.Runner.own board
+        → IsGraphOf (entries_in board.opening.graph.table) (first_graph board)
+        → HoldsTogether board
+        → IsKeptNow S.Site.own R.next language (S.known board.opening.site) board.opening.site
+        → IsKeptSite R.next language (S.known board.site) (S.world board.opening.site)
+        (Since S.Site.own board) }
 {
     let _ = site;
     let _ = runner;
