@@ -129,6 +129,15 @@ impl Graph {
         self.nodes.nodes()
     }
 
+    /// The same nodes, with the maps that lead back over what their records ask.
+    pub fn indexed(&self) -> &Indexed
+        ensures value { result.now ≡ self.now.nodes }
+        ensures graph { IsTrue (is_fresh self.now)
+            → IsGraphOf (entries_in self.now.table) result.now }
+    {
+        &self.nodes
+    }
+
     /// The rules whose records ask a path, in ascending order.
     pub fn readers_of(&self, alloc: Global, path: &Path) -> Result<Vec<u32>, GraphFault>
         ensures readers { IfOk result (λ numbers. (number : ℕ)
