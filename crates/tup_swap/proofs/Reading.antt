@@ -1,7 +1,7 @@
 -- Rules whose records ask an output of a new one, one rule after another.
 use Rattle.std.specs.Prelude.{◌≡◌, ◌⊎◌, ◌↔◌, ◌+◌, ◌<◌, ◌≤◌, ℕ, true, false, List, [], ◌++◌, Option, Some, Contains, length, slice_get}
-use Rattle.std.proofs.Common.{refl, sym, subst, inl, inr, get_or, arith}
-use Rattle.std.proofs.lemmas.Bool.{cases_eq, true≢false}
+use Rattle.std.proofs.Common.{refl, sym, subst, ◌∙◌, inl, inr, get_or, arith}
+use Rattle.std.proofs.lemmas.Bool.{cases_eq}
 use Rattle.std.proofs.lemmas.List.Elements.{Contains-append_left, Contains-append_right, Contains-append_cases}
 use Rattle.std.proofs.lemmas.Option.{same_Some, slice_get_read, slice_get_within}
 use Rattle.tup_rule.specs.declared.rule.Rule.{Rule}
@@ -26,7 +26,7 @@ module _ (led : GraphState) (befores : List (Option ℕ)) where
   pub none_read : (rules : List Rule) (found : List ℕ) → found ≡ [] → (number : ℕ) → Contains found number ↔ ReadsOneOf rules 0 number
   none_read rules found empty number = (
     λ h. absurd (none_in number (subst (λ (l : List ℕ). Contains l number) empty h)),
-    λ (at, rule, less, here, reads). absurd (omega arith),
+    λ (at, rule, less, here, reads). absurd (omega (arith, less)),
   )
 
   module _ (rules : List Rule) (i : ℕ) (rule : Rule) (less : i < length rules) (is : rule ≡ get_or rules i rule) (found new : List ℕ)
@@ -41,7 +41,7 @@ module _ (led : GraphState) (befores : List (Option ℕ)) where
     from : (number : ℕ) → ReadsOneOf rules (i + 1) number → Contains new number
     from number (at, other, below, there, reads) = elim (cases_eq at i) [
       | inl same ↦ grows.all number (subst (λ (x : ℕ × Rule). ReadsIfNew led befores x.0 x.1 number)
-          (λ k. (same k, same_Some other rule (let at_i : slice_get rules i ≡ Some other = subst (λ (n : ℕ). slice_get rules n ≡ Some other) same there in cc) k)) reads)
+          (λ k. (same k, same_Some other rule (sym (subst (λ (n : ℕ). slice_get rules n ≡ Some other) same there) ∙ here) k)) reads)
       | inr apart ↦ grows.kept number ((are number).1 (at, other, omega (arith, below), there, reads))
     ]
 

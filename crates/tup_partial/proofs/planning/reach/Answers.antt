@@ -1,13 +1,16 @@
 use Rattle.std.proofs.Common.{◌≡◌, ◌↔◌, ℕ, true, List, Contains, sym, subst}
 use Rattle.tup_graph.specs.Above.{IsAbove}
 use Rattle.tup_graph.specs.Graph.{GraphState, is_flagged}
-use Rattle.tup_partial.specs.Plan.{IsToRun}
+use Rattle.tup_partial.specs.Plan.{AreFlagsOfRules, IsToRun}
 use Rattle.tup_partial.proofs.Reach.{above_others, in_other_words}
 use Rattle.tup_partial.proofs.planning.reach.Goals as goal
 
 -- the flagged rules of the same graph
 flagged_of : (numbers : List ℕ) (nodes g : GraphState) → nodes ≡ g → ((n : ℕ) → Contains numbers n ↔ (is_flagged nodes n ≡ true)) → (n : ℕ) → Contains numbers n ↔ (is_flagged g n ≡ true)
 flagged_of numbers nodes g same flagged = subst (λ (h : GraphState). (n : ℕ) → Contains numbers n ↔ (is_flagged h n ≡ true)) same flagged
+
+pub flagged-requires : goal.flagged-requires
+flagged-requires c = subst AreFlagsOfRules (sym c.nodes.ensures) c.requires.flags
 
 pub above-requires-clause-roots : goal.above-requires-clause-roots
 above-requires-clause-roots c = λ root inside.
