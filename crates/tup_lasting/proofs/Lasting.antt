@@ -126,7 +126,9 @@ module _ {S R : Type 0} (site : Site S) (runner : Runner R) (b : BoardState S) (
       let could = (sound.lost lost.commit lost.here).run run lost.kept in
       record_names number rule run (end_of plan (start b) could.before) could.seat here (subst (λ (n : ℕ). IsRecordOf plan (end_of plan (start b) could.before) could.seat n run) lost.rule could.kept)
 
-  module _ (v w : World) (before : Before site b v) (g : GraphState) (image : IsImageOver b v w g) where
+  -- an image, beside the world that was first or one that came of it
+  module _ (v w : World) (before : Before site b v) (g : GraphState) (image : IsImageOver b v w g) (base : World) (base_free : (path : Names) → (IsClaimed plan (state b) path → ⊥) → HasFileOf first base path)
+      (base_flagged : (number : ℕ) (path : Names) → Makes plan number path → is_flagged g number ≡ true → IsOwnedAs g path Unsure ⊎ HasFileOf first base path) where
     -- ---- a path that no rule makes
     module _ (path : Names) (unmade : is_generated plan.rules path ≡ false) where
       unclaimed : IsClaimed plan (state b) path → ⊥
@@ -141,9 +143,9 @@ module _ {S R : Type 0} (site : Site S) (runner : Runner R) (b : BoardState S) (
       free_sources : file_beside w g path ≡ file_beside v fg path
       free_sources = λ i. elim (is_some (free_owned i)) [ true ↦ None | false ↦ free_file i ]
 
-      free_own : (o : Owned) → finite.get g.owned path ≡ Some o → HoldsItsOwn first w path o
+      free_own : (o : Owned) → finite.get g.owned path ≡ Some o → HoldsItsOwn base w path o
       free_own o is =
-          holds_alike first first v w path o o refl free_file refl
+          holds_alike first base v w path o o (base_free path unclaimed) free_file refl
           (holds_before site next language known first (site.moment b.opening.site) b.opening.graph b.opening.site over earlier v before path o (sym free_owned ∙ is))
 
     -- ---- an output of a rule
@@ -176,25 +178,31 @@ module _ {S R : Type 0} (site : Site S) (runner : Runner R) (b : BoardState S) (
           ∙ sym (ap (λ (o : Bool). elim o [ true ↦ None | false ↦ finite.get v.tree path ]) owned_first)
 
       -- as it was
-      stays : (o : Owned) → finite.get g.owned path ≡ Some o → HasOf fg g number rule → HasFileOf v w path → HoldsItsOwn first w path o
-      stays o is has file =
-          holds_alike first first v w path o o refl file refl
+      stays : (o : Owned) → finite.get g.owned path ≡ Some o → HasOf fg g number rule → HasFileOf v w path → HasFileOf first base path → HoldsItsOwn base w path o
+      stays o is has file based =
+          holds_alike first base v w path o o based file refl
           (holds_before site next language known first (site.moment b.opening.site) b.opening.graph b.opening.site over earlier v before path o (sym (has.owned path makes.output) ∙ is))
 
       -- its run had begun
-      unsure : (o : Owned) → finite.get g.owned path ≡ Some o → HasOf (begun fg number) g number rule → HoldsItsOwn first w path o
+      unsure : (o : Owned) → finite.get g.owned path ≡ Some o → HasOf (begun fg number) g number rule → HoldsItsOwn base w path o
       unsure o is has = inl (ap (λ (x : Owned). x.state) (same_Some o _ (sym is ∙ has.owned path makes.output ∙ begun_own fg number rule here path makes.output)))
 
-      while_flagged : (o : Owned) → finite.get g.owned path ≡ Some o → is_flagged g number ≡ true → HasCome b g number rule → IsOwnedAs g path Unsure ⊎ HasFileOf v w path → HoldsItsOwn first w path o
-      while_flagged o is flagged has (inl begins) = inl (ap (λ (x : Owned). x.state) (same_Some o begins.owned (sym is ∙ begins.here)) ∙ begins.state)
-      while_flagged o is flagged (inl has) (inr file) = stays o is has file
-      while_flagged o is flagged (inr (inl has)) (inr file) = unsure o is has.1
-      while_flagged o is flagged (inr (inr (run, ends, has))) (inr file) =
+      -- it is open what stands there
+      begins : (o : Owned) → finite.get g.owned path ≡ Some o → IsOwnedAs g path Unsure → HoldsItsOwn base w path o
+      begins o is began = inl (ap (λ (x : Owned). x.state) (same_Some o began.owned (sym is ∙ began.here)) ∙ began.state)
+
+      while_flagged : (o : Owned) → finite.get g.owned path ≡ Some o → is_flagged g number ≡ true → HasCome b g number rule → IsOwnedAs g path Unsure ⊎ HasFileOf v w path
+          → IsOwnedAs g path Unsure ⊎ HasFileOf first base path → HoldsItsOwn base w path o
+      while_flagged o is flagged has (inl began) based = begins o is began
+      while_flagged o is flagged has (inr file) (inl began) = begins o is began
+      while_flagged o is flagged (inl has) (inr file) (inr based) = stays o is has file based
+      while_flagged o is flagged (inr (inl has)) (inr file) (inr based) = unsure o is has.1
+      while_flagged o is flagged (inr (inr (run, ends, has))) (inr file) (inr based) =
           absurd (true≢false (sym flagged ∙ has.flag ∙ flag_here fg number rule here run (ended_names number rule run makes.here ends)))
 
       -- a rule that wasn't to be run
-      not_to_run : (o : Owned) → finite.get g.owned path ≡ Some o → is_reached plan number ≡ false → HasCome b g number rule → HoldsItsOwn first w path o
-      not_to_run o is off (inl has) = stays o is has (image.others path unclaimed_here)
+      not_to_run : (o : Owned) → finite.get g.owned path ≡ Some o → is_reached plan number ≡ false → HasCome b g number rule → HoldsItsOwn base w path o
+      not_to_run o is off (inl has) = stays o is has (image.others path unclaimed_here) (base_free path unclaimed_here)
         where
           unclaimed_here : IsClaimed plan (state b) path → ⊥
           unclaimed_here (other, claimed, theirs) =
@@ -202,11 +210,11 @@ module _ {S R : Type 0} (site : Site S) (runner : Runner R) (b : BoardState S) (
       not_to_run o is off (inr (inl has)) = unsure o is has.1
       not_to_run o is off (inr (inr (run, ends, has))) = absurd (true≢false (sym (ended_reached number run ends) ∙ off))
 
-      made_own : (o : Owned) → finite.get g.owned path ≡ Some o → HoldsItsOwn first w path o
+      made_own : (o : Owned) → finite.get g.owned path ≡ Some o → HoldsItsOwn base w path o
       made_own o is = by (is_flagged g number) refl (is_reached plan number) refl
         where
-          by : (flagged : Bool) → is_flagged g number ≡ flagged → (reached : Bool) → is_reached plan number ≡ reached → HoldsItsOwn first w path o
-          by true flagged reached within = while_flagged o is flagged come (image.unmade number path makes flagged)
+          by : (flagged : Bool) → is_flagged g number ≡ flagged → (reached : Bool) → is_reached plan number ≡ reached → HoldsItsOwn base w path o
+          by true flagged reached within = while_flagged o is flagged come (image.unmade number path makes flagged) (base_flagged number path makes flagged)
           by false flagged true within =
               let holds = image.made number path makes within flagged in
               inr (inr (holds.seen, ap (λ (x : Owned). x.state) (same_Some o holds.written.owned (sym is ∙ holds.written.here)) ∙ holds.written.state, holds.holds))
@@ -225,17 +233,20 @@ module _ {S R : Type 0} (site : Site S) (runner : Runner R) (b : BoardState S) (
         by true is = (let it = made_by path is in made_sources it.0 path it.1)
         by false is = free_sources path is
 
-    image_own : (path : Names) (o : Owned) → finite.get g.owned path ≡ Some o → HoldsItsOwn first w path o
+    pub image_own : (path : Names) (o : Owned) → finite.get g.owned path ≡ Some o → HoldsItsOwn base w path o
     image_own path o owned = by (is_generated plan.rules path) refl
       where
-        by : (made : Bool) → is_generated plan.rules path ≡ made → HoldsItsOwn first w path o
+        by : (made : Bool) → is_generated plan.rules path ≡ made → HoldsItsOwn base w path o
         by true is = (let it = made_by path is in made_own it.0 path it.1 o owned)
         by false is = free_own path is o owned
 
-    pub image_stays : (k : GraphState) → IsGraphIn w.store k → StaysBeside first fg w k
-    image_stays k reads =
-        subst (StaysBeside first fg w) (one_in_bytes w.store g k (in_bytes g w.store image.store) reads)
-        (record { sources = image_sources; own = image_own })
+  pub image_stays : (v w : World) → Before site b v → (g : GraphState) → IsImageOver b v w g → (k : GraphState) → IsGraphIn w.store k → StaysBeside first fg w k
+  image_stays v w before g image k reads =
+      subst (StaysBeside first fg w) (one_in_bytes w.store g k (in_bytes g w.store image.store) reads)
+      (record {
+        sources = image_sources v w before g image first (λ path free. refl) (λ number path makes flagged. inr refl);
+        own = image_own v w before g image first (λ path free. refl) (λ number path makes flagged. inr refl);
+      })
 
   -- ---- the graph of an image is kept
   module _ (more : List Content) (also : (content : Content) → Contains known content → Contains more content) (honest : IsHonest next more plan (start b) b.history)

@@ -1,5 +1,5 @@
 //! What a board leaves of a kept site.
-ghost use Rattle.std.specs.Prelude.{List, IsTrue};
+ghost use Rattle.std.specs.Prelude.{◌≡◌, List, None, IsTrue};
 ghost use Rattle.tup_path.specs.Name.{Content};
 ghost use Rattle.tup_site.specs.World.{World};
 ghost use Rattle.tup_runner.specs.Next.{Next};
@@ -44,6 +44,19 @@ pub fn boards_keep_sites<S: Site, R: Runner>(site: &S, runner: &R)
         → IsKeptNow S.Site.own R.next language (S.known board.opening.site) board.opening.site
         → IsKeptSite R.next language (S.known board.site) (S.world board.opening.site)
         (Since S.Site.own board) }
+{
+    let _ = site;
+    let _ = runner;
+}
+
+/// A law: and as it is the site is kept, where no commit was lost.
+pub fn boards_leave_kept<S: Site, R: Runner>(site: &S, runner: &R)
+    ensures { (language : Language) (board : BoardState S) → IsTrue S.tells → IsTrue R.tells
+        → IsSound S.Site.own R.Runner.own board → board.lost ≡ None
+        → IsGraphOf (entries_in board.opening.graph.table) (first_graph board)
+        → IsGraphOf (entries_in board.graph.table) board.graph.nodes → HoldsTogether board
+        → IsKeptNow S.Site.own R.next language (S.known board.opening.site) board.opening.site
+        → IsKeptNow S.Site.own R.next language (S.known board.site) board.site }
 {
     let _ = site;
     let _ = runner;

@@ -3,4 +3,4 @@
 
 mod laws;
 
-pub use laws::{boards_keep_sites, boards_keep_sources};
+pub use laws::{boards_keep_sites, boards_keep_sources, boards_leave_kept};
