@@ -128,7 +128,7 @@ module _ (next : Next) (language : Language) (known : List Content) (first : Wor
         file.1,
         state,
         subst (λ (p : Names). option_map stamp (finite.get w.tree p) ≡ Some file.1) here
-        (All-contains (λ (f : Names × Stamp). option_map stamp (finite.get w.tree f.0) ≡ Some f.1) run.writes file (stand w left) there),
+            (All-contains (λ (f : Names × Stamp). option_map stamp (finite.get w.tree f.0) ≡ Some f.1) run.writes file (stand w left) there),
       ))))
 
   pub doom_follows : (paths : List Names) → ((path : Names) (o : Owned) → among path paths ≡ true → finite.get g.owned path ≡ Some o → o.maker ≡ None) → Follows (with_doomed g paths)

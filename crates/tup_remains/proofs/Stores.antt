@@ -20,7 +20,7 @@ in_bytes g bytes is = record {
 pub one_in_bytes : (bytes : List ℕ) (g h : GraphState) → IsGraphIn bytes g → IsGraphIn bytes h → g ≡ h
 one_in_bytes bytes g h one other =
     let both : Ok (opened_of one.commits) ≡ Ok (opened_of other.commits) =
-      reads_one bytes (Ok (opened_of one.commits)) (Ok (opened_of other.commits)) (one.commits, one.reads, refl) (other.commits, other.reads, refl) in
+    reads_one bytes (Ok (opened_of one.commits)) (Ok (opened_of other.commits)) (one.commits, one.reads, refl) (other.commits, other.reads, refl) in
     let opened : opened_of one.commits ≡ opened_of other.commits = cc in
     let entries : entries_of one.commits ≡ entries_of other.commits = ap (λ (o : Opened). o.entries) opened in
     one_graph (entries_of one.commits) g h one.graph (subst (λ (e : Standing). IsGraphOf e h) (sym entries) other.graph)
