@@ -1,13 +1,11 @@
 -- A call that changes the file at an unsure path keeps a kept site.
-use Rattle.std.proofs.Common.{◌≡◌, ◌≢◌, ◌⊎◌, inl, inr, ⊎_elim, ℕ, ◌≤◌, Bool, true, false, is_some, List, Option, None, Some, Contains, refl, sym, ap, subst, ◌∙◌, arith}
+use Rattle.std.proofs.Common.{◌≡◌, ◌≢◌, ◌⊎◌, inl, inr, ℕ, ◌≤◌, Bool, true, false, is_some, List, Option, None, Some, Contains, refl, sym, ap, subst, ◌∙◌, arith}
 use Rattle.std.specs.FinMap as finite
 use Rattle.tup_path.specs.Name.{Names, Content}
-use Rattle.tup_path.specs.Tree.{Tree}
 use Rattle.tup_site.specs.Cause.{SameBut}
 use Rattle.tup_site.specs.Crash.{FileStep, GoesOn}
 use Rattle.tup_site.specs.World.{World, StoreStays}
 use Rattle.tup_site.specs.declared.site.Site.{Ghosts as Site}
-use Rattle.tup_record.specs.declared.owned.OwnedState.TheVariants.{Unsure}
 use Rattle.tup_runner.specs.Next.{Next}
 use Rattle.tup_graph.specs.declared.owned.Owned.{Owned}
 use Rattle.tup_graph.specs.Graph.{GraphState, is_owned}

@@ -1,18 +1,17 @@
 -- Which graphs may follow a kept one on a kept site: those that the transactions leave.
-use Rattle.std.proofs.Common.{◌≡◌, ◌⊎◌, inl, inr, ℕ, zero, suc, Bool, true, false, cond, is_some, unwrap_or, List, [], ◌∷◌, fold, length, slice_index_or, Option, None, Some, All, Contains, refl, sym, ap, subst, ◌∙◌, arith}
+use Rattle.std.proofs.Common.{◌≡◌, ◌⊎◌, inl, inr, ℕ, zero, suc, Bool, true, false, cond, is_some, unwrap_or, List, [], ◌∷◌, fold, Option, None, Some, Contains, refl, sym, ap, subst, ◌∙◌, arith}
 use Rattle.std.specs.FinMap as finite
 use Rattle.std.specs.Option.{option_map}
 use Rattle.std.proofs.lemmas.List.Elements.{All-contains}
 use Rattle.tup_path.specs.Name.{Names, Content}
-use Rattle.tup_path.specs.Order.{by_names, same_path, same_path-by_names, by_names-total}
+use Rattle.tup_path.specs.Order.{same_path, same_path-by_names, by_names-total}
 use Rattle.tup_path.proofs.Same.{same_path-decides}
 use Rattle.tup_site.specs.World.{World}
 use Rattle.tup_stamp.specs.declared.Stamp.{Stamp}
 use Rattle.tup_stamp.specs.Stamp.{stamp}
-use Rattle.tup_rule.specs.Rule.{among, writes}
+use Rattle.tup_rule.specs.Rule.{among}
 use Rattle.tup_rule.specs.declared.rule.Rule.{Rule}
 use Rattle.tup_runner.specs.Next.{Next}
-use Rattle.tup_record.specs.declared.owned.OwnedState.{OwnedState}
 use Rattle.tup_record.specs.declared.owned.OwnedState.TheVariants.{Unsure, Written}
 use Rattle.tup_record.specs.declared.run.RunRecord.{RunRecord}
 use Rattle.tup_graph.specs.declared.owned.Owned.{Owned}

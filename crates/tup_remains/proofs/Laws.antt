@@ -1,5 +1,5 @@
 -- The laws of the calls, from what follows a graph.
-use Rattle.std.proofs.Common.{◌≡◌, ◌⊎◌, inl, inr, ⊎_elim, ℕ, ◌≤◌, Bool, true, false, cond, IsTrue, List, Option, None, Some, All, Contains, refl, sym, ap, subst, ◌∙◌, arith}
+use Rattle.std.proofs.Common.{◌≡◌, inl, inr, ⊎_elim, ℕ, ◌≤◌, Bool, true, false, cond, IsTrue, List, Option, None, Some, All, Contains, refl, sym, ap, ◌∙◌}
 use Rattle.std.specs.Prelude.{option_to_list}
 use Rattle.std.specs.FinMap as finite
 use Rattle.std.specs.Option.{option_map}
@@ -18,7 +18,7 @@ use Rattle.tup_graph.specs.Reach.{stamp_in}
 use Rattle.tup_graph.specs.Records.{Language}
 use Rattle.tup_graph.specs.Scan.{IsScanned}
 use Rattle.tup_graph.specs.Swap.{IsSwapped}
-use Rattle.tup_kept.specs.Crash.{GraphStep, IsStoreOf, LeavesEither}
+use Rattle.tup_kept.specs.Crash.{GraphStep, LeavesEither}
 use Rattle.tup_kept.specs.Held.{Held}
 use Rattle.tup_keeps.specs.Fitting.{AreFitting}
 use Rattle.tup_note.specs.Crash.{HasEitherOf, LeavesNoted, NoteStep}

@@ -1,14 +1,12 @@
 -- Which graphs may follow a kept one on a kept site: those that a scan and a swap of rules leave.
-use Rattle.std.proofs.Common.{◌≡◌, ◌⊎◌, inl, inr, ℕ, Bool, true, false, cond, is_some, List, Option, None, Some, All, Contains, refl, sym, ap, ◌∙◌}
+use Rattle.std.proofs.Common.{◌≡◌, ◌⊎◌, inl, inr, ℕ, Bool, true, false, is_some, List, Option, None, Some, All, Contains, refl, sym, ap, ◌∙◌}
 use Rattle.std.specs.FinMap as finite
-use Rattle.std.specs.Option.{option_map}
 use Rattle.std.specs.Prelude.{option_to_list}
 use Rattle.std.proofs.lemmas.Option.{same_Some}
 use Rattle.tup_path.specs.Name.{Names, Content}
 use Rattle.tup_path.specs.Order.{by_names}
 use Rattle.tup_site.specs.World.{World}
 use Rattle.tup_stamp.specs.declared.Stamp.{Stamp}
-use Rattle.tup_stamp.specs.Stamp.{stamp}
 use Rattle.tup_rule.specs.Rule.{maker}
 use Rattle.tup_rule.specs.declared.question.Reading.{Reading}
 use Rattle.tup_rule.specs.declared.rule.Rule.{Rule}

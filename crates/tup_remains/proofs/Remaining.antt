@@ -7,9 +7,8 @@ use Rattle.tup_path.specs.Tree.{Tree}
 use Rattle.tup_site.specs.Crash.{GoesOn}
 use Rattle.tup_site.specs.World.{World, TreeStays}
 use Rattle.tup_site.specs.declared.site.Site.{Ghosts as Site}
-use Rattle.tup_stamp.specs.declared.Stamp.{Stamp}
 use Rattle.tup_stamp.specs.Stamp.{stamp}
-use Rattle.tup_record.specs.declared.owned.OwnedState.TheVariants.{Unsure, Written}
+use Rattle.tup_record.specs.declared.owned.OwnedState.TheVariants.{Unsure}
 use Rattle.tup_runner.specs.Next.{Next}
 use Rattle.tup_graph.specs.declared.owned.Owned.{Owned}
 use Rattle.tup_graph.specs.Graph.{GraphState, is_owned}
