@@ -28,7 +28,7 @@ module _ (g : GraphState) where
   unsure path = record { maker = maker_in g path; state = Unsure }
 
   -- these paths are, and those that were
-  owned_more : (paths : List Names) (owned : finite.FinMap by_names Owned) (q : Names) → is_some (finite.get (fold (with_own g) owned paths) q) ≡ (among q paths || is_some (finite.get owned q))
+  pub owned_more : (paths : List Names) (owned : finite.FinMap by_names Owned) (q : Names) → is_some (finite.get (fold (with_own g) owned paths) q) ≡ (among q paths || is_some (finite.get owned q))
   owned_more [] owned q = refl
   owned_more (path ∷ paths) owned q =
       owned_more paths (with_own g owned path) q

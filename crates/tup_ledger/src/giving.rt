@@ -8,6 +8,8 @@ ghost use Rattle.tup_kept.specs.Crash.{LeavesEither};
 ghost use Rattle.tup_kept.specs.Held.{is_fresh, StandsFor};
 ghost use Rattle.tup_kept.specs.Transaction.{IsFull};
 ghost use Rattle.tup_ledger.specs.Given.{GivesUp, IsRefused};
+ghost use Rattle.tup_ledger.specs.Listing.{Lists};
+ghost use Rattle.tup_ledger.specs.Owned.{owned_in};
 ghost use Rattle.tup_ledger.specs.Sources.{Guards, HaveNoFiles, IsDurable, Kept, KeepsSources};
 
 use std::alloc::Global;
@@ -32,6 +34,8 @@ pub fn give_up<S: Site>(
 
     ensures gives_up { GivesUp S.tells paths.now graph.old graph.new
         (S.world site.old) (S.world site.new) result }
+    ensures lists { IsTrue S.tells → let left = with_forgotten graph.old.nodes paths.now in
+        OnOk result (Lists (S.world site.new).store (owned_in left)) }
     ensures full { IsFull graph.old (forget_edits graph.old.nodes paths.now) → IsRefused result }
     ensures stands { IsTrue S.tells → IsTrue (is_fresh graph.new)
         → StandsFor S.world S.moment S.left_since graph.new site.new }

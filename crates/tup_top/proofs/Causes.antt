@@ -11,7 +11,7 @@ use Rattle.tup_rule.specs.declared.rule.Rule.{Rule}
 use Rattle.tup_rule.specs.declared.rule.RuleName.{RuleName}
 use Rattle.tup_runner.specs.Next.{Next}
 use Rattle.tup_access.specs.declared.verdict.Verdict.TheVariants.{Good, Failed, IllegalRead as ReadsIllegally, IllegalWrite as WritesIllegally, Unwritten as LeavesUnwritten, TooManyReads as ReadsTooOften}
-use Rattle.tup_owned.specs.Ascending.{ascending}
+use Rattle.tup_ledger.specs.Ascending.{ascending}
 use Rattle.tup_update.specs.Holding.{holding}
 use Rattle.tup_clean.specs.Taken.{Taken}
 use Rattle.tup_update.specs.Log.{LogFits, RulesFit, OfRules}

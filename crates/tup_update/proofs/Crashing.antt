@@ -17,7 +17,7 @@ use Rattle.tup_rule.specs.declared.rule.Rule.{Rule}
 use Rattle.tup_rule.specs.Rule.{among}
 use Rattle.tup_rule.proofs.Laws.{writes-at}
 use Rattle.tup_runner.specs.Next.{Next}
-use Rattle.tup_owned.specs.Ascending.{ascending}
+use Rattle.tup_ledger.specs.Ascending.{ascending}
 use Rattle.tup_owned.specs.Owned.{owned_of, spelling}
 use Rattle.tup_update.specs.Holding.{Holding, Lists, Shows, holding}
 use Rattle.tup_update.specs.Images.{FilesStep, ListedStep, SettledStep, MakesStep}

@@ -13,9 +13,8 @@ use Rattle.tup_access.specs.declared.verdict.Verdict.{Verdict}
 use Rattle.tup_runner.specs.Next.{Next}
 use Rattle.tup_clean.specs.Clean.{clean}
 use Rattle.tup_clean.specs.Taken.{Taken, takes, up_to_bad, verdicts_of}
-use Rattle.tup_owned.specs.Owned.{owned_of, spelling}
-use Rattle.tup_update.specs.Holding.{Holding, Lists, OfHeld, holding}
-use Rattle.tup_owned.specs.Ascending.{ascending}
+use Rattle.tup_update.specs.Holding.{Holding, HoldsOn, Lists, OfHeld, holding}
+use Rattle.tup_ledger.specs.Ascending.{ascending}
 use Rattle.tup_update.specs.Log.{IsFront, IsGrownByFront, IsPartOf, IsEmptyLog, IsUnused, LogFits, RulesFit, whole_log, with_read}
 use Rattle.tup_update.specs.Outcome.{Stays, Keeps, MadeBeforeBad, IsBehindBad, HasCause, HasCountedCause, IsBadRule, IsMade, IsListed, ClaimedListed, AllIsMade, IsLeft, NothingForgotten, SourcesStay, claimed}
 use Rattle.tup_update.specs.Outside.{HandsOn}
@@ -50,14 +49,12 @@ err_back {A} {E} (Err given) stop is = let same : given ≡ stop = cc is in ap (
 
 -- why a project has no rules
 pub refusal_unread : (w : World) (paths : List Names) (unread : Unread) → Lists w.store paths → IsRefusal (holding w paths) unread → IsUnread w unread
-refusal_unread w paths (Store offset) lists refused = absurd refused
 refusal_unread w paths (Sources fault) lists refused = (holding w paths, record { lists = lists; tree = refl }, refused)
 refusal_unread w paths (Unlucky Fault) lists refused = tt
 refusal_unread w paths (Unlucky (TooLarge n)) lists refused = absurd (cc refused)
 refusal_unread w paths (Unlucky Memory) lists refused = tt
 
 pub unread_cause : (next : Next) (rules : List Rule) (old new : World) (unread : Unread) → new ≡ old → IsUnread old unread → HasCause next rules old new (Some (stop_of unread))
-unread_cause next rules old new (Store offset) same why = why
 unread_cause next rules old new (Sources fault) same why = why
 unread_cause next rules old new (Unlucky Fault) same why = tt
 unread_cause next rules old new (Unlucky (TooLarge n)) same why = subst (λ (w : World). HasFileOf n w.tree) (sym same) why
@@ -65,12 +62,10 @@ unread_cause next rules old new (Unlucky Memory) same why = tt
 
 -- what is told of the rules tells of no failure of the site
 pub refusal_knows : (unread : Unread) → IsOfRules unread → KnowsLimits unread
-refusal_knows (Store offset) told = absurd told
 refusal_knows (Sources fault) told = told
 refusal_knows (Unlucky failed) told = tt
 
 pub refusal_counts : (before now : ℕ) (unread : Unread) → now ≡ before → IsOfRules unread → HasCountedCause before now (Some (stop_of unread))
-refusal_counts before now (Store offset) same told = absurd told
 refusal_counts before now (Sources fault) same told = (same, told)
 refusal_counts before now (Unlucky Fault) same told = absurd (cc told)
 refusal_counts before now (Unlucky (TooLarge n)) same told = absurd (cc told)
@@ -87,7 +82,6 @@ refusal_hands_on {T} before now (Err given) unread is same told = record {
 -- the counts of what stops before it begins
 pub unread_counts : {T : Type 0} (before now : ℕ) (result : Result T Unread) (unread : Unread) → result ≡ Err unread → HandsOn Unlucky before now result → KnowsLimits unread →
     HasCountedCause before now (Some (stop_of unread))
-unread_counts before now result (Store offset) is hands limits = hands.steady (λ e. cc (is, e))
 unread_counts before now result (Sources fault) is hands limits = (hands.steady (λ e. cc (is, e)), limits)
 unread_counts before now result (Unlucky Fault) is hands limits = hands.fault is
 unread_counts before now result (Unlucky (TooLarge n)) is hands limits = (hands.steady (λ e. cc (is, e)), hands.too_large n is)
@@ -115,19 +109,17 @@ unread_stays tells next rules old new log unread same none empty = record {
 }
   where
     fit : (unread : Unread) → RulesFit old rules (Some (stop_of unread))
-    fit (Store offset) = none
     fit (Sources fault) = none
     fit (Unlucky failed) = inl none
 
+    still : HoldsOn old new
+    still = record { tree = ap (λ (w : World). w.tree) same; lists = λ paths lists. subst (λ (w : World). Lists w.store paths) (sym same) lists }
+
     forgotten : (unread : Unread) → NothingForgotten tells next rules old new (Some (stop_of unread))
-    forgotten (Store offset) = same
-    forgotten (Sources fault) = same
-    forgotten (Unlucky Fault) = inl same
-    forgotten (Unlucky (TooLarge n)) = inl same
-    forgotten (Unlucky Memory) = inl same
+    forgotten (Sources fault) = still
+    forgotten (Unlucky failed) = inr (inl still)
 
     turns : (unread : Unread) → TurnsFit rules log.ran log.ended (Some (stop_of unread))
-    turns (Store offset) = (empty.2, empty.3)
     turns (Sources fault) = (empty.2, empty.3)
     turns (Unlucky failed) = no_turns rules log.ran log.ended empty.2 empty.3
 
@@ -141,12 +133,10 @@ unread_keeps next rules old new log unread why empty = record {
 }
   where
     before : (unread : Unread) → MadeBeforeBad next rules old new (Some (stop_of unread))
-    before (Store offset) = tt
     before (Sources fault) = tt
     before (Unlucky failed) = tt
 
     logged : (unread : Unread) → LogFits next rules old log (Some (stop_of unread))
-    logged (Store offset) = empty
     logged (Sources fault) = empty
     logged (Unlucky failed) = inl empty
 
@@ -162,9 +152,7 @@ small_failure {A} called failed is never n e = never n (is ∙ ap (λ (f : SiteF
 -- what is left where the outside stops the making
 left_forgets_nothing : (tells : Bool) (next : Next) (rules : List Rule) (old new : World) (failed : SiteFailed) → IsSmallFailure failed → IsLeft tells next rules old new →
     NothingForgotten tells next rules old new (Some (Outside failed))
-left_forgets_nothing tells next rules old new Fault small left = inr left
-left_forgets_nothing tells next rules old new (TooLarge n) small left = absurd (small n refl)
-left_forgets_nothing tells next rules old new Memory small left = inr left
+left_forgets_nothing tells next rules old new failed small left = inr left
 
 small_cause : (next : Next) (rules : List Rule) (old new : World) (failed : SiteFailed) → IsSmallFailure failed → HasCause next rules old new (Some (Outside failed))
 small_cause next rules old new Fault small = tt
@@ -229,7 +217,7 @@ module _ (project : Project) (old : World) (is : IsProject project old) where
   unplanned_stays tells next log unused = record {
     sources_stay = unchanged_sources old old refl;
     rules_fit = inr asks;
-    nothing_forgotten = inl refl;
+    nothing_forgotten = inr (inl (record { tree = refl; lists = λ paths lists. lists }));
     turns_fit = no_turns project.rules log.ran log.ended unused.1 unused.2;
   }
 
@@ -275,25 +263,25 @@ module _ (project : Project) (old mid : World) (vanishing claiming : List Names)
       (sources_are_kept held_then project.rules now.tree way.is.buildable (subst (λ (t : Tree). Changes project.owned project.rules old.tree t) (sym same) (changed ran behind)))
 
   -- all that was claimed is listed
-  listed : (now : World) → SameBesideOutputs project.rules mid.tree now.tree → now.store ≡ spelling claiming → ClaimedListed project.rules old now
+  listed : (now : World) → SameBesideOutputs project.rules mid.tree now.tree → Lists now.store claiming → ClaimedListed project.rules old now
   listed now behind stored =
       kept_then (λ held. IsListed (claimed project.rules held) held now)
-      (claimed_known old.store held_then now project.rules way.is.owned way.is.buildable (changed now behind) (stored ∙ ap spelling way.claims))
+      (claimed_known held_then now project.rules way.is.buildable (changed now behind) (subst (λ (l : List Names). Lists now.store l) way.claims stored))
 
   -- ---- the outside stopped what comes before the rules
 
-  pub unprepared_stays : (tells : Bool) (next : Next) (log : Log) (failed : SiteFailed) → (mid.store ≡ spelling claiming) ⊎ TreeStays old mid → IsSmallFailure failed →
+  pub unprepared_stays : (tells : Bool) (next : Next) (log : Log) (failed : SiteFailed) → Lists mid.store claiming ⊎ HoldsOn old mid → IsSmallFailure failed →
       log.ran ≡ [] → log.ended ≡ [] → Stays tells next project.rules old mid (with_read project.read log) (Some (Outside failed))
   unprepared_stays tells next log failed left small nothing none = record {
     sources_stay = stay mid mid (λ path unmade. refl) refl;
     rules_fit = inr asks_then;
-    nothing_forgotten = left_forgets_nothing tells next project.rules old mid failed small (asks_then, by left);
+    nothing_forgotten = left_forgets_nothing tells next project.rules old mid failed small (by left);
     turns_fit = no_turns project.rules log.ran log.ended nothing none;
   }
     where
-      by : (mid.store ≡ spelling claiming) ⊎ TreeStays old mid → ClaimedListed project.rules old mid ⊎ (mid.tree ≡ old.tree) ⊎ OfHeld old (λ held. AllIsMade tells next project.rules held mid)
-      by (inl stored) = inl (listed mid (λ path unmade. refl) stored)
-      by (inr same) = inr (inl same)
+      by : Lists mid.store claiming ⊎ HoldsOn old mid → IsLeft tells next project.rules old mid
+      by (inl stored) = inr (asks_then, inl (listed mid (λ path unmade. refl) stored))
+      by (inr same) = inl same
 
   removed_whole : (before removed : List Names) → before ≡ [] → removed ≡ before ++ vanishing → removed ≡ vanished project.rules held_then
   removed_whole before removed none grown = grown ∙ ap (λ (l : List Names). l ++ vanishing) none ∙ way.vanishes
@@ -306,7 +294,7 @@ module _ (project : Project) (old mid : World) (vanishing claiming : List Names)
 
   -- ---- the rules were halted
 
-  pub unrun_stays : (tells : Bool) (next : Next) (now : World) (log : Log) (halt : Halt) → SameBesideOutputs project.rules mid.tree now.tree → now.store ≡ spelling claiming →
+  pub unrun_stays : (tells : Bool) (next : Next) (now : World) (log : Log) (halt : Halt) → SameBesideOutputs project.rules mid.tree now.tree → Lists now.store claiming →
       TurnsFit project.rules log.ran log.ended (Some (stop_of_halt halt)) → Stays tells next project.rules old now (with_read project.read log) (Some (stop_of_halt halt))
   unrun_stays tells next now log halt behind stored turns = record {
     sources_stay = stay now now behind refl;
@@ -317,9 +305,7 @@ module _ (project : Project) (old mid : World) (vanishing claiming : List Names)
     where
       by : (halt : Halt) → NothingForgotten tells next project.rules old now (Some (stop_of_halt halt))
       by RunHalted = listed now behind stored
-      by (Halted Fault) = inr (asks_then, inl (listed now behind stored))
-      by (Halted (TooLarge n)) = inr (asks_then, listed now behind stored)
-      by (Halted Memory) = inr (asks_then, inl (listed now behind stored))
+      by (Halted failed) = inr (inr (asks_then, inl (listed now behind stored)))
 
   pub unrun_keeps : (next : Next) (now : World) (before : List Names) (log : Log) (halt : Halt) → ((n : ℕ) → halt ≡ Halted (TooLarge n) → HasFileOf n now.tree) → before ≡ [] →
       log.removed ≡ before ++ vanishing → ArePartNoted project.rules (up_to_bad (takes next project.rules (files_beside project.owned mid.tree))) log.ran log.ended →
@@ -341,7 +327,7 @@ module _ (project : Project) (old mid : World) (vanishing claiming : List Names)
       kept_then (λ held. with_read project.read log ≡ whole_log next project.rules held) (λ i. record { read = way.is.read i; removed = gone i; ran = names i; ended = all i })
 
   -- a rule was bad
-  pub bad_stays : (tells : Bool) (next : Next) (now : World) (log : Log) (name : RuleName) (verdict : Verdict) → SameBesideOutputs project.rules mid.tree now.tree → now.store ≡ spelling claiming →
+  pub bad_stays : (tells : Bool) (next : Next) (now : World) (log : Log) (name : RuleName) (verdict : Verdict) → SameBesideOutputs project.rules mid.tree now.tree → Lists now.store claiming →
       TurnsFit project.rules log.ran log.ended (Some (Bad name verdict)) → Stays tells next project.rules old now (with_read project.read log) (Some (Bad name verdict))
   bad_stays tells next now log name verdict behind stored turns = record {
     sources_stay = stay now now behind refl;
@@ -376,7 +362,7 @@ module _ (project : Project) (old mid : World) (vanishing claiming : List Names)
 
   -- a rule was bad, and the site settled its files, or failed to
   pub stopped_stays : (tells : Bool) (next : Next) (now : World) (log : Log) (name : RuleName) (verdict : Verdict) (stop : Stop) → StopsAt name verdict stop → SameBesideOutputs project.rules mid.tree now.tree →
-      now.store ≡ spelling claiming → TurnsFit project.rules log.ran log.ended (Some (Bad name verdict)) → Stays tells next project.rules old now (with_read project.read log) (Some stop)
+      Lists now.store claiming → TurnsFit project.rules log.ran log.ended (Some (Bad name verdict)) → Stays tells next project.rules old now (with_read project.read log) (Some stop)
   stopped_stays tells next now log name verdict stop (inl is) behind stored turns =
       subst (λ (s : Stop). Stays tells next project.rules old now (with_read project.read log) (Some s)) (sym is) (bad_stays tells next now log name verdict behind stored turns)
   stopped_stays tells next now log name verdict stop (inr (failed, is, small)) behind stored turns =

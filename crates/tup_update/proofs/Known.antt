@@ -11,9 +11,8 @@ use Rattle.tup_rule.specs.declared.rule.Rule.{Rule}
 use Rattle.tup_rule.specs.Rule.{among, is_generated}
 use Rattle.tup_clean.proofs.Among.{among-Contains, Contains-among}
 use Rattle.tup_clean.specs.Buildable.{IsBuildable}
-use Rattle.tup_owned.specs.Owned.{owned_of, spelling}
-use Rattle.tup_owned.specs.Ascending.{ascending}
-use Rattle.tup_owned.specs.Members.{ascending_has, ascending_has_only}
+use Rattle.tup_ledger.specs.Ascending.{ascending}
+use Rattle.tup_ledger.specs.Members.{ascending_has, ascending_has_only}
 use Rattle.tup_site.specs.World.{World}
 use Rattle.tup_update.specs.Holding.{Holding, Lists}
 use Rattle.tup_update.specs.Sources.{sources, files_beside, outputs}
@@ -22,7 +21,6 @@ use Rattle.tup_update.specs.Outcome.{IsListed, claimed}
 use Rattle.tup_update.proofs.Beside.{get_beside}
 use Rattle.tup_update.proofs.Fronts.{among_outputs}
 use Rattle.tup_update.proofs.Running.{made_at, beside_made}
-use Rattle.tup_update.proofs.Preparing.{claimed_reads}
 
 same_tests : (a b : Bool) → (a ≡ true → b ≡ true) → (b ≡ true → a ≡ true) → a ≡ b
 same_tests true b there back = sym (there refl)
@@ -97,9 +95,5 @@ module _ (owned : List Names) (rules : List Rule) (old between new : Tree) (buil
 
 -- ---- of worlds
 
-pub claimed_known : (store : List ℕ) (old : Holding) (new : World) (found : List Rule) → Lists store old.owned →
-    IsBuildable (sources old) found → Changes old.owned found old.tree new.tree → new.store ≡ spelling (claimed found old) → IsListed (claimed found old) old new
-claimed_known store old new found owns buildable changes stored = record {
-  listed = ap owned_of stored ∙ claimed_reads store old.owned (sources old) found owns buildable;
-  same = same_beside_claimed old.owned found old.tree new.tree buildable changes;
-}
+pub claimed_known : (old : Holding) (new : World) (found : List Rule) → IsBuildable (sources old) found → Changes old.owned found old.tree new.tree → Lists new.store (claimed found old) → IsListed (claimed found old) old new
+claimed_known old new found buildable changes listed = record { listed = listed; same = same_beside_claimed old.owned found old.tree new.tree buildable changes }

@@ -1,19 +1,15 @@
 -- What a site holds, as an update sees it: the files of its tree, and the paths that its store lists as owned.
-use Rattle.std.specs.Prelude.{◌≡◌, ℕ, List, Ok}
+use Rattle.std.specs.Prelude.{◌≡◌, List}
 use Rattle.tup_path.specs.Name.{Names}
 use Rattle.tup_path.specs.Tree.{Tree}
 use Rattle.tup_site.specs.World.{World}
-use Rattle.tup_owned.specs.Owned.{owned_of}
+pub use Rattle.tup_ledger.specs.Listing.{Lists}
 
 pub record Holding : Type 0 where
   pub tree : Tree
   pub owned : List Names
 
--- the bytes of a store list these paths, and no others
-abbrev pub Lists : List ℕ → List Names → Type 0
-Lists bytes paths = owned_of bytes ≡ Ok paths
-
--- a world holds this: its store lists these paths. A world holds one thing alone, since bytes read in one way.
+-- a world holds this: its store reads, and lists these paths. A world holds one thing alone, since bytes read in one way.
 pub record Shows (w : World) (held : Holding) : Type 0 where
   pub lists : Lists w.store held.owned
   pub tree : held.tree ≡ w.tree
@@ -21,6 +17,11 @@ pub record Shows (w : World) (held : Holding) : Type 0 where
 -- what a world holds whose store lists these paths
 abbrev pub holding : World → List Names → Holding
 holding w paths = record { tree = w.tree; owned = paths }
+
+-- a later world holds what an earlier one did: the tree is the same, and what the store listed it lists
+pub record HoldsOn (old new : World) : Type 0 where
+  pub tree : new.tree ≡ old.tree
+  pub lists : (paths : List Names) → Lists old.store paths → Lists new.store paths
 
 -- a promise of what a world holds, wherever its store reads
 abbrev pub OfHeld : World → (Holding → Type 0) → Type 0

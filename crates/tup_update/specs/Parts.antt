@@ -18,7 +18,6 @@ use Rattle.tup_runner.specs.Next.{Next}
 use Rattle.tup_clean.specs.Buildable.{IsBuildable}
 use Rattle.tup_clean.specs.Clean.{Build, clean, is_good, succeeds, with_files}
 use Rattle.tup_clean.specs.Taken.{Taken, takes, up_to_bad, verdicts_of}
-use Rattle.tup_owned.specs.Owned.{owned_of}
 use Rattle.tup_update.specs.Holding.{Holding, Lists, holding}
 use Rattle.tup_update.specs.Log.{IsFront}
 use Rattle.tup_update.specs.Sources.{AsksFor, IsRefused, Refuses, PassesLimit, sources, files_beside, folder_of_tupfile, folders_read, is_made, is_made_in_turn}
@@ -29,7 +28,7 @@ use Rattle.tup_update.specs.declared.project.Project.{Project}
 use Rattle.tup_update.specs.declared.stop.Stop.{Stop}
 use Rattle.tup_update.specs.declared.stop.Stop.TheVariants.{Bad, Outside as Stopped}
 use Rattle.tup_update.specs.declared.stop.Unread.{Unread}
-use Rattle.tup_update.specs.declared.stop.Unread.TheVariants.{Store, Sources as NoRules, Outside}
+use Rattle.tup_update.specs.declared.stop.Unread.TheVariants.{Sources as NoRules, Outside}
 
 -- what is found in a world: what the store lists, the files among that, and the sources, which are no more files than may be
 pub record IsFound (w : World) (found : Found) : Type 0 where
@@ -44,7 +43,6 @@ IsTooMany count unread = (unread ≡ NoRules (TooManyFiles count)) × (65536 < c
 
 -- the sources ask for no rules, or there was no memory
 abbrev pub IsRefusal : Holding → Unread → Type 0
-IsRefusal held (Store offset) = ⊥
 IsRefusal held (NoRules fault) = Refuses held fault
 IsRefusal held (Outside failed) = failed ≡ Memory
 
@@ -52,9 +50,8 @@ IsRefusal held (Outside failed) = failed ≡ Memory
 abbrev pub HasFileOf : ℕ → Tree → Type 0
 HasFileOf n tree = (path : Names) × IsTooLarge tree path n
 
--- why a project couldn't be read: the store is damaged just there, or the sources ask for no rules, or a file is too large
+-- why a project couldn't be read: the sources ask for no rules, or a file is too large
 abbrev pub IsUnread : World → Unread → Type 0
-IsUnread w (Store offset) = owned_of w.store ≡ Err offset
 IsUnread w (NoRules fault) = IsRefused w fault
 IsUnread w (Outside (TooLarge n)) = HasFileOf n w.tree
 IsUnread w (Outside Fault) = ⊤
@@ -62,7 +59,6 @@ IsUnread w (Outside Memory) = ⊤
 
 -- a limit is told only where it is passed
 abbrev pub KnowsLimits : Unread → Type 0
-KnowsLimits (Store offset) = ⊤
 KnowsLimits (NoRules fault) = PassesLimit fault
 KnowsLimits (Outside failed) = ⊤
 
@@ -72,7 +68,6 @@ IsFolderOf path folder = folder ≡ unwrap_or (result_ok (above path)) []
 
 -- why there are no rules, whatever is told of the sources: a limit only where it is passed, and no failure of the site
 abbrev pub IsOfRules : Unread → Type 0
-IsOfRules (Store offset) = ⊥
 IsOfRules (NoRules fault) = PassesLimit fault
 IsOfRules (Outside failed) = failed ≡ Memory
 

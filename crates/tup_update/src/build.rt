@@ -7,7 +7,7 @@ ghost use Rattle.tup_site.specs.Cause.{CountsFaults, NeverTooLarge};
 ghost use Rattle.tup_access.specs.Generated.{IsGenerated};
 ghost use Rattle.tup_clean.specs.Clean.{is_good};
 ghost use Rattle.tup_owned.specs.Owned.{spelling};
-ghost use Rattle.tup_owned.specs.Ascending.{ascending};
+ghost use Rattle.tup_ledger.specs.Ascending.{ascending};
 ghost use Rattle.tup_update.specs.Images.{FilesStep, ListedStep, MakesStep, SettledStep};
 ghost use Rattle.tup_update.specs.Log.{IsGrownByFront, IsUnused, with_read};
 ghost use Rattle.tup_update.specs.Outcome.{Keeps, Stays, HasCountedCause, HasRunCause};
@@ -24,7 +24,8 @@ use crate::stop::Stop;
 use crate::update::Log;
 use std::alloc::{AllocError, Global};
 use std::collections::BTreeSet;
-use tup_owned::{sorted, spell_owned, union};
+use tup_kept::Graph;
+use tup_ledger::{give_up, own};
 use tup_path::{Path, Paths};
 use tup_rule::Rule;
 use tup_runner::Runner;
@@ -35,39 +36,33 @@ use tup_site::{Site, SiteFailed};
 pub(crate) struct Plan {
     /// The outputs of all rules, for quick look-ups.
     pub made: BTreeSet<Path>,
-    /// What is owned while the rules run: what was, and the outputs.
-    pub claimed: Paths,
+    /// The outputs, which become owned before any is made.
+    pub outputs: Paths,
     /// The files of vanished rules, which are removed.
     pub vanished: Paths,
-    /// What is owned in the end: the outputs.
-    pub listed: Paths,
+    /// The owned paths that no rule makes any more, which aren't owned in the end.
+    pub left: Paths,
 }
 
 impl Plan {
     /// What is to be done for this project; it takes memory and touches nothing.
     fn of(alloc: Global, project: &Project) -> Result<Plan, AllocError>
         ensures made { IfOk result (λ plan. IsGenerated project.now.rules plan.made) }
-        ensures claimed { IfOk result
-            (λ plan. plan.claimed ≡ ascending (project.now.owned ++ outputs project.now.rules)) }
+        ensures outputs { IfOk result (λ plan. plan.outputs ≡ outputs project.now.rules) }
         ensures vanished { IfOk result
             (λ plan. plan.vanished ≡ left_over project.now.owned_files project.now.rules) }
-        ensures listed { IfOk result (λ plan. plan.listed ≡ ascending (outputs project.now.rules)) }
+        ensures left { IfOk result
+            (λ plan. plan.left ≡ left_over project.now.owned project.now.rules) }
     {
         let outputs = outputs_of(alloc, project.rules.as_slice())?;
-        let outputs = outputs.as_slice();
-        let made = path_set(alloc, outputs)?;
+        let made = path_set(alloc, outputs.as_slice())?;
         let (_, vanished) = parted(alloc, project.owned_files.as_slice(), &made)?;
-        let Ok(claimed) = union(alloc, project.owned.as_slice(), outputs) else {
-            return Err(AllocError);
-        };
-        let Ok(listed) = sorted(alloc, outputs) else {
-            return Err(AllocError);
-        };
+        let (_, left) = parted(alloc, project.owned.as_slice(), &made)?;
         Ok(Plan {
             made,
-            claimed,
+            outputs,
             vanished,
-            listed,
+            left,
         })
     }
 }
@@ -99,9 +94,14 @@ impl Project {
         &self,
         alloc: Global,
         site: &mut S,
+        graph: &mut Graph,
         runner: &mut R,
         log: &mut Log,
     ) -> Result<(), Stop>
+        requires fresh { IsTrue (is_fresh graph.old) }
+        requires stands { IsTrue S.tells
+            → StandsFor S.world S.moment S.left_since graph.old site.old }
+        requires owned { self.now.owned ≡ owned_in graph.old.nodes }
         requires project { IsTrue S.tells → IsProject self.now (S.world site.old) }
         requires unused { IsUnused log.old }
         ensures stays { IsTrue S.tells → let told = with_read self.now.read log.new in
@@ -113,8 +113,10 @@ impl Project {
             self.now.rules (S.world site.old) (S.world site.new) told (result_err result) }
         ensures settled { IsTrue S.tells → let left = S.left_since site.new (S.moment site.new) in
             IsSettled left (S.world site.new) (result_err result) }
-        ensures crash { IsTrue S.tells → GoesOn S.moment S.left_since site.old site.new
-            (MakesStep R.tells R.next self.now.rules (S.world site.old)) }
+        ensures images { IsTrue S.tells → (kept : Kept)
+            → Guards (S.left_since site.old (S.moment site.old)) graph.old.nodes kept
+            → All (λ path. kept.may path ≡ true) (outputs self.now.rules)
+            → LeavesOnly S.moment S.left_since site.old site.new (HasSources kept) }
         ensures ran { IsTrue R.tells_ran
             → RunsThese log.new.ran (R.ran runner.old) (R.ran runner.new) (result_err result) }
         ensures counted { let stopped = result_err result in
@@ -123,7 +125,7 @@ impl Project {
             HasRunCause (R.faults runner.old) (R.faults runner.new) stopped }
     {
         let plan = Plan::of(alloc, self)?;
-        prepare(alloc, site, &plan, &mut log.removed)?;
+        prepare(alloc, site, graph, &plan, &mut log.removed)?;
         match self.run(
             alloc,
             site,
@@ -133,7 +135,7 @@ impl Project {
             &mut log.ended,
         )? {
             Some(bad) => Err(stop_at(alloc, site, bad)),
-            None => Ok(finish(alloc, site, plan.listed.as_slice())?),
+            None => Ok(give_up(alloc, graph, site, plan.left.as_slice())?),
         }
     }
 }
@@ -142,28 +144,40 @@ impl Project {
 fn prepare<S: Site>(
     alloc: Global,
     site: &mut S,
+    graph: &mut Graph,
     plan: &Plan,
     removed: &mut Paths,
-) -> Result<(), SiteFailed>
+) -> Result<(), Stop>
+    requires fresh { IsTrue (is_fresh graph.old) }
+    requires stands { IsTrue S.tells
+        → StandsFor S.world S.moment S.left_since graph.old site.old }
+
     ensures cleared { IsTrue S.tells → OnOk result
         (IsCleared plan.now.vanished (S.world site.old).tree (S.world site.new).tree) }
     ensures others { IsTrue S.tells
         → SameBeside plan.now.vanished (S.world site.old).tree (S.world site.new).tree }
-    ensures claimed { IsTrue S.tells
-        → OnOk result ((S.world site.new).store ≡ spelling plan.now.claimed) }
-    ensures unclaimed { IsTrue S.tells → ((S.world site.new).store ≡ spelling plan.now.claimed)
-        ⊎ TreeStays (S.world site.old) (S.world site.new) }
-    ensures crash { IsTrue S.tells → GoesOn S.moment S.left_since site.old site.new
-        (ListedStep (SameBeside plan.now.vanished) (spelling plan.now.claimed)) }
-    ensures pinned { IsTrue S.tells → let left = S.left_since site.new (S.moment site.new) in
-        OnOk result (PinsStore left (S.world site.new)) }
+    ensures claimed { OnOk result (IsTrue (is_fresh graph.new)
+        × (graph.new.nodes ≡ with_owned graph.old.nodes plan.now.outputs)) }
+    ensures stands { IsTrue S.tells → IsTrue (is_fresh graph.new)
+        → StandsFor S.world S.moment S.left_since graph.new site.new }
+    // Where it is refused the store has what it had, with no file touched, or all that is claimed.
+    ensures either { IsTrue S.tells
+        → IsStoreOf (with_owned graph.old.nodes plan.now.outputs) (S.world site.new).store
+        ⊎ (IsStoreOf graph.old.nodes (S.world site.new).store
+        × TreeStays (S.world site.old) (S.world site.new)) }
+    ensures sources { IsTrue S.tells → (kept : Kept)
+        → Guards (S.left_since site.old (S.moment site.old)) graph.old.nodes kept
+        → HaveNoFiles kept.sources plan.now.outputs
+        → All (λ path. kept.may path ≡ true) plan.now.outputs
+        → All (λ path. is_owned graph.old.nodes path ≡ true) plan.now.vanished
+        → KeepsSources S.moment S.left_since site.old site.new
+        kept (IsTrue (is_fresh graph.new)) graph.new.nodes }
     ensures removed { OnOk result (removed.new ≡ removed.old ++ plan.now.vanished) }
     ensures part { IsGrownByFront removed.old removed.new plan.now.vanished }
-    ensures never_too_large { NeverTooLarge result }
-    ensures counted { CountsFaults (S.faults site.old) (S.faults site.new) result }
+    ensures counted { HasCountedCause (S.faults site.old) (S.faults site.new) (result_err result) }
 {
-    write_store(alloc, site, plan.claimed.as_slice())?;
-    clear(alloc, site, plan.vanished.as_slice(), removed)
+    own(alloc, graph, site, plan.outputs.as_slice())?;
+    Ok(clear(alloc, site, plan.vanished.as_slice(), removed)?)
 }
 
 /// Removes the files at these paths in order, and notes each that was removed.
@@ -208,43 +222,4 @@ fn stop_at<S: Site>(alloc: Global, site: &mut S, bad: BadRule) -> Stop
         Ok(()) => Stop::Bad(name, verdict),
         Err(failed) => Stop::Outside(failed),
     }
-}
-
-/// Settles the files, and owns what was made and nothing else. After `Ok` a crash leaves all as it
-/// is then.
-fn finish<S: Site>(alloc: Global, site: &mut S, listed: &[Path]) -> Result<(), SiteFailed>
-    ensures listed { IsTrue S.tells → OnOk result ((S.world site.new).store ≡ spelling listed.now) }
-    ensures tree { IsTrue S.tells → TreeStays (S.world site.old) (S.world site.new) }
-    ensures crash { IsTrue S.tells → GoesOn S.moment S.left_since site.old site.new
-        (SettledStep (S.world site.old)) }
-    ensures durable { IsTrue S.tells → OnOk result
-        (IsDurable (S.left_since site.new (S.moment site.new)) (S.world site.new)) }
-    ensures never_too_large { NeverTooLarge result }
-    ensures counted { CountsFaults (S.faults site.old) (S.faults site.new) result }
-{
-    site.settle(alloc)?;
-    write_store(alloc, site, listed)
-}
-
-/// Makes the store the list of these paths, durably. After a refusal the store holds anything.
-fn write_store<S: Site>(alloc: Global, site: &mut S, paths: &[Path]) -> Result<(), SiteFailed>
-    ensures owned { IsTrue S.tells → OnOk result ((S.world site.new).store ≡ spelling paths.now) }
-    ensures tree { IsTrue S.tells → TreeStays (S.world site.old) (S.world site.new) }
-    ensures crash { IsTrue S.tells → GoesOn S.moment S.left_since site.old site.new TreeStays }
-    ensures pinned { IsTrue S.tells → let left = S.left_since site.new (S.moment site.new) in
-        OnOk result (PinsStore left (S.world site.new)) }
-    // Where the files were settled before, a crash then leaves all as it is.
-    ensures durable { IsTrue S.tells
-        → PinsTree (S.left_since site.old (S.moment site.old)) (S.world site.old)
-        → OnOk result (IsDurable (S.left_since site.new (S.moment site.new)) (S.world site.new)) }
-    ensures never_too_large { NeverTooLarge result }
-    ensures counted { CountsFaults (S.faults site.old) (S.faults site.new) result }
-{
-    let Ok(bytes) = spell_owned(alloc, paths) else {
-        return Err(SiteFailed::Memory);
-    };
-    let bytes = bytes.as_slice();
-    site.db_write(alloc, 0, bytes)?;
-    site.db_cut(alloc, bytes.len() as u64)?;
-    site.db_sync(alloc)
 }

@@ -19,6 +19,8 @@ use crate::stop::Stop;
 use std::alloc::{AllocError, Global};
 use tup_access::Verdict;
 use tup_clean::{CleanFault, Cleaned, clean_build};
+use tup_graph::Nodes;
+use tup_ledger::open;
 use tup_path::{Bytes, Files, Path};
 use tup_rule::Rule;
 use tup_runner::Runner;
@@ -34,7 +36,7 @@ pub enum Compared {
 }
 
 /// Compares the files of a site with a clean build of its sources, whose commands the runner runs
-/// beside them. The site stays as it is.
+/// beside them. The files stay as they are, and what the store lists.
 ///
 /// A rule that isn't Good is a `Bad` stop: the first in the order of the rules.
 pub fn compare_site<S: Site, R: Runner>(
@@ -44,8 +46,8 @@ pub fn compare_site<S: Site, R: Runner>(
 ) -> Result<Compared, Stop>
     ensures compared { IsTrue S.tells → IsTrue R.tells
         → HasCompared R.next (S.world site.old) result }
-    ensures same { IsTrue S.tells → S.world site.new ≡ S.world site.old }
-    ensures crash { IsTrue S.tells → GoesOn S.moment S.left_since site.old site.new NoStep }
+    ensures same { IsTrue S.tells → TreeStays (S.world site.old) (S.world site.new) }
+    ensures crash { IsTrue S.tells → GoesOn S.moment S.left_since site.old site.new OpenStep }
     ensures ran { IsTrue S.tells → IsTrue R.tells → IsTrue R.tells_ran
         → RunsToCompare R.next (S.world site.old) (R.ran runner.old) (R.ran runner.new)
         (result_err result) }
@@ -54,7 +56,8 @@ pub fn compare_site<S: Site, R: Runner>(
     ensures run_cause { HasRunCause (R.faults runner.old) (R.faults runner.new)
         (result_err result) }
 {
-    let built = clean_files(alloc, site, runner)?;
+    let graph = open(alloc, site)?;
+    let built = clean_files(alloc, site, graph.nodes(), runner)?;
     let files = all_files(alloc, site)?;
     Ok(comparison(files.as_slice(), built.as_slice())?)
 }
@@ -63,8 +66,10 @@ pub fn compare_site<S: Site, R: Runner>(
 fn clean_files<S: Site, R: Runner>(
     alloc: Global,
     site: &mut S,
+    nodes: &Nodes,
     runner: &mut R,
 ) -> Result<Files, Stop>
+    requires { IsTrue S.tells → Lists (S.world site.old).store (owned_in nodes.now) }
     ensures clean { IsTrue S.tells → IsTrue R.tells
         → HasBuilt R.next (S.world site.old) result }
     ensures same { IsTrue S.tells → S.world site.new ≡ S.world site.old }
@@ -77,7 +82,7 @@ fn clean_files<S: Site, R: Runner>(
     ensures run_cause { HasRunCause (R.faults runner.old) (R.faults runner.new)
         (result_err result) }
 {
-    let found = Found::read(alloc, site)?;
+    let found = Found::read(alloc, site, nodes)?;
     let rules = found.rules(alloc)?;
     good_build(alloc, runner, rules.as_slice(), &found.sources)
 }

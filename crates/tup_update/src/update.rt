@@ -13,6 +13,7 @@ use crate::project::Project;
 use crate::stop::Stop;
 use std::alloc::Global;
 use tup_access::Verdict;
+use tup_ledger::open;
 use tup_path::{Items, Paths};
 use tup_rule::{RuleName, Rules};
 use tup_runner::Runner;
@@ -116,8 +117,9 @@ fn carry_out<S: Site, R: Runner>(
     ensures counted_runs { let stopped = result_err result in
         HasRunCause (R.faults runner.old) (R.faults runner.new) stopped }
 {
-    let project = Project::read(alloc, site)?;
-    let built = project.build(alloc, site, runner, log);
+    let mut graph = open(alloc, site)?;
+    let project = Project::read(alloc, site, graph.nodes())?;
+    let built = project.build(alloc, site, &mut graph, runner, log);
     log.read = project.read;
     *rules = project.rules;
     built

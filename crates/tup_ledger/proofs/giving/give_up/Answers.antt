@@ -7,6 +7,7 @@ use Rattle.tup_graph.specs.Opening.{IsGraphOf}
 use Rattle.tup_graph.specs.Transactions.{forget_edits, with_forgotten}
 use Rattle.tup_ledger.proofs.Given.{ok_durable}
 use Rattle.tup_ledger.proofs.Guarding.{durable_now, either_quiet, either_settled, forget_keeps, guards_now, nothing_keeps, pins_on}
+use Rattle.tup_ledger.proofs.Listing.{lists_now, ok_lists}
 use Rattle.tup_ledger.proofs.giving.give_up.Goals as goal
 
 pub returns-in_err-settle-clause-stands : goal.returns-in_err-settle-clause-stands
@@ -58,6 +59,18 @@ returns-clause-durable g c = λ tells.
     durable_now g.S.Site.world g.S.Site.moment g.S.Site.left_since new.table end (c.forget-ended.ensures.stands tells fresh)
     (pins_on g.S.Site.world g.S.Site.moment g.S.Site.left_since old.nodes (with_forgotten old.nodes paths) mid end (λ t u w le left. site_laws.earlier end t u w tells le left)
     (c.in_ok-settle.ensures.durable tells) (c.forget-ended.ensures.tree tells) (c.forget-ended.ensures.crash tells)))
+
+pub returns-clause-lists : goal.returns-clause-lists
+returns-clause-lists g c = λ tells.
+    let site_laws = g.met.S.Site g.world.𝓛 g.world.𝓜 g.world.𝓡 ((λ s x. x), (λ x. x), (λ x. x), λ x. x) in
+    let old = c.args.graph.now in
+    let paths = c.args.paths.now in
+    let mid = c.settle.new.site in
+    let new = c.forget-ended.new.self in
+    let end = c.forget-ended.new.site in
+    ok_lists (forget_edits old.nodes paths) (with_forgotten old.nodes paths) old new c.requires.fresh mid end (g.S.Site.world end).store c.forget-ended.result c.forget-ended.ensures.leaves
+    (λ fresh. lists_now g.S.Site.world g.S.Site.moment g.S.Site.left_since end (site_laws.present end tells) new.table new.nodes (c.forget-ended.ensures.stands tells fresh)
+    (subst (IsGraphOf (entries_in new.table)) c.nodes-2.ensures.value (c.nodes-2.ensures.graph fresh)))
 
 pub returns-clause-crash : goal.returns-clause-crash
 returns-clause-crash g c = λ tells.

@@ -11,8 +11,8 @@ use Rattle.std.specs.List.Sorted.{IsPermutation, IsSorted, IsStrictlySortedBy}
 use Rattle.tup_path.specs.Name.{Names}
 use Rattle.tup_path.specs.Order.{by_names, by_names-total, same_path, same_path-by_names}
 use Rattle.tup_path.proofs.Same.{same_path-decides}
-use Rattle.tup_owned.specs.Ascending.{IsAscending, ascending}
-use Rattle.tup_owned.specs.Members.{ascending-IsAscending, ascending_has, ascending_has_only, same_members}
+use Rattle.tup_ledger.specs.Ascending.{IsAscending, ascending}
+use Rattle.tup_ledger.specs.Members.{ascending-IsAscending, ascending_has, ascending_has_only, same_members}
 
 ascends : (paths : List Names) → IsStrictlySortedBy by_names paths → IsAscending paths
 ascends [] up = tt

@@ -7,7 +7,7 @@ use Rattle.std.specs.Ordering.{match_ordering, ordering_reverse}
 use Rattle.std.specs.declared.cmp.Ordering.TheVariants.{Less, Equal, Greater}
 use Rattle.tup_path.specs.Name.{Names}
 use Rattle.tup_path.specs.Order.{by_names, by_names-total, by_names-antisymmetric}
-use Rattle.tup_owned.specs.Ascending.{IsAscending, put, ascending}
+use Rattle.tup_ledger.specs.Ascending.{IsAscending, put, ascending}
 
 -- a path comes before another
 abbrev pub Before : Names → Names → Type 0

@@ -1,7 +1,7 @@
 use Rattle.std.proofs.Common.{◌∙◌}
 use Rattle.std.proofs.lemmas.List.Filters.{dedup_is}
-use Rattle.tup_owned.proofs.Ordered.{ordered}
-use Rattle.tup_owned.proofs.lists.ordered.Goals as goal
+use Rattle.tup_ledger.proofs.Ordered.{ordered}
+use Rattle.tup_ledger.proofs.lists.ordered.Goals as goal
 
 pub returns : goal.returns
 returns c =
