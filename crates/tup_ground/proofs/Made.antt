@@ -104,6 +104,12 @@ never_lost commit = by commit.by_site
     by true e = cc
     by false e = cc
 
+ok_refused : (fault : BoardFault) (done : Unit {0}) → refusal fault ≡ Ok done → ⊥
+ok_refused fault done e = cc
+
+none_kept : (run : RunRecord) → (let none : Option RunRecord = None in none) ≡ Some run → ⊥
+none_kept run e = cc
+
 module _ {S : Type 0} (site : Site S) (number : ℕ) (run : RunRecord) (files : List (Names × Content)) (old : Ground S)
     (present : (s : S) → IsTrue site.tells → site.left_since s (site.moment s) (site.world s))
     (earlier : (s : S) (t u : ℕ) (w : World) → IsTrue site.tells → t ≤ u → site.left_since s u w → site.left_since s t w) where
@@ -128,7 +134,9 @@ module _ {S : Type 0} (site : Site S) (number : ℕ) (run : RunRecord) (files : 
   begin_refused new fault commits = record {
     is_ground = commits.is_ground;
     ok = λ done e. absurd (cc);
-    made = λ done e tells. absurd (cc);
+    made = λ tried tells.
+        ⊎_elim (λ kept. absurd (ok_refused fault kept.0 kept.1))
+        (λ lost. absurd (none_kept run (sym (commits.lost lost.0 lost.1).1 ∙ lost.2))) tried;
     lost = λ commit e. let is = commits.lost commit e in record { rule = is.0; kept = inl is.1; fault = is.2 };
     err = λ other e none. inl (commits.err fault refl none);
     full = λ e. inl (commits.full e, ap (λ (it : Ground S). it.graph) (commits.err fault refl (none_full None (begin_edits g number) (begun g number) old (Err fault) new commits e)));
@@ -190,7 +198,9 @@ module _ {S : Type 0} (site : Site S) (number : ℕ) (run : RunRecord) (files : 
         put_refused failed small = record {
           is_ground = put_is_ground;
           ok = λ d e. absurd (cc);
-          made = λ d e tells. absurd (cc);
+          made = λ tried tells.
+              ⊎_elim (λ kept. absurd (ok_refused (of_site failed) kept.0 kept.1))
+              (λ lost. absurd (some_none lost.0 (sym lost.1 ∙ (begin.ok done refl).0))) tried;
           lost = λ commit e. absurd (some_none commit (sym e ∙ (begin.ok done refl).0));
           err = λ fault e none. inr mid_is;
           full = λ e. absurd (never_full failed (same_fault (of_site failed) board.Full e));
@@ -228,7 +238,7 @@ module _ {S : Type 0} (site : Site S) (number : ℕ) (run : RunRecord) (files : 
           kept = record {
             is_ground = keep.is_ground;
             ok = λ d e. let ok = keep.ok d e in (ok.0, ok.1 ∙ ap (λ (h : Held). after h (finish_edits h.nodes number run) (finished h.nodes number run)) mid_is);
-            made = λ d e tells. subst (HoldsFiles files) (sym (keep.tree tells)) (holds tells);
+            made = λ tried tells. subst (HoldsFiles files) (sym (keep.tree tells)) (holds tells);
             lost = λ commit e. let is = keep.lost commit e in record { rule = is.0; kept = inr is.1; fault = is.2 };
             err = λ fault e none. inr (ap (λ (it : Ground S). it.graph) (keep.err fault e none) ∙ mid_is);
             full = λ e. inr (

@@ -135,9 +135,9 @@ pub record Loses {T : Type 0} (number : ℕ) (run : RunRecord) (result : Result 
 -- the files of a rule were made, or not, by the answer, where no commit was lost before
 pub record MakesFiles {S : Type 0} (site : Site S) (number : ℕ) (run : RunRecord) (files : List (Names × Content)) (old : Ground S) (result : Result (Unit {0}) BoardFault) (new : Ground S) : Type 0 where
   pub is_ground : IsGround site new
-  -- after Ok the graph has the run, and the files stand
+  -- after Ok the graph has the run; then the files stand, and also where the commit that was to keep it is lost
   pub ok : (done : Unit {0}) → result ≡ Ok done → (new.lost ≡ None) × (new.graph ≡ after_end old.graph number run)
-  pub made : (done : Unit {0}) → result ≡ Ok done → IsTrue site.tells → HoldsFiles files (site.world new.site).tree
+  pub made : WasTried run result new.lost → IsTrue site.tells → HoldsFiles files (site.world new.site).tree
   -- else a commit is lost, or all is as it was, or the run began
   pub lost : (commit : Lost) → new.lost ≡ Some commit → Loses number run result commit
   pub err : (fault : BoardFault) → result ≡ Err fault → new.lost ≡ None → (new ≡ old) ⊎ (new.graph ≡ after_begin old.graph number)

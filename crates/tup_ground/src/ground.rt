@@ -97,7 +97,7 @@ impl<S: Site> Ground<S> {
     /// Makes the files of a rule: its outputs are unsure in the store before the first of them is touched, and written
     /// there once all of them are durable. Where a commit was lost before it does nothing.
     pub fn make(&mut self, alloc: Global, end: GoodEnd, files: &Files) -> Result<(), BoardFault>
-        requires { CanMake S.Site.own self.old end.rule files.now }
+        requires { self.old.lost ≡ None → CanMake S.Site.own self.old end.rule files.now }
         ensures makes { Makes S.Site.own end.rule end.run files.now self.old result self.new }
         ensures cause { CountsFaults (S.faults self.old.site) (S.faults self.new.site)
             self.old.lost result }

@@ -25,9 +25,11 @@ use Rattle.tup_graph.specs.Graph.{GraphState, is_created}
 use Rattle.tup_graph.specs.Swap.{reading_now}
 use Rattle.tup_refresh.specs.declared.refreshed.Refreshed.{Refreshed}
 use Rattle.tup_refresh.specs.declared.walk.Walk.{Walk}
+use Rattle.tup_refresh.specs.Part.{HasPaths}
 use Rattle.tup_refresh.specs.Refresh.{kept_reading, IsDue, gone_among, AreTrue, AreRefreshed, IsRefresh, IsRefreshWith, IsRefreshOver, readings_of}
 use Rattle.tup_refresh.specs.Standing.{Stands, AllStand}
 use Rattle.tup_refresh.specs.Walk.{IsWalk}
+use Rattle.tup_refresh.proofs.Outlined.{tupfile_alike}
 
 -- ---- folders whose Tupfile is gone
 
@@ -211,6 +213,10 @@ module _ (g : GraphState) (sources : Tree) (settings : Entries) (walk : Walk) (i
         from dir due =
             subst IsSome (sym (ap (λ m. finite.get m dir) (same walk.fresh given.fresh fresh)))
             (is_fresh dir (subst (λ (m : Readings). IsDue g sources settings m dir) (same now given.all all) due))
+
+-- the same paths have the same folders
+pub gone_alike : (sources outline : Tree) → HasPaths sources outline → (kept : List (Names × Reading)) → gone_among outline kept ≡ gone_among sources kept
+gone_alike sources outline paths kept = ap (λ (has : Names → Bool). filter (λ dir. not (has dir)) (map (λ (one : Names × Reading). one.0) kept)) (λ i dir. tupfile_alike sources outline paths dir i)
 
 -- ---- what comes of a refresh
 

@@ -1,5 +1,6 @@
 -- What is found of a folder, by its cases.
 use Rattle.std.proofs.Common.{◌≡◌, Option, Some, Result, Ok, Err, IsTrue, sym, subst}
+use Rattle.std.specs.Result.{IfOk}
 use Rattle.tup_path.specs.Name.{Names}
 use Rattle.tup_path.specs.Tree.{Tree}
 use Rattle.tup_rule.specs.declared.question.Reading.{Reading}
@@ -12,8 +13,9 @@ use Rattle.tup_folders.specs.State.{HasCome}
 use Rattle.tup_folders.specs.declared.fault.FoldersFault.{FoldersFault}
 use Rattle.tup_folders.specs.declared.fault.FoldersFault.TheVariants.{Parse, Circular, Memory}
 use Rattle.tup_refresh.specs.declared.found.Found.{Found}
-use Rattle.tup_refresh.specs.declared.found.Found.TheVariants.{Stands, Read, Waits}
-use Rattle.tup_refresh.specs.Found.{IsFault, HasRead, StandsNot, HasFound, come_of}
+use Rattle.tup_refresh.specs.declared.fetched.Fetched.{Fetched}
+use Rattle.tup_refresh.specs.declared.found.Found.TheVariants.{Stands, Read, Waits, Lacks}
+use Rattle.tup_refresh.specs.Found.{IsFault, HasRead, IsLack, StandsNot, HasFound, come_of}
 use Rattle.tup_refresh.specs.Refresh.{IsTrueBeside}
 use Rattle.tup_refresh.specs.Standing.{HasCompared}
 use Rattle.tup_refresh.proofs.Answering.{reading_waits}
@@ -24,6 +26,7 @@ module _ (sources : Tree) (settings : Entries) (readings : Readings) (dir : Name
   found_anew kept (Ok (Stands left)) not read = absurd read
   found_anew kept (Ok (Read left)) not read = (not, read)
   found_anew kept (Ok (Waits next)) not read = read
+  found_anew kept (Ok (Lacks path)) not read = read
   found_anew kept (Err fault) not read = read
 
   -- a fault of reading a folder
@@ -42,3 +45,8 @@ module _ (sources : Tree) (settings : Entries) (readings : Readings) (dir : Name
       → HasCompared sources settings readings dir left.asked (Err stop) → HasFound sources settings readings dir (Some left) result
   found_stopped left (Awaits next) result is has beside up = subst (HasFound sources settings readings dir (Some left)) (sym is) (reading_waits sources settings readings dir left next has beside up)
   found_stopped left NoMemory result is has beside up = subst (HasFound sources settings readings dir (Some left)) (sym is) tt
+
+-- nor does it need a content
+pub stopped_lacks : (fetched : Fetched) (stop : Stop) (result : Result Found FoldersFault) → result ≡ come_of stop → IfOk result (IsLack fetched)
+stopped_lacks fetched (Awaits next) result is = subst (λ (r : Result Found FoldersFault). IfOk r (IsLack fetched)) (sym is) tt
+stopped_lacks fetched NoMemory result is = subst (λ (r : Result Found FoldersFault). IfOk r (IsLack fetched)) (sym is) tt

@@ -9,3 +9,11 @@ pub mod Recorded
 pub mod Recording
 pub mod Ordering
 pub mod Untouched
+pub mod Outlined
+pub mod Told
+pub mod Hollow
+pub mod Fetching
+pub mod Outlining
+pub mod Outcome
+pub mod Causes
+pub mod Staying

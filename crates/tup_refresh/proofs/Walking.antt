@@ -1,39 +1,73 @@
 -- How the walk goes on.
-use Rattle.std.proofs.Common.{◌≡◌, Option, Some, None, Ok, Err, IsTrue, sym, ap, ◌∙◌, subst}
+use Rattle.std.proofs.Common.{◌≡◌, true, Option, Some, None, Ok, Err, IsTrue, sym, ap, ◌∙◌, subst}
+use Rattle.std.specs.BTreeSet.{contains}
 use Rattle.std.specs.FinMap as finite
 use Rattle.tup_path.specs.Name.{Names}
+use Rattle.tup_path.specs.Order.{by_names}
 use Rattle.tup_path.specs.Tree.{Tree}
 use Rattle.tup_rule.specs.Rule.{among}
 use Rattle.tup_rule.specs.declared.question.Reading.{Reading}
 use Rattle.tup_vars.specs.Table.{Entries}
 use Rattle.tup_folders.specs.Readings.{AreRead, WaitsFor}
 use Rattle.tup_folders.specs.Sources.{has_tupfile}
-use Rattle.tup_folders.specs.State.{IsLast, IsNext, Notes, Begins, Closes}
+use Rattle.tup_folders.specs.State.{IsLast, IsNext, IsStart as IsWorkStart, Notes, Begins, Closes}
 use Rattle.tup_folders.specs.declared.fault.FoldersFault.{FoldersFault}
 use Rattle.tup_folders.specs.declared.work.Work.{Work}
 use Rattle.tup_folders.proofs.Lines.{among_last}
 use Rattle.tup_folders.proofs.Working.{started, last_has, noted, goes_on, first_fault, closes_circle}
 use Rattle.tup_graph.specs.Graph.{GraphState}
+use Rattle.tup_refresh.specs.declared.fetched.Fetched.{Fetched}
 use Rattle.tup_refresh.specs.declared.walk.Walk.{Walk}
 use Rattle.tup_refresh.specs.declared.found.Found.TheVariants.{Stands, Read}
 use Rattle.tup_refresh.specs.Found.{HasFound, IsFault}
+use Rattle.tup_refresh.specs.Part.{AreFetched, HasPaths, IsOutlined, IsPartOf}
 use Rattle.tup_refresh.specs.Refresh.{kept_reading}
-use Rattle.tup_refresh.specs.Walk.{AreParted, IsWalk, IsStart, NotesFresh}
+use Rattle.tup_refresh.specs.Walk.{AreParted, HasGone, IsWalk, IsStart, NotesFresh}
 use Rattle.tup_refresh.proofs.Finding.{fault_come}
+use Rattle.tup_refresh.proofs.Outlined.{tupfile_alike}
 use Rattle.tup_refresh.proofs.Parting.{part_none, part_fresh, part_kept}
 
+-- a content that is needed is missing
+pub lacks_one : (old new : Walk) (path : Names) → HasGone old new (Some path) → contains by_names new.fetched.missing path ≡ true
+lacks_one old new path gone = ap (λ (walk : Walk). contains by_names walk.fetched.missing path) gone.0 ∙ gone.1
+
 module _ (g : GraphState) (sources : Tree) (settings : Entries) where
-  pub walk_started : (walk : Walk) → IsStart sources walk → IsWalk g sources settings walk
-  walk_started walk start = record {
-    work = started sources settings walk.work start.work;
+  pub walk_started : (outline : Tree) (fetched : Fetched) (walk : Walk) → HasPaths sources outline → AreFetched sources fetched → IsStart outline fetched walk → IsWalk g sources settings walk
+  walk_started outline fetched walk paths are start = record {
+    work = started sources settings walk.work work;
     parted = part_none g sources settings walk.work.readings walk.fresh start.work.readings start.fresh;
+    fetched = subst (AreFetched sources) (sym start.contents) are;
   }
+    where
+      work : IsWorkStart sources walk.work
+      work = record {
+        waiting = λ dir. start.work.waiting dir ∙ tupfile_alike sources outline paths dir;
+        under_way = start.work.under_way;
+        readings = start.work.readings;
+      }
 
   -- the next folder is begun
   pub walk_next : (old : Walk) (new : Work) (dir : Option Names) → IsWalk g sources settings old → IsNext dir old.work new → IsWalk g sources settings (record old { work = new })
   walk_next old new dir is next = record {
     work = next.work sources settings is.work;
     parted = subst (λ r. AreParted g sources settings r old.fresh) (sym next.readings) is.parted;
+    fetched = is.fetched;
+  }
+
+  -- what is known of the sources while they are read
+  pub part_of : (outline : Tree) (walk : Walk) → IsOutlined sources outline g → IsWalk g sources settings walk → IsPartOf sources outline g walk.fetched
+  part_of outline walk outlined is = record {
+    paths = outlined.paths;
+    stamps = outlined.stamps;
+    contents = is.fetched;
+  }
+
+  -- a content is fetched
+  pub walk_fetched : (old : Walk) (new : Fetched) → IsWalk g sources settings old → (AreFetched sources old.fetched → AreFetched sources new) → IsWalk g sources settings (record old { fetched = new })
+  walk_fetched old new is more = record {
+    work = is.work;
+    parted = is.parted;
+    fetched = more is.fetched;
   }
 
   module _ (old : Walk) (dir : Names) (is : IsWalk g sources settings old) (last : IsLast (Some dir) old.work) where
@@ -50,6 +84,7 @@ module _ (g : GraphState) (sources : Tree) (settings : Entries) where
       work = noted sources settings old.work new dir left is.work notes found.2;
       parted = subst (λ r. AreParted g sources settings r old.fresh) (sym notes.readings)
           (part_kept sources settings old.work.readings dir left is_new has_tup g old.fresh is.parted found.0 found.1);
+      fetched = is.fetched;
     }
 
     -- the folder was read
@@ -59,6 +94,7 @@ module _ (g : GraphState) (sources : Tree) (settings : Entries) where
       parted = subst (λ r. AreParted g sources settings r new.fresh) (sym notes.work.readings)
           (subst (AreParted g sources settings (finite.insert old.work.readings dir left)) (sym notes.fresh)
           (part_fresh sources settings old.work.readings dir left is_new has_tup g old.fresh is.parted found.0));
+      fetched = subst (AreFetched sources) (sym notes.fetched) is.fetched;
     }
 
     -- it waits for another one
@@ -66,6 +102,7 @@ module _ (g : GraphState) (sources : Tree) (settings : Entries) where
     walk_on new next waits begins = record {
       work = goes_on sources settings old.work new dir next is.work last waits begins;
       parted = subst (λ r. AreParted g sources settings r old.fresh) (sym begins.readings) is.parted;
+      fetched = is.fetched;
     }
 
     -- it can't be read, or waits for itself

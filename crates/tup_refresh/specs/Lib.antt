@@ -4,3 +4,6 @@ pub mod Found
 pub mod Walk
 pub mod Language
 pub mod Untouched
+pub mod Part
+pub mod Asking
+pub mod Cause

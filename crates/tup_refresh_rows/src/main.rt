@@ -1,6 +1,7 @@
 //! Answers the rows of `data/` on reading a project again.
 #![tactic(auto)]
 
+mod project;
 mod session;
 mod shown;
 

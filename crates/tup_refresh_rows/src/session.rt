@@ -1,149 +1,198 @@
 //! The calls of `refresh.rows`.
-ghost use Rattle.std.specs.Prelude.{IsTrue, IfOk};
-ghost use Rattle.std.specs.FinMap as finite;
-ghost use Rattle.tup_path.specs.Order.{by_names};
-
-use crate::shown::shown;
-use std::alloc::{AllocError, Global};
-use tup_folders::{FoldersFault, read_folders};
-use tup_graph::{Edit, Edits, GraphFault, Nodes};
-use tup_map::ByPath;
-use tup_path::{Bytes, Files};
-use tup_record::Record;
-use tup_refresh::{Refreshed, refresh};
+use crate::project::Project;
+use crate::shown::{shown, shown_alone};
+use std::alloc::Global;
+use tup_folders::read_folders;
+use tup_path::{Bytes, Path};
+use tup_record::{OwnedState, Record};
+use tup_refresh::{RefreshFault, Refreshed};
 use tup_rows::{Answers, RowFault, Words};
+use tup_site::Site;
 
-/// The sources that the rows above have put, and what the graph keeps.
+/// How many bytes a file has that is too large.
+const LARGE: usize = 16_777_217;
+
+/// The project that the rows above have made.
 #[derive(Drop)]
 pub(crate) struct Session {
-    files: ByPath<Bytes>,
-    nodes: Nodes,
-}
-
-impl Session {
-    /// No sources, and the graph of a new store.
-    pub(crate) fn new(alloc: Global) -> Session {
-        Session {
-            files: ByPath::new(alloc),
-            nodes: Nodes::empty(alloc),
-        }
-    }
-
-    /// Puts a source, in place of the one at its path.
-    fn file(&mut self, alloc: Global, said: &Words) -> Words {
-        let path = said.path_at(alloc, 0);
-        match self.files.insert(path, Bytes::new(said.bytes_at(alloc, 1))) {
-            Ok(()) => Words::new(alloc),
-            Err(_) => Words::none(alloc, RowFault::Memory),
-        }
-    }
-
-    /// Takes a source away.
-    fn no_file(&mut self, alloc: Global, said: &Words) -> Words {
-        self.files.remove(&said.path_at(alloc, 0));
-        Words::new(alloc)
-    }
-
-    /// Flags a folder.
-    fn flag(&mut self, alloc: Global, said: &Words) -> Words {
-        let dir = said.path_at(alloc, 0);
-        let mut edits = Edits::new(alloc);
-        if edits.push(Edit::Put(Record::Create { dir })).is_err() {
-            return Words::none(alloc, RowFault::Memory);
-        }
-        self.edited(alloc, edits)
-    }
-
-    /// Makes edits.
-    fn edited(&mut self, alloc: Global, edits: Edits) -> Words {
-        match self.nodes.edit_all(alloc, edits) {
-            Ok(()) => Words::new(alloc),
-            Err(_) => Words::none(alloc, RowFault::Memory),
-        }
-    }
-
-    /// Another project.
-    fn another(&mut self, alloc: Global) -> Words {
-        self.files = ByPath::new(alloc);
-        self.nodes = Nodes::empty(alloc);
-        Words::new(alloc)
-    }
-
-    /// Refreshes the readings, and keeps them where there is no fault.
-    fn refresh(&mut self, alloc: Global) -> Words {
-        let Ok(sources) = self.sources(alloc) else {
-            return Words::none(alloc, RowFault::Memory);
-        };
-        let found = refresh(alloc, &self.nodes, &sources);
-        let words = shown(alloc, &found, &read_folders(alloc, &sources));
-        if self.keep(alloc, found).is_err() {
-            return Words::none(alloc, RowFault::Memory);
-        }
-        words
-    }
-
-    /// Keeps what a refresh gave: fresh readings are put, those that are gone go, and nothing is
-    /// flagged any more.
-    fn keep(
-        &mut self,
-        alloc: Global,
-        found: Result<Refreshed, FoldersFault>,
-    ) -> Result<(), GraphFault> {
-        let Ok(given) = found else {
-            return Ok(());
-        };
-        let mut edits = Edits::new(alloc);
-        self.push_gone(&given, &mut edits)?;
-        self.push_flags(&mut edits)?;
-        for (dir, reading) in given.fresh.into_vec() {
-            edits.push(Edit::Put(Record::Reading { dir, reading }))?;
-        }
-        self.nodes.edit_all(alloc, edits)
-    }
-
-    /// Takes away the readings that are gone.
-    fn push_gone(&self, given: &Refreshed, edits: &mut Edits) -> Result<(), GraphFault> {
-        for dir in given.gone.as_slice() {
-            if let Some(reading) = self.nodes.reading(dir) {
-                edits.push(Edit::Remove(Record::Reading {
-                    dir: dir.clone()?,
-                    reading: reading.clone()?,
-                }))?;
-            }
-        }
-        Ok(())
-    }
-
-    /// Takes all flags of folders away.
-    fn push_flags(&self, edits: &mut Edits) -> Result<(), GraphFault> {
-        for (dir, _) in self.nodes.created() {
-            edits.push(Edit::Remove(Record::Create { dir: dir.clone()? }))?;
-        }
-        Ok(())
-    }
-
-    /// A copy of the sources.
-    fn sources(&self, alloc: Global) -> Result<Files, AllocError>
-        ensures { IfOk result (λ files. IsTrue (finite.is_sorted by_names files)) }
-    {
-        let mut copy = ByPath::new(alloc);
-        for (path, content) in self.files.iter() {
-            copy.insert(path.clone()?, content.clone()?)?;
-        }
-        copy.into_items(alloc)
-    }
+    project: Option<Project>,
+    /// How many calls of the site the last refresh made.
+    calls: u64,
 }
 
 impl Answers for Session {
     /// Makes one of the calls that the file in `data/` names.
     fn answer(&mut self, alloc: Global, call: &str, said: &Words) -> Result<Words, RowFault> {
         Ok(match call {
+            "project" => self.another(alloc),
             "file" => self.file(alloc, said),
             "nofile" => self.no_file(alloc, said),
             "flag" => self.flag(alloc, said),
-            "project" => self.another(alloc),
+            "owned" => self.owned(alloc, said),
             "refresh" => self.refresh(alloc),
+            "calls" => Words::shown(alloc, &self.calls),
+            "stopped" => self.stopped(alloc, said),
+            "large" => self.large(alloc, said),
             _ => Words::none(alloc, RowFault::NoSuchCall),
         })
     }
+}
+
+impl Session {
+    /// No project.
+    pub(crate) fn new(alloc: Global) -> Session {
+        Session {
+            project: Project::new(alloc).ok(),
+            calls: 0,
+        }
+    }
+
+    /// Another project.
+    fn another(&mut self, alloc: Global) -> Words {
+        self.project = Project::new(alloc).ok();
+        Words::new(alloc)
+    }
+
+    /// Puts a file, in place of the one at its path.
+    fn file(&mut self, alloc: Global, said: &Words) -> Words {
+        let path = said.path_at(alloc, 0);
+        let content = Bytes::new(said.bytes_at(alloc, 1));
+        self.edit(alloc, path, Some(content))
+    }
+
+    /// Takes a file away.
+    fn no_file(&mut self, alloc: Global, said: &Words) -> Words {
+        let path = said.path_at(alloc, 0);
+        self.edit(alloc, path, None)
+    }
+
+    fn edit(&mut self, alloc: Global, path: Path, content: Option<Bytes>) -> Words {
+        let Some(project) = &mut self.project else {
+            return Words::none(alloc, RowFault::Memory);
+        };
+        match project.site.edit(alloc, path, content) {
+            Ok(()) => Words::new(alloc),
+            Err(fault) => Words::refusal(alloc, &fault),
+        }
+    }
+
+    /// Flags a folder.
+    fn flag(&mut self, alloc: Global, said: &Words) -> Words {
+        let dir = said.path_at(alloc, 0);
+        self.put(alloc, Record::Create { dir })
+    }
+
+    /// The build owns a path.
+    fn owned(&mut self, alloc: Global, said: &Words) -> Words {
+        let path = said.path_at(alloc, 0);
+        self.put(
+            alloc,
+            Record::Owned {
+                path,
+                maker: None,
+                state: OwnedState::Unsure,
+            },
+        )
+    }
+
+    fn put(&mut self, alloc: Global, record: Record) -> Words {
+        let Some(project) = &mut self.project else {
+            return Words::none(alloc, RowFault::Memory);
+        };
+        match project.put(alloc, record) {
+            Ok(()) => Words::new(alloc),
+            Err(_) => Words::none(alloc, RowFault::Memory),
+        }
+    }
+
+    /// Refreshes the readings, and keeps them where there is no fault.
+    fn refresh(&mut self, alloc: Global) -> Words {
+        let Some(project) = &mut self.project else {
+            return Words::none(alloc, RowFault::Memory);
+        };
+        let Ok(config) = project.note(alloc) else {
+            return Words::none(alloc, RowFault::Memory);
+        };
+        let before = project.site.calls();
+        let found = project.refresh(alloc, &config);
+        self.calls = project.site.calls().saturating_sub(before);
+        compared(alloc, project, found)
+    }
+
+    /// Refreshes the readings, where all calls of the site but so many fail, and keeps none.
+    fn stopped(&mut self, alloc: Global, said: &Words) -> Words {
+        let Some(project) = &mut self.project else {
+            return Words::none(alloc, RowFault::Memory);
+        };
+        let Ok(config) = project.note(alloc) else {
+            return Words::none(alloc, RowFault::Memory);
+        };
+        let before = project.site.faults();
+        project.site.stop_after(said.number_at(0));
+        let found = project.refresh(alloc, &config);
+        project.site.run_on();
+        let mut words = shown_alone(alloc, &found);
+        words.put(alloc, b"faults");
+        words.show(alloc, &project.site.faults().saturating_sub(before));
+        words
+    }
+
+    /// Refreshes the readings, where the file at a path has grown too large since it was noted.
+    fn large(&mut self, alloc: Global, said: &Words) -> Words {
+        let Some(project) = &mut self.project else {
+            return Words::none(alloc, RowFault::Memory);
+        };
+        let Ok(config) = project.note(alloc) else {
+            return Words::none(alloc, RowFault::Memory);
+        };
+        match grow(alloc, project, said.path_at(alloc, 0)) {
+            Ok(()) => shown_alone(alloc, &project.refresh(alloc, &config)),
+            Err(fault) => Words::none(alloc, fault),
+        }
+    }
+}
+
+/// What a refresh gave beside what reading all folders gives; it is kept where there is no fault.
+fn compared(alloc: Global, project: &mut Project, found: Result<Refreshed, RefreshFault>) -> Words {
+    let words = beside_whole(alloc, project, &found);
+    match found {
+        Ok(given) => kept(alloc, project, given, words),
+        Err(_fault) => words,
+    }
+}
+
+/// What a refresh gave beside what reading all folders gives.
+fn beside_whole(
+    alloc: Global,
+    project: &Project,
+    found: &Result<Refreshed, RefreshFault>,
+) -> Words {
+    match project.sources(alloc) {
+        Ok(sources) => shown(alloc, found, &read_folders(alloc, &sources)),
+        Err(_) => Words::none(alloc, RowFault::Memory),
+    }
+}
+
+/// Keeps what a refresh gave.
+fn kept(alloc: Global, project: &mut Project, given: Refreshed, words: Words) -> Words {
+    match project.keep(alloc, given) {
+        Ok(()) => words,
+        Err(_) => Words::none(alloc, RowFault::Memory),
+    }
+}
+
+/// Makes a file too large.
+fn grow(alloc: Global, project: &mut Project, path: Path) -> Result<(), RowFault> {
+    let content = Bytes::new(zeros(alloc)?);
+    match project.site.edit(alloc, path, Some(content)) {
+        Ok(()) => Ok(()),
+        Err(_) => Err(RowFault::OtherKind),
+    }
+}
+
+/// Bytes of a file that is too large.
+fn zeros(alloc: Global) -> Result<Vec<u8>, RowFault> {
+    let mut bytes = Vec::new(alloc);
+    bytes.resize(LARGE, 0)?;
+    Ok(bytes)
 }

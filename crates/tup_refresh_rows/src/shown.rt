@@ -3,7 +3,7 @@ use std::alloc::Global;
 use tup_ask::ParseFault;
 use tup_folders::FoldersFault;
 use tup_path::{Items, Path};
-use tup_refresh::Refreshed;
+use tup_refresh::{RefreshFault, Refreshed};
 use tup_rows::Words;
 use tup_rule::{Draft, Reading};
 
@@ -11,7 +11,7 @@ use tup_rule::{Draft, Reading};
 /// gone, and all rules; or why there are no readings.
 pub(crate) fn shown(
     alloc: Global,
-    found: &Result<Refreshed, FoldersFault>,
+    found: &Result<Refreshed, RefreshFault>,
     whole: &Result<Items<(Path, Reading)>, FoldersFault>,
 ) -> Words {
     match (found, whole) {
@@ -22,6 +22,18 @@ pub(crate) fn shown(
         }
         (Err(fault), Err(other)) => refused(alloc, fault, other),
         _ => same(alloc, false),
+    }
+}
+
+/// How many folders were read, or why there are no readings.
+pub(crate) fn shown_alone(alloc: Global, found: &Result<Refreshed, RefreshFault>) -> Words {
+    match found {
+        Ok(given) => {
+            let mut words = Words::word(alloc, b"read");
+            words.show(alloc, &given.fresh.len());
+            words
+        }
+        Err(fault) => Words::refusal(alloc, fault),
     }
 }
 
@@ -63,21 +75,21 @@ fn add_paths(alloc: Global, words: &mut Words, paths: &[Path]) {
 }
 
 /// A fault, and whether it is that of reading all folders.
-fn refused(alloc: Global, fault: &FoldersFault, other: &FoldersFault) -> Words {
+fn refused(alloc: Global, fault: &RefreshFault, other: &FoldersFault) -> Words {
     match (fault, other) {
-        (FoldersFault::Circular(dirs), FoldersFault::Circular(others)) => {
+        (RefreshFault::Circular(dirs), FoldersFault::Circular(others)) => {
             let mut words = same(alloc, dirs == others);
             words.put(alloc, b"circle");
             add_paths(alloc, &mut words, dirs.as_slice());
             words
         }
-        (FoldersFault::Parse(fault), FoldersFault::Parse(other)) => {
+        (RefreshFault::Parse(fault), FoldersFault::Parse(other)) => {
             let mut words = same(alloc, is_said_alike(alloc, fault, other));
             words.put(alloc, b"fault");
             words.show(alloc, fault);
             words
         }
-        (FoldersFault::Memory, FoldersFault::Memory) => Words::refusal(alloc, fault),
+        (RefreshFault::Memory, FoldersFault::Memory) => Words::refusal(alloc, fault),
         _ => same(alloc, false),
     }
 }

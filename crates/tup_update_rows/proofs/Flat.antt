@@ -1,5 +1,5 @@
 -- Files that stand at the top lie neither above nor below each other.
-use Rattle.std.proofs.Common.{◌≡◌, ◌≢◌, ℕ, suc, ◌+◌, ◌||◌, Bool, true, false, List, [], ◌∷◌, ◌++◌, length, Option, None, Some, refl, sym, ap, ◌∙◌, subst, arith, length-append}
+use Rattle.std.proofs.Common.{◌≡◌, ℕ, suc, ◌||◌, Bool, true, false, List, [], ◌∷◌, length, Option, None, Some, refl, sym, ap, ◌∙◌, subst, arith, length-append}
 use Rattle.std.specs.Prelude.{All, IsSome, IsTrue, is_some, Contains}
 use Rattle.std.specs.FinMap as finite
 use Rattle.std.specs.List.{list_any}
@@ -9,9 +9,7 @@ use Rattle.tup_path.specs.Name.{Names, Content}
 use Rattle.tup_path.specs.Order.{by_names, same_path, same_path-by_names}
 use Rattle.tup_path.specs.Tree.{Tree, IsBelow}
 use Rattle.tup_path.proofs.Same.{same_path-decides}
-use Rattle.tup_site.specs.Cause.{IsPlace}
 use Rattle.tup_rule.specs.Rule.{among}
-use Rattle.tup_stale.specs.Files.{SameBeside}
 use Rattle.tup_site.specs.declared.site.Site.{Ghosts as Site}
 use Rattle.tup_graph.specs.Graph.{GraphState, is_rule, outputs_of}
 use Rattle.tup_ground.specs.declared.ground.Ground.{Ground}

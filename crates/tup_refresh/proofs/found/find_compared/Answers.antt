@@ -7,15 +7,15 @@ use Rattle.tup_refresh.proofs.Answering.{reading_stands}
 use Rattle.tup_refresh.proofs.Finding.{found_anew}
 use Rattle.tup_refresh.proofs.found.find_compared.Goals as goal
 
-pub returns-then-stands : goal.returns-then-stands
-returns-then-stands c = λ has beside compared.
+pub returns-then-stands-clause-found : goal.returns-then-stands-clause-found
+returns-then-stands-clause-found c = λ sources part has beside compared.
     let a = c.args in
-    let all = subst (λ (b : Bool). HasCompared a.sources.now a.settings.now a.readings.now a.dir.now a.reading.now.asked (Ok b)) c.if-stands.true compared in
-    subst (λ (left : Reading). HasFound a.sources.now a.settings.now a.readings.now a.dir.now (Some a.reading.now) (Ok (Stands left))) (sym c.in_ok-clone.ensures.cases)
-    (refl, all, reading_stands a.sources.now a.settings.now a.readings.now a.dir.now a.reading.now beside all)
+    let all = subst (λ (b : Bool). HasCompared sources a.settings.now a.readings.now a.dir.now a.reading.now.asked (Ok b)) c.if-stands.true compared in
+    subst (λ (left : Reading). HasFound sources a.settings.now a.readings.now a.dir.now (Some a.reading.now) (Ok (Stands left))) (sym c.in_ok-clone.ensures.cases)
+    (refl, all, reading_stands sources a.settings.now a.readings.now a.dir.now a.reading.now beside all)
 
-pub returns : goal.returns
-returns c = λ has beside compared.
+pub returns-clause-found : goal.returns-clause-found
+returns-clause-found c = λ sources part has beside compared.
     let a = c.args in
-    let other = subst (λ (b : Bool). HasCompared a.sources.now a.settings.now a.readings.now a.dir.now a.reading.now.asked (Ok b)) c.if-stands.false compared in
-    found_anew a.sources.now a.settings.now a.readings.now a.dir.now (Some a.reading.now) c.read_anew.result (inr (a.reading.now, refl, other)) (c.read_anew.ensures has)
+    let other = subst (λ (b : Bool). HasCompared sources a.settings.now a.readings.now a.dir.now a.reading.now.asked (Ok b)) c.if-stands.false compared in
+    found_anew sources a.settings.now a.readings.now a.dir.now (Some a.reading.now) c.read_anew.result (inr (a.reading.now, refl, other)) (c.read_anew.ensures.found sources part has)

@@ -1,16 +1,26 @@
-use Rattle.std.specs.FinMap as finite
-use Rattle.std.proofs.lemmas.Result.{err_from_is_err_and}
-use Rattle.tup_refresh.proofs.Ending.{refresh_ok, refresh_err, refresh_memory}
+use Rattle.std.proofs.Common.{List, sym, ◌∙◌, subst}
+use Rattle.std.specs.Map.{keys_of}
+use Rattle.tup_path.specs.Name.{Names, Content}
+use Rattle.tup_graph.specs.Answers.{tup_config}
+use Rattle.tup_ledger.specs.Sources.{sources_of}
+use Rattle.tup_refresh.specs.Part.{HasConfig, HasPaths, IsUnfetched}
+use Rattle.tup_refresh.proofs.Outlining.{files_of, listed_map, listed_sorted, none_fetched}
 use Rattle.tup_refresh.proofs.refreshing.refresh.Goals as goal
 
-pub returns-in-Ok : goal.returns-in-Ok
-returns-in-Ok c =
-    refresh_ok c.args.nodes.now (finite.from_sorted c.args.sources.now) c.in_ok-sources.sources c.in-Ok.settings c.all_found.result c.in_ok-sources.ensures c.in-Ok.ensures c.all_found.ensures
+pub refresh_outlined-requires-clause-sorted : goal.refresh_outlined-requires-clause-sorted
+refresh_outlined-requires-clause-sorted g c κs within = listed_sorted c.in_ok-outline.outline c.in_ok-files.files c.in_ok-files.ensures
 
-pub returns : goal.returns
-returns c = λ trues. refresh_err c.args.nodes.now (finite.from_sorted c.args.sources.now) c.in_ok-sources.sources c.in-Err.fault c.in_ok-sources.ensures c.in-Err.ensures
-
-pub returns-in_err-sources : goal.returns-in_err-sources
-returns-in_err-sources c = λ trues.
-    let p = err_from_is_err_and c.from_residual.result c.from_residual.ensures.1 in
-    rw (p.1, p.2) (refresh_memory c.args.nodes.now (finite.from_sorted c.args.sources.now))
+pub returns-clause-refreshed : goal.returns-clause-refreshed
+returns-clause-refreshed g c = λ tells sees config trues.
+    let a = c.args in
+    let tree = (g.S.Site.world a.site.now).tree in
+    let sources = sources_of a.nodes.now tree in
+    let map = listed_map c.in_ok-outline.outline c.in_ok-files.files c.in_ok-files.ensures in
+    let paths = subst (HasPaths sources) (sym map) (c.in_ok-outline.ensures.paths sources sees) in
+    let files = files_of a.nodes.now tree in
+    c.refresh_outlined.ensures.refreshed tells sources
+    (record { paths = paths; stamps = sees })
+    (subst (HasConfig sources) (sym map) (c.in_ok-outline.ensures.config sources sees (λ some. config ∙ sym (files tup_config some))))
+    (none_fetched sources c.in_ok-files.files c.in_ok-fetched.fetched (listed_sorted c.in_ok-outline.outline c.in_ok-files.files c.in_ok-files.ensures) paths
+    (subst (λ (l : List (Names × Content)). IsUnfetched (keys_of l) c.in_ok-fetched.fetched) c.as_slice.ensures c.in_ok-fetched.ensures))
+    files trues

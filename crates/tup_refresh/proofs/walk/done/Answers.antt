@@ -1,6 +1,8 @@
-use Rattle.tup_refresh.proofs.Ending.{are_refreshed}
+use Rattle.std.proofs.Common.{◌∙◌}
+use Rattle.std.specs.FinMap as finite
+use Rattle.tup_refresh.proofs.Ending.{are_refreshed, gone_alike}
 use Rattle.tup_refresh.proofs.walk.done.Goals as goal
 
 pub returns : goal.returns
-returns c = λ settings is.
-    are_refreshed c.args.nodes.now c.args.sources.now settings c.args.walk is c.requires _ c.in_ok-all.ensures c.in_ok-fresh.ensures c.in_ok-gone.ensures
+returns c = λ sources settings paths is.
+    are_refreshed c.args.nodes.now sources settings c.args.walk is c.requires _ c.in_ok-all.ensures c.in_ok-fresh.ensures (c.in_ok-gone.ensures ∙ gone_alike sources c.args.outline.now paths (finite.entries c.args.nodes.now.readings))

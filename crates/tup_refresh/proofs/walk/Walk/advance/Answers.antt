@@ -1,36 +1,35 @@
-use Rattle.std.proofs.lemmas.Result.{on_ok_weaker, MatchResult-weaker}
-use Rattle.tup_refresh.proofs.Walking.{has_tup, walk_kept, walk_read, walk_on, walk_ends, walk_closes}
+use Rattle.std.proofs.Common.{subst}
+use Rattle.std.proofs.lemmas.Result.{err_from_is_err_and}
+use Rattle.tup_refresh.specs.Walk.{HasGone}
+use Rattle.tup_refresh.proofs.Causes.{named_on, none_told, told_on}
+use Rattle.tup_refresh.proofs.Walking.{walk_fetched, lacks_one}
 use Rattle.tup_refresh.proofs.walk.Walk.advance.Goals as goal
 
-pub returns-in-Err-clause-fault : goal.returns-in-Err-clause-fault
-returns-in-Err-clause-fault c = λ trues is.
-    let a = c.args in
-    let has = has_tup a.nodes.now a.sources.now a.settings.now a.self.now a.dir is c.requires in
-    walk_ends a.nodes.now a.sources.now a.settings.now a.self.now a.dir is c.requires c.in-Err.fault (c.in-Err.ensures has (trues a.dir))
+pub fetch-requires-clause-missing : goal.fetch-requires-clause-missing
+fetch-requires-clause-missing g c κs within =
+    let gone = subst (HasGone c.args.self.now c.go_on.new.self) c.in-Some.is c.in_ok-path.ensures.gone in
+    lacks_one c.args.self.now c.go_on.new.self c.in-Some.path gone
 
-pub returns-in_ok-note-in-Ok-Stands-clause-walk : goal.returns-in_ok-note-in-Ok-Stands-clause-walk
-returns-in_ok-note-in-Ok-Stands-clause-walk c = λ trues is.
+pub returns-in_ok-fetch-in-Some-clause-walk : goal.returns-in_ok-fetch-in-Some-clause-walk
+returns-in_ok-fetch-in-Some-clause-walk g c = λ tells sources outlined files trues is.
     let a = c.args in
-    let has = has_tup a.nodes.now a.sources.now a.settings.now a.self.now a.dir is c.requires in
-    walk_kept a.nodes.now a.sources.now a.settings.now a.self.now a.dir is c.requires c.note.new.self c.in-Ok-Stands.reading ((rw c.in-Ok-Stands.field-0-is at c.in-Ok-Stands.ensures) has (trues a.dir)) c.in_ok-note-in-Ok-Stands.ensures
+    let mid = c.go_on.new.self in
+    let gone = subst (HasGone a.self.now mid) c.in-Some.is c.in_ok-path.ensures.gone in
+    let so = c.in_ok-path.ensures.walk sources outlined trues is in
+    walk_fetched a.nodes.now sources a.settings.now mid c.fetch.new.self so
+    (c.in_ok-fetch-in-Some.ensures.fetched tells sources (files c.in-Some.path (so.fetched.missing c.in-Some.path (lacks_one a.self.now mid c.in-Some.path gone))))
 
-pub returns-in_ok-note_fresh-in-Ok-Read-clause-walk : goal.returns-in_ok-note_fresh-in-Ok-Read-clause-walk
-returns-in_ok-note_fresh-in-Ok-Read-clause-walk c = λ trues is.
-    let a = c.args in
-    let has = has_tup a.nodes.now a.sources.now a.settings.now a.self.now a.dir is c.requires in
-    walk_read a.nodes.now a.sources.now a.settings.now a.self.now a.dir is c.requires c.note_fresh.new.self c.in-Ok-Read.reading ((rw c.in-Ok-Read.field-0-is at c.in-Ok-Read.ensures) has (trues a.dir)) c.in_ok-note_fresh-in-Ok-Read.ensures
+pub returns-in_err-path-clause-fault : goal.returns-in_err-path-clause-fault
+returns-in_err-path-clause-fault g c =
+    let p = err_from_is_err_and c.from_residual.result c.from_residual.ensures.1 in
+    rw (p.1, p.2) (λ sources outlined trues is. told_on sources c.args.settings.now c.in_err-path.field-0.0 (c.in_err-path.ensures.fault sources outlined trues is))
 
-pub returns-in-Ok-Waits-clause-walk : goal.returns-in-Ok-Waits-clause-walk
-returns-in-Ok-Waits-clause-walk c =
-    let a = c.args in
-    on_ok_weaker c.wait.result (λ begins trues is.
-    let has = has_tup a.nodes.now a.sources.now a.settings.now a.self.now a.dir is c.requires in
-    walk_on a.nodes.now a.sources.now a.settings.now a.self.now a.dir is c.requires c.wait.new.self c.in-Ok-Waits.next ((rw c.in-Ok-Waits.field-0-is at c.in-Ok-Waits.ensures) has (trues a.dir)) begins) c.wait.ensures.begins
+pub returns-in_err-fetch-in-Some-clause-fault : goal.returns-in_err-fetch-in-Some-clause-fault
+returns-in_err-fetch-in-Some-clause-fault g c =
+    let p = err_from_is_err_and c.from_residual-in_err-fetch-in-Some.result c.from_residual-in_err-fetch-in-Some.ensures.1 in
+    rw (p.1, p.2) (λ sources outlined trues is. none_told sources c.args.settings.now c.in_err-fetch-in-Some.field-0.0)
 
-pub returns-in-Ok-Waits-clause-fault : goal.returns-in-Ok-Waits-clause-fault
-returns-in-Ok-Waits-clause-fault c =
-    let a = c.args in
-    MatchResult-weaker c.wait.result c.wait.ensures.closes (λ done yes. tt)
-    (λ end closes trues is.
-    let has = has_tup a.nodes.now a.sources.now a.settings.now a.self.now a.dir is c.requires in
-    walk_closes a.nodes.now a.sources.now a.settings.now a.self.now a.dir is c.requires end c.in-Ok-Waits.next ((rw c.in-Ok-Waits.field-0-is at c.in-Ok-Waits.ensures) has (trues a.dir)) closes)
+pub returns-in_err-fetch-in-Some-clause-named : goal.returns-in_err-fetch-in-Some-clause-named
+returns-in_err-fetch-in-Some-clause-named g c = λ tells.
+    let p = err_from_is_err_and c.from_residual-in_err-fetch-in-Some.result c.from_residual-in_err-fetch-in-Some.ensures.1 in
+    named_on (g.S.Site.world c.args.site.now).tree c.in-Some.path c.in_err-fetch-in-Some.field-0.0 c.fetch.result p.0 c.from_residual-in_err-fetch-in-Some.result c.in_err-fetch-in-Some.was p.2 p.1 (c.fetch.ensures.named tells)

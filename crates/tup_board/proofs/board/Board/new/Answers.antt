@@ -1,0 +1,13 @@
+use Rattle.std.proofs.Common.{sym, ap, subst}
+use Rattle.tup_core.specs.declared.plan.Plan.{Plan}
+use Rattle.tup_course.specs.Course.{CourseState}
+use Rattle.tup_board.specs.Calls.{opened_as}
+use Rattle.tup_board.specs.Sound.{IsOpening}
+use Rattle.tup_board.proofs.board.Board.new.Goals as goal
+
+pub opened-requires : goal.opened-requires
+opened-requires g c = c.requires.plan.in_range
+
+pub of-requires-clause-opening : goal.of-requires-clause-opening
+of-requires-clause-opening g c κs within =
+    subst (λ (p : Plan). IsOpening g.S.Site (opened_as p c.args.graph c.args.site)) (sym (ap (λ (it : CourseState). it.plan) c.in-Ok.ensures)) c.requires

@@ -1,0 +1,29 @@
+//! What the calls of a board answer.
+use tup_access::Verdict;
+use tup_core::Cause;
+use tup_course::Events;
+use tup_kept::Graph;
+use tup_path::Bytes;
+use tup_site::Site;
+
+/// What a command is told about a file that it asks for.
+#[derive(Drop)]
+pub enum Asked {
+    /// What stands there.
+    Content(Bytes),
+    /// Nothing stands there, or it is an output of the command's own rule.
+    Absent,
+    /// It may not ask for it, and this becomes of it.
+    Denied(Verdict),
+}
+
+/// What a board is made of.
+#[derive(Drop)]
+pub struct BoardParts<S: Site> {
+    pub site: S,
+    pub graph: Graph,
+    /// All that happened, in its order.
+    pub history: Events,
+    /// Why the first stop came, if one did.
+    pub cause: Option<Cause>,
+}

@@ -1,0 +1,21 @@
+//! The board of an update: it runs a plan over a site, one event after another, and is safe at every moment.
+//!
+//! A `Board` owns the site, the graph, the core and the history of events. Seats are driven through it: `claim` gives a
+//! seat the first rule that is ready, `ask` answers what the rule's command asks for, and `finish` takes what it made
+//! into the tree and the store.
+//!
+//! Whatever was done, the history is a run of the core from the board's opening, and an honest one; the tree has what
+//! the core says; and what a crash at any moment may leave is said of each rule by itself (`specs/Sound.antt`,
+//! `specs/Images.antt`).
+#![tactic(auto)]
+
+mod answers;
+mod ask;
+mod board;
+mod finish;
+mod record;
+
+pub use answers::{Asked, BoardParts};
+pub use board::Board;
+pub use tup_course::{Claimed, Events};
+pub use tup_ground::BoardFault;

@@ -1,0 +1,14 @@
+use Rattle.std.proofs.Common.{ap, sym, ◌∙◌}
+use Rattle.tup_ask.specs.Log.{fits}
+use Rattle.tup_folders.proofs.Answered.{answer_fits, told_where_ready}
+use Rattle.tup_refresh.proofs.asking.Asking.other.Goals as goal
+
+pub returns-in-Ok-clause-told : goal.returns-in-Ok-clause-told
+returns-in-Ok-clause-told c =
+    let asked = c.args.self.now.asked in
+    c.in-Ok.ensures.told ∙ sym (told_where_ready asked.sources.now asked.settings.now asked.readings.now asked.reader.now c.args.question.now c.in-Ok.ensures.ready)
+
+pub returns-in-Ok-clause-fits : goal.returns-in-Ok-clause-fits
+returns-in-Ok-clause-fits c =
+    let asked = c.args.self.now.asked in
+    ap (fits c.args.question.now) c.in-Ok.ensures.told ∙ answer_fits asked.sources.now asked.settings.now asked.readings.now asked.reader.now c.args.question.now

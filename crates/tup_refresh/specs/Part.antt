@@ -1,0 +1,66 @@
+-- The sources of a project as far as they are known (own).
+use Rattle.std.specs.Prelude.{◌≡◌, Bool, true, false, not, ◌&&◌, ◌||◌, List, Option, Some, IsSome}
+use Rattle.std.specs.BTreeSet.{BTreeSet, contains}
+use Rattle.std.specs.FinMap as finite
+use Rattle.tup_path.specs.Name.{Names, Content}
+use Rattle.tup_path.specs.Order.{by_names, same_path}
+use Rattle.tup_path.specs.Tree.{Tree}
+use Rattle.tup_rule.specs.Rule.{among}
+use Rattle.tup_graph.specs.Answers.{tup_config}
+use Rattle.tup_graph.specs.Graph.{GraphState, is_owned}
+use Rattle.tup_refresh.specs.declared.fetched.Fetched.{Fetched}
+use Rattle.tup_refresh.specs.declared.part.Part.{Part}
+use Rattle.tup_refresh.specs.Untouched.{SeesSources}
+
+-- these are the paths of some sources
+abbrev pub HasPaths : Tree → Tree → Type 0
+HasPaths sources outline = finite.keys outline ≡ finite.keys sources
+
+-- what isn't missing of their contents is known, and what is missing is a source
+pub record AreFetched (sources : Tree) (fetched : Fetched) : Type 0 where
+  pub known : (path : Names) → contains by_names fetched.missing path ≡ false → finite.get fetched.contents path ≡ finite.get sources path
+  pub missing : (path : Names) → contains by_names fetched.missing path ≡ true → IsSome (finite.get sources path)
+
+-- so is what tup.config holds, where it is a source
+abbrev pub HasConfig : Tree → Tree → Type 0
+HasConfig sources outline = finite.get outline tup_config ≡ finite.get sources tup_config
+
+-- sources are files of a tree
+abbrev pub AreFilesOf : Tree → Tree → Type 0
+AreFilesOf tree sources = (path : Names) → IsSome (finite.get sources path) → finite.get sources path ≡ finite.get tree path
+
+-- sources that a graph sees, by their paths
+pub record IsOutlined (sources outline : Tree) (g : GraphState) : Type 0 where
+  pub paths : HasPaths sources outline
+  pub stamps : SeesSources sources g
+
+-- whether an entry of the files that a graph sees is that of a source at a path
+abbrev pub is_source_at : GraphState → Names → Names → Bool
+is_source_at g path seen = not (is_owned g seen) && same_path path seen
+
+-- a path is added, unless the graph owns it
+abbrev pub AddsSource : GraphState → Names → Tree → Tree → Type 0
+AddsSource g path old new = (other : Names) → finite.contains_key new other ≡ (finite.contains_key old other || is_source_at g other path)
+
+-- tup.config gets its content, where it is among them
+pub record AddsConfig (config : Option Content) (old new : Tree) : Type 0 where
+  pub paths : (path : Names) → finite.contains_key new path ≡ finite.contains_key old path
+  pub content : (content : Content) → config ≡ Some content → finite.contains_key old tup_config ≡ true → finite.get new tup_config ≡ Some content
+
+-- a path is added to some
+abbrev pub AddsPath : Names → BTreeSet Names → BTreeSet Names → Type 0
+AddsPath path old new = (other : Names) → contains by_names new other ≡ (contains by_names old other || same_path other path)
+
+-- no content was asked for
+pub record IsUnfetched (paths : List Names) (fetched : Fetched) : Type 0 where
+  pub missing : (path : Names) → contains by_names fetched.missing path ≡ among path paths
+  pub contents : fetched.contents ≡ finite.empty
+
+-- what is known of them
+pub record IsPartOf (sources outline : Tree) (g : GraphState) (fetched : Fetched) : Type 0 where
+  pub paths : HasPaths sources outline
+  pub stamps : SeesSources sources g
+  pub contents : AreFetched sources fetched
+
+abbrev pub IsPart : Tree → Part → Type 0
+IsPart sources part = IsPartOf sources part.outline.now part.nodes.now part.fetched.now
