@@ -10,9 +10,7 @@ use Rattle.tup_update.specs.Holding.{Holding, holding}
 use Rattle.tup_rule.specs.declared.rule.Rule.{Rule}
 use Rattle.tup_rule.specs.Rule.{among, is_generated}
 use Rattle.tup_clean.specs.Buildable.{IsBuildable}
-use Rattle.tup_ledger.specs.Ascending.{ascending}
 use Rattle.tup_update.specs.Log.{IsFront}
-use Rattle.tup_update.specs.Outcome.{claimed}
 use Rattle.tup_update.specs.Parts.{IsProject, Changes}
 use Rattle.tup_update.specs.Sources.{sources, files_beside, outputs, vanished, gone, left_over}
 use Rattle.tup_update.specs.declared.project.Project.{Project}

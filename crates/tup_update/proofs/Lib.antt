@@ -12,6 +12,7 @@ pub mod Trees
 pub mod Known
 pub mod Settling
 pub mod Held
+pub mod Before
 pub mod Crashing
 pub mod Behind
 pub mod Ending

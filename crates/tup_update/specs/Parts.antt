@@ -26,7 +26,7 @@ use Rattle.tup_update.specs.declared.fault.SourcesFault.TheVariants.{TooManyFile
 use Rattle.tup_update.specs.declared.found.Found.{Found}
 use Rattle.tup_update.specs.declared.project.Project.{Project}
 use Rattle.tup_update.specs.declared.stop.Stop.{Stop}
-use Rattle.tup_update.specs.declared.stop.Stop.TheVariants.{Bad, Outside as Stopped}
+use Rattle.tup_update.specs.declared.stop.Stop.TheVariants.{BadStore, Sources as NoSources, Bad, Full, Outside as Stopped}
 use Rattle.tup_update.specs.declared.stop.Unread.{Unread}
 use Rattle.tup_update.specs.declared.stop.Unread.TheVariants.{Sources as NoRules, Outside}
 
@@ -161,6 +161,24 @@ pub record HasMade (next : Next) (rules : List Rule) (sources old new : Tree) : 
 -- an update stops at this bad rule, or where the site fails once more
 abbrev pub StopsAt : RuleName → Verdict → Stop → Type 0
 StopsAt name verdict stop = (stop ≡ Bad name verdict) ⊎ ((failed : SiteFailed) × (stop ≡ Stopped failed) × ((n : ℕ) → failed ≢ TooLarge n))
+
+-- what stops the making of files: no damage of the store, and no fault of the sources
+abbrev pub StopsMaking : Stop → Type 0
+StopsMaking (BadStore offset) = ⊥
+StopsMaking (NoSources fault) = ⊥
+StopsMaking stop = ⊤
+
+-- no damage of the store stops it
+abbrev pub NoDamage : Stop → Type 0
+NoDamage (BadStore offset) = ⊥
+NoDamage stop = ⊤
+
+-- what stops the writing of the store, or a removal: no room in the store, a failure of the site, or want of memory
+abbrev pub IsLate : Stop → Type 0
+IsLate Full = ⊤
+IsLate (Stopped Fault) = ⊤
+IsLate (Stopped Memory) = ⊤
+IsLate stop = ⊥
 
 -- what is noted of rules that are run: the names of those that were begun, and the verdicts of those that ended
 abbrev pub AreNoted : List Rule → List Taken → List RuleName → List Taken → Type 0

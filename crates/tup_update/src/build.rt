@@ -1,22 +1,29 @@
 //! The making of a project's files.
-ghost use Rattle.std.specs.Prelude.{◌≡◌, ◌⊎◌, ◌++◌, false, IsTrue, IfOk, IfErr, OnOk, Some};
+ghost use Rattle.std.specs.Prelude.{◌≡◌, ◌⊎◌, ◌++◌, false, filter, not, IsTrue, IfOk, IfErr, OnOk, Err, Some};
 ghost use Rattle.std.specs.Result.{result_err};
 ghost use Rattle.tup_site.specs.Crash.{GoesOn, NoStep, PinsStore, PinsTree};
 ghost use Rattle.tup_site.specs.World.{TreeStays, StoreStays};
 ghost use Rattle.tup_site.specs.Cause.{CountsFaults, NeverTooLarge};
 ghost use Rattle.tup_access.specs.Generated.{IsGenerated};
 ghost use Rattle.tup_clean.specs.Clean.{is_good};
-ghost use Rattle.tup_owned.specs.Owned.{spelling};
+ghost use Rattle.tup_graph.specs.Transactions.{forget_edits};
+ghost use Rattle.tup_kept.specs.Held.{is_fresh, StandsFor};
 ghost use Rattle.tup_ledger.specs.Ascending.{ascending};
-ghost use Rattle.tup_update.specs.Images.{FilesStep, ListedStep, MakesStep, SettledStep};
+ghost use Rattle.tup_ledger.specs.Listing.{SettledStep};
+ghost use Rattle.tup_ledger.specs.Owned.{own_edits, owned_in};
+ghost use Rattle.tup_ledger.specs.Sources.{HaveNoFiles};
+ghost use Rattle.tup_rule.specs.Rule.{among};
+ghost use Rattle.tup_update.specs.Holding.{Lists};
+ghost use Rattle.tup_update.specs.Images.{FilesStep, ListedStep, MakesStep};
+ghost use Rattle.tup_update.specs.Opened.{IsOpened};
 ghost use Rattle.tup_update.specs.Log.{IsGrownByFront, IsUnused, with_read};
-ghost use Rattle.tup_update.specs.Outcome.{Keeps, Stays, HasCountedCause, HasRunCause};
-ghost use Rattle.tup_update.specs.Parts.{IsProject, IsCleared, SameBeside, StopsAt};
+ghost use Rattle.tup_update.specs.Outcome.{Keeps, Stays, HasCountedCause, HasRunCause, LacksRoom};
+ghost use Rattle.tup_update.specs.Parts.{IsProject, IsCleared, IsLate, SameBeside, StopsAt, StopsMaking};
 ghost use Rattle.tup_update.specs.Ran.{RunsThese};
 ghost use Rattle.tup_update.specs.Settled.{IsDurable, IsSettled};
 ghost use Rattle.tup_update.specs.Sources.{outputs, left_over};
 ghost use Rattle.tup_site.specs.declared.fault.SiteFailed.TheVariants.{Memory};
-ghost use Rattle.tup_update.specs.declared.stop.Stop.TheVariants.{Outside};
+ghost use Rattle.tup_update.specs.declared.stop.Stop.TheVariants.{Full, Outside};
 
 use crate::project::{Project, parted, path_set};
 use crate::run::BadRule;
@@ -36,11 +43,11 @@ use tup_site::{Site, SiteFailed};
 pub(crate) struct Plan {
     /// The outputs of all rules, for quick look-ups.
     pub made: BTreeSet<Path>,
-    /// The outputs, which become owned before any is made.
+    /// The outputs, which are owned before any is made.
     pub outputs: Paths,
     /// The files of vanished rules, which are removed.
     pub vanished: Paths,
-    /// The owned paths that no rule makes any more, which aren't owned in the end.
+    /// The owned paths that no rule makes, which are given up in the end.
     pub left: Paths,
 }
 
@@ -98,12 +105,12 @@ impl Project {
         runner: &mut R,
         log: &mut Log,
     ) -> Result<(), Stop>
-        requires fresh { IsTrue (is_fresh graph.old) }
+        requires opened { IsOpened graph.old self.now.owned }
         requires stands { IsTrue S.tells
             → StandsFor S.world S.moment S.left_since graph.old site.old }
-        requires owned { self.now.owned ≡ owned_in graph.old.nodes }
         requires project { IsTrue S.tells → IsProject self.now (S.world site.old) }
         requires unused { IsUnused log.old }
+        ensures makes { IfErr result StopsMaking }
         ensures stays { IsTrue S.tells → let told = with_read self.now.read log.new in
             Stays R.tells R.next
             self.now.rules (S.world site.old) (S.world site.new) told (result_err result) }
@@ -113,10 +120,8 @@ impl Project {
             self.now.rules (S.world site.old) (S.world site.new) told (result_err result) }
         ensures settled { IsTrue S.tells → let left = S.left_since site.new (S.moment site.new) in
             IsSettled left (S.world site.new) (result_err result) }
-        ensures images { IsTrue S.tells → (kept : Kept)
-            → Guards (S.left_since site.old (S.moment site.old)) graph.old.nodes kept
-            → All (λ path. kept.may path ≡ true) (outputs self.now.rules)
-            → LeavesOnly S.moment S.left_since site.old site.new (HasSources kept) }
+        ensures crash { IsTrue S.tells → GoesOn S.moment S.left_since site.old site.new
+            (MakesStep R.tells R.next self.now.rules (S.world site.old)) }
         ensures ran { IsTrue R.tells_ran
             → RunsThese log.new.ran (R.ran runner.old) (R.ran runner.new) (result_err result) }
         ensures counted { let stopped = result_err result in
@@ -135,7 +140,7 @@ impl Project {
             &mut log.ended,
         )? {
             Some(bad) => Err(stop_at(alloc, site, bad)),
-            None => Ok(give_up(alloc, graph, site, plan.left.as_slice())?),
+            None => Ok(finish(alloc, site, graph, plan.left.as_slice())?),
         }
     }
 }
@@ -151,29 +156,31 @@ fn prepare<S: Site>(
     requires fresh { IsTrue (is_fresh graph.old) }
     requires stands { IsTrue S.tells
         → StandsFor S.world S.moment S.left_since graph.old site.old }
-
     ensures cleared { IsTrue S.tells → OnOk result
         (IsCleared plan.now.vanished (S.world site.old).tree (S.world site.new).tree) }
     ensures others { IsTrue S.tells
         → SameBeside plan.now.vanished (S.world site.old).tree (S.world site.new).tree }
-    ensures claimed { OnOk result (IsTrue (is_fresh graph.new)
-        × (graph.new.nodes ≡ with_owned graph.old.nodes plan.now.outputs)) }
-    ensures stands { IsTrue S.tells → IsTrue (is_fresh graph.new)
-        → StandsFor S.world S.moment S.left_since graph.new site.new }
-    // Where it is refused the store has what it had, with no file touched, or all that is claimed.
-    ensures either { IsTrue S.tells
-        → IsStoreOf (with_owned graph.old.nodes plan.now.outputs) (S.world site.new).store
-        ⊎ (IsStoreOf graph.old.nodes (S.world site.new).store
-        × TreeStays (S.world site.old) (S.world site.new)) }
-    ensures sources { IsTrue S.tells → (kept : Kept)
-        → Guards (S.left_since site.old (S.moment site.old)) graph.old.nodes kept
-        → HaveNoFiles kept.sources plan.now.outputs
-        → All (λ path. kept.may path ≡ true) plan.now.outputs
-        → All (λ path. is_owned graph.old.nodes path ≡ true) plan.now.vanished
-        → KeepsSources S.moment S.left_since site.old site.new
-        kept (IsTrue (is_fresh graph.new)) graph.new.nodes }
+    ensures claimed { IsTrue S.tells
+        → let claimed = ascending (owned_in graph.old.nodes ++ plan.now.outputs) in
+        OnOk result (Lists (S.world site.new).store claimed) }
+    ensures unclaimed { IsTrue S.tells
+        → let claimed = ascending (owned_in graph.old.nodes ++ plan.now.outputs) in
+        Lists (S.world site.new).store claimed ⊎ TreeStays (S.world site.old) (S.world site.new) }
+    ensures crash { IsTrue S.tells
+        → let claimed = ascending (owned_in graph.old.nodes ++ plan.now.outputs) in
+        GoesOn S.moment S.left_since site.old site.new
+        (ListedStep (SameBeside plan.now.vanished) claimed) }
+    ensures pinned { IsTrue S.tells → let left = S.left_since site.new (S.moment site.new) in
+        OnOk result (PinsStore left (S.world site.new)) }
+    ensures opened { OnOk result
+        (IsOpened graph.new (ascending (owned_in graph.old.nodes ++ plan.now.outputs))) }
+    ensures stands { IsTrue S.tells
+        → OnOk result (StandsFor S.world S.moment S.left_since graph.new site.new) }
+    ensures full { IsTrue S.tells → result ≡ Err Full
+        → LacksRoom (λ g. own_edits g plan.now.outputs) (S.world site.new) }
     ensures removed { OnOk result (removed.new ≡ removed.old ++ plan.now.vanished) }
     ensures part { IsGrownByFront removed.old removed.new plan.now.vanished }
+    ensures late { IfErr result IsLate }
     ensures counted { HasCountedCause (S.faults site.old) (S.faults site.new) (result_err result) }
 {
     own(alloc, graph, site, plan.outputs.as_slice())?;
@@ -222,4 +229,31 @@ fn stop_at<S: Site>(alloc: Global, site: &mut S, bad: BadRule) -> Stop
         Ok(()) => Stop::Bad(name, verdict),
         Err(failed) => Stop::Outside(failed),
     }
+}
+
+/// Gives up what was owned and isn't made any more. The files are settled before: after `Ok` a
+/// crash leaves all as it is then.
+fn finish<S: Site>(
+    alloc: Global,
+    site: &mut S,
+    graph: &mut Graph,
+    left: &[Path],
+) -> Result<(), Stop>
+    requires fresh { IsTrue (is_fresh graph.old) }
+    requires stands { IsTrue S.tells
+        → StandsFor S.world S.moment S.left_since graph.old site.old }
+    requires gone { IsTrue S.tells → HaveNoFiles (S.world site.old).tree left.now }
+    ensures listed { IsTrue S.tells → OnOk result (Lists (S.world site.new).store
+        (filter (λ path. not (among path left.now)) (owned_in graph.old.nodes))) }
+    ensures tree { IsTrue S.tells → TreeStays (S.world site.old) (S.world site.new) }
+    ensures crash { IsTrue S.tells → GoesOn S.moment S.left_since site.old site.new
+        (SettledStep (S.world site.old)) }
+    ensures durable { IsTrue S.tells → OnOk result
+        (IsDurable (S.left_since site.new (S.moment site.new)) (S.world site.new)) }
+    ensures full { IsTrue S.tells → result ≡ Err Full
+        → LacksRoom (λ g. forget_edits g left.now) (S.world site.new) }
+    ensures late { IfErr result IsLate }
+    ensures counted { HasCountedCause (S.faults site.old) (S.faults site.new) (result_err result) }
+{
+    Ok(give_up(alloc, graph, site, left)?)
 }

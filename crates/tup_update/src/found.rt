@@ -7,7 +7,6 @@ ghost use Rattle.tup_site.specs.Crash.{GoesOn, NoStep};
 ghost use Rattle.tup_site.specs.World.{World};
 ghost use Rattle.tup_site.specs.Cause.{CountsFaults, NeverTooLarge, OnlyLarge};
 ghost use Rattle.tup_clean.specs.Buildable.{IsBuildable};
-ghost use Rattle.tup_ledger.specs.Owned.{owned_in};
 ghost use Rattle.tup_update.specs.Holding.{Lists, holding};
 ghost use Rattle.tup_update.specs.Outside.{HandsOn};
 ghost use Rattle.tup_update.specs.Parts.{IsFound, IsOfRules, IsRefusal, IsTooMany};
@@ -22,8 +21,6 @@ use crate::project::{parted, path_set};
 use crate::stop::Unread;
 use std::alloc::Global;
 use tup_map::ByPath;
-use tup_graph::Nodes;
-use tup_ledger::owned_paths;
 use tup_path::{Bytes, Files, Path, Paths};
 use tup_rule::Rules;
 use tup_scan::MAX_FILES;
@@ -42,15 +39,15 @@ pub(crate) struct Found {
 }
 
 impl Found {
-    /// Reads what a site holds beside the paths that a graph owns, and changes nothing.
+    /// Reads what a site holds whose store lists these paths, and changes nothing.
     pub(crate) fn read<S: Site>(
         alloc: Global,
         site: &mut S,
-        nodes: &Nodes,
+        owned: Paths,
     ) -> Result<Found, Unread>
-        requires { IsTrue S.tells → Lists (S.world site.old).store (owned_in nodes.now) }
+        requires { IsTrue S.tells → Lists (S.world site.old).store owned }
         ensures found { IsTrue S.tells → IfOk result (IsFound (S.world site.old)) }
-        ensures owned { IfOk result (λ found. found.owned ≡ owned_in nodes.now) }
+        ensures owned { IfOk result (λ found. found.owned ≡ owned) }
         ensures sorted { IfOk result (λ found. IsTrue (finite.is_sorted by_names found.sources)) }
         ensures cause { IsTrue S.tells → IfErr result (IsUnread (S.world site.old)) }
         ensures limits { IfErr result KnowsLimits }
@@ -59,7 +56,6 @@ impl Found {
             → GoesOn S.moment S.left_since site.old site.new NoStep }
         ensures counted { HandsOn Outside (S.faults site.old) (S.faults site.new) result }
     {
-        let owned = owned_paths(alloc, nodes)?;
         let files = site.list(alloc)?;
         few(&files)?;
         let apart = path_set(alloc, owned.as_slice())?;

@@ -6,8 +6,8 @@ use crate::fault::SourcesFault;
 use std::alloc::AllocError;
 use thiserror::Error;
 use tup_access::Verdict;
-use tup_link::What;
 use tup_graph::GraphFault;
+use tup_link::What;
 use tup_rule::RuleName;
 use tup_site::SiteFailed;
 use tup_whole::ProjectFault;
@@ -15,9 +15,6 @@ use tup_whole::ProjectFault;
 /// Why an update stopped.
 #[derive(Debug, Drop, Error)]
 pub enum Stop {
-    /// There is no store: no project was begun here.
-    #[error("no project was begun")]
-    NoStore,
     /// The store doesn't read from this byte on. No file was touched.
     #[error("the store is damaged at byte {0}")]
     BadStore(u64),
@@ -30,8 +27,8 @@ pub enum Stop {
     /// The runner failed; what ran before it stands.
     #[error("a command can't be run")]
     Run,
-    /// The store has no room for what the rules claim.
-    #[error("the store is full")]
+    /// The store has no room for what is to be owned, or to be given up.
+    #[error("the store has no room")]
     Full,
     /// The site failed, or a file to be read is too large, or there was no memory.
     #[error("{0}")]
@@ -161,10 +158,10 @@ impl From<GraphFault> for Stop {
 
     fn from(fault: GraphFault) -> Stop {
         match fault {
-            GraphFault::NotThere => Stop::NoStore,
+            GraphFault::NotThere => Stop::BadStore(0),
             GraphFault::BadStore { offset } => Stop::BadStore(offset),
-            GraphFault::Full => Stop::Full,
             GraphFault::Site => Stop::Outside(SiteFailed::Fault),
+            GraphFault::Full => Stop::Full,
             GraphFault::Memory => Stop::Outside(SiteFailed::Memory),
         }
     }

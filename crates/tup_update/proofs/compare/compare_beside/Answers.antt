@@ -10,7 +10,7 @@ use Rattle.tup_update.specs.declared.stop.Stop.TheVariants.{Outside}
 use Rattle.tup_update.specs.SeeingLaws.{rests_on}
 use Rattle.tup_update.proofs.Comparing.{compared_alike, runs_on}
 use Rattle.tup_update.proofs.Keeping.{err_is}
-use Rattle.tup_update.proofs.compare.compare_site.Goals as goal
+use Rattle.tup_update.proofs.compare.compare_beside.Goals as goal
 
 pub returns-clause-compared : goal.returns-clause-compared
 returns-clause-compared g c = λ tells means.

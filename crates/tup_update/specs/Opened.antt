@@ -1,0 +1,32 @@
+-- What the opening of the store comes to.
+use Rattle.std.specs.Prelude.{◌≡◌, ◌⊎◌, ⊤, List, IsTrue}
+use Rattle.tup_path.specs.Name.{Names}
+use Rattle.tup_site.specs.World.{World}
+use Rattle.tup_site.specs.declared.fault.SiteFailed.TheVariants.{Fault, Memory}
+use Rattle.tup_kept.specs.Held.{Held, is_fresh}
+use Rattle.tup_ledger.specs.Owned.{owned_in}
+use Rattle.tup_update.specs.Holding.{HoldsOn, IsDamaged, IsUnmade}
+use Rattle.tup_update.specs.declared.stop.Stop.{Stop}
+use Rattle.tup_update.specs.declared.stop.Stop.TheVariants.{BadStore, Outside}
+
+-- a graph that stands for its store owns these paths
+pub record IsOpened (graph : Held) (owned : List Names) : Type 0 where
+  pub fresh : IsTrue (is_fresh graph)
+  pub owned : owned ≡ owned_in graph.nodes
+
+-- nothing but these stops an opening
+abbrev pub StopsOpening : Stop → Type 0
+StopsOpening (BadStore offset) = ⊤
+StopsOpening (Outside Fault) = ⊤
+StopsOpening (Outside Memory) = ⊤
+StopsOpening stop = ⊥
+
+-- the store is damaged there, where it is told so
+abbrev pub IsUnlisted : World → Stop → Type 0
+IsUnlisted old (BadStore offset) = IsDamaged old.store offset
+IsUnlisted old stop = ⊤
+
+-- and what is left where the store couldn't be opened: what was held, or no store yet
+abbrev pub IsUnopened : World → World → Stop → Type 0
+IsUnopened old new (BadStore offset) = IsDamaged old.store offset × HoldsOn old new
+IsUnopened old new stop = HoldsOn old new ⊎ IsUnmade old new
