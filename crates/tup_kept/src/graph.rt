@@ -1,5 +1,5 @@
 //! A graph over the store of a site.
-ghost use Rattle.std.specs.Prelude.{◌≡◌, ◌≢◌, ◌++◌, ◌∷◌, ℕ, [], All, IsTrue, IfOk, OnOk, Err};
+ghost use Rattle.std.specs.Prelude.{◌≡◌, ◌≢◌, ◌⊎◌, ◌++◌, ◌∷◌, ℕ, [], All, IsTrue, IfOk, OnOk, Err};
 ghost use Rattle.tup_path.specs.Gives.{GivesUnless};
 ghost use Rattle.tup_site.specs.Crash.{GoesOn, WriteStep};
 ghost use Rattle.tup_site.specs.World.{TreeStays};
@@ -92,6 +92,9 @@ impl Graph {
             × IsGraphOf (entries_in graph.table) graph.nodes) }
         ensures stands { IsTrue S.tells
             → IfOk result (λ graph. StandsFor S.world S.moment S.left_since graph site.new) }
+        // Whatever it answers, all is as it was, or the store has the same entries.
+        ensures keeps { IsTrue S.tells → (S.world site.new ≡ S.world site.old)
+            ⊎ OpenStep (S.world site.old) (S.world site.new) }
 
         // What it changes meanwhile, and what a crash may leave then: the same entries.
         ensures tree { IsTrue S.tells → TreeStays (S.world site.old) (S.world site.new) }

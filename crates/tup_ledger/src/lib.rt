@@ -15,7 +15,7 @@ mod owning;
 
 pub use beginning::{Begun, begin};
 pub use giving::give_up;
-pub use laws::lists_in_one_way;
+pub use laws::{empty_lists_nothing, lists_in_one_way};
 pub use lists::sorted;
 pub use opened::open;
 pub use owning::{own, owned_paths};

@@ -1,12 +1,21 @@
+use Rattle.tup_table.specs.Images.{OpenStep}
+use Rattle.tup_table.proofs.Going.{as_step}
+use Rattle.tup_ledger.specs.Listing.{ListingStep}
 use Rattle.tup_ledger.proofs.Guarding.{opening_keeps}
-use Rattle.tup_ledger.proofs.Listing.{opened_lists, opened_guards}
+use Rattle.tup_ledger.proofs.Listing.{listing_step, opened_guards, opened_lists, still_lists}
 use Rattle.tup_ledger.proofs.opened.open.Goals as goal
 
 pub returns-clause-lists : goal.returns-clause-lists
 returns-clause-lists g c = λ tells.
     let site_laws = g.met.S.Site g.world.𝓛 g.world.𝓜 g.world.𝓡 ((λ s x. x), (λ x. x), (λ x. x), λ x. x) in
     let new = c.open.new.site in
-    opened_lists g.S.Site.world g.S.Site.moment g.S.Site.left_since new (site_laws.present new tells) (g.S.Site.world c.args.site.now).store c.open.result (c.open.ensures.opens tells) c.open.ensures.graph (c.open.ensures.stands tells)
+    opened_lists g.S.Site.world g.S.Site.moment g.S.Site.left_since new (site_laws.present new tells) c.open.result c.open.ensures.graph (c.open.ensures.stands tells)
+
+pub returns-clause-keeps : goal.returns-clause-keeps
+returns-clause-keeps g c = λ tells. still_lists (g.S.Site.world c.args.site.now) (g.S.Site.world c.open.new.site) (c.open.ensures.keeps tells)
+
+pub returns-clause-crash : goal.returns-clause-crash
+returns-clause-crash g c = λ tells. as_step g.S.Site.moment g.S.Site.left_since c.args.site.now c.open.new.site OpenStep ListingStep (λ v w left step. listing_step v w step) (c.open.ensures.crash tells)
 
 pub returns-clause-images : goal.returns-clause-images
 returns-clause-images g c = λ tells kept safe. opening_keeps g.S.Site.world g.S.Site.moment g.S.Site.left_since kept c.args.site.now c.open.new.site safe (c.open.ensures.crash tells)
