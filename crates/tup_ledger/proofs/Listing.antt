@@ -15,7 +15,7 @@ use Rattle.tup_graph.specs.Opening.{IsGraphOf}
 use Rattle.tup_graph.specs.declared.fault.GraphFault.{GraphFault}
 use Rattle.tup_kept.specs.Crash.{IsStoreOf, GraphStep, LeavesEither}
 use Rattle.tup_kept.specs.Held.{Held, is_fresh}
-use Rattle.tup_ledger.specs.Listing.{Lists, StillLists, ListingStep, SettledStep}
+use Rattle.tup_ledger.specs.Listing.{Lists, StillLists, SettledStep}
 use Rattle.tup_ledger.specs.Owned.{owned_in}
 use Rattle.tup_ledger.specs.Sources.{Guards, HasSources, Kept}
 use Rattle.tup_ledger.proofs.Guarding.{entries_one, guards_now, one_store, stored}
@@ -41,15 +41,12 @@ carried before after entries was is paths lists = record {
   owned = lists.owned;
 }
 
-still : (v w : World) → OpenStep v w → StillLists v.store w.store
-still v w step = λ paths. (carried v.store w.store step.entries step.before step.after paths, carried w.store v.store step.entries step.after step.before paths)
-
-pub listing_step : (v w : World) → OpenStep v w → ListingStep v w
-listing_step v w step = record { tree = step.tree; lists = still v w step }
+pub opened_still : (v w : World) → OpenStep v w → StillLists v.store w.store
+opened_still v w step = λ paths. (carried v.store w.store step.entries step.before step.after paths, carried w.store v.store step.entries step.after step.before paths)
 
 pub still_lists : (v w : World) → (w ≡ v) ⊎ OpenStep v w → StillLists v.store w.store
 still_lists v w how =
-    ⊎_elim (λ same. subst (λ (u : World). StillLists v.store u.store) (sym same) (λ paths. ((λ lists. lists), λ lists. lists))) (still v w) how
+    ⊎_elim (λ same. subst (λ (u : World). StillLists v.store u.store) (sym same) (λ paths. ((λ lists. lists), λ lists. lists))) (opened_still v w) how
 
 -- ---- a site whose store a table stands for
 module _ {S : Type 0} (world : S → World) (moment : S → ℕ) (left_since : S → ℕ → World → Type 0) (site : S) (present : left_since site (moment site) (world site)) where

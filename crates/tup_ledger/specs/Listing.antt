@@ -17,11 +17,6 @@ pub record Lists (bytes : List ℕ) (paths : List Names) : Type 0 where
 abbrev pub StillLists : List ℕ → List ℕ → Type 0
 StillLists before after = (paths : List Names) → (Lists before paths → Lists after paths) × (Lists after paths → Lists before paths)
 
--- the tree stays, and the store lists just what it listed
-pub record ListingStep (v w : World) : Type 0 where
-  pub tree : TreeStays v w
-  pub lists : StillLists v.store w.store
-
 -- the tree stays, and is the present one
 abbrev pub SettledStep : World → World → World → Type 0
 SettledStep now v w = TreeStays v w × TreeStays now w

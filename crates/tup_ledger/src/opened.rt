@@ -6,7 +6,7 @@ ghost use Rattle.tup_table.specs.Images.{OpenStep};
 ghost use Rattle.tup_kept.specs.Cause.{CountsFaults};
 ghost use Rattle.tup_kept.specs.Held.{is_fresh, StandsFor};
 ghost use Rattle.tup_kept.specs.Opening.{OpensAs};
-ghost use Rattle.tup_ledger.specs.Listing.{IsSafe, Lists, ListingStep, StillLists};
+ghost use Rattle.tup_ledger.specs.Listing.{IsSafe, Lists, StillLists};
 ghost use Rattle.tup_ledger.specs.Owned.{owned_in};
 ghost use Rattle.tup_ledger.specs.Sources.{Guards, HasSources, Kept};
 
@@ -29,13 +29,13 @@ pub fn open<S: Site>(alloc: Global, site: &mut S) -> Result<Graph, GraphFault>
         → OpensAs (S.world site.old).store (S.world site.new).store result }
 
     // At every end all is as it was, or the store has the same entries; so it lists the same.
-    ensures stays { IsTrue S.tells → (S.world site.new ≡ S.world site.old)
+    ensures keeps { IsTrue S.tells → (S.world site.new ≡ S.world site.old)
         ⊎ OpenStep (S.world site.old) (S.world site.new) }
-    ensures keeps { IsTrue S.tells
+    ensures still { IsTrue S.tells
         → StillLists (S.world site.old).store (S.world site.new).store }
+
     ensures tree { IsTrue S.tells → TreeStays (S.world site.old) (S.world site.new) }
-    ensures opening { IsTrue S.tells → GoesOn S.moment S.left_since site.old site.new OpenStep }
-    ensures crash { IsTrue S.tells → GoesOn S.moment S.left_since site.old site.new ListingStep }
+    ensures crash { IsTrue S.tells → GoesOn S.moment S.left_since site.old site.new OpenStep }
     ensures images { IsTrue S.tells → (kept : Kept) → IsSafe S.moment S.left_since site.old kept
         → LeavesOnly S.moment S.left_since site.old site.new (HasSources kept) }
     ensures guards { IsTrue S.tells → (kept : Kept) → IsSafe S.moment S.left_since site.old kept

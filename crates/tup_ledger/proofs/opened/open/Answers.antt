@@ -1,8 +1,5 @@
-use Rattle.tup_table.specs.Images.{OpenStep}
-use Rattle.tup_table.proofs.Going.{as_step}
-use Rattle.tup_ledger.specs.Listing.{ListingStep}
 use Rattle.tup_ledger.proofs.Guarding.{opening_keeps}
-use Rattle.tup_ledger.proofs.Listing.{listing_step, opened_guards, opened_lists, still_lists}
+use Rattle.tup_ledger.proofs.Listing.{opened_guards, opened_lists, still_lists}
 use Rattle.tup_ledger.proofs.opened.open.Goals as goal
 
 pub returns-clause-lists : goal.returns-clause-lists
@@ -11,11 +8,8 @@ returns-clause-lists g c = λ tells.
     let new = c.open.new.site in
     opened_lists g.S.Site.world g.S.Site.moment g.S.Site.left_since new (site_laws.present new tells) c.open.result c.open.ensures.graph (c.open.ensures.stands tells)
 
-pub returns-clause-keeps : goal.returns-clause-keeps
-returns-clause-keeps g c = λ tells. still_lists (g.S.Site.world c.args.site.now) (g.S.Site.world c.open.new.site) (c.open.ensures.keeps tells)
-
-pub returns-clause-crash : goal.returns-clause-crash
-returns-clause-crash g c = λ tells. as_step g.S.Site.moment g.S.Site.left_since c.args.site.now c.open.new.site OpenStep ListingStep (λ v w left step. listing_step v w step) (c.open.ensures.crash tells)
+pub returns-clause-still : goal.returns-clause-still
+returns-clause-still g c = λ tells. still_lists (g.S.Site.world c.args.site.now) (g.S.Site.world c.open.new.site) (c.open.ensures.keeps tells)
 
 pub returns-clause-images : goal.returns-clause-images
 returns-clause-images g c = λ tells kept safe. opening_keeps g.S.Site.world g.S.Site.moment g.S.Site.left_since kept c.args.site.now c.open.new.site safe (c.open.ensures.crash tells)
