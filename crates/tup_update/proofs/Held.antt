@@ -5,7 +5,7 @@ use Rattle.tup_site.specs.World.{World}
 use Rattle.tup_table.specs.Entries.{Standing}
 use Rattle.tup_table.specs.Images.{Leaves, OpenStep}
 use Rattle.tup_ledger.specs.Listing.{Lists as ListsOwned}
-use Rattle.tup_ledger.proofs.Listing.{lists_one, nothing_lists, listing_step}
+use Rattle.tup_ledger.proofs.Listing.{lists_one, nothing_lists, opened_still}
 use Rattle.tup_update.specs.Holding.{Holding, HoldsOn, Lists, OfHeld, Shows, holding}
 
 -- what is listed is one thing alone
@@ -54,8 +54,8 @@ pub opened_holds : (v w : World) → OpenStep v w → HoldsOn v w
 opened_holds v w step = record {
   tree = step.tree;
   none = λ e. absurd (no_entries step.entries (subst (Leaves step.entries) e step.after));
-  lists = λ paths. across v.store w.store step.before step.after paths ((listing_step v w step).lists paths).0;
-  back = λ paths. across w.store v.store step.after step.before paths ((listing_step v w step).lists paths).1;
+  lists = λ paths. across v.store w.store step.before step.after paths (opened_still v w step paths).0;
+  back = λ paths. across w.store v.store step.after step.before paths (opened_still v w step paths).1;
 }
   where
     across : (one other : List ℕ) → Leaves step.entries one → Leaves step.entries other → (paths : List Names) → (ListsOwned one paths → ListsOwned other paths) → Lists one paths → Lists other paths
