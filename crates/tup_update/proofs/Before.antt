@@ -1,5 +1,5 @@
 -- What is promised of a world behind the opening of its store is promised of the one before it.
-use Rattle.std.proofs.Common.{◌≡◌, ⊎_elim, inl, inr, ◌∙◌, Bool, IsSome, List, Option, None, Some}
+use Rattle.std.proofs.Common.{◌≡◌, ⊎_elim, inl, inr, ◌∙◌, Bool, IsSome, List, Option, None, Some, Result, Ok, Err, IfErr}
 use Rattle.tup_path.specs.Name.{Names}
 use Rattle.tup_site.specs.World.{World}
 use Rattle.tup_site.specs.declared.fault.SiteFailed.TheVariants.{Fault, TooLarge, Memory}
@@ -7,6 +7,7 @@ use Rattle.tup_rule.specs.declared.rule.Rule.{Rule}
 use Rattle.tup_runner.specs.Next.{Next}
 use Rattle.tup_ledger.specs.Ascending.{ascending}
 use Rattle.std.specs.FinMap as finite
+use Rattle.std.specs.Result.{result_err}
 use Rattle.tup_update.specs.Holding.{Holding, HoldsOn}
 use Rattle.tup_update.specs.Log.{IsPartOf, LogFits, RulesFit, whole_log}
 use Rattle.tup_update.specs.Outcome.{AllIsMade, ClaimedListed, ExactlyTheFiles, HasCause, HasNoRoom, IsBadRule, IsBehindBad, IsLeft, IsListed, IsMade, Keeps, MadeBeforeBad, NothingForgotten, SourcesStay, Stays, claimed}
@@ -21,6 +22,10 @@ use Rattle.tup_update.proofs.Held.{held_before, holds_then, shown_before}
 abbrev pub MakesOn : Option Stop → Type 0
 MakesOn None = Unit {0}
 MakesOn (Some stop) = StopsMaking stop
+
+pub makes_on : {T : Type 0} (result : Result T Stop) → IfErr result StopsMaking → MakesOn (result_err result)
+makes_on {T} (Ok value) makes = tt
+makes_on {T} (Err stop) makes = makes
 
 module _ (rules : List Rule) (old mid new : World) (on : HoldsOn old mid) where
   pub asked_before : IsAsked mid rules → IsAsked old rules

@@ -239,8 +239,11 @@ module _ {S : Type 0} (moment : S → ℕ) (left_since : S → ℕ → World →
         listed = λ held shows. ⊎_elim inl (λ rest. inr (⊎_elim (λ stays. inl (stays ∙ same)) inr rest)) (step.listed held shows);
       }
 
+  pub as_opened : (tells : Bool) (next : Next) (rules : List Rule) (old new : S) (was : World) → GoesOn moment left_since old new (OpensStep was) → GoesOn moment left_since old new (UpdateStep tells next rules was)
+  as_opened tells next rules old new was on = as_step moment left_since old new (OpensStep was) (UpdateStep tells next rules was) (λ v w left step. inl step) on
+
   -- where nothing more is added
   pub opened_only : (tells : Bool) (next : Next) (rules : List Rule) (old mid new : S) (was : World) → GoesOn moment left_since old mid (OpensStep was) → GoesOn moment left_since mid new NoStep →
       GoesOn moment left_since old new (UpdateStep tells next rules was)
   opened_only tells next rules old mid new was opened quiet =
-      then_quiet old mid new (UpdateStep tells next rules was) (as_step moment left_since old mid (OpensStep was) (UpdateStep tells next rules was) (λ v w left step. inl step) opened) quiet
+      then_quiet old mid new (UpdateStep tells next rules was) (as_opened tells next rules old mid was opened) quiet

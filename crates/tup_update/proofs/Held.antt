@@ -1,12 +1,19 @@
 -- What a world holds is one thing alone, and what two worlds hold that list the same.
-use Rattle.std.proofs.Common.{◌≡◌, ◌⊎◌, ℕ, List, [], ◌∷◌, Result, Err, inl, inr, refl, sym, ap, subst, ◌∙◌}
+use Rattle.std.proofs.Common.{◌≡◌, ◌⊎◌, ℕ, List, [], ◌∷◌, ⊎_elim, Result, Ok, Err, inl, inr, refl, sym, ap, subst, ◌∙◌}
 use Rattle.tup_path.specs.Name.{Names}
 use Rattle.tup_site.specs.World.{World}
 use Rattle.tup_table.specs.Entries.{Standing}
+use Rattle.tup_table.specs.Reading.{opened_of}
+use Rattle.tup_table.specs.declared.fault.TableFault.{TableFault}
+use Rattle.tup_table.specs.declared.fault.TableFault.TheVariants as table
+use Rattle.tup_table.specs.declared.opened.Opened.{Opened}
+use Rattle.tup_table.proofs.Stores.{reads_one}
+use Rattle.tup_graph.specs.Opening.{IsGraphOf}
+use Rattle.tup_graph.proofs.OneWay.{not_broken}
 use Rattle.tup_table.specs.Images.{Leaves, OpenStep}
 use Rattle.tup_ledger.specs.Listing.{Lists as ListsOwned}
 use Rattle.tup_ledger.proofs.Listing.{lists_one, nothing_lists, opened_still}
-use Rattle.tup_update.specs.Holding.{Holding, HoldsOn, Lists, OfHeld, Shows, holding}
+use Rattle.tup_update.specs.Holding.{Holding, HoldsOn, IsDamaged, Lists, OfHeld, Shows, holding}
 
 -- what is listed is one thing alone
 pub listed_one : (bytes : List ℕ) (one other : List Names) → Lists bytes one → Lists bytes other → one ≡ other
@@ -77,3 +84,20 @@ module _ (old mid : World) (on : HoldsOn old mid) where
 
   pub held_before : (promise : Holding → Type 0) → OfHeld mid promise → OfHeld old promise
   held_before promise kept held shows = kept held (shown_behind held shows)
+
+-- ---- a store that lists something isn't damaged
+pub undamaged : (bytes : List ℕ) (paths : List Names) (offset : ℕ) → Lists bytes paths → IsDamaged bytes offset → ⊥
+undamaged [] paths offset lists (left, opens) =
+    ⊎_elim
+    (λ damaged. let one : ◌≡◌ {A = Result Opened TableFault} (Err table.NotThere) (Err (table.BadStore offset)) = reads_one [] (Err table.NotThere) (Err (table.BadStore offset)) refl damaged.0 in absurd (cc one))
+    (λ broken. let one : ◌≡◌ {A = Result Opened TableFault} (Err table.NotThere) (Ok broken.opened) = reads_one [] (Err table.NotThere) (Ok broken.opened) refl broken.reads in absurd (cc one)) opens
+undamaged (byte ∷ bytes) paths offset lists (left, opens) =
+    ⊎_elim
+    (λ damaged. let one : ◌≡◌ {A = Result Opened TableFault} (Ok (opened_of leaves.0)) (Err (table.BadStore offset)) = reads_one (byte ∷ bytes) (Ok (opened_of leaves.0)) (Err (table.BadStore offset)) (leaves.0, leaves.1, refl) damaged.0 in absurd (cc one))
+    (λ broken.
+    let one : ◌≡◌ {A = Result Opened TableFault} (Ok (opened_of leaves.0)) (Ok broken.opened) = reads_one (byte ∷ bytes) (Ok (opened_of leaves.0)) (Ok broken.opened) (leaves.0, leaves.1, refl) broken.reads in
+    let same : opened_of leaves.0 ≡ broken.opened = cc one in
+    not_broken broken.opened.entries lists.graph offset (subst (λ (es : Standing). IsGraphOf es lists.graph) (leaves.2 ∙ ap (λ (o : Opened). o.entries) same) lists.store.stands) broken.broken) opens
+  where
+    leaves : Leaves lists.store.entries (byte ∷ bytes)
+    leaves = lists.store.leaves

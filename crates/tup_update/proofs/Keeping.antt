@@ -90,7 +90,7 @@ unread_counts before now result (Unlucky Memory) is hands limits = hands.steady 
 
 -- ---- an update that changed nothing
 
-unchanged_sources : (old new : World) → TreeStays old new → SourcesStay old new
+pub unchanged_sources : (old new : World) → TreeStays old new → SourcesStay old new
 unchanged_sources old new same held shows path there =
     ap (λ (t : Tree). finite.get t path) same ∙ ap (λ (t : Tree). finite.get t path) (sym shows.tree) ∙ sym (left_is held.owned held.tree path there).1
 

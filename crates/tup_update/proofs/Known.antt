@@ -1,11 +1,11 @@
 -- After an update the sources are what they were: what the store lists then, and what stands beside it.
-use Rattle.std.proofs.Common.{◌≡◌, ℕ, ◌++◌, ◌&&◌, ◌||◌, Bool, true, false, cond, not, filter, List, [], ◌∷◌, None, refl, sym, ◌∙◌, ap, subst}
+use Rattle.std.proofs.Common.{◌≡◌, ℕ, ◌++◌, ◌&&◌, ◌||◌, Bool, true, false, cond, not, filter, List, [], ◌∷◌, Contains, Option, None, Some, IsSome, refl, sym, ◌∙◌, ap, subst}
 use Rattle.std.specs.FinMap as finite
-use Rattle.std.proofs.lemmas.Bool.{or_right}
-use Rattle.std.proofs.lemmas.List.Elements.{All-filter}
+use Rattle.std.proofs.lemmas.Bool.{and_parts, false≢true, or_right}
+use Rattle.std.proofs.lemmas.List.Elements.{All-contains_itself, All-filter, All-weaker}
 use Rattle.std.proofs.lemmas.List.Folds.{list_any-append}
 use Rattle.std.specs.declared.cmp.Ordering.TheVariants.{Less}
-use Rattle.tup_path.specs.Name.{Names}
+use Rattle.tup_path.specs.Name.{Names, Content}
 use Rattle.tup_path.specs.Order.{by_names, same_path}
 use Rattle.tup_path.specs.Tree.{Tree}
 use Rattle.tup_path.proofs.Same.{same_tree}
@@ -13,6 +13,7 @@ use Rattle.tup_rule.specs.declared.rule.Rule.{Rule}
 use Rattle.tup_rule.specs.Rule.{among, is_generated}
 use Rattle.tup_clean.proofs.Among.{among-Contains, Contains-among}
 use Rattle.tup_clean.specs.Buildable.{IsBuildable}
+use Rattle.tup_ledger.specs.Sources.{HaveNoFiles}
 use Rattle.tup_ledger.specs.Ascending.{IsAscending, ascending}
 use Rattle.tup_ledger.specs.Members.{ascending-IsAscending, ascending_has, ascending_has_only, same_members}
 use Rattle.tup_site.specs.World.{World}
@@ -146,3 +147,22 @@ pub given_up : (owned : List Names) (rules : List Rule) (mine made left given cl
     Lists store (filter (λ path. not (among path given)) claimed) → Lists store (ascending (outputs rules))
 given_up owned rules mine made left given claimed store is outs rest slice all lists =
     subst (Lists store) ((λ i. filter (λ path. not (among path ((slice ∙ rest) i))) ((sym all ∙ (λ j. ascending (sym is j ++ outs j))) i)) ∙ outputs_kept owned rules) lists
+
+-- no file stands at what is given up: what was owned there was cleared, and only outputs are put
+pub none_left : (owned : List Names) (rules : List Rule) (mid ran : Tree) → IsRunnable owned rules mid → SameBesideOutputs rules mid ran → HaveNoFiles ran (left_over owned rules)
+none_left owned rules mid ran runnable behind =
+    All-weaker (Contains (left_over owned rules)) (λ path. finite.get ran path ≡ None) (λ path has. at path (and_parts (among path owned) (not (is_generated rules path)) (sym (among_left owned rules path) ∙ Contains-among path (left_over owned rules) has)))
+    (left_over owned rules) (All-contains_itself (left_over owned rules))
+  where
+    not_made : (b : Bool) → not b ≡ true → b ≡ false
+    not_made true e = absurd (false≢true e)
+    not_made false e = refl
+
+    at : (path : Names) → (among path owned ≡ true) × (not (is_generated rules path) ≡ true) → finite.get ran path ≡ None
+    at path (mine, unmade) = behind path (not_made (is_generated rules path) unmade) ∙ by (finite.get mid path) refl
+      where
+        by : (found : Option Content) → finite.get mid path ≡ found → finite.get mid path ≡ None
+        by None none = none
+        by (Some content) some =
+            let there : IsSome (finite.get mid path) = subst (λ (o : Option Content). IsSome o) (sym some) refl in
+            absurd (false≢true (sym (not_made (is_generated rules path) unmade) ∙ runnable.cleared path there mine))

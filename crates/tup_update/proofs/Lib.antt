@@ -14,6 +14,7 @@ pub mod Settling
 pub mod Held
 pub mod Before
 pub mod Crashing
+pub mod Storing
 pub mod Behind
 pub mod Ending
 pub mod Keeping

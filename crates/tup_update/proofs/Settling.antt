@@ -1,9 +1,11 @@
 -- What a crash leaves, once files and store are settled.
-use Rattle.std.proofs.Common.{Some}
+use Rattle.std.proofs.Common.{Some, inl, inr, sym, subst}
+use Rattle.tup_rule.specs.declared.rule.RuleName.{RuleName}
+use Rattle.tup_access.specs.declared.verdict.Verdict.{Verdict}
 use Rattle.tup_site.specs.World.{World}
 use Rattle.tup_site.specs.declared.fault.SiteFailed.TheVariants.{Fault, TooLarge, Memory}
 use Rattle.tup_update.specs.Opened.{StopsOpening}
-use Rattle.tup_update.specs.Parts.{IsLate}
+use Rattle.tup_update.specs.Parts.{IsLate, StopsAt, StopsMaking}
 use Rattle.tup_update.specs.Settled.{IsSettled}
 use Rattle.tup_update.specs.Stopped.{stop_of, stop_of_halt}
 use Rattle.tup_update.specs.declared.stop.Halt.{Halt}
@@ -42,3 +44,21 @@ opening_unsettled left now (Bad rule verdict) stops = absurd stops
 opening_unsettled left now Run stops = absurd stops
 opening_unsettled left now Full stops = absurd stops
 opening_unsettled left now (Outside (TooLarge n)) stops = absurd stops
+
+-- ---- and it stopped in the making of files
+
+pub late_makes : (stop : Stop) → IsLate stop → StopsMaking stop
+late_makes (BadStore offset) late = late
+late_makes (NoRules fault) late = late
+late_makes (Bad rule verdict) late = tt
+late_makes Run late = tt
+late_makes Full late = tt
+late_makes (Outside failed) late = tt
+
+pub halt_makes : (halt : Halt) → StopsMaking (stop_of_halt halt)
+halt_makes RunHalted = tt
+halt_makes (Halted failed) = tt
+
+pub stopped_makes : (name : RuleName) (verdict : Verdict) (stop : Stop) → StopsAt name verdict stop → StopsMaking stop
+stopped_makes name verdict stop (inl is) = subst StopsMaking (sym is) tt
+stopped_makes name verdict stop (inr (failed, is, small)) = subst StopsMaking (sym is) tt

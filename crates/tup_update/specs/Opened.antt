@@ -1,8 +1,9 @@
 -- What the opening of the store comes to.
-use Rattle.std.specs.Prelude.{◌≡◌, ◌⊎◌, ⊤, List, IsTrue}
+use Rattle.std.specs.Prelude.{◌≡◌, ◌⊎◌, ⊤, List, [], IsTrue}
 use Rattle.tup_path.specs.Name.{Names}
 use Rattle.tup_site.specs.World.{World}
 use Rattle.tup_site.specs.declared.fault.SiteFailed.TheVariants.{Fault, Memory}
+use Rattle.tup_graph.specs.Graph.{GraphState}
 use Rattle.tup_kept.specs.Held.{Held, is_fresh}
 use Rattle.tup_ledger.specs.Owned.{owned_in}
 use Rattle.tup_update.specs.Holding.{HoldsOn, IsDamaged, IsUnmade}
@@ -13,6 +14,12 @@ use Rattle.tup_update.specs.declared.stop.Stop.TheVariants.{BadStore, Outside}
 pub record IsOpened (graph : Held) (owned : List Names) : Type 0 where
   pub fresh : IsTrue (is_fresh graph)
   pub owned : owned ≡ owned_in graph.nodes
+
+-- there was no store, and the one that was made owns nothing; no file was touched
+pub record IsNew (old new : World) (graph : GraphState) : Type 0 where
+  pub none : old.store ≡ []
+  pub tree : new.tree ≡ old.tree
+  pub empty : owned_in graph ≡ []
 
 -- nothing but these stops an opening
 abbrev pub StopsOpening : Stop → Type 0

@@ -1,14 +1,11 @@
 //! The store of a project: which paths it lists as owned.
-ghost use Rattle.std.specs.Prelude.{◌≡◌, [], IsTrue, IfOk, IfErr, OnOk};
+ghost use Rattle.std.specs.Prelude.{◌⊎◌, IsTrue, IfOk, IfErr, OnOk};
 ghost use Rattle.std.specs.Result.{result_err};
-ghost use Rattle.tup_site.specs.Crash.{GoesOn, WriteStep};
-ghost use Rattle.tup_site.specs.World.{TreeStays};
-ghost use Rattle.tup_kept.specs.Cause.{CountsFaults, OnlyOutside};
+ghost use Rattle.tup_site.specs.Crash.{GoesOn};
 ghost use Rattle.tup_kept.specs.Held.{is_fresh, StandsFor};
-ghost use Rattle.tup_ledger.specs.Owned.{owned_in};
 ghost use Rattle.tup_update.specs.Holding.{HoldsOn, Lists};
 ghost use Rattle.tup_update.specs.Images.{OpensStep};
-ghost use Rattle.tup_update.specs.Opened.{IsOpened, IsUnopened, IsUnlisted, StopsOpening};
+ghost use Rattle.tup_update.specs.Opened.{IsNew, IsOpened, IsUnlisted, IsUnopened, StopsOpening};
 ghost use Rattle.tup_update.specs.Outcome.{HasCountedCause};
 
 use crate::stop::Stop;
@@ -25,7 +22,8 @@ pub(crate) fn opened<S: Site>(alloc: Global, site: &mut S) -> Result<(Graph, Pat
     ensures opened { IfOk result (λ opened. IsOpened opened.0 opened.1) }
     ensures stands { IsTrue S.tells → IfOk result
         (λ opened. StandsFor S.world S.moment S.left_since opened.0 site.new) }
-    ensures lists { IsTrue S.tells → IfOk result (λ opened. Lists (S.world site.new).store opened.1) }
+    ensures lists { IsTrue S.tells
+        → IfOk result (λ opened. Lists (S.world site.new).store opened.1) }
     ensures holds { IsTrue S.tells → OnOk result (HoldsOn (S.world site.old) (S.world site.new)) }
     ensures cause { IsTrue S.tells → IfErr result
         (IsUnopened (S.world site.old) (S.world site.new)) }
@@ -34,29 +32,31 @@ pub(crate) fn opened<S: Site>(alloc: Global, site: &mut S) -> Result<(Graph, Pat
     ensures stops { IfErr result StopsOpening }
     ensures counted { HasCountedCause (S.faults site.old) (S.faults site.new) (result_err result) }
 {
-    let graph = match open(alloc, site) {
-        Err(GraphFault::NotThere) => made(alloc, site)?,
-        Err(fault) => return Err(Stop::from(fault)),
-        Ok(graph) => graph,
-    };
+    let graph = open_or_make(alloc, site)?;
     let owned = owned_paths(alloc, graph.nodes())?;
     Ok((graph, owned))
 }
 
-/// Makes the store of a site that has none.
-fn made<S: Site>(alloc: Global, site: &mut S) -> Result<Graph, Stop>
-    requires { IsTrue S.tells → (S.world site.old).store ≡ [] }
+/// The graph of the store of a site; where there is no store yet, of one that is made.
+fn open_or_make<S: Site>(alloc: Global, site: &mut S) -> Result<Graph, Stop>
     ensures fresh { IfOk result (λ graph. IsTrue (is_fresh graph)) }
     ensures stands { IsTrue S.tells
         → IfOk result (λ graph. StandsFor S.world S.moment S.left_since graph site.new) }
-    ensures none { IfOk result (λ graph. owned_in graph.nodes ≡ []) }
-    ensures lists { IsTrue S.tells → OnOk result (Lists (S.world site.new).store []) }
-    ensures tree { IsTrue S.tells → TreeStays (S.world site.old) (S.world site.new) }
-    ensures crash { IsTrue S.tells → GoesOn S.moment S.left_since site.old site.new TreeStays }
+    ensures holds { IsTrue S.tells → IfOk result
+        (λ graph. IsNew (S.world site.old) (S.world site.new) graph.nodes
+        ⊎ HoldsOn (S.world site.old) (S.world site.new)) }
+    ensures cause { IsTrue S.tells → IfErr result
+        (IsUnopened (S.world site.old) (S.world site.new)) }
+    ensures crash { IsTrue S.tells → GoesOn S.moment S.left_since site.old site.new
+        (OpensStep (S.world site.old)) }
     ensures stops { IfErr result StopsOpening }
     ensures counted { HasCountedCause (S.faults site.old) (S.faults site.new) (result_err result) }
 {
-    Ok(Graph::make(alloc, site)?)
+    match open(alloc, site) {
+        Err(GraphFault::NotThere) => Ok(Graph::make(alloc, site)?),
+        Err(fault) => Err(Stop::from(fault)),
+        Ok(graph) => Ok(graph),
+    }
 }
 
 /// The paths that the store of a site lists: none where there is no store. The files stay as they

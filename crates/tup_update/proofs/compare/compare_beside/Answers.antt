@@ -9,6 +9,8 @@ use Rattle.tup_update.specs.declared.stop.Stop.{Stop}
 use Rattle.tup_update.specs.declared.stop.Stop.TheVariants.{Outside}
 use Rattle.tup_update.specs.SeeingLaws.{rests_on}
 use Rattle.tup_update.proofs.Comparing.{compared_alike, runs_on}
+use Rattle.tup_update.specs.Parts.{NoDamage}
+use Rattle.tup_update.proofs.Handed.{err_if}
 use Rattle.tup_update.proofs.Keeping.{err_is}
 use Rattle.tup_update.proofs.compare.compare_beside.Goals as goal
 
@@ -46,3 +48,6 @@ returns-in_err-comparison-clause-crash g c = λ tells.
 pub returns-clause-crash : goal.returns-clause-crash
 returns-clause-crash g c = λ tells.
     rests_on g.S.Site.moment g.S.Site.left_since c.args.site.now c.clean_files.new.site c.all_files.new.site (c.clean_files.ensures.crash tells) (c.all_files.ensures.crash tells)
+
+pub returns-in_err-built-clause-sound : goal.returns-in_err-built-clause-sound
+returns-in_err-built-clause-sound g c = err_if c.from_residual.result c.in_err-built.field-0.0 NoDamage c.from_residual.ensures.1 c.in_err-built.ensures.sound

@@ -15,3 +15,8 @@ pub returns-clause-vanished : goal.returns-clause-vanished
 returns-clause-vanished c =
     let made_are = λ (path : Names). c.in_ok-made.ensures path ∙ ap (among path) (c.as_slice-outputs.ensures ∙ c.in_ok-outputs.ensures ∙ ap outputs c.as_slice.ensures) in
     c.in_ok-vanished.ensures.outside ∙ (λ i. filter (λ path. not (made_are path i)) (c.as_slice-2.ensures i))
+
+pub returns-clause-left : goal.returns-clause-left
+returns-clause-left c =
+    let made_are = λ (path : Names). c.in_ok-made.ensures path ∙ ap (among path) (c.as_slice-outputs.ensures ∙ c.in_ok-outputs.ensures ∙ ap outputs c.as_slice.ensures) in
+    c.in_ok-left.ensures.outside ∙ (λ i. filter (λ path. not (made_are path i)) (c.as_slice-4.ensures i))

@@ -23,6 +23,9 @@ use Rattle.tup_update.proofs.Begun.{ran_none, ran_all_of, stopped_runs}
 use Rattle.tup_update.specs.Holding.{holding}
 use Rattle.tup_update.proofs.Ending.{vanished_are}
 use Rattle.tup_update.proofs.Known.{given_up}
+use Rattle.tup_update.specs.Parts.{StopsMaking}
+use Rattle.tup_update.proofs.Handed.{err_if}
+use Rattle.tup_update.proofs.Settling.{late_makes, halt_makes, stopped_makes}
 use Rattle.tup_update.proofs.Keeping.{IsUnderWay, all_made, err_is, way_runnable, unplanned_stays, unplanned_keeps, unprepared_stays, unprepared_keeps, unrun_stays, unrun_keeps, stopped_stays, stopped_keeps, unfinished_stays, unfinished_keeps, finished_stays, finished_keeps}
 use Rattle.tup_update.proofs.Settling.{halted_unsettled, late_unsettled}
 use Rattle.tup_update.specs.Images.{MakesStep}
@@ -447,3 +450,18 @@ returns-clause-crash g c = λ tells.
     let made = all_made project old (g.S.Site.world mid) plan.vanished claiming way g.R.Runner.tells g.R.Runner.next now now (c.in_ok-prepare.ensures.cleared tells) (c.run.ensures.others tells) refl
     (λ means. subst (HasRun g.R.Runner.next project.rules sources now.tree) c.in-None.is (c.in_ok-bad.ensures.run tells means)) in
     finished_so g.S.Site.moment g.S.Site.left_since g.R.Runner.tells g.R.Runner.next project.rules old (holding old project.owned) (store_reads project old is) is.asked site c.run.new.site c.finish.new.site now (λ t u w le left. site_laws.earlier c.run.new.site t u w tells le left) made ran (c.finish.ensures.crash tells)
+
+pub returns-in_err-plan-clause-makes : goal.returns-in_err-plan-clause-makes
+returns-in_err-plan-clause-makes g c = err_if c.from_residual.result (Outside Memory) StopsMaking c.from_residual.ensures.1 tt
+
+pub returns-in_err-prepare-clause-makes : goal.returns-in_err-prepare-clause-makes
+returns-in_err-prepare-clause-makes g c = err_if c.from_residual-in_err-prepare.result c.in_err-prepare.field-0.0 StopsMaking c.from_residual-in_err-prepare.ensures.1 (late_makes c.in_err-prepare.field-0.0 c.in_err-prepare.ensures.late)
+
+pub returns-in_err-bad-clause-makes : goal.returns-in_err-bad-clause-makes
+returns-in_err-bad-clause-makes g c = err_if c.from_residual-in_err-bad.result (stop_of_halt c.in_err-bad.field-0.0) StopsMaking c.from_residual-in_err-bad.ensures.1 (halt_makes c.in_err-bad.field-0.0)
+
+pub returns-in_err-finish-in-None-clause-makes : goal.returns-in_err-finish-in-None-clause-makes
+returns-in_err-finish-in-None-clause-makes g c = err_if c.from_residual-in_err-finish-in-None.result c.in_err-finish-in-None.field-0.0 StopsMaking c.from_residual-in_err-finish-in-None.ensures.1 (late_makes c.in_err-finish-in-None.field-0.0 c.in_err-finish-in-None.ensures.late)
+
+pub returns-in-Some-clause-makes : goal.returns-in-Some-clause-makes
+returns-in-Some-clause-makes g c = stopped_makes c.in-Some.bad.0 c.in-Some.bad.1 c.stop_at.result c.stop_at.ensures.stops

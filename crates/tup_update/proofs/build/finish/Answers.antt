@@ -1,0 +1,44 @@
+use Rattle.std.proofs.Common.{◌≡◌, ◌∙◌, ℕ, inl, inr, refl, sym, ap, subst, List, None, Some, Result, Ok, Err, OnOk, not, filter}
+use Rattle.std.specs.Result.{result_err}
+use Rattle.tup_path.specs.Name.{Names}
+use Rattle.tup_site.specs.World.{World}
+use Rattle.tup_graph.specs.Graph.{GraphState}
+use Rattle.tup_graph.specs.Transactions.{forget_edits}
+use Rattle.tup_graph.specs.declared.fault.GraphFault.TheVariants as graph
+use Rattle.tup_kept.specs.Transaction.{IsFull}
+use Rattle.tup_ledger.specs.Given.{GivesUp}
+use Rattle.tup_update.specs.Outcome.{HasCountedCause, LacksRoom}
+use Rattle.tup_update.specs.Parts.{IsLate}
+use Rattle.tup_update.specs.Holding.{Lists}
+use Rattle.tup_update.specs.Stopped.{stop_of_graph}
+use Rattle.tup_update.specs.declared.stop.Stop.TheVariants.{Full}
+use Rattle.tup_update.proofs.Handed.{err_if}
+use Rattle.tup_update.proofs.Held.{by_ledger}
+use Rattle.tup_update.proofs.Keeping.{err_is}
+use Rattle.tup_update.proofs.Storing.{given_late, given_full, graph_counts, no_room}
+use Rattle.tup_update.proofs.build.finish.Goals as goal
+
+pub returns-in_err-give_up-clause-late : goal.returns-in_err-give_up-clause-late
+returns-in_err-give_up-clause-late g c =
+    let fault = c.in_err-give_up.field-0.0 in
+    err_if c.from_residual.result (stop_of_graph fault) IsLate c.from_residual.ensures.1
+    (given_late g.S.Site.tells c.args.left.now c.args.graph.now c.give_up.new.graph (g.S.Site.world c.args.site.now) (g.S.Site.world c.give_up.new.site) fault c.in_err-give_up.ensures.gives_up)
+
+pub returns-in_err-give_up-clause-full : goal.returns-in_err-give_up-clause-full
+returns-in_err-give_up-clause-full g c = λ tells full.
+    let fault = c.in_err-give_up.field-0.0 in
+    let held = c.args.graph.now in
+    let left = c.args.left.now in
+    let both : Some (stop_of_graph fault) ≡ Some Full = sym (err_is c.from_residual.result (stop_of_graph fault) c.from_residual.ensures.1) ∙ ap (λ r. result_err r) full in
+    let gives = given_full g.S.Site.tells left held c.give_up.new.graph (g.S.Site.world c.args.site.now) (g.S.Site.world c.give_up.new.site) fault tells c.in_err-give_up.ensures.gives_up (cc both) in
+    no_room g.S.Site.world g.S.Site.moment g.S.Site.left_since (λ (g : GraphState). forget_edits g left) held c.args.site.now (g.S.Site.world c.give_up.new.site) (c.requires.stands tells) (gives.1.1 tells) gives.0
+
+pub returns-in_err-give_up-clause-counted : goal.returns-in_err-give_up-clause-counted
+returns-in_err-give_up-clause-counted g c =
+    let fault = c.in_err-give_up.field-0.0 in
+    subst (HasCountedCause (g.S.Site.faults c.args.site.now) (g.S.Site.faults c.give_up.new.site)) (sym (err_is c.from_residual.result (stop_of_graph fault) c.from_residual.ensures.1))
+    (graph_counts (g.S.Site.faults c.args.site.now) (g.S.Site.faults c.give_up.new.site) c.give_up.result fault c.in_err-give_up.was c.give_up.ensures.cause)
+
+pub returns-clause-listed : goal.returns-clause-listed
+returns-clause-listed g c = λ tells.
+    subst (Lists (g.S.Site.world c.give_up.new.site).store) c.in_ok-give_up.ensures.owned.1 (by_ledger _ _ (c.in_ok-give_up.ensures.lists tells))
