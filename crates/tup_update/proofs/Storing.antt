@@ -175,3 +175,20 @@ module _ {S : Type 0} (moment : S → ℕ) (left_since : S → ℕ → World →
   making_on old mid new was earlier empty opened made =
       joined_on moment left_since old mid new OpenStep (WriteStep 0 9) (OpensStep was) earlier
       (λ v w step. inl (opened_holds v w step)) (λ v w step. inr (empty, step.tree)) (λ u v w first step. inr (empty, step.tree ∙ first.tree)) opened made
+
+-- ---- how a store is opened or made
+
+abbrev pub OpensOrMakes : World → World → Result Held Stop → Type 0
+OpensOrMakes old new result = IfOk result (λ held. IsNew old new held.nodes ⊎ HoldsOn old new)
+
+pub made_new : (old new : World) (result : Result Held Stop) → old.store ≡ [] → TreeStays old new → IfOk result (λ held. owned_in held.nodes ≡ []) → OpensOrMakes old new result
+made_new old new (Ok held) none tree empty = inl (record { none = none; tree = tree; empty = empty })
+made_new old new (Err stop) none tree empty = tt
+
+-- a refused making behind an opening that found no store
+pub made_not : (old mid new : World) (result : Result Held Stop) → mid ≡ old → IfErr result (IsUnopened mid new) → IfErr result (IsUnopened old new)
+made_not old mid new result same why = subst (λ (w : World). IfErr result (IsUnopened w new)) same why
+
+-- the world where no store was found
+pub not_there : (old new : World) → OpensAs old.store new.store (Err graph.NotThere) → TreeStays old new → new ≡ old
+not_there old new opens same = λ i. record { tree = same i; store = opens.1 i }

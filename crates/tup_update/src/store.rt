@@ -1,16 +1,20 @@
 //! The store of a project: which paths it lists as owned.
-ghost use Rattle.std.specs.Prelude.{◌⊎◌, IsTrue, IfOk, IfErr, OnOk};
+ghost use Rattle.std.specs.Prelude.{◌≡◌, ◌⊎◌, [], IsTrue, IfOk, IfErr, OnOk};
 ghost use Rattle.std.specs.Result.{result_err};
-ghost use Rattle.tup_site.specs.Crash.{GoesOn};
+ghost use Rattle.tup_site.specs.Crash.{GoesOn, WriteStep};
+ghost use Rattle.tup_site.specs.World.{TreeStays};
+ghost use Rattle.tup_site.specs.declared.fault.SiteFailed.TheVariants.{Memory};
 ghost use Rattle.tup_kept.specs.Held.{is_fresh, StandsFor};
+ghost use Rattle.tup_ledger.specs.Owned.{owned_in};
 ghost use Rattle.tup_update.specs.Holding.{HoldsOn, Lists};
 ghost use Rattle.tup_update.specs.Images.{OpensStep};
 ghost use Rattle.tup_update.specs.Opened.{IsNew, IsOpened, IsUnlisted, IsUnopened, StopsOpening};
 ghost use Rattle.tup_update.specs.Outcome.{HasCountedCause};
+ghost use Rattle.tup_update.specs.declared.stop.Stop.TheVariants.{Outside};
 
 use crate::stop::Stop;
 use std::alloc::Global;
-use tup_graph::GraphFault;
+use tup_graph::{GraphFault, Nodes};
 use tup_kept::Graph;
 use tup_ledger::{open, owned_paths};
 use tup_path::Paths;
@@ -53,10 +57,28 @@ fn open_or_make<S: Site>(alloc: Global, site: &mut S) -> Result<Graph, Stop>
     ensures counted { HasCountedCause (S.faults site.old) (S.faults site.new) (result_err result) }
 {
     match open(alloc, site) {
-        Err(GraphFault::NotThere) => Ok(Graph::make(alloc, site)?),
-        Err(fault) => Err(Stop::from(fault)),
         Ok(graph) => Ok(graph),
+        Err(GraphFault::NotThere) => make(alloc, site),
+        Err(fault) => Err(Stop::from(fault)),
     }
+}
+
+/// Makes the store of a site that has none.
+fn make<S: Site>(alloc: Global, site: &mut S) -> Result<Graph, Stop>
+    requires { IsTrue S.tells → (S.world site.old).store ≡ [] }
+    ensures fresh { IfOk result (λ graph. IsTrue (is_fresh graph)) }
+    ensures stands { IsTrue S.tells
+        → IfOk result (λ graph. StandsFor S.world S.moment S.left_since graph site.new) }
+    ensures empty { IfOk result (λ graph. owned_in graph.nodes ≡ []) }
+    ensures tree { IsTrue S.tells → TreeStays (S.world site.old) (S.world site.new) }
+    ensures cause { IsTrue S.tells → IfErr result
+        (IsUnopened (S.world site.old) (S.world site.new)) }
+    ensures crash { IsTrue S.tells
+        → GoesOn S.moment S.left_since site.old site.new (WriteStep 0 9) }
+    ensures stops { IfErr result StopsOpening }
+    ensures counted { HasCountedCause (S.faults site.old) (S.faults site.new) (result_err result) }
+{
+    Ok(Graph::make(alloc, site)?)
 }
 
 /// The paths that the store of a site lists: none where there is no store. The files stay as they
@@ -70,8 +92,16 @@ pub(crate) fn listed<S: Site>(alloc: Global, site: &mut S) -> Result<Paths, Stop
     ensures counted { HasCountedCause (S.faults site.old) (S.faults site.new) (result_err result) }
 {
     match open(alloc, site) {
+        Ok(graph) => owned_by(alloc, graph.nodes()),
         Err(GraphFault::NotThere) => Ok(Paths::new(alloc)),
         Err(fault) => Err(Stop::from(fault)),
-        Ok(graph) => Ok(owned_paths(alloc, graph.nodes())?),
     }
+}
+
+/// The paths that a graph owns.
+fn owned_by(alloc: Global, nodes: &Nodes) -> Result<Paths, Stop>
+    ensures owned { IfOk result (λ paths. paths ≡ owned_in nodes.now) }
+    ensures refused { IfErr result (λ stop. stop ≡ Outside Memory) }
+{
+    Ok(owned_paths(alloc, nodes)?)
 }
