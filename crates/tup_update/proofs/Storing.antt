@@ -192,3 +192,16 @@ made_not old mid new result same why = subst (λ (w : World). IfErr result (IsUn
 -- the world where no store was found
 pub not_there : (old new : World) → OpensAs old.store new.store (Err graph.NotThere) → TreeStays old new → new ≡ old
 not_there old new opens same = λ i. record { tree = same i; store = opens.1 i }
+
+-- ---- the paths that a graph owns, where there was memory for them
+pub owned_lists : (bytes : List ℕ) (nodes told : GraphState) (result : Result (List Names) Stop) → told ≡ nodes → IfOk result (λ paths. paths ≡ owned_in told) → Lists bytes (owned_in nodes) → IfOk result (Lists bytes)
+owned_lists bytes nodes told (Ok paths) same owned lists = subst (Lists bytes) (sym (owned ∙ ap owned_in same)) lists
+owned_lists bytes nodes told (Err stop) same owned lists = tt
+
+pub owned_refused : (P : Stop → Type 0) (result : Result (List Names) Stop) → IfErr result (λ stop. stop ≡ Outside Memory) → P (Outside Memory) → IfErr result P
+owned_refused P (Ok paths) is p = tt
+owned_refused P (Err stop) is p = subst P (sym is) p
+
+pub owned_counts : (before now : ℕ) (result : Result (List Names) Stop) → IfErr result (λ stop. stop ≡ Outside Memory) → now ≡ before → HasCountedCause before now (result_err result)
+owned_counts before now (Ok paths) is same = same
+owned_counts before now (Err stop) is same = subst (λ (s : Stop). HasCountedCause before now (Some s)) (sym is) same
