@@ -49,7 +49,7 @@ pub enum Status {
     TooManyReads { rule: RuleName },
     /// The word at this place, counted from 1, can't stand there. Nothing was done.
     Usage { place: u32 },
-    /// The store doesn't read from this byte on. Nothing was done.
+    /// The store doesn't read from this byte on. No file was touched.
     BadStore { offset: u64 },
     /// A file that says what to build has this fault. Nothing was done.
     Parse { fault: ParseFault },
