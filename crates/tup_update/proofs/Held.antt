@@ -1,9 +1,10 @@
 -- What a world holds is one thing alone, and what two worlds hold that list the same.
-use Rattle.std.proofs.Common.{◌≡◌, ◌⊎◌, ℕ, List, [], ◌∷◌, ⊎_elim, Result, Ok, Err, inl, inr, refl, sym, ap, subst, ◌∙◌}
+use Rattle.std.proofs.Common.{◌≡◌, ◌⊎◌, ℕ, List, [], ◌∷◌, ◌++◌, ⊎_elim, Result, Ok, Err, inl, inr, refl, sym, ap, subst, ◌∙◌}
 use Rattle.tup_path.specs.Name.{Names}
 use Rattle.tup_site.specs.World.{World}
 use Rattle.tup_table.specs.Entries.{Standing}
 use Rattle.tup_table.specs.Reading.{opened_of}
+use Rattle.tup_table.specs.Store.{blocks, header}
 use Rattle.tup_table.specs.declared.fault.TableFault.{TableFault}
 use Rattle.tup_table.specs.declared.fault.TableFault.TheVariants as table
 use Rattle.tup_table.specs.declared.opened.Opened.{Opened}
@@ -54,7 +55,7 @@ holds_then u v w one two = record {
 
 -- a store with these entries isn't empty
 no_entries : (entries : Standing) → Leaves entries [] → ⊥
-no_entries entries leaves = cc leaves.1.1.whole
+no_entries entries leaves = let no : [] ≡ header ++ (blocks leaves.0 ++ leaves.1.0) = leaves.1.1.whole in cc
 
 -- as where a store was opened: it has the same entries
 pub opened_holds : (v w : World) → OpenStep v w → HoldsOn v w

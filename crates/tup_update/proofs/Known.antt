@@ -117,7 +117,7 @@ filter-IsAscending p (path ∷ paths) up =
 
 -- an ascending list without those that no rule makes is that of the outputs
 module _ (owned : List Names) (rules : List Rule) where
-  kept_test : Names → Bool
+  abbrev kept_test : Names → Bool
   kept_test path = not (among path (left_over owned rules))
 
   among_left : (path : Names) → among path (left_over owned rules) ≡ (among path owned && not (is_generated rules path))
@@ -139,8 +139,8 @@ module _ (owned : List Names) (rules : List Rule) where
   outputs_kept =
       same_members (filter kept_test (ascending (owned ++ outputs rules))) (ascending (outputs rules))
       (filter-IsAscending kept_test (ascending (owned ++ outputs rules)) (ascending-IsAscending (owned ++ outputs rules))) (ascending-IsAscending (outputs rules))
-      (λ path has. ascending_has (outputs rules) path (among-Contains path (outputs rules) (among_outputs rules path ∙ sym (among_kept path) ∙ Contains-among path _ has)))
-      (λ path has. among-Contains path _ (among_kept path ∙ sym (among_outputs rules path) ∙ Contains-among path (outputs rules) (ascending_has_only (outputs rules) path has)))
+      (λ path has. ascending_has (outputs rules) path (Contains-among path (outputs rules) (among_outputs rules path ∙ sym (among_kept path) ∙ among-Contains path (filter kept_test (ascending (owned ++ outputs rules))) has)))
+      (λ path has. Contains-among path (filter kept_test (ascending (owned ++ outputs rules))) (among_kept path ∙ sym (among_outputs rules path) ∙ among-Contains path (outputs rules) (ascending_has_only (outputs rules) path has)))
 
 -- so where all that was claimed is owned and the rest is given up, the outputs are listed
 pub given_up : (owned : List Names) (rules : List Rule) (mine made left given claimed : List Names) (store : List ℕ) → owned ≡ mine → made ≡ outputs rules → left ≡ left_over owned rules → given ≡ left → ascending (mine ++ made) ≡ claimed →
@@ -151,18 +151,18 @@ given_up owned rules mine made left given claimed store is outs rest slice all l
 -- no file stands at what is given up: what was owned there was cleared, and only outputs are put
 pub none_left : (owned : List Names) (rules : List Rule) (mid ran : Tree) → IsRunnable owned rules mid → SameBesideOutputs rules mid ran → HaveNoFiles ran (left_over owned rules)
 none_left owned rules mid ran runnable behind =
-    All-weaker (Contains (left_over owned rules)) (λ path. finite.get ran path ≡ None) (λ path has. at path (and_parts (among path owned) (not (is_generated rules path)) (sym (among_left owned rules path) ∙ Contains-among path (left_over owned rules) has)))
+    All-weaker (Contains (left_over owned rules)) (λ path. finite.get ran path ≡ None) (λ path has. at path (and_parts (among path owned) (not (is_generated rules path)) (sym (among_left owned rules path) ∙ among-Contains path (left_over owned rules) has)))
     (left_over owned rules) (All-contains_itself (left_over owned rules))
   where
     not_made : (b : Bool) → not b ≡ true → b ≡ false
     not_made true e = absurd (false≢true e)
     not_made false e = refl
 
+    lost : (path : Names) → among path owned ≡ true → is_generated rules path ≡ false → (found : Option Content) → finite.get mid path ≡ found → finite.get mid path ≡ None
+    lost path mine unmade None none = none
+    lost path mine unmade (Some content) some =
+        let there : IsSome (finite.get mid path) = subst (λ (o : Option Content). IsSome o) (sym some) refl in
+        absurd (false≢true (sym unmade ∙ runnable.cleared path there mine))
+
     at : (path : Names) → (among path owned ≡ true) × (not (is_generated rules path) ≡ true) → finite.get ran path ≡ None
-    at path (mine, unmade) = behind path (not_made (is_generated rules path) unmade) ∙ by (finite.get mid path) refl
-      where
-        by : (found : Option Content) → finite.get mid path ≡ found → finite.get mid path ≡ None
-        by None none = none
-        by (Some content) some =
-            let there : IsSome (finite.get mid path) = subst (λ (o : Option Content). IsSome o) (sym some) refl in
-            absurd (false≢true (sym (not_made (is_generated rules path) unmade) ∙ runnable.cleared path there mine))
+    at path (mine, unmade) = let no = not_made (is_generated rules path) unmade in behind path no ∙ lost path mine no (finite.get mid path) refl

@@ -17,6 +17,7 @@ use Rattle.tup_table.specs.declared.table.Table.{Table}
 use Rattle.tup_table.proofs.Appends.{closed_store}
 use Rattle.tup_table.proofs.Going.{IsEarlier, as_step}
 use Rattle.tup_graph.specs.Graph.{GraphState}
+use Rattle.tup_graph.specs.Transactions.{forget_edits}
 use Rattle.tup_graph.specs.declared.edit.Edit.{Edit}
 use Rattle.tup_graph.specs.declared.fault.GraphFault.{GraphFault}
 use Rattle.tup_graph.specs.declared.fault.GraphFault.TheVariants as graph
@@ -82,11 +83,11 @@ module _ (tells : Bool) (paths : List Names) (old new : Held) (v w : World) wher
   given_late graph.Full gives = tt
   given_late graph.Memory gives = tt
 
-  pub given_full : (fault : GraphFault) → IsTrue tells → GivesUp tells paths old new v w (Err fault) → stop_of_graph fault ≡ Full → GivesUp tells paths old new v w (Err graph.Full)
+  pub given_full : (fault : GraphFault) → IsTrue tells → GivesUp tells paths old new v w (Err fault) → stop_of_graph fault ≡ Full → IsFull old (forget_edits old.nodes paths) × (w ≡ v)
   given_full graph.NotThere told gives is = absurd gives
   given_full (graph.BadStore offset) told gives is = absurd gives
   given_full graph.Site told gives is = absurd (cc is)
-  given_full graph.Full told gives is = gives
+  given_full graph.Full told (full, same, stays) is = (full, stays told)
   given_full graph.Memory told gives is = absurd (cc is)
 
 -- ---- what stands for a store
