@@ -1,7 +1,9 @@
 -- What a call of the ledger that is refused becomes, and what its graph stands for when files are changed.
-use Rattle.std.proofs.Common.{◌≡◌, ◌≢◌, ◌⊎◌, ⊎_elim, inl, inr, ℕ, Bool, IsTrue, List, [], ◌++◌, length, None, Some, Result, Ok, Err, IfErr, IfOk, OnOk, refl, sym, ◌∙◌, ap, subst}
+use Rattle.std.proofs.Common.{◌≡◌, ◌≢◌, ◌⊎◌, ⊎_elim, inl, inr, ℕ, Bool, IsTrue, List, [], ◌∷◌, ◌++◌, length, map, None, Some, Result, Ok, Err, IfErr, IfOk, OnOk, refl, sym, ◌∙◌, ap, subst, arith}
+use Rattle.std.specs.FinMap as finite
 use Rattle.std.specs.Result.{result_err, IsErrAnd}
 use Rattle.tup_path.specs.Name.{Names}
+use Rattle.tup_path.specs.Order.{by_names}
 use Rattle.tup_path.specs.Tree.{Tree}
 use Rattle.tup_site.specs.Crash.{GoesOn, PinsStore, WriteStep}
 use Rattle.tup_site.specs.World.{World, StoreStays, TreeStays}
@@ -16,7 +18,8 @@ use Rattle.tup_table.specs.declared.opened.Opened.{Opened}
 use Rattle.tup_table.specs.declared.table.Table.{Table}
 use Rattle.tup_table.proofs.Appends.{closed_store}
 use Rattle.tup_table.proofs.Going.{IsEarlier, as_step}
-use Rattle.tup_graph.specs.Graph.{GraphState}
+use Rattle.tup_graph.specs.Graph.{GraphState, empty_graph}
+use Rattle.tup_graph.specs.declared.owned.Owned.{Owned}
 use Rattle.tup_graph.specs.Transactions.{forget_edits}
 use Rattle.tup_graph.specs.declared.edit.Edit.{Edit}
 use Rattle.tup_graph.specs.declared.fault.GraphFault.{GraphFault}
@@ -26,17 +29,18 @@ use Rattle.tup_kept.specs.Held.{Held, StandsFor}
 use Rattle.tup_kept.specs.Opening.{OpensAs, opened_in}
 use Rattle.tup_kept.specs.Transaction.{IsFull, Leaves}
 use Rattle.tup_ledger.specs.Given.{GivesUp}
+use Rattle.tup_ledger.specs.Listing.{Lists as ListsOwned}
 use Rattle.tup_ledger.specs.Owned.{owned_in}
 use Rattle.tup_update.specs.Holding.{HoldsOn, IsDamaged, IsUnmade, Lists}
 use Rattle.tup_update.specs.Images.{FilesStep, OpensStep}
-use Rattle.tup_update.specs.Opened.{IsNew, IsUnlisted, IsUnopened, StopsOpening}
+use Rattle.tup_update.specs.Opened.{ArePathsOf, IsNew, IsUnlisted, IsUnopened, StopsOpening}
 use Rattle.tup_update.specs.Outcome.{HasCountedCause, LacksRoom}
 use Rattle.tup_update.specs.Parts.{IsLate}
 use Rattle.tup_update.specs.Stopped.{stop_of_graph}
 use Rattle.tup_update.specs.declared.stop.Stop.{Stop}
 use Rattle.tup_update.specs.declared.stop.Stop.TheVariants.{Full, Outside}
 use Rattle.tup_update.proofs.Crashing.{joined_on, still_listed}
-use Rattle.tup_update.proofs.Held.{kept_holds, listed_one, opened_holds}
+use Rattle.tup_update.proofs.Held.{by_ledger, listed_one, opened_holds}
 
 -- ---- a refusal, and what the site counted
 
@@ -87,7 +91,7 @@ module _ (tells : Bool) (paths : List Names) (old new : Held) (v w : World) wher
   given_full graph.NotThere told gives is = absurd gives
   given_full (graph.BadStore offset) told gives is = absurd gives
   given_full graph.Site told gives is = absurd (cc is)
-  given_full graph.Full told (full, same, stays) is = (full, stays told)
+  given_full graph.Full told gives is = (gives.0, gives.1.1 told)
   given_full graph.Memory told gives is = absurd (cc is)
 
 -- ---- what stands for a store
@@ -194,15 +198,48 @@ made_not old mid new result same why = subst (λ (w : World). IfErr result (IsUn
 pub not_there : (old new : World) → OpensAs old.store new.store (Err graph.NotThere) → TreeStays old new → new ≡ old
 not_there old new opens same = λ i. record { tree = same i; store = opens.1 i }
 
--- ---- the paths that a graph owns, where there was memory for them
-pub owned_lists : (bytes : List ℕ) (nodes told : GraphState) (result : Result (List Names) Stop) → told ≡ nodes → IfOk result (λ paths. paths ≡ owned_in told) → Lists bytes (owned_in nodes) → IfOk result (Lists bytes)
-owned_lists bytes nodes told (Ok paths) same owned lists = subst (Lists bytes) (sym (owned ∙ ap owned_in same)) lists
-owned_lists bytes nodes told (Err stop) same owned lists = tt
+-- ---- the paths that a store lists which was opened
 
-pub owned_refused : (P : Stop → Type 0) (result : Result (List Names) Stop) → IfErr result (λ stop. stop ≡ Outside Memory) → P (Outside Memory) → IfErr result P
-owned_refused P (Ok paths) is p = tt
-owned_refused P (Err stop) is p = subst P (sym is) p
+pub listed_lists : (first new : World) (opened : Result Held GraphFault) (result : Result (List Names) Stop) → ArePathsOf opened result → OpensAs first.store new.store opened →
+    IfOk opened (λ held. ListsOwned new.store (owned_in held.nodes)) → IfOk result (Lists new.store)
+listed_lists first new (Ok held) (Ok paths) are opens lists = subst (Lists new.store) (sym are.0) (by_ledger new.store (owned_in held.nodes) lists)
+listed_lists first new (Ok held) (Err stop) are opens lists = tt
+listed_lists first new (Err graph.NotThere) result are opens lists =
+    subst (λ (r : Result (List Names) Stop). IfOk r (Lists new.store)) (sym are) (subst (λ (b : List ℕ). Lists b []) (sym (opens.1 ∙ opens.0)) refl)
+listed_lists first new (Err (graph.BadStore offset)) result are opens lists = subst (λ (r : Result (List Names) Stop). IfOk r (Lists new.store)) (sym are) tt
+listed_lists first new (Err graph.Site) result are opens lists = subst (λ (r : Result (List Names) Stop). IfOk r (Lists new.store)) (sym are) tt
+listed_lists first new (Err graph.Full) result are opens lists = subst (λ (r : Result (List Names) Stop). IfOk r (Lists new.store)) (sym are) tt
+listed_lists first new (Err graph.Memory) result are opens lists = subst (λ (r : Result (List Names) Stop). IfOk r (Lists new.store)) (sym are) tt
 
-pub owned_counts : (before now : ℕ) (result : Result (List Names) Stop) → IfErr result (λ stop. stop ≡ Outside Memory) → now ≡ before → HasCountedCause before now (result_err result)
-owned_counts before now (Ok paths) is same = same
-owned_counts before now (Err stop) is same = subst (λ (s : Stop). HasCountedCause before now (Some s)) (sym is) same
+-- and why there are none
+module _ (P : Stop → Type 0) where
+  abbrev refused : Result (List Names) Stop → Type 0
+  refused result = IfErr result P
+
+  pub listed_not : (opened : Result Held GraphFault) (result : Result (List Names) Stop) → ArePathsOf opened result → P (Outside Memory) → ((fault : GraphFault) → opened ≡ Err fault → fault ≢ graph.NotThere → P (stop_of_graph fault)) → IfErr result P
+  listed_not (Ok held) (Ok paths) are memory why = tt
+  listed_not (Ok held) (Err stop) are memory why = subst P (sym are.1) memory
+  listed_not (Err graph.NotThere) result are memory why = subst refused (sym are) tt
+  listed_not (Err (graph.BadStore offset)) result are memory why = subst refused (sym are) (why (graph.BadStore offset) refl (λ e. absurd (cc e)))
+  listed_not (Err graph.Site) result are memory why = subst refused (sym are) (why graph.Site refl (λ e. absurd (cc e)))
+  listed_not (Err graph.Full) result are memory why = subst refused (sym are) (why graph.Full refl (λ e. absurd (cc e)))
+  listed_not (Err graph.Memory) result are memory why = subst refused (sym are) (why graph.Memory refl (λ e. absurd (cc e)))
+
+pub listed_counts : (before now : ℕ) (opened : Result Held GraphFault) (result : Result (List Names) Stop) → ArePathsOf opened result → CountsFaults before now opened → HasCountedCause before now (result_err result)
+listed_counts before now (Ok held) (Ok paths) are counts = counts.steady (λ e. absurd (cc e))
+listed_counts before now (Ok held) (Err stop) are counts = subst (λ (s : Stop). HasCountedCause before now (Some s)) (sym are.1) (counts.steady (λ e. absurd (cc e)))
+listed_counts before now (Err graph.NotThere) result are counts =
+    subst (λ (r : Result (List Names) Stop). HasCountedCause before now (result_err r)) (sym are) (counts.steady (λ e. absurd (cc e)))
+listed_counts before now (Err (graph.BadStore offset)) result are counts =
+    subst (λ (r : Result (List Names) Stop). HasCountedCause before now (result_err r)) (sym are) (graph_counts before now (Err (graph.BadStore offset)) (graph.BadStore offset) refl counts)
+listed_counts before now (Err graph.Site) result are counts = subst (λ (r : Result (List Names) Stop). HasCountedCause before now (result_err r)) (sym are) (graph_counts before now (Err graph.Site) graph.Site refl counts)
+listed_counts before now (Err graph.Full) result are counts = subst (λ (r : Result (List Names) Stop). HasCountedCause before now (result_err r)) (sym are) (graph_counts before now (Err graph.Full) graph.Full refl counts)
+listed_counts before now (Err graph.Memory) result are counts = subst (λ (r : Result (List Names) Stop). HasCountedCause before now (result_err r)) (sym are) (graph_counts before now (Err graph.Memory) graph.Memory refl counts)
+
+-- ---- a graph that was made owns nothing
+no_keys : (es : List (Names × Owned)) → length es ≡ 0 → map (λ (e : Names × Owned). e.0) es ≡ []
+no_keys [] e = refl
+no_keys (first ∷ es) e = absurd (omega (arith, e))
+
+pub none_owned : owned_in empty_graph ≡ []
+none_owned = no_keys (finite.entries empty_graph.owned) (sym (finite.len-entries empty_graph.owned) ∙ finite.len-empty by_names Owned)

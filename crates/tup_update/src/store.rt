@@ -8,7 +8,7 @@ ghost use Rattle.tup_kept.specs.Held.{is_fresh, StandsFor};
 ghost use Rattle.tup_ledger.specs.Owned.{owned_in};
 ghost use Rattle.tup_update.specs.Holding.{HoldsOn, Lists};
 ghost use Rattle.tup_update.specs.Images.{OpensStep};
-ghost use Rattle.tup_update.specs.Opened.{IsNew, IsOpened, IsUnlisted, IsUnopened, StopsOpening};
+ghost use Rattle.tup_update.specs.Opened.{ArePathsOf, IsNew, IsOpened, IsUnlisted, IsUnopened, StopsOpening};
 ghost use Rattle.tup_update.specs.Outcome.{HasCountedCause};
 ghost use Rattle.tup_update.specs.declared.stop.Stop.TheVariants.{Outside};
 
@@ -91,10 +91,18 @@ pub(crate) fn listed<S: Site>(alloc: Global, site: &mut S) -> Result<Paths, Stop
     ensures stops { IfErr result StopsOpening }
     ensures counted { HasCountedCause (S.faults site.old) (S.faults site.new) (result_err result) }
 {
-    match open(alloc, site) {
+    let opened = open(alloc, site);
+    paths_of(alloc, &opened)
+}
+
+/// The paths of a graph that was opened; none where there is no store.
+fn paths_of(alloc: Global, opened: &Result<Graph, GraphFault>) -> Result<Paths, Stop>
+    ensures { ArePathsOf opened.now result }
+{
+    match opened {
         Ok(graph) => owned_by(alloc, graph.nodes()),
         Err(GraphFault::NotThere) => Ok(Paths::new(alloc)),
-        Err(fault) => Err(Stop::from(fault)),
+        Err(fault) => Err(Stop::from(*fault)),
     }
 }
 

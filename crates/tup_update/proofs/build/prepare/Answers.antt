@@ -32,14 +32,14 @@ pub returns-in_err-own-clause-crash : goal.returns-in_err-own-clause-crash
 returns-in_err-own-clause-crash g c = λ tells.
     let plan = c.args.plan.now in
     let held = c.args.graph.now in
-    let on = as_step g.S.Site.moment g.S.Site.left_since c.args.site.now c.own.new.site _ TreeStays (λ v w left step. step.tree) (c.own.ensures.crash tells).on in
+    let on = as_step g.S.Site.moment g.S.Site.left_since c.args.site.now c.own.new.site (GraphStep held.nodes (with_owned held.nodes c.as_slice.result.now)) TreeStays (λ v w left step. step.tree) (c.own.ensures.crash tells).on in
     written_only g.S.Site.moment g.S.Site.left_since c.args.site.now c.own.new.site plan.vanished (ascending (owned_in held.nodes ++ plan.outputs)) on
 
 pub returns-in_err-own-clause-late : goal.returns-in_err-own-clause-late
 returns-in_err-own-clause-late g c =
     let fault = c.in_err-own.field-0.0 in
     err_if c.from_residual.result (stop_of_graph fault) IsLate c.from_residual.ensures.1
-    (committed_late _ _ c.args.graph.now c.own.new.graph c.args.site.now c.own.new.site fault c.in_err-own.ensures.leaves)
+    (committed_late (own_edits c.args.graph.now.nodes c.as_slice.result.now) (with_owned c.args.graph.now.nodes c.as_slice.result.now) c.args.graph.now c.own.new.graph c.args.site.now c.own.new.site fault c.in_err-own.ensures.leaves)
 
 pub returns-in_err-own-clause-full : goal.returns-in_err-own-clause-full
 returns-in_err-own-clause-full g c = λ tells full.
@@ -47,7 +47,7 @@ returns-in_err-own-clause-full g c = λ tells full.
     let held = c.args.graph.now in
     let outputs = c.args.plan.now.outputs in
     let stop : stop_of_graph fault ≡ Full = (let both : Some (stop_of_graph fault) ≡ Some Full = sym (err_is c.from_residual.result (stop_of_graph fault) c.from_residual.ensures.1) ∙ ap (λ r. result_err r) full in cc both) in
-    let is = committed_full (own_edits held.nodes c.as_slice.result.now) _ held c.own.new.graph c.args.site.now c.own.new.site fault c.in_err-own.ensures.leaves stop in
+    let is = committed_full (own_edits held.nodes c.as_slice.result.now) (with_owned held.nodes c.as_slice.result.now) held c.own.new.graph c.args.site.now c.own.new.site fault c.in_err-own.ensures.leaves stop in
     no_room g.S.Site.world g.S.Site.moment g.S.Site.left_since (λ (g : GraphState). own_edits g outputs) held c.args.site.now (g.S.Site.world c.own.new.site) (c.requires.stands tells) (ap (λ s. g.S.Site.world s) is.1)
     (subst (λ (paths : List Names). IsFull held (own_edits held.nodes paths)) c.as_slice.ensures is.0)
 
@@ -73,8 +73,8 @@ returns-in_err-clear-clause-crash g c = λ tells.
     let mid = c.own.new.site in
     let claiming = ascending (owned_in c.args.graph.now.nodes ++ plan.outputs) in
     let stands = c.own.ensures.stands tells c.in_ok-own.ensures.owned.0 in
-    prepared g.S.Site.moment g.S.Site.left_since c.args.site.now mid c.clear.new.site plan.vanished _ (g.S.Site.world mid) claiming c.as_slice-2.ensures (λ t u w le left. site_laws.earlier mid t u w tells le left)
-    (as_step g.S.Site.moment g.S.Site.left_since c.args.site.now mid _ TreeStays (λ v w left step. step.tree) (c.own.ensures.crash tells).on) stands.rests.durable
+    prepared g.S.Site.moment g.S.Site.left_since c.args.site.now mid c.clear.new.site plan.vanished c.as_slice-2.result.now (g.S.Site.world mid) claiming c.as_slice-2.ensures (λ t u w le left. site_laws.earlier mid t u w tells le left)
+    (as_step g.S.Site.moment g.S.Site.left_since c.args.site.now mid (GraphStep c.args.graph.now.nodes (with_owned c.args.graph.now.nodes c.as_slice.result.now)) TreeStays (λ v w left step. step.tree) (c.own.ensures.crash tells).on) stands.rests.durable
     (subst (Lists (g.S.Site.world mid).store) (c.in_ok-own.ensures.owned.1 ∙ ap (λ (paths : List Names). ascending (owned_in c.args.graph.now.nodes ++ paths)) c.as_slice.ensures) (by_ledger _ _ (c.in_ok-own.ensures.lists tells)))
     (c.clear.ensures.crash tells)
 
@@ -98,3 +98,34 @@ returns-in_err-clear-clause-counted g c =
     subst (HasCountedCause before now) (sym (err_is c.from_residual-in_err-clear.result (Outside failed) c.from_residual-in_err-clear.ensures.1))
     (subst (λ (n : ℕ). HasCountedCause n now (Some (Outside failed))) same
     (site_counts (g.S.Site.faults c.own.new.site) now c.clear.result failed c.in_err-clear.was c.clear.ensures.counted (λ n e. c.clear.ensures.never_too_large n (c.in_err-clear.was ∙ ap (λ f. Err f) e))))
+
+-- ---- and the files were removed
+
+pub returns-clause-crash : goal.returns-clause-crash
+returns-clause-crash g c = λ tells.
+    let site_laws = g.met.S.Site g.world.𝓛 g.world.𝓜 g.world.𝓡 ((λ s x. x), (λ x. x), (λ x. x), λ x. x) in
+    let plan = c.args.plan.now in
+    let mid = c.own.new.site in
+    let claiming = ascending (owned_in c.args.graph.now.nodes ++ plan.outputs) in
+    let stands = c.own.ensures.stands tells c.in_ok-own.ensures.owned.0 in
+    prepared g.S.Site.moment g.S.Site.left_since c.args.site.now mid c.clear.new.site plan.vanished c.as_slice-2.result.now (g.S.Site.world mid) claiming c.as_slice-2.ensures (λ t u w le left. site_laws.earlier mid t u w tells le left)
+    (as_step g.S.Site.moment g.S.Site.left_since c.args.site.now mid (GraphStep c.args.graph.now.nodes (with_owned c.args.graph.now.nodes c.as_slice.result.now)) TreeStays (λ v w left step. step.tree) (c.own.ensures.crash tells).on) stands.rests.durable
+    (subst (Lists (g.S.Site.world mid).store) (c.in_ok-own.ensures.owned.1 ∙ ap (λ (paths : List Names). ascending (owned_in c.args.graph.now.nodes ++ paths)) c.as_slice.ensures) (by_ledger _ _ (c.in_ok-own.ensures.lists tells)))
+    (c.clear.ensures.crash tells)
+
+pub returns-clause-pinned : goal.returns-clause-pinned
+returns-clause-pinned g c = λ tells.
+    let site_laws = g.met.S.Site g.world.𝓛 g.world.𝓜 g.world.𝓡 ((λ s x. x), (λ x. x), (λ x. x), λ x. x) in
+    let mid = c.own.new.site in
+    let new = c.clear.new.site in
+    let stands = c.own.ensures.stands tells c.in_ok-own.ensures.owned.0 in
+    still_listed g.S.Site.moment g.S.Site.left_since mid new (g.S.Site.world mid) (g.S.Site.world new) (SameBeside c.as_slice-2.result.now) (λ t u w le left. site_laws.earlier new t u w tells le left) (c.clear.ensures.crash tells) (c.clear.ensures.store tells)
+    stands.rests.durable
+
+pub returns-clause-stands : goal.returns-clause-stands
+returns-clause-stands g c = λ tells.
+    let site_laws = g.met.S.Site g.world.𝓛 g.world.𝓜 g.world.𝓡 ((λ s x. x), (λ x. x), (λ x. x), λ x. x) in
+    let mid = c.own.new.site in
+    let new = c.clear.new.site in
+    stands_on g.S.Site.world g.S.Site.moment g.S.Site.left_since c.own.new.graph mid new (SameBeside c.as_slice-2.result.now) (λ t u w le left. site_laws.earlier new t u w tells le left) (c.clear.ensures.store tells) (c.clear.ensures.crash tells)
+    (c.own.ensures.stands tells c.in_ok-own.ensures.owned.0)

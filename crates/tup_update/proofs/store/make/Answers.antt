@@ -5,7 +5,7 @@ use Rattle.tup_update.specs.Outcome.{HasCountedCause}
 use Rattle.tup_update.specs.Stopped.{stop_of_graph}
 use Rattle.tup_update.proofs.Handed.{err_if}
 use Rattle.tup_update.proofs.Keeping.{err_is}
-use Rattle.tup_update.proofs.Storing.{graph_counts, making_stops, unmade_cause}
+use Rattle.tup_update.proofs.Storing.{none_owned, graph_counts, making_stops, unmade_cause}
 use Rattle.tup_update.proofs.store.make.Goals as goal
 
 pub returns-in_err-make-clause-cause : goal.returns-in_err-make-clause-cause
@@ -26,3 +26,6 @@ returns-in_err-make-clause-counted g c =
     let before = g.S.Site.faults c.args.site.now in
     let now = g.S.Site.faults c.make.new.site in
     subst (HasCountedCause before now) (sym (err_is c.from_residual.result (stop_of_graph fault) c.from_residual.ensures.1)) (graph_counts before now c.make.result fault c.in_err-make.was c.make.ensures.cause)
+
+pub returns-clause-empty : goal.returns-clause-empty
+returns-clause-empty g c = ap owned_in c.in_ok-make.ensures.made.2 ∙ none_owned

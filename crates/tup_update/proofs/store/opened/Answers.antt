@@ -1,6 +1,8 @@
 use Rattle.std.proofs.Common.{ℕ, None, Some, Err, inl, inr, ⊎_elim, refl, sym, subst, ap, ◌∙◌}
 use Rattle.tup_site.specs.declared.fault.SiteFailed.TheVariants.{Memory}
 use Rattle.tup_site.specs.World.{World}
+use Rattle.tup_table.specs.Table.{entries_in}
+use Rattle.tup_graph.specs.Opening.{IsGraphOf}
 use Rattle.tup_ledger.specs.Owned.{owned_in}
 use Rattle.tup_ledger.proofs.Listing.{lists_now}
 use Rattle.tup_update.specs.Holding.{HoldsOn, Lists}
@@ -36,7 +38,7 @@ returns-clause-lists g c = λ tells.
     let are = c.in_ok-owned.ensures ∙ ap owned_in c.nodes.ensures.value in
     subst (Lists (g.S.Site.world new).store) (sym are)
     (by_ledger (g.S.Site.world new).store (owned_in graph.nodes)
-    (lists_now g.S.Site.world g.S.Site.moment g.S.Site.left_since new (site_laws.present new tells) graph.table graph.nodes (c.in_ok-graph.ensures.stands tells) (c.nodes.ensures.graph c.in_ok-graph.ensures.fresh)))
+    (lists_now g.S.Site.world g.S.Site.moment g.S.Site.left_since new (site_laws.present new tells) graph.table graph.nodes (c.in_ok-graph.ensures.stands tells) (subst (IsGraphOf (entries_in graph.table)) c.nodes.ensures.value (c.nodes.ensures.graph c.in_ok-graph.ensures.fresh))))
 
 pub returns-clause-holds : goal.returns-clause-holds
 returns-clause-holds g c = λ tells.

@@ -1,6 +1,7 @@
 use Rattle.std.proofs.Common.{ℕ, None, Some, Ok, Err, refl, sym, subst, ap, ◌∙◌}
 use Rattle.std.specs.Result.{result_err}
 use Rattle.tup_site.specs.Crash.{GoesOn, NoStep}
+use Rattle.tup_path.specs.Tree.{Tree}
 use Rattle.tup_site.specs.World.{World}
 use Rattle.tup_update.specs.Holding.{HoldsOn}
 use Rattle.tup_update.specs.Images.{OpensStep, UpdateStep}
@@ -10,7 +11,8 @@ use Rattle.tup_update.specs.Settled.{IsSettled}
 use Rattle.tup_update.specs.Stopped.{stop_of}
 use Rattle.tup_update.proofs.Before.{stays_before, keeps_before, makes_on}
 use Rattle.tup_update.proofs.Begun.{ran_none, ran_all_of, opening_runs}
-use Rattle.tup_update.proofs.Crashing.{opened_so, opened_only, as_opened, then_quiet}
+use Rattle.tup_update.proofs.Crashing.{opened_so, opened_only, as_opened, quiet_files, then_quiet}
+use Rattle.tup_update.proofs.Storing.{stands_on}
 use Rattle.tup_update.proofs.Keeping.{err_is, unread_cause, unread_stays, unread_keeps, unopened_stays, unopened_keeps}
 use Rattle.tup_update.proofs.Settling.{unread_unsettled, opening_unsettled}
 use Rattle.tup_update.proofs.update.carry_out.Goals as goal
@@ -109,3 +111,12 @@ returns-clause-crash g c = λ tells.
     let on = subst (HoldsOn was) (sym (c.read.ensures.same tells)) (c.in_ok-graph.ensures.holds tells) in
     opened_so g.S.Site.moment g.S.Site.left_since g.R.Runner.tells g.R.Runner.next c.in_ok-project.project.rules old mid new was (g.S.Site.world mid) (λ t u w le left. site_laws.earlier mid t u w tells le left) on
     (then_quiet g.S.Site.moment g.S.Site.left_since old c.opened.new.site mid (OpensStep was) (c.opened.ensures.crash tells) (c.read.ensures.crash tells)) (c.build-built.ensures.crash tells)
+
+pub build-built-requires-clause-stands : goal.build-built-requires-clause-stands
+build-built-requires-clause-stands g c κs within = λ tells.
+    let site_laws = g.met.S.Site g.world.𝓛 g.world.𝓜 g.world.𝓡 ((λ s x. x), (λ x. x), (λ x. x), λ x. x) in
+    let mid = c.opened.new.site in
+    let new = c.read.new.site in
+    let agree : Tree → Tree → Type 0 = λ _ _. Unit {0} in
+    stands_on g.S.Site.world g.S.Site.moment g.S.Site.left_since c.in_ok-graph.graph mid new agree (λ t u w le left. site_laws.earlier new t u w tells le left) (ap (λ (w : World). w.store) (c.read.ensures.same tells))
+    (quiet_files g.S.Site.moment g.S.Site.left_since mid new agree (c.read.ensures.crash tells)) (c.in_ok-graph.ensures.stands tells)

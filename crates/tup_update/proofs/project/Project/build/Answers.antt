@@ -9,7 +9,7 @@ use Rattle.tup_site.specs.World.{World}
 use Rattle.tup_site.specs.declared.fault.SiteFailed.TheVariants.{Memory}
 use Rattle.tup_update.specs.Log.{with_read}
 use Rattle.tup_update.specs.Outcome.{Keeps, Stays, HasCountedCause, LacksRoom}
-use Rattle.tup_update.specs.Parts.{HasRun, HasMade}
+use Rattle.tup_update.specs.Parts.{HasRun, HasMade, SameBesideOutputs}
 use Rattle.tup_update.specs.Ran.{RunsThese, stopped_by, comes_to}
 use Rattle.tup_update.specs.Settled.{IsSettled}
 use Rattle.tup_update.specs.Sources.{files_beside}
@@ -22,7 +22,9 @@ use Rattle.tup_update.specs.declared.update.Log.{Log}
 use Rattle.tup_update.proofs.Begun.{ran_none, ran_all_of, stopped_runs}
 use Rattle.tup_update.specs.Holding.{holding}
 use Rattle.tup_update.proofs.Ending.{vanished_are}
-use Rattle.tup_update.proofs.Known.{given_up}
+use Rattle.tup_update.proofs.Known.{given_up, none_left}
+use Rattle.tup_update.proofs.Storing.{stands_on}
+use Rattle.tup_ledger.specs.Sources.{HaveNoFiles}
 use Rattle.tup_update.specs.Parts.{StopsMaking}
 use Rattle.tup_update.proofs.Handed.{err_if}
 use Rattle.tup_update.proofs.Settling.{late_makes, halt_makes, stopped_makes}
@@ -225,7 +227,7 @@ returns-in-Some-clause-ran g c = λ tells.
 
 pub returns-in-Some-clause-counted : goal.returns-in-Some-clause-counted
 returns-in-Some-clause-counted g c =
-    let same = c.run.ensures.cause.steady (λ e. cc (c.in_ok-bad.was, e)) ∙ c.prepare.ensures.counted.steady (λ e. cc (c.in_ok-prepare.was, e)) in
+    let same = c.run.ensures.cause.steady (λ e. cc (c.in_ok-bad.was, e)) ∙ c.in_ok-prepare.ensures.counted in
     subst (λ (n : ℕ). HasCountedCause n (g.S.Site.faults c.stop_at.new.site) (Some c.stop_at.result)) same c.stop_at.ensures.counted
 
 pub returns-in-Some-clause-counted_runs : goal.returns-in-Some-clause-counted_runs
@@ -465,3 +467,30 @@ returns-in_err-finish-in-None-clause-makes g c = err_if c.from_residual-in_err-f
 
 pub returns-in-Some-clause-makes : goal.returns-in-Some-clause-makes
 returns-in-Some-clause-makes g c = stopped_makes c.in-Some.bad.0 c.in-Some.bad.1 c.stop_at.result c.stop_at.ensures.stops
+
+-- ---- what the giving up asks
+
+pub finish-requires-clause-stands : goal.finish-requires-clause-stands
+finish-requires-clause-stands g c κs = λ lives tells.
+    let site_laws = g.met.S.Site g.world.𝓛 g.world.𝓜 g.world.𝓡 ((λ s x. x), (λ x. x), (λ x. x), λ x. x) in
+    let mid = c.prepare.new.site in
+    let ran = c.run.new.site in
+    stands_on g.S.Site.world g.S.Site.moment g.S.Site.left_since c.prepare.new.graph mid ran (SameBesideOutputs c.args.self.now.rules) (λ t u w le left. site_laws.earlier ran t u w tells le left) (c.run.ensures.store tells) (c.run.ensures.crash tells)
+    (c.in_ok-prepare.ensures.stands tells)
+
+pub finish-requires-clause-gone : goal.finish-requires-clause-gone
+finish-requires-clause-gone g c κs = λ lives tells.
+    let old = g.S.Site.world c.args.site.now in
+    let mid = g.S.Site.world c.prepare.new.site in
+    let ran = g.S.Site.world c.run.new.site in
+    let project = c.args.self.now in
+    let plan = c.in_ok-plan.plan in
+    let claiming = ascending (owned_in c.args.graph.now.nodes ++ plan.outputs) in
+    let way : IsUnderWay project old mid plan.vanished claiming = record {
+      is = c.requires.project tells;
+      vanishes = c.in_ok-plan.ensures.vanished ∙ vanished_are project old (c.requires.project tells);
+      claims = λ i. ascending (sym c.requires.opened.owned i ++ c.in_ok-plan.ensures.outputs i);
+      beside = c.prepare.ensures.others tells;
+    } in
+    subst (HaveNoFiles ran.tree) (sym (c.as_slice.ensures ∙ c.in_ok-plan.ensures.left))
+    (none_left project.owned project.rules mid.tree ran.tree (way_runnable project old mid plan.vanished claiming way (c.in_ok-prepare.ensures.cleared tells)) (c.run.ensures.others tells))
