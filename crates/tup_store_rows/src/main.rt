@@ -1,4 +1,4 @@
-//! The rows of the store: fields, records, lists of owned paths, stores, tables and graphs over a site, and graphs.
+//! The rows of the store: fields, records, stores, tables and graphs over a site, and graphs.
 //!
 //! Each file of `data/` has rows, a call with the answer that is wanted each. The head of a file says what its calls
 //! and their arguments mean.

@@ -36,9 +36,11 @@ module _ (rules : List Rule) (old mid new : World) (on : HoldsOn old mid) where
 
   module _ (tells : Bool) (next : Next) where
     left_before : IsLeft tells next rules mid new → IsLeft tells next rules old new
-    left_before left =
-        (asked_before left.0, ⊎_elim (λ listed. inl (claimed_before listed))
-        (λ rest. inr (⊎_elim (λ same. inl (same ∙ on.tree)) (λ made. inr (held_before old mid on (λ held. AllIsMade tells next rules held new) made)) rest)) left.1)
+    left_before left = (
+      asked_before left.0,
+      ⊎_elim (λ listed. inl (claimed_before listed))
+          (λ rest. inr (⊎_elim (λ same. inl (same ∙ on.tree)) (λ made. inr (held_before old mid on (λ held. AllIsMade tells next rules held new) made)) rest)) left.1,
+    )
 
     forgotten_before : (stopped : Option Stop) → MakesOn stopped → NothingForgotten tells next rules mid new stopped → NothingForgotten tells next rules old new stopped
     forgotten_before None makes kept = held_before old mid on (λ held. IsListed (ascending (outputs rules)) held new) kept

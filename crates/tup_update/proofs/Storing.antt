@@ -98,8 +98,7 @@ module _ (tells : Bool) (paths : List Names) (old new : Held) (v w : World) wher
 module _ {S : Type 0} (world : S → World) (moment : S → ℕ) (left_since : S → ℕ → World → Type 0) where
   stand_reads : (held : Held) (site : S) → StandsFor world moment left_since held site → ReadsAs (world site).store (Ok (opened_in held))
   stand_reads held site stands =
-      let rested = stands.rests.bytes in
-      (
+      let rested = stands.rests.bytes in (
         stands.commits,
         subst (λ (b : List ℕ). IsStore b stands.commits) (sym rested.whole) (closed_store stands.commits rested.gate rested.rest rested.fits rested.closed),
         λ i. record { entries = stands.entries i; gate = stands.gate i },

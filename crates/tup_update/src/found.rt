@@ -40,11 +40,7 @@ pub(crate) struct Found {
 
 impl Found {
     /// Reads what a site holds whose store lists these paths, and changes nothing.
-    pub(crate) fn read<S: Site>(
-        alloc: Global,
-        site: &mut S,
-        owned: Paths,
-    ) -> Result<Found, Unread>
+    pub(crate) fn read<S: Site>(alloc: Global, site: &mut S, owned: Paths) -> Result<Found, Unread>
         requires { IsTrue S.tells → Lists (S.world site.old).store owned }
         ensures found { IsTrue S.tells → IfOk result (IsFound (S.world site.old)) }
         ensures owned { IfOk result (λ found. found.owned ≡ owned) }
