@@ -10,7 +10,7 @@ use Rattle.std.specs.FinMap as finite
 use Rattle.std.specs.Result.{result_err}
 use Rattle.tup_update.specs.Holding.{Holding, HoldsOn}
 use Rattle.tup_update.specs.Log.{IsPartOf, LogFits, RulesFit, whole_log}
-use Rattle.tup_update.specs.Outcome.{AllIsMade, ClaimedListed, ExactlyTheFiles, HasCause, HasNoRoom, IsBadRule, IsBehindBad, IsLeft, IsListed, IsMade, Keeps, MadeBeforeBad, NothingForgotten, SourcesStay, Stays, claimed}
+use Rattle.tup_update.specs.Outcome.{AllIsMade, ClaimedListed, ExactlyTheFiles, HasCause, HasNoRoom, IsBadRule, IsBehindBad, IsLeft, IsListed, IsMade, Keeps, MadeBeforeBad, NothingForgotten, Stays, claimed}
 use Rattle.tup_update.specs.Parts.{StopsMaking}
 use Rattle.tup_update.specs.Sources.{IsAsked, outputs, sources}
 use Rattle.tup_update.specs.declared.stop.Stop.{Stop}

@@ -1,5 +1,5 @@
 -- What a crash may leave, one call of a site behind another.
-use Rattle.std.proofs.Common.{◌≡◌, ◌⊎◌, ℕ, ◌<◌, Bool, true, false, List, [], ◌++◌, Some, Ok, length, inl, inr, ⊎_elim, refl, sym, ap, subst, ◌∙◌, get_or, arith}
+use Rattle.std.proofs.Common.{◌≡◌, ◌⊎◌, ℕ, ◌<◌, Bool, true, false, List, [], Some, length, inl, inr, ⊎_elim, refl, sym, ap, subst, ◌∙◌, get_or, arith}
 use Rattle.std.specs.FinMap as finite
 use Rattle.std.specs.List.{slice_get}
 use Rattle.std.proofs.lemmas.Bool.{false≢true}
@@ -23,7 +23,7 @@ use Rattle.tup_update.specs.Images.{FilesStep, ListedStep, MakesStep, OpensStep,
 use Rattle.tup_update.specs.Outcome.{claimed, AllIsMade}
 use Rattle.tup_update.specs.Parts.{Changes, IsBuilt, IsProject, SameBeside, SameBesideOutputs}
 use Rattle.tup_update.specs.SeeingLaws.{rests}
-use Rattle.tup_update.specs.Sources.{outputs, sources, vanished, files_beside, build, AsksFor}
+use Rattle.tup_update.specs.Sources.{outputs, vanished, files_beside, build, AsksFor}
 use Rattle.tup_update.specs.declared.project.Project.{Project}
 use Rattle.tup_update.proofs.Held.{shows_one, held_before, shown_before}
 use Rattle.tup_update.proofs.Preparing.{kept_beside}

@@ -1,8 +1,8 @@
 -- A tree from which the files of vanished rules were taken: its sources are the same, and the rules can be run over it.
-use Rattle.std.proofs.Common.{◌≡◌, ◌≢◌, inl, inr, ℕ, [], ◌++◌, Ok, Contains, Bool, true, false, cond, if◌then◌else◌, not, ◌&&◌, filter, List, Option, None, IsSome, is_some, refl, sym, ◌∙◌, ap, subst}
+use Rattle.std.proofs.Common.{◌≡◌, Bool, true, false, cond, if◌then◌else◌, not, ◌&&◌, filter, List, Option, None, IsSome, is_some, refl, sym, ◌∙◌, ap, subst}
 use Rattle.std.specs.FinMap as finite
 use Rattle.std.proofs.lemmas.Bool.{false≢true}
-use Rattle.tup_path.specs.Name.{Names, Content, IsPath}
+use Rattle.tup_path.specs.Name.{Names, Content}
 use Rattle.tup_path.specs.Tree.{Tree}
 use Rattle.tup_path.proofs.Same.{same_tree}
 use Rattle.tup_rule.specs.declared.rule.Rule.{Rule}

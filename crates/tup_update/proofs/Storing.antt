@@ -1,21 +1,19 @@
 -- What a call of the ledger that is refused becomes, and what its graph stands for when files are changed.
-use Rattle.std.proofs.Common.{◌≡◌, ◌≢◌, ◌⊎◌, ⊎_elim, inl, inr, ℕ, Bool, IsTrue, List, [], ◌∷◌, ◌++◌, length, map, None, Some, Result, Ok, Err, IfErr, IfOk, OnOk, refl, sym, ◌∙◌, ap, subst, arith}
+use Rattle.std.proofs.Common.{◌≡◌, ◌≢◌, ◌⊎◌, inl, inr, ℕ, Bool, IsTrue, List, [], ◌∷◌, length, map, Some, Result, Ok, Err, IfErr, IfOk, refl, sym, ◌∙◌, subst, arith}
 use Rattle.std.specs.FinMap as finite
-use Rattle.std.specs.Result.{result_err, IsErrAnd}
+use Rattle.std.specs.Result.{result_err}
 use Rattle.tup_path.specs.Name.{Names}
 use Rattle.tup_path.specs.Order.{by_names}
 use Rattle.tup_path.specs.Tree.{Tree}
-use Rattle.tup_site.specs.Crash.{GoesOn, PinsStore, WriteStep}
+use Rattle.tup_site.specs.Crash.{GoesOn, WriteStep}
 use Rattle.tup_site.specs.World.{World, StoreStays, TreeStays}
-use Rattle.tup_site.specs.Cause.{CountsFaults as SiteCounts, NeverTooLarge}
+use Rattle.tup_site.specs.Cause.{CountsFaults as SiteCounts}
 use Rattle.tup_site.specs.declared.fault.SiteFailed.{SiteFailed}
 use Rattle.tup_site.specs.declared.fault.SiteFailed.TheVariants.{Fault, TooLarge, Memory}
 use Rattle.tup_table.specs.Images.{OpenStep}
-use Rattle.tup_table.specs.Reading.{ReadsAs, opened_of}
+use Rattle.tup_table.specs.Reading.{ReadsAs}
 use Rattle.tup_table.specs.Store.{IsStore}
-use Rattle.tup_table.specs.Table.{IsAtRest, StandsFor as TableStandsFor}
-use Rattle.tup_table.specs.declared.opened.Opened.{Opened}
-use Rattle.tup_table.specs.declared.table.Table.{Table}
+use Rattle.tup_table.specs.Table.{IsAtRest}
 use Rattle.tup_table.proofs.Appends.{closed_store}
 use Rattle.tup_table.proofs.Going.{IsEarlier, as_step}
 use Rattle.tup_graph.specs.Graph.{GraphState, empty_graph}
@@ -24,14 +22,14 @@ use Rattle.tup_graph.specs.Transactions.{forget_edits}
 use Rattle.tup_graph.specs.declared.edit.Edit.{Edit}
 use Rattle.tup_graph.specs.declared.fault.GraphFault.{GraphFault}
 use Rattle.tup_graph.specs.declared.fault.GraphFault.TheVariants as graph
-use Rattle.tup_kept.specs.Cause.{CountsFaults, OnlyOutside}
+use Rattle.tup_kept.specs.Cause.{CountsFaults}
 use Rattle.tup_kept.specs.Held.{Held, StandsFor}
 use Rattle.tup_kept.specs.Opening.{OpensAs, opened_in}
 use Rattle.tup_kept.specs.Transaction.{IsFull, Leaves}
 use Rattle.tup_ledger.specs.Given.{GivesUp}
 use Rattle.tup_ledger.specs.Listing.{Lists as ListsOwned}
 use Rattle.tup_ledger.specs.Owned.{owned_in}
-use Rattle.tup_update.specs.Holding.{HoldsOn, IsDamaged, IsUnmade, Lists}
+use Rattle.tup_update.specs.Holding.{HoldsOn, IsUnmade, Lists}
 use Rattle.tup_update.specs.Images.{FilesStep, OpensStep}
 use Rattle.tup_update.specs.Opened.{ArePathsOf, IsNew, IsUnlisted, IsUnopened, StopsOpening}
 use Rattle.tup_update.specs.Outcome.{HasCountedCause, LacksRoom}

@@ -1,5 +1,5 @@
 -- What the parts of an update promise to each other.
-use Rattle.std.specs.Prelude.{◌≡◌, ◌≢◌, ◌⊎◌, ◌<◌, ◌≤◌, ⊤, ℕ, true, false, length, filter_map, unwrap_or, if◌then◌else◌, List, [], ◌∷◌, ◌++◌, None, Some, IsSome, IsTrue, Option, Result, Ok, Err, filter, slice_get}
+use Rattle.std.specs.Prelude.{◌≡◌, ◌≢◌, ◌⊎◌, ◌<◌, ◌≤◌, ⊤, ℕ, true, false, length, filter_map, unwrap_or, if◌then◌else◌, List, [], ◌∷◌, ◌++◌, None, Some, IsSome, IsTrue, Option, Result, Err, filter, slice_get}
 use Rattle.std.specs.FinMap as finite
 use Rattle.std.specs.Result.{result_ok}
 use Rattle.tup_path.specs.Name.{Names, Content}

@@ -1,13 +1,8 @@
-use Rattle.std.proofs.Common.{◌≡◌, ◌∙◌, ℕ, inl, inr, refl, sym, ap, subst, List, None, Some, Result, Ok, Err, OnOk, not, filter}
+use Rattle.std.proofs.Common.{◌≡◌, ◌∙◌, sym, ap, subst, Some}
 use Rattle.std.specs.Result.{result_err}
-use Rattle.tup_path.specs.Name.{Names}
-use Rattle.tup_site.specs.World.{World}
 use Rattle.tup_graph.specs.Graph.{GraphState}
 use Rattle.tup_graph.specs.Transactions.{forget_edits}
-use Rattle.tup_graph.specs.declared.fault.GraphFault.TheVariants as graph
-use Rattle.tup_kept.specs.Transaction.{IsFull}
-use Rattle.tup_ledger.specs.Given.{GivesUp}
-use Rattle.tup_update.specs.Outcome.{HasCountedCause, LacksRoom}
+use Rattle.tup_update.specs.Outcome.{HasCountedCause}
 use Rattle.tup_update.specs.Parts.{IsLate}
 use Rattle.tup_update.specs.Holding.{Lists}
 use Rattle.tup_update.specs.Stopped.{stop_of_graph}

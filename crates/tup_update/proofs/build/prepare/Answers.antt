@@ -1,28 +1,22 @@
-use Rattle.std.proofs.Common.{◌≡◌, ◌∙◌, ◌++◌, ℕ, inl, inr, refl, sym, ap, subst, List, None, Some, Result, Ok, Err, OnOk}
-use Rattle.std.specs.FinMap as finite
+use Rattle.std.proofs.Common.{◌≡◌, ◌∙◌, ◌++◌, ℕ, inl, sym, ap, subst, List, Some, Err}
 use Rattle.std.specs.Result.{result_err}
 use Rattle.tup_path.specs.Name.{Names}
-use Rattle.tup_path.specs.Tree.{Tree}
-use Rattle.tup_site.specs.World.{World, TreeStays}
+use Rattle.tup_site.specs.World.{TreeStays}
 use Rattle.tup_table.proofs.Going.{as_step}
 use Rattle.tup_graph.specs.Graph.{GraphState}
-use Rattle.tup_graph.specs.declared.fault.GraphFault.{GraphFault}
 use Rattle.tup_kept.specs.Crash.{GraphStep}
-use Rattle.tup_kept.specs.Transaction.{IsFull, Leaves}
+use Rattle.tup_kept.specs.Transaction.{IsFull}
 use Rattle.tup_ledger.specs.Ascending.{ascending}
 use Rattle.tup_ledger.specs.Owned.{own_edits, owned_in, with_owned}
 use Rattle.tup_update.specs.Holding.{Lists}
-use Rattle.tup_update.specs.Images.{FilesStep, ListedStep}
-use Rattle.tup_update.specs.Opened.{IsOpened}
-use Rattle.tup_update.specs.Outcome.{HasCountedCause, LacksRoom}
-use Rattle.tup_update.specs.Parts.{IsCleared, IsLate, SameBeside}
+use Rattle.tup_update.specs.Outcome.{HasCountedCause}
+use Rattle.tup_update.specs.Parts.{IsLate, SameBeside}
 use Rattle.tup_update.specs.Stopped.{stop_of_graph}
-use Rattle.tup_update.specs.declared.stop.Stop.{Stop}
 use Rattle.tup_update.specs.declared.stop.Stop.TheVariants.{Full, Outside}
 use Rattle.tup_update.proofs.Crashing.{prepared, still_listed, written_only}
 use Rattle.tup_update.proofs.Handed.{err_if}
 use Rattle.tup_update.proofs.Held.{by_ledger}
-use Rattle.tup_update.proofs.Keeping.{err_is, err_back}
+use Rattle.tup_update.proofs.Keeping.{err_is}
 use Rattle.tup_update.proofs.Storing.{committed_late, committed_full, graph_counts, site_late, site_counts, no_room, stands_on}
 use Rattle.tup_update.proofs.build.prepare.Goals as goal
 

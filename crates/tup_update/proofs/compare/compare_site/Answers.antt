@@ -1,14 +1,9 @@
-use Rattle.std.proofs.Common.{ℕ, sym, subst, ◌∙◌}
+use Rattle.std.proofs.Common.{ℕ, sym, subst}
 use Rattle.std.specs.Result.{result_err}
-use Rattle.tup_site.specs.Crash.{NoStep}
-use Rattle.tup_site.specs.World.{World}
-use Rattle.tup_update.specs.Compared.{HasCompared, RunsToCompare}
 use Rattle.tup_update.specs.Holding.{HoldsOn}
 use Rattle.tup_update.specs.Outcome.{HasCountedCause}
-use Rattle.tup_update.proofs.Begun.{opening_runs}
-use Rattle.tup_update.proofs.Comparing.{compared_before, runs_before, unlisted_compared, unlisted_runs}
+use Rattle.tup_update.proofs.Comparing.{compared_before, runs_before}
 use Rattle.tup_update.proofs.Crashing.{then_quiet}
-use Rattle.tup_update.proofs.Keeping.{err_is, err_back}
 use Rattle.tup_update.proofs.compare.compare_site.Goals as goal
 
 pub returns-clause-holds : goal.returns-clause-holds

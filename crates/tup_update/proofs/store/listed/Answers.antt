@@ -1,9 +1,7 @@
-use Rattle.std.proofs.Common.{◌≡◌, ◌≢◌, List, Result, Err, sym, subst}
+use Rattle.std.proofs.Common.{Result, subst}
 use Rattle.tup_graph.specs.declared.fault.GraphFault.{GraphFault}
-use Rattle.tup_graph.specs.declared.fault.GraphFault.TheVariants.{NotThere}
 use Rattle.tup_kept.specs.Held.{Held}
 use Rattle.tup_kept.specs.Opening.{OpensAs}
-use Rattle.tup_site.specs.World.{World}
 use Rattle.tup_update.specs.Opened.{IsUnlisted, StopsOpening}
 use Rattle.tup_update.proofs.Held.{kept_holds}
 use Rattle.tup_update.proofs.Storing.{opening_stops, unlisted, listing_on, listed_lists, listed_not, listed_counts}

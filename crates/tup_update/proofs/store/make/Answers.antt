@@ -1,4 +1,4 @@
-use Rattle.std.proofs.Common.{ℕ, ap, sym, subst, ◌∙◌}
+use Rattle.std.proofs.Common.{ap, sym, subst, ◌∙◌}
 use Rattle.tup_ledger.specs.Owned.{owned_in}
 use Rattle.tup_update.specs.Opened.{IsUnopened, StopsOpening}
 use Rattle.tup_update.specs.Outcome.{HasCountedCause}

@@ -1,20 +1,14 @@
-use Rattle.std.proofs.Common.{rules, ◌≡◌, ◌≢◌, ℕ, [], None, Some, Result, Ok, Err, IfErr, IfOk, inl, inr, ⊎_elim, refl, sym, subst, ap, ◌∙◌}
+use Rattle.std.proofs.Common.{rules, ◌≢◌, ℕ, Some, Result, Err, inr, sym, subst, ◌∙◌}
 use Rattle.std.specs.Result.{result_err}
-use Rattle.tup_site.specs.Crash.{GoesOn}
-use Rattle.tup_site.specs.World.{World}
 use Rattle.tup_graph.specs.declared.fault.GraphFault.{GraphFault}
 use Rattle.tup_graph.specs.declared.fault.GraphFault.TheVariants.{NotThere}
 use Rattle.tup_kept.specs.Held.{Held}
 use Rattle.tup_kept.specs.Opening.{OpensAs}
-use Rattle.tup_ledger.specs.Owned.{owned_in}
-use Rattle.tup_update.specs.Holding.{HoldsOn}
-use Rattle.tup_update.specs.Images.{OpensStep}
-use Rattle.tup_update.specs.Opened.{IsNew, IsUnopened, StopsOpening}
+use Rattle.tup_update.specs.Opened.{IsUnopened, StopsOpening}
 use Rattle.tup_update.specs.Outcome.{HasCountedCause}
-use Rattle.tup_update.specs.Stopped.{stop_of_graph}
 use Rattle.tup_update.specs.declared.stop.Stop.{Stop}
 use Rattle.tup_update.proofs.Held.{kept_holds}
-use Rattle.tup_update.proofs.Storing.{graph_counts, opening_stops, unopened, opening_on, making_on, OpensOrMakes, made_new, made_not, not_there}
+use Rattle.tup_update.proofs.Storing.{graph_counts, opening_stops, unopened, opening_on, making_on, made_new, made_not, not_there}
 use Rattle.tup_update.proofs.store.open_or_make.Goals as goal
 
 -- ---- a store that was opened

@@ -1,12 +1,11 @@
-use Rattle.std.proofs.Common.{ℕ, None, Some, Err, inl, inr, ⊎_elim, refl, sym, subst, ap, ◌∙◌}
+use Rattle.std.proofs.Common.{inl, inr, ⊎_elim, sym, subst, ap, ◌∙◌}
 use Rattle.tup_site.specs.declared.fault.SiteFailed.TheVariants.{Memory}
-use Rattle.tup_site.specs.World.{World}
 use Rattle.tup_table.specs.Table.{entries_in}
 use Rattle.tup_graph.specs.Opening.{IsGraphOf}
 use Rattle.tup_ledger.specs.Owned.{owned_in}
 use Rattle.tup_ledger.proofs.Listing.{lists_now}
-use Rattle.tup_update.specs.Holding.{HoldsOn, Lists}
-use Rattle.tup_update.specs.Opened.{IsNew, IsUnopened, StopsOpening}
+use Rattle.tup_update.specs.Holding.{Lists}
+use Rattle.tup_update.specs.Opened.{IsUnopened, StopsOpening}
 use Rattle.tup_update.specs.declared.stop.Stop.TheVariants.{Outside}
 use Rattle.tup_update.proofs.Handed.{err_if}
 use Rattle.tup_update.proofs.Held.{by_ledger}

@@ -1,16 +1,15 @@
-use Rattle.std.proofs.Common.{ℕ, None, Some, Ok, Err, refl, sym, subst, ap, ◌∙◌}
+use Rattle.std.proofs.Common.{sym, subst, ap}
 use Rattle.std.specs.Result.{result_err}
-use Rattle.tup_site.specs.Crash.{GoesOn, NoStep}
 use Rattle.tup_path.specs.Tree.{Tree}
 use Rattle.tup_site.specs.World.{World}
 use Rattle.tup_update.specs.Holding.{HoldsOn}
-use Rattle.tup_update.specs.Images.{OpensStep, UpdateStep}
-use Rattle.tup_update.specs.Outcome.{Stays, Keeps, HasCountedCause}
+use Rattle.tup_update.specs.Images.{OpensStep}
+use Rattle.tup_update.specs.Outcome.{Stays, Keeps}
 use Rattle.tup_update.specs.Parts.{IsUnread}
 use Rattle.tup_update.specs.Settled.{IsSettled}
 use Rattle.tup_update.specs.Stopped.{stop_of}
 use Rattle.tup_update.proofs.Before.{stays_before, keeps_before, makes_on}
-use Rattle.tup_update.proofs.Begun.{ran_none, ran_all_of, opening_runs}
+use Rattle.tup_update.proofs.Begun.{ran_none, ran_all_of}
 use Rattle.tup_update.proofs.Crashing.{opened_so, opened_only, as_opened, quiet_files, then_quiet}
 use Rattle.tup_update.proofs.Storing.{stands_on}
 use Rattle.tup_update.proofs.Keeping.{err_is, unread_cause, unread_stays, unread_keeps, unopened_stays, unopened_keeps}

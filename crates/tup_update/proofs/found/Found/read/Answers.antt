@@ -3,7 +3,6 @@ use Rattle.std.specs.BTreeSet.{contains}
 use Rattle.std.specs.FinMap as finite
 use Rattle.tup_path.specs.Name.{Names}
 use Rattle.tup_path.specs.Order.{by_names}
-use Rattle.tup_path.specs.Tree.{Tree}
 use Rattle.tup_site.specs.World.{World}
 use Rattle.tup_rule.specs.Rule.{among}
 use Rattle.tup_update.specs.Sources.{files_beside}
