@@ -9,6 +9,7 @@ use Rattle.tup_update.specs.Sources.{ends}
 use Rattle.tup_update.specs.Turns.{names_of}
 use Rattle.tup_update.proofs.Crashing.{at_rest}
 use Rattle.tup_update.proofs.Ending.{no_front}
+use Rattle.tup_update.proofs.Held.{holds_itself}
 use Rattle.tup_update.proofs.Keeping.{no_turns, unchanged_sources}
 use Rattle.tup_top.specs.Crew.{RanFits, RanInTurn, CrewRuns, CrewCompares}
 use Rattle.tup_top.specs.Order.{Wanted, order}
@@ -110,7 +111,7 @@ returns-clause-settled g c = λ _.
 pub returns-clause-nothing_forgotten : goal.returns-clause-nothing_forgotten
 returns-clause-nothing_forgotten g c = λ _.
     let world = g.S.Site.world c.args.site in
-    memory_of (order c.args.words.now) world (λ rules. NothingForgotten g.R.Runner.tells g.R.Runner.next rules world world) (inl refl)
+    memory_of (order c.args.words.now) world (λ rules. NothingForgotten g.R.Runner.tells g.R.Runner.next rules world world) (inl (holds_itself world))
 
 pub returns-clause-cause : goal.returns-clause-cause
 returns-clause-cause g c = λ _ _.
