@@ -1,14 +1,12 @@
 -- How a comparison ends that came out so: what is promised of it holds of the status that tells of it.
-use Rattle.std.proofs.Common.{◌≡◌, inl, inr, ℕ, List, [], ◌++◌, Option, None, Some, option_map, Result, Ok, Err, IfSome, refl, sym, ap, subst, ◌∙◌, append-nil}
+use Rattle.std.proofs.Common.{◌≡◌, inl, inr, ℕ, List, [], Option, None, Some, option_map, Result, Ok, Err, IfSome, refl, sym, ap, subst, ◌∙◌}
 use Rattle.std.specs.Result.{result_err}
 use Rattle.tup_path.specs.Name.{Names}
 use Rattle.tup_site.specs.World.{World}
 use Rattle.tup_site.specs.declared.fault.SiteFailed.TheVariants.{Memory as NoMemory}
 use Rattle.tup_runner.specs.Next.{Next}
-use Rattle.tup_clean.specs.Ran.{commands, RunsFront}
-use Rattle.tup_update.specs.Compared.{HasCompared, RunsToCompare, RunsIt}
+use Rattle.tup_update.specs.Compared.{HasCompared, RunsToCompare}
 use Rattle.tup_update.specs.Outcome.{HasRunCause, HasCountedCause as StopHasCountedCause}
-use Rattle.tup_update.specs.Sources.{sources}
 use Rattle.tup_update.specs.declared.compare.Compared.{Compared}
 use Rattle.tup_update.specs.declared.compare.Compared.TheVariants as compared
 use Rattle.tup_update.specs.declared.stop.Stop.{Stop}

@@ -1,9 +1,9 @@
-use Rattle.std.proofs.Common.{[], map, Ok, inl, refl, sym, subst}
+use Rattle.std.proofs.Common.{[], map, inl, refl, sym, subst}
 use Rattle.std.specs.Prelude.{slice_set}
 use Rattle.tup_site.specs.Crash.{GoesOn}
 use Rattle.tup_update.specs.Compared.{HasCompared}
 use Rattle.tup_update.specs.Images.{UpdateStep}
-use Rattle.tup_update.specs.Outcome.{ExactlyTheFiles, MadeBeforeBad, SourcesStay, NothingForgotten, HasCause}
+use Rattle.tup_update.specs.Outcome.{ExactlyTheFiles, MadeBeforeBad, NothingForgotten, HasCause}
 use Rattle.tup_update.specs.Settled.{IsSettled}
 use Rattle.tup_update.specs.Sources.{ends}
 use Rattle.tup_update.specs.Turns.{names_of}
