@@ -1,4 +1,4 @@
-//! The rows of the store: fields, records, lists of owned paths, stores, tables and graphs over a site, and graphs.
+//! The rows of the store: fields, records, stores, tables and graphs over a site, and graphs.
 //!
 //! Each file of `data/` has rows, a call with the answer that is wanted each. The head of a file says what its calls
 //! and their arguments mean.
@@ -8,7 +8,6 @@ mod changes;
 mod field;
 mod graph;
 mod kept;
-mod owned;
 mod record;
 mod say;
 mod scan;
@@ -22,7 +21,6 @@ mod values;
 use field::Fields;
 use graph::Graphs;
 use kept::KeptGraphs;
-use owned::OwnedLists;
 use record::Records;
 use sites::Sites;
 use std::io;
@@ -34,7 +32,6 @@ fn main(rt: HostRuntime) -> io::Result<()> {
     let alloc = rt.alloc();
     try_file(&rt, alloc, "field.rows", &mut Fields)?;
     try_file(&rt, alloc, "record.rows", &mut Records)?;
-    try_file(&rt, alloc, "owned.rows", &mut OwnedLists)?;
     try_file(&rt, alloc, "table.rows", &mut Tables)?;
     try_file_by(&rt, alloc, "site.rows", Sites::new(alloc))?;
     try_file(&rt, alloc, "graph.rows", &mut Graphs)?;
