@@ -2,7 +2,6 @@
 use Rattle.std.proofs.Common.{◌≡◌, ◌⊎◌, inl, inr, ℕ, ◌≤◌, Bool, true, false, is_some, IsTrue, List, [], ◌∷◌, ◌++◌, map, Option, None, Some, refl, sym, ap, subst, ◌∙◌, arith, ⊎_elim, zero, cond, not, ◌&&◌, IsSome, All, Ok, slice_index_or, Contains}
 use Rattle.std.specs.Prelude.{slice_get}
 use Rattle.std.specs.FinMap as finite
-use Rattle.std.specs.Option.{option_map}
 use Rattle.std.proofs.lemmas.Bool.{true≢false}
 use Rattle.std.proofs.lemmas.Option.{same_Some}
 use Rattle.tup_path.specs.Name.{Names, Content}
@@ -25,11 +24,10 @@ use Rattle.tup_graph.specs.Opening.{IsGraphOf}
 use Rattle.tup_graph.specs.Records.{Language, IsTrueRun}
 use Rattle.tup_graph.specs.Transactions.{begun, finished, maker_of}
 use Rattle.tup_access.specs.declared.verdict.Verdict.TheVariants.{Good}
-use Rattle.tup_core.specs.declared.event.CoreEvent.{CoreEvent}
 use Rattle.tup_core.specs.declared.event.CoreEvent.TheVariants.{Finish}
 use Rattle.tup_core.specs.declared.plan.Plan.{Plan}
 use Rattle.tup_core.specs.Run.{IsRun, end_of}
-use Rattle.tup_core.specs.Step.{State, after, is_reached, told, with_stamps}
+use Rattle.tup_core.specs.Step.{State, is_reached, told}
 use Rattle.std.specs.Ordering.{is_eq}
 use Rattle.std.specs.Cmp.{nat_cmp_total}
 use Rattle.std.proofs.lemmas.Cmp.{tied_itself}
@@ -58,7 +56,7 @@ use Rattle.tup_lasting.proofs.Honestly.{honest_run, noted_ask}
 use Rattle.tup_board.specs.Board.{BoardState, course_of, plan_of, first_graph, start, state}
 use Rattle.tup_board.specs.Come.{HasCome, HasOf, WasToKeep, HasComeTo}
 use Rattle.tup_board.specs.Ends.{HasEnded, IsRecordOf, CouldEnd}
-use Rattle.tup_board.specs.Images.{HasFileOf, HoldsWritten, IsImageOver, IsOwnedAs}
+use Rattle.tup_board.specs.Images.{HasFileOf, IsImageOver, IsOwnedAs}
 use Rattle.tup_board.specs.Outputs.{IsClaimed, Makes, IsPending}
 use Rattle.tup_board.specs.Sound.{Before, IsSound}
 use Rattle.tup_board.proofs.Coming.{begun_own, flag_here, written_own, finished_run}
