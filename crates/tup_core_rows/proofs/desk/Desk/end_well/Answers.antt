@@ -3,8 +3,8 @@ use Rattle.std.specs.Prelude.{slice_get}
 use Rattle.std.proofs.lemmas.Option.{slice_get_read, slice_get_within}
 use Rattle.tup_rule.specs.declared.rule.Rule.{Rule}
 use Rattle.tup_core.specs.declared.plan.Plan.{Plan}
-use Rattle.tup_course_rows.proofs.Seats.{rule_here, good_may}
-use Rattle.tup_course_rows.proofs.desk.Desk.end_well.Goals as goal
+use Rattle.tup_core_rows.proofs.Seats.{rule_here, good_may}
+use Rattle.tup_core_rows.proofs.desk.Desk.end_well.Goals as goal
 
 pub finish_well-requires-clause-end : goal.finish_well-requires-clause-end
 finish_well-requires-clause-end c =

@@ -1,7 +1,7 @@
 use Rattle.std.proofs.Common.{◌<◌, sym, ap, ◌∙◌, arith}
 use Rattle.std.specs.Option.{option_copied}
-use Rattle.tup_course_rows.proofs.Seats.{was_denied_here}
-use Rattle.tup_course_rows.proofs.desk.Desk.was_denied.Goals as goal
+use Rattle.tup_core_rows.proofs.Seats.{was_denied_here}
+use Rattle.tup_core_rows.proofs.desk.Desk.was_denied.Goals as goal
 
 pub returns-then-seat-lt-SEATS : goal.returns-then-seat-lt-SEATS
 returns-then-seat-lt-SEATS c = λ up.

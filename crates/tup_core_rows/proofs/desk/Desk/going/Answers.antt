@@ -1,8 +1,8 @@
 use Rattle.std.proofs.Common.{◌≡◌, ◌<◌, None, sym, ap, ◌∙◌, arith}
 use Rattle.std.specs.Option.{option_copied}
 use Rattle.std.proofs.lemmas.Option.{same_Some}
-use Rattle.tup_course_rows.proofs.Seats.{goes_here, none_here}
-use Rattle.tup_course_rows.proofs.desk.Desk.going.Goals as goal
+use Rattle.tup_core_rows.proofs.Seats.{goes_here, none_here}
+use Rattle.tup_core_rows.proofs.desk.Desk.going.Goals as goal
 
 pub returns : goal.returns
 returns c = λ number same.

@@ -15,7 +15,7 @@ use Rattle.tup_core.specs.declared.event.CoreEvent.TheVariants.{Finish}
 use Rattle.tup_core.specs.declared.running.Running.{Running}
 use Rattle.tup_core.specs.Step.{FitsEnd, IsEnabled}
 use Rattle.tup_course.specs.Course.{CourseState, RunsRule, WasDenied, EndsDenied, EndsWithFinish, IsGoodEnd, last_event, now}
-use Rattle.tup_course_rows.specs.Desk.{RunsPlanned, Goes, names_in}
+use Rattle.tup_core_rows.specs.Desk.{RunsPlanned, Goes, names_in}
 
 runs_here : (course : CourseState) (seat : ℕ) (running : Running) → seat < 16 → RunsPlanned course seat running → RunsRule course seat
 runs_here course seat running within runs = record { running = running; rule = runs.rule; runs = record { within = within; here = runs.here; placed = runs.placed } }

@@ -6,7 +6,7 @@ ghost use Rattle.tup_core.specs.declared.running.Running.{Running as RunningValu
 ghost use Rattle.tup_core.specs.Sound.{IsInRange};
 ghost use Rattle.tup_core.specs.Step.{told};
 ghost use Rattle.tup_course.specs.Course.{now, WasDenied, EndsWithFinish};
-ghost use Rattle.tup_course_rows.specs.Desk.{IsFree, RunsPlanned, Goes, MayBeTold, MayBeDenied, names_in};
+ghost use Rattle.tup_core_rows.specs.Desk.{IsFree, RunsPlanned, Goes, MayBeTold, MayBeDenied, names_in};
 
 use std::alloc::{AllocError, Global};
 use tup_access::{Access, Verdict};

@@ -1,26 +1,39 @@
-//! The sources and the rules that rows give, and the course that they are on.
+//! The calls of `course.rows`: the sources and the rules that rows give, and the course that they are on.
 use crate::answer::show_events;
 use crate::desk::Desk;
 use crate::orders::obey;
+use crate::project::reach_at;
 use std::alloc::Global;
-use tup_core::{Numbers, Plan, Stamps};
+use tup_core::{Plan, Stamps};
 use tup_path::Items;
-use tup_rows::{RowFault, Words};
+use tup_rows::{Answers, RowFault, Words};
 use tup_rule::{Rule, Rules};
 use tup_stamp::stamp_of;
 
 /// What the rows so far gave.
 #[derive(Drop)]
-pub(crate) struct Project {
+pub(crate) struct Courses {
     files: Stamps,
     rules: Rules,
     desk: Option<Desk>,
 }
 
-impl Project {
+impl Answers for Courses {
+    fn answer(&mut self, alloc: Global, call: &str, said: &Words) -> Result<Words, RowFault> {
+        Ok(match call {
+            "source" => self.add_source(alloc, said),
+            "rule" => self.add_rule(alloc, said),
+            "plan" => self.begin(alloc, said),
+            "close" => self.close(alloc),
+            _ => self.obey(alloc, call, said),
+        })
+    }
+}
+
+impl Courses {
     /// Nothing yet.
-    pub(crate) fn new(alloc: Global) -> Project {
-        Project {
+    pub(crate) fn new(alloc: Global) -> Courses {
+        Courses {
             files: Items::new(alloc),
             rules: Items::new(alloc),
             desk: None,
@@ -28,20 +41,20 @@ impl Project {
     }
 
     /// Adds a source: its path and its content.
-    pub(crate) fn add_source(&mut self, alloc: Global, said: &Words) -> Words {
+    fn add_source(&mut self, alloc: Global, said: &Words) -> Words {
         let stamp = stamp_of(said.word_at(1));
         said.list(&mut self.files, (said.path_at(alloc, 0), stamp));
         Words::new(alloc)
     }
 
     /// Adds a rule.
-    pub(crate) fn add_rule(&mut self, alloc: Global, said: &Words) -> Words {
+    fn add_rule(&mut self, alloc: Global, said: &Words) -> Words {
         said.list(&mut self.rules, rule(alloc, said));
         Words::new(alloc)
     }
 
     /// Begins another course.
-    pub(crate) fn begin(&mut self, alloc: Global, said: &Words) -> Words {
+    fn begin(&mut self, alloc: Global, said: &Words) -> Words {
         match self.opened(alloc, said) {
             Ok(desk) => {
                 self.desk = Some(desk);
@@ -63,7 +76,7 @@ impl Project {
     }
 
     /// Does what a row says to the course.
-    pub(crate) fn obey(&mut self, alloc: Global, call: &str, said: &Words) -> Words {
+    fn obey(&mut self, alloc: Global, call: &str, said: &Words) -> Words {
         match &mut self.desk {
             Some(desk) => obey(alloc, desk, call, said),
             None => Words::none(alloc, RowFault::NoSuchCall),
@@ -71,7 +84,7 @@ impl Project {
     }
 
     /// Ends the course, and answers what happened on it.
-    pub(crate) fn close(&mut self, alloc: Global) -> Words {
+    fn close(&mut self, alloc: Global) -> Words {
         match self.desk.take() {
             Some(desk) => show_events(alloc, desk.course.into_history().as_slice()),
             None => Words::none(alloc, RowFault::NoSuchCall),
@@ -90,16 +103,4 @@ fn rule(alloc: Global, said: &Words) -> Rule {
         order: Items::new(alloc),
         outputs: said.paths_at(alloc, 2),
     }
-}
-
-/// The numbers of rules that a word of a row is, parted by blanks.
-fn reach_at(alloc: Global, said: &Words, at: usize) -> Numbers {
-    let mut numbers = Items::new(alloc);
-    for word in said.str_at(at).split_ascii_whitespace() {
-        match word.parse() {
-            Ok(number) => said.list(&mut numbers, number),
-            Err(_) => said.fail(RowFault::OtherKind),
-        }
-    }
-    numbers
 }
