@@ -182,7 +182,8 @@ fn make_on<S: Site>(
 
 /// The files of a rule, each with this content.
 fn files_of(alloc: Global, nodes: &Nodes, number: u32, content: &[u8]) -> Option<Files>
-    ensures { (files : List (Names × Content)) → result ≡ Some files → AreFilesOf nodes.now number files }
+    ensures { (files : List (Names × Content)) → result ≡ Some files
+        → AreFilesOf nodes.now number files }
 {
     let rule = nodes.rules().get(number as usize)?;
     let outputs = rule.outputs.as_slice();
@@ -197,8 +198,10 @@ fn files_of(alloc: Global, nodes: &Nodes, number: u32, content: &[u8]) -> Option
 
 /// Files at some paths, each with this content.
 fn filled(alloc: Global, paths: &[Path], content: &[u8]) -> Result<Files, AllocError>
-    ensures paths { (files : List (Names × Content)) → result ≡ Ok files → paths_of files ≡ paths.now }
-    ensures content { (files : List (Names × Content)) → result ≡ Ok files → All (λ file. file.1 ≡ content.now) files }
+    ensures paths { (files : List (Names × Content)) → result ≡ Ok files
+        → paths_of files ≡ paths.now }
+    ensures content { (files : List (Names × Content)) → result ≡ Ok files
+        → All (λ file. file.1 ≡ content.now) files }
 {
     let mut files = Items::new(alloc);
     for path in paths {
