@@ -1,0 +1,12 @@
+use Rattle.tup_above.proofs.Asked.{asked_more, asked_of_none}
+use Rattle.tup_above.proofs.Growing.{grows_as, grows_nothing, grows_on}
+use Rattle.tup_swap.proofs.running.push_readers.Goals as goal
+
+pub loop-path-init : goal.loop-path-init
+loop-path-init c = grows_nothing (asked_of_none c.args.led.now)
+
+pub loop-path-preserved : goal.loop-path-preserved
+loop-path-preserved c =
+    let path = c.path-item.result in
+    let more = λ n. asked_more c.args.led.now n c.args.paths.now c.loop-path.path-index path path c.loop-path-test.true c.path-item.is in
+    grows_as (λ n. (more n).0) (λ n. (more n).1) (grows_on c.loop-path.invariant c.in_ok-push_readers_of.ensures.readers)
