@@ -1,18 +1,16 @@
 -- Walks from rules to those that read what they make.
-use Rattle.std.specs.Prelude.{◌≡◌, ◌==◌, ◌⊎◌, ◌↔◌, ℕ, zero, suc, ◌+◌, ◌-◌, ◌<◌, ◌≤◌, Bool, true, false, List, [], ◌∷◌, ◌++◌, Option, None, Some, Contains, length, slice_get, unwrap_or, option_map}
+use Rattle.std.specs.Prelude.{◌≡◌, ◌⊎◌, ◌↔◌, ℕ, zero, suc, ◌+◌, ◌-◌, ◌<◌, true, List, [], ◌∷◌, ◌++◌, Option, None, Some, Contains, length, slice_get, unwrap_or, option_map}
 use Rattle.std.proofs.Common.{refl, sym, ap, subst, ◌∙◌, inl, inr, take, get_or, arith, length-append}
-use Rattle.std.proofs.lemmas.Bool.{true≢false, ltb-true, eqb-true}
+use Rattle.std.proofs.lemmas.Bool.{true≢false, ltb-true}
 use Rattle.std.proofs.lemmas.List.Elements.{Contains-push, Contains-push_cases, Contains-append_left}
 use Rattle.std.specs.BTreeSet.{BTreeSet, contains, IsOrdered}
 use Rattle.std.specs.List.Sorted.{IsStrictlySortedBy}
 use Rattle.std.specs.Ordering.{nat_cmp}
 use Rattle.tup_path.specs.Name.{Names}
-use Rattle.tup_rule.specs.Rule.{writes}
 use Rattle.tup_rule.specs.declared.rule.Rule.{Rule}
 use Rattle.tup_rule.proofs.Laws.{among-decides}
 use Rattle.tup_graph.specs.Above.{AboveOver, HasAsked, HasReadOf, IsAbove}
 use Rattle.tup_graph.specs.Graph.{GraphState, is_rule, outputs_of}
-use Rattle.tup_above.specs.Grows.{Grows}
 use Rattle.tup_above.specs.Readers.{AreRunsOfRules, HasAskedOneOf}
 use Rattle.tup_above.specs.Walk.{IsReached, IsWaiting, GoesTo, IsDone, IsWalk}
 use Rattle.tup_above.specs.declared.walk.Walk.{Walk}

@@ -1,8 +1,6 @@
-use Rattle.std.proofs.Common.{◌≡◌, ℕ, true, false}
-use Rattle.std.specs.Prelude.{Contains}
+use Rattle.std.proofs.Common.{◌≡◌, true, false}
 use Rattle.std.specs.Ordering.{nat_cmp}
 use Rattle.std.proofs.lemmas.Result.{on_ok_weaker}
-use Rattle.tup_graph.specs.Above.{HasAsked}
 use Rattle.tup_above.proofs.Members.{contained, in_set, number-decides}
 use Rattle.tup_above.proofs.Walking.{goes_as, goes_nowhere}
 use Rattle.tup_above.proofs.walk.Walk.reach_readers_of.Goals as goal
