@@ -1,9 +1,9 @@
 -- What a store lists, by the graph that it stands for.
-use Rattle.std.proofs.Common.{◌≡◌, ◌⊎◌, ℕ, List, [], IsTrue, Result, Ok, Err, ⊎_elim, refl, sym, ap, subst, ◌∙◌}
+use Rattle.std.proofs.Common.{◌≡◌, ◌⊎◌, ◌++◌, ℕ, List, [], IsTrue, Result, Ok, Err, ⊎_elim, refl, sym, ap, subst, ◌∙◌}
 use Rattle.std.specs.Result.{IfOk}
 use Rattle.tup_path.specs.Name.{Names}
 use Rattle.tup_site.specs.Crash.{GoesOn, NoStep, LeavesOnly, PinsTree}
-use Rattle.tup_site.specs.World.{World, TreeStays}
+use Rattle.tup_site.specs.World.{World}
 use Rattle.tup_table.specs.Entries.{Standing}
 use Rattle.tup_table.specs.Images.{Leaves, OpenStep}
 use Rattle.tup_table.specs.Store.{header, blocks}
@@ -13,7 +13,7 @@ use Rattle.tup_table.proofs.Going.{IsEarlier, as_step, nothing_then}
 use Rattle.tup_graph.specs.Graph.{GraphState}
 use Rattle.tup_graph.specs.Opening.{IsGraphOf}
 use Rattle.tup_graph.specs.declared.fault.GraphFault.{GraphFault}
-use Rattle.tup_kept.specs.Crash.{IsStoreOf, GraphStep, LeavesEither}
+use Rattle.tup_kept.specs.Crash.{GraphStep, LeavesEither}
 use Rattle.tup_kept.specs.Held.{Held, is_fresh}
 use Rattle.tup_ledger.specs.Listing.{Lists, StillLists, SettledStep}
 use Rattle.tup_ledger.specs.Owned.{owned_in}

@@ -1,4 +1,4 @@
-use Rattle.std.proofs.Common.{ap, subst}
+use Rattle.std.proofs.Common.{ap, subst, ◌∙◌}
 use Rattle.tup_site.specs.Crash.{NoStep}
 use Rattle.tup_site.specs.World.{World}
 use Rattle.tup_table.specs.Table.{entries_in}
