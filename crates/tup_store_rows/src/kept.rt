@@ -13,12 +13,12 @@ use crate::scan::seen;
 use crate::sites::site_with;
 use crate::swap::{are_by_folder, is_one, news};
 use crate::transaction::{number, numbers, paths, run};
-use std::alloc::Global;
+use std::alloc::{AllocError, Global};
 use tup_graph::GraphFault;
 use tup_kept::Graph;
-use tup_ledger::{Begun, begin as begin_project, give_up, own};
+use tup_ledger::{Begun, begin as begin_project, give_up, open, own, owned_paths, sorted};
 use tup_note::{note_scan, swap_rules};
-use tup_path::Path;
+use tup_path::{Path, Paths};
 use tup_rows::{Answers, RowFault, Words};
 use tup_site::MemSite;
 
@@ -43,6 +43,8 @@ impl Answers for KeptGraphs {
             "failing" => self.set_fails(alloc, said),
             "make" => make(alloc, said, &self.fails),
             "init" => self.init(alloc, said),
+            "open" => self.open(alloc, said),
+            "sorted" => in_order(alloc, said),
             _ => self.transaction(alloc, call, said),
         })
     }
@@ -77,12 +79,24 @@ impl KeptGraphs {
 
     /// Begins a project over these bytes of a store.
     fn init(&self, alloc: Global, said: &Words) -> Words {
-        let fails = behind(alloc, said, &self.fails, BEFORE_A_STORE_IS_READ);
-        let store = joined(alloc, said, said.as_slice());
-        match site_with(alloc, &store, fails) {
+        match self.site(alloc, said) {
             Ok(mut site) => begun_in(alloc, &mut site),
             Err(fault) => Words::none(alloc, fault),
         }
+    }
+
+    /// Opens the store of a project, which has these bytes.
+    fn open(&self, alloc: Global, said: &Words) -> Words {
+        match self.site(alloc, said) {
+            Ok(mut site) => opened_in(alloc, &mut site),
+            Err(fault) => Words::none(alloc, fault),
+        }
+    }
+
+    /// A site whose store has these bytes.
+    fn site(&self, alloc: Global, said: &Words) -> Result<MemSite, RowFault> {
+        let fails = behind(alloc, said, &self.fails, BEFORE_A_STORE_IS_READ);
+        site_with(alloc, &joined(alloc, said, said.as_slice()), fails)
     }
 
     /// Opens the store, and makes a transaction.
@@ -122,6 +136,43 @@ fn add_beginning(alloc: Global, words: &mut Words, begun: Result<Begun, GraphFau
         Ok(Begun::Made) => words.put(alloc, b"made"),
         Ok(Begun::WasThere) => words.put(alloc, b"was there"),
         Err(fault) => add_end(alloc, words, Err(fault)),
+    }
+}
+
+/// How the opening of a store ends after how many calls of the site, what it lists, and its bytes then.
+fn opened_in(alloc: Global, site: &mut MemSite) -> Words {
+    let opened = open(alloc, site);
+    let calls = site.calls().saturating_sub(BEFORE_A_STORE_IS_READ);
+    let mut words = Words::shown(alloc, &calls);
+    add_opening(alloc, &mut words, opened);
+    words.put(alloc, site.store());
+    words
+}
+
+/// Adds what a store lists that was opened, or why it wasn't.
+fn add_opening(alloc: Global, words: &mut Words, opened: Result<Graph, GraphFault>) {
+    match opened {
+        Ok(graph) => add_paths(alloc, words, &owned_paths(alloc, graph.nodes())),
+        Err(fault) => add_end(alloc, words, Err(fault)),
+    }
+}
+
+/// The paths in their order.
+fn in_order(alloc: Global, said: &Words) -> Words {
+    let mut words = Words::new(alloc);
+    add_paths(
+        alloc,
+        &mut words,
+        &sorted(alloc, &paths(alloc, said, said.len())),
+    );
+    words
+}
+
+/// Adds how many paths there are, and each of them.
+fn add_paths(alloc: Global, words: &mut Words, paths: &Result<Paths, AllocError>) {
+    match paths {
+        Ok(paths) => paths.say(alloc, words),
+        Err(_) => words.fail(RowFault::Memory),
     }
 }
 
