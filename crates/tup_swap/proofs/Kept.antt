@@ -122,14 +122,14 @@ module _ (g : GraphState) (rules : List Rule) (befores : List (Option ℕ)) (are
         ap (λ (o : Option (Option ℕ)). unwrap_or (option_map is_none o) false) before.1 ∙ none_so g rule before.0 before.2 new
 
     reads_to : (number : ℕ) → ReadsOneNew led befores number → ReadsNew g led number
-    reads_to number (i, rule, here, new, (path, inside, asked)) = (i, rule, here, is_new_to i rule here new, (path, asked, (among-decides path rule.outputs).1 inside))
+    reads_to number (i, rule, here, (new, (path, inside, asked))) = (i, rule, here, is_new_to i rule here new, (path, asked, (among-decides path rule.outputs).1 inside))
 
     reads_from : (number : ℕ) → ReadsNew g led number → ReadsOneNew led befores number
-    reads_from number (i, rule, here, new, (path, asked, wrote)) = (i, rule, here, is_new_from i rule here new, (path, (among-decides path rule.outputs).0 wrote, asked))
+    reads_from number (i, rule, here, new, (path, asked, wrote)) = (i, rule, here, (is_new_from i rule here new, (path, (among-decides path rule.outputs).0 wrote, asked)))
 
     module _ (runs : AreRunsOfRules led) where
       pub is_root : (number : ℕ) → ReadsOneNew led befores number → is_rule led number ≡ true
-      is_root number (i, rule, here, new, (path, inside, asked)) = runs number asked.0 asked.2
+      is_root number (i, rule, here, (new, (path, inside, asked))) = runs number asked.0 asked.2
 
       -- ---- all that are to be run
       pub to_run_are : (roots above flags : List ℕ) → ((n : ℕ) → Contains roots n ↔ ReadsOneNew led befores n) → ((n : ℕ) → Contains above n ↔ IsAbove led (Contains roots) n) → flags ≡ above ++ numbered (flag_at g) 0 befores

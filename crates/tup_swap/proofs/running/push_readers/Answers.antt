@@ -7,6 +7,9 @@ loop-path-init c = grows_nothing (asked_of_none c.args.led.now)
 
 pub loop-path-preserved : goal.loop-path-preserved
 loop-path-preserved c =
+    let led = c.args.led.now in
+    let paths = c.args.paths.now in
+    let at = c.loop-path.path-index in
     let path = c.path-item.result in
-    let more = λ n. asked_more c.args.led.now n c.args.paths.now c.loop-path.path-index path path c.loop-path-test.true c.path-item.is in
-    grows_as (λ n. (more n).0) (λ n. (more n).1) (grows_on c.loop-path.invariant c.in_ok-push_readers_of.ensures.readers)
+    grows_as (λ n. (asked_more led n paths at path path c.loop-path-test.true c.path-item.is).0) (λ n. (asked_more led n paths at path path c.loop-path-test.true c.path-item.is).1)
+    (grows_on c.loop-path.invariant c.in_ok-push_readers_of.ensures.readers)
