@@ -38,8 +38,8 @@ use Rattle.tup_board.specs.Board.{BoardState, course_of, plan_of, state, with_hi
 use Rattle.tup_board.specs.Calls.{Asks, AsksFor, AsksForOwn, told_of}
 use Rattle.tup_board.specs.Cause.{stops_by}
 use Rattle.tup_board.specs.Sound.{IsSound, IsTrueFault}
-use Rattle.tup_board.proofs.Asking.{denied_asks, failed_asks, memory_asks, own_asks, read_asks, same_rule_at, same_running, told_asks}
-use Rattle.tup_board.proofs.Kept.{KeepsBoard, board_at, course_is, to_course, sound_seen, added_seen, kept_more, ask_kept, deny_kept, refused_kept, site_true, large_true, full_true}
+use Rattle.tup_board.proofs.Asking.{failed_asks, read_asks, same_rule_at, same_running}
+use Rattle.tup_board.proofs.Kept.{KeepsBoard, board_at, course_is, to_course, sound_seen, kept_more, ask_kept, deny_kept, refused_kept, site_true, large_true, full_true}
 use Rattle.tup_board.proofs.WasRead.{sound_read}
 use Rattle.tup_board.proofs.Visiting.{counts_as, large_as, length_as, visit_true}
 
