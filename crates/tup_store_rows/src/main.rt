@@ -1,5 +1,4 @@
-//! The rows of the store: fields, records, lists of owned paths, stores, tables and graphs over a site, graphs, and who asked
-//! what.
+//! The rows of the store: fields, records, stores, tables and graphs over a site, graphs, and who asked what.
 //!
 //! Each file of `data/` has rows, a call with the answer that is wanted each. The head of a file says what its calls
 //! and their arguments mean.
@@ -10,7 +9,6 @@ mod field;
 mod graph;
 mod index;
 mod kept;
-mod owned;
 mod record;
 mod say;
 mod scan;
@@ -25,7 +23,6 @@ use field::Fields;
 use graph::Graphs;
 use index::Indexes;
 use kept::KeptGraphs;
-use owned::OwnedLists;
 use record::Records;
 use sites::Sites;
 use std::alloc::Global;
@@ -43,11 +40,10 @@ fn main(rt: HostRuntime) -> io::Result<()> {
     try_transactions(&rt, alloc)
 }
 
-/// The rows on fields, records and lists of owned paths.
+/// The rows on fields and records.
 fn try_values<R: Files + Print>(rt: &R, alloc: Global) -> io::Result<()> {
     try_file(rt, alloc, "field.rows", &mut Fields)?;
-    try_file(rt, alloc, "record.rows", &mut Records)?;
-    try_file(rt, alloc, "owned.rows", &mut OwnedLists)
+    try_file(rt, alloc, "record.rows", &mut Records)
 }
 
 /// The rows on tables.
