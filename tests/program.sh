@@ -458,10 +458,11 @@ damaged() {
     gone "$1, nothing was made" b
     same "$1, the store" "$(cat .tup/db | od -c)" "$(printf "$3" | od -c)"
 }
-damaged "a store out of order" 2 'c\nb\n'
-damaged "a store without its last line feed" 2 'b\nc'
-damaged "a hidden name in the store" 2 'b\n.c\n'
-damaged "a byte that isn't UTF-8 in the store" 0 '\377\n'
+damaged "the list of an old version" 0 'b\nc\n'
+damaged "another version of the store" 0 'tup-db\n\002\000'
+damaged "half a header" 0 'tup-d'
+damaged "a commit that is cut off" 8 'tup-db\n\001\001\000\000'
+damaged "a record of no kind" 8 'tup-db\n\001\001\000\000\000\011\001\000\001\153\000\000\000\001\166\000'
 
 project "$copy"
 "$tup" upd >&-
