@@ -1,20 +1,20 @@
 //! The calls of `index.rows`.
-use crate::say::listed;
+use crate::record::record_of;
 use std::alloc::Global;
+use std::fmt::Display;
 use tup_graph::{Edit, Edits, GraphFault, Nodes};
 use tup_index::Indexed;
-use tup_path::{Bytes, Items};
-use tup_record::{Record, decode};
+use tup_path::Items;
 use tup_rows::{Answers, RowFault, Words};
 use tup_rule::Question;
 
 /// A graph that knows who asked what.
 #[derive(Drop)]
-pub struct Calls {
+pub struct Indexes {
     indexed: Indexed,
 }
 
-impl Answers for Calls {
+impl Answers for Indexes {
     fn answer(&mut self, alloc: Global, call: &str, said: &Words) -> Result<Words, RowFault> {
         Ok(match call {
             "graph" => self.set(alloc, said),
@@ -25,10 +25,10 @@ impl Answers for Calls {
     }
 }
 
-impl Calls {
+impl Indexes {
     /// The graph of a new store.
-    pub fn new(alloc: Global) -> Calls {
-        Calls {
+    pub fn new(alloc: Global) -> Indexes {
+        Indexes {
             indexed: Indexed::empty(alloc),
         }
     }
@@ -93,28 +93,11 @@ fn edit(alloc: Global, words: &[Vec<u8>]) -> Result<Edit, RowFault> {
     let [kind, key, value] = words else {
         return Err(RowFault::TooFew);
     };
-    let found = record(alloc, key, value)?;
+    let found = record_of(alloc, key, value)?;
     match kind.as_slice() {
         b"put" => Ok(Edit::Put(found)),
         b"remove" => Ok(Edit::Remove(found)),
         _ => Err(RowFault::OtherKind),
-    }
-}
-
-/// The record that a key and a value spell.
-fn record(alloc: Global, key: &[u8], value: &[u8]) -> Result<Record, RowFault> {
-    let key = bytes(alloc, key)?;
-    let value = bytes(alloc, value)?;
-    match decode(alloc, &key, &value) {
-        Ok(found) => Ok(found),
-        Err(_) => Err(RowFault::OtherKind),
-    }
-}
-
-fn bytes(alloc: Global, word: &[u8]) -> Result<Bytes, RowFault> {
-    match Vec::from_slice(alloc, word) {
-        Ok(bytes) => Ok(Bytes::new(bytes)),
-        Err(_) => Err(RowFault::Memory),
     }
 }
 
@@ -127,4 +110,16 @@ fn question(alloc: Global, kind: &str, said: &Words) -> Option<Question> {
         "kind" => Some(Question::Kind(said.path_at(alloc, 0))),
         _ => None,
     }
+}
+
+/// How many are in a list, and each of them in its order.
+fn listed<T: Display + Drop>(alloc: Global, list: Result<Vec<T>, GraphFault>) -> Words {
+    let Ok(list) = list else {
+        return Words::none(alloc, RowFault::Memory);
+    };
+    let mut words = Words::shown(alloc, &list.len());
+    for one in &list {
+        words.show(alloc, one);
+    }
+    words
 }

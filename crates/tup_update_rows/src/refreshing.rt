@@ -1,6 +1,6 @@
 //! The calls of `refresh.rows`.
-use crate::project::Project;
 use crate::shown::{shown, shown_alone};
+use crate::tree::Tree;
 use std::alloc::Global;
 use tup_folders::read_folders;
 use tup_path::{Bytes, Path};
@@ -12,15 +12,15 @@ use tup_site::Site;
 /// How many bytes a file has that is too large.
 const LARGE: usize = 16_777_217;
 
-/// The project that the rows above have made.
+/// The tree that the rows above have made, and what is kept of it.
 #[derive(Drop)]
-pub(crate) struct Session {
-    project: Option<Project>,
+pub(crate) struct Refreshings {
+    tree: Option<Tree>,
     /// How many calls of the site the last refresh made.
     calls: u64,
 }
 
-impl Answers for Session {
+impl Answers for Refreshings {
     /// Makes one of the calls that the file in `data/` names.
     fn answer(&mut self, alloc: Global, call: &str, said: &Words) -> Result<Words, RowFault> {
         Ok(match call {
@@ -38,18 +38,18 @@ impl Answers for Session {
     }
 }
 
-impl Session {
-    /// No project.
-    pub(crate) fn new(alloc: Global) -> Session {
-        Session {
-            project: Project::new(alloc).ok(),
+impl Refreshings {
+    /// No files.
+    pub(crate) fn new(alloc: Global) -> Refreshings {
+        Refreshings {
+            tree: Tree::new(alloc).ok(),
             calls: 0,
         }
     }
 
-    /// Another project.
+    /// Another tree.
     fn another(&mut self, alloc: Global) -> Words {
-        self.project = Project::new(alloc).ok();
+        self.tree = Tree::new(alloc).ok();
         Words::new(alloc)
     }
 
@@ -67,10 +67,10 @@ impl Session {
     }
 
     fn edit(&mut self, alloc: Global, path: Path, content: Option<Bytes>) -> Words {
-        let Some(project) = &mut self.project else {
+        let Some(tree) = &mut self.tree else {
             return Words::none(alloc, RowFault::Memory);
         };
-        match project.site.edit(alloc, path, content) {
+        match tree.site.edit(alloc, path, content) {
             Ok(()) => Words::new(alloc),
             Err(fault) => Words::refusal(alloc, &fault),
         }
@@ -96,10 +96,10 @@ impl Session {
     }
 
     fn put(&mut self, alloc: Global, record: Record) -> Words {
-        let Some(project) = &mut self.project else {
+        let Some(tree) = &mut self.tree else {
             return Words::none(alloc, RowFault::Memory);
         };
-        match project.put(alloc, record) {
+        match tree.put(alloc, record) {
             Ok(()) => Words::new(alloc),
             Err(_) => Words::none(alloc, RowFault::Memory),
         }
@@ -107,84 +107,80 @@ impl Session {
 
     /// Refreshes the readings, and keeps them where there is no fault.
     fn refresh(&mut self, alloc: Global) -> Words {
-        let Some(project) = &mut self.project else {
+        let Some(tree) = &mut self.tree else {
             return Words::none(alloc, RowFault::Memory);
         };
-        let Ok(config) = project.note(alloc) else {
+        let Ok(config) = tree.note(alloc) else {
             return Words::none(alloc, RowFault::Memory);
         };
-        let before = project.site.calls();
-        let found = project.refresh(alloc, &config);
-        self.calls = project.site.calls().saturating_sub(before);
-        compared(alloc, project, found)
+        let before = tree.site.calls();
+        let found = tree.refresh(alloc, &config);
+        self.calls = tree.site.calls().saturating_sub(before);
+        compared(alloc, tree, found)
     }
 
     /// Refreshes the readings, where all calls of the site but so many fail, and keeps none.
     fn stopped(&mut self, alloc: Global, said: &Words) -> Words {
-        let Some(project) = &mut self.project else {
+        let Some(tree) = &mut self.tree else {
             return Words::none(alloc, RowFault::Memory);
         };
-        let Ok(config) = project.note(alloc) else {
+        let Ok(config) = tree.note(alloc) else {
             return Words::none(alloc, RowFault::Memory);
         };
-        let before = project.site.faults();
-        project.site.stop_after(said.number_at(0));
-        let found = project.refresh(alloc, &config);
-        project.site.run_on();
+        let before = tree.site.faults();
+        tree.site.stop_after(said.number_at(0));
+        let found = tree.refresh(alloc, &config);
+        tree.site.run_on();
         let mut words = shown_alone(alloc, &found);
         words.put(alloc, b"faults");
-        words.show(alloc, &project.site.faults().saturating_sub(before));
+        words.show(alloc, &tree.site.faults().saturating_sub(before));
         words
     }
 
     /// Refreshes the readings, where the file at a path has grown too large since it was noted.
     fn large(&mut self, alloc: Global, said: &Words) -> Words {
-        let Some(project) = &mut self.project else {
+        let Some(tree) = &mut self.tree else {
             return Words::none(alloc, RowFault::Memory);
         };
-        let Ok(config) = project.note(alloc) else {
+        let Ok(config) = tree.note(alloc) else {
             return Words::none(alloc, RowFault::Memory);
         };
-        match grow(alloc, project, said.path_at(alloc, 0)) {
-            Ok(()) => shown_alone(alloc, &project.refresh(alloc, &config)),
+        match grow(alloc, tree, said.path_at(alloc, 0)) {
+            Ok(()) => shown_alone(alloc, &tree.refresh(alloc, &config)),
             Err(fault) => Words::none(alloc, fault),
         }
     }
 }
 
 /// What a refresh gave beside what reading all folders gives; it is kept where there is no fault.
-fn compared(alloc: Global, project: &mut Project, found: Result<Refreshed, RefreshFault>) -> Words {
-    let words = beside_whole(alloc, project, &found);
+fn compared(alloc: Global, tree: &mut Tree, found: Result<Refreshed, RefreshFault>) -> Words {
+    let words = beside_whole(alloc, tree, &found);
     match found {
-        Ok(given) => kept(alloc, project, given, words),
+        Ok(given) => kept(alloc, tree, given, words),
         Err(_fault) => words,
     }
 }
 
 /// What a refresh gave beside what reading all folders gives.
-fn beside_whole(
-    alloc: Global,
-    project: &Project,
-    found: &Result<Refreshed, RefreshFault>,
-) -> Words {
-    match project.sources(alloc) {
+fn beside_whole(alloc: Global, tree: &Tree, found: &Result<Refreshed, RefreshFault>) -> Words {
+    match tree.sources(alloc) {
         Ok(sources) => shown(alloc, found, &read_folders(alloc, &sources)),
         Err(_) => Words::none(alloc, RowFault::Memory),
     }
 }
 
 /// Keeps what a refresh gave.
-fn kept(alloc: Global, project: &mut Project, given: Refreshed, words: Words) -> Words {
-    match project.keep(alloc, given) {
+fn kept(alloc: Global, tree: &mut Tree, given: Refreshed, words: Words) -> Words {
+    match tree.keep(alloc, given) {
         Ok(()) => words,
         Err(_) => Words::none(alloc, RowFault::Memory),
     }
 }
 
 /// Makes a file too large.
-fn grow(alloc: Global, project: &mut Project, path: Path) -> Result<(), RowFault> {
+fn grow(alloc: Global, tree: &mut Tree, path: Path) -> Result<(), RowFault> {
     let content = Bytes::new(zeros(alloc)?);
-    match project.site.edit(alloc, path, Some(content)) {
+    match tree.site.edit(alloc, path, Some(content)) {
         Ok(()) => Ok(()),
         Err(_) => Err(RowFault::OtherKind),
     }

@@ -1,4 +1,4 @@
-//! A project: the files of a site in memory, and what is kept of them.
+//! The files of a site in memory, and what is kept of them.
 ghost use Rattle.std.specs.Prelude.{IsTrue, IfOk};
 ghost use Rattle.std.specs.FinMap as finite;
 ghost use Rattle.tup_path.specs.Order.{by_names};
@@ -12,17 +12,17 @@ use tup_refresh::{RefreshFault, Refreshed, refresh};
 use tup_scan::{Seen, Still, scan};
 use tup_site::{MemRefused, MemSite};
 
-/// A project: the files of a site in memory, and the graph of a store.
+/// The files of a site in memory, and the graph of a store.
 #[derive(Drop)]
-pub(crate) struct Project {
+pub(crate) struct Tree {
     pub site: MemSite,
     pub nodes: Nodes,
 }
 
-impl Project {
+impl Tree {
     /// No files, and the graph of a new store.
-    pub(crate) fn new(alloc: Global) -> Result<Project, MemRefused> {
-        Ok(Project {
+    pub(crate) fn new(alloc: Global) -> Result<Tree, MemRefused> {
+        Ok(Tree {
             site: MemSite::new(alloc, Vec::new(alloc), Vec::new(alloc))?,
             nodes: Nodes::empty(alloc),
         })
