@@ -20,3 +20,5 @@ pub mod Placing
 pub mod Making
 pub mod Ended
 pub mod Finished
+pub mod Seeing
+pub mod Draining

@@ -59,6 +59,16 @@ impl<S: Site, R: Runner> Board<S, R> {
         }
     }
 
+    /// Whether a seat runs a rule whose command was denied nothing.
+    pub(crate) fn goes_on(&self, seat: u32) -> bool
+        ensures { IsTrue result ↔ GoesOn (course_of self.now) seat }
+    {
+        match self.course.running(seat) {
+            Some(running) => running.denied.is_none(),
+            None => false,
+        }
+    }
+
     /// The rule that a seat runs.
     pub(crate) fn rule_of<'p>(&self, plan: &'p Plan, seat: u32) -> &'p Rule
         requires plan { plan.now ≡ plan_of self.now }

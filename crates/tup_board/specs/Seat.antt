@@ -1,0 +1,69 @@
+-- What a command sees of a board from its seat (own).
+use Rattle.std.specs.Prelude.{◌≡◌, ◌≢◌, ◌⊎◌, ℕ, true, false, Bool, List, [], ◌∷◌, ◌++◌, Option, None, Some, All, IsTrue, option_map}
+use Rattle.tup_stamp.specs.declared.Stamp.{Stamp}
+use Rattle.tup_runner.specs.Next.{Asks}
+use Rattle.tup_runner.specs.Refusal.{Refusal}
+use Rattle.tup_runner.specs.declared.fault.ViewFailed.{ViewFailed}
+use Rattle.tup_runner.specs.declared.fault.ViewFailed.TheVariants.{Denied, Fault, Memory}
+use Rattle.tup_site.specs.declared.site.Site.{Ghosts as Site}
+use Rattle.tup_access.specs.declared.verdict.Verdict.{Verdict}
+use Rattle.tup_board.specs.declared.seat.Refused.{Refused}
+use Rattle.tup_core.specs.declared.event.CoreEvent.{CoreEvent}
+use Rattle.tup_core.specs.declared.event.CoreEvent.TheVariants.{Claim, Ask, Deny, Finish, Stop}
+use Rattle.tup_core.specs.declared.running.Running.{Running}
+use Rattle.tup_core.specs.Run.{claims}
+use Rattle.tup_board.specs.Board.{BoardState, state}
+use Rattle.tup_board.specs.Calls.{AreStamped, AreKnown}
+
+-- the seat at which an event happened
+abbrev pub seat_of : CoreEvent → ℕ
+seat_of (Claim seat rule) = seat
+seat_of (Ask seat text answer) = seat
+seat_of (Deny seat text verdict) = seat
+seat_of (Finish seat given files) = seat
+seat_of (Stop seat cause) = seat
+
+-- whether the files couldn't be reached
+abbrev pub has_failed : Option Refusal → Bool
+has_failed None = false
+has_failed (Some refusal) = elim refusal.why [ Denied ↦ false | Fault ↦ true | Memory ↦ true ]
+
+-- only the seat's own events were added, and no claim among them; the opening and what other seats run are as they were
+pub record IsFromSeat {S : Type 0} (seat : ℕ) (old new : BoardState S) : Type 0 where
+  pub opening : new.opening ≡ old.opening
+  pub events : List CoreEvent
+  pub adds : new.history ≡ old.history ++ events
+  pub own : All (λ event. seat_of event ≡ seat) events
+  pub none_claimed : claims events ≡ []
+  pub others : (other : ℕ) → other ≢ seat → (state new).seats other ≡ (state old).seats other
+
+-- what a view has refused, as contracts see it
+abbrev pub refusal_of : Option Refused → Option Refusal
+refusal_of refused = option_map (λ (it : Refused). record { text = it.text.value; why = it.why }) refused
+
+-- a command was denied a text, which its view refused so
+pub record IsDenial (refusal : Option Refusal) (denied : Option (List ℕ × Verdict)) : Type 0 where
+  pub text : List ℕ
+  pub verdict : Verdict
+  pub refused : refusal ≡ Some (record { text = text; why = Denied })
+  pub is : denied ≡ Some (text, verdict)
+
+-- the command that a seat ran asked just this more, and was answered so; it was denied no more than its view refused
+pub record HasAsked {S : Type 0} (site : Site S) (seat : ℕ) (was : Running) (asks : Asks) (refusal : Option Refusal) (new : BoardState S) : Type 0 where
+  pub is : Running
+  pub more : List (List ℕ × Option Stamp)
+  pub runs : (state new).seats seat ≡ Some is
+  pub same : is.rule ≡ was.rule
+  pub asked : is.asks ≡ was.asks ++ more
+  pub stamps : AreStamped more asks
+  pub known : IsTrue site.tells → AreKnown (site.known new.site) asks
+  pub denied : (is.denied ≡ was.denied) ⊎ IsDenial refusal is.denied
+
+-- from one state of a board to another the command of a seat came by these asks, unless the files couldn't be reached: then the
+-- seat runs nothing. Once a text was refused nothing more happens.
+pub record CameBy {S : Type 0} (site : Site S) (seat : ℕ) (old : BoardState S) (was : Option Refusal) (asks : Asks) (new : BoardState S) (is : Option Refusal) : Type 0 where
+  pub from : IsFromSeat seat old new
+  pub known : IsTrue site.tells → site.known new.site ≡ site.known old.site
+  pub stays : (was ≡ None) ⊎ ((is ≡ was) × (new ≡ old))
+  pub asked : has_failed is ≡ false → (running : Running) → (state old).seats seat ≡ Some running → HasAsked site seat running asks is new
+  pub left : has_failed is ≡ true → has_failed was ≡ false → (state new).seats seat ≡ None

@@ -1,0 +1,138 @@
+//! A whole update on one thread.
+ghost use Rattle.std.specs.Prelude.{◌≡◌, ◌≢◌, ◌++◌, ℕ, List, None, Some, Err, false, slice_get, IfOk, IsTrue};
+ghost use Rattle.tup_rule.specs.declared.rule.Rule.{Rule as RuleValue};
+ghost use Rattle.tup_core.specs.Sound.{IsAcyclic};
+ghost use Rattle.tup_core.specs.declared.event.CoreEvent.{CoreEvent as CoreEventValue};
+
+use crate::answers::Drained;
+use crate::board::Board;
+use crate::seat::SeatView;
+use std::alloc::Global;
+use tup_core::{Cause, Plan};
+use tup_course::Claimed;
+use tup_ground::BoardFault;
+use tup_runner::{Report, RunFailed, Runner, perform};
+use tup_site::Site;
+
+impl<S: Site, R: Runner> Board<S, R> {
+    ghost use Rattle.tup_board.specs.Board.{course_of, plan_of, state};
+    ghost use Rattle.tup_course.specs.Course.{NoneRuns};
+    ghost use Rattle.tup_board.specs.Calls.{command_of, Drains, HasFailed, HasRun, HasRunCause, IsOver, IsReportOf, MeansDenied, RanAll, RunsOne, StartsAlone};
+    ghost use Rattle.tup_board.specs.Seat.{IsFromSeat};
+    ghost use Rattle.tup_runner.specs.Report.{asks_of};
+    ghost use Rattle.tup_runner.specs.Run.{Appends, CountsFaults as RunnerCounts};
+
+    /// Runs all that can be run, one rule after another, at seat 0, while no seat runs a rule.
+    ///
+    /// `Done` comes just where nothing is stopped and no verdict is bad: then, if no rule waits for itself, no rule is
+    /// pending any more. `Left` with `Bad` comes just where a verdict is bad and nothing was stopped for another cause
+    /// before, and `Left` with another cause where that was the first of a stop. By itself it stops only for a failure of
+    /// its runner, and for want of memory.
+    pub fn drain(&mut self, alloc: Global, plan: &Plan, runner: &mut R) -> Drained
+        requires plan { plan.now ≡ plan_of self.old }
+        requires none_runs { NoneRuns (course_of self.old) }
+        ensures drains { Drains (state self.new) result }
+        ensures done { IsAcyclic plan.now.rules → result ≡ Drained.Done
+            → (number : ℕ) → (state self.new).pending number ≡ false }
+        ensures over { IsOver self.new }
+        ensures opening { self.new.opening ≡ self.old.opening }
+        ensures ran { (events : List CoreEventValue) → self.new.history ≡ self.old.history ++ events
+            → IsTrue R.tells_ran
+            → RanAll plan.now events (R.ran runner.old) (R.ran runner.new) result }
+        ensures history { (events : List CoreEventValue)
+            × (self.new.history ≡ self.old.history ++ events) }
+        ensures cause { HasRunCause (state self.old).stopped
+            (R.faults runner.old) (R.faults runner.new) result }
+    {
+        for _ in 0..=plan.reach.len() {
+            match self.claim(plan, 0) {
+                Claimed::Rule(rule) => self.run(alloc, plan, rule, runner),
+                Claimed::Wait | Claimed::Over => return self.drained(),
+            }
+        }
+        self.drained()
+    }
+
+    /// What came of an update that is over.
+    fn drained(&self) -> Drained
+        ensures { Drains (state self.now) result }
+    {
+        match self.course.stopped() {
+            Some(cause) => Drained::Left(cause),
+            None if self.course.has_bad() => Drained::Left(Cause::Bad),
+            None => Drained::Done,
+        }
+    }
+
+    /// Runs a rule that seat 0 has claimed.
+    fn run(&mut self, alloc: Global, plan: &Plan, rule: u32, runner: &mut R)
+        requires plan { plan.now ≡ plan_of self.old }
+        requires starts { StartsAlone self.old rule }
+        ensures one { RunsOne self.old self.new }
+        ensures ran { IsTrue R.tells_ran → (it : RuleValue)
+            → slice_get plan.now.rules rule ≡ Some it
+            → HasRun (command_of it) (R.ran runner.old) (R.ran runner.new) (state self.new).stopped }
+        ensures cause { HasFailed (R.faults runner.old) (R.faults runner.new)
+            (state self.new).stopped }
+    {
+        match self.performed(alloc, plan, rule, runner) {
+            Ok(report) => self.end(alloc, plan, &report),
+            Err(RunFailed::Denied) => {
+                self.finish_denied(plan, 0);
+            }
+            Err(RunFailed::View) => {} // the board has stopped
+            Err(RunFailed::Fault) => self.stop(plan, 0, Cause::Run),
+            Err(RunFailed::Memory) => self.stop(plan, 0, Cause::Memory),
+        }
+    }
+
+    /// The report of the command of a rule that seat 0 runs.
+    fn performed(
+        &mut self,
+        alloc: Global,
+        plan: &Plan,
+        rule: u32,
+        runner: &mut R,
+    ) -> Result<Report<R>, RunFailed>
+        requires plan { plan.now ≡ plan_of self.old }
+        requires starts { StartsAlone self.old rule }
+        ensures from { IsFromSeat 0 self.old self.new }
+        ensures report { IfOk result (λ report. IsReportOf S.Site.own self.new 0
+            report.dir report.text (asks_of report)) }
+        ensures denied { result ≡ Err RunFailed.Denied
+            → MeansDenied S.Site.own R.Runner.own self.new 0 }
+        ensures view { result ≡ Err RunFailed.View → (state self.new).seats 0 ≡ None }
+        ensures going { result ≢ Err RunFailed.View → (state self.new).stopped ≡ None }
+        ensures ran { IsTrue R.tells_ran → (it : RuleValue)
+            → slice_get plan.now.rules rule ≡ Some it
+            → Appends (command_of it) (R.ran runner.old) (R.ran runner.new) result }
+        ensures cause { RunnerCounts (R.faults runner.old) (R.faults runner.new) result }
+    {
+        let it = &plan.rules.as_slice()[rule as usize];
+        let mut view = SeatView {
+            board: self,
+            plan,
+            seat: 0,
+            own: it.outputs.as_slice(),
+            refused: None,
+        };
+        perform(alloc, runner, &it.dir, &it.text, &mut view)
+    }
+
+    /// Ends the command of seat 0.
+    fn end(&mut self, alloc: Global, plan: &Plan, report: &Report<R>)
+        requires plan { plan.now ≡ plan_of self.old }
+        requires report { IsReportOf S.Site.own self.old 0 report.now.dir report.now.text
+            (asks_of report.now) }
+        requires going { (state self.old).stopped ≡ None }
+        ensures from { IsFromSeat 0 self.old self.new }
+        ensures ends { (state self.new).seats 0 ≡ None }
+        ensures other_cause { (state self.new).stopped ≢ Some Cause.Run }
+    {
+        match self.finish(alloc, plan, 0, report) {
+            Ok(_) => {}
+            Err(BoardFault::Memory) => self.stop(plan, 0, Cause::Memory),
+            Err(_) => {} // the board has stopped
+        }
+    }
+}
