@@ -78,10 +78,6 @@ module _ {S : Type 0} (b : BoardState S) (seat : ℕ) (text : List ℕ) where
     sym (ap (λ (own : Bool). if own then None else (state b).files for_it.path) (ap (λ (r : Rule). writes r for_it.path) (same_rule_at (course_of b) seat goes.it for_it.it) ∙ for_it.own)),
   )
 
-  pub can_deny : (it : GoesOn (course_of b) seat) (verdict : Verdict) → access (plan_of b).rules it.it.rule (length it.it.running.asks) text ≡ No verdict
-      → CanDeny (plan_of b) (state b) seat text verdict
-  can_deny goes verdict refused = (goes.it.running, goes.it.rule, goes.it.runs, goes.granted, refused)
-
 -- ---- a board by its parts
 module _ {S R : Type 0} (site : Site S) (runner : Runner R) (course : CourseState) (first_graph graph : Held) (first_site s : S) (lost : Option Lost)
     (given : BoardState S) (files : course.files ≡ finite.entries first_graph.nodes.seen) (sound : IsSound site runner (board_at site runner course first_graph graph first_site s lost course))
@@ -96,9 +92,6 @@ module _ {S R : Type 0} (site : Site S) (runner : Runner R) (course : CourseStat
   seen_is : course ≡ course_of given
   seen_is = course_is site runner course first_graph graph first_site s lost given files sound view
 
-  given_sound : IsSound site runner given
-  given_sound = sound_seen site runner (at course) given sound view
-
   pub seats_seen : (seat : ℕ) → (now course).seats seat ≡ (state given).seats seat
   seats_seen seat = ap (λ (c : CourseState). (now c).seats seat) seen_is
 
@@ -109,31 +102,12 @@ module _ {S R : Type 0} (site : Site S) (runner : Runner R) (course : CourseStat
   pub running_seen : (seat : ℕ) (running : Running) → (now course).seats seat ≡ Some running → (it : RunsRule (course_of given) seat) → it.running ≡ running
   running_seen seat running here it = same_Some _ _ (sym it.runs.here ∙ sym (seats_seen seat) ∙ here)
 
-  pub rule_seen : (seat : ℕ) (running : Running) → (now course).seats seat ≡ Some running → (it : RunsRule (course_of given) seat) → slice_get (plan_of given).rules running.rule ≡ Some it.rule
-  rule_seen seat running here it = ap (λ (r : Running). slice_get (plan_of given).rules r.rule) (sym (running_seen seat running here it)) ∙ it.runs.placed
-
   -- what it may ask
   pub access_seen : (seat : ℕ) (rules : List Rule) (text : List ℕ) (found : Access) → ((it : RunsRule course seat) → found ≡ access rules it.rule (length it.running.asks) text)
       → (it : RunsRule (course_of given) seat) → found ≡ access rules it.rule (length it.running.asks) text
   access_seen seat rules text found is = subst (λ (c : CourseState). (it : RunsRule c seat) → found ≡ access rules it.rule (length it.running.asks) text) seen_is is
 
-  module _ (plan : Plan) (plan_is : plan ≡ plan_of given) (seat : ℕ) (running : Running) (here : (now course).seats seat ≡ Some running) (it : RunsRule (course_of given) seat) (rules : List Rule) (rules_are : rules ≡ plan.rules) where
-    placed_there : slice_get rules running.rule ≡ Some it.rule
-    placed_there = ap (λ (l : List Rule). slice_get l running.rule) (rules_are ∙ ap (λ (p : Plan). p.rules) plan_is) ∙ rule_seen seat running here it
-
-    pub place_within : running.rule < length rules
-    place_within = slice_get_within rules running.rule it.rule placed_there
-
-    pub rule_there : (rule : Rule) → rule ≡ get_or rules running.rule rule → rule ≡ it.rule
-    rule_there rule is = same_Some _ _ (sym (slice_get_read rules (length rules) running.rule rule refl place_within is) ∙ placed_there)
-
-  pub none_runs : (seat : ℕ) → (now course).seats seat ≡ None → RunsRule (course_of given) seat → ⊥
-  none_runs seat none it = none-some it.running (sym none ∙ seats_seen seat ∙ it.runs.here)
-
-  -- ---- a seat that runs a rule may stop
-  pub one_stop : (seat : ℕ) → RunsRule (course_of given) seat → (now course).seats seat ≡ None → (now course).stopped ≡ None
-  one_stop seat it none = absurd (none_runs seat none it)
-
+  -- what may happen there
   pub enabled_there : (event : CoreEvent) → IsEnabled (plan_of given) (state given) event → IsEnabled course.plan (now course) event
   enabled_there event enabled = to_course site runner course first_graph graph first_site s lost given files sound view (λ c. IsEnabled c.plan (now c) event) enabled
 
@@ -158,45 +132,6 @@ module _ {S R : Type 0} (site : Site S) (runner : Runner R) (course : CourseStat
   bad_kept seat verdict new is more =
       kept_more site runner course first_graph graph first_site s lost given files sound view new (Finish seat verdict []) is
       (subst (λ (b : BoardState S). IsSound site runner (with_history b (b.history ++ Finish seat verdict [] ∷ []))) (sym view) more)
-
-  -- what callers see of one more event, and of none
-  pub one_seen : (new : CourseState) (event : CoreEvent) → new ≡ with_events course (event ∷ []) → Keeps new → at new ≡ with_history given (given.history ++ event ∷ [])
-  one_seen new event is kept = added_seen site runner course first_graph graph first_site s lost given files sound view new event is kept
-
-  pub none_seen : at course ≡ with_history given (given.history ++ [])
-  none_seen = view ∙ ap (λ (h : List CoreEvent). with_history given h) (sym (append-nil given.history))
-
-  pub same_seen : (new : CourseState) → new ≡ course → at new ≡ given
-  same_seen new is = ap at is ∙ view
-
-  -- ---- asks
-  pub memory_seen : (seat : ℕ) (text : List ℕ) (result : Result Asked BoardFault) (new : CourseState) → result ≡ Err fault_by.Memory → new ≡ course → Asks site seat text given result (at new)
-  memory_seen seat text result new is same =
-      subst (λ (r : Result Asked BoardFault). Asks site seat text given r (at new)) (sym is)
-      (subst (λ (b : BoardState S). Asks site seat text given (Err fault_by.Memory) b) (sym (same_seen new same)) (memory_asks site given seat text))
-
-  pub denied_seen : (seat : ℕ) (text : List ℕ) (verdict : Verdict) (new : CourseState) → IsEnabled (plan_of given) (state given) (Deny seat text verdict) → new ≡ with_events course (Deny seat text verdict ∷ [])
-      → Asks site seat text given (Ok (Denied verdict)) (at new)
-  denied_seen seat text verdict new can is =
-      subst (λ (b : BoardState S). Asks site seat text given (Ok (Denied verdict)) b)
-      (sym (one_seen new (Deny seat text verdict) is (deny_kept site runner course first_graph graph first_site s lost given files sound view seat text verdict new can is)))
-      (denied_asks site given seat text verdict can)
-
-  pub own_seen : (seat : ℕ) (text : List ℕ) (new : CourseState) → GoesOn (course_of given) seat → AsksForOwn given seat text → new ≡ with_events course (Ask seat text None ∷ [])
-      → Asks site seat text given (Ok Absent) (at new)
-  own_seen seat text new goes own is =
-      subst (λ (b : BoardState S). Asks site seat text given (Ok Absent) b)
-      (sym (one_seen new (Ask seat text None) is (ask_kept site runner course first_graph graph first_site s lost given files sound view seat text None new (can_ask_own given seat text goes own) is)))
-      (own_asks site given seat text own)
-
-  pub told_seen : (seat : ℕ) (text : List ℕ) (path : Names) (found : Option Content) (new : CourseState) → GoesOn (course_of given) seat → AsksFor given seat text path
-      → option_map stamp found ≡ (state given).files path → (IsTrue site.tells → found ≡ finite.get (site.world given.site).tree path) → new ≡ with_events course (Ask seat text (option_map stamp found) ∷ [])
-      → Asks site seat text given (Ok (told_of found)) (at new)
-  told_seen seat text path found new goes for_it stamps there is =
-      subst (λ (b : BoardState S). Asks site seat text given (Ok (told_of found)) b)
-      (sym (one_seen new (Ask seat text (option_map stamp found)) is
-      (ask_kept site runner course first_graph graph first_site s lost given files sound view seat text (option_map stamp found) new (can_ask given seat text path goes (option_map stamp found) for_it stamps) is)))
-      (told_asks site given seat text path for_it found there)
 
 -- what a site answered that couldn't read a file
 abbrev found_not : BoardFault → Result (Option Content) BoardFault
@@ -237,18 +172,10 @@ module _ {S R : Type 0} (site : Site S) (runner : Runner R) (course : CourseStat
   same_known : IsTrue site.tells → site.known read.site ≡ site.known given.site
   same_known tells = reads.known tells ∙ ap site.known (sym site_is)
 
-  -- what was said of the board before is said of the one after
-  pub goes_after : (seat : ℕ) → GoesOn (course_of given) seat → GoesOn (course_of after_read) seat
-  goes_after seat goes = subst (λ (b : BoardState S). GoesOn (course_of b) seat) (sym read_seen) (record { it = record { running = goes.it.running; rule = goes.it.rule; runs = goes.it.runs }; granted = goes.granted })
-
   pub asks_after : (seat : ℕ) (text : List ℕ) (path : Names) → AsksFor given seat text path → AsksFor after_read seat text path
   asks_after seat text path for_it =
       subst (λ (b : BoardState S). AsksFor b seat text path) (sym read_seen)
       (record { it = record { running = for_it.it.running; rule = for_it.it.rule; runs = for_it.it.runs }; may = for_it.may; foreign = for_it.foreign })
-
-  pub found_after : (path : Names) (found : Option Content) → (IsTrue site.tells → found ≡ finite.get (site.world s).tree path) → IsTrue site.tells
-      → found ≡ finite.get (site.world after_read.site).tree path
-  found_after path found is tells = is tells ∙ ap (λ (w : World). finite.get w.tree path) (sym (reads.world tells))
 
   -- ---- what was read is told
   pub told_after : (seat : ℕ) (text : List ℕ) (path : Names) → AsksFor given seat text path → (result : Result Asked BoardFault) (new : BoardState S) → site.faults read.site ≡ site.faults s → Asks site seat text after_read result new

@@ -1,4 +1,4 @@
--- What an ask does, by what its parts did: a refusal, a text that is denied, an own output, a file that was read.
+-- What an ask does once a file was looked at: it couldn't be read, or it was read and told.
 use Rattle.std.proofs.Common.{◌≡◌, ◌≢◌, ℕ, ◌≤◌, List, [], ◌∷◌, ◌++◌, length, Option, None, Some, Result, Ok, Err, refl, sym, ap, ◌∙◌, subst, arith}
 use Rattle.std.specs.Prelude.{IsTrue, slice_get}
 use Rattle.std.specs.FinMap as finite
@@ -46,17 +46,7 @@ same_rule_at course seat it other =
 same_path_asked : {one other : Names} → Yes one ≡ Yes other → one ≡ other
 same_path_asked e = cc
 
-yes_no : (path : Names) (verdict : Verdict) → Yes path ≡ No verdict → ⊥
-yes_no path verdict e = cc
-
--- counts where nothing was called that may fail
-counts_none : {T : Type 0} (count : ℕ) (result : Result T BoardFault) → result ≢ Err ByVisit → CountsFaults count count None result
-counts_none count result other = record { later = omega arith; site = λ e. absurd (other e); steady = λ _. refl }
-
 module _ {S : Type 0} (site : Site S) (b : BoardState S) (seat : ℕ) (text : List ℕ) where
-  abbrev with_event : CoreEvent → BoardState S
-  with_event event = with_history b (b.history ++ event ∷ [])
-
   -- what a rule's command may ask, it may as whatever the seat runs
   may_at : (it other : RunsRule (course_of b) seat) (path : Names) → access (plan_of b).rules it.rule (length it.running.asks) text ≡ Yes path
       → access (plan_of b).rules other.rule (length other.running.asks) text ≡ Yes path
@@ -68,71 +58,7 @@ module _ {S : Type 0} (site : Site S) (b : BoardState S) (seat : ℕ) (text : Li
       → access (plan_of b).rules other.rule (length other.running.asks) text ≡ Yes named → named ≡ path
   one_path it other path named may also = same_path_asked (sym also ∙ may_at it other path may)
 
-  -- ---- want of memory
-  pub memory_asks : Asks site seat text b (Err Memory) b
-  memory_asks = record {
-    asked = record { adds = ap (λ (h : List CoreEvent). with_history b h) (sym (append-nil b.history)); never_full = λ e. cc };
-    told = λ tells path for_it. tt;
-    for_it = tt;
-    same = λ tells. refl;
-    crash = λ tells. at_rest site.moment site.left_since b.site NoStep;
-    known = λ tells. refl;
-    cause = counts_none (site.faults b.site) (Err Memory) (λ e. cc);
-  }
-
-  -- ---- a text is denied
-  pub denied_asks : (verdict : Verdict) → CanDeny (plan_of b) (state b) seat text verdict → Asks site seat text b (Ok (Denied verdict)) (with_event (Deny seat text verdict))
-  denied_asks verdict can = record {
-    asked = record { adds = refl; never_full = λ e. cc };
-    told = λ tells path for_it. yes_no path verdict (sym (may_at for_it.it (record { running = can.0; rule = can.1; runs = can.2 }) path for_it.may) ∙ can.4);
-    for_it = tt;
-    same = λ tells. refl;
-    crash = λ tells. at_rest site.moment site.left_since b.site NoStep;
-    known = λ tells. refl;
-    cause = counts_none (site.faults b.site) (Ok (Denied verdict)) (λ e. cc);
-  }
-
-  -- ---- an own output is absent
-  pub own_asks : AsksForOwn b seat text → Asks site seat text b (Ok Absent) (with_event (Ask seat text None))
-  own_asks own = record {
-    asked = record { adds = refl; never_full = λ e. cc };
-    told = λ tells path for_it.
-        absurd (true≢false (sym own.own
-        ∙ ap (λ (r : Rule). writes r own.path) (same_rule_at (course_of b) seat own.it for_it.it)
-        ∙ ap (writes for_it.it.rule) (one_path for_it.it own.it path own.path for_it.may own.may) ∙ for_it.foreign));
-    for_it = tt;
-    same = λ tells. refl;
-    crash = λ tells. at_rest site.moment site.left_since b.site NoStep;
-    known = λ tells. refl;
-    cause = counts_none (site.faults b.site) (Ok Absent) (λ e. cc);
-  }
-
   module _ (path : Names) (asks_for : AsksFor b seat text path) where
-    -- ---- a file that was read is told
-    told_is : (found : Option Content) (tree : Tree) (named : Names) → found ≡ finite.get tree path → named ≡ path → IsToldOf tree named (Ok (told_of found))
-    told_is (Some content) tree named is same = ap (finite.get tree) same ∙ sym is
-    told_is None tree named is same = ap (finite.get tree) same ∙ sym is
-
-    told_events : (found : Option Content) → ask_events seat text (Ok (told_of found)) ≡ Ask seat text (option_map stamp found) ∷ []
-    told_events (Some content) = refl
-    told_events None = refl
-
-    for_told : (found : Option Content) → HasAskedFor seat text b (Ok (told_of found))
-    for_told (Some content) = (path, asks_for)
-    for_told None = tt
-
-    pub told_asks : (found : Option Content) → (IsTrue site.tells → found ≡ finite.get (site.world b.site).tree path)
-        → Asks site seat text b (Ok (told_of found)) (with_event (Ask seat text (option_map stamp found)))
-    told_asks found is = record {
-      asked = record { adds = ap (λ (h : List CoreEvent). with_history b (b.history ++ h)) (sym (told_events found)); never_full = λ e. cc };
-      told = λ tells named for_it. told_is found (site.world b.site).tree named (is tells) (one_path asks_for.it for_it.it path named asks_for.may for_it.may);
-      for_it = for_told found;
-      same = λ tells. refl;
-      crash = λ tells. at_rest site.moment site.left_since b.site NoStep;
-      known = λ tells. refl;
-      cause = counts_none (site.faults b.site) (Ok (told_of found)) (λ e. cc);
-    }
-
     -- ---- a file that couldn't be read
     module _ (visited : S) (same : IsTrue site.tells → site.world visited ≡ site.world b.site)
         (crash : IsTrue site.tells → GoesOn site.moment site.left_since b.site visited NoStep) (known : IsTrue site.tells → site.known visited ≡ site.known b.site) where

@@ -194,10 +194,6 @@ module _ {S R : Type 0} (site : Site S) (runner : Runner R) (b given : BoardStat
       pub refused_true_here : (fault : BoardFault) → result ≡ Err fault → (IsTrue (is_fresh new.graph) → IsGraphOf (entries_in new.graph.table) new.graph.nodes) → IsTrueFault site now_refused seat fault
       refused_true_here = refused_true site runner b sound seat dir text asks ended report_here means files judged_so number run event good_so law_before present earlier knows_tree result new makes counts
 
-      -- the seat still runs its rule then
-      pub runs_still : RunsRule (course_of now_refused) seat
-      runs_still = record { running = good_so.kept.running; rule = good_so.kept.rule; runs = good_so.kept.runs }
-
       pub refused_seen : (fault : BoardFault) → result ≡ Err fault → (after : BoardState S) → after ≡ with_history now_refused (b.history ++ stops_by seat fault) → Ends site seat ended given (Err fault) after
       refused_seen fault refused after is =
           subst (Ends site seat ended given (Err fault)) (sym is)

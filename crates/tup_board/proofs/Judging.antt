@@ -118,21 +118,6 @@ module _ {S R : Type 0} (site : Site S) (runner : Runner R) (b : BoardState S) (
     pub bad_sound : (IsTrue runner.tells → EndsAfter (runner.next dir text) asks ended) → IsSound site runner (with_history b (b.history ++ Finish seat verdict [] ∷ []))
     bad_sound means = sound_bad site runner b sound seat it.running verdict it.runs.here bad bad_can (bad_honest means)
 
-    pub bad_ends : Ends site seat ended b (Ok verdict) (with_history b (b.history ++ Finish seat verdict [] ∷ []))
-    bad_ends = record {
-      finishes = (
-        [],
-        record { it = it; verdict_is = judged it; writes_are = sym (ap (map stamped) (bad_leaves it.rule ended (λ e. bad (judged it ∙ e)))) },
-        refl,
-        refl,
-        λ e. absurd (bad e),
-      );
-      lost = inl refl;
-      touches = record { opening = refl; bad = λ _. refl; good = λ told is. absurd (bad (judged is.0 ∙ is.1)) };
-      known = λ told content had. had;
-      cause = record { later = omega arith; site = λ e. cc; steady = λ _. refl };
-    }
-
 module _ {S : Type 0} (b : BoardState S) (seat : ℕ) (ended : Ended) (files : List (Names × Content)) (judged : AreFilesAt b seat ended files) where
   pub outputs_at : (it : RunsRule (course_of b) seat) → paths_of files ≡ it.rule.outputs
   outputs_at it = sym (ap (λ (j : Judged). paths_of j.files) (judged it)) ∙ (judge-LeavesOutputs it.rule ended).good (ap (λ (j : Judged). j.verdict) (judged it))

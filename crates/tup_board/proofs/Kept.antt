@@ -201,11 +201,6 @@ module _ {S R : Type 0} (site : Site S) (runner : Runner R) (course : CourseStat
     pub rest_seen : (new : CourseState) → KeepsBoard new → board_at new ≡ with_history given new.history
     rest_seen new kept = ap (λ (p : Plan). board_at (record new { plan = p })) kept.plan ∙ ap (λ (b : BoardState S). with_history b new.history) view
 
-    -- what callers see of one more event
-    pub added_seen : (new : CourseState) (event : CoreEvent) → new ≡ with_events course (event ∷ []) → KeepsBoard new → board_at new ≡ with_history given (given.history ++ event ∷ [])
-    added_seen new event is kept =
-        rest_seen new kept ∙ ap (λ (h : List CoreEvent). with_history given h) (ap (λ (c : CourseState). c.history) is ∙ ap (λ (b : BoardState S). b.history ++ event ∷ []) view)
-
     pub course_after : (new : CourseState) → KeepsBoard new → new ≡ course_of (board_at new)
     course_after new kept = ap (λ f. record new { files = f }) kept.files
 

@@ -1,6 +1,5 @@
 pub mod Sounds
 pub mod Openings
-pub mod Denied
 pub mod Records
 pub mod Kept
 pub mod WasRead

@@ -66,7 +66,8 @@ impl View for FileView<'_> {
     ghost asks = { λ _. [] };
 
     ghost came = { λ first some last. (last.sight ≡ first.sight)
-        × HasSeen first.sight.rules.now first.sight.rule.now first.sight.tree.now first.asked some last.asked };
+        × HasSeen first.sight.rules.now first.sight.rule.now first.sight.tree.now
+        first.asked some last.asked };
 
     ghost refusal = { λ view. denial view.denied };
 

@@ -25,7 +25,8 @@ impl View for Script {
 
     ghost came = { λ _ _ _. Unit {0} };
 
-    ghost refusal = { λ s. option_map {U = Refusal} (λ text. record { text = text; why = Denied }) s.denied };
+    ghost refusal = { λ s. option_map {U = Refusal}
+        (λ text. record { text = text; why = Denied }) s.denied };
 
     ghost outputs = { λ _. [] };
 

@@ -42,22 +42,63 @@ fn clean_tree(alloc: Global, project: &Project) -> Result<Files, RowFault> {
 /// Whether each order ends with these files.
 fn all_end_with(alloc: Global, project: &Project, said: &Words, tree: &Files) -> bool {
     for order in 0..said.number_at(1) {
-        match driven(alloc, project, said, order) {
-            Ok(update) if update.has(tree) => {}
-            Ok(_) => return false,
+        match ends_with(alloc, project, said, order, tree) {
+            Ok(true) => {}
+            Ok(false) => return false,
             Err(fault) => said.fail(fault),
         }
     }
     true
 }
 
-/// The end of an order.
-fn driven(alloc: Global, project: &Project, said: &Words, order: u64) -> Result<Update, RowFault> {
-    let mut machine = project.opening(alloc, reach_at(alloc, said, 2), true)?;
-    let mut update = Update::new(alloc, project)?;
-    update.add_seats(said.number_at(0));
-    run(alloc, &mut machine, &mut update, order)?;
-    update.ended()
+/// Whether an order ends with these files.
+fn ends_with(
+    alloc: Global,
+    project: &Project,
+    said: &Words,
+    order: u64,
+    tree: &Files,
+) -> Result<bool, RowFault> {
+    match project.opening(alloc, reach_at(alloc, said, 2), true) {
+        Ok(mut machine) => {
+            leads_to(alloc, project, said.number_at(0), &mut machine, order, tree)
+        }
+        Err(fault) => Err(fault),
+    }
+}
+
+/// Whether a core at its opening is led by an order to these files.
+fn leads_to(
+    alloc: Global,
+    project: &Project,
+    seats: u64,
+    machine: &mut Machine,
+    order: u64,
+    tree: &Files,
+) -> Result<bool, RowFault>
+    requires { IsOfPlan machine.old }
+{
+    match Update::new(alloc, project) {
+        Ok(mut update) => {
+            update.add_seats(seats);
+            ran(alloc, machine, &mut update, order, tree)
+        }
+        Err(_) => Err(RowFault::Memory),
+    }
+}
+
+/// Whether an update ends with these files.
+fn ran(
+    alloc: Global,
+    machine: &mut Machine,
+    update: &mut Update,
+    order: u64,
+    tree: &Files,
+) -> Result<bool, RowFault>
+    requires { IsOfPlan machine.old }
+{
+    run(alloc, machine, update, order)?;
+    update.ends_with(tree)
 }
 
 /// Seats take turns by the lots of an order, and the core has to take what happens in each.
@@ -74,7 +115,7 @@ fn run(
     for _ in 0..TURNS {
         lot = next_lot(lot);
         update.turn(alloc, lot >> 33, machine.first_ready());
-        take_all(alloc, machine, update.tell(alloc))?;
+        take_all(alloc, machine, &update.tell(alloc))?;
     }
     Ok(())
 }
@@ -86,12 +127,12 @@ fn next_lot(lot: u64) -> u64 {
 }
 
 /// Has the core take some events. `OtherKind` where it refuses one.
-fn take_all(alloc: Global, machine: &mut Machine, events: Vec<CoreEvent>) -> Result<(), RowFault>
+fn take_all(alloc: Global, machine: &mut Machine, events: &[CoreEvent]) -> Result<(), RowFault>
     requires { IsOfPlan machine.old }
     ensures { IsOfPlan machine.new }
 {
     for event in events {
-        if !machine.takes(alloc, &event)? {
+        if !machine.takes(alloc, event)? {
             return Err(RowFault::OtherKind);
         }
     }

@@ -9,19 +9,19 @@ use tup_stamp::{Stamp, stamp_of};
 /// The event that some words spell: its kind, its seat and what more it has.
 pub(crate) fn event(alloc: Global, words: &[Vec<u8>]) -> Result<CoreEvent, RowFault> {
     match words {
-        [kind, seat, more @ ..] => of_kind(alloc, kind, number(seat)?, more),
+        [kind, seat, more @ ..] => of_kind(alloc, str(kind)?, number(seat)?, more),
         _ => Err(RowFault::TooFew),
     }
 }
 
 /// An event of this kind, at this seat.
-fn of_kind(alloc: Global, kind: &[u8], seat: u32, more: &[Vec<u8>]) -> Result<CoreEvent, RowFault> {
+fn of_kind(alloc: Global, kind: &str, seat: u32, more: &[Vec<u8>]) -> Result<CoreEvent, RowFault> {
     match kind {
-        b"claim" => claim(seat, more),
-        b"ask" => ask(alloc, seat, more),
-        b"deny" => deny(alloc, seat, more),
-        b"finish" => finish(alloc, seat, more),
-        b"stop" => stop(seat, more),
+        "claim" => claim(seat, more),
+        "ask" => ask(alloc, seat, more),
+        "deny" => deny(alloc, seat, more),
+        "finish" => finish(alloc, seat, more),
+        "stop" => stop(seat, more),
         _ => Err(RowFault::OtherKind),
     }
 }
@@ -94,14 +94,42 @@ fn answer(content: &[u8]) -> Option<Stamp> {
 
 /// A verdict, and what it speaks of, which is `-` where it speaks of nothing.
 fn verdict(alloc: Global, kind: &[u8], of: &[u8]) -> Result<Verdict, RowFault> {
-    match kind {
-        b"good" => Ok(Verdict::Good),
-        b"failed" => Ok(Verdict::Failed(status(of)?)),
-        b"read" => Ok(Verdict::IllegalRead(text(alloc, of)?)),
-        b"write" => Ok(Verdict::IllegalWrite(text(alloc, of)?)),
-        b"unwritten" => Ok(Verdict::Unwritten(path(alloc, of)?)),
-        b"asks" => Ok(Verdict::TooManyReads),
+    match str(kind)? {
+        "good" => Ok(Verdict::Good),
+        "failed" => failed(of),
+        "read" => illegal_read(alloc, of),
+        "write" => illegal_write(alloc, of),
+        "unwritten" => unwritten(alloc, of),
+        "asks" => Ok(Verdict::TooManyReads),
         _ => Err(RowFault::OtherKind),
+    }
+}
+
+fn failed(of: &[u8]) -> Result<Verdict, RowFault> {
+    match status(of) {
+        Ok(status) => Ok(Verdict::Failed(status)),
+        Err(fault) => Err(fault),
+    }
+}
+
+fn illegal_read(alloc: Global, of: &[u8]) -> Result<Verdict, RowFault> {
+    match text(alloc, of) {
+        Ok(text) => Ok(Verdict::IllegalRead(text)),
+        Err(fault) => Err(fault),
+    }
+}
+
+fn illegal_write(alloc: Global, of: &[u8]) -> Result<Verdict, RowFault> {
+    match text(alloc, of) {
+        Ok(text) => Ok(Verdict::IllegalWrite(text)),
+        Err(fault) => Err(fault),
+    }
+}
+
+fn unwritten(alloc: Global, of: &[u8]) -> Result<Verdict, RowFault> {
+    match path(alloc, of) {
+        Ok(path) => Ok(Verdict::Unwritten(path)),
+        Err(fault) => Err(fault),
     }
 }
 
@@ -109,9 +137,16 @@ fn verdict(alloc: Global, kind: &[u8], of: &[u8]) -> Result<Verdict, RowFault> {
 fn stamps(alloc: Global, words: &[Vec<u8>]) -> Result<Stamps, RowFault> {
     let mut stamps = Items::new(alloc);
     for file in words.chunks(2) {
-        stamps.push(stamp(alloc, file)?)?;
+        add_stamp(alloc, &mut stamps, file)?;
     }
     Ok(stamps)
+}
+
+fn add_stamp(alloc: Global, stamps: &mut Stamps, file: &[Vec<u8>]) -> Result<(), RowFault> {
+    match stamp(alloc, file) {
+        Ok(stamp) => Ok(stamps.push(stamp)?),
+        Err(fault) => Err(fault),
+    }
 }
 
 /// A file with the stamp of its content.
@@ -124,13 +159,13 @@ fn stamp(alloc: Global, file: &[Vec<u8>]) -> Result<(Path, Stamp), RowFault> {
 
 /// Why an update stops.
 fn cause(word: &[u8]) -> Result<Cause, RowFault> {
-    match word {
-        b"bad" => Ok(Cause::Bad),
-        b"site" => Ok(Cause::Site),
-        b"large" => Ok(Cause::TooLarge(1)),
-        b"full" => Ok(Cause::Full),
-        b"run" => Ok(Cause::Run),
-        b"memory" => Ok(Cause::Memory),
+    match str(word)? {
+        "bad" => Ok(Cause::Bad),
+        "site" => Ok(Cause::Site),
+        "large" => Ok(Cause::TooLarge(1)),
+        "full" => Ok(Cause::Full),
+        "run" => Ok(Cause::Run),
+        "memory" => Ok(Cause::Memory),
         _ => Err(RowFault::OtherKind),
     }
 }

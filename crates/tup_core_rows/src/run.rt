@@ -4,32 +4,33 @@ ghost use Rattle.tup_core_rows.specs.Machine.{IsOfPlan};
 use crate::event::event;
 use crate::machine::Machine;
 use crate::project::{Project, reach_at};
+use crate::told::told;
 use std::alloc::Global;
 use tup_rows::{RowFault, Words};
 
-/// Takes the events of a row, each behind a `;`, up to the first that isn't enabled. The answer is
-/// its number, or `all`, and then the rules that are ready.
-pub(crate) fn run(alloc: Global, project: &Project, said: &Words) -> Words {
+/// Takes the events of a row, each behind a `;`, and answers a call then.
+pub(crate) fn run(alloc: Global, project: &Project, call: &str, said: &Words) -> Words {
     let keep_going = said.word_at(1) == b"keep".as_slice();
     match project.opening(alloc, reach_at(alloc, said, 0), keep_going) {
-        Ok(mut machine) => taken(alloc, &mut machine, said),
+        Ok(mut machine) => answer(alloc, &mut machine, call, said),
         Err(fault) => Words::none(alloc, fault),
     }
 }
 
-/// The answer of a row whose events a core takes.
-fn taken(alloc: Global, machine: &mut Machine, said: &Words) -> Words
+/// The answer of a row whose events a core takes. To all calls but `run` each event is enabled.
+fn answer(alloc: Global, machine: &mut Machine, call: &str, said: &Words) -> Words
     requires { IsOfPlan machine.old }
 {
     match first_refused(alloc, machine, said.as_slice()) {
-        Ok(Some(number)) => ready(alloc, machine, Words::shown(alloc, &number)),
-        Ok(None) => ready(alloc, machine, Words::word(alloc, b"all")),
+        Ok(None) => told(alloc, machine, call, said),
+        Ok(Some(number)) if call == "run" => ready(alloc, machine, Words::shown(alloc, &number)),
+        Ok(Some(_)) => Words::none(alloc, RowFault::OtherKind),
         Err(fault) => Words::none(alloc, fault),
     }
 }
 
 /// These words, and then the rules that are ready.
-fn ready(alloc: Global, machine: &Machine, mut words: Words) -> Words
+pub(crate) fn ready(alloc: Global, machine: &Machine, mut words: Words) -> Words
     requires { IsOfPlan machine.now }
 {
     machine.add_ready(alloc, &mut words);
@@ -37,7 +38,7 @@ fn ready(alloc: Global, machine: &Machine, mut words: Words) -> Words
 }
 
 /// The number of the first event that isn't enabled, from 1 on.
-pub(crate) fn first_refused(
+fn first_refused(
     alloc: Global,
     machine: &mut Machine,
     words: &[Vec<u8>],

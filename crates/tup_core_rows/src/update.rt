@@ -48,9 +48,8 @@ impl Update {
     /// Adds so many seats that run nothing.
     pub(crate) fn add_seats(&mut self, count: u64) {
         for _ in 0..count {
-            if self.seats.push(None).is_err() {
-                self.fail(RowFault::Memory);
-            }
+            let added = add(&mut self.seats, None);
+            self.note(added);
         }
     }
 
@@ -67,27 +66,25 @@ impl Update {
         mem::replace(&mut self.events, Vec::new(alloc))
     }
 
-    /// The update, unless it is worth nothing.
-    pub(crate) fn ended(self) -> Result<Update, RowFault> {
+    /// Whether its files are those of a tree, unless it is worth nothing.
+    pub(crate) fn ends_with(&self, tree: &Files) -> Result<bool, RowFault> {
         match self.fault {
             Some(fault) => Err(fault),
-            None => Ok(self),
+            None => Ok(are_those_of(&self.files, tree)),
         }
-    }
-
-    /// Whether its files are those of a tree.
-    pub(crate) fn has(&self, tree: &Files) -> bool {
-        are_those_of(&self.files, tree)
     }
 
     /// A seat goes on with its command, or claims the rule that is ready.
     fn turn_of(&mut self, alloc: Global, seat: u32, ready: Option<u32>) {
-        let next = match taken(&mut self.seats, seat) {
+        let next = self.next_of(alloc, seat, ready);
+        put_at(&mut self.seats, seat, next);
+    }
+
+    /// What a seat runs after its turn.
+    fn next_of(&mut self, alloc: Global, seat: u32, ready: Option<u32>) -> Option<Job> {
+        match taken(&mut self.seats, seat) {
             Some(job) => self.work(alloc, seat, job),
             None => self.claim(alloc, seat, ready),
-        };
-        if let Some(slot) = self.seats.get_mut(seat as usize) {
-            *slot = next;
         }
     }
 
@@ -106,63 +103,58 @@ impl Update {
 
     /// The next step of a seat's command, which is given back unless it was the last.
     fn work(&mut self, alloc: Global, seat: u32, mut job: Job) -> Option<Job> {
+        let goes_on = self.goes_on(alloc, seat, &mut job);
+        kept(job, goes_on)
+    }
+
+    /// Takes the next step of a command. Whether there may be one more.
+    fn goes_on(&mut self, alloc: Global, seat: u32, job: &mut Job) -> bool {
         match job.next(alloc) {
             Ok(Step::Ask(text)) => self.ask(alloc, seat, job, text),
-            Ok(Step::End(ended)) => {
-                self.end(alloc, seat, &job.rule, &ended);
-                None
-            }
-            Err(fault) => {
-                self.fail(fault);
-                None
-            }
+            Ok(Step::End(ended)) => self.end(alloc, seat, &job.rule, &ended),
+            Err(fault) => self.fails(fault),
         }
     }
 
     /// A command asks, and is answered, or ends by that.
-    fn ask(&mut self, alloc: Global, seat: u32, job: Job, text: Text) -> Option<Job> {
+    fn ask(&mut self, alloc: Global, seat: u32, job: &mut Job, text: Text) -> bool {
         match allowed(alloc, &job.rule, &self.made, &text, job.replies.len()) {
-            Ok(Access::Yes(path)) => Some(self.answer(seat, job, text, &path)),
-            Ok(Access::No(verdict)) => {
-                self.deny(alloc, seat, &text, verdict);
-                None
-            }
-            Err(_) => {
-                self.fail(RowFault::Memory);
-                None
-            }
+            Ok(Access::Yes(path)) => self.answer(seat, job, text, &path),
+            Ok(Access::No(verdict)) => self.deny(alloc, seat, &text, verdict),
+            Err(_) => self.fails(RowFault::Memory),
         }
     }
 
-    /// A command asks for a file that it may read.
-    fn answer(&mut self, seat: u32, mut job: Job, text: Text, path: &Path) -> Job {
+    /// A command asks for a file that it may read, and goes on.
+    fn answer(&mut self, seat: u32, job: &mut Job, text: Text, path: &Path) -> bool {
         let content = told(&job.rule, &self.files, path);
         let event = asking(seat, &text, content);
         let added = job.replies.add(text, content);
         self.happens(event);
         self.note(added);
-        job
+        true
     }
 
-    /// A command may not ask for a text, and this becomes of it.
-    fn deny(&mut self, alloc: Global, seat: u32, text: &Text, verdict: Verdict) {
+    /// A command may not ask for a text, and this becomes of it; it doesn't go on.
+    fn deny(&mut self, alloc: Global, seat: u32, text: &Text, verdict: Verdict) -> bool {
         self.happens(denial(seat, text, &verdict));
-        self.finish(alloc, seat, verdict, Items::new(alloc));
+        self.finish(alloc, seat, verdict, Items::new(alloc))
     }
 
-    /// A command ends, and is judged.
-    fn end(&mut self, alloc: Global, seat: u32, rule: &Rule, ended: &Ended) {
+    /// A command ends, and is judged; it doesn't go on.
+    fn end(&mut self, alloc: Global, seat: u32, rule: &Rule, ended: &Ended) -> bool {
         match judge(alloc, rule, ended) {
             Ok((verdict, written)) => self.finish(alloc, seat, verdict, written),
-            Err(_) => self.fail(RowFault::Memory),
+            Err(_) => self.fails(RowFault::Memory),
         }
     }
 
-    /// A command's rule is done, and its files stand.
-    fn finish(&mut self, alloc: Global, seat: u32, verdict: Verdict, written: Files) {
+    /// A command's rule is done, and its files stand; it doesn't go on.
+    fn finish(&mut self, alloc: Global, seat: u32, verdict: Verdict, written: Files) -> bool {
         self.happens(finishing(alloc, seat, verdict, &written));
         let put = put_all(&mut self.files, written);
         self.note(put);
+        false
     }
 
     /// Notes what happens, if there was memory for it.
@@ -175,9 +167,8 @@ impl Update {
 
     /// Adds what happens.
     fn add_event(&mut self, event: CoreEvent) {
-        if self.events.push(event).is_err() {
-            self.fail(RowFault::Memory);
-        }
+        let added = add(&mut self.events, event);
+        self.note(added);
     }
 
     /// Notes want of memory.
@@ -191,11 +182,34 @@ impl Update {
     fn fail(&mut self, fault: RowFault) {
         self.fault = Some(fault);
     }
+
+    /// The same of a command, which doesn't go on.
+    fn fails(&mut self, fault: RowFault) -> bool {
+        self.fail(fault);
+        false
+    }
 }
 
-/// What a seat runs, which it then runs no more.
-fn taken(seats: &mut [Option<Job>], seat: u32) -> Option<Job> {
-    seats.get_mut(seat as usize)?.take()
+/// Adds an item at the end.
+fn add<T: Drop>(items: &mut Vec<T>, item: T) -> Result<(), AllocError> {
+    Ok(items.push(item)?)
+}
+
+/// What stands in a slot, which is empty then.
+fn taken<T: Drop>(slots: &mut [Option<T>], at: u32) -> Option<T> {
+    slots.get_mut(at as usize)?.take()
+}
+
+/// Puts a value into a slot, if there is one.
+fn put_at<T: Drop>(slots: &mut [T], at: u32, value: T) {
+    if let Some(slot) = slots.get_mut(at as usize) {
+        *slot = value;
+    }
+}
+
+/// A value, if it stays.
+fn kept<T: Drop>(value: T, stays: bool) -> Option<T> {
+    if stays { Some(value) } else { None }
 }
 
 /// The rule of this number.

@@ -50,7 +50,8 @@ impl Model for Course {
 
     ghost coded = { course_code };
 
-    ghost view = { λ c. record { plan = c.plan.value; files = c.files.value; history = c.history.items } };
+    ghost view = { λ c.
+        record { plan = c.plan.value; files = c.files.value; history = c.history.items } };
 
     ghost invariant = { λ c. IsCourse
         (record { plan = c.plan.value; files = c.files.value; history = c.history.items })

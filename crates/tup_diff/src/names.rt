@@ -56,7 +56,8 @@ impl Present<'_> {
 
     /// Adds the names of the outputs of a folder's reading, where the folder has a Tupfile.
     fn add_outputs(&self, names: &mut BTreeSet<Text>, dir: &Path) -> Result<(), GraphFault>
-        ensures names { OnOk result (GrowsBy by_bytes (IsMadeIn self.now dir.now) names.old names.new) }
+        ensures names { OnOk result
+            (GrowsBy by_bytes (IsMadeIn self.now dir.now) names.old names.new) }
         ensures memory { IfErr result (λ fault. fault ≡ GraphFault.Memory) }
     {
         let Some(reading) = self.nodes.reading(dir) else {
@@ -94,7 +95,8 @@ fn add_names(names: &mut BTreeSet<Text>, more: &[Text]) -> Result<(), GraphFault
 
 /// Adds the names of those outputs of drafts that stand in a folder.
 fn add_drafted(names: &mut BTreeSet<Text>, dir: &Path, drafts: &[Draft]) -> Result<(), GraphFault>
-    ensures names { OnOk result (GrowsBy by_bytes (IsDraftedIn drafts.now dir.now) names.old names.new) }
+    ensures names { OnOk result
+        (GrowsBy by_bytes (IsDraftedIn drafts.now dir.now) names.old names.new) }
     ensures memory { IfErr result (λ fault. fault ≡ GraphFault.Memory) }
 {
     for draft in drafts {

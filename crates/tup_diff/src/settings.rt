@@ -46,7 +46,8 @@ impl Settings {
     /// What a content sets.
     fn read(alloc: Global, content: &Bytes) -> Result<Settings, GraphFault>
         ensures settings { IfOk result (λ settings.
-            ((entries : _) × (config_of content.now ≡ Ok entries) × (settings ≡ Settings.Set entries))
+            ((entries : _) × (config_of content.now ≡ Ok entries)
+            × (settings ≡ Settings.Set entries))
             ⊎ ((fault : _) × (config_of content.now ≡ Err fault) × (settings ≡ Settings.Faulty))) }
         ensures memory { IfErr result (λ fault. fault ≡ GraphFault.Memory) }
     {

@@ -84,8 +84,8 @@ impl Present<'_> {
 
     /// Adds the folders that have a Tupfile and no reading.
     fn add_unread(&self, dirs: &mut BTreeSet<Path>) -> Result<(), GraphFault>
-        ensures added { OnOk result (GrowsBy by_names (IsUnreadIn self.now self.now.index.tupfiles.keys)
-            dirs.old dirs.new) }
+        ensures added { OnOk result (GrowsBy by_names
+            (IsUnreadIn self.now self.now.index.tupfiles.keys) dirs.old dirs.new) }
         ensures memory { IfErr result (λ fault. fault ≡ GraphFault.Memory) }
     {
         for dir in &self.index.tupfiles {

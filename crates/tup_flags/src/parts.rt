@@ -3,7 +3,7 @@ use tup_path::{Path, Paths, Text};
 use tup_rule::GroupRefs;
 
 /// Where a text stands in its rule line.
-#[derive(Clone, Copy, Debug, PartialEq, Eq)]
+#[derive(Clone, Copy)]
 pub enum Place {
     /// Among the inputs, order-only ones included.
     Inputs,
@@ -16,7 +16,7 @@ pub enum Place {
 }
 
 /// The parts of a rule's command that flags stand for.
-#[derive(Debug, Drop)]
+#[derive(Drop)]
 pub struct FlagParts {
     /// The folder of the Tupfile, from which files are shown.
     pub dir: Path,

@@ -27,7 +27,7 @@ use tup_path::Text;
 /// a member, and the next `]` closes the set. A `-` between two characters makes a range of them, which
 /// has no members where the second comes before the first; elsewhere a `-` is itself. No character
 /// takes away another's meaning: a backslash stands for itself.
-#[derive(Debug, Drop)]
+#[derive(Drop)]
 pub struct Glob {
     symbols: Symbols,
 }

@@ -7,7 +7,7 @@ use tup_path::Items;
 
 /// The characters from `first` up to `last`, both of them members. Where `last` comes before `first`
 /// there are none.
-#[derive(Clone, Copy, Debug, PartialEq, Eq)]
+#[derive(Clone, Copy)]
 pub struct Range {
     pub first: char,
     pub last: char,
@@ -17,7 +17,7 @@ pub struct Range {
 pub type Ranges = Items<Range>;
 
 /// A part of a glob.
-#[derive(Debug, Drop)]
+#[derive(Drop)]
 pub enum Symbol {
     /// A character that stands for itself.
     Char(char),

@@ -16,7 +16,7 @@ pub const MAX_LINE: usize = 65535;
 
 /// A joined and trimmed line with the number of its first line in the file, counted from 1. In a
 /// file of more lines than a `u32` counts, the last number stands for all above it.
-#[derive(Clone, Debug, PartialEq, Eq, Drop)]
+#[derive(Drop)]
 pub struct Line {
     pub number: u32,
     pub text: Text,

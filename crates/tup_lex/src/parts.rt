@@ -17,7 +17,7 @@ use std::alloc::Global;
 use tup_path::Text;
 
 /// Where the parts of a rule stand in its text.
-#[derive(Debug, Drop)]
+#[derive(Drop)]
 pub struct Parts {
     /// Whether the inputs begin with the word `foreach`, which isn't one of them.
     pub foreach: bool,

@@ -2,7 +2,7 @@
 use tup_path::Items;
 
 /// The bytes of a text from place `from` on, up to and without place `to`.
-#[derive(Clone, Copy, Debug, PartialEq, Eq)]
+#[derive(Clone, Copy)]
 pub struct Span {
     pub from: u32,
     pub to: u32,

@@ -9,7 +9,7 @@ use std::marker::Model;
 use tup_path::{Text, Texts};
 
 /// What a macro line says behind its name.
-#[derive(Debug, Drop, PartialEq, Eq)]
+#[derive(Drop)]
 pub struct Macro {
     /// The words of its order-only inputs, in order.
     pub order: Texts,

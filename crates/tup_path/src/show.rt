@@ -63,7 +63,8 @@ pub(crate) fn written(alloc: Global, up: usize, names: &[Text]) -> Result<Text, 
 
 fn climb(shown: &mut String, up: usize) -> Result<(), AllocError>
     requires { string_bytes shown.old ≡ [] }
-    ensures { OnOk result (string_bytes shown.new ≡ join_with_byte 47 (replicate up (46 ∷ 46 ∷ []))) }
+    ensures { OnOk result
+        (string_bytes shown.new ≡ join_with_byte 47 (replicate up (46 ∷ 46 ∷ []))) }
 {
     for _ in 0..up {
         add(shown, "..")?;

@@ -23,7 +23,8 @@ pub fn write_log(alloc: Global, lines: &[LogLine]) -> Result<Bytes, LogFault>
 
 /// One line, without its line feed.
 fn spelled(alloc: Global, line: &LogLine) -> Result<Vec<u8>, LogFault>
-    ensures { MatchResult result (λ bytes. bytes.items ≡ spelling_of line.now) (λ fault. fault ≡ LogFault.Memory) }
+    ensures { MatchResult result
+        (λ bytes. bytes.items ≡ spelling_of line.now) (λ fault. fault ≡ LogFault.Memory) }
 {
     let mut bytes = Vec::new(alloc);
     match line {

@@ -24,7 +24,8 @@ pub fn reading_is_local(dir: &Path)
 /// comes to for everyone who says what the log says.
 pub fn logs_tell_readings(dir: &Path)
     ensures { (log : Log) (end : Result (List Draft) ParseFault) (answers : Question → Told)
-        → Ran [] (reading dir.now) log end → Says answers log → outcome answers (reading dir.now) ≡ end }
+        → Ran [] (reading dir.now) log end → Says answers log
+        → outcome answers (reading dir.now) ≡ end }
 {
     let _depth = dir.depth();
 }

@@ -37,7 +37,7 @@ use Rattle.tup_refresh.proofs.Halting.{halted_from_start}
 
 module _ (P : Question × Told → Type 0) where
   -- what holds of each question that is told at a run's end holds of each entry
-  ran_all : {F A : Type 0} (log after : Log) (reads : Reads F A) (end : Result A F) → ((question : Question) (given : Told) → told_before after question ≡ Some given → P (question, given)) → Ran log reads after end → All P log → All P after
+  pub ran_all : {F A : Type 0} (log after : Log) (reads : Reads F A) (end : Result A F) → ((question : Question) (given : Told) → told_before after question ≡ Some given → P (question, given)) → Ran log reads after end → All P log → All P after
   ran_all log after (Ends result) end each (same, is) all = subst (All P) (sym same) all
   ran_all log after (Asks asked goes_on) end each ran all =
       one_step asked (λ t. Ran log (goes_on t) after end) (λ t. Ran (log ++ (asked, t) ∷ []) (goes_on t) after end) (told_before log asked) ran
@@ -98,7 +98,7 @@ halts_stands log after (Asks asked goes_on) question (inr halts) =
 -- ---- known contents
 
 -- a known content is among them
-known_among : (known : List Content) (content : Content) → IsTrue (knows known content) → Contains known content
+pub known_among : (known : List Content) (content : Content) → IsTrue (knows known content) → Contains known content
 known_among [] content e = cc
 known_among (one ∷ known) content e = elim (or_cases (bytes_eq content one) (list_any (bytes_eq content) known) e) [
   | inl same ↦ (0, omega arith, sym ((bytes_eq-Decides content one).0 same))

@@ -79,15 +79,15 @@ among_is path paths e =
 is_among : (path : Names) (paths : List Names) → Contains paths path → among path paths ≡ true
 is_among path paths h = list_any-from_Any (same_path path) paths (h.0, path, h.1, h.2, (same_path-decides path path).1 refl)
 
-made_is : (drafts : List Draft) (path : Names) → is_made drafts path ≡ true → IsDrafted drafts path
+pub made_is : (drafts : List Draft) (path : Names) → is_made drafts path ≡ true → IsDrafted drafts path
 made_is drafts path e =
     let found = Any-from_list_any (λ (draft : Draft). among path draft.outputs) drafts e in
     (found.1, (found.0, found.2, found.3), among_is path found.1.outputs found.4)
 
-is_made_so : (drafts : List Draft) (path : Names) → IsDrafted drafts path → is_made drafts path ≡ true
+pub is_made_so : (drafts : List Draft) (path : Names) → IsDrafted drafts path → is_made drafts path ≡ true
 is_made_so drafts path (draft, h, out) = list_any-from_Any (λ (draft : Draft). among path draft.outputs) drafts (h.0, draft, h.1, h.2, is_among path draft.outputs out)
 
-made_there : (drafts : List Draft) (path : Names) → Contains (made_by drafts) path → IsDrafted drafts path
+pub made_there : (drafts : List Draft) (path : Names) → Contains (made_by drafts) path → IsDrafted drafts path
 made_there [] path h = absurd (none_in path h)
 made_there (draft ∷ drafts) path h = elim (Contains-append_cases draft.outputs (made_by drafts) path h) [
   | inl here ↦ (draft, (0, omega arith, refl), here)
@@ -97,7 +97,7 @@ made_there (draft ∷ drafts) path h = elim (Contains-append_cases draft.outputs
       (there.0, (suc there.1.0, omega arith, there.1.2), there.2)
 ]
 
-there_made : (drafts : List Draft) (path : Names) → IsDrafted drafts path → Contains (made_by drafts) path
+pub there_made : (drafts : List Draft) (path : Names) → IsDrafted drafts path → Contains (made_by drafts) path
 there_made [] path (draft, h, out) = absurd (none_in draft h)
 there_made (first ∷ drafts) path (draft, (zero, less, is), out) =
     Contains-append_left first.outputs (made_by drafts) path (subst (λ (d : Draft). Contains d.outputs path) (sym is) out)
@@ -129,7 +129,7 @@ has_below_so paths folder file h below =
     list_any-from_Any (is_below folder) paths (h.0, file, h.1, h.2, ap (is_below folder) below.2 ∙ below_so folder below.0 below.1)
 
 -- an empty tup.config sets nothing
-empty_sets : config_of [] ≡ Ok []
+pub empty_sets : config_of [] ≡ Ok []
 empty_sets = ap (λ (b : Bool). cond {A = Result Entries ConfigFault} b (lines_set (cut_lines [])) (Err (At (wrong_line []) NotUtf8))) (is_utf8-from_IsUtf8 [] IsUtf8-nil)
 
 -- ---- the sources that a graph sees
@@ -143,27 +143,27 @@ mapped_some (Some content) e = refl
 mapped_some None e = cc
 
 module _ (sources : Tree) (g : GraphState) (sees : SeesSources sources g) where
-  source_is : (path : Names) → is_source sources path ≡ true → IsSource (source g) path
+  pub source_is : (path : Names) → is_source sources path ≡ true → IsSource (source g) path
   source_is path e = subst IsSome (sym (sees path)) (some_mapped (finite.get sources path) e)
 
-  is_source_so : (path : Names) → IsSource (source g) path → is_source sources path ≡ true
+  pub is_source_so : (path : Names) → IsSource (source g) path → is_source sources path ≡ true
   is_source_so path s = mapped_some (finite.get sources path) (subst IsSome (sees path) s)
 
-  key_there : (path : Names) → is_source sources path ≡ true → Contains (finite.keys sources) path
+  pub key_there : (path : Names) → is_source sources path ≡ true → Contains (finite.keys sources) path
   key_there path e = listed by_names by_names-decides (finite.keys sources) path (sym (finite.contains_key-keys sources path) ∙ e)
 
-  key_is : (path : Names) → Contains (finite.keys sources) path → is_source sources path ≡ true
+  pub key_is : (path : Names) → Contains (finite.keys sources) path → is_source sources path ≡ true
   key_is path h = finite.contains_key-keys sources path ∙ in_list by_names by_names-decides (finite.keys sources) path h
 
   -- ---- what a folder's rules show
 
   -- these are the rules of a folder that the reading of another one is told of
-  record Shows (reader folder : Names) (drafts : List Draft) : Type 0 where
-    out : (path : Names) → IsDrafted drafts path → (folder ≢ reader) × IsOutputOf (source g) g.readings folder path
-    back : (path : Names) → folder ≢ reader → IsOutputOf (source g) g.readings folder path → IsDrafted drafts path
+  pub record Shows (reader folder : Names) (drafts : List Draft) : Type 0 where
+    pub out : (path : Names) → IsDrafted drafts path → (folder ≢ reader) × IsOutputOf (source g) g.readings folder path
+    pub back : (path : Names) → folder ≢ reader → IsOutputOf (source g) g.readings folder path → IsDrafted drafts path
 
   module _ (settings : Entries) (readings : Readings) (tups : AreOfTupfiles sources settings readings) (reader : Names) where
-    shows : (folder : Names) → unread sources readings reader folder ≡ None → ((left : Reading) → finite.get readings folder ≡ Some left → finite.get g.readings folder ≡ Some left) → Shows reader folder (seen_drafts readings reader folder)
+    pub shows : (folder : Names) → unread sources readings reader folder ≡ None → ((left : Reading) → finite.get readings folder ≡ Some left → finite.get g.readings folder ≡ Some left) → Shows reader folder (seen_drafts readings reader folder)
     shows folder ready agree = by (same_path reader folder) refl (finite.get readings folder) refl
       where
         flat : (b : Bool) → cond b (Some folder) None ≡ None → b ≡ false
@@ -200,10 +200,10 @@ module _ (sources : Tree) (g : GraphState) (sees : SeesSources sources g) where
 
     -- ---- answers
 
-    names_stand : (folder : Names) (names : List (List ℕ)) → Shows reader folder (seen_drafts readings reader folder) → IsStrictlySortedBy by_bytes names
-        → ((name : List ℕ) → Contains names name ↔ IsFileFor (source g) g.readings reader folder name) → names_in sources readings reader folder ≡ names
-    names_stand folder names shown up each = same_members by_bytes nat_list_cmp_total (in_order among_all) names (sorted_from_none by_bytes nat_list_cmp_total by_bytes-antisymmetric among_all) up
-        (λ name h. (each name).1 (file name h)) (λ name h. there name ((each name).0 h))
+    -- the names that are told are in order, and just those of the files there
+    pub names_told : (folder : Names) → Shows reader folder (seen_drafts readings reader folder)
+        → IsStrictlySortedBy by_bytes (names_in sources readings reader folder) × ((name : List ℕ) → Contains (names_in sources readings reader folder) name ↔ IsFileFor (source g) g.readings reader folder name)
+    names_told folder shown = (sorted_from_none by_bytes nat_list_cmp_total by_bytes-antisymmetric among_all, λ name. (file name, there name))
       where
         among_all : List (List ℕ)
         among_all = names_among folder (finite.keys sources ++ made_by (seen_drafts readings reader folder))
@@ -225,6 +225,12 @@ module _ (sources : Tree) (g : GraphState) (sees : SeesSources sources g) where
 
         there : (name : List ℕ) → IsFileFor (source g) g.readings reader folder name → Contains (in_order (names_among folder (finite.keys sources ++ made_by (seen_drafts readings reader folder)))) name
         there name is = all_there by_bytes nat_list_cmp_total by_bytes-antisymmetric [] among_all name (inr (there_named folder (finite.keys sources ++ made_by (seen_drafts readings reader folder)) name (path_there name is)))
+
+    names_stand : (folder : Names) (names : List (List ℕ)) → Shows reader folder (seen_drafts readings reader folder) → IsStrictlySortedBy by_bytes names
+        → ((name : List ℕ) → Contains names name ↔ IsFileFor (source g) g.readings reader folder name) → names_in sources readings reader folder ≡ names
+    names_stand folder names shown up each =
+        let told = names_told folder shown in
+        same_members by_bytes nat_list_cmp_total (names_in sources readings reader folder) names told.0 up (λ name h. (each name).1 ((told.1 name).0 h)) (λ name h. (told.1 name).1 ((each name).0 h))
 
     below_there : (path : Names) → has_below (finite.keys sources) path ≡ true → HasSourceBelow (source g) path
     below_there path e =
@@ -277,7 +283,7 @@ module _ (sources : Tree) (g : GraphState) (sees : SeesSources sources g) where
               ((shown up refl).back path (subst (λ d. d ≢ reader) dir_is apart) (subst (λ d. IsOutputOf (source g) g.readings d path) dir_is out))) ∙ made),
         )
 
-    kind_stands : (path : Names) → awaited sources readings reader (asks.Kind path) ≡ None
+    pub kind_stands : (path : Names) → awaited sources readings reader (asks.Kind path) ≡ None
         → ((folder : Names) (left : Reading) → folder_told sources (asks.Kind path) ≡ Some folder → finite.get readings folder ≡ Some left → finite.get g.readings folder ≡ Some left)
         → IsKind (source g) g.readings reader path (kind_at sources readings reader path)
     kind_stands path ready agree = by (is_source sources path) refl (has_below (finite.keys sources) path) refl ready agree

@@ -28,7 +28,7 @@ impl Clone for GroupRef {
 pub type GroupRefs = Items<GroupRef>;
 
 /// A piece of a command whose groups aren't put in yet.
-#[derive(Debug, Drop, PartialEq, Eq)]
+#[derive(Drop, PartialEq, Eq)]
 pub enum Piece {
     /// This text.
     Text(Text),
@@ -51,7 +51,7 @@ impl Clone for Piece {
 pub type Pieces = Items<Piece>;
 
 /// A rule before the members of its groups are put in.
-#[derive(Debug, Drop, PartialEq, Eq)]
+#[derive(Drop, PartialEq, Eq)]
 pub struct Draft {
     /// The file in which the rule line stands.
     pub file: Path,

@@ -8,7 +8,7 @@ use tup_path::{Bytes, Items, Path, Text, Texts};
 use tup_stamp::{Stamp, stamp_of};
 
 /// What stands at a path.
-#[derive(Clone, Copy, Debug, PartialEq, Eq)]
+#[derive(Clone, Copy, PartialEq, Eq)]
 pub enum Kind {
     /// Neither a file nor a folder.
     Nothing,
@@ -19,7 +19,7 @@ pub enum Kind {
 }
 
 /// What a reading asks.
-#[derive(Debug, Drop, PartialEq, Eq)]
+#[derive(Drop, PartialEq, Eq)]
 pub enum Question {
     /// What the source file at this path holds.
     Content(Path),
@@ -45,7 +45,7 @@ impl Clone for Question {
 }
 
 /// What a reading is told; each answer has the kind of its question.
-#[derive(Debug, Drop, PartialEq, Eq)]
+#[derive(Drop)]
 pub enum Told {
     /// What the file holds, or `None` where no source stands there.
     Content(Option<Bytes>),
@@ -71,7 +71,7 @@ impl Clone for Told {
 }
 
 /// What a reading was told, as it is kept: a content by its stamp.
-#[derive(Debug, Drop, PartialEq, Eq)]
+#[derive(Drop, PartialEq, Eq)]
 pub enum Noted {
     /// The stamp of what the file held, or `None` where no source stood there.
     Content(Option<Stamp>),
@@ -116,7 +116,7 @@ impl Told {
 pub type Questions = Items<(Question, Noted)>;
 
 /// What the reading of one folder's Tupfile leaves.
-#[derive(Debug, Drop, PartialEq, Eq)]
+#[derive(Drop, PartialEq, Eq)]
 pub struct Reading {
     /// Its rules, in the order of their lines.
     pub drafts: Drafts,

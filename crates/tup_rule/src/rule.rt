@@ -8,7 +8,7 @@ use std::alloc::Global;
 use tup_path::{Items, Path, Paths, Text};
 
 /// One command with its folder, the files that it may read and those that it makes.
-#[derive(Clone, Debug, Drop, PartialEq, Eq)]
+#[derive(Clone, Drop, PartialEq, Eq)]
 pub struct Rule {
     /// The folder in which the command runs.
     pub dir: Path,

@@ -2,7 +2,7 @@
 use tup_path::{Bytes, Items, Text};
 
 /// What a command is answered for a file that it asks for.
-#[derive(Clone, Debug, Drop)]
+#[derive(Clone, Drop)]
 pub enum Answer {
     Content(Bytes),
     Absent,
@@ -15,7 +15,7 @@ pub type Asks = Items<(Text, Answer)>;
 pub type Writes = Items<(Text, Bytes)>;
 
 /// How a command ended.
-#[derive(Clone, Debug, Drop)]
+#[derive(Clone, Drop)]
 pub struct Ended {
     /// The exit status; 0 is success.
     pub status: u8,
@@ -23,7 +23,7 @@ pub struct Ended {
 }
 
 /// What a command does next.
-#[derive(Clone, Debug, Drop)]
+#[derive(Drop)]
 pub enum Step {
     /// It asks for a file by this text, relative to its folder.
     Ask(Text),

@@ -7,7 +7,7 @@ pub trait Pulse: Sync {
 }
 
 /// Nobody is told.
-#[derive(Clone, Copy, Debug)]
+#[derive(Clone, Copy)]
 pub struct Still;
 
 impl Pulse for Still {

@@ -6,7 +6,7 @@ use tup_stamp::Stamp;
 pub type Stamps = Items<(Path, Stamp)>;
 
 /// The files of a tree as a scan sees them.
-#[derive(Debug, Drop, PartialEq, Eq)]
+#[derive(Drop)]
 pub struct Seen {
     /// All files with their stamps, in the order of paths.
     pub files: Stamps,

@@ -18,7 +18,8 @@ pub fn written_is_read()
         → IsStore (header ++ blocks commits ++ gate ∷ rest) commits }
     ensures opened { (commits : List (List Change)) (changes : List Change) (rest : List ℕ)
         → AllByRecursion CommitFits commits → CommitFits changes
-        → IsStore (header ++ blocks commits ++ 1 ∷ (appending changes ++ rest)) (commits ++ changes ∷ []) }
+        → IsStore (header ++ blocks commits ++ 1 ∷ (appending changes ++ rest))
+        (commits ++ changes ∷ []) }
     ensures entries { (commits : List (List Change)) (changes : List Change)
         → entries_of (commits ++ changes ∷ [])
         ≡ committed (length (header ++ blocks commits)) (entries_of commits) changes }
@@ -33,7 +34,8 @@ pub fn last_change_stands()
     ensures deleted { (entries : Standing) (origin : ℕ) (key : List ℕ) → IsAscending entries
         → entry_at (changed origin entries (Change.Delete key)) key ≡ None }
     ensures others { (entries : Standing) (origin : ℕ) (change : Change) (other : List ℕ)
-        → other ≢ key_of change → entry_at (changed origin entries change) other ≡ entry_at entries other }
+        → other ≢ key_of change
+        → entry_at (changed origin entries change) other ≡ entry_at entries other }
     ensures ascending { (commits : List (List Change)) → IsAscending (entries_of commits) }
 {}
 

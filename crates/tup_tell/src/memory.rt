@@ -9,7 +9,7 @@ use tup_path::Bytes;
 
 /// A sink that keeps what it was given. Its writes are numbered from 1; those whose number was
 /// given to `new` are faults, and no others.
-#[derive(Debug, Drop)]
+#[derive(Drop)]
 pub struct MemSink {
     bytes: Bytes,
     fails: Vec<u64>,

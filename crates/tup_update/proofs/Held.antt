@@ -16,4 +16,3 @@ shows_one w one other first second = sym (held_is w one one.owned first.lists fi
 -- so what is promised of that is promised of all that it holds
 pub of_held : (w : World) (paths : List Names) (promise : Holding → Type 0) → Lists w.store paths → promise (holding w paths) → OfHeld w promise
 of_held w paths promise lists kept held shows = subst promise (held_is w held paths lists shows) kept
-

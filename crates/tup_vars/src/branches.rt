@@ -11,7 +11,7 @@ use std::marker::Model;
 pub const MAX_OPEN: usize = 64;
 
 /// An open conditional.
-#[derive(Clone, Copy, Debug, PartialEq, Eq)]
+#[derive(Clone, Copy)]
 pub struct Level {
     /// The line in which it begins.
     pub line: u32,
@@ -22,7 +22,7 @@ pub struct Level {
 }
 
 /// The conditionals of a file that are open, from the outermost on.
-#[derive(Debug, Drop)]
+#[derive(Drop)]
 pub struct Branches {
     levels: Vec<Level>,
 }

@@ -1,0 +1,3 @@
+pub mod Tupfiles
+pub mod Fitting
+pub mod Planned
