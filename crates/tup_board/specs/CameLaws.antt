@@ -18,7 +18,7 @@ use Rattle.tup_core.specs.declared.running.Running.{Running}
 use Rattle.tup_core.specs.Run.{claims}
 use Rattle.tup_board.specs.Board.{BoardState, state}
 use Rattle.tup_board.specs.Calls.{AreKnown, AreStamped}
-use Rattle.tup_board.specs.Seat.{CameBy, HasAsked, IsDenial, IsFromSeat, has_failed, seat_of}
+use Rattle.tup_board.specs.Seat.{CameBy, HasAsked, IsDenial, IsFromSeat, KeepsSeat, has_failed, seat_of}
 
 claims_both : (some more : List CoreEvent) → claims (some ++ more) ≡ claims some ++ claims more
 claims_both [] more = refl
@@ -58,25 +58,31 @@ module _ {S : Type 0} (site : Site S) (seat : ℕ) where
     others = λ other apart. two.others other apart ∙ one.others other apart;
   }
 
-  pub came_none : (b : BoardState S) (refusal : Option Refusal) → CameBy site seat b refusal [] b refusal
-  came_none b refusal = record {
+  pub keeps_none : (b : BoardState S) (refusal : Option Refusal) → KeepsSeat site seat b refusal b refusal
+  keeps_none b refusal = record {
     from = from_none b;
     known = λ tells. refl;
     stays = inr (refl, refl);
+    going = λ fine. refl;
+    left = λ failed fine. absurd (true≢false (sym failed ∙ fine));
+  }
+
+  pub came_none : (b : BoardState S) (refusal : Option Refusal) → CameBy site seat b refusal [] b refusal
+  came_none b refusal = record {
+    keeps = keeps_none b refusal;
     asked = λ fine running here. record {
-      is = running;
+      now = running;
       more = [];
       runs = here;
       same = refl;
       asked = sym (append-nil running.asks);
       stamps = tt;
       known = λ tells text content within. no_place within.0 within.1;
-      denied = inl refl;
+      denied = inl (refl, refl);
     };
-    left = λ failed fine. absurd (true≢false (sym failed ∙ fine));
   }
 
-  module _ (a b c : BoardState S) (first next last : Option Refusal) (some more : Asks) (one : CameBy site seat a first some b next) (two : CameBy site seat b next more c last) where
+  module _ (a b c : BoardState S) (first next last : Option Refusal) (two : KeepsSeat site seat b next c last) where
     -- where the last ask was fine, so were those before
     next_fine : has_failed last ≡ false → has_failed next ≡ false
     next_fine fine = ⊎_elim (none_failed next) (λ same. ap has_failed (sym same.0) ∙ fine) two.stays
@@ -93,37 +99,48 @@ module _ {S : Type 0} (site : Site S) (seat : ℕ) where
         some_none : {refusal : Refusal} → Some refusal ≡ None → ⊥
         some_none e = cc
 
-    both_asked : has_failed last ≡ false → (running : Running) → (state a).seats seat ≡ Some running → HasAsked site seat running (some ++ more) last c
+    module _ (one : KeepsSeat site seat a first b next) where
+      left_both : (bad : Bool) → has_failed next ≡ bad → has_failed last ≡ true → has_failed first ≡ false → (state c).seats seat ≡ None
+      left_both false is failed fine = two.left failed is
+      left_both true is failed fine =
+          ⊎_elim (λ none. absurd (true≢false (sym is ∙ none_failed next none))) (λ same. ap (λ (it : BoardState S). (state it).seats seat) same.1 ∙ one.left is fine) two.stays
+
+      keeps_both : KeepsSeat site seat a first c last
+      keeps_both = record {
+        from = from_both a b c one.from two.from;
+        known = λ tells. two.known tells ∙ one.known tells;
+        stays = ⊎_elim inl (λ same. ⊎_elim (λ none. inl (sym same.0 ∙ none)) (λ also. inr (also.0 ∙ same.0, also.1 ∙ same.1)) two.stays) one.stays;
+        going = λ fine. two.going fine ∙ one.going (next_fine fine);
+        left = λ failed fine. left_both (has_failed next) refl failed fine;
+      }
+
+  module _ (a b c : BoardState S) (first next last : Option Refusal) (some more : Asks) (one : CameBy site seat a first some b next) (two : CameBy site seat b next more c last) where
+    both_asked : has_failed last ≡ false → (running : Running) → (state a).seats seat ≡ Some running → HasAsked site seat running first (some ++ more) c last
     both_asked fine running here =
-        let before = one.asked (next_fine fine) running here in
-        let then_asked = two.asked fine before.is before.runs in
+        let before = one.asked (next_fine a b c first next last two.keeps fine) running here in
+        let behind = two.asked fine before.now before.runs in
         record {
-          is = then_asked.is;
-          more = before.more ++ then_asked.more;
-          runs = then_asked.runs;
-          same = then_asked.same ∙ before.same;
-          asked = then_asked.asked ∙ ap (λ (asks : List (List ℕ × Option Stamp)). asks ++ then_asked.more) before.asked ∙ append_assoc running.asks before.more then_asked.more;
-          stamps = stamped_both before.more then_asked.more some more before.stamps then_asked.stamps;
+          now = behind.now;
+          more = before.more ++ behind.more;
+          runs = behind.runs;
+          same = behind.same ∙ before.same;
+          asked = behind.asked ∙ ap (λ (asks : List (List ℕ × Option Stamp)). asks ++ behind.more) before.asked ∙ append_assoc running.asks before.more behind.more;
+          stamps = stamped_both before.more behind.more some more before.stamps behind.stamps;
           known = λ tells.
-              known_both (site.known c.site) some more (subst (λ (k : List Content). AreKnown k some) (sym (two.known tells)) (before.known tells)) (then_asked.known tells);
+              known_both (site.known c.site) some more (subst (λ (k : List Content). AreKnown k some) (sym (two.keeps.known tells)) (before.known tells)) (behind.known tells);
           denied = ⊎_elim
-              (λ same. ⊎_elim (λ was. inl (same ∙ was)) (λ denial. inr (subst (IsDenial last) (sym same) (denial_stays before.is.denied denial))) before.denied)
-              inr then_asked.denied;
+              (λ same. ⊎_elim (λ was. inl (same.0 ∙ was.0, same.1 ∙ was.1))
+              (λ denial. inr (subst (IsDenial last) (sym same.1) (denial_stays a b c first next last two.keeps before.now.denied denial))) before.denied)
+              inr behind.denied;
         }
 
     came_both : CameBy site seat a first (some ++ more) c last
-    came_both = record {
-      from = from_both a b c one.from two.from;
-      known = λ tells. two.known tells ∙ one.known tells;
-      stays = ⊎_elim inl (λ same. ⊎_elim (λ none. inl (sym same.0 ∙ none)) (λ also. inr (also.0 ∙ same.0, also.1 ∙ same.1)) two.stays) one.stays;
-      asked = both_asked;
-      left = λ failed fine. by (has_failed next) refl failed fine;
-    }
-      where
-        by : (bad : Bool) → has_failed next ≡ bad → has_failed last ≡ true → has_failed first ≡ false → (state c).seats seat ≡ None
-        by false is failed fine = two.left failed is
-        by true is failed fine =
-            ⊎_elim (λ none. absurd (true≢false (sym is ∙ none_failed next none))) (λ same. ap (λ (it : BoardState S). (state it).seats seat) same.1 ∙ one.left is fine) two.stays
+    came_both = record { keeps = keeps_both a b c first next last two.keeps one.keeps; asked = both_asked }
+
+pub keeps_then : {S : Type 0} (site : Site S) (seat other : ℕ) → other ≡ seat → (a b c : BoardState S) (first next last : Option Refusal) → KeepsSeat site seat a first b next
+    → KeepsSeat site other b next c last → KeepsSeat site seat a first c last
+keeps_then site seat other same a b c first next last one two =
+    keeps_both site seat a b c first next last (subst (λ (n : ℕ). KeepsSeat site n b next c last) same two) one
 
 pub came_then : {S : Type 0} (site : Site S) (seat other : ℕ) → other ≡ seat → (a b c : BoardState S) (first next last : Option Refusal) (some more : Asks) → CameBy site seat a first some b next
     → CameBy site other b next more c last → CameBy site seat a first (some ++ more) c last

@@ -48,22 +48,27 @@ pub record IsDenial (refusal : Option Refusal) (denied : Option (List ℕ × Ver
   pub refused : refusal ≡ Some (record { text = text; why = Denied })
   pub is : denied ≡ Some (text, verdict)
 
--- the command that a seat ran asked just this more, and was answered so; it was denied no more than its view refused
-pub record HasAsked {S : Type 0} (site : Site S) (seat : ℕ) (was : Running) (asks : Asks) (refusal : Option Refusal) (new : BoardState S) : Type 0 where
-  pub is : Running
-  pub more : List (List ℕ × Option Stamp)
-  pub runs : (state new).seats seat ≡ Some is
-  pub same : is.rule ≡ was.rule
-  pub asked : is.asks ≡ was.asks ++ more
-  pub stamps : AreStamped more asks
-  pub known : IsTrue site.tells → AreKnown (site.known new.site) asks
-  pub denied : (is.denied ≡ was.denied) ⊎ IsDenial refusal is.denied
-
--- from one state of a board to another the command of a seat came by these asks, unless the files couldn't be reached: then the
--- seat runs nothing. Once a text was refused nothing more happens.
-pub record CameBy {S : Type 0} (site : Site S) (seat : ℕ) (old : BoardState S) (was : Option Refusal) (asks : Asks) (new : BoardState S) (is : Option Refusal) : Type 0 where
+-- from one state of a board to another at most the seat's command came on. Once a text was refused nothing more happens: where the
+-- files couldn't be reached the seat runs nothing any more, and else nothing was stopped
+pub record KeepsSeat {S : Type 0} (site : Site S) (seat : ℕ) (old : BoardState S) (was : Option Refusal) (new : BoardState S) (is : Option Refusal) : Type 0 where
   pub from : IsFromSeat seat old new
   pub known : IsTrue site.tells → site.known new.site ≡ site.known old.site
   pub stays : (was ≡ None) ⊎ ((is ≡ was) × (new ≡ old))
-  pub asked : has_failed is ≡ false → (running : Running) → (state old).seats seat ≡ Some running → HasAsked site seat running asks is new
+  pub going : has_failed is ≡ false → (state new).stopped ≡ (state old).stopped
   pub left : has_failed is ≡ true → has_failed was ≡ false → (state new).seats seat ≡ None
+
+-- the command that a seat ran asked just this more, and was answered so; it was denied just what its view refused since
+pub record HasAsked {S : Type 0} (site : Site S) (seat : ℕ) (running : Running) (was : Option Refusal) (asks : Asks) (new : BoardState S) (is : Option Refusal) : Type 0 where
+  pub now : Running
+  pub more : List (List ℕ × Option Stamp)
+  pub runs : (state new).seats seat ≡ Some now
+  pub same : now.rule ≡ running.rule
+  pub asked : now.asks ≡ running.asks ++ more
+  pub stamps : AreStamped more asks
+  pub known : IsTrue site.tells → AreKnown (site.known new.site) asks
+  pub denied : ((is ≡ was) × (now.denied ≡ running.denied)) ⊎ IsDenial is now.denied
+
+-- its command came on by these asks, unless the files couldn't be reached
+pub record CameBy {S : Type 0} (site : Site S) (seat : ℕ) (old : BoardState S) (was : Option Refusal) (asks : Asks) (new : BoardState S) (is : Option Refusal) : Type 0 where
+  pub keeps : KeepsSeat site seat old was new is
+  pub asked : has_failed is ≡ false → (running : Running) → (state old).seats seat ≡ Some running → HasAsked site seat running was asks new is

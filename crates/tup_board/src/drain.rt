@@ -112,8 +112,8 @@ impl<S: Site, R: Runner> Board<S, R> {
         let mut view = SeatView {
             board: self,
             plan,
+            rule: it,
             seat: 0,
-            own: it.outputs.as_slice(),
             refused: None,
         };
         perform(alloc, runner, &it.dir, &it.text, &mut view)

@@ -12,6 +12,7 @@
 mod answers;
 mod ask;
 mod board;
+mod desk;
 mod drain;
 mod finish;
 mod record;

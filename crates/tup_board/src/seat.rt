@@ -1,15 +1,17 @@
 //! The files as a command sees them that a seat of a board runs.
-ghost use Rattle.std.specs.Prelude.{◌≡◌, Err, Some};
+ghost use Rattle.std.specs.Prelude.{◌≡◌, Some};
 ghost use Rattle.tup_board.specs.Board.{plan_of};
 ghost use Rattle.tup_board.specs.Seat.{refusal_of};
 
 use crate::answers::Asked;
 use crate::board::Board;
-use std::alloc::{AllocError, Global};
+use crate::desk::Desk;
+use std::alloc::Global;
 use std::snapshot::Snapshot;
 use tup_core::Plan;
 use tup_ground::BoardFault;
 use tup_path::{Path, Text};
+use tup_rule::Rule;
 use tup_runner::{Answer, Runner, View, ViewFailed};
 use tup_site::Site;
 
@@ -22,21 +24,21 @@ pub(crate) struct Refused {
 
 /// The view of the command that a seat runs.
 #[derive(Drop)]
-pub(crate) struct SeatView<'b, 'p, 'o, S: Site, R: Runner> {
+pub(crate) struct SeatView<'b, 'p, 'r, S: Site, R: Runner> {
     pub(crate) board: &'b mut Board<S, R>,
     pub(crate) plan: &'p Plan,
+    pub(crate) rule: &'r Rule,
     pub(crate) seat: u32,
-    pub(crate) own: &'o [Path],
     pub(crate) refused: Option<Refused>,
     ghost of_board: { plan.now ≡ plan_of board.now },
 }
 
-impl<S: Site + Send, R: Runner + Send> View for SeatView<'_, '_, '_, S, R> {
+impl<S: Site, R: Runner> View for SeatView<'_, '_, '_, S, R> {
     ghost use Rattle.std.specs.Prelude.{◌≡◌, [], false, refl};
     ghost use Rattle.std.proofs.Common.{◌∙◌, ap};
     ghost use Rattle.std.proofs.lemmas.Bool.{false≢true};
-    ghost use Rattle.tup_board.specs.Seat.{CameBy, refusal_of};
-    ghost use Rattle.tup_board.specs.CameLaws.{came_none, came_then};
+    ghost use Rattle.tup_board.specs.Seat.{CameBy, KeepsSeat, refusal_of};
+    ghost use Rattle.tup_board.specs.CameLaws.{came_none, came_then, keeps_none, keeps_then};
 
     ghost tells = { false };
 
@@ -48,27 +50,35 @@ impl<S: Site + Send, R: Runner + Send> View for SeatView<'_, '_, '_, S, R> {
 
     ghost refusal = { λ view. refusal_of view.refused };
 
-    ghost outputs = { λ view. view.own.now };
+    ghost outputs = { λ view. view.rule.now.outputs };
 
-    ghost same = { λ first last. (last.own ≡ first.own) × (last.plan ≡ first.plan)
-        × (last.seat ≡ first.seat) × (last.board.ghost_name ≡ first.board.ghost_name) };
+    ghost same = { λ first last. (last.rule ≡ first.rule) × (last.plan ≡ first.plan)
+        × (last.seat ≡ first.seat) × (last.board.ghost_name ≡ first.board.ghost_name)
+        × KeepsSeat S.Site first.seat first.board.now (refusal_of first.refused)
+        last.board.now (refusal_of last.refused) };
 
     /// A seat that runs nothing, or was denied an ask, is asked nothing more: that would be no memory.
     fn ask(&mut self, alloc: Global, text: &Text) -> Result<Answer, ViewFailed> {
         if !self.board.goes_on(self.seat) {
             return Err(ViewFailed::Memory);
         }
-        match self.board.ask(alloc, self.plan, self.seat, text) {
+        match self.board.reply(alloc, self.plan, self.seat, text) {
             Ok(Asked::Content(content)) => Ok(Answer::Content(content)),
             Ok(Asked::Absent) => Ok(Answer::Absent),
-            Ok(Asked::Denied(_)) => self.refuse(text, ViewFailed::Denied),
+            Ok(Asked::Denied(_)) => {
+                self.refused = noted(text, ViewFailed::Denied);
+                Err(ViewFailed::Denied)
+            }
             Err(BoardFault::Memory) => Err(ViewFailed::Memory),
-            Err(_) => self.refuse(text, ViewFailed::Fault),
+            Err(_) => {
+                self.refused = noted(text, ViewFailed::Fault);
+                Err(ViewFailed::Fault)
+            }
         }
     }
 
     fn own(&self) -> &[Path] {
-        self.own
+        self.rule.outputs.as_slice()
     }
 
     ghost stays = { λ view. (
@@ -84,31 +94,36 @@ impl<S: Site + Send, R: Runner + Send> View for SeatView<'_, '_, '_, S, R> {
           some more one.1 two.1,
     ) };
 
-    ghost same_itself = { λ view. (refl, refl, refl, refl) };
+    ghost same_itself = { λ view. (
+      refl,
+      refl,
+      refl,
+      refl,
+      keeps_none S.Site view.seat view.board.now (refusal_of view.refused),
+    ) };
 
     ghost same_on = { λ first next last one two. (
       two.0 ∙ one.0,
       two.1 ∙ one.1,
       two.2 ∙ one.2,
       two.3 ∙ one.3,
+      keeps_then
+          S.Site first.seat next.seat one.2 first.board.now next.board.now last.board.now
+          (refusal_of first.refused) (refusal_of next.refused) (refusal_of last.refused)
+          one.4 two.4,
     ) };
 
-    ghost same_outputs = { λ first last one. ap (λ own. own.now) one.0 };
+    ghost same_outputs = { λ first last one. ap (λ rule. rule.now.outputs) one.0 };
 
     ghost told = { λ first last some tells came. absurd (false≢true tells) };
 }
 
-impl<S: Site, R: Runner> SeatView<'_, '_, '_, S, R> {
-    /// Notes that a text wasn't answered.
-    fn refuse(&mut self, text: &Text, why: ViewFailed) -> Result<Answer, ViewFailed>
-        ensures failed { result ≡ Err why }
-        ensures noted { refusal_of self.new.refused ≡ Some (record { text = text.now; why = why }) }
-        ensures rest { self.new ≡ record self.old { refused = self.new.refused } }
-    {
-        self.refused = Some(Refused {
-            text: Snapshot::of(text),
-            why,
-        });
-        Err(why)
-    }
+/// What is noted of a text that wasn't answered.
+fn noted(text: &Text, why: ViewFailed) -> Option<Refused>
+    ensures { refusal_of result ≡ Some (record { text = text.now; why = why }) }
+{
+    Some(Refused {
+        text: Snapshot::of(text),
+        why,
+    })
 }

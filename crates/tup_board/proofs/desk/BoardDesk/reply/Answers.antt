@@ -3,7 +3,7 @@ use Rattle.tup_core.specs.declared.plan.Plan.{Plan}
 use Rattle.tup_core.specs.Step.{Runs}
 use Rattle.tup_board.specs.Board.{state}
 use Rattle.tup_board.proofs.Answering.{access_seen}
-use Rattle.tup_board.proofs.board.Board.ask.Goals as goal
+use Rattle.tup_board.proofs.desk.BoardDesk.reply.Goals as goal
 
 pub answer-requires-clause-may : goal.answer-requires-clause-may
 answer-requires-clause-may g c κs within =
