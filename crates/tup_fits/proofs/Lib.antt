@@ -1,3 +1,4 @@
 pub mod Tupfiles
 pub mod Fitting
 pub mod Planned
+pub mod Ordered

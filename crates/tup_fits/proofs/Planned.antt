@@ -20,6 +20,7 @@ use Rattle.tup_graph.specs.Graph.{GraphState, is_flagged, is_rule}
 use Rattle.tup_graph.specs.Kept.{HasSeenStamps, IsKept, IsUnflagged}
 use Rattle.tup_graph.specs.Records.{GoesOnAsking, IsStampOf, IsTrueRun, Language, AreRecorded as AreRecordedIn}
 use Rattle.tup_graph.specs.declared.owned.Owned.{Owned}
+use Rattle.tup_graph.proofs.Keeping.{has_run}
 use Rattle.tup_core.specs.Honest.{IsKnown, StandsFor}
 use Rattle.tup_core.specs.Kept.{AreRecorded, IsCurrent, IsTrueRecord, Owner, IsKept as IsKeptForCore}
 use Rattle.tup_core.specs.Planned.{IsPlanned}
@@ -104,7 +105,7 @@ module _ (next : Next) (language : Language) (known : List Content) (g : GraphSt
       unflagged = record { here = here; unflagged = off }
 
       has : (run : RunRecord) × (finite.get g.runs at ≡ Some run) × HasSeenStamps g rule run
-      has = kept.recorded at rule unflagged
+      has = has_run next language known g kept at rule unflagged
 
   others : (path : Names) (owner : Owner) → option_map owner_of (finite.get g.owned path) ≡ Some owner → is_generated g.rules path ≡ false → owner.maker ≡ None
   others path owner e none = by (there_is owner_of (finite.get g.owned path) owner e)
@@ -112,7 +113,7 @@ module _ (next : Next) (language : Language) (known : List Content) (g : GraphSt
       made : (owned : Owned) → finite.get g.owned path ≡ Some owned → (maker : Option ℕ) → owned.maker ≡ maker → owned.maker ≡ None
       made owned here None is = is
       made owned here (Some number) is =
-          (let by = kept.makers path owned number here is in absurd (true≢false (sym (is_generated-at g.rules path number by.0 by.1 by.2) ∙ none)))
+          (let by = kept.owners.makers path owned number here is in absurd (true≢false (sym (is_generated-at g.rules path number by.0 by.1 by.2) ∙ none)))
 
       by : (owned : Owned) × (finite.get g.owned path ≡ Some owned) × (owner_of owned ≡ owner) → owner.maker ≡ None
       by (owned, here, same) = ap (λ (o : Owner). o.maker) (sym same) ∙ made owned here owned.maker refl
@@ -121,10 +122,10 @@ module _ (next : Next) (language : Language) (known : List Content) (g : GraphSt
   core_kept acyclic flags = record {
     acyclic = acyclic;
     flags = flags;
-    true_records = λ at rule run here ran. true_record next known rule run (kept.true_runs at rule run here ran);
+    true_records = λ at rule run here ran. true_record next known rule run (kept.records.runs at rule run here ran);
     current = current;
-    upward = λ at other rule another run ask here there ran asked wrote flagged. kept.upward other at another rule run ask.0 ask.1 there flagged here ran asked wrote;
-    outputs = λ at rule path here wrote. (let o = kept.made at rule path here wrote in (owner_of o.0, ap (option_map owner_of) o.1, o.2));
+    upward = λ at other rule another run ask here there ran asked wrote flagged. kept.agrees.upward other at another rule run ask.0 ask.1 there flagged here ran asked wrote;
+    outputs = λ at rule path here wrote. (let o = kept.owners.made at rule path here wrote in (owner_of o.0, ap (option_map owner_of) o.1, o.2));
     others = others;
   }
 

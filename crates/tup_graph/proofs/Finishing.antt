@@ -26,7 +26,7 @@ use Rattle.tup_graph.specs.Graph.{GraphState, is_flagged, is_owned, source}
 use Rattle.tup_graph.specs.Kept.{IsRuleAt, IsUnflagged, Asked, HasSeenStamps, IsKept, EndsWell}
 use Rattle.tup_graph.specs.Records.{Language, IsTrueRun}
 use Rattle.tup_graph.specs.Transactions.{maker_of, finished}
-use Rattle.tup_graph.proofs.Keeping.{names_of, wrote_output, some_alike, owned_too, made_by}
+use Rattle.tup_graph.proofs.Keeping.{has_run, names_of, wrote_output, some_alike, owned_too, made_by}
 use Rattle.tup_graph.proofs.Maps.{equal_of}
 
 -- ---- files that are put one after another
@@ -82,11 +82,11 @@ module _ {X : Type 0} (value : Names × Stamp → X) where
   )
 
 -- ---- numbers
-same_number : (m n : ℕ) → eq_by_cmp nat_cmp m n ≡ true → m ≡ n
+pub same_number : (m n : ℕ) → eq_by_cmp nat_cmp m n ≡ true → m ≡ n
 same_number m n is = nat_cmp-IsAntisymmetric m n (equal_of (nat_cmp m n) is)
 
 module _ (next : Next) (language : Language) (known : List Content) (g : GraphState) (kept : IsKept next language known g) (number : ℕ) (rule : Rule) (run : RunRecord) (ends : EndsWell next known g number rule run) where
-  abbrev now : GraphState
+  abbrev pub now : GraphState
   now = finished g number run
 
   abbrev owned_as : Names × Stamp → Owned
@@ -116,7 +116,7 @@ module _ (next : Next) (language : Language) (known : List Content) (g : GraphSt
   owned_else q other = owned_now q ∙ later_other owned_as run.writes q (finite.get g.owned q) (own_is q ∙ other)
 
   mine : (q : Names) → writes rule q ≡ true → (o : Owned) × (finite.get g.owned q ≡ Some o) × (o.maker ≡ Some number)
-  mine q own = kept.made number rule q ends.here own
+  mine q own = kept.owners.made number rule q ends.here own
 
   makers_alike : (q : Names) → made_by (finite.get now.owned q) ≡ made_by (finite.get g.owned q)
   makers_alike q = by (writes rule q) refl
@@ -129,7 +129,7 @@ module _ (next : Next) (language : Language) (known : List Content) (g : GraphSt
           ap made_by (owned_now q ∙ found.2) ∙ ap (λ (path : Names). Some (maker_of g number path)) found.1
           ∙ ap (λ (there : Option Owned). Some (elim there [ Some owned ↦ owned.maker | None ↦ Some number ])) o.1 ∙ sym (ap made_by o.1)
 
-  owned_alike : (q : Names) → is_owned now q ≡ is_owned g q
+  pub owned_alike : (q : Names) → is_owned now q ≡ is_owned g q
   owned_alike q = some_alike (finite.get now.owned q) (finite.get g.owned q) (makers_alike q)
 
   sources_alike : source now ≡ source g
@@ -171,7 +171,7 @@ module _ (next : Next) (language : Language) (known : List Content) (g : GraphSt
       by false other = refl
       by true own =
           let ours = mine path own in
-          let theirs = kept.made m r path is.here wrote in
+          let theirs = kept.owners.made m r path is.here wrote in
           let both : Some ours.0 ≡ Some theirs.0 = sym ours.1 ∙ theirs.1 in
           let one : ours.0 ≡ theirs.0 = cc in
           let makers : Some number ≡ Some m = sym ours.2 ∙ ap (λ (o : Owned). o.maker) one ∙ theirs.2 in
@@ -185,7 +185,7 @@ module _ (next : Next) (language : Language) (known : List Content) (g : GraphSt
       by : (b : Bool) → writes rule path ≡ b → b ≡ false
       by false other = refl
       by true own =
-          let wrong : true ≡ false = sym (kept.upward number m rule r ran path given ends.here ends.flagged is.here has asked own) ∙ is.unflagged in
+          let wrong : true ≡ false = sym (kept.agrees.upward number m rule r ran path given ends.here ends.flagged is.here has asked own) ∙ is.unflagged in
           absurd (cc)
 
   -- its record, as it is now
@@ -222,7 +222,7 @@ module _ (next : Next) (language : Language) (known : List Content) (g : GraphSt
   true_now m r ran here has true same =
       subst (λ (y : RunRecord). IsTrueRun next known r y) (sym (one_run m ran same has))
       (subst (λ (x : Rule). IsTrueRun next known x run) (sym (same_rule m r (same_number m number same) here)) ends.honest)
-  true_now m r ran here has false other = kept.true_runs m r ran here (run_else m ran other has)
+  true_now m r ran here has false other = kept.records.runs m r ran here (run_else m ran other has)
 
   recorded_now : (m : ℕ) (r : Rule) → IsUnflagged now m r → (b : Bool) → eq_by_cmp nat_cmp m number ≡ b → (ran : RunRecord) × (finite.get now.runs m ≡ Some ran) × HasSeenStamps now r ran
   recorded_now m r is true same = (
@@ -235,7 +235,7 @@ module _ (next : Next) (language : Language) (known : List Content) (g : GraphSt
   )
   recorded_now m r is false other =
       let was = was_unflagged m r other is in
-      let k = kept.recorded m r was in (
+      let k = has_run next language known g kept m r was in (
         k.0,
         runs_now m ∙ ap (λ (b : Bool). cond b (Some run) (finite.get g.runs m)) other ∙ k.1,
         record {
@@ -267,7 +267,7 @@ module _ (next : Next) (language : Language) (known : List Content) (g : GraphSt
   upward_now m other r reader ran path given here flagged there has asked wrote false another =
       let before = flagged_before m flagged (eq_by_cmp nat_cmp m number) refl in
       flags_now other ∙ ap (λ (b : Bool). is_some (cond b None (finite.get g.flags other))) another
-      ∙ kept.upward m other r reader ran path given here before.1 there (run_else other ran another has) asked wrote
+      ∙ kept.agrees.upward m other r reader ran path given here before.1 there (run_else other ran another has) asked wrote
 
   written_now : (m : ℕ) (r : Rule) (ran : RunRecord) → IsUnflagged now m r → finite.get now.runs m ≡ Some ran → (b : Bool) → eq_by_cmp nat_cmp m number ≡ b
       → All (λ (file : Names × Stamp). (o : Owned) × (finite.get now.owned file.0 ≡ Some o) × (o.state ≡ Written file.1)) ran.writes
@@ -284,20 +284,31 @@ module _ (next : Next) (language : Language) (known : List Content) (g : GraphSt
 
   pub finish_keeps : IsKept next language known now
   finish_keeps = record {
-    true_runs = λ m r ran here has. true_now m r ran here has (eq_by_cmp nat_cmp m number) refl;
-    true_readings = kept.true_readings;
-    recorded = λ m r is. recorded_now m r is (eq_by_cmp nat_cmp m number) refl;
+    records = record {
+      runs = λ m r ran here has. true_now m r ran here has (eq_by_cmp nat_cmp m number) refl;
+      readings = kept.records.readings;
+    };
+    recorded = λ m r is. ap is_some (recorded_now m r is (eq_by_cmp nat_cmp m number) refl).1;
+    agrees = record {
+      stamps = λ m r ran is has.
+          (let found = recorded_now m r is (eq_by_cmp nat_cmp m number) refl in
+          let both : Some found.0 ≡ Some ran = sym found.1 ∙ has in
+          let one : found.0 ≡ ran = cc in
+          subst (HasSeenStamps now r) one found.2);
+      read = λ dir there unread. kept.agrees.read dir (subst (λ (s : Names → Option Stamp). IsSource s (tupfile dir)) sources_alike there) unread;
+      told = λ dir reading is unread. subst (λ (s : Names → Option Stamp). All (λ (one : Question × Noted). IsAnswer known s g.readings dir one.0 one.1) reading.asked) (sym sources_alike) (kept.agrees.told dir reading is unread);
+      upward = λ m other r reader ran path given here flagged there has asked wrote. upward_now m other r reader ran path given here flagged there has asked wrote (eq_by_cmp nat_cmp other number) refl;
+    };
     declared = λ m r ran path given is has asked own. declared_now m r ran path given is has asked own (eq_by_cmp nat_cmp m number) refl;
-    read = λ dir there unread. kept.read dir (subst (λ (s : Names → Option Stamp). IsSource s (tupfile dir)) sources_alike there) unread;
-    told = λ dir reading is unread. subst (λ (s : Names → Option Stamp). All (λ (one : Question × Noted). IsAnswer known s g.readings dir one.0 one.1) reading.asked) (sym sources_alike) (kept.told dir reading is unread);
-    upward = λ m other r reader ran path given here flagged there has asked wrote. upward_now m other r reader ran path given here flagged there has asked wrote (eq_by_cmp nat_cmp other number) refl;
-    made = λ m r path here own.
-        (let k = kept.made m r path here own in
-        let too = owned_too (finite.get now.owned path) (finite.get g.owned path) (makers_alike path) k.0 k.1 in
-        (too.0, too.1, too.2 ∙ k.2));
-    makers = λ path o m is by.
-        (let too = owned_too (finite.get g.owned path) (finite.get now.owned path) (sym (makers_alike path)) o is in
-        kept.makers path too.0 m too.1 (too.2 ∙ by));
+    owners = record {
+      made = λ m r path here own.
+          (let k = kept.owners.made m r path here own in
+          let too = owned_too (finite.get now.owned path) (finite.get g.owned path) (makers_alike path) k.0 k.1 in
+          (too.0, too.1, too.2 ∙ k.2));
+      makers = λ path o m is by.
+          (let too = owned_too (finite.get g.owned path) (finite.get now.owned path) (sym (makers_alike path)) o is in
+          kept.owners.makers path too.0 m too.1 (too.2 ∙ by));
+    };
     linked = kept.linked;
     written = λ m r ran is has. written_now m r ran is has (eq_by_cmp nat_cmp m number) refl;
   }

@@ -1,5 +1,5 @@
 -- A kept graph stays kept where only states of owned paths change, and none that a rule which isn't flagged wrote.
-use Rattle.std.proofs.Common.{◌≡◌, ℕ, ◌<◌, Bool, true, false, cond, ◌||◌, is_some, unwrap_or, List, [], ◌∷◌, map, fold, slice_index_or, Option, None, Some, All, Contains, refl, sym, ap, ap₂, subst, ◌∙◌}
+use Rattle.std.proofs.Common.{◌≡◌, ℕ, ◌<◌, Bool, true, false, cond, ◌||◌, is_some, unwrap_or, List, [], ◌∷◌, map, fold, slice_index_or, Option, None, Some, All, Contains, IsSome, refl, sym, ap, ap₂, subst, ◌∙◌}
 use Rattle.std.specs.Option.{option_map}
 use Rattle.std.specs.FinMap as finite
 use Rattle.std.proofs.lemmas.List.{get_or-map, length-map}
@@ -21,7 +21,7 @@ use Rattle.tup_record.specs.declared.run.RunRecord.{RunRecord}
 use Rattle.tup_graph.specs.declared.owned.Owned.{Owned}
 use Rattle.tup_graph.specs.Answers.{tupfile, IsSource, IsAnswer}
 use Rattle.tup_graph.specs.Graph.{GraphState, is_flagged, is_owned, source, outputs_of}
-use Rattle.tup_graph.specs.Kept.{IsRuleAt, IsUnflagged, Asked, IsKept}
+use Rattle.tup_graph.specs.Kept.{IsRuleAt, IsUnflagged, Asked, HasSeenStamps, IsKept}
 use Rattle.tup_graph.specs.Records.{Language, stamped}
 use Rattle.tup_graph.specs.Transactions.{maker_of, with_state, begun, unsure_as, with_doomed, with_forgotten}
 
@@ -63,11 +63,20 @@ owned_too None (Some b) same o is = absurd (cc)
 owned_too (Some a) None same o is = absurd (cc)
 owned_too (Some a) (Some b) same o is = (a, refl, (let one : a.maker ≡ b.maker = cc in let two : b ≡ o = cc in one ∙ ap (λ (x : Owned). x.maker) two))
 
+-- what may be there is
+pub there_is : {X : Type 0} (found : Option X) → IsSome found → (x : X) × (found ≡ Some x)
+there_is (Some x) some = (x, refl)
+there_is None some = absurd (cc)
+
 module _ (next : Next) (language : Language) (known : List Content) (g : GraphState) (kept : IsKept next language known g) where
+  -- a rule that isn't flagged has a record, with the stamps that are seen
+  pub has_run : (number : ℕ) (rule : Rule) → IsUnflagged g number rule → (run : RunRecord) × (finite.get g.runs number ≡ Some run) × HasSeenStamps g rule run
+  has_run number rule is = let run = there_is (finite.get g.runs number) (kept.recorded number rule is) in (run.0, run.1, kept.agrees.stamps number rule run.0 is run.1)
+
   -- what a rule that isn't flagged wrote is one of its outputs
   pub wrote_output : (number : ℕ) (rule : Rule) (run : RunRecord) (file : Names × Stamp) → IsRuleAt g number rule → finite.get g.runs number ≡ Some run → Contains run.writes file → writes rule file.0 ≡ true
   wrote_output number rule run file here ran wrote =
-      let honest = kept.true_runs number rule run here ran in
+      let honest = kept.records.runs number rule run here ran in
       let names : map (λ (f : Names × Stamp). f.0) run.writes ≡ rule.outputs =
       ap (map (λ (f : Names × Stamp). f.0)) (sym honest.files) ∙ names_of (judge rule honest.ended).files
       ∙ (judge-LeavesOutputs rule honest.ended).good honest.good in
@@ -88,20 +97,24 @@ module _ (next : Next) (language : Language) (known : List Content) (g : GraphSt
 
   pub keeps : ((number : ℕ) (rule : Rule) (path : Names) → IsUnflagged g number rule → writes rule path ≡ true → finite.get owned path ≡ finite.get g.owned path) → IsKept next language known changed
   keeps stay = record {
-    true_runs = kept.true_runs;
-    true_readings = kept.true_readings;
-    recorded = λ number rule is. (let k = kept.recorded number rule (back number rule is) in (k.0, k.1, record { asked = k.2.asked; wrote = k.2.wrote }));
+    records = record { runs = kept.records.runs; readings = kept.records.readings };
+    recorded = λ number rule is. kept.recorded number rule (back number rule is);
+    agrees = record {
+      stamps = λ number rule run is ran. (let k = kept.agrees.stamps number rule run (back number rule is) ran in record { asked = k.asked; wrote = k.wrote });
+      read = λ dir there unread. kept.agrees.read dir (subst (λ (s : Names → Option Stamp). IsSource s (tupfile dir)) sources_alike there) unread;
+      told = λ dir reading is unread. subst (λ (s : Names → Option Stamp). All (λ (one : Question × Noted). IsAnswer known s g.readings dir one.0 one.1) reading.asked) (sym sources_alike) (kept.agrees.told dir reading is unread);
+      upward = kept.agrees.upward;
+    };
     declared = λ number rule run path given is ran asked mine. kept.declared number rule run path given (back number rule is) ran asked (sym (owned_alike path) ∙ mine);
-    read = λ dir there unread. kept.read dir (subst (λ (s : Names → Option Stamp). IsSource s (tupfile dir)) sources_alike there) unread;
-    told = λ dir reading is unread. subst (λ (s : Names → Option Stamp). All (λ (one : Question × Noted). IsAnswer known s g.readings dir one.0 one.1) reading.asked) (sym sources_alike) (kept.told dir reading is unread);
-    upward = kept.upward;
-    made = λ number rule path here mine.
-        (let k = kept.made number rule path here mine in
-        let too = owned_too (finite.get owned path) (finite.get g.owned path) (same path) k.0 k.1 in
-        (too.0, too.1, too.2 ∙ k.2));
-    makers = λ path o number is by.
-        (let too = owned_too (finite.get g.owned path) (finite.get owned path) (sym (same path)) o is in
-        kept.makers path too.0 number too.1 (too.2 ∙ by));
+    owners = record {
+      made = λ number rule path here mine.
+          (let k = kept.owners.made number rule path here mine in
+          let too = owned_too (finite.get owned path) (finite.get g.owned path) (same path) k.0 k.1 in
+          (too.0, too.1, too.2 ∙ k.2));
+      makers = λ path o number is by.
+          (let too = owned_too (finite.get g.owned path) (finite.get owned path) (sym (same path)) o is in
+          kept.owners.makers path too.0 number too.1 (too.2 ∙ by));
+    };
     linked = kept.linked;
     written = λ number rule run is ran.
         (let unflagged = back number rule is in
@@ -130,7 +143,7 @@ module _ (g : GraphState) (number : ℕ) where
       ∙ ap (cond (among q paths) (Some (started q))) (finite.get-insert by_names-total owned path (started path) q ∙ ap (λ (b : Bool). cond b (Some (started path)) (finite.get owned q)) (sym (same_path-by_names q path)))
       ∙ either_here (same_path q path) (among q paths) (started q) (started path) (finite.get owned q) (λ is. ap started (sym ((same_path-decides q path).0 is)))
 
-  same_makers : ((path : Names) → among path (outputs_of g number) ≡ true → (o : Owned) × (finite.get g.owned path ≡ Some o) × (o.maker ≡ Some number)) → SameMakers g.owned (begun g number).owned
+  pub same_makers : ((path : Names) → among path (outputs_of g number) ≡ true → (o : Owned) × (finite.get g.owned path ≡ Some o) × (o.maker ≡ Some number)) → SameMakers g.owned (begun g number).owned
   same_makers mine path = by (among path (outputs_of g number)) refl
     where
       by : (b : Bool) → among path (outputs_of g number) ≡ b → made_by (finite.get (begun g number).owned path) ≡ made_by (finite.get g.owned path)
@@ -150,12 +163,12 @@ begin_keeps next language known g number rule kept here flagged =
     outputs = ap (λ (found : Option Rule). unwrap_or (option_map (λ (r : Rule). r.outputs) found) []) here
 
     mine : (path : Names) → among path (outputs_of g number) ≡ true → (o : Owned) × (finite.get g.owned path ≡ Some o) × (o.maker ≡ Some number)
-    mine path is = kept.made number rule path here (ap (among path) (sym outputs) ∙ is)
+    mine path is = kept.owners.made number rule path here (ap (among path) (sym outputs) ∙ is)
 
     stays : (other : ℕ) (reader : Rule) (path : Names) → IsUnflagged g other reader → writes reader path ≡ true → (b : Bool) → among path (outputs_of g number) ≡ b → finite.get (begun g number).owned path ≡ finite.get g.owned path
     stays other reader path is wrote true own =
         let ours = mine path own in
-        let theirs = kept.made other reader path is.here wrote in
+        let theirs = kept.owners.made other reader path is.here wrote in
         let same : Some ours.0 ≡ Some theirs.0 = sym ours.1 ∙ theirs.1 in
         let one : ours.0 ≡ theirs.0 = cc in
         let makers : Some number ≡ Some other = sym ours.2 ∙ ap (λ (o : Owned). o.maker) one ∙ theirs.2 in
@@ -166,7 +179,7 @@ begin_keeps next language known g number rule kept here flagged =
 
 -- ---- owned paths without a maker
 module _ (g : GraphState) where
-  abbrev one_unsure : OwnedPaths → Names → OwnedPaths
+  abbrev pub one_unsure : OwnedPaths → Names → OwnedPaths
   one_unsure owned path = unsure_as path (finite.get g.owned path) owned
 
   get_unsure : (owned : OwnedPaths) (path : Names) (one : Owned) (q : Names)
@@ -183,7 +196,7 @@ module _ (g : GraphState) where
       by true here = sym (ap made_by (ap (finite.get g.owned) ((same_path-decides q path).0 here) ∙ is))
       by false here = same q
 
-  all_doomed : (paths : List Names) (owned : OwnedPaths) → SameMakers g.owned owned → SameMakers g.owned (fold one_unsure owned paths)
+  pub all_doomed : (paths : List Names) (owned : OwnedPaths) → SameMakers g.owned owned → SameMakers g.owned (fold one_unsure owned paths)
   all_doomed [] owned same = same
   all_doomed (path ∷ paths) owned same = all_doomed paths (one_unsure owned path) (one_doomed owned path (finite.get g.owned path) refl same)
 
@@ -205,7 +218,7 @@ doom_keeps next language known g paths kept unmade =
   where
     stays : (number : ℕ) (rule : Rule) (path : Names) → IsUnflagged g number rule → writes rule path ≡ true → (b : Bool) → among path paths ≡ b → finite.get (with_doomed g paths).owned path ≡ finite.get g.owned path
     stays number rule path is wrote true doomed =
-        let made = kept.made number rule path is.here wrote in
+        let made = kept.owners.made number rule path is.here wrote in
         let wrong : Some number ≡ None = sym made.2 ∙ unmade path made.0 doomed made.1 in
         absurd (cc)
     stays number rule path is wrote false doomed = others_stay g paths g.owned path doomed
@@ -259,7 +272,7 @@ module _ (next : Next) (language : Language) (known : List Content) (g : GraphSt
       where
         by : (b : Bool) → among path paths ≡ b → b ≡ false
         by true own =
-            let made = kept.made number rule path here wrote in
+            let made = kept.owners.made number rule path here wrote in
             let none = unmade path own in
             let same : Some made.0 ≡ Some none.0 = sym made.1 ∙ none.1 in
             let one : made.0 ≡ none.0 = cc in
@@ -280,26 +293,19 @@ module _ (next : Next) (language : Language) (known : List Content) (g : GraphSt
     pub forget_keeps : ((number : ℕ) (rule : Rule) (run : RunRecord) (path : Names) (given : Option Stamp) → IsUnflagged g number rule → finite.get g.runs number ≡ Some run
         → Asked rule run path given → among path paths ≡ false) → IsKept next language known left
     forget_keeps unread = record {
-      true_runs = kept.true_runs;
-      true_readings = kept.true_readings;
-      recorded = λ number rule is.
-          (let was = unflagged number rule is in
-          let k = kept.recorded number rule was in (
-            k.0,
-            k.1,
-            record {
-              asked = λ path given asked. k.2.asked path given asked ∙ sym (seen_left path ∙ ap (λ (b : Bool). cond b None (finite.get g.seen path)) (unread number rule k.0 path given was k.1 asked));
-              wrote = λ at d less.
-                  (let file = slice_index_or k.0.writes at d in
-                  (output_left number rule file.0 was.here (wrote_output next language known g kept number rule k.0 file was.here k.1 (All-contains_itself k.0.writes at d less))).1 ∙ k.2.wrote at d less);
-            },
-          ));
+      records = record { runs = kept.records.runs; readings = kept.records.readings };
+      recorded = λ number rule is. kept.recorded number rule (unflagged number rule is);
+      agrees = record {
+        stamps = stamps;
+        read = λ dir there unread_dir. kept.agrees.read dir (subst (λ (s : Names → Option Stamp). IsSource s (tupfile dir)) sources_left there) unread_dir;
+        told = λ dir reading is unread_dir. subst (λ (s : Names → Option Stamp). All (λ (one : Question × Noted). IsAnswer known s g.readings dir one.0 one.1) reading.asked) (sym sources_left) (kept.agrees.told dir reading is unread_dir);
+        upward = kept.agrees.upward;
+      };
       declared = λ number rule run path given is ran asked mine. kept.declared number rule run path given (unflagged number rule is) ran asked (was_owned path (finite.get left.owned path) refl mine);
-      read = λ dir there unread_dir. kept.read dir (subst (λ (s : Names → Option Stamp). IsSource s (tupfile dir)) sources_left there) unread_dir;
-      told = λ dir reading is unread_dir. subst (λ (s : Names → Option Stamp). All (λ (one : Question × Noted). IsAnswer known s g.readings dir one.0 one.1) reading.asked) (sym sources_left) (kept.told dir reading is unread_dir);
-      upward = kept.upward;
-      made = λ number rule path here mine. (let k = kept.made number rule path here mine in (k.0, (output_left number rule path here mine).0 ∙ k.1, k.2));
-      makers = λ path o number is by. kept.makers path o number (still_owned path o is) by;
+      owners = record {
+        made = λ number rule path here mine. (let k = kept.owners.made number rule path here mine in (k.0, (output_left number rule path here mine).0 ∙ k.1, k.2));
+        makers = λ path o number is by. kept.owners.makers path o number (still_owned path o is) by;
+      };
       linked = kept.linked;
       written = λ number rule run is ran.
           (let was = unflagged number rule is in
@@ -310,6 +316,17 @@ module _ (next : Next) (language : Language) (known : List Content) (g : GraphSt
           (one.0, (output_left number rule file.0 was.here (wrote_output next language known g kept number rule run file was.here ran (All-contains_itself run.writes at d less))).0 ∙ one.1, one.2));
     }
       where
+        stamps : (number : ℕ) (rule : Rule) (run : RunRecord) → IsUnflagged left number rule → finite.get left.runs number ≡ Some run → HasSeenStamps left rule run
+        stamps number rule run is ran =
+            let was = unflagged number rule is in
+            let k = kept.agrees.stamps number rule run was ran in
+            record {
+              asked = λ path given asked. k.asked path given asked ∙ sym (seen_left path ∙ ap (λ (b : Bool). cond b None (finite.get g.seen path)) (unread number rule run path given was ran asked));
+              wrote = λ at d less.
+                  (let file = slice_index_or run.writes at d in
+                  (output_left number rule file.0 was.here (wrote_output next language known g kept number rule run file was.here ran (All-contains_itself run.writes at d less))).1 ∙ k.wrote at d less);
+            }
+
         was_owned : (path : Names) (found : Option Owned) → finite.get left.owned path ≡ found → is_some found ≡ true → is_owned g path ≡ true
         was_owned path (Some o) is there = ap is_some (still_owned path o is)
         was_owned path None is there = absurd (cc)

@@ -13,3 +13,4 @@ pub mod Committing
 pub mod Keeping
 pub mod OneWay
 pub mod Finishing
+pub mod Flagging

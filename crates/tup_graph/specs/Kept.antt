@@ -44,16 +44,15 @@ pub record HasSeenStamps (g : GraphState) (rule : Rule) (run : RunRecord) : Type
   pub asked : (path : Names) (given : Option Stamp) → Asked rule run path given → given ≡ finite.get g.seen path
   pub wrote : All (λ (file : Names × Stamp). finite.get g.seen file.0 ≡ Some file.1) run.writes
 
--- a graph as updates and crashes leave it
-pub record IsKept (next : Next) (language : Language) (known : List Content) (g : GraphState) : Type 0 where
-  -- every record is true
-  pub true_runs : (number : ℕ) (rule : Rule) (run : RunRecord) → IsRuleAt g number rule → finite.get g.runs number ≡ Some run → IsTrueRun next known rule run
-  pub true_readings : (dir : Names) (reading : Reading) → finite.get g.readings dir ≡ Some reading → IsTrueReading language known dir reading
-  -- a rule that isn't flagged has a record, with the stamps that are seen
-  pub recorded : (number : ℕ) (rule : Rule) → IsUnflagged g number rule → (run : RunRecord) × (finite.get g.runs number ≡ Some run) × HasSeenStamps g rule run
-  -- it declares the owned paths that its record asks
-  pub declared : (number : ℕ) (rule : Rule) (run : RunRecord) (path : Names) (given : Option Stamp) → IsUnflagged g number rule → finite.get g.runs number ≡ Some run
-      → Asked rule run path given → is_owned g path ≡ true → declares rule path ≡ true
+-- every record is true
+pub record HasTrueRecords (next : Next) (language : Language) (known : List Content) (g : GraphState) : Type 0 where
+  pub runs : (number : ℕ) (rule : Rule) (run : RunRecord) → IsRuleAt g number rule → finite.get g.runs number ≡ Some run → IsTrueRun next known rule run
+  pub readings : (dir : Names) (reading : Reading) → finite.get g.readings dir ≡ Some reading → IsTrueReading language known dir reading
+
+-- what a graph says of the files that it sees holds, whatever it said before
+pub record AgreesWithSeen (known : List Content) (g : GraphState) : Type 0 where
+  -- a rule that isn't flagged was told and wrote the seen stamps, if it has a record
+  pub stamps : (number : ℕ) (rule : Rule) (run : RunRecord) → IsUnflagged g number rule → finite.get g.runs number ≡ Some run → HasSeenStamps g rule run
   -- a folder whose Tupfile is a seen source has a reading or is to be read, and what a folder that isn't to be read was
   -- told is what the seen files and the other readings give
   pub read : (dir : Names) → IsSource (source g) (tupfile dir) → is_created g dir ≡ false → IsSome (finite.get g.readings dir)
@@ -62,11 +61,24 @@ pub record IsKept (next : Next) (language : Language) (known : List Content) (g 
   -- a rule whose record asks an output of a flagged rule is flagged
   pub upward : (number other : ℕ) (rule reader : Rule) (run : RunRecord) (path : Names) (given : Option Stamp) → IsRuleAt g number rule → is_flagged g number ≡ true
       → IsRuleAt g other reader → finite.get g.runs other ≡ Some run → Contains run.asks (path, given) → writes rule path ≡ true → is_flagged g other ≡ true
-  -- outputs are owned by their rules, and no other path has a maker
+
+-- outputs are owned by their rules, and no other path has a maker
+pub record HasMakers (g : GraphState) : Type 0 where
   pub made : (number : ℕ) (rule : Rule) (path : Names) → IsRuleAt g number rule → writes rule path ≡ true
       → (owned : Owned) × (finite.get g.owned path ≡ Some owned) × (owned.maker ≡ Some number)
   pub makers : (path : Names) (owned : Owned) (number : ℕ) → finite.get g.owned path ≡ Some owned → owned.maker ≡ Some number
       → (rule : Rule) × IsRuleAt g number rule × (writes rule path ≡ true)
+
+-- a graph as updates and crashes leave it
+pub record IsKept (next : Next) (language : Language) (known : List Content) (g : GraphState) : Type 0 where
+  pub records : HasTrueRecords next language known g
+  -- a rule that isn't flagged has a record
+  pub recorded : (number : ℕ) (rule : Rule) → IsUnflagged g number rule → IsSome (finite.get g.runs number)
+  pub agrees : AgreesWithSeen known g
+  -- it declares the owned paths that its record asks
+  pub declared : (number : ℕ) (rule : Rule) (run : RunRecord) (path : Names) (given : Option Stamp) → IsUnflagged g number rule → finite.get g.runs number ≡ Some run
+      → Asked rule run path given → is_owned g path ≡ true → declares rule path ≡ true
+  pub owners : HasMakers g
   -- the rules are those that linking gives
   pub linked : language.linked (finite.entries g.readings) ≡ Some g.rules
   -- what a rule that isn't flagged wrote is written so
@@ -85,6 +97,13 @@ pub record EndsWell (next : Next) (known : List Content) (g : GraphState) (numbe
   pub declared : (path : Names) (given : Option Stamp) → Asked rule run path given → is_owned g path ≡ true → declares rule path ≡ true
   pub unflagged : (path : Names) (given : Option Stamp) (other : ℕ) (maker : Rule) → Contains run.asks (path, given) → IsRuleAt g other maker → writes maker path ≡ true
       → other ≢ number → is_flagged g other ≡ false
+
+-- rules with their readers: whoever asked an output of one of them is one of them too, or is flagged already
+abbrev pub AreWithReaders : GraphState → List ℕ → Type 0
+AreWithReaders g numbers =
+    (number other : ℕ) (rule reader : Rule) (run : RunRecord) (path : Names) (given : Option Stamp) → Contains numbers number → IsRuleAt g number rule
+    → IsRuleAt g other reader → finite.get g.runs other ≡ Some run → Contains run.asks (path, given) → writes rule path ≡ true
+    → Contains numbers other ⊎ (is_flagged g other ≡ true)
 
 -- the graph in the bytes of a store
 pub record IsGraphIn (store : List ℕ) (g : GraphState) : Type 0 where

@@ -11,7 +11,7 @@ ghost use Rattle.tup_table.specs.Entries.{Standing, IsAscending, committed};
 ghost use Rattle.tup_graph.specs.declared.edit.Edit.{Edit as EditValue};
 ghost use Rattle.tup_graph.specs.Graph.{GraphState, is_rule, is_flagged};
 ghost use Rattle.tup_graph.specs.declared.owned.Owned.{Owned as OwnedValue};
-ghost use Rattle.tup_graph.specs.Kept.{Asked, EndsWell, IsKept, IsRuleAt, IsUnflagged};
+ghost use Rattle.tup_graph.specs.Kept.{AreWithReaders, Asked, EndsWell, IsKept, IsRuleAt, IsUnflagged};
 ghost use Rattle.tup_graph.specs.Records.{Language};
 ghost use Rattle.tup_graph.specs.Opening.{IsBroken, IsGraphOf};
 ghost use Rattle.tup_table.specs.declared.change.Change.{Change};
@@ -86,7 +86,8 @@ pub fn transactions_are_read()
 {}
 
 /// A law: what keeps a kept graph: a run of a flagged rule that begins, and one that ends well; owned paths without a maker
-/// that become unsure; and such paths that are forgotten, where no rule that isn't flagged asked one of them.
+/// that become unsure; such paths that are forgotten, where no rule that isn't flagged asked one of them; and rules that are
+/// flagged with all that asked their outputs.
 pub fn stays_kept()
     ensures begin { (next : Next) (language : Language) (known : List Content)
         (g : GraphState) (number : ℕ) (rule : RuleValue)
@@ -112,4 +113,8 @@ pub fn stays_kept()
         → Asked rule run path given
         → among path paths ≡ false)
         → IsKept next language known (with_forgotten g paths) }
+    ensures flag { (next : Next) (language : Language) (known : List Content)
+        (g : GraphState) (rules : List ℕ)
+        → IsKept next language known g → AreWithReaders g rules
+        → IsKept next language known (with_flagged g rules) }
 {}

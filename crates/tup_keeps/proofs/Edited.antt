@@ -76,17 +76,21 @@ module _ (known more : List Content) (also : (content : Content) → Contains kn
 
   pub kept_more : (next : Next) (language : Language) (g : GraphState) → IsKept next language known g → IsKept next language more g
   kept_more next language g kept = record {
-    true_runs = λ number rule run here ran. run_more next rule run (kept.true_runs number rule run here ran);
-    true_readings = λ dir reading here. reading_more language dir reading (kept.true_readings dir reading here);
+    records = record {
+      runs = λ number rule run here ran. run_more next rule run (kept.records.runs number rule run here ran);
+      readings = λ dir reading here. reading_more language dir reading (kept.records.readings dir reading here);
+    };
     recorded = kept.recorded;
+    agrees = record {
+      stamps = kept.agrees.stamps;
+      read = kept.agrees.read;
+      told = λ dir reading here unread.
+          All-weaker (λ (one : Question × Noted). IsAnswer known (source g) g.readings dir one.0 one.1) (λ (one : Question × Noted). IsAnswer more (source g) g.readings dir one.0 one.1)
+          (λ one is. answer_more known more also (source g) g.readings dir one.0 one.1 is) reading.asked (kept.agrees.told dir reading here unread);
+      upward = kept.agrees.upward;
+    };
     declared = kept.declared;
-    read = kept.read;
-    told = λ dir reading here unread.
-        All-weaker (λ (one : Question × Noted). IsAnswer known (source g) g.readings dir one.0 one.1) (λ (one : Question × Noted). IsAnswer more (source g) g.readings dir one.0 one.1)
-        (λ one is. answer_more known more also (source g) g.readings dir one.0 one.1 is) reading.asked (kept.told dir reading here unread);
-    upward = kept.upward;
-    made = kept.made;
-    makers = kept.makers;
+    owners = kept.owners;
     linked = kept.linked;
     written = kept.written;
   }

@@ -21,6 +21,7 @@ use Rattle.tup_graph.specs.Kept.{IsKept, IsRuleAt}
 use Rattle.tup_graph.specs.Reach.{stamp_in, HasRecord, IsChanged, IsReachRoot, ReachedOver, IsReached}
 use Rattle.tup_graph.specs.Records.{Language}
 use Rattle.tup_graph.specs.Scan.{IsScanned, IsTouched}
+use Rattle.tup_graph.proofs.Keeping.{has_run}
 use Rattle.tup_graph.specs.Swap.{IsFlaggedYet, IsNew, IsSwapped, ReadsNew, WasAt}
 use Rattle.tup_keeps.specs.Linking.{DeclareWhatIsThere, HaveOwnNames}
 use Rattle.tup_keeps.proofs.Scanning.{scan_upward}
@@ -51,8 +52,8 @@ module _ (next : Next) (language : Language) (known : List Content) (g scanned s
   -- two rules of the graph that make one path are one
   one_maker : (a b : ℕ) (x y : Rule) (path : Names) → IsRuleAt g a x → IsRuleAt g b y → writes x path ≡ true → writes y path ≡ true → a ≡ b
   one_maker a b x y path here there mine yours =
-      let one = kept.made a x path here mine in
-      let two = kept.made b y path there yours in
+      let one = kept.owners.made a x path here mine in
+      let two = kept.owners.made b y path there yours in
       let same = same_Some one.0 two.0 (sym one.1 ∙ two.1) in
       same_Some a b (sym one.2 ∙ (λ i. (same i).maker) ∙ two.2)
 
@@ -103,7 +104,7 @@ module _ (next : Next) (language : Language) (known : List Content) (g scanned s
       has = record { same = here; run_of = ran }
 
       owned : is_owned g path ≡ true
-      owned = ap is_some (kept.made first maker path maker_here wrote).1
+      owned = ap is_some (kept.owners.made first maker path maker_here wrote).1
 
       by_maker : (other : ℕ) (it : Rule) → slice_get rules other ≡ Some it → writes it path ≡ true → ((at : ℕ) × WasAt scanned it at) ⊎ IsNew scanned it → IsReached g tree rules number
       by_maker other it it_there it_wrote (inr fresh_one) = further number other before rule it run path given there has asked it_there it_wrote (zero, (it, it_there, inl (was_new it fresh_one)))
@@ -177,7 +178,7 @@ module _ (next : Next) (language : Language) (known : List Content) (g scanned s
       by : (b : Bool) → is_flagged g before ≡ b → b ≡ true
       by true flagged = refl
       by false unflagged =
-          let has = kept.recorded before rule (record { here = here; unflagged = unflagged }) in
+          let has = has_run next language known g kept before rule (record { here = here; unflagged = unflagged }) in
           absurd (none-some has.0 (sym no_run ∙ has.1))
   root_flagged number rule there (inr (inr (before, run, has, changed))) = flagged_if number before rule there has.same (inr (rule, run, rule_out before rule has.same, run_out before run has.run_of, touched changed))
     where

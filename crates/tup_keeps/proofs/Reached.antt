@@ -14,6 +14,7 @@ use Rattle.tup_graph.specs.Graph.{GraphState, is_flagged}
 use Rattle.tup_graph.specs.Kept.{IsKept, IsRuleAt, HasSeenStamps}
 use Rattle.tup_graph.specs.Reach.{stamp_in, IsChanged, IsReachRoot, ReachedOver, IsReached}
 use Rattle.tup_graph.specs.Records.{Language}
+use Rattle.tup_graph.proofs.Keeping.{has_run}
 
 -- a record with the seen stamps isn't changed in a tree that holds them
 pub unchanged : (g : GraphState) (tree : Tree) (rule : Rule) (run : RunRecord) → ((path : Names) → finite.get g.seen path ≡ stamp_in tree path) → HasSeenStamps g rule run → IsChanged tree rule run → ⊥
@@ -24,7 +25,7 @@ unchanged g tree rule run as_seen has (inr (path, given, wrote, apart)) =
 module _ (next : Next) (language : Language) (known : List Content) (g : GraphState) (tree : Tree) (kept : IsKept next language known g)
     (done : (number : ℕ) (rule : Rule) → IsRuleAt g number rule → is_flagged g number ≡ false) (as_seen : (path : Names) → finite.get g.seen path ≡ stamp_in tree path) where
   up_to_date : (number : ℕ) (rule : Rule) → IsRuleAt g number rule → (run : RunRecord) × (finite.get g.runs number ≡ Some run) × HasSeenStamps g rule run
-  up_to_date number rule here = kept.recorded number rule (record { here = here; unflagged = done number rule here })
+  up_to_date number rule here = has_run next language known g kept number rule (record { here = here; unflagged = done number rule here })
 
   not_root : (at : ℕ) (rule : Rule) → IsRuleAt g at rule → IsReachRoot g tree rule → ⊥
   not_root at rule here (inl none) = none at here

@@ -16,10 +16,9 @@ use Rattle.tup_record.specs.declared.run.RunRecord.{RunRecord}
 use Rattle.tup_graph.specs.Above.{IsAbove}
 use Rattle.tup_graph.specs.Answers.{tupfile, IsSource, IsAnswer}
 use Rattle.tup_graph.specs.Graph.{GraphState, is_flagged, is_created, source}
-use Rattle.tup_graph.specs.Kept.{IsRuleAt, IsUnflagged, HasSeenStamps, IsKept}
+use Rattle.tup_graph.specs.Kept.{IsRuleAt, IsUnflagged, HasSeenStamps, AgreesWithSeen, IsKept}
 use Rattle.tup_graph.specs.Records.{Language}
 use Rattle.tup_graph.specs.Scan.{IsScanned, IsTouched}
-use Rattle.tup_keeps.specs.Agrees.{AgreesWithSeen}
 use Rattle.tup_keeps.proofs.Answering.{answer_more, answer_stable}
 use Rattle.tup_keeps.proofs.Stable.{same_seen, stable_of}
 
@@ -103,17 +102,11 @@ module _ (next : Next) (language : Language) (known : List Content) (g new : Gra
 
   still_kept : IsKept next language known after
   still_kept = record {
-    true_runs = kept.true_runs;
-    true_readings = kept.true_readings;
-    recorded = λ number rule unflagged.
-        (let was = kept.recorded number rule (before number rule unflagged) in
-        (was.0, was.1, agrees.stamps number rule was.0 unflagged was.1));
+    records = record { runs = kept.records.runs; readings = kept.records.readings };
+    recorded = λ number rule unflagged. kept.recorded number rule (before number rule unflagged);
+    agrees = agrees;
     declared = λ number rule run path given unflagged. kept.declared number rule run path given (before number rule unflagged);
-    read = agrees.read;
-    told = agrees.told;
-    upward = agrees.upward;
-    made = kept.made;
-    makers = kept.makers;
+    owners = record { made = kept.owners.made; makers = kept.owners.makers };
     linked = kept.linked;
     written = λ number rule run unflagged. kept.written number rule run (before number rule unflagged);
   }

@@ -1,5 +1,5 @@
 -- A swap of rules keeps a kept graph.
-use Rattle.std.specs.Prelude.{◌≡◌, ◌⊎◌, ◌+◌, ◌<◌, ℕ, zero, suc, Bool, true, false, List, [], ◌∷◌, Option, None, Some, All, Contains, cond, is_some, option_map, slice_get, unwrap_or}
+use Rattle.std.specs.Prelude.{◌≡◌, ◌⊎◌, ◌+◌, ◌<◌, ℕ, zero, suc, Bool, true, false, List, [], ◌∷◌, Option, None, Some, All, Contains, IsSome, cond, is_some, option_map, slice_get, unwrap_or}
 use Rattle.std.proofs.Common.{refl, sym, ap, ap₂, subst, ◌∙◌, inl, inr, slice_index_or, arith}
 use Rattle.std.specs.FinMap as finite
 use Rattle.std.specs.List.{position_from}
@@ -79,7 +79,7 @@ pub maker-None : (rules : List Rule) (path : Names) (at : ℕ) (rule : Rule) →
 maker-None rules path at rule none = none_from (λ (r : Rule). writes r path) 0 rules at rule (sym (position_from-zero (λ (r : Rule). writes r path) rules) ∙ none)
 
 -- how a path is owned by a maker
-abbrev owned_by : Option ℕ → Option Owned → Option Owned
+abbrev pub owned_by : Option ℕ → Option Owned → Option Owned
 owned_by (Some number) before = Some (record { maker = Some number; state = unwrap_or (option_map (λ (owned : Owned). owned.state) before) Never })
 owned_by None before = option_map (λ (owned : Owned). record { maker = None; state = owned.state }) before
 
@@ -150,7 +150,7 @@ module _ (language : Language) (known : List Content) (g new : GraphState) (fres
   owned_are : (path : Names) → finite.get new.owned path ≡ owned_by (maker path rules) (finite.get g.owned path)
   owned_are path = is.owned path ∙ owned_so rules path (finite.get g.owned path)
 
-  owned_if : (path : Names) (found : Option ℕ) → maker path rules ≡ found → finite.get new.owned path ≡ owned_by found (finite.get g.owned path)
+  pub owned_if : (path : Names) (found : Option ℕ) → maker path rules ≡ found → finite.get new.owned path ≡ owned_by found (finite.get g.owned path)
   owned_if path found makes = owned_are path ∙ ap (λ (m : Option ℕ). owned_by m (finite.get g.owned path)) makes
 
   -- the same files are sources
@@ -222,7 +222,7 @@ module _ (language : Language) (known : List Content) (g new : GraphState) (fres
   linked = ap (λ (r : Readings). language.linked (finite.entries r)) readings_are ∙ fits.linked ∙ ap Some (sym is.rules_are)
 
   pub swap_fits : FitsTogether language known new
-  swap_fits = record { created = is.created; stand = record { read = has_reading; told = was_told }; made = made; makers = makers; linked = linked }
+  swap_fits = record { created = is.created; stand = record { read = has_reading; told = was_told }; owners = record { made = made; makers = makers }; linked = linked }
 
   -- ---- of a kept graph
   module _ (next : Next) (kept : IsKept next language known g) where
@@ -232,7 +232,7 @@ module _ (language : Language) (known : List Content) (g new : GraphState) (fres
     was_owned number rule run path given unflagged ran asked owned = by (finite.get g.owned path) refl (maker path rules) refl
       where
         makes_here : (other : ℕ) (it : Rule) → slice_get rules other ≡ Some it → writes it path ≡ true → ((before : ℕ) × WasAt g it before) ⊎ IsNew g it → is_owned g path ≡ true
-        makes_here other it here wrote (inl (before, was)) = ap is_some (kept.made before it path was.0 wrote).1
+        makes_here other it here wrote (inl (before, was)) = ap is_some (kept.owners.made before it path was.0 wrote).1
         makes_here other it here wrote (inr fresh_one) =
             absurd (true≢false (sym ((is.flags number).1 (inr (zero, (other, it, stands g new fresh gone rules is other it here, fresh_one, (path, (run, given, ran, asked.0), wrote))))) ∙ unflagged.unflagged))
 
@@ -243,19 +243,21 @@ module _ (language : Language) (known : List Content) (g new : GraphState) (fres
             makes_here other here.rule here.here here.writes_it (was_or_new g here.rule))
         by None was None makes = absurd (true≢false (sym owned ∙ ap is_some (owned_if path None makes ∙ ap (owned_by None) was)))
 
-    recorded : (number : ℕ) (rule : Rule) → IsUnflagged new number rule → (run : RunRecord) × (finite.get new.runs number ≡ Some run) × HasSeenStamps new rule run
+    recorded : (number : ℕ) (rule : Rule) → IsUnflagged new number rule → IsSome (finite.get new.runs number)
     recorded number rule unflagged =
         let was = unflagged_before g new fresh gone rules is number rule unflagged in
-        let has = kept.recorded was.0 rule (record { here = was.1.0; unflagged = was.2 }) in (
-          has.0,
-          is.kept_runs number was.0 rule unflagged.here was.1 ∙ has.1,
-          record {
-            asked = λ path given asked. has.2.asked path given asked ∙ sym (ap (λ (m : finite.FinMap by_names Stamp). finite.get m path) is.seen);
-            wrote = λ at d less.
-                (let file = slice_index_or has.0.writes at d in
-                ap (λ (m : finite.FinMap by_names Stamp). finite.get m file.0) is.seen ∙ has.2.wrote at d less);
-          },
-        )
+        subst IsSome (sym (is.kept_runs number was.0 rule unflagged.here was.1)) (kept.recorded was.0 rule (record { here = was.1.0; unflagged = was.2 }))
+
+    stamps : (number : ℕ) (rule : Rule) (run : RunRecord) → IsUnflagged new number rule → finite.get new.runs number ≡ Some run → HasSeenStamps new rule run
+    stamps number rule run unflagged ran =
+        let was = unflagged_before g new fresh gone rules is number rule unflagged in
+        let has = kept.agrees.stamps was.0 rule run (record { here = was.1.0; unflagged = was.2 }) (sym (is.kept_runs number was.0 rule unflagged.here was.1) ∙ ran) in
+        record {
+          asked = λ path given asked. has.asked path given asked ∙ sym (ap (λ (m : finite.FinMap by_names Stamp). finite.get m path) is.seen);
+          wrote = λ at d less.
+              (let file = slice_index_or run.writes at d in
+              ap (λ (m : finite.FinMap by_names Stamp). finite.get m file.0) is.seen ∙ has.wrote at d less);
+        }
 
     declared : (number : ℕ) (rule : Rule) (run : RunRecord) (path : Names) (given : Option Stamp) → IsUnflagged new number rule → finite.get new.runs number ≡ Some run → Asked rule run path given → is_owned new path ≡ true
         → declares rule path ≡ true
@@ -266,16 +268,20 @@ module _ (language : Language) (known : List Content) (g new : GraphState) (fres
 
     pub swap_keeps : IsKept next language known new
     swap_keeps = record {
-      true_runs = λ number rule run here ran.
-          (let was = ran_before g new fresh gone rules is number rule run here ran in kept.true_runs was.0 rule run was.1.0 was.2);
-      true_readings = λ dir reading here. fits.true_ones dir reading (subst (λ (r : Readings). finite.get r dir ≡ Some reading) readings_are here);
+      records = record {
+        runs = λ number rule run here ran.
+            (let was = ran_before g new fresh gone rules is number rule run here ran in kept.records.runs was.0 rule run was.1.0 was.2);
+        readings = λ dir reading here. fits.true_ones dir reading (subst (λ (r : Readings). finite.get r dir ≡ Some reading) readings_are here);
+      };
       recorded = recorded;
+      agrees = record {
+        stamps = stamps;
+        read = λ dir there unread. has_reading dir there;
+        told = λ dir reading here unread. was_told dir reading here;
+        upward = swap_upward g new fresh gone rules is kept.agrees.upward;
+      };
       declared = declared;
-      read = λ dir there unread. has_reading dir there;
-      told = λ dir reading here unread. was_told dir reading here;
-      upward = swap_upward g new fresh gone rules is kept.upward;
-      made = made;
-      makers = makers;
+      owners = record { made = made; makers = makers };
       linked = linked;
       written = λ number rule run unflagged ran.
           (let was = unflagged_before g new fresh gone rules is number rule unflagged in

@@ -9,10 +9,9 @@ use Rattle.tup_rule.specs.declared.question.Reading.{Reading}
 use Rattle.tup_rule.specs.declared.rule.Rule.{Rule}
 use Rattle.tup_graph.specs.Answers.{tupfile, Readings, Sources, IsAnswer, IsSource}
 use Rattle.tup_graph.specs.Graph.{GraphState, source}
-use Rattle.tup_graph.specs.Kept.{IsRuleAt}
+use Rattle.tup_graph.specs.Kept.{HasMakers}
 use Rattle.tup_graph.specs.Records.{Language, IsTrueReading}
 use Rattle.tup_graph.specs.Swap.{reading_now}
-use Rattle.tup_graph.specs.declared.owned.Owned.{Owned}
 
 -- readings are those of sources: each folder with a Tupfile has one, and each was told what is so
 pub record AreReadingsOf (known : List Content) (sources : Sources) (readings : Readings) : Type 0 where
@@ -39,8 +38,5 @@ pub record AreFitting (language : Language) (known : List Content) (g : GraphSta
 pub record FitsTogether (language : Language) (known : List Content) (g : GraphState) : Type 0 where
   pub created : g.created ≡ finite.empty
   pub stand : AreReadingsOf known (source g) g.readings
-  pub made : (number : ℕ) (rule : Rule) (path : Names) → IsRuleAt g number rule → writes rule path ≡ true
-      → (owned : Owned) × (finite.get g.owned path ≡ Some owned) × (owned.maker ≡ Some number)
-  pub makers : (path : Names) (owned : Owned) (number : ℕ) → finite.get g.owned path ≡ Some owned → owned.maker ≡ Some number
-      → (rule : Rule) × IsRuleAt g number rule × (writes rule path ≡ true)
+  pub owners : HasMakers g
   pub linked : language.linked (finite.entries g.readings) ≡ Some g.rules

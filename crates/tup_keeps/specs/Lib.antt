@@ -1,4 +1,3 @@
-pub mod Agrees
 pub mod Edited
 pub mod Fitting
 pub mod Linking

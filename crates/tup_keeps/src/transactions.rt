@@ -6,11 +6,10 @@ ghost use Rattle.tup_rule.specs.declared.question.Reading.{Reading};
 ghost use Rattle.tup_rule.specs.declared.rule.Rule.{Rule};
 ghost use Rattle.tup_runner.specs.Next.{Next};
 ghost use Rattle.tup_graph.specs.Graph.{GraphState};
-ghost use Rattle.tup_graph.specs.Kept.{IsKept};
+ghost use Rattle.tup_graph.specs.Kept.{AgreesWithSeen, IsKept};
 ghost use Rattle.tup_graph.specs.Records.{Language};
 ghost use Rattle.tup_graph.specs.Scan.{IsScanned};
 ghost use Rattle.tup_graph.specs.Swap.{IsSwapped};
-ghost use Rattle.tup_keeps.specs.Agrees.{AgreesWithSeen};
 ghost use Rattle.tup_keeps.specs.Fitting.{AreFitting, FitsTogether};
 
 /// A law: whatever graph it was, after a scan it agrees with the files that the scan found, where the content that was found

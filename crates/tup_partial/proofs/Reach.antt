@@ -51,7 +51,7 @@ module _ (g : GraphState) (runs : AreRunsOfRules g) where
     over_flagged zero number root = root
     over_flagged (suc reads) number (before, maker, below, here, (path, (run, given, ran, asks), wrote)) =
         let rule = reader number (ltb-true number (length g.rules) (runs number run ran)) in
-        kept.upward before number maker rule.0 run path given here (over_flagged reads before below) rule.1 ran asks wrote
+        kept.agrees.upward before number maker rule.0 run path given here (over_flagged reads before below) rule.1 ran asks wrote
       where
         reader : (n : ℕ) → n < length g.rules → (rule : Rule) × (slice_get g.rules n ≡ Some rule)
         reader n within = (get_or g.rules n maker, slice_get-get_or g.rules n maker within)

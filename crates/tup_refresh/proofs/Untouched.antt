@@ -347,7 +347,7 @@ module _ (next : Next) (language : Language) (known : List Content) (g : GraphSt
 
   -- a folder that isn't flagged has a kept reading
   one_kept : (dir : Names) → IsTrue (has_tupfile sources dir) → is_created g dir ≡ false → (left : Reading) × (finite.get g.readings dir ≡ Some left)
-  one_kept dir has off = by (finite.get g.readings dir) refl (is_kept.read dir (source_is sources g sees (tupfile dir) has) off)
+  one_kept dir has off = by (finite.get g.readings dir) refl (is_kept.agrees.read dir (source_is sources g sees (tupfile dir) has) off)
     where
       by : (found : Option Reading) → finite.get g.readings dir ≡ found → IsSome (finite.get g.readings dir) → (left : Reading) × (finite.get g.readings dir ≡ Some left)
       by (Some left) e some = (left, e)
@@ -359,7 +359,7 @@ module _ (next : Next) (language : Language) (known : List Content) (g : GraphSt
         → kept_as (answer sources settings before dir one.0) ≡ one.1
     told_stands dir left one there untouched asked ready =
         answer_stands sources g sees settings before tups dir known is_known tree set one.0 one.1
-        (All-contains (λ (one : Question × Noted). IsAnswer known (source g) g.readings dir one.0 one.1) left.asked one (is_kept.told dir left there (untouched 0 dir refl)) asked) ready
+        (All-contains (λ (one : Question × Noted). IsAnswer known (source g) g.readings dir one.0 one.1) left.asked one (is_kept.agrees.told dir left there (untouched 0 dir refl)) asked) ready
         (λ folder found of got. stay folder found got (untouched_on dir folder (record { left = left; kept = there; one = one; asked = asked; of = of }) untouched))
 
     same_reading : (x y : Reading) → x.drafts ≡ y.drafts → x.asked ≡ y.asked → x ≡ y
@@ -373,7 +373,7 @@ module _ (next : Next) (language : Language) (known : List Content) (g : GraphSt
         kept_one = one_kept dir has (untouched 0 dir refl)
 
         was : IsTrueBeside sources dir kept_one.0
-        was = true_beside language known reads sources is_known tree dir kept_one.0 (is_kept.true_readings dir kept_one.0 kept_one.1)
+        was = true_beside language known reads sources is_known tree dir kept_one.0 (is_kept.records.readings dir kept_one.0 kept_one.1)
 
         alike : ToldAlike over.log was.log
         alike question a b e f =

@@ -46,6 +46,10 @@ module _ (gate : ℕ) (bytes : List ℕ) (inside : gate ≤ length bytes) where
   pub as_it_was : (new : List ℕ) → IsEnd (drop gate bytes) → ¬ LacksGate (drop gate bytes) → new ≡ bytes → new ≡ take gate bytes ++ closed_end (drop gate bytes)
   as_it_was new ends not same = same ∙ whole ∙ ap (λ (t : List ℕ). take gate bytes ++ t) (sym (closed_already (drop gate bytes) ends (λ e. not (inl e)) (λ e. not (inr e))))
 
+  -- nothing is written
+  pub no_step : (v : World) → v.store ≡ bytes → IsEnd (drop gate bytes) → EndStep gate bytes v v
+  no_step v is ends = record { tree = refl; rest = drop gate bytes; ends = ends; whole = is ∙ whole }
+
   module _ (short : length (drop gate bytes) ≤ 1) where
     pub end_step : (v w : World) → v.store ≡ bytes → WriteStep gate 1 v w → EndStep gate bytes v w
     end_step v w is step =
@@ -90,6 +94,11 @@ module _ (commits : List (List Change)) (bytes : List ℕ) (store : IsStore byte
 pub opened_ok : (bytes : List ℕ) (opened : Opened) → (Ok opened ≡ Err Memory) ⊎ ReadsAs bytes (Ok opened) → ReadsAs bytes (Ok opened)
 opened_ok bytes opened (inl memory) = absurd (cc)
 opened_ok bytes opened (inr reads) = reads
+
+-- what was read is what was there, and its end was changed
+pub open_keeps : (bytes : List ℕ) (opened : Opened) → ReadsAs bytes (Ok opened) → (u v w : World) → v ≡ u → v.store ≡ bytes → EndStep opened.gate bytes v w → (w ≡ u) ⊎ OpenStep u w
+open_keeps bytes opened reads u v w same there step =
+    inr (subst (λ (x : World). OpenStep x w) same (open_step reads.0 bytes reads.1 opened.gate (ap (λ (o : Opened). o.gate) reads.2) v w there step))
 
 module _ {S : Type 0} (world : S → World) (moment : S → ℕ) (left_since : S → ℕ → World → Type 0) (old mid new : S) where
   pub open_goes : (bytes : List ℕ) (opened : Opened) (gate : ℕ) → ReadsAs bytes (Ok opened) → gate ≡ opened.gate → IsEarlier moment left_since mid → GoesOn moment left_since old mid NoStep → PinsStore (left_since mid (moment mid)) (world mid)

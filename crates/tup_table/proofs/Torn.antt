@@ -1,5 +1,5 @@
 -- What a write leaves of bytes at their end, at a gate, and behind a gate: where it succeeds, and where it is torn.
-use Rattle.std.proofs.Common.{◌≡◌, ℕ, ◌+◌, ◌≤◌, List, [], ◌∷◌, ◌++◌, length, get_or, take, drop, refl, sym, ap, ◌∙◌, append_assoc, length-append, length-drop, drop-drop, take-append-drop, arith, inr}
+use Rattle.std.proofs.Common.{◌≡◌, ℕ, ◌+◌, ◌≤◌, List, [], ◌∷◌, ◌++◌, length, get_or, take, drop, refl, sym, ap, ◌∙◌, append_assoc, length-append, length-drop, length-take-le, drop-drop, take-append-drop, arith, inr}
 use Rattle.std.proofs.lemmas.List.{take_at, drop_at, drop_all, drop_more}
 use Rattle.tup_site.specs.Store.{Holds, IsTorn}
 use Rattle.tup_table.specs.Store.{IsEnd}
@@ -9,6 +9,26 @@ pub short_end : (rest : List ℕ) → length rest ≤ 1 → IsEnd rest
 short_end [] le = tt
 short_end (gate ∷ []) le = inr refl
 short_end (gate ∷ more ∷ rest) le = absurd (omega (arith, le))
+
+-- ---- a write of which every part was made
+module _ (at : ℕ) (old bytes new : List ℕ) (inside : at ≤ length old) (holds : Holds old at bytes new) where
+  abbrev past : List ℕ
+  past = drop (at + length bytes) old
+
+  length-new : length new ≡ at + (length bytes + length past)
+  length-new = omega (arith, ap length holds, length-append (take at old) (bytes ++ past), length-append bytes past, length-take-le at old inside)
+
+  pub whole_torn : IsTorn at (length bytes) old new
+  whole_torn =
+      let ends = length-take-le at old inside in
+      record {
+        before = ap (take at) holds ∙ take_at (take at old) (bytes ++ past) at ends;
+        after =
+            ap (drop (at + length bytes)) (holds ∙ sym (append_assoc (take at old) bytes past))
+            ∙ drop_at (take at old ++ bytes) past (at + length bytes) (omega (arith, length-append (take at old) bytes, ends));
+        no_shorter = omega (arith, length-new, length-drop (at + length bytes) old);
+        no_longer = omega (arith, length-new, length-drop (at + length bytes) old, inside);
+      }
 
 module _ (front : List ℕ) (at : ℕ) (ends : length front ≡ at) where
   same_front : (rest w : List ℕ) → take at w ≡ take at (front ++ rest) → w ≡ front ++ drop at w

@@ -83,6 +83,9 @@ impl Table {
             ++ closed_end (drop (gate_of table) (S.world site.old).store)) }
         ensures refused { IsTrue S.tells → IfErr result
             (λ fault. IsOutside fault ⊎ (S.world site.new ≡ S.world site.old)) }
+        // Whatever it answers, all is as it was, or the store has the same entries.
+        ensures keeps { IsTrue S.tells → (S.world site.new ≡ S.world site.old)
+            ⊎ OpenStep (S.world site.old) (S.world site.new) }
 
         // What it changes meanwhile, and what a crash may leave then: the same entries.
         ensures tree { IsTrue S.tells → TreeStays (S.world site.old) (S.world site.new) }

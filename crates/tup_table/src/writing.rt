@@ -44,6 +44,8 @@ pub(crate) fn write_through<S: Site>(
         → OnOk result (Holds (S.world site.old).store at bytes.now (S.world site.new).store) }
     ensures durable { IsTrue S.tells
         → OnOk result (PinsStore (S.left_since site.new (S.moment site.new)) (S.world site.new)) }
+    ensures step { IsTrue S.tells
+        → WriteStep at (length bytes.now) (S.world site.old) (S.world site.new) }
     ensures tree { IsTrue S.tells → TreeStays (S.world site.old) (S.world site.new) }
     ensures crash { IsTrue S.tells
         → GoesOn S.moment S.left_since site.old site.new (WriteStep at (length bytes.now)) }
@@ -71,6 +73,8 @@ pub(crate) fn close_end<S: Site>(
         ((S.world site.new).store ≡ take gate bytes.now ++ closed_end (drop gate bytes.now)) }
     ensures durable { IsTrue S.tells
         → OnOk result (PinsStore (S.left_since site.new (S.moment site.new)) (S.world site.new)) }
+    ensures step { IsTrue S.tells
+        → EndStep gate bytes.now (S.world site.old) (S.world site.new) }
     ensures tree { IsTrue S.tells → TreeStays (S.world site.old) (S.world site.new) }
     ensures crash { IsTrue S.tells
         → GoesOn S.moment S.left_since site.old site.new (EndStep gate bytes.now) }

@@ -4,7 +4,7 @@ use Rattle.std.proofs.lemmas.Result.{on_ok_weaker}
 use Rattle.tup_site.specs.Crash.{WriteStep}
 use Rattle.tup_site.specs.Store.{Holds}
 use Rattle.tup_table.specs.Images.{EndStep}
-use Rattle.tup_table.proofs.Ends.{lacking_short, lacking_closed, as_it_was, end_step, end_closed}
+use Rattle.tup_table.proofs.Ends.{lacking_short, lacking_closed, as_it_was, no_step, end_step, end_closed}
 use Rattle.tup_table.proofs.Going.{as_step}
 use Rattle.tup_table.proofs.writing.close_end.Goals as goal
 
@@ -35,3 +35,14 @@ pub returns-clause-store : goal.returns-clause-store
 returns-clause-store g c = λ tells.
     as_it_was c.args.gate c.args.bytes.now c.requires.inside (g.S.Site.world c.args.site.now).store c.requires.ends
     (not_so c.lacks_gate.result c.lacks_gate.ensures.1 c.if-lacks_gate.false) (sym (c.requires.bytes tells))
+
+pub returns-then-lacks_gate-clause-step : goal.returns-then-lacks_gate-clause-step
+returns-then-lacks_gate-clause-step g c = λ tells.
+    let gate = c.args.gate in
+    let bytes = c.args.bytes.now in
+    let short = lacking_short (drop gate bytes) (c.lacks_gate.ensures.0 c.if-lacks_gate.true) in
+    end_step gate bytes c.requires.inside short (g.S.Site.world c.args.site.now) (g.S.Site.world c.write_through.new.site) (sym (c.requires.bytes tells)) (c.write_through.ensures.step tells)
+
+pub returns-clause-step : goal.returns-clause-step
+returns-clause-step g c = λ tells.
+    no_step c.args.gate c.args.bytes.now c.requires.inside (g.S.Site.world c.args.site.now) (sym (c.requires.bytes tells)) c.requires.ends

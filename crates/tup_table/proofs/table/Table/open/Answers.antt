@@ -2,7 +2,7 @@ use Rattle.std.proofs.Common.{◌≡◌, List, ℕ, Ok, refl, sym, ap, subst, �
 use Rattle.tup_site.specs.World.{World}
 use Rattle.tup_table.specs.Reading.{ReadsAs}
 use Rattle.tup_table.specs.declared.opened.Opened.{Opened}
-use Rattle.tup_table.proofs.Ends.{opened_ok, open_goes, at_rest}
+use Rattle.tup_table.proofs.Ends.{opened_ok, open_goes, open_keeps, at_rest}
 use Rattle.tup_table.proofs.table.Table.open.Goals as goal
 
 pub returns-in_err-close_end-clause-crash : goal.returns-in_err-close_end-clause-crash
@@ -42,3 +42,21 @@ returns-clause-stands g c = λ tells.
       entries = ap (λ (o : Opened). o.entries) reads.2;
       gate = place;
     }
+
+pub returns-in_err-close_end-clause-keeps : goal.returns-in_err-close_end-clause-keeps
+returns-in_err-close_end-clause-keeps g c = λ tells.
+    let same = c.durable_bytes.ensures.same tells in
+    let opened = c.in_ok-entries.field-0 in
+    let again = c.deref-2.result.now in
+    let there : (g.S.Site.world c.durable_bytes.new.site).store ≡ again = ap (λ (w : World). w.store) same ∙ sym (c.in_ok-bytes.ensures.bytes tells) ∙ sym c.deref-2.ensures.value in
+    let reads = subst (λ (b : List ℕ). ReadsAs b (Ok opened)) (c.deref.ensures.value ∙ sym c.deref-2.ensures.value) (opened_ok c.deref.result.now opened c.in_ok-entries.ensures.reads) in
+    open_keeps again opened reads (g.S.Site.world c.args.site.now) (g.S.Site.world c.durable_bytes.new.site) (g.S.Site.world c.close_end.new.site) same there (c.close_end.ensures.step tells)
+
+pub returns-clause-keeps : goal.returns-clause-keeps
+returns-clause-keeps g c = λ tells.
+    let same = c.durable_bytes.ensures.same tells in
+    let opened = c.in_ok-entries.field-0 in
+    let again = c.deref-2.result.now in
+    let there : (g.S.Site.world c.durable_bytes.new.site).store ≡ again = ap (λ (w : World). w.store) same ∙ sym (c.in_ok-bytes.ensures.bytes tells) ∙ sym c.deref-2.ensures.value in
+    let reads = subst (λ (b : List ℕ). ReadsAs b (Ok opened)) (c.deref.ensures.value ∙ sym c.deref-2.ensures.value) (opened_ok c.deref.result.now opened c.in_ok-entries.ensures.reads) in
+    open_keeps again opened reads (g.S.Site.world c.args.site.now) (g.S.Site.world c.durable_bytes.new.site) (g.S.Site.world c.close_end.new.site) same there (c.close_end.ensures.step tells)
