@@ -21,3 +21,4 @@ pub mod Ended
 pub mod Finished
 pub mod Seeing
 pub mod Draining
+pub mod Performed

@@ -32,6 +32,9 @@ use Rattle.tup_core.specs.declared.event.CoreEvent.TheVariants.{Ask, Deny, Finis
 use Rattle.tup_core.specs.declared.running.Running.{Running}
 use Rattle.tup_core.specs.Honest.{EndsHonestly, stamped}
 use Rattle.tup_core.specs.declared.plan.Plan.{Plan}
+use Rattle.tup_core.specs.Kept.{Kept}
+use Rattle.tup_core.specs.Planned.{IsPlanned, clean_of}
+use Rattle.tup_clean.specs.Clean.{succeeds}
 use Rattle.tup_core.specs.Run.{claims}
 use Rattle.tup_core.specs.Step.{State}
 use Rattle.tup_board.specs.declared.answers.Asked.{Asked}
@@ -216,6 +219,14 @@ abbrev pub Drains : State → Drained → Type 0
 Drains end Done = (end.stopped ≡ None) × ((number : ℕ) → end.bad number ≡ None)
 Drains end (Left cause) = (end.stopped ≡ Some cause) ⊎ ((end.stopped ≡ None) × (cause ≡ Bad) × ((number : ℕ) × IsSome (end.bad number)))
 
+-- where a board's opening was planned over what is kept of a project, the clean build of its sources succeeds, and the files are
+-- those that it leaves
+abbrev pub BuildsClean : {S R : Type 0} → Site S → Runner R → BoardState S → Kept → Tree → Type 0
+BuildsClean site runner board kept tree =
+    IsPlanned runner.next (site.known board.site) kept tree (plan_of board) (course_of board).files
+    → (succeeds (clean_of runner.next kept tree (plan_of board)) ≡ true)
+    × ((path : Names) → option_map stamp (finite.get (site.world board.site).tree path) ≡ option_map stamp (finite.get (clean_of runner.next kept tree (plan_of board)).tree path))
+
 -- nothing goes on any more
 abbrev pub IsOver : {S : Type 0} → BoardState S → Type 0
 IsOver board = NoneRuns (course_of board) × (IsSome (state board).stopped ⊎ NoneReady (course_of board))
@@ -242,6 +253,8 @@ pub record HasRunCause (before : Option Cause) (was now : ℕ) (result : Drained
 -- ---- one rule of a drain
 -- seat 0 runs the rule of this number, whose command did nothing yet; nothing is stopped, and no other seat runs one
 pub record StartsAlone {S : Type 0} (board : BoardState S) (number : ℕ) : Type 0 where
+  pub rule : Rule
+  pub placed : slice_get (plan_of board).rules number ≡ Some rule
   pub here : (state board).seats 0 ≡ Some (record { rule = number; asks = []; denied = None })
   pub alone : (other : ℕ) → other ≢ 0 → (state board).seats other ≡ None
   pub going : (state board).stopped ≡ None

@@ -48,7 +48,7 @@ module _ {S : Type 0} (site : Site S) (seat : ℕ) where
   from_none : (b : BoardState S) → IsFromSeat seat b b
   from_none b = record { opening = refl; events = []; adds = sym (append-nil b.history); own = All-nil _; none_claimed = refl; others = λ other apart. refl }
 
-  from_both : (a b c : BoardState S) → IsFromSeat seat a b → IsFromSeat seat b c → IsFromSeat seat a c
+  pub from_both : (a b c : BoardState S) → IsFromSeat seat a b → IsFromSeat seat b c → IsFromSeat seat a c
   from_both a b c one two = record {
     opening = two.opening ∙ one.opening;
     events = one.events ++ two.events;
@@ -65,6 +65,7 @@ module _ {S : Type 0} (site : Site S) (seat : ℕ) where
     stays = inr (refl, refl);
     going = λ fine. refl;
     left = λ failed fine. absurd (true≢false (sym failed ∙ fine));
+    never_run = λ run. run;
   }
 
   pub came_none : (b : BoardState S) (refusal : Option Refusal) → CameBy site seat b refusal [] b refusal
@@ -112,6 +113,7 @@ module _ {S : Type 0} (site : Site S) (seat : ℕ) where
         stays = ⊎_elim inl (λ same. ⊎_elim (λ none. inl (sym same.0 ∙ none)) (λ also. inr (also.0 ∙ same.0, also.1 ∙ same.1)) two.stays) one.stays;
         going = λ fine. two.going fine ∙ one.going (next_fine fine);
         left = λ failed fine. left_both (has_failed next) refl failed fine;
+        never_run = λ run. one.never_run (two.never_run run);
       }
 
   module _ (a b c : BoardState S) (first next last : Option Refusal) (some more : Asks) (one : CameBy site seat a first some b next) (two : CameBy site seat b next more c last) where

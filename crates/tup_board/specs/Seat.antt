@@ -1,5 +1,5 @@
 -- What a command sees of a board from its seat (own).
-use Rattle.std.specs.Prelude.{◌≡◌, ◌≢◌, ◌⊎◌, ℕ, true, false, Bool, List, [], ◌∷◌, ◌++◌, Option, None, Some, All, IsTrue, option_map}
+use Rattle.std.specs.Prelude.{◌≡◌, ◌≢◌, ◌⊎◌, ℕ, true, false, Bool, List, [], ◌∷◌, ◌++◌, Option, None, Some, All, IsTrue, option_map, is_none}
 use Rattle.tup_stamp.specs.declared.Stamp.{Stamp}
 use Rattle.tup_runner.specs.Next.{Asks}
 use Rattle.tup_runner.specs.Refusal.{Refusal}
@@ -8,6 +8,7 @@ use Rattle.tup_runner.specs.declared.fault.ViewFailed.TheVariants.{Denied, Fault
 use Rattle.tup_site.specs.declared.site.Site.{Ghosts as Site}
 use Rattle.tup_access.specs.declared.verdict.Verdict.{Verdict}
 use Rattle.tup_board.specs.declared.seat.Refused.{Refused}
+use Rattle.tup_core.specs.declared.event.Cause.TheVariants.{Run}
 use Rattle.tup_core.specs.declared.event.CoreEvent.{CoreEvent}
 use Rattle.tup_core.specs.declared.event.CoreEvent.TheVariants.{Claim, Ask, Deny, Finish, Stop}
 use Rattle.tup_core.specs.declared.running.Running.{Running}
@@ -22,6 +23,11 @@ seat_of (Ask seat text answer) = seat
 seat_of (Deny seat text verdict) = seat
 seat_of (Finish seat given files) = seat
 seat_of (Stop seat cause) = seat
+
+-- whether a seat runs a rule whose command was denied nothing
+abbrev pub is_granted : Option Running → Bool
+is_granted None = false
+is_granted (Some running) = is_none running.denied
 
 -- whether the files couldn't be reached
 abbrev pub has_failed : Option Refusal → Bool
@@ -49,13 +55,14 @@ pub record IsDenial (refusal : Option Refusal) (denied : Option (List ℕ × Ver
   pub is : denied ≡ Some (text, verdict)
 
 -- from one state of a board to another at most the seat's command came on. Once a text was refused nothing more happens: where the
--- files couldn't be reached the seat runs nothing any more, and else nothing was stopped
+-- files couldn't be reached the seat runs nothing any more, and else nothing was stopped; nothing is stopped for a runner
 pub record KeepsSeat {S : Type 0} (site : Site S) (seat : ℕ) (old : BoardState S) (was : Option Refusal) (new : BoardState S) (is : Option Refusal) : Type 0 where
   pub from : IsFromSeat seat old new
   pub known : IsTrue site.tells → site.known new.site ≡ site.known old.site
   pub stays : (was ≡ None) ⊎ ((is ≡ was) × (new ≡ old))
   pub going : has_failed is ≡ false → (state new).stopped ≡ (state old).stopped
   pub left : has_failed is ≡ true → has_failed was ≡ false → (state new).seats seat ≡ None
+  pub never_run : (state new).stopped ≡ Some Run → (state old).stopped ≡ Some Run
 
 -- the command that a seat ran asked just this more, and was answered so; it was denied just what its view refused since
 pub record HasAsked {S : Type 0} (site : Site S) (seat : ℕ) (running : Running) (was : Option Refusal) (asks : Asks) (new : BoardState S) (is : Option Refusal) : Type 0 where

@@ -1,21 +1,22 @@
 //! What a command is told.
-ghost use Rattle.std.specs.Prelude.{◌≡◌, IsTrue, None};
+ghost use Rattle.std.specs.Prelude.{◌≡◌, ◌↔◌, IsTrue, None};
 ghost use Rattle.tup_path.specs.Name.{Names};
 ghost use Rattle.tup_site.specs.Crash.{GoesOn as CrashGoesOn, NoStep};
 
 use crate::answers::Asked;
 use crate::board::Board;
-use crate::desk::Desk;
+use crate::desk::{Desk, rule_run};
 use std::alloc::Global;
 use tup_core::Plan;
 use tup_ground::BoardFault;
 use tup_path::Text;
+use tup_rule::Rule;
 use tup_runner::Runner;
 use tup_site::Site;
 
 impl<S: Site, R: Runner> Board<S, R> {
     ghost use Rattle.tup_board.specs.Board.{course_of, plan_of};
-    ghost use Rattle.tup_course.specs.Course.{GoesOn};
+    ghost use Rattle.tup_course.specs.Course.{GoesOn, RunsRule, WasDenied};
     ghost use Rattle.tup_board.specs.Calls.{AsksFor, IsAsked, IsToldOf, HasAskedFor};
     ghost use Rattle.tup_ground.specs.Fault.{CountsFaults};
 
@@ -44,5 +45,34 @@ impl<S: Site, R: Runner> Board<S, R> {
         ensures cause { CountsFaults (S.faults self.old.site) (S.faults self.new.site) None result }
     {
         self.reply(alloc, plan, seat, text)
+    }
+
+    /// Whether a seat runs a rule whose command was denied nothing.
+    pub fn goes_on(&self, seat: u32) -> bool
+        ensures { IsTrue result ↔ GoesOn (course_of self.now) seat }
+    {
+        match self.course.running(seat) {
+            Some(running) => running.denied.is_none(),
+            None => false,
+        }
+    }
+
+    /// Whether a seat runs a rule whose command was denied its last ask.
+    pub fn was_denied(&self, seat: u32) -> bool
+        ensures { IsTrue result ↔ WasDenied (course_of self.now) seat }
+    {
+        match self.course.running(seat) {
+            Some(running) => running.denied.is_some(),
+            None => false,
+        }
+    }
+
+    /// The rule that a seat runs.
+    pub fn rule_of<'p>(&self, plan: &'p Plan, seat: u32) -> &'p Rule
+        requires plan { plan.now ≡ plan_of self.now }
+        requires runs { RunsRule (course_of self.now) seat }
+        ensures { (it : RunsRule (course_of self.now) seat) → result.now ≡ it.rule }
+    {
+        rule_run(&self.course, plan, seat)
     }
 }

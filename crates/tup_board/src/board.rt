@@ -1,6 +1,7 @@
 //! The board.
 ghost use Rattle.std.specs.Prelude.{◌≡◌, ◌⊎◌, ◌<◌, [], None, IfOk, IfErr, IsTrue};
 ghost use Rattle.std.specs.FinMap as finite;
+ghost use Rattle.std.specs.Option.{option_copied};
 ghost use Rattle.tup_table.specs.Table.{entries_in};
 ghost use Rattle.tup_graph.specs.Opening.{IsGraphOf};
 ghost use Rattle.tup_core.specs.Honest.{IsHonest};
@@ -13,7 +14,7 @@ use std::alloc::{AllocError, Global};
 use std::marker::{Model, PhantomData};
 use std::snapshot::Snapshot;
 use tup_access::Verdict;
-use tup_core::{Cause, CoreEvent, Plan, Stamps};
+use tup_core::{Cause, CoreEvent, Plan, Running, Stamps};
 use tup_course::{Claimed, Course};
 use tup_graph::Nodes;
 use tup_ground::{BoardFault, Ground};
@@ -126,6 +127,13 @@ impl<S: Site, R: Runner> Board<S, R> {
         ensures keeps { IsSound S.Site.own R.Runner.own self.now }
     {
         self.course.history()
+    }
+
+    /// What a seat runs.
+    pub fn running(&self, seat: u32) -> Option<&Running>
+        ensures { option_copied result ≡ (state self.now).seats seat }
+    {
+        self.course.running(seat)
     }
 
     /// Takes the board apart. Where the graph isn't fresh, its store is opened again.

@@ -1,5 +1,5 @@
 //! What a board does for the command that a seat runs.
-ghost use Rattle.std.specs.Prelude.{◌≡◌, ◌≢◌, ◌++◌, ◌↔◌, length, IsTrue, IfOk, None, Err};
+ghost use Rattle.std.specs.Prelude.{◌≡◌, ◌≢◌, ◌++◌, ◌↔◌, length, true, IsTrue, IfOk, None, Err};
 ghost use Rattle.std.specs.FinMap as finite;
 ghost use Rattle.std.specs.Option.{option_map};
 ghost use Rattle.tup_stamp.specs.Stamp.{stamp as stamp_of_content};
@@ -12,6 +12,7 @@ ghost use Rattle.tup_ground.specs.Ground.{NamesLength, OnlyLarge, ReadsSite};
 ghost use Rattle.tup_board.specs.Board.{course_of, plan_of, state, with_history};
 ghost use Rattle.tup_board.specs.Calls.{Asks, AsksFor, AsksForOwn, told_of};
 ghost use Rattle.tup_board.specs.Cause.{stops_by};
+ghost use Rattle.tup_board.specs.Seat.{is_granted};
 ghost use Rattle.tup_board.specs.Sound.{IsTrueFault};
 
 use crate::answers::Asked;
@@ -19,6 +20,7 @@ use crate::board::Board;
 use std::alloc::Global;
 use tup_access::{Access, Verdict};
 use tup_core::{Cause, Plan};
+use tup_course::Course;
 use tup_ground::{BoardFault, Ground};
 use tup_path::{Bytes, Path, Text};
 use tup_rule::Rule;
@@ -80,19 +82,9 @@ pub(crate) trait Desk {
         text: &Text,
     ) -> Result<Asked, BoardFault>
         requires plan { plan.now ≡ plan_of (board self.old) }
-        requires runs { GoesOn (course_of (board self.old)) seat }
+        requires runs { is_granted ((state (board self.old)).seats seat) ≡ true }
         ensures asks { Asks Self.Site.Site seat text.now
             (board self.old) result (board self.new) };
-
-    /// Whether a seat runs a rule whose command was denied nothing.
-    fn goes_on(&self, seat: u32) -> bool
-        ensures { IsTrue result ↔ GoesOn (course_of (board self.now)) seat };
-
-    /// The rule that a seat runs.
-    fn rule_of<'p>(&self, plan: &'p Plan, seat: u32) -> &'p Rule
-        requires plan { plan.now ≡ plan_of (board self.now) }
-        requires runs { RunsRule (course_of (board self.now)) seat }
-        ensures { (it : RunsRule (course_of (board self.now)) seat) → result.now ≡ it.rule };
 
     /// Denies a text.
     fn deny(
@@ -187,20 +179,6 @@ impl<S: Site, R: Runner> Desk for Board<S, R> {
         }
     }
 
-    fn goes_on(&self, seat: u32) -> bool {
-        match self.course.running(seat) {
-            Some(running) => running.denied.is_none(),
-            None => false,
-        }
-    }
-
-    fn rule_of<'p>(&self, plan: &'p Plan, seat: u32) -> &'p Rule {
-        match self.course.running(seat) {
-            Some(running) => &plan.rules.as_slice()[running.rule as usize],
-            None => unreachable!(),
-        }
-    }
-
     fn deny(
         &mut self,
         alloc: Global,
@@ -221,7 +199,7 @@ impl<S: Site, R: Runner> Desk for Board<S, R> {
         text: &Text,
         path: &Path,
     ) -> Result<Asked, BoardFault> {
-        if self.rule_of(plan, seat).writes(path) {
+        if rule_run(&self.course, plan, seat).writes(path) {
             return self.answer_own(alloc, plan, seat, text);
         }
         match self.ground.read(alloc, path) {
@@ -268,6 +246,18 @@ impl<S: Site, R: Runner> Desk for Board<S, R> {
             BoardFault::Memory => {}
         }
         fault
+    }
+}
+
+/// The rule that a seat runs.
+pub(crate) fn rule_run<'p>(course: &Course, plan: &'p Plan, seat: u32) -> &'p Rule
+    requires plan { plan.now ≡ course.now.plan }
+    requires runs { RunsRule course.now seat }
+    ensures { (it : RunsRule course.now seat) → result.now ≡ it.rule }
+{
+    match course.running(seat) {
+        Some(running) => &plan.rules.as_slice()[running.rule as usize],
+        None => unreachable!(),
     }
 }
 

@@ -1,11 +1,23 @@
 //! A whole update on one thread.
-ghost use Rattle.std.specs.Prelude.{◌≡◌, ◌≢◌, ◌++◌, ℕ, List, None, Some, Err, false, slice_get, IfOk, IsTrue};
+ghost use Rattle.std.specs.Prelude.{◌≡◌, ◌≢◌, ◌++◌, ℕ, List, None, Some, Err, true, false, slice_get, IfOk, IsTrue};
+ghost use Rattle.std.specs.FinMap as finite;
+ghost use Rattle.std.specs.Option.{option_map};
+ghost use Rattle.tup_path.specs.Name.{Names};
+ghost use Rattle.tup_path.specs.Tree.{Tree};
+ghost use Rattle.tup_stamp.specs.Stamp.{stamp};
 ghost use Rattle.tup_rule.specs.declared.rule.Rule.{Rule as RuleValue};
+ghost use Rattle.tup_runner.specs.Report.{asks_of};
+ghost use Rattle.tup_runner.specs.Run.{Appends, CountsFaults as RunnerCounts};
+ghost use Rattle.tup_core.specs.Kept.{Kept};
 ghost use Rattle.tup_core.specs.Sound.{IsAcyclic};
 ghost use Rattle.tup_core.specs.declared.event.CoreEvent.{CoreEvent as CoreEventValue};
+ghost use Rattle.tup_board.specs.Board.{course_of, plan_of, state};
+ghost use Rattle.tup_board.specs.Calls.{command_of, IsReportOf, MeansDenied, StartsAlone};
+ghost use Rattle.tup_board.specs.Seat.{IsFromSeat};
 
 use crate::answers::Drained;
 use crate::board::Board;
+use crate::desk::Desk;
 use crate::seat::SeatView;
 use std::alloc::Global;
 use tup_core::{Cause, Plan};
@@ -15,17 +27,14 @@ use tup_runner::{Report, RunFailed, Runner, perform};
 use tup_site::Site;
 
 impl<S: Site, R: Runner> Board<S, R> {
-    ghost use Rattle.tup_board.specs.Board.{course_of, plan_of, state};
     ghost use Rattle.tup_course.specs.Course.{NoneRuns};
-    ghost use Rattle.tup_board.specs.Calls.{command_of, Drains, HasFailed, HasRun, HasRunCause, IsOver, IsReportOf, MeansDenied, RanAll, RunsOne, StartsAlone};
-    ghost use Rattle.tup_board.specs.Seat.{IsFromSeat};
-    ghost use Rattle.tup_runner.specs.Report.{asks_of};
-    ghost use Rattle.tup_runner.specs.Run.{Appends, CountsFaults as RunnerCounts};
+    ghost use Rattle.tup_board.specs.Calls.{BuildsClean, Drains, HasFailed, HasRun, HasRunCause, IsOver, RanAll, RunsOne};
 
     /// Runs all that can be run, one rule after another, at seat 0, while no seat runs a rule.
     ///
     /// `Done` comes just where nothing is stopped and no verdict is bad: then, if no rule waits for itself, no rule is
-    /// pending any more. `Left` with `Bad` comes just where a verdict is bad and nothing was stopped for another cause
+    /// pending any more, and where the plan was made of what is kept of a project, the files are those of the clean build
+    /// of its sources. `Left` with `Bad` comes just where a verdict is bad and nothing was stopped for another cause
     /// before, and `Left` with another cause where that was the first of a stop. By itself it stops only for a failure of
     /// its runner, and for want of memory.
     pub fn drain(&mut self, alloc: Global, plan: &Plan, runner: &mut R) -> Drained
@@ -34,6 +43,8 @@ impl<S: Site, R: Runner> Board<S, R> {
         ensures drains { Drains (state self.new) result }
         ensures done { IsAcyclic plan.now.rules → result ≡ Drained.Done
             → (number : ℕ) → (state self.new).pending number ≡ false }
+        ensures clean { IsTrue S.tells → IsTrue R.tells → result ≡ Drained.Done
+            → (kept : Kept) (tree : Tree) → BuildsClean S.Site.own R.Runner.own self.new kept tree }
         ensures over { IsOver self.new }
         ensures opening { self.new.opening ≡ self.old.opening }
         ensures ran { (events : List CoreEventValue) → self.new.history ≡ self.old.history ++ events
@@ -44,11 +55,8 @@ impl<S: Site, R: Runner> Board<S, R> {
         ensures cause { HasRunCause (state self.old).stopped
             (R.faults runner.old) (R.faults runner.new) result }
     {
-        for _ in 0..=plan.reach.len() {
-            match self.claim(plan, 0) {
-                Claimed::Rule(rule) => self.run(alloc, plan, rule, runner),
-                Claimed::Wait | Claimed::Over => return self.drained(),
-            }
+        while let Claimed::Rule(rule) = self.claim(plan, 0) {
+            self.run(alloc, plan, rule, runner);
         }
         self.drained()
     }
@@ -75,7 +83,7 @@ impl<S: Site, R: Runner> Board<S, R> {
         ensures cause { HasFailed (R.faults runner.old) (R.faults runner.new)
             (state self.new).stopped }
     {
-        match self.performed(alloc, plan, rule, runner) {
+        match performed(self, alloc, plan, rule, runner) {
             Ok(report) => self.end(alloc, plan, &report),
             Err(RunFailed::Denied) => {
                 self.finish_denied(plan, 0);
@@ -84,39 +92,6 @@ impl<S: Site, R: Runner> Board<S, R> {
             Err(RunFailed::Fault) => self.stop(plan, 0, Cause::Run),
             Err(RunFailed::Memory) => self.stop(plan, 0, Cause::Memory),
         }
-    }
-
-    /// The report of the command of a rule that seat 0 runs.
-    fn performed(
-        &mut self,
-        alloc: Global,
-        plan: &Plan,
-        rule: u32,
-        runner: &mut R,
-    ) -> Result<Report<R>, RunFailed>
-        requires plan { plan.now ≡ plan_of self.old }
-        requires starts { StartsAlone self.old rule }
-        ensures from { IsFromSeat 0 self.old self.new }
-        ensures report { IfOk result (λ report. IsReportOf S.Site.own self.new 0
-            report.dir report.text (asks_of report)) }
-        ensures denied { result ≡ Err RunFailed.Denied
-            → MeansDenied S.Site.own R.Runner.own self.new 0 }
-        ensures view { result ≡ Err RunFailed.View → (state self.new).seats 0 ≡ None }
-        ensures going { result ≢ Err RunFailed.View → (state self.new).stopped ≡ None }
-        ensures ran { IsTrue R.tells_ran → (it : RuleValue)
-            → slice_get plan.now.rules rule ≡ Some it
-            → Appends (command_of it) (R.ran runner.old) (R.ran runner.new) result }
-        ensures cause { RunnerCounts (R.faults runner.old) (R.faults runner.new) result }
-    {
-        let it = &plan.rules.as_slice()[rule as usize];
-        let mut view = SeatView {
-            board: self,
-            plan,
-            rule: it,
-            seat: 0,
-            refused: None,
-        };
-        perform(alloc, runner, &it.dir, &it.text, &mut view)
     }
 
     /// Ends the command of seat 0.
@@ -135,4 +110,40 @@ impl<S: Site, R: Runner> Board<S, R> {
             Err(_) => {} // the board has stopped
         }
     }
+}
+
+/// The report of the command of a rule that seat 0 of a board runs.
+///
+/// It names the board by its trait, since a call that is given a runner and a view can't say that both are of one board.
+fn performed<D: Desk, R: Runner>(
+    board: &mut D,
+    alloc: Global,
+    plan: &Plan,
+    rule: u32,
+    runner: &mut R,
+) -> Result<Report<R>, RunFailed>
+    requires plan { plan.now ≡ plan_of (D.board board.old) }
+    requires starts { StartsAlone (D.board board.old) rule }
+    ensures from { IsFromSeat 0 (D.board board.old) (D.board board.new) }
+    ensures report { IfOk result (λ report. IsReportOf D.Site.Site (D.board board.new) 0
+        report.dir report.text (asks_of report)) }
+    ensures denied { result ≡ Err RunFailed.Denied
+        → MeansDenied D.Site.Site R.Runner.own (D.board board.new) 0 }
+    ensures view { result ≡ Err RunFailed.View → (state (D.board board.new)).seats 0 ≡ None }
+    ensures going { result ≢ Err RunFailed.View → (state (D.board board.new)).stopped ≡ None }
+    ensures never_run { (state (D.board board.new)).stopped ≢ Some Cause.Run }
+    ensures ran { IsTrue R.tells_ran → (it : RuleValue)
+        → slice_get plan.now.rules rule ≡ Some it
+        → Appends (command_of it) (R.ran runner.old) (R.ran runner.new) result }
+    ensures cause { RunnerCounts (R.faults runner.old) (R.faults runner.new) result }
+{
+    let it = &plan.rules.as_slice()[rule as usize];
+    let mut view = SeatView {
+        board,
+        plan,
+        rule: it,
+        seat: 0,
+        refused: None,
+    };
+    perform(alloc, runner, &it.dir, &it.text, &mut view)
 }

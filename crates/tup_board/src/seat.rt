@@ -1,10 +1,9 @@
 //! The files as a command sees them that a seat of a board runs.
-ghost use Rattle.std.specs.Prelude.{◌≡◌, Some};
-ghost use Rattle.tup_board.specs.Board.{plan_of};
-ghost use Rattle.tup_board.specs.Seat.{refusal_of};
+ghost use Rattle.std.specs.Prelude.{◌≡◌, true, None, Some};
+ghost use Rattle.tup_board.specs.Board.{plan_of, state};
+ghost use Rattle.tup_board.specs.Seat.{is_granted, refusal_of};
 
 use crate::answers::Asked;
-use crate::board::Board;
 use crate::desk::Desk;
 use std::alloc::Global;
 use std::snapshot::Snapshot;
@@ -12,8 +11,7 @@ use tup_core::Plan;
 use tup_ground::BoardFault;
 use tup_path::{Path, Text};
 use tup_rule::Rule;
-use tup_runner::{Answer, Runner, View, ViewFailed};
-use tup_site::Site;
+use tup_runner::{Answer, View, ViewFailed};
 
 /// A text that wasn't answered, for contracts alone.
 #[derive(Drop)]
@@ -24,16 +22,18 @@ pub(crate) struct Refused {
 
 /// The view of the command that a seat runs.
 #[derive(Drop)]
-pub(crate) struct SeatView<'b, 'p, 'r, S: Site, R: Runner> {
-    pub(crate) board: &'b mut Board<S, R>,
+pub(crate) struct SeatView<'b, 'p, 'r, D: Desk> {
+    pub(crate) board: &'b mut D,
     pub(crate) plan: &'p Plan,
     pub(crate) rule: &'r Rule,
     pub(crate) seat: u32,
     pub(crate) refused: Option<Refused>,
-    ghost of_board: { plan.now ≡ plan_of board.now },
+    ghost of_board: { plan.now ≡ plan_of (D.board board.now) },
+    ghost goes: { refusal_of refused ≡ None
+        → is_granted ((state (D.board board.now)).seats seat) ≡ true },
 }
 
-impl<S: Site, R: Runner> View for SeatView<'_, '_, '_, S, R> {
+impl<D: Desk> View for SeatView<'_, '_, '_, D> {
     ghost use Rattle.std.specs.Prelude.{◌≡◌, [], false, refl};
     ghost use Rattle.std.proofs.Common.{◌∙◌, ap};
     ghost use Rattle.std.proofs.lemmas.Bool.{false≢true};
@@ -45,8 +45,8 @@ impl<S: Site, R: Runner> View for SeatView<'_, '_, '_, S, R> {
     ghost asks = { λ _. [] };
 
     ghost came = { λ first some last. (last.seat ≡ first.seat)
-        × CameBy S.Site first.seat first.board.now (refusal_of first.refused)
-        some last.board.now (refusal_of last.refused) };
+        × CameBy D.Site.Site first.seat (D.board first.board.now) (refusal_of first.refused)
+        some (D.board last.board.now) (refusal_of last.refused) };
 
     ghost refusal = { λ view. refusal_of view.refused };
 
@@ -54,14 +54,10 @@ impl<S: Site, R: Runner> View for SeatView<'_, '_, '_, S, R> {
 
     ghost same = { λ first last. (last.rule ≡ first.rule) × (last.plan ≡ first.plan)
         × (last.seat ≡ first.seat) × (last.board.ghost_name ≡ first.board.ghost_name)
-        × KeepsSeat S.Site first.seat first.board.now (refusal_of first.refused)
-        last.board.now (refusal_of last.refused) };
+        × KeepsSeat D.Site.Site first.seat (D.board first.board.now) (refusal_of first.refused)
+        (D.board last.board.now) (refusal_of last.refused) };
 
-    /// A seat that runs nothing, or was denied an ask, is asked nothing more: that would be no memory.
     fn ask(&mut self, alloc: Global, text: &Text) -> Result<Answer, ViewFailed> {
-        if !self.board.goes_on(self.seat) {
-            return Err(ViewFailed::Memory);
-        }
         match self.board.reply(alloc, self.plan, self.seat, text) {
             Ok(Asked::Content(content)) => Ok(Answer::Content(content)),
             Ok(Asked::Absent) => Ok(Answer::Absent),
@@ -83,13 +79,14 @@ impl<S: Site, R: Runner> View for SeatView<'_, '_, '_, S, R> {
 
     ghost stays = { λ view. (
       refl,
-      came_none S.Site view.seat view.board.now (refusal_of view.refused),
+      came_none D.Site.Site view.seat (D.board view.board.now) (refusal_of view.refused),
     ) };
 
     ghost goes_on = { λ first next last some more one two. (
       two.0 ∙ one.0,
       came_then
-          S.Site first.seat next.seat one.0 first.board.now next.board.now last.board.now
+          D.Site.Site first.seat next.seat one.0
+          (D.board first.board.now) (D.board next.board.now) (D.board last.board.now)
           (refusal_of first.refused) (refusal_of next.refused) (refusal_of last.refused)
           some more one.1 two.1,
     ) };
@@ -99,7 +96,7 @@ impl<S: Site, R: Runner> View for SeatView<'_, '_, '_, S, R> {
       refl,
       refl,
       refl,
-      keeps_none S.Site view.seat view.board.now (refusal_of view.refused),
+      keeps_none D.Site.Site view.seat (D.board view.board.now) (refusal_of view.refused),
     ) };
 
     ghost same_on = { λ first next last one two. (
@@ -108,7 +105,8 @@ impl<S: Site, R: Runner> View for SeatView<'_, '_, '_, S, R> {
       two.2 ∙ one.2,
       two.3 ∙ one.3,
       keeps_then
-          S.Site first.seat next.seat one.2 first.board.now next.board.now last.board.now
+          D.Site.Site first.seat next.seat one.2
+          (D.board first.board.now) (D.board next.board.now) (D.board last.board.now)
           (refusal_of first.refused) (refusal_of next.refused) (refusal_of last.refused)
           one.4 two.4,
     ) };

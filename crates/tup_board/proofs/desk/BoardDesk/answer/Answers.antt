@@ -9,14 +9,14 @@ use Rattle.tup_ground.specs.Fault.{CountsFaults}
 use Rattle.tup_ground.specs.Ground.{NamesLength, OnlyLarge}
 use Rattle.tup_board.specs.Board.{BoardState}
 use Rattle.tup_board.specs.Calls.{Asks}
-use Rattle.tup_board.proofs.Answering.{asks_after, asks_for, asks_for_own, fault_after, fault_true, read_sound, told_after}
+use Rattle.tup_board.proofs.Answering.{asks_after, asks_for, asks_for_own, fault_after, fault_true, read_sound, rule_seen, told_after}
 use Rattle.tup_board.proofs.desk.BoardDesk.answer.Goals as goal
 
 pub answer_own-requires-clause-own : goal.answer_own-requires-clause-own
 answer_own-requires-clause-own g c κs within =
     let it = c.requires.runs.it in
     let may = subst (λ (p : Plan). access p.rules it.rule (length it.running.asks) c.args.text.now ≡ Yes c.args.path.now) c.requires.plan (c.requires.may it) in
-    asks_for_own c.args.self.now c.args.seat c.args.text.now it c.rule_of.result.now c.args.path.now c.rule_of.ensures may (sym c.writes.ensures ∙ c.if-writes.true)
+    asks_for_own c.args.self.now c.args.seat c.args.text.now it c.rule_run.result.now c.args.path.now (rule_seen g.S.Site g.R.Runner _ _ _ _ _ _ _ c.self.invariant.0 c.self.invariant.1 c.self.view_is c.args.seat c.rule_run.result.now c.rule_run.ensures) may (sym c.writes.ensures ∙ c.if-writes.true)
 
 pub invariant_of-self : goal.invariant_of-self
 invariant_of-self g c =
@@ -28,7 +28,7 @@ tell-requires-clause-asks_for g c κs within =
     let site_laws = g.met.S.Site g.world.𝓛 g.world.𝓜 g.world.𝓡 ((λ s x. x), (λ x. x), (λ x. x), λ x. x) in
     let it = c.requires.runs.it in
     let may = subst (λ (p : Plan). access p.rules it.rule (length it.running.asks) c.args.text.now ≡ Yes c.args.path.now) c.requires.plan (c.requires.may it) in
-    let for_it = asks_for c.args.self.now c.args.seat c.args.text.now it c.rule_of.result.now c.args.path.now c.rule_of.ensures may (sym c.writes.ensures ∙ c.if-writes.false) in
+    let for_it = asks_for c.args.self.now c.args.seat c.args.text.now it c.rule_run.result.now c.args.path.now (rule_seen g.S.Site g.R.Runner _ _ _ _ _ _ _ c.self.invariant.0 c.self.invariant.1 c.self.view_is c.args.seat c.rule_run.result.now c.rule_run.ensures) may (sym c.writes.ensures ∙ c.if-writes.false) in
     asks_after g.S.Site g.R.Runner _ _ _ _ _ _ _ c.self.invariant.0 c.self.invariant.1 c.self.view_is c.read.new.self c.read.ensures.reads site_laws.earlier c.read.ensures.cause.later c.args.seat c.args.text.now c.args.path.now for_it
 
 pub returns-in-Ok : goal.returns-in-Ok
@@ -36,7 +36,7 @@ returns-in-Ok g c =
     let site_laws = g.met.S.Site g.world.𝓛 g.world.𝓜 g.world.𝓡 ((λ s x. x), (λ x. x), (λ x. x), λ x. x) in
     let it = c.requires.runs.it in
     let may = subst (λ (p : Plan). access p.rules it.rule (length it.running.asks) c.args.text.now ≡ Yes c.args.path.now) c.requires.plan (c.requires.may it) in
-    let for_it = asks_for c.args.self.now c.args.seat c.args.text.now it c.rule_of.result.now c.args.path.now c.rule_of.ensures may (sym c.writes.ensures ∙ c.if-writes.false) in
+    let for_it = asks_for c.args.self.now c.args.seat c.args.text.now it c.rule_run.result.now c.args.path.now (rule_seen g.S.Site g.R.Runner _ _ _ _ _ _ _ c.self.invariant.0 c.self.invariant.1 c.self.view_is c.args.seat c.rule_run.result.now c.rule_run.ensures) may (sym c.writes.ensures ∙ c.if-writes.false) in
     let steady = c.read.ensures.cause.steady (λ e. let clash = sym c.in-Ok.is ∙ e in cc) in
     record { asks = told_after g.S.Site g.R.Runner _ _ _ _ _ _ _ c.self.invariant.0 c.self.invariant.1 c.self.view_is c.read.new.self c.read.ensures.reads site_laws.earlier c.read.ensures.cause.later c.args.seat c.args.text.now c.args.path.now for_it c.tell.result c.tell.new.self steady c.tell.ensures.asks }
 
@@ -50,7 +50,7 @@ fail-requires-clause-true_cause g c κs within =
     let site_laws = g.met.S.Site g.world.𝓛 g.world.𝓜 g.world.𝓡 ((λ s x. x), (λ x. x), (λ x. x), λ x. x) in
     let it = c.requires.runs.it in
     let may = subst (λ (p : Plan). access p.rules it.rule (length it.running.asks) c.args.text.now ≡ Yes c.args.path.now) c.requires.plan (c.requires.may it) in
-    let for_it = asks_for c.args.self.now c.args.seat c.args.text.now it c.rule_of.result.now c.args.path.now c.rule_of.ensures may (sym c.writes.ensures ∙ c.if-writes.false) in
+    let for_it = asks_for c.args.self.now c.args.seat c.args.text.now it c.rule_run.result.now c.args.path.now (rule_seen g.S.Site g.R.Runner _ _ _ _ _ _ _ c.self.invariant.0 c.self.invariant.1 c.self.view_is c.args.seat c.rule_run.result.now c.rule_run.ensures) may (sym c.writes.ensures ∙ c.if-writes.false) in
     let fault = c.in-Err.fault in
     let other = λ (e : fault ≡ Full). c.read.ensures.never_full (c.in-Err.is ∙ ap Err e) in
     let large = subst OnlyLarge c.in-Err.is c.read.ensures.too_large in
@@ -63,7 +63,7 @@ returns-in-Err g c =
     let site_laws = g.met.S.Site g.world.𝓛 g.world.𝓜 g.world.𝓡 ((λ s x. x), (λ x. x), (λ x. x), λ x. x) in
     let it = c.requires.runs.it in
     let may = subst (λ (p : Plan). access p.rules it.rule (length it.running.asks) c.args.text.now ≡ Yes c.args.path.now) c.requires.plan (c.requires.may it) in
-    let for_it = asks_for c.args.self.now c.args.seat c.args.text.now it c.rule_of.result.now c.args.path.now c.rule_of.ensures may (sym c.writes.ensures ∙ c.if-writes.false) in
+    let for_it = asks_for c.args.self.now c.args.seat c.args.text.now it c.rule_run.result.now c.args.path.now (rule_seen g.S.Site g.R.Runner _ _ _ _ _ _ _ c.self.invariant.0 c.self.invariant.1 c.self.view_is c.args.seat c.rule_run.result.now c.rule_run.ensures) may (sym c.writes.ensures ∙ c.if-writes.false) in
     let fault = c.in-Err.fault in
     let other = λ (e : fault ≡ Full). c.read.ensures.never_full (c.in-Err.is ∙ ap Err e) in
     let large = subst OnlyLarge c.in-Err.is c.read.ensures.too_large in
