@@ -1,9 +1,10 @@
 -- What one rule of a drain leaves, and what an update that is over came to.
 use Rattle.std.proofs.Common.{◌≡◌, ◌≢◌, ◌⊎◌, ℕ, zero, suc, ◌<◌, ◌≤◌, ◌+◌, ◌-◌, Bool, true, false, List, [], ◌∷◌, ◌++◌, length, Option, None, Some, Result, Ok, Err, refl, sym, ap, ◌∙◌, subst, inl, inr, ⊎_elim, append_assoc, arith}
-use Rattle.std.specs.Prelude.{◌==◌, IsSome, IsTrue, if◌then◌else◌, unwrap_or, slice_get, take, filter_map, option_map, cons_option}
+use Rattle.std.specs.Prelude.{◌==◌, IsSome, IsTrue, if◌then◌else◌, unwrap_or, slice_get, take, filter_map, option_map}
+use Rattle.std.specs.List.{cons_option}
 use Rattle.std.proofs.lemmas.Bool.{false≢true, true≢false, eq-eqb, eqb-true}
 use Rattle.std.proofs.lemmas.List.{append-nil, append_cancel_left, length-append}
-use Rattle.std.proofs.lemmas.List.Elements.{filter_map-append}
+use Rattle.std.proofs.lemmas.List.Elements.{All-nil, filter_map-append}
 use Rattle.std.proofs.lemmas.Option.{none-some, same_Some}
 use Rattle.tup_path.specs.Count.{Rose}
 use Rattle.tup_path.specs.Name.{Names}
@@ -28,20 +29,23 @@ use Rattle.tup_core.specs.Step.{State, after, changed, emptied, ended, finished,
 use Rattle.tup_core.proofs.Changed.{changed_here}
 use Rattle.tup_core.proofs.CleanRuns.{files_clean, succeeds_clean}
 use Rattle.tup_core.proofs.NeverStuck.{never_stuck}
-use Rattle.tup_core.proofs.Orderly.{claimed_ended, finished_is, seats_ended}
+use Rattle.tup_core.proofs.Orderly.{IsOrderly, claimed_ended, finished_is, seats_ended}
 use Rattle.tup_turn.specs.Turn.{IsFirstReady}
-use Rattle.tup_course.specs.Course.{CourseState, NoneRuns, Stops}
+use Rattle.tup_course.specs.Course.{Claims, CourseState, EndsDenied, NoneRuns, Stops}
+use Rattle.tup_course.specs.declared.claimed.Claimed.{Claimed}
+use Rattle.tup_course.specs.declared.claimed.Claimed.TheVariants.{Rule as Gives, Wait, Over}
 use Rattle.tup_course.specs.Room.{unclaimed}
 use Rattle.tup_course.proofs.Rooms.{unclaimed_fewer}
 use Rattle.tup_ground.specs.declared.fault.BoardFault.{BoardFault}
 use Rattle.tup_ground.specs.declared.fault.BoardFault.TheVariants as fault_by
 use Rattle.tup_board.specs.declared.answers.Drained.{Drained}
 use Rattle.tup_board.specs.declared.answers.Drained.TheVariants.{Done, Left}
-use Rattle.tup_board.specs.Board.{BoardState, Opening, course_of, plan_of, start, state}
+use Rattle.tup_board.specs.Board.{BoardState, Opening, course_of, plan_of, start, state, with_history}
 use Rattle.tup_board.specs.Calls.{BuildsClean, Drains, Finishes, HasFailed, HasRun, HasRunCause, IsOver, RanAll, RunsOne, StartsAlone, command_of, commands}
 use Rattle.tup_board.specs.CameLaws.{from_both}
-use Rattle.tup_board.specs.Seat.{IsFromSeat}
+use Rattle.tup_board.specs.Seat.{IsFromSeat, IsLeft}
 use Rattle.tup_board.specs.Sound.{IsSound}
+use Rattle.tup_board.proofs.Seated.{orderly}
 use Rattle.tup_board.proofs.Seeing.{apart_from, from_one, state_more}
 
 -- ---- the end of a command, and a stop, leave what other seats run, and its own seat runs nothing then
@@ -67,7 +71,7 @@ module _ (plan : Plan) (before : State) (seat : ℕ) where
         bad_or_run e = cc
 
     ended_stops : (verdict : Verdict) → before.stopped ≡ None → (ended plan (emptied before seat) running.rule verdict written).stopped ≢ Some causes.Run
-    ended_stops Good none run = none-some causes.Run (sym none ∙ run)
+    ended_stops Good none = λ run. none-some causes.Run (sym none ∙ run)
     ended_stops (Failed status) none = bad_stop plan.keep_going before.stopped none
     ended_stops (IllegalRead text) none = bad_stop plan.keep_going before.stopped none
     ended_stops (IllegalWrite text) none = bad_stop plan.keep_going before.stopped none
@@ -87,13 +91,13 @@ module _ (plan : Plan) (before : State) (seat : ℕ) where
   stop_stops cause none = ap (λ (o : Option Cause). Some (unwrap_or o cause)) none
 
 -- ---- a seat's command ends, or is stopped
-module _ {S : Type 0} (seat : ℕ) (old new : BoardState S) (same : new.opening ≡ old.opening) where
-  -- nothing runs at the seat any more, and nothing is stopped by a runner unless it was
-  pub record IsLeft : Type 0 where
-    pub from : IsFromSeat seat old new
-    pub ends : (state new).seats seat ≡ None
-    pub never_run : (state old).stopped ≡ None → (state new).stopped ≢ Some causes.Run
+-- a stop where nothing was stopped
+pub record IsStoppedFor {S : Type 0} (seat : ℕ) (old new : BoardState S) (cause : Cause) : Type 0 where
+  pub from : IsFromSeat seat old new
+  pub ends : (state new).seats seat ≡ None
+  pub stops : (state new).stopped ≡ Some cause
 
+module _ {S : Type 0} (seat : ℕ) (old new : BoardState S) (same : new.opening ≡ old.opening) where
   -- a stop is the first cause where none was before
   pub stop_is : (cause : Cause) → (state old).stopped ≡ None → new.history ≡ old.history ++ Stop seat cause ∷ [] → (state new).stopped ≡ Some cause
   stop_is cause none adds = ap (λ (s : State). s.stopped) (state_more seat old new (Stop seat cause) same adds) ∙ stop_stops (plan_of old) (state old) seat cause none
@@ -104,14 +108,14 @@ module _ {S : Type 0} (seat : ℕ) (old new : BoardState S) (same : new.opening 
   stop_leaves : (cause : Cause) → new.history ≡ old.history ++ Stop seat cause ∷ [] → (state new).seats seat ≡ None
   stop_leaves cause adds = ap (λ (s : State). s.seats seat) (state_more seat old new (Stop seat cause) same adds) ∙ stop_empties (plan_of old) (state old) seat cause
 
-  stopped_so : (cause : Cause) → cause ≢ causes.Run → new.history ≡ old.history ++ Stop seat cause ∷ [] → IsLeft
+  stopped_so : (cause : Cause) → cause ≢ causes.Run → new.history ≡ old.history ++ Stop seat cause ∷ [] → IsLeft seat old new
   stopped_so cause other adds = record {
     from = stop_from cause adds;
     ends = stop_leaves cause adds;
     never_run = λ none run. other (same_Some _ _ (sym (stop_is cause none adds) ∙ run));
   }
 
-  pub finished_so : (running : Running) (given : Verdict) (written : List (Names × Stamp)) → (state old).seats seat ≡ Some running → new.history ≡ old.history ++ Finish seat given written ∷ [] → IsLeft
+  pub finished_so : (running : Running) (given : Verdict) (written : List (Names × Stamp)) → (state old).seats seat ≡ Some running → new.history ≡ old.history ++ Finish seat given written ∷ [] → IsLeft seat old new
   finished_so running given written here adds =
       let is = state_more seat old new (Finish seat given written) same adds in record {
         from = from_one seat old new (Finish seat given written) same adds refl refl (finish_others (plan_of old) (state old) seat running given written here);
@@ -119,20 +123,14 @@ module _ {S : Type 0} (seat : ℕ) (old new : BoardState S) (same : new.opening 
         never_run = λ none run. finish_stops (plan_of old) (state old) seat running given written here none (sym (ap (λ (s : State). s.stopped) is) ∙ run);
       }
 
-  pub left_so : (running : Running) (ended : Ended) (result : Result Verdict BoardFault) → (state old).seats seat ≡ Some running → result ≢ Err fault_by.Memory → Finishes seat ended old result new → IsLeft
+  pub left_so : (running : Running) (ended : Ended) (result : Result Verdict BoardFault) → (state old).seats seat ≡ Some running → result ≢ Err fault_by.Memory → Finishes seat ended old result new → IsLeft seat old new
   left_so running ended (Ok verdict) here other fin = finished_so running verdict fin.0 here fin.2
   left_so running ended (Err fault_by.Site) here other fin = stopped_so causes.Site (λ e. cc) fin.0
   left_so running ended (Err fault_by.Full) here other fin = stopped_so causes.Full (λ e. cc) fin.0
   left_so running ended (Err fault_by.Memory) here other fin = absurd (other refl)
   left_so running ended (Err (fault_by.TooLarge bytes)) here other fin = absurd fin
 
-  -- a stop where nothing was stopped
-  pub record IsStoppedFor (cause : Cause) : Type 0 where
-    pub from : IsFromSeat seat old new
-    pub ends : (state new).seats seat ≡ None
-    pub stops : (state new).stopped ≡ Some cause
-
-  pub stops_for : (cause : Cause) → (state old).stopped ≡ None → Stops seat cause (course_of old) (course_of new) → IsStoppedFor cause
+  pub stops_for : (cause : Cause) → (state old).stopped ≡ None → Stops seat cause (course_of old) (course_of new) → IsStoppedFor seat old new cause
   stops_for cause none stops =
       let adds = ap (λ (c : CourseState). c.history) (stops.one (λ it. none_is_none (state old).stopped none it.1)) in
       record { from = stop_from cause adds; ends = stop_leaves cause adds; stops = stop_is cause none adds }
@@ -142,9 +140,66 @@ module _ {S : Type 0} (seat : ℕ) (old new : BoardState S) (same : new.opening 
       none_is_none (Some c) e some = none-some c (sym e)
 
 -- ---- one after the other
-module _ {S : Type 0} (a b c : BoardState S) where
-  pub from_two : (seat : ℕ) → IsFromSeat seat a b → IsFromSeat seat b c → IsFromSeat seat a c
-  from_two seat one two = from_both seat a b c one two
+pub from_two : {S : Type 0} (a b c : BoardState S) (seat : ℕ) → IsFromSeat seat a b → IsFromSeat seat b c → IsFromSeat seat a c
+from_two a b c seat one two = from_both seat a b c one two
+
+-- ---- the end of a command that was denied an ask
+pub denied_left : {S : Type 0} (seat : ℕ) (old new : BoardState S) → EndsDenied seat (course_of old) (course_of new) → new ≡ with_history old new.history → IsLeft seat old new
+denied_left seat old new ends rest =
+    finished_so seat old new (ap (λ (b : BoardState _). b.opening) rest) ends.was.it.running ends.was.verdict [] ends.was.it.runs.here (ap (λ (c : CourseState). c.history) ends.adds)
+
+-- ---- a stop of a seat's command
+pub stop_left : {S : Type 0} (seat : ℕ) (old new : BoardState S) (cause : Cause) → (state old).stopped ≡ None → Stops seat cause (course_of old) (course_of new) → new ≡ with_history old new.history → IsStoppedFor seat old new cause
+stop_left seat old new cause none stops rest = stops_for seat old new (ap (λ (b : BoardState _). b.opening) rest) cause none stops
+
+-- the end of a command for which there was no memory, and the stop then
+pub memory_left : {S : Type 0} (seat : ℕ) (old mid new : BoardState S) → (state old).stopped ≡ None → mid.opening ≡ old.opening → mid.history ≡ old.history → Stops seat causes.Memory (course_of mid) (course_of new)
+    → new ≡ with_history mid new.history → IsLeft seat old new
+memory_left seat old mid new none same history stops rest = record {
+  from = from_two old mid new seat nothing stopped.from;
+  ends = stopped.ends;
+  never_run = λ going run. memory_or_run (sym stopped.stops ∙ run);
+}
+  where
+    same_state : state mid ≡ state old
+    same_state = ap (λ (o : Opening _). state (record mid { opening = o })) same ∙ ap (λ (h : List CoreEvent). state (record old { history = h })) history
+
+    stopped : IsStoppedFor seat mid new causes.Memory
+    stopped = stop_left seat mid new causes.Memory (ap (λ (s : State). s.stopped) same_state ∙ none) stops rest
+
+    nothing : IsFromSeat seat old mid
+    nothing = record {
+      opening = same;
+      events = [];
+      adds = history ∙ sym (append-nil old.history);
+      own = All-nil _;
+      none_claimed = refl;
+      others = λ other differ. ap (λ (s : State). s.seats other) same_state;
+    }
+
+    memory_or_run : Some causes.Memory ≡ Some causes.Run → ⊥
+    memory_or_run e = cc
+
+-- the end of a command otherwise
+pub end_left : {S : Type 0} (seat : ℕ) (old new : BoardState S) (running : Running) (ended : Ended) (result : Result Verdict BoardFault) → (state old).seats seat ≡ Some running → new.opening ≡ old.opening
+    → (result ≡ Err fault_by.Memory → ⊥) → Finishes seat ended old result new → IsLeft seat old new
+end_left seat old new running ended result here same other fin = left_so seat old new same running ended result here other fin
+
+pub memory_kept : {S : Type 0} (seat : ℕ) (old new : BoardState S) (ended : Ended) (result : Result Verdict BoardFault) → result ≡ Err fault_by.Memory → Finishes seat ended old result new → new.history ≡ old.history
+memory_kept seat old new ended result is fin = subst (λ (r : Result Verdict BoardFault). Finishes seat ended old r new) is fin
+
+-- ---- what a command was run to, by the runner's count
+pub never_failed : (was now : ℕ) (stopped : Option Cause) → now ≡ was → stopped ≢ Some causes.Run → HasFailed was now stopped
+never_failed was now stopped same never = record { run = λ is. absurd (never is); steady = λ _. same }
+
+pub failed_so : (was now : ℕ) (stopped : Option Cause) → Rose was now → stopped ≡ Some causes.Run → HasFailed was now stopped
+failed_so was now stopped rose is = record { run = λ _. rose; steady = λ other. absurd (other is) }
+
+pub for_memory : (was now : ℕ) (stopped : Option Cause) → now ≡ was → stopped ≡ Some causes.Memory → HasFailed was now stopped
+for_memory was now stopped same is = never_failed was now stopped same (λ run. memory_or_run (sym is ∙ run))
+  where
+    memory_or_run : Some causes.Memory ≡ Some causes.Run → ⊥
+    memory_or_run e = cc
 
 -- ---- a command that seat 0 ran alone was run or left
 pub ran_one : {S : Type 0} (old new : BoardState S) (number : ℕ) → StartsAlone old number → IsFromSeat 0 old new → (state new).seats 0 ≡ None → RunsOne old new
@@ -159,6 +214,13 @@ ran_one old new number starts from ends = record {
     by : (seat : ℕ) (is : Bool) → (seat == 0) ≡ is → (state new).seats seat ≡ None
     by seat true same = ap (λ (n : ℕ). (state new).seats n) (eqb-true seat 0 same) ∙ ends
     by seat false other = from.others seat (λ e. true≢false (sym (eq-eqb seat 0 e) ∙ other)) ∙ starts.alone seat (λ e. true≢false (sym (eq-eqb seat 0 e) ∙ other))
+
+module _ {S : Type 0} (old mid new : BoardState S) (number : ℕ) (starts : StartsAlone old number) (from : IsFromSeat 0 old mid) where
+  pub ran_and_left : IsLeft 0 mid new → RunsOne old new
+  ran_and_left left = ran_one old new number starts (from_two old mid new 0 from left.from) left.ends
+
+  pub ran_and_stopped : (cause : Cause) → IsStoppedFor 0 mid new cause → RunsOne old new
+  ran_and_stopped cause stopped = ran_one old new number starts (from_two old mid new 0 from stopped.from) stopped.ends
 
 -- ---- what events leave in which none is claimed
 claimed_none : (plan : Plan) (events : List CoreEvent) (state : State) → claims events ≡ [] → (end_of plan state events).claimed ≡ state.claimed
@@ -228,16 +290,15 @@ commands_more plan events more number rule here none =
     command : ℕ → Option (Names × List ℕ)
     command n = option_map command_of (slice_get plan.rules n)
 
+take_front : {A : Type 0} (xs : List A) (x : A) → take (length xs) (xs ++ x ∷ []) ≡ xs
+take_front [] x = refl
+take_front (y ∷ xs) x = ap (λ (l : List _). y ∷ l) (take_front xs x)
+
 all_but_last : {A : Type 0} (xs : List A) (x : A) → xs ≡ take (length (xs ++ x ∷ []) - 1) (xs ++ x ∷ [])
-all_but_last [] x = refl
-all_but_last (y ∷ xs) x = by (length (xs ++ x ∷ [])) refl (all_but_last xs x)
+all_but_last xs x = sym (ap (λ (n : ℕ). take n (xs ++ x ∷ [])) (one_less (length-append xs (x ∷ []))) ∙ take_front xs x)
   where
-    by : (n : ℕ) → length (xs ++ x ∷ []) ≡ n → xs ≡ take (n - 1) (xs ++ x ∷ []) → y ∷ xs ≡ take n (y ∷ xs ++ x ∷ [])
-    by zero none rest = absurd (never (length-append xs (x ∷ [])))
-      where
-        never : length (xs ++ x ∷ []) ≡ length xs + 1 → ⊥
-        never is = omega (arith, is, none)
-    by (suc n) is rest = ap (λ (l : List _). y ∷ l) (rest ∙ ap (λ (m : ℕ). take m (xs ++ x ∷ [])) (omega arith))
+    one_less : {n m : ℕ} → n ≡ m + 1 → n - 1 ≡ m
+    one_less is = omega (arith, is)
 
 -- ---- an update under way: what it has done since
 abbrev Ran : Plan → List CoreEvent → List (Names × List ℕ) → List (Names × List ℕ) → Option Cause → Type 0
@@ -250,7 +311,6 @@ pub record HasDrained {S : Type 0} (tells_ran : Bool) (old now : BoardState S) (
   pub adds : now.history ≡ old.history ++ events
   pub none_runs : NoneRuns (course_of now)
   pub ran_all : IsTrue tells_ran → Ran (plan_of old) events was ran (state now).stopped
-  pub later : before ≤ faults
   pub run : (state now).stopped ≡ Some causes.Run → ((state old).stopped ≡ Some causes.Run) ⊎ Rose before faults
   pub steady : (state now).stopped ≢ Some causes.Run → faults ≡ before
 
@@ -261,22 +321,21 @@ drained_none tells_ran old was before none = record {
   adds = sym (append-nil old.history);
   none_runs = none;
   ran_all = λ tells. inl (sym (append-nil was));
-  later = omega arith;
   run = λ is. inl is;
   steady = λ _. refl;
 }
 
-module _ {S : Type 0} (tells_ran : Bool) (old now mid new : BoardState S) (was ran done : List (Names × List ℕ)) (before faults then : ℕ) (has : HasDrained tells_ran old now was ran before faults)
+module _ {S : Type 0} (tells_ran : Bool) (old now mid new : BoardState S) (was ran done : List (Names × List ℕ)) (before faults last : ℕ) (has : HasDrained tells_ran old now was ran before faults)
     (number : ℕ) (first : IsFirstReady (plan_of now) (state now) number) (same : mid.opening ≡ now.opening) (adds : mid.history ≡ now.history ++ Claim 0 number ∷ [])
     (one : RunsOne mid new) (did : IsTrue tells_ran → (it : Rule) → slice_get (plan_of mid).rules number ≡ Some it → HasRun (command_of it) ran done (state new).stopped)
-    (failed : HasFailed faults then (state new).stopped) where
-  rule : Rule
+    (failed : HasFailed faults last (state new).stopped) where
+  abbrev rule : Rule
   rule = first.ready.clear.0
 
   plan_is : plan_of now ≡ plan_of old
   plan_is = ap (λ (o : Opening S). o.plan) has.opening
 
-  more : List CoreEvent
+  abbrev more : List CoreEvent
   more = has.events ++ Claim 0 number ∷ one.events
 
   steady_now : faults ≡ before
@@ -298,7 +357,7 @@ module _ {S : Type 0} (tells_ran : Bool) (old now mid new : BoardState S) (was r
       ∙ ap (λ (l : List (Names × List ℕ)). take (length l - 1) l) (sym commands_are))))
       (did tells rule (ap (λ (o : Opening S). slice_get o.plan.rules number) same ∙ first.ready.clear.1))
 
-  pub drained_more : HasDrained tells_ran old new was done before then
+  pub drained_more : HasDrained tells_ran old new was done before last
   drained_more = record {
     opening = one.opening ∙ same ∙ has.opening;
     events = more;
@@ -306,10 +365,61 @@ module _ {S : Type 0} (tells_ran : Bool) (old now mid new : BoardState S) (was r
         ∙ append_assoc (old.history ++ has.events) (Claim 0 number ∷ []) one.events ∙ append_assoc old.history has.events (Claim 0 number ∷ one.events);
     none_runs = one.none_runs;
     ran_all = ran_then;
-    later = let one = has.later in let two = failed.later in omega (arith, one, two);
-    run = λ is. inr (subst (λ (n : ℕ). Rose n then) steady_now (failed.run is));
+    run = λ is. inr (subst (λ (n : ℕ). Rose n last) steady_now (failed.run is));
     steady = λ other. failed.steady other ∙ steady_now;
   }
+
+-- ---- a claim by seat 0 of an update under way
+module _ {S R : Type 0} (site : Site S) (runner : Runner R) (tells_ran : Bool) (old now mid : BoardState S) (was ran : List (Names × List ℕ)) (before faults : ℕ) (has : HasDrained tells_ran old now was ran before faults)
+    (result : Claimed) (claimed : Claims 0 (course_of now) result (course_of mid)) (rest : mid ≡ with_history now mid.history) where
+  same_opening : mid.opening ≡ now.opening
+  same_opening = ap (λ (b : BoardState S). b.opening) rest
+
+  pub plan_there : plan_of mid ≡ plan_of old
+  plan_there = ap (λ (o : Opening S). o.plan) (same_opening ∙ has.opening)
+
+  -- it gives a rule
+  module _ (number : ℕ) (is : result ≡ Gives number) where
+    gives : Claims 0 (course_of now) (Gives number) (course_of mid)
+    gives = subst (λ (r : Claimed). Claims 0 (course_of now) r (course_of mid)) is claimed
+
+    adds_claim : mid.history ≡ now.history ++ Claim 0 number ∷ []
+    adds_claim = ap (λ (c : CourseState). c.history) gives.1
+
+    pub starts_there : StartsAlone mid number
+    starts_there = starts_alone now mid mid number has.none_runs gives.0 same_opening adds_claim
+
+    pub goes_further : (new : BoardState S) (done : List (Names × List ℕ)) (last : ℕ) → RunsOne mid new
+        → (IsTrue tells_ran → (it : Rule) → slice_get (plan_of mid).rules number ≡ Some it → HasRun (command_of it) ran done (state new).stopped) → HasFailed faults last (state new).stopped
+        → HasDrained tells_ran old new was done before last
+    goes_further new done last one did failed = drained_more tells_ran old now mid new was ran done before faults last has number gives.0 same_opening adds_claim one did failed
+
+    pub is_smaller : IsSound site runner mid → (new : BoardState S) → RunsOne mid new → left_to_claim new < left_to_claim now
+    is_smaller sound new one = fewer_left now mid new number has.none_runs gives.0 same_opening adds_claim one (ap (λ (o : Opening S). is_reached o.plan number) (sym same_opening) ∙ reached)
+      where
+        in_order : IsOrderly (plan_of mid) (state mid)
+        in_order = orderly (plan_of mid) (course_of mid).files mid.history sound.run
+
+        reached : is_reached (plan_of mid) number ≡ true
+        reached = in_order.reached number (in_order.pending 0 (record { rule = number; asks = []; denied = None }) starts_there.here)
+
+  -- none is ready while none runs: nothing is to wait for
+  pub never_waits : result ≡ Wait → ⊥
+  never_waits is = (subst (λ (r : Claimed). Claims 0 (course_of now) r (course_of mid)) is claimed).2 has.none_runs
+
+  -- it is over
+  module _ (is : result ≡ Over) where
+    over_is : Claims 0 (course_of now) Over (course_of mid)
+    over_is = subst (λ (r : Claimed). Claims 0 (course_of now) r (course_of mid)) is claimed
+
+    nothing_more : mid ≡ now
+    nothing_more = rest ∙ ap (λ (c : CourseState). with_history now c.history) over_is.1
+
+    pub over_there : IsOver mid
+    over_there = subst (λ (b : BoardState S). IsOver b) (sym nothing_more) (has.none_runs, ⊎_elim inl (λ none. inr none.0) over_is.0)
+
+    pub drained_there : HasDrained tells_ran old mid was ran before faults
+    drained_there = subst (λ (b : BoardState S). HasDrained tells_ran old b was ran before faults) (sym nothing_more) has
 
 -- ---- an update that is over
 module _ {S : Type 0} (tells_ran : Bool) (old now : BoardState S) (was ran : List (Names × List ℕ)) (before faults : ℕ) (has : HasDrained tells_ran old now was ran before faults) (result : Drained) (drains : Drains (state now) result) where
@@ -328,7 +438,6 @@ module _ {S : Type 0} (tells_ran : Bool) (old now : BoardState S) (was ran : Lis
 
   pub run_cause : HasRunCause (state old).stopped before faults result
   run_cause = record {
-    later = has.later;
     run = λ is. has.run (stopped_for causes.Run (λ e. cc) is);
     steady = λ other. has.steady (λ is. other (left_by causes.Run is));
   }

@@ -1,6 +1,6 @@
 -- What one ask of a board comes to for the view of a seat.
 use Rattle.std.proofs.Common.{◌≡◌, ◌≢◌, ◌⊎◌, ℕ, ◌<◌, Bool, true, false, List, [], ◌∷◌, ◌++◌, Option, None, Some, Result, Ok, Err, refl, sym, ap, ◌∙◌, subst, inl, inr, arith}
-use Rattle.std.specs.Prelude.{Contains, IsTrue, is_none, unwrap_or}
+use Rattle.std.specs.Prelude.{Contains, IfErr, IfOk, IsTrue, is_none, unwrap_or}
 use Rattle.std.specs.FinMap as finite
 use Rattle.std.specs.Option.{option_map}
 use Rattle.std.proofs.lemmas.Bool.{false≢true, true≢false}
@@ -13,8 +13,9 @@ use Rattle.tup_stamp.specs.Stamp.{stamp}
 use Rattle.tup_site.specs.Known.{KnowsTree}
 use Rattle.tup_site.specs.declared.site.Site.{Ghosts as Site}
 use Rattle.tup_runner.specs.Next.{Asks}
-use Rattle.tup_runner.specs.Refusal.{Refusal}
-use Rattle.tup_runner.specs.declared.fault.ViewFailed.TheVariants.{Denied, Fault}
+use Rattle.tup_runner.specs.Refusal.{Refusal, refused as refused_of}
+use Rattle.tup_runner.specs.declared.fault.ViewFailed.{ViewFailed}
+use Rattle.tup_runner.specs.declared.fault.ViewFailed.TheVariants.{Denied, Fault, Memory}
 use Rattle.tup_runner.specs.declared.step.Answer.{Answer}
 use Rattle.tup_runner.specs.declared.step.Answer.TheVariants.{Content as Holds, Absent as Nothing}
 use Rattle.tup_access.specs.declared.verdict.Verdict.{Verdict}
@@ -34,7 +35,7 @@ use Rattle.tup_board.specs.declared.answers.Asked.{Asked}
 use Rattle.tup_board.specs.declared.answers.Asked.TheVariants as reply_by
 use Rattle.tup_board.specs.Calls.{AreKnown, Asks as AllAsked, IsStampOf}
 use Rattle.tup_board.proofs.Known.{known_among}
-use Rattle.tup_board.specs.Seat.{CameBy, IsFromSeat, KeepsSeat, has_failed, is_granted, seat_of}
+use Rattle.tup_board.specs.Seat.{CameBy, IsFromSeat, KeepsSeat, answer_by, has_failed, is_granted, refused_by, seat_of, told_by}
 
 -- what one seat runs changed
 pub apart_from : (seats : ℕ → Option Running) (seat : ℕ) (what : Option Running) (other : ℕ) → other ≢ seat → changed seats seat what other ≡ seats other
@@ -63,20 +64,6 @@ module _ {S : Type 0} (seat : ℕ) (old new : BoardState S) where
     none_claimed = none;
     others = λ other differ. ap (λ (s : State). s.seats other) (state_more event same adds) ∙ others other differ;
   }
-
--- what a command is told of a text by what the board replied, and what the view of its seat refuses then; want of memory is no refusal
-abbrev pub told_by : List ℕ → Result Asked BoardFault → Asks
-told_by text (Ok (reply_by.Content content)) = (text, Holds content) ∷ []
-told_by text (Ok reply_by.Absent) = (text, Nothing) ∷ []
-told_by text (Ok (reply_by.Denied verdict)) = []
-told_by text (Err fault) = []
-
-abbrev pub refused_by : List ℕ → Result Asked BoardFault → Option Refusal
-refused_by text (Ok (reply_by.Content content)) = None
-refused_by text (Ok reply_by.Absent) = None
-refused_by text (Ok (reply_by.Denied verdict)) = Some (record { text = text; why = Denied })
-refused_by text (Err fault_by.Memory) = None
-refused_by text (Err fault) = Some (record { text = text; why = Fault })
 
 module _ {S : Type 0} (site : Site S) (seat : ℕ) (text : List ℕ) (old new : BoardState S) (known : IsTrue site.tells → site.known new.site ≡ site.known old.site) where
   -- one event was added, or none
@@ -266,3 +253,56 @@ module _ {S : Type 0} (site : Site S) (seat : ℕ) (text : List ℕ) (old new : 
   -- the plan is the same one
   pub plan_on : (result : Result Asked BoardFault) → Replied result → plan_of new ≡ plan_of old
   plan_on result asks = ap (λ (b : BoardState S). plan_of b) asks.asked.adds
+
+  -- ---- the same, as the view answers
+  module _ (result : Result Asked BoardFault) (knows : IsTrue site.tells → KnowsTree (site.known old.site) (site.world old.site).tree) (asks : Replied result) (was is : Option Refusal) (none : was ≡ None)
+      (noted : is ≡ refused_by text result) where
+    came_seen : CameBy site seat old was (told_by text result) new is
+    came_seen =
+        subst (λ (w : Option Refusal). CameBy site seat old w (told_by text result) new is) (sym none)
+        (subst (λ (i : Option Refusal). CameBy site seat old None (told_by text result) new i) (sym noted) (came_by result knows asks))
+
+    pub seat_kept : KeepsSeat site seat old was new is
+    seat_kept = came_seen.keeps
+
+    abbrev CameSo : Asks → Type 0
+    CameSo more = (seat ≡ seat) × CameBy site seat old was more new is
+
+    pub came_ok : (answer : Result Answer ViewFailed) → answer ≡ answer_by result → IfOk answer (λ given. CameSo ((text, given) ∷ []))
+    came_ok answer is_so = subst (λ (a : Result Answer ViewFailed). IfOk a (λ given. CameSo ((text, given) ∷ []))) (sym is_so) (by result (refl, came_seen))
+      where
+        by : (r : Result Asked BoardFault) → CameSo (told_by text r) → IfOk (answer_by r) (λ given. CameSo ((text, given) ∷ []))
+        by (Ok (reply_by.Content content)) came = came
+        by (Ok reply_by.Absent) came = came
+        by (Ok (reply_by.Denied verdict)) came = tt
+        by (Err fault_by.Site) came = tt
+        by (Err (fault_by.TooLarge bytes)) came = tt
+        by (Err fault_by.Full) came = tt
+        by (Err fault_by.Memory) came = tt
+
+    pub came_err : (answer : Result Answer ViewFailed) → answer ≡ answer_by result → IfErr answer (λ failed. failed ≢ Memory → CameSo [])
+    came_err answer is_so = subst (λ (a : Result Answer ViewFailed). IfErr a (λ failed. failed ≢ Memory → CameSo [])) (sym is_so) (by result (refl, came_seen))
+      where
+        by : (r : Result Asked BoardFault) → CameSo (told_by text r) → IfErr (answer_by r) (λ failed. failed ≢ Memory → CameSo [])
+        by (Ok (reply_by.Content content)) came = tt
+        by (Ok reply_by.Absent) came = tt
+        by (Ok (reply_by.Denied verdict)) came = λ other. came
+        by (Err fault_by.Site) came = λ other. came
+        by (Err (fault_by.TooLarge bytes)) came = λ other. came
+        by (Err fault_by.Full) came = λ other. came
+        by (Err fault_by.Memory) came = λ other. came
+
+    pub refuses_so : (answer : Result Answer ViewFailed) → answer ≡ answer_by result → is ≡ refused_of text answer
+    refuses_so answer is_so = noted ∙ by result ∙ ap (refused_of text) (sym is_so)
+      where
+        by : (r : Result Asked BoardFault) → refused_by text r ≡ refused_of text (answer_by r)
+        by (Ok (reply_by.Content content)) = refl
+        by (Ok reply_by.Absent) = refl
+        by (Ok (reply_by.Denied verdict)) = refl
+        by (Err fault_by.Site) = refl
+        by (Err (fault_by.TooLarge bytes)) = refl
+        by (Err fault_by.Full) = refl
+        by (Err fault_by.Memory) = refl
+
+    pub granted_so : is_granted ((state old).seats seat) ≡ true → is ≡ None → is_granted ((state new).seats seat) ≡ true
+    granted_so granted nothing = granted_on result asks granted (sym noted ∙ nothing)

@@ -246,7 +246,6 @@ RanAll plan events old new result = new ≡ old ++ commands plan events
 
 -- the runner failed where that is the first cause, unless it was before; it failed at no other answer
 pub record HasRunCause (before : Option Cause) (was now : ℕ) (result : Drained) : Type 0 where
-  pub later : was ≤ now
   pub run : result ≡ Left Run → (before ≡ Some Run) ⊎ Rose was now
   pub steady : result ≢ Left Run → now ≡ was
 
@@ -273,6 +272,5 @@ HasRun command old new stopped = (new ≡ old ++ command ∷ []) ⊎ ((new ≡ o
 
 -- the runner's count rose just where all is stopped for that
 pub record HasFailed (was now : ℕ) (stopped : Option Cause) : Type 0 where
-  pub later : was ≤ now
   pub run : stopped ≡ Some Run → Rose was now
   pub steady : stopped ≢ Some Run → now ≡ was

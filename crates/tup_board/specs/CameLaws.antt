@@ -44,7 +44,7 @@ no_place k below = absurd (omega arith)
 none_failed : (refusal : Option Refusal) → refusal ≡ None → has_failed refusal ≡ false
 none_failed refusal none = ap has_failed none
 
-module _ {S : Type 0} (site : Site S) (seat : ℕ) where
+module _ {S : Type 0} (seat : ℕ) where
   from_none : (b : BoardState S) → IsFromSeat seat b b
   from_none b = record { opening = refl; events = []; adds = sym (append-nil b.history); own = All-nil _; none_claimed = refl; others = λ other apart. refl }
 
@@ -58,9 +58,10 @@ module _ {S : Type 0} (site : Site S) (seat : ℕ) where
     others = λ other apart. two.others other apart ∙ one.others other apart;
   }
 
+module _ {S : Type 0} (site : Site S) (seat : ℕ) where
   pub keeps_none : (b : BoardState S) (refusal : Option Refusal) → KeepsSeat site seat b refusal b refusal
   keeps_none b refusal = record {
-    from = from_none b;
+    from = from_none seat b;
     known = λ tells. refl;
     stays = inr (refl, refl);
     going = λ fine. refl;
@@ -108,7 +109,7 @@ module _ {S : Type 0} (site : Site S) (seat : ℕ) where
 
       keeps_both : KeepsSeat site seat a first c last
       keeps_both = record {
-        from = from_both a b c one.from two.from;
+        from = from_both seat a b c one.from two.from;
         known = λ tells. two.known tells ∙ one.known tells;
         stays = ⊎_elim inl (λ same. ⊎_elim (λ none. inl (sym same.0 ∙ none)) (λ also. inr (also.0 ∙ same.0, also.1 ∙ same.1)) two.stays) one.stays;
         going = λ fine. two.going fine ∙ one.going (next_fine fine);

@@ -38,26 +38,26 @@ pub(crate) trait Reads {
     type Site: Site;
 
     /// The site, and the graph of its store.
-    ghost ground: { Self → Ground Self.Site };
+    ghost base: { Self → Ground Self.Site };
 
     /// The content of a file, or `None` where no file is. One that is too large is refused, with its length.
     fn read(&mut self, alloc: Global, path: &Path) -> Result<Option<Bytes>, BoardFault>
         ensures content { IsTrue Self.Site.Site.tells
             → IfOk result (λ content. content
-            ≡ finite.get (Self.Site.Site.world (ground self.old).site).tree path.now) }
+            ≡ finite.get (Self.Site.Site.world (base self.old).site).tree path.now) }
         ensures too_large { OnlyLarge result }
         ensures length { IsTrue Self.Site.Site.tells
-            → NamesLength (Self.Site.Site.world (ground self.old).site).tree path.now result }
+            → NamesLength (Self.Site.Site.world (base self.old).site).tree path.now result }
         ensures never_full { result ≢ Err BoardFault.Full }
-        ensures reads { ReadsSite Self.Site.Site (ground self.old) (ground self.new) }
-        ensures cause { CountsFaults (Self.Site.Site.faults (ground self.old).site)
-            (Self.Site.Site.faults (ground self.new).site) None result };
+        ensures reads { ReadsSite Self.Site.Site (base self.old) (base self.new) }
+        ensures cause { CountsFaults (Self.Site.Site.faults (base self.old).site)
+            (Self.Site.Site.faults (base self.new).site) None result };
 }
 
 impl<S: Site> Reads for Ground<S> {
     type Site = S;
 
-    ghost ground = { λ ground. ground };
+    ghost base = { λ base. base };
 
     fn read(&mut self, alloc: Global, path: &Path) -> Result<Option<Bytes>, BoardFault> {
         Ok(self.site.get(alloc, path)?)

@@ -1,5 +1,5 @@
 //! A whole update on one thread.
-ghost use Rattle.std.specs.Prelude.{◌≡◌, ◌≢◌, ◌++◌, ℕ, List, None, Some, Err, true, false, slice_get, IfOk, IsTrue};
+ghost use Rattle.std.specs.Prelude.{◌≡◌, ◌++◌, ◌↔◌, ℕ, List, None, Some, Err, true, false, slice_get, IfOk, IsTrue};
 ghost use Rattle.std.specs.FinMap as finite;
 ghost use Rattle.std.specs.Option.{option_map};
 ghost use Rattle.tup_path.specs.Name.{Names};
@@ -12,14 +12,15 @@ ghost use Rattle.tup_core.specs.Kept.{Kept};
 ghost use Rattle.tup_core.specs.Sound.{IsAcyclic};
 ghost use Rattle.tup_core.specs.declared.event.CoreEvent.{CoreEvent as CoreEventValue};
 ghost use Rattle.tup_board.specs.Board.{course_of, plan_of, state};
-ghost use Rattle.tup_board.specs.Calls.{command_of, IsReportOf, MeansDenied, StartsAlone};
-ghost use Rattle.tup_board.specs.Seat.{IsFromSeat};
+ghost use Rattle.tup_board.specs.Calls.{command_of, IsReportOf, StartsAlone};
+ghost use Rattle.tup_board.specs.Seat.{IsLeft, Performs, refusal_of};
 
 use crate::answers::Drained;
 use crate::board::Board;
 use crate::desk::Desk;
 use crate::seat::SeatView;
 use std::alloc::Global;
+use tup_access::Verdict;
 use tup_core::{Cause, Plan};
 use tup_course::Claimed;
 use tup_ground::BoardFault;
@@ -55,10 +56,20 @@ impl<S: Site, R: Runner> Board<S, R> {
         ensures cause { HasRunCause (state self.old).stopped
             (R.faults runner.old) (R.faults runner.new) result }
     {
-        while let Claimed::Rule(rule) = self.claim(plan, 0) {
-            self.run(alloc, plan, rule, runner);
+        'rules: loop {
+            match self.claim(plan, 0) {
+                Claimed::Rule(rule) => {
+                    // A law, also below: what a board keeps at every moment.
+                    let _ = self.history();
+                    self.run(alloc, plan, rule, runner);
+                }
+                Claimed::Wait => unreachable!(), // no seat runs a rule
+                Claimed::Over => {
+                    let _ = self.history();
+                    return self.drained();
+                }
+            }
         }
-        self.drained()
     }
 
     /// What came of an update that is over.
@@ -100,16 +111,20 @@ impl<S: Site, R: Runner> Board<S, R> {
         requires report { IsReportOf S.Site.own self.old 0 report.now.dir report.now.text
             (asks_of report.now) }
         requires going { (state self.old).stopped ≡ None }
-        ensures from { IsFromSeat 0 self.old self.new }
-        ensures ends { (state self.new).seats 0 ≡ None }
-        ensures other_cause { (state self.new).stopped ≢ Some Cause.Run }
+        ensures { IsLeft 0 self.old self.new }
     {
-        match self.finish(alloc, plan, 0, report) {
-            Ok(_) => {}
-            Err(BoardFault::Memory) => self.stop(plan, 0, Cause::Memory),
-            Err(_) => {} // the board has stopped
+        let ended = self.finish(alloc, plan, 0, report);
+        if is_memory(&ended) {
+            return self.stop(plan, 0, Cause::Memory);
         }
     }
+}
+
+/// Whether there was no memory. Else a command has ended, or its board has stopped.
+fn is_memory(ended: &Result<Verdict, BoardFault>) -> bool
+    ensures { IsTrue result ↔ (ended.now ≡ Err BoardFault.Memory) }
+{
+    matches!(ended, Err(BoardFault::Memory))
 }
 
 /// The report of the command of a rule that seat 0 of a board runs.
@@ -124,26 +139,48 @@ fn performed<D: Desk, R: Runner>(
 ) -> Result<Report<R>, RunFailed>
     requires plan { plan.now ≡ plan_of (D.board board.old) }
     requires starts { StartsAlone (D.board board.old) rule }
-    ensures from { IsFromSeat 0 (D.board board.old) (D.board board.new) }
+    ensures performs { Performs D.Site.Site R.Runner.own
+        (D.board board.old) result (D.board board.new) }
     ensures report { IfOk result (λ report. IsReportOf D.Site.Site (D.board board.new) 0
         report.dir report.text (asks_of report)) }
-    ensures denied { result ≡ Err RunFailed.Denied
-        → MeansDenied D.Site.Site R.Runner.own (D.board board.new) 0 }
-    ensures view { result ≡ Err RunFailed.View → (state (D.board board.new)).seats 0 ≡ None }
-    ensures going { result ≢ Err RunFailed.View → (state (D.board board.new)).stopped ≡ None }
-    ensures never_run { (state (D.board board.new)).stopped ≢ Some Cause.Run }
     ensures ran { IsTrue R.tells_ran → (it : RuleValue)
         → slice_get plan.now.rules rule ≡ Some it
         → Appends (command_of it) (R.ran runner.old) (R.ran runner.new) result }
     ensures cause { RunnerCounts (R.faults runner.old) (R.faults runner.new) result }
 {
     let it = &plan.rules.as_slice()[rule as usize];
+    let mut refused = None;
     let mut view = SeatView {
         board,
         plan,
         rule: it,
         seat: 0,
-        refused: None,
+        refused: &mut refused,
     };
-    perform(alloc, runner, &it.dir, &it.text, &mut view)
+    performed_in(&mut view, alloc, rule, runner)
+}
+
+/// The same, in the view of seat 0, which has refused nothing yet.
+fn performed_in<D: Desk, R: Runner>(
+    view: &mut SeatView<'_, '_, '_, '_, D>,
+    alloc: Global,
+    rule: u32,
+    runner: &mut R,
+) -> Result<Report<R>, RunFailed>
+    requires seat { view.old.seat ≡ 0 }
+    requires starts { StartsAlone (D.board view.old.board.now) rule }
+    requires placed { slice_get view.old.plan.now.rules rule ≡ Some view.old.rule.now }
+    requires granted { refusal_of view.old.refused.now ≡ None }
+    ensures performs { Performs D.Site.Site R.Runner.own
+        (D.board view.old.board.now) result (D.board view.new.board.now) }
+    ensures report { IfOk result (λ report. IsReportOf D.Site.Site
+        (D.board view.new.board.now) 0 report.dir report.text (asks_of report)) }
+    ensures ran { IsTrue R.tells_ran
+        → Appends (command_of view.old.rule.now) (R.ran runner.old) (R.ran runner.new) result }
+    ensures cause { RunnerCounts (R.faults runner.old) (R.faults runner.new) result }
+    ensures same_board { view.new.board.ghost_name ≡ view.old.board.ghost_name }
+    ensures same_refused { view.new.refused.ghost_name ≡ view.old.refused.ghost_name }
+{
+    let it = view.rule;
+    perform(alloc, runner, &it.dir, &it.text, view)
 }

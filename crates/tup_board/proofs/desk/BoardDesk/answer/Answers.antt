@@ -13,19 +13,19 @@ use Rattle.tup_board.proofs.Answering.{asks_after, asks_for, asks_for_own, fault
 use Rattle.tup_board.proofs.desk.BoardDesk.answer.Goals as goal
 
 pub answer_own-requires-clause-own : goal.answer_own-requires-clause-own
-answer_own-requires-clause-own g c κs within =
+answer_own-requires-clause-own g c =
     let it = c.requires.runs.it in
     let may = subst (λ (p : Plan). access p.rules it.rule (length it.running.asks) c.args.text.now ≡ Yes c.args.path.now) c.requires.plan (c.requires.may it) in
     asks_for_own c.args.self.now c.args.seat c.args.text.now it c.rule_run.result.now c.args.path.now (rule_seen g.S.Site g.R.Runner _ _ _ _ _ _ _ c.self.invariant.0 c.self.invariant.1 c.self.view_is c.args.seat c.rule_run.result.now c.rule_run.ensures) may (sym c.writes.ensures ∙ c.if-writes.true)
 
 pub invariant_of-self : goal.invariant_of-self
 invariant_of-self g c =
-    let site_laws = g.met.S.Site g.world.𝓛 g.world.𝓜 g.world.𝓡 ((λ s x. x), (λ x. x), (λ x. x), λ x. x) in
+    let site_laws = g.met.S.Site in
     (c.self.invariant.0, read_sound g.S.Site g.R.Runner _ _ _ _ _ _ _ c.self.invariant.0 c.self.invariant.1 c.self.view_is c.read.new.self c.read.ensures.reads site_laws.earlier c.read.ensures.cause.later)
 
 pub tell-requires-clause-asks_for : goal.tell-requires-clause-asks_for
-tell-requires-clause-asks_for g c κs within =
-    let site_laws = g.met.S.Site g.world.𝓛 g.world.𝓜 g.world.𝓡 ((λ s x. x), (λ x. x), (λ x. x), λ x. x) in
+tell-requires-clause-asks_for g c =
+    let site_laws = g.met.S.Site in
     let it = c.requires.runs.it in
     let may = subst (λ (p : Plan). access p.rules it.rule (length it.running.asks) c.args.text.now ≡ Yes c.args.path.now) c.requires.plan (c.requires.may it) in
     let for_it = asks_for c.args.self.now c.args.seat c.args.text.now it c.rule_run.result.now c.args.path.now (rule_seen g.S.Site g.R.Runner _ _ _ _ _ _ _ c.self.invariant.0 c.self.invariant.1 c.self.view_is c.args.seat c.rule_run.result.now c.rule_run.ensures) may (sym c.writes.ensures ∙ c.if-writes.false) in
@@ -33,7 +33,7 @@ tell-requires-clause-asks_for g c κs within =
 
 pub returns-in-Ok : goal.returns-in-Ok
 returns-in-Ok g c =
-    let site_laws = g.met.S.Site g.world.𝓛 g.world.𝓜 g.world.𝓡 ((λ s x. x), (λ x. x), (λ x. x), λ x. x) in
+    let site_laws = g.met.S.Site in
     let it = c.requires.runs.it in
     let may = subst (λ (p : Plan). access p.rules it.rule (length it.running.asks) c.args.text.now ≡ Yes c.args.path.now) c.requires.plan (c.requires.may it) in
     let for_it = asks_for c.args.self.now c.args.seat c.args.text.now it c.rule_run.result.now c.args.path.now (rule_seen g.S.Site g.R.Runner _ _ _ _ _ _ _ c.self.invariant.0 c.self.invariant.1 c.self.view_is c.args.seat c.rule_run.result.now c.rule_run.ensures) may (sym c.writes.ensures ∙ c.if-writes.false) in
@@ -42,12 +42,12 @@ returns-in-Ok g c =
 
 pub invariant_of-self-in-Err : goal.invariant_of-self-in-Err
 invariant_of-self-in-Err g c =
-    let site_laws = g.met.S.Site g.world.𝓛 g.world.𝓜 g.world.𝓡 ((λ s x. x), (λ x. x), (λ x. x), λ x. x) in
+    let site_laws = g.met.S.Site in
     (c.self.invariant.0, read_sound g.S.Site g.R.Runner _ _ _ _ _ _ _ c.self.invariant.0 c.self.invariant.1 c.self.view_is c.read.new.self c.read.ensures.reads site_laws.earlier c.read.ensures.cause.later)
 
 pub fail-requires-clause-true_cause : goal.fail-requires-clause-true_cause
-fail-requires-clause-true_cause g c κs within =
-    let site_laws = g.met.S.Site g.world.𝓛 g.world.𝓜 g.world.𝓡 ((λ s x. x), (λ x. x), (λ x. x), λ x. x) in
+fail-requires-clause-true_cause g c =
+    let site_laws = g.met.S.Site in
     let it = c.requires.runs.it in
     let may = subst (λ (p : Plan). access p.rules it.rule (length it.running.asks) c.args.text.now ≡ Yes c.args.path.now) c.requires.plan (c.requires.may it) in
     let for_it = asks_for c.args.self.now c.args.seat c.args.text.now it c.rule_run.result.now c.args.path.now (rule_seen g.S.Site g.R.Runner _ _ _ _ _ _ _ c.self.invariant.0 c.self.invariant.1 c.self.view_is c.args.seat c.rule_run.result.now c.rule_run.ensures) may (sym c.writes.ensures ∙ c.if-writes.false) in
@@ -60,7 +60,7 @@ fail-requires-clause-true_cause g c κs within =
 
 pub returns-in-Err : goal.returns-in-Err
 returns-in-Err g c =
-    let site_laws = g.met.S.Site g.world.𝓛 g.world.𝓜 g.world.𝓡 ((λ s x. x), (λ x. x), (λ x. x), λ x. x) in
+    let site_laws = g.met.S.Site in
     let it = c.requires.runs.it in
     let may = subst (λ (p : Plan). access p.rules it.rule (length it.running.asks) c.args.text.now ≡ Yes c.args.path.now) c.requires.plan (c.requires.may it) in
     let for_it = asks_for c.args.self.now c.args.seat c.args.text.now it c.rule_run.result.now c.args.path.now (rule_seen g.S.Site g.R.Runner _ _ _ _ _ _ _ c.self.invariant.0 c.self.invariant.1 c.self.view_is c.args.seat c.rule_run.result.now c.rule_run.ensures) may (sym c.writes.ensures ∙ c.if-writes.false) in
