@@ -1,4 +1,4 @@
-//! A project in memory, which answers what a reading asks.
+//! Sources in memory, which answer what a reading asks.
 ghost use Rattle.std.specs.Prelude.{◌≡◌, false, IfOk, IsTrue};
 ghost use Rattle.tup_rule.specs.declared.question.Question.TheVariants as asked;
 ghost use Rattle.tup_ask.specs.Log.{fits};
@@ -12,17 +12,17 @@ use tup_vars::Stopped;
 
 /// Source files, what tup.config sets, and how many questions more are answered.
 #[derive(Drop)]
-pub(crate) struct Project {
+pub(crate) struct Sources {
     files: BTreeMap<Path, Bytes>,
     settings: BTreeMap<Text, Text>,
     left: u64,
     stopped: bool,
 }
 
-impl Project {
+impl Sources {
     /// Without a file or a setting; it answers everything.
-    pub(crate) fn new(alloc: Global) -> Project {
-        Project {
+    pub(crate) fn new(alloc: Global) -> Sources {
+        Sources {
             files: BTreeMap::new(alloc),
             settings: BTreeMap::new(alloc),
             left: u64::MAX,
@@ -128,16 +128,16 @@ fn name_in<'p>(dir: &Path, path: &'p Path) -> Option<&'p Text> {
     }
 }
 
-impl Env for Project {
+impl Env for Sources {
     ghost use Rattle.std.specs.Prelude.{Some, None, true, false, if◌then◌else◌};
     ghost use Rattle.tup_rule.specs.declared.question.Kind.TheVariants.{Nothing};
     ghost use Rattle.tup_rule.specs.declared.question.Told.TheVariants as told;
 
     ghost tells = { false };
 
-    ghost answers = { λ project question. told.Kind Nothing };
+    ghost answers = { λ sources question. told.Kind Nothing };
 
-    ghost stopped = { λ project. if project.stopped then Some (λ question. true) else None };
+    ghost stopped = { λ sources. if sources.stopped then Some (λ question. true) else None };
 
     ghost asked = { λ _. None };
 

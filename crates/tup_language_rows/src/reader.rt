@@ -1,30 +1,37 @@
 //! The calls of `reader.rows`.
-use crate::project::Project;
+use crate::repeated::add;
 use crate::shown::{drafts, questions};
+use crate::sources::Sources;
 use std::alloc::{AllocError, Global};
+use std::fs::Files;
+use std::io;
 use tup_ask::ReadEnd;
 use tup_path::{Bytes, Path, Text};
 use tup_reader::read_tupfile;
-use tup_rows::{Answers, RowFault, Words};
+use tup_rows::{Answers, RowFault, Words, try_file_by};
 use tup_rule::Reading;
 
-/// The project that the rows above have left.
+pub(crate) fn try_rows<R: Files + Print>(rt: &R, alloc: Global) -> io::Result<()> {
+    try_file_by(rt, alloc, "reader.rows", Session::new(alloc))
+}
+
+/// The sources that the rows above have left.
 #[derive(Drop)]
-pub(crate) struct Session {
-    project: Project,
+struct Session {
+    sources: Sources,
 }
 
 impl Session {
-    /// A project without a file.
-    pub(crate) fn new(alloc: Global) -> Session {
+    /// Without a file.
+    fn new(alloc: Global) -> Session {
         Session {
-            project: Project::new(alloc),
+            sources: Sources::new(alloc),
         }
     }
 
-    /// Forgets the project.
+    /// Forgets the sources.
     fn begin(&mut self, alloc: Global) -> Words {
-        self.project = Project::new(alloc);
+        self.sources = Sources::new(alloc);
         Words::new(alloc)
     }
 
@@ -35,7 +42,7 @@ impl Session {
 
     /// Puts a file of this content.
     fn put(&mut self, alloc: Global, path: Path, content: Vec<u8>) -> Words {
-        noted(alloc, self.project.put(path, Bytes::new(content)))
+        noted(alloc, self.sources.put(path, Bytes::new(content)))
     }
 
     /// A file of a text so many times between two others.
@@ -51,12 +58,12 @@ impl Session {
     /// Sets a name.
     fn set(&mut self, alloc: Global, said: &Words) -> Words {
         let name = said.text_at(alloc, 0);
-        noted(alloc, self.project.set(name, said.text_at(alloc, 1)))
+        noted(alloc, self.sources.set(name, said.text_at(alloc, 1)))
     }
 
-    /// Has the project answer so many questions more.
+    /// Has the sources answer so many questions more.
     fn answers(&mut self, alloc: Global, said: &Words) -> Words {
-        self.project.answers(said.number_at(0));
+        self.sources.answers(said.number_at(0));
         Words::new(alloc)
     }
 
@@ -121,8 +128,8 @@ impl Session {
 
     /// The reading of a folder.
     fn read(&mut self, alloc: Global, dir: &Path) -> Result<Reading, ReadEnd> {
-        self.project.go_on();
-        read_tupfile(alloc, dir, &mut self.project)
+        self.sources.go_on();
+        read_tupfile(alloc, dir, &mut self.sources)
     }
 }
 
@@ -166,9 +173,9 @@ fn repeated(alloc: Global, said: &Words) -> Vec<u8> {
     let mut bytes = said.bytes_at(alloc, 1);
     let more = said.word_at(3);
     for _ in 0..said.number_at(2) {
-        add(&mut bytes, said, more);
+        add(said, &mut bytes, more);
     }
-    add(&mut bytes, said, said.word_at(4));
+    add(said, &mut bytes, said.word_at(4));
     bytes
 }
 
@@ -176,9 +183,9 @@ fn repeated(alloc: Global, said: &Words) -> Vec<u8> {
 fn numbered(alloc: Global, said: &Words) -> Vec<u8> {
     let mut bytes = Vec::new(alloc);
     for number in 0..said.number_at(2) {
-        add(&mut bytes, said, said.word_at(1));
+        add(said, &mut bytes, said.word_at(1));
         add_number(alloc, &mut bytes, said, number);
-        add(&mut bytes, said, said.word_at(3));
+        add(said, &mut bytes, said.word_at(3));
     }
     bytes
 }
@@ -186,14 +193,7 @@ fn numbered(alloc: Global, said: &Words) -> Vec<u8> {
 /// Adds a number.
 fn add_number(alloc: Global, bytes: &mut Vec<u8>, said: &Words, number: u64) {
     match format!(in alloc; "{number}") {
-        Ok(text) => add(bytes, said, text.as_bytes()),
+        Ok(text) => add(said, bytes, text.as_bytes()),
         Err(_) => said.fail(RowFault::Memory),
-    }
-}
-
-/// Adds bytes at the end.
-fn add(bytes: &mut Vec<u8>, said: &Words, more: &[u8]) {
-    if bytes.extend_from_slice(more).is_err() {
-        said.fail(RowFault::Memory);
     }
 }

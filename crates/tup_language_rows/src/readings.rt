@@ -36,7 +36,7 @@ fn add_rules(alloc: Global, words: &mut Words, drafts: &[Draft]) {
 }
 
 /// Adds paths.
-fn add_paths(alloc: Global, words: &mut Words, paths: &[Path]) {
+pub(crate) fn add_paths(alloc: Global, words: &mut Words, paths: &[Path]) {
     for path in paths {
         words.show(alloc, path);
     }

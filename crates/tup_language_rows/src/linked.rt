@@ -1,7 +1,7 @@
 //! Rules as words.
+use crate::readings::add_paths;
 use std::alloc::Global;
 use tup_link::{RuleNames, What};
-use tup_path::Path;
 use tup_rows::Words;
 use tup_rule::{GroupRef, Rule, Rules};
 use tup_whole::ProjectFault;
@@ -33,13 +33,6 @@ fn add_rule(alloc: Global, words: &mut Words, rule: &Rule) {
     add_paths(alloc, words, rule.order.as_slice());
     words.put(alloc, b"->");
     add_paths(alloc, words, rule.outputs.as_slice());
-}
-
-/// Adds paths.
-fn add_paths(alloc: Global, words: &mut Words, paths: &[Path]) {
-    for path in paths {
-        words.show(alloc, path);
-    }
 }
 
 /// A refusal with its cause.

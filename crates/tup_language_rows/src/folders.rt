@@ -4,25 +4,29 @@ ghost use Rattle.std.specs.FinMap as finite;
 ghost use Rattle.tup_path.specs.Order.{by_names};
 
 use crate::linked::linked;
-use crate::shown::shown;
+use crate::readings::shown;
 use std::alloc::{AllocError, Global};
-use std::mem;
+use std::{fs, io, mem};
 use tup_folders::read_folders;
 use tup_map::ByPath;
 use tup_path::{Bytes, Files};
-use tup_rows::{Answers, RowFault, Words};
+use tup_rows::{Answers, RowFault, Words, try_file_by};
 use tup_whole::read_all;
+
+pub(crate) fn try_rows<R: fs::Files + Print>(rt: &R, alloc: Global, name: &str) -> io::Result<()> {
+    try_file_by(rt, alloc, name, Folders::new(alloc))
+}
 
 /// The sources that the rows above have put.
 #[derive(Drop)]
-pub(crate) struct Session {
+struct Folders {
     files: ByPath<Bytes>,
 }
 
-impl Session {
+impl Folders {
     /// No sources.
-    pub(crate) fn new(alloc: Global) -> Session {
-        Session {
+    fn new(alloc: Global) -> Folders {
+        Folders {
             files: ByPath::new(alloc),
         }
     }
@@ -60,7 +64,7 @@ impl Session {
     }
 }
 
-impl Answers for Session {
+impl Answers for Folders {
     /// Makes one of the calls that the files in `data/` name.
     fn answer(&mut self, alloc: Global, call: &str, said: &Words) -> Result<Words, RowFault> {
         Ok(match call {
