@@ -636,7 +636,7 @@ if [ "$(id -u)" = 0 ] && command -v setpriv > /dev/null; then
     }
     project "$copy"
     chmod 755 .
-    nobody "a folder without permission" 'read .;fault: the file tree or the store failed;'
+    nobody "a folder without permission" 'fault: the file tree or the store failed;'
     said './.tup: Permission denied (os error 13)'
     file "its source" a hi
     project "$copy"
@@ -650,7 +650,7 @@ if [ "$(id -u)" = 0 ] && command -v setpriv > /dev/null; then
     project "$copy"
     chmod 777 . && "$tup" > /dev/null
     nobody "a store that the superuser made" 'read .;fault: the file tree or the store failed;'
-    said './.tup/db.new: Permission denied (os error 13)'
+    said './.tup/new: Permission denied (os error 13)'
     file "what was made stands" b hi
     project "$copy"
     chmod 777 . && chmod 600 Tupfile

@@ -1,7 +1,7 @@
 use Rattle.std.proofs.Common.{None}
 use Rattle.tup_board.proofs.Answering.{can_ask_own}
 use Rattle.tup_board.proofs.Kept.{ask_kept}
-use Rattle.tup_board.proofs.board.Board.answer_own.Goals as goal
+use Rattle.tup_board.proofs.desk.BoardDesk.answer_own.Goals as goal
 
 pub invariant_of-self-2 : goal.invariant_of-self-2
 invariant_of-self-2 g c =

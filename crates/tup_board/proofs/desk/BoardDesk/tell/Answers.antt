@@ -5,7 +5,7 @@ use Rattle.tup_core.specs.Step.{IsEnabled}
 use Rattle.tup_course.specs.Course.{now}
 use Rattle.tup_board.proofs.Answering.{can_ask, enabled_there, files_seen}
 use Rattle.tup_board.proofs.Kept.{ask_kept, plan_here}
-use Rattle.tup_board.proofs.board.Board.tell.Goals as goal
+use Rattle.tup_board.proofs.desk.BoardDesk.tell.Goals as goal
 
 pub ask-requires-clause-enabled : goal.ask-requires-clause-enabled
 ask-requires-clause-enabled g c =

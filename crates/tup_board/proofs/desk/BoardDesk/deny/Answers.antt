@@ -4,7 +4,7 @@ use Rattle.tup_core.specs.declared.plan.Plan.{Plan}
 use Rattle.tup_core.specs.Step.{IsEnabled}
 use Rattle.tup_board.specs.Board.{state}
 use Rattle.tup_board.proofs.Kept.{deny_kept}
-use Rattle.tup_board.proofs.board.Board.deny.Goals as goal
+use Rattle.tup_board.proofs.desk.BoardDesk.deny.Goals as goal
 
 pub invariant_of-self-2 : goal.invariant_of-self-2
 invariant_of-self-2 g c =

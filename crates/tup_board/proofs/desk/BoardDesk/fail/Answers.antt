@@ -1,7 +1,7 @@
 use Rattle.std.proofs.Common.{subst}
 use Rattle.tup_board.specs.Sound.{IsTrueFault}
 use Rattle.tup_board.proofs.Answering.{site_kept, large_kept, full_kept}
-use Rattle.tup_board.proofs.board.Board.fail.Goals as goal
+use Rattle.tup_board.proofs.desk.BoardDesk.fail.Goals as goal
 
 pub invariant_of-self : goal.invariant_of-self
 invariant_of-self g c =
