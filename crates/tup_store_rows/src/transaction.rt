@@ -187,10 +187,10 @@ pub fn number(said: &Words) -> u32 {
 
 /// The number that a word is, from 0 to 2.
 fn number_at(said: &Words, at: usize) -> u32 {
-    match said.word_at(at) {
-        b"0" => 0,
-        b"1" => 1,
-        b"2" => 2,
+    match said.str_at(at) {
+        "0" => 0,
+        "1" => 1,
+        "2" => 2,
         _ => {
             said.fail(RowFault::OtherKind);
             0
