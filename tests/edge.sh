@@ -115,9 +115,10 @@ while read -r call number; do
     esac
     same "$what failed, the source" "$(cat a)" ho
     same "$what failed, what is left" "$(ls -A | tr '\n' ' ')" '.tup Tupfile a b '
+    # Of one call strace takes one fault: what a kill at this rename leaves, a kill at the sync before it leaves too.
+    if [ "$call" = rename ]; then continue; fi
     made_anew
-    case $call in rename) fault=rename:error=EXDEV:signal=KILL:when=2 ;; *) fault=$call:signal=KILL:when=$number ;; esac
-    strace -o /dev/null -e trace=rename,"$call" -e inject="$other_disk" -e inject="$fault" "$tup" > /dev/null 2>&1
+    strace -o /dev/null -e trace=rename,"$call" -e inject="$other_disk" -e inject="$call:signal=KILL:when=$number" "$tup" > /dev/null 2>&1
     same "$what killed" "$?" 137
     case $(cat b) in hi | ho) ;; *) same "$what killed, its output" "$(cat b)" "hi or ho" ;; esac
     strace -o /dev/null -e trace=rename -e inject="$other_disk" "$tup" > "$work/told"
