@@ -89,7 +89,7 @@ same "its folder is synced in time" "$(awk '
 # An output that is made anew where `.tup` is on another disk: what is written beside it under a hidden name takes its place.
 # Each call of that is failed and killed: the old output or the new one stands there, and of what was written nothing stays
 # but what a killed update left, which the next one takes away.
-other_disk=rename:error=EXDEV:when=2
+other_disk=rename:error=EXDEV:when=1
 made_anew() {
     project "$copy"
     "$tup" > /dev/null
@@ -106,7 +106,7 @@ same "what is written beside an output" "$(sed -n 's/^\(openat\|write\|fsync\|re
 while read -r call number; do
     what="another disk, $call number $number"
     made_anew
-    case $call in rename) fault=rename:error=EXDEV:when=2..3 ;; *) fault=$call:error=EIO:when=$number ;; esac
+    case $call in rename) fault=rename:error=EXDEV:when=1..2 ;; *) fault=$call:error=EIO:when=$number ;; esac
     strace -o /dev/null -e trace=rename,"$call" -e inject="$other_disk" -e inject="$fault" "$tup" > "$work/told" 2> "$work/said"
     case "$call $? $(cat b) $(cat "$work/said")" in
         'close 0 ho ' | 'unlink 0 ho ') ;;
@@ -115,9 +115,10 @@ while read -r call number; do
     esac
     same "$what failed, the source" "$(cat a)" ho
     same "$what failed, what is left" "$(ls -A | tr '\n' ' ')" '.tup Tupfile a b '
+    # Of one call strace takes one fault: what a kill at this rename leaves, a kill at the sync before it leaves too.
+    if [ "$call" = rename ]; then continue; fi
     made_anew
-    case $call in rename) fault=rename:error=EXDEV:signal=KILL:when=3 ;; *) fault=$call:signal=KILL:when=$number ;; esac
-    strace -o /dev/null -e trace=rename,"$call" -e inject="$other_disk" -e inject="$fault" "$tup" > /dev/null 2>&1
+    strace -o /dev/null -e trace=rename,"$call" -e inject="$other_disk" -e inject="$call:signal=KILL:when=$number" "$tup" > /dev/null 2>&1
     same "$what killed" "$?" 137
     case $(cat b) in hi | ho) ;; *) same "$what killed, its output" "$(cat b)" "hi or ho" ;; esac
     strace -o /dev/null -e trace=rename -e inject="$other_disk" "$tup" > "$work/told"

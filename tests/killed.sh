@@ -43,8 +43,8 @@ after_changes() {
     rm index
 }
 
-# The list of owned paths `a`, `az` becomes `az`: were it written in place, its old end would name `z`.
-shorter_list() {
+# Of the owned paths `a`, `az` the first is given up; beside them stands a file of the user's with a name like theirs.
+fewer_paths() {
     printf 'source\n' > source
     printf 'of the user\n' > z
     printf '%s\n' ': source |> cp source a |> a' ': source |> cat source > az |> az' > Tupfile
@@ -52,11 +52,11 @@ shorter_list() {
     printf '%s\n' ': source |> cat source > az |> az' > Tupfile
 }
 
-# An earlier update was killed: its new list and a content that it was writing are still there.
+# An earlier update was killed: bytes of a store and a content that it was writing are still there.
 after_a_kill() {
     three_rules
     "$tup" > /dev/null
-    printf 'index\npa' > .tup/db.new
+    printf 'tup-db\n' > .tup/db.new
     printf 'half of a con' > .tup/new
     printf '%s\n' ': body |> cp body page |> page' > Tupfile
 }
@@ -129,15 +129,15 @@ stop() {
     [ "$(ls .tup)" = db ] || wrong "more than the store is left in .tup: $(ls .tup | tr '\n' ' ')"
 }
 
-# What a trace of an update shows of its syncs. Before a file comes or goes the first list is durable, with its folder and the
-# one above. Each file is synced before it is renamed into its place, and so is a list; before the second list is there, all
-# folders above a name that came or went are synced, and so they are in the end. Behind each list its folder is. Word: how many
-# lists there are to be.
+# What a trace of an update shows of its syncs. Before a file comes or goes the store is durable, with its folder and the one
+# above. Each file is synced before it is renamed into its place, and so is a store; before the store is put into its place, all
+# folders above a name that came or went are synced, and so they are in the end. Behind each store its folder is. Word: how often
+# the store is to be put into its place: once where it is made, and twice for each commit.
 unsynced() {
     awk -v wanted="$1" '
         function above(path) { while (sub(/\/[^\/]*$/, "", path)) waiting[path] }
         function file_changes(path) {
-            if (!("./.tup" in synced) || !("." in synced)) print path " comes or goes before the list is durable"
+            if (!("./.tup" in synced) || !("." in synced)) print path " comes or goes before the store is durable"
             above(path)
         }
         function replaces(new, path) {
@@ -158,17 +158,21 @@ unsynced() {
             synced[path]
         }
         /^rename\("\.\/\.tup\/db\.new", / {
-            for (path in waiting) print path " isn\047t durable before the new list is there"
-            replaces("./.tup/db.new", "the list")
+            for (path in waiting) print path " isn\047t durable before the new store is there"
+            replaces("./.tup/db.new", "the store")
             delete synced["./.tup"]
-            if (!lists++) delete synced["."]
+            if (!stores++) delete synced["."]
         }
         END {
-            if (lists != wanted) print lists + 0 " lists were put into their place, not " wanted
+            if (stores != wanted) print "the store was put into its place " stores + 0 " times, not " wanted
             for (path in waiting) print path " isn\047t durable in the end"
-            if (!("./.tup" in synced)) print "the folder of the list isn\047t synced behind it"
+            if (!("./.tup" in synced)) print "the folder of the store isn\047t synced behind it"
         }' "$work/trace"
 }
+
+# How often a project's update puts the store into its place: the first one makes it and owns what it makes, the others give
+# paths up.
+stores_of() { case $1 in three_rules) echo 3 ;; *) echo 2 ;; esac; }
 
 # All calls of the update of a project, from the first that names its folder on.
 try() {
@@ -183,7 +187,7 @@ try() {
     awk '{ name = $0; sub(/\(.*/, "", name); count[name]++ } /"\.["\/]/ { begun = 1 } begun && name ~ /^[a-z]/ && name !~ /^mmap/ { print name, count[name] }' "$work/trace" > "$work/list"
     what=$1
     [ -s "$work/list" ] || wrong "no call of the update was found"
-    late=$(unsynced 2)
+    late=$(unsynced "$(stores_of "$1")")
     [ -z "$late" ] || wrong "$late"
     : > "$work/exits"
     while read -r call number; do
@@ -194,7 +198,7 @@ try() {
     sort "$work/exits" | uniq -c | sed 's/^ *\([0-9]*\) /  \1 times /'
 }
 
-# A bad rule: there is no second list, and what was made before it is synced all the same.
+# A bad rule: nothing is given up, and what was made before it is synced all the same.
 behind_a_bad_rule() {
     rm -rf "$work/now" && mkdir -p "$work/now/sub" && cd "$work/now" || exit 1
     what="behind a bad rule"
@@ -203,12 +207,12 @@ behind_a_bad_rule() {
     strace -y -o "$work/trace" -e trace="$calls" "$tup" > /dev/null
     exit=$?
     [ $exit = 1 ] || wrong "exit $exit, not 1"
-    late=$(unsynced 1)
+    late=$(unsynced 3)
     [ -z "$late" ] || wrong "$late"
 }
 
 behind_a_bad_rule
-for project in ${*:-three_rules after_changes shorter_list after_a_kill folders_below}; do try "$project"; done
+for project in ${*:-three_rules after_changes fewer_paths after_a_kill folders_below}; do try "$project"; done
 
 if [ "$failures" -gt 0 ]; then
     echo "$failures of $all updates that were stopped went wrong"

@@ -458,10 +458,11 @@ damaged() {
     gone "$1, nothing was made" b
     same "$1, the store" "$(cat .tup/db | od -c)" "$(printf "$3" | od -c)"
 }
-damaged "a store out of order" 2 'c\nb\n'
-damaged "a store without its last line feed" 2 'b\nc'
-damaged "a hidden name in the store" 2 'b\n.c\n'
-damaged "a byte that isn't UTF-8 in the store" 0 '\377\n'
+damaged "the list of an old version" 0 'b\nc\n'
+damaged "another version of the store" 0 'tup-db\n\002\000'
+damaged "half a header" 0 'tup-d'
+damaged "a commit that is cut off" 8 'tup-db\n\001\001\000\000'
+damaged "a record of no kind" 8 'tup-db\n\001\001\000\000\000\011\001\000\001\153\000\000\000\001\166\000'
 
 project "$copy"
 "$tup" upd >&-
@@ -635,7 +636,7 @@ if [ "$(id -u)" = 0 ] && command -v setpriv > /dev/null; then
     }
     project "$copy"
     chmod 755 .
-    nobody "a folder without permission" 'read .;fault: the file tree or the store failed;'
+    nobody "a folder without permission" 'fault: the file tree or the store failed;'
     said './.tup: Permission denied (os error 13)'
     file "its source" a hi
     project "$copy"
@@ -649,7 +650,7 @@ if [ "$(id -u)" = 0 ] && command -v setpriv > /dev/null; then
     project "$copy"
     chmod 777 . && "$tup" > /dev/null
     nobody "a store that the superuser made" 'read .;fault: the file tree or the store failed;'
-    said './.tup/db.new: Permission denied (os error 13)'
+    said './.tup/new: Permission denied (os error 13)'
     file "what was made stands" b hi
     project "$copy"
     chmod 777 . && chmod 600 Tupfile

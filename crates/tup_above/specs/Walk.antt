@@ -1,14 +1,11 @@
 -- A walk from rules to the rules that read what they make (own).
-use Rattle.std.specs.Prelude.{◌≡◌, ◌⊎◌, ◌+◌, ◌≤◌, ℕ, true, List, Some, Contains, length, slice_get}
+use Rattle.std.specs.Prelude.{◌≡◌, ◌⊎◌, ◌+◌, ◌≤◌, ℕ, true, Some, Contains, length, slice_get}
 use Rattle.std.specs.BTreeSet.{contains, IsOrdered}
 use Rattle.std.specs.Ordering.{nat_cmp}
-use Rattle.tup_path.specs.Name.{Names}
 use Rattle.tup_rule.specs.declared.rule.Rule.{Rule}
 use Rattle.tup_graph.specs.Above.{IsAbove, HasReadOf}
-use Rattle.tup_graph.specs.Graph.{GraphState, is_rule, outputs_of}
+use Rattle.tup_graph.specs.Graph.{GraphState, is_rule}
 use Rattle.tup_above.specs.Grows.{Grows}
-use Rattle.tup_above.specs.Lists.{IsListed}
-use Rattle.tup_above.specs.declared.readers.Readers.{Readers}
 use Rattle.tup_above.specs.declared.walk.Walk.{Walk}
 
 -- a walk has come to a rule, and has yet to look who reads what it makes
@@ -17,10 +14,6 @@ IsReached walk number = contains nat_cmp walk.reached number ≡ true
 
 abbrev pub IsWaiting : Walk → ℕ → Type 0
 IsWaiting walk number = Contains walk.waiting.items number
-
--- a path of some has this rule listed
-abbrev pub IsListedOf : List Names → Readers → ℕ → Type 0
-IsListedOf paths readers number = (path : Names) × Contains paths path × IsListed readers.lists (path, number)
 
 -- a walk goes on to just these rules: the new ones among them wait
 pub record GoesTo (Rules : ℕ → Type 0) (old new : Walk) : Type 0 where

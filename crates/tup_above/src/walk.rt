@@ -3,58 +3,34 @@ ghost use Rattle.std.specs.Prelude.{◌≡◌, ◌⊎◌, ◌↔◌, ℕ, [], tr
 ghost use Rattle.std.specs.List.Sorted.{IsStrictlySortedBy};
 ghost use Rattle.std.specs.BTreeSet.{IsOrdered};
 ghost use Rattle.std.specs.Ordering.{nat_cmp};
-ghost use Rattle.tup_graph.specs.Above.{IsAbove};
+ghost use Rattle.tup_graph.specs.Above.{HasAsked, IsAbove};
 ghost use Rattle.tup_graph.specs.Graph.{is_rule, outputs_of as outputs_in};
-ghost use Rattle.tup_above.specs.Readers.{AreReaders, AreRunsOfRules};
-ghost use Rattle.tup_above.specs.Walk.{GoesTo, IsListedOf, IsReached};
+ghost use Rattle.tup_above.specs.Readers.{AreRunsOfRules, HasAskedOneOf};
+ghost use Rattle.tup_above.specs.Walk.{GoesTo, IsReached};
 
-use crate::readers::Readers;
 use std::alloc::Global;
 use std::collections::BTreeSet;
 use tup_graph::{GraphFault, Nodes};
+use tup_index::Indexed;
 use tup_path::{Items, Path};
 
-/// The roots, and the rules that recorded reads lead to from them, as `Readers::above` gives them. The map of readers is
-/// made where there is a root.
-pub fn above(alloc: Global, nodes: &Nodes, roots: &[u32]) -> Result<Items<u32>, GraphFault>
-    requires runs { AreRunsOfRules nodes.now }
-    requires roots { (root : ℕ) → Contains roots.now root → is_rule nodes.now root ≡ true }
+/// The roots, and the rules that recorded reads lead to from them, over any number of reads, in ascending order: each rule
+/// whose record asks an output of one of them, each that asks an output of such a one, and so on. It looks once at each of
+/// these rules, and at those who read what it makes.
+pub fn above(alloc: Global, graph: &Indexed, roots: &[u32]) -> Result<Items<u32>, GraphFault>
+    requires runs { AreRunsOfRules graph.now }
+    requires roots { (root : ℕ) → Contains roots.now root → is_rule graph.now root ≡ true }
     ensures above { IfOk result (λ numbers. (number : ℕ)
-        → Contains numbers number ↔ IsAbove nodes.now (Contains roots.now) number) }
+        → Contains numbers number ↔ IsAbove graph.now (Contains roots.now) number) }
     ensures ascending { IfOk result (λ numbers. IsStrictlySortedBy nat_cmp numbers) }
     ensures memory { IfErr result (λ fault. fault ≡ GraphFault.Memory) }
 {
-    if roots.is_empty() {
-        return Ok(Items::new(alloc));
+    let mut walk = Walk::new(alloc);
+    walk.reach_all(roots)?;
+    'rules: while let Some(number) = walk.waiting.pop() {
+        walk.visit(graph, number)?;
     }
-    Readers::new(alloc, nodes)?.above(alloc, nodes, roots)
-}
-
-impl Readers {
-    /// The roots, and the rules that recorded reads lead to from them, over any number of reads, in ascending order: each
-    /// rule whose record asks an output of one of them, each that asks an output of such a one, and so on. It looks once
-    /// at each of these rules, and at those who read what it makes.
-    pub fn above(
-        &self,
-        alloc: Global,
-        nodes: &Nodes,
-        roots: &[u32],
-    ) -> Result<Items<u32>, GraphFault>
-        requires readers { AreReaders nodes.now self.now }
-        requires runs { AreRunsOfRules nodes.now }
-        requires roots { (root : ℕ) → Contains roots.now root → is_rule nodes.now root ≡ true }
-        ensures above { IfOk result (λ numbers. (number : ℕ)
-            → Contains numbers number ↔ IsAbove nodes.now (Contains roots.now) number) }
-        ensures ascending { IfOk result (λ numbers. IsStrictlySortedBy nat_cmp numbers) }
-        ensures memory { IfErr result (λ fault. fault ≡ GraphFault.Memory) }
-    {
-        let mut walk = Walk::new(alloc);
-        walk.reach_all(roots)?;
-        'rules: while let Some(number) = walk.waiting.pop() {
-            walk.visit(nodes, self, number)?;
-        }
-        walk.numbers(alloc)
-    }
+    walk.numbers(alloc)
 }
 
 /// The rules that a walk has come to, and those among them of which it has yet to look who reads what they make.
@@ -77,21 +53,45 @@ impl Walk {
     }
 
     /// Comes to those who read what a rule makes.
-    fn visit(&mut self, nodes: &Nodes, readers: &Readers, number: u32) -> Result<(), GraphFault>
-        ensures goes { OnOk result (GoesTo (IsListedOf (outputs_in nodes.now number) readers.now)
-            self.old self.new) }
+    fn visit(&mut self, graph: &Indexed, number: u32) -> Result<(), GraphFault>
+        ensures goes { OnOk result (GoesTo
+            (HasAskedOneOf graph.now (outputs_in graph.now number)) self.old self.new) }
         ensures memory { IfErr result (λ fault. fault ≡ GraphFault.Memory) }
     {
-        self.reach_readers(readers, outputs_of(nodes, number))
+        self.reach_readers(graph, outputs_of(graph.nodes(), number))
     }
 
     /// Comes to those who read some paths.
-    fn reach_readers(&mut self, readers: &Readers, paths: &[Path]) -> Result<(), GraphFault>
-        ensures goes { OnOk result (GoesTo (IsListedOf paths.now readers.now) self.old self.new) }
+    fn reach_readers(&mut self, graph: &Indexed, paths: &[Path]) -> Result<(), GraphFault>
+        ensures goes { OnOk result (GoesTo
+            (HasAskedOneOf graph.now paths.now) self.old self.new) }
         ensures memory { IfErr result (λ fault. fault ≡ GraphFault.Memory) }
     {
         for path in paths {
-            self.reach_all(readers.of(path))?;
+            self.reach_readers_of(graph, path)?;
+        }
+        Ok(())
+    }
+
+    /// Comes to those who read a path.
+    fn reach_readers_of(&mut self, graph: &Indexed, path: &Path) -> Result<(), GraphFault>
+        ensures goes { OnOk result (GoesTo
+            (λ number. HasAsked graph.now number path.now) self.old self.new) }
+        ensures memory { IfErr result (λ fault. fault ≡ GraphFault.Memory) }
+    {
+        match graph.readers(path) {
+            Some(numbers) => self.reach_set(numbers),
+            None => Ok(()),
+        }
+    }
+
+    /// Comes to the rules of a set.
+    fn reach_set(&mut self, numbers: &BTreeSet<u32>) -> Result<(), GraphFault>
+        ensures goes { OnOk result (GoesTo (Contains numbers.now.keys) self.old self.new) }
+        ensures memory { IfErr result (λ fault. fault ≡ GraphFault.Memory) }
+    {
+        for number in numbers {
+            self.reach(*number)?;
         }
         Ok(())
     }

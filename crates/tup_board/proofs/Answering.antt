@@ -1,8 +1,9 @@
 -- What a board by its parts does at an ask, at a refusal and at a bad end, as its callers see it.
 use Rattle.std.proofs.Common.{◌≡◌, ◌≢◌, ℕ, ◌<◌, ◌≤◌, Bool, true, false, List, [], ◌∷◌, ◌++◌, length, get_or, Option, None, Some, Result, Ok, Err, refl, sym, ap, ◌∙◌, subst}
-use Rattle.std.specs.Prelude.{IsTrue, slice_get, if◌then◌else◌}
+use Rattle.std.specs.Prelude.{◌↔◌, IsSome, IsTrue, slice_get, if◌then◌else◌, is_none, is_some}
 use Rattle.std.specs.FinMap as finite
 use Rattle.std.specs.Option.{option_map}
+use Rattle.std.proofs.lemmas.Bool.{false≢true}
 use Rattle.std.proofs.lemmas.List.{append-nil}
 use Rattle.std.proofs.lemmas.Option.{same_Some, none-some, slice_get_within, slice_get_read}
 use Rattle.tup_path.specs.Name.{Names, Content}
@@ -19,13 +20,14 @@ use Rattle.tup_access.specs.declared.verdict.Access.{Access}
 use Rattle.tup_access.specs.declared.verdict.Access.TheVariants.{Yes, No}
 use Rattle.tup_access.specs.declared.verdict.Verdict.{Verdict}
 use Rattle.tup_kept.specs.Held.{Held}
+use Rattle.tup_core.specs.declared.event.Cause.{Cause}
 use Rattle.tup_core.specs.declared.event.Cause.TheVariants as cause_by
 use Rattle.tup_core.specs.declared.event.CoreEvent.{CoreEvent}
 use Rattle.tup_core.specs.declared.event.CoreEvent.TheVariants.{Ask, Deny, Finish, Stop}
 use Rattle.tup_core.specs.declared.plan.Plan.{Plan}
 use Rattle.tup_core.specs.declared.running.Running.{Running}
 use Rattle.tup_core.specs.Step.{CanAsk, CanDeny, IsEnabled}
-use Rattle.tup_course.specs.Course.{CourseState, GoesOn, RunsRule, now, with_events}
+use Rattle.tup_course.specs.Course.{CourseState, GoesOn, RunsRule, WasDenied, now, with_events}
 use Rattle.tup_ground.specs.Fault.{CountsFaults}
 use Rattle.tup_ground.specs.Ground.{NamesLength, OnlyLarge, ReadsSite}
 use Rattle.tup_ground.specs.Lost.{Lost}
@@ -38,8 +40,10 @@ use Rattle.tup_board.specs.Board.{BoardState, course_of, plan_of, state, with_hi
 use Rattle.tup_board.specs.Calls.{Asks, AsksFor, AsksForOwn, told_of}
 use Rattle.tup_board.specs.Cause.{stops_by}
 use Rattle.tup_board.specs.Sound.{IsSound, IsTrueFault}
-use Rattle.tup_board.proofs.Asking.{denied_asks, failed_asks, memory_asks, own_asks, read_asks, same_rule_at, same_running, told_asks}
-use Rattle.tup_board.proofs.Kept.{KeepsBoard, board_at, course_is, to_course, sound_seen, added_seen, kept_more, ask_kept, deny_kept, refused_kept, site_true, large_true, full_true}
+use Rattle.tup_board.proofs.Asking.{failed_asks, read_asks, same_rule_at, same_running}
+use Rattle.tup_board.proofs.Kept.{KeepsBoard, board_at, course_is, to_course, sound_seen, kept_more, ask_kept, deny_kept, refused_kept, site_true, large_true, full_true}
+use Rattle.tup_board.specs.Seat.{is_granted}
+use Rattle.tup_board.proofs.Seated.{runs_at}
 use Rattle.tup_board.proofs.WasRead.{sound_read}
 use Rattle.tup_board.proofs.Visiting.{counts_as, large_as, length_as, visit_true}
 
@@ -101,6 +105,57 @@ module _ {S R : Type 0} (site : Site S) (runner : Runner R) (course : CourseStat
   -- ---- what a seat runs
   pub running_seen : (seat : ℕ) (running : Running) → (now course).seats seat ≡ Some running → (it : RunsRule (course_of given) seat) → it.running ≡ running
   running_seen seat running here it = same_Some _ _ (sym it.runs.here ∙ sym (seats_seen seat) ∙ here)
+
+  pub rule_seen : (seat : ℕ) (rule : Rule) → ((it : RunsRule course seat) → rule ≡ it.rule) → (it : RunsRule (course_of given) seat) → rule ≡ it.rule
+  rule_seen seat rule is = subst (λ (c : CourseState). (it : RunsRule c seat) → rule ≡ it.rule) seen_is is
+
+  -- a seat whose command was denied nothing runs a rule of the plan, and so does one whose command was
+  abbrev runs_there : (seat : ℕ) (running : Running) → (state given).seats seat ≡ Some running → RunsRule (course_of given) seat
+  runs_there seat running here =
+      let kept = sound_seen site runner (board_at site runner course first_graph graph first_site s lost course) given sound view in
+      let at = runs_at (plan_of given) (course_of given).files given.history kept.run kept.opening.plan.in_range seat running here in
+      record { running = running; rule = at.0; runs = at.1 }
+
+  pub goes_there : (seat : ℕ) → is_granted ((state given).seats seat) ≡ true → GoesOn (course_of given) seat
+  goes_there seat granted = by ((state given).seats seat) refl granted
+    where
+      none_is : (o : Option (List ℕ × Verdict)) → is_none o ≡ true → o ≡ None
+      none_is None e = refl
+      none_is (Some denied) e = absurd (false≢true e)
+
+      by : (runs : Option Running) → (state given).seats seat ≡ runs → is_granted runs ≡ true → GoesOn (course_of given) seat
+      by None is e = absurd (false≢true e)
+      by (Some running) is e = record { it = runs_there seat running is; granted = none_is running.denied e }
+
+  pub goes_as : (seat : ℕ) (running : Running) → (now course).seats seat ≡ Some running → (is : Bool) → is ≡ is_none running.denied → IsTrue is ↔ GoesOn (course_of given) seat
+  goes_as seat running here is tells = (
+    λ e. goes_there seat (ap is_granted (sym (seats_seen seat) ∙ here) ∙ sym tells ∙ e),
+    λ it. tells ∙ ap (λ (r : Running). is_none r.denied) (sym (running_seen seat running here it.it)) ∙ ap is_none it.granted,
+  )
+
+  pub denied_as : (seat : ℕ) (running : Running) → (now course).seats seat ≡ Some running → (is : Bool) → is ≡ is_some running.denied → IsTrue is ↔ WasDenied (course_of given) seat
+  denied_as seat running here is tells = (
+    λ e. by running.denied refl (sym tells ∙ e),
+    λ it. tells ∙ ap (λ (r : Running). is_some r.denied) (sym (running_seen seat running here it.it)) ∙ ap is_some it.denied,
+  )
+    where
+      by : (denied : Option (List ℕ × Verdict)) → running.denied ≡ denied → is_some denied ≡ true → WasDenied (course_of given) seat
+      by None was e = absurd (false≢true e)
+      by (Some (text, verdict)) was e = record { it = runs_there seat running (sym (seats_seen seat) ∙ here); text = text; verdict = verdict; denied = was }
+
+  -- what came of it
+  pub done_seen : (stopped : Option Cause) → stopped ≡ (now course).stopped → stopped ≡ None → (has : Bool) → IsTrue has ↔ ((number : ℕ) × IsSome ((now course).bad number)) → has ≡ false
+      → ((state given).stopped ≡ None) × ((number : ℕ) → (state given).bad number ≡ None)
+  done_seen stopped is none has both other =
+      subst (λ (c : CourseState). ((now c).stopped ≡ None) × ((number : ℕ) → (now c).bad number ≡ None)) seen_is
+      (sym is ∙ none, λ number. none_of ((now course).bad number) (λ some. false≢true (sym other ∙ both.1 (number, some))))
+    where
+      none_of : (o : Option Verdict) → (IsSome o → ⊥) → o ≡ None
+      none_of None some = refl
+      none_of (Some verdict) some = absurd (some refl)
+
+  pub runs_here : (seat : ℕ) → RunsRule (course_of given) seat → RunsRule course seat
+  runs_here seat it = to_course site runner course first_graph graph first_site s lost given files sound view (λ c. RunsRule c seat) it
 
   -- what it may ask
   pub access_seen : (seat : ℕ) (rules : List Rule) (text : List ℕ) (found : Access) → ((it : RunsRule course seat) → found ≡ access rules it.rule (length it.running.asks) text)

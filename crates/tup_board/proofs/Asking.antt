@@ -103,7 +103,7 @@ module _ {S : Type 0} (site : Site S) (b : BoardState S) (seat : ℕ) (text : Li
       for_back named for_it = record { it = for_it.it; may = for_it.may; foreign = for_it.foreign }
 
       for_on : (result : Result Asked BoardFault) → HasAskedFor seat text after_visit result → HasAskedFor seat text b result
-      for_on (Ok (Told content)) it = tt
+      for_on (Ok (Told content)) it = (it.0, record { it = it.1.it; may = it.1.may; foreign = it.1.foreign })
       for_on (Ok Absent) it = tt
       for_on (Ok (Denied verdict)) it = tt
       for_on (Err ByVisit) it = (it.0, record { it = it.1.it; may = it.1.may; foreign = it.1.foreign })

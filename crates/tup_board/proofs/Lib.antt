@@ -19,3 +19,6 @@ pub mod Placing
 pub mod Making
 pub mod Ended
 pub mod Finished
+pub mod Seeing
+pub mod Draining
+pub mod Performed

@@ -61,7 +61,7 @@ some_stamp (Some content) there = there
 some_stamp None there = absurd (false≢true there)
 
 module _ {S R : Type 0} (site : Site S) (runner : Runner R) (b : BoardState S) (sound : IsSound site runner b) where
-  claimed_reached : (m : ℕ) → (state b).claimed m ≡ true → is_reached (plan_of b) m ≡ true
+  pub claimed_reached : (m : ℕ) → (state b).claimed m ≡ true → is_reached (plan_of b) m ≡ true
   claimed_reached =
       claimed_run (plan_of b) b.history (opening (plan_of b) (course_of b).files) (orderly_opening (plan_of b) (course_of b).files) (λ m was. absurd (false≢true was)) sound.run
 

@@ -1,7 +1,8 @@
 -- What each call of a board leaves, by its answer (own). All that happens to the core is told by the events that the call
 -- adds to the history.
-use Rattle.std.specs.Prelude.{◌≡◌, ◌≢◌, ◌⊎◌, ℕ, ◌<◌, true, false, List, [], ◌∷◌, ◌++◌, length, Option, None, Some, Result, Ok, Err, Contains, map, IsTrue}
+use Rattle.std.specs.Prelude.{◌≡◌, ◌≢◌, ◌⊎◌, ℕ, ◌<◌, ◌≤◌, true, false, List, [], ◌∷◌, ◌++◌, length, Option, None, Some, IsSome, Result, Ok, Err, Contains, map, filter_map, option_map, slice_get, take, ◌-◌, IsTrue}
 use Rattle.std.specs.FinMap as finite
+use Rattle.tup_path.specs.Count.{Rose}
 use Rattle.tup_path.specs.Name.{Names, Content}
 use Rattle.tup_path.specs.Tree.{Tree}
 use Rattle.tup_stamp.specs.declared.Stamp.{Stamp}
@@ -11,6 +12,7 @@ use Rattle.tup_site.specs.Crash.{GoesOn as GoesOnFrom, NoStep}
 use Rattle.tup_site.specs.Known.{Keeps}
 use Rattle.tup_site.specs.declared.site.Site.{Ghosts as Site}
 use Rattle.tup_runner.specs.declared.runner.Runner.{Ghosts as Runner}
+use Rattle.tup_rule.specs.declared.rule.Rule.{Rule}
 use Rattle.tup_rule.specs.Rule.{writes}
 use Rattle.tup_runner.specs.Next.{Asks as Answered}
 use Rattle.tup_runner.specs.declared.step.Answer.{Answer}
@@ -23,16 +25,26 @@ use Rattle.tup_access.specs.declared.verdict.Verdict.{Verdict}
 use Rattle.tup_access.specs.declared.verdict.Verdict.TheVariants.{Good}
 use Rattle.tup_record.specs.declared.run.RunRecord.{RunRecord}
 use Rattle.tup_kept.specs.Held.{Held}
+use Rattle.tup_core.specs.declared.event.Cause.{Cause}
+use Rattle.tup_core.specs.declared.event.Cause.TheVariants.{Bad, Run, Memory as StoppedByMemory}
 use Rattle.tup_core.specs.declared.event.CoreEvent.{CoreEvent}
 use Rattle.tup_core.specs.declared.event.CoreEvent.TheVariants.{Ask, Deny, Finish}
+use Rattle.tup_core.specs.declared.running.Running.{Running}
 use Rattle.tup_core.specs.Honest.{EndsHonestly, stamped}
 use Rattle.tup_core.specs.declared.plan.Plan.{Plan}
+use Rattle.tup_core.specs.Kept.{Kept}
+use Rattle.tup_core.specs.Planned.{IsPlanned, clean_of}
+use Rattle.tup_clean.specs.Clean.{succeeds}
+use Rattle.tup_core.specs.Run.{claims}
+use Rattle.tup_core.specs.Step.{State}
 use Rattle.tup_board.specs.declared.answers.Asked.{Asked}
 use Rattle.tup_board.specs.declared.answers.Asked.TheVariants.{Content as Told, Absent, Denied}
+use Rattle.tup_board.specs.declared.answers.Drained.{Drained}
+use Rattle.tup_board.specs.declared.answers.Drained.TheVariants.{Done, Left}
 use Rattle.tup_ground.specs.declared.fault.BoardFault.{BoardFault}
 use Rattle.tup_ground.specs.declared.fault.BoardFault.TheVariants.{Site as ByVisit, TooLarge, Full, Memory}
 use Rattle.tup_board.specs.Board.{BoardState, course_of, plan_of, state, with_history}
-use Rattle.tup_course.specs.Course.{RunsRule, GoesOn, WasDenied}
+use Rattle.tup_course.specs.Course.{RunsRule, GoesOn, WasDenied, NoneReady, NoneRuns}
 use Rattle.tup_board.specs.Cause.{stops_by}
 use Rattle.tup_board.specs.Ends.{IsRecordOf}
 use Rattle.tup_ground.specs.Fault.{CountsFaults}
@@ -90,8 +102,9 @@ pub record IsAsked {S : Type 0} (seat : ℕ) (text : List ℕ) (old : BoardState
   pub adds : new ≡ record old { history = old.history ++ ask_events seat text result; site = new.site }
   pub never_full : result ≢ Err Full
 
--- only a file that the command may ask for fails to be read, or is too large
+-- only of a file that the command may ask for the content is told, and only such a one fails to be read, or is too large
 abbrev pub HasAskedFor : {S : Type 0} → ℕ → List ℕ → BoardState S → Result Asked BoardFault → Type 0
+HasAskedFor seat text old (Ok (Told content)) = (path : Names) × AsksFor old seat text path
 HasAskedFor seat text old (Err ByVisit) = (path : Names) × AsksFor old seat text path
 HasAskedFor seat text old (Err (TooLarge bytes)) = (16777216 < bytes) × ((path : Names) × AsksFor old seat text path)
 HasAskedFor seat text old result = Unit {0}
@@ -199,3 +212,65 @@ pub record IsGoodEndAt {S : Type 0} (board : BoardState S) (seat : ℕ) (files :
   pub kept : IsRecordOf (plan_of board) (state board) seat number run
   pub writes : run.writes ≡ map stamped files
   pub event_is : event ≡ Finish seat Good run.writes
+
+-- ---- drain
+-- what an update that is over came to
+abbrev pub Drains : State → Drained → Type 0
+Drains end Done = (end.stopped ≡ None) × ((number : ℕ) → end.bad number ≡ None)
+Drains end (Left cause) = (end.stopped ≡ Some cause) ⊎ ((end.stopped ≡ None) × (cause ≡ Bad) × ((number : ℕ) × IsSome (end.bad number)))
+
+-- where a board's opening was planned over what is kept of a project, the clean build of its sources succeeds, and the files are
+-- those that it leaves
+abbrev pub BuildsClean : {S R : Type 0} → Site S → Runner R → BoardState S → Kept → Tree → Type 0
+BuildsClean site runner board kept tree =
+    IsPlanned runner.next (site.known board.site) kept tree (plan_of board) (course_of board).files
+    → (succeeds (clean_of runner.next kept tree (plan_of board)) ≡ true)
+    × ((path : Names) → option_map stamp (finite.get (site.world board.site).tree path) ≡ option_map stamp (finite.get (clean_of runner.next kept tree (plan_of board)).tree path))
+
+-- nothing goes on any more
+abbrev pub IsOver : {S : Type 0} → BoardState S → Type 0
+IsOver board = NoneRuns (course_of board) × (IsSome (state board).stopped ⊎ NoneReady (course_of board))
+
+-- the commands of the rules that are claimed, in their order
+abbrev pub command_of : Rule → Names × List ℕ
+command_of rule = (rule.dir, rule.text)
+
+abbrev pub commands : Plan → List CoreEvent → List (Names × List ℕ)
+commands plan events = filter_map (λ number. option_map command_of (slice_get plan.rules number)) (claims events)
+
+-- a runner ran the commands of the rules that were claimed; where an update is left for want of memory, perhaps not the last
+abbrev pub RanAll : Plan → List CoreEvent → List (Names × List ℕ) → List (Names × List ℕ) → Drained → Type 0
+RanAll plan events old new (Left StoppedByMemory) =
+    (new ≡ old ++ commands plan events) ⊎ (new ≡ old ++ take (length (commands plan events) - 1) (commands plan events))
+RanAll plan events old new result = new ≡ old ++ commands plan events
+
+-- the runner failed where that is the first cause, unless it was before; it failed at no other answer
+pub record HasRunCause (before : Option Cause) (was now : ℕ) (result : Drained) : Type 0 where
+  pub run : result ≡ Left Run → (before ≡ Some Run) ⊎ Rose was now
+  pub steady : result ≢ Left Run → now ≡ was
+
+-- ---- one rule of a drain
+-- seat 0 runs the rule of this number, whose command did nothing yet; nothing is stopped, and no other seat runs one
+pub record StartsAlone {S : Type 0} (board : BoardState S) (number : ℕ) : Type 0 where
+  pub rule : Rule
+  pub placed : slice_get (plan_of board).rules number ≡ Some rule
+  pub here : (state board).seats 0 ≡ Some (record { rule = number; asks = []; denied = None })
+  pub alone : (other : ℕ) → other ≢ 0 → (state board).seats other ≡ None
+  pub going : (state board).stopped ≡ None
+
+-- it was run or left: no seat runs one any more, and none was claimed
+pub record RunsOne {S : Type 0} (old new : BoardState S) : Type 0 where
+  pub opening : new.opening ≡ old.opening
+  pub events : List CoreEvent
+  pub adds : new.history ≡ old.history ++ events
+  pub none_claimed : claims events ≡ []
+  pub none_runs : NoneRuns (course_of new)
+
+-- its command was run; where all is stopped for want of memory, perhaps not
+abbrev pub HasRun : Names × List ℕ → List (Names × List ℕ) → List (Names × List ℕ) → Option Cause → Type 0
+HasRun command old new stopped = (new ≡ old ++ command ∷ []) ⊎ ((new ≡ old) × (stopped ≡ Some StoppedByMemory))
+
+-- the runner's count rose just where all is stopped for that
+pub record HasFailed (was now : ℕ) (stopped : Option Cause) : Type 0 where
+  pub run : stopped ≡ Some Run → Rose was now
+  pub steady : stopped ≢ Some Run → now ≡ was

@@ -6,3 +6,6 @@ pub mod Images
 pub mod Cause
 pub mod Sound
 pub mod Calls
+pub mod Seat
+pub mod Entries
+pub mod CameLaws

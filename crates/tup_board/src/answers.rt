@@ -17,6 +17,15 @@ pub enum Asked {
     Denied(Verdict),
 }
 
+/// How an update ended.
+#[derive(Clone, Copy, PartialEq, Eq)]
+pub enum Drained {
+    /// Each rule to be run became Good.
+    Done,
+    /// Rules are left, for this cause.
+    Left(Cause),
+}
+
 /// What a board is made of.
 #[derive(Drop)]
 pub struct BoardParts<S: Site> {

@@ -1,6 +1,7 @@
 //! The board.
-ghost use Rattle.std.specs.Prelude.{◌≡◌, ◌⊎◌, ◌++◌, ◌<◌, [], None, IfOk, IfErr, IsTrue};
+ghost use Rattle.std.specs.Prelude.{◌≡◌, ◌⊎◌, ◌<◌, [], None, IfOk, IfErr, IsTrue};
 ghost use Rattle.std.specs.FinMap as finite;
+ghost use Rattle.std.specs.Option.{option_copied};
 ghost use Rattle.tup_table.specs.Table.{entries_in};
 ghost use Rattle.tup_graph.specs.Opening.{IsGraphOf};
 ghost use Rattle.tup_core.specs.Honest.{IsHonest};
@@ -13,7 +14,7 @@ use std::alloc::{AllocError, Global};
 use std::marker::{Model, PhantomData};
 use std::snapshot::Snapshot;
 use tup_access::Verdict;
-use tup_core::{Cause, CoreEvent, Plan, Stamps};
+use tup_core::{Cause, CoreEvent, Plan, Running, Stamps};
 use tup_course::{Claimed, Course};
 use tup_graph::Nodes;
 use tup_ground::{BoardFault, Ground};
@@ -70,10 +71,9 @@ impl<S: Site, R: Runner> Model for Board<S, R> {
 
 impl<S: Site, R: Runner> Board<S, R> {
     ghost use Rattle.tup_board.specs.Board.{course_of, plan_of, start, state, with_history};
-    ghost use Rattle.tup_course.specs.Course.{Claims, Stops, EndsDenied, EndsWithFinish, IsLastVerdict, RunsRule};
+    ghost use Rattle.tup_course.specs.Course.{Claims, Stops, EndsDenied, EndsWithFinish, IsLastVerdict};
     ghost use Rattle.tup_board.specs.Calls.{MeansDenied, opened_as};
-    ghost use Rattle.tup_board.specs.Cause.{stops_by};
-    ghost use Rattle.tup_board.specs.Sound.{IsSound, IsOpening, IsTrueFault};
+    ghost use Rattle.tup_board.specs.Sound.{IsSound, IsOpening};
 
     /// A board on which nothing happened yet. Want of memory gives site and graph back.
     ///
@@ -127,6 +127,13 @@ impl<S: Site, R: Runner> Board<S, R> {
         ensures keeps { IsSound S.Site.own R.Runner.own self.now }
     {
         self.course.history()
+    }
+
+    /// What a seat runs.
+    pub fn running(&self, seat: u32) -> Option<&Running>
+        ensures { option_copied result ≡ (state self.now).seats seat }
+    {
+        self.course.running(seat)
     }
 
     /// Takes the board apart. Where the graph isn't fresh, its store is opened again.
@@ -183,26 +190,6 @@ impl<S: Site, R: Runner> Board<S, R> {
         ensures rest { self.new ≡ with_history self.old self.new.history }
     {
         self.course.stop(plan, seat, cause)
-    }
-
-    /// Stops at a seat that runs a rule for a refusal, if it isn't one for want of memory, and gives it back.
-    pub(crate) fn fail(&mut self, plan: &Plan, seat: u32, fault: BoardFault) -> BoardFault
-        requires plan { plan.now ≡ plan_of self.old }
-        requires runs { RunsRule (course_of self.old) seat }
-        requires true_cause { IsTrueFault S.Site.own self.old seat fault }
-        ensures same { result ≡ fault }
-        ensures adds { self.new
-            ≡ with_history self.old (self.old.history ++ stops_by seat fault) }
-    {
-        match fault {
-            BoardFault::Site => self.course.end_by(plan, seat, Cause::Site),
-            BoardFault::TooLarge(bytes) => {
-                self.course.end_by(plan, seat, Cause::TooLarge(bytes));
-            }
-            BoardFault::Full => self.course.end_by(plan, seat, Cause::Full),
-            BoardFault::Memory => {}
-        }
-        fault
     }
 }
 

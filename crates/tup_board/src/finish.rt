@@ -5,6 +5,7 @@ ghost use Rattle.tup_core.specs.declared.event.CoreEvent.TheVariants.{Finish};
 ghost use Rattle.tup_site.specs.Known.{Keeps};
 
 use crate::board::Board;
+use crate::desk::Desk;
 use crate::record::record_of;
 use std::alloc::{AllocError, Global};
 use tup_access::{Verdict, judge};

@@ -2,7 +2,7 @@
 //!
 //! A `Board` owns the site, the graph, the core and the history of events. Seats are driven through it: `claim` gives a
 //! seat the first rule that is ready, `ask` answers what the rule's command asks for, and `finish` takes what it made
-//! into the tree and the store.
+//! into the tree and the store. `drain` does all of that on one thread.
 //!
 //! Whatever was done, the history is a run of the core from the board's opening, and an honest one; the tree has what
 //! the core says; and what a crash at any moment may leave is said of each rule by itself (`specs/Sound.antt`,
@@ -12,10 +12,15 @@
 mod answers;
 mod ask;
 mod board;
+mod desk;
+mod drain;
 mod finish;
 mod record;
+mod seat;
+mod shared;
 
-pub use answers::{Asked, BoardParts};
+pub use answers::{Asked, BoardParts, Drained};
 pub use board::Board;
+pub use shared::Shared;
 pub use tup_course::{Claimed, Events};
 pub use tup_ground::BoardFault;

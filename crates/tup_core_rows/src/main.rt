@@ -1,10 +1,14 @@
-//! Answers the rows of `data/` on the core of an update.
+//! Answers the rows of `data/` on the core of an update, and on a plan with all that happens to it.
 #![tactic(auto)]
 
+mod answer;
+mod course;
+mod desk;
 mod drive;
 mod event;
 mod job;
 mod machine;
+mod orders;
 mod project;
 mod rows;
 mod run;
@@ -12,11 +16,13 @@ mod sources;
 mod told;
 mod update;
 
+use course::Courses;
 use project::Project;
 use std::io;
 use tup_rows::try_file;
 
 fn main(rt: HostRuntime) -> io::Result<()> {
     let alloc = rt.alloc();
-    try_file(&rt, alloc, "core.rows", &mut Project::new(alloc))
+    try_file(&rt, alloc, "core.rows", &mut Project::new(alloc))?;
+    try_file(&rt, alloc, "course.rows", &mut Courses::new(alloc))
 }

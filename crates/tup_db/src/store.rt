@@ -19,17 +19,14 @@ pub struct Store<R: Files<File = File> + Clone + Drop> {
     pub own: Own,
     aside: Option<File>,
     is_lost: bool,
-    was_synced: bool,
 }
 
 impl<R: Files<File = File> + Clone + Drop> Store<R> {
-    /// The store below a folder: nothing was written yet, none of it synced, and no sync has
-    /// failed.
+    /// The store below a folder: nothing was written yet, and no sync has failed.
     pub fn new(rt: R, alloc: Global, root: &str) -> Result<Store<R>, AllocError>
         ensures root { IfOk result (λ store. string_bytes store.disk.root ≡ root.now) }
         ensures own { IfOk result (λ store. IsOwnBelow root.now store.own) }
         ensures aside { IfOk result (λ store. is_some store.aside ≡ false) }
-        ensures synced { IfOk result (λ store. store.was_synced ≡ false) }
         ensures lost { IfOk result (λ store. store.is_lost ≡ false) }
     {
         Ok(Store {
@@ -37,7 +34,6 @@ impl<R: Files<File = File> + Clone + Drop> Store<R> {
             own: Own::new(alloc, root)?,
             aside: None,
             is_lost: false,
-            was_synced: false,
         })
     }
 
@@ -69,7 +65,6 @@ impl<R: Files<File = File> + Clone + Drop> Store<R> {
     pub fn write(&mut self, at: u64, bytes: &[u8]) -> Result<(), Refused>
         ensures aside { OnOk result (IsTrue (is_some self.new.aside)) }
         ensures kept { IsTrue (is_some self.old.aside) → IsTrue (is_some self.new.aside) }
-        ensures synced { self.new.was_synced ≡ self.old.was_synced }
         ensures lost { self.new.is_lost ≡ self.old.is_lost }
         ensures own { self.new.own ≡ self.old.own }
     {
@@ -82,7 +77,6 @@ impl<R: Files<File = File> + Clone + Drop> Store<R> {
     /// Cuts the store; one that is no longer stays.
     pub fn cut(&mut self, to: u64) -> Result<(), Refused>
         ensures kept { IsTrue (is_some self.old.aside) → IsTrue (is_some self.new.aside) }
-        ensures synced { self.new.was_synced ≡ self.old.was_synced }
         ensures lost { self.new.is_lost ≡ self.old.is_lost }
         ensures own { self.new.own ≡ self.old.own }
     {
@@ -99,7 +93,6 @@ impl<R: Files<File = File> + Clone + Drop> Store<R> {
     /// failure no later sync succeeds.
     pub fn sync(&mut self) -> Result<(), Refused>
         ensures aside { OnOk result (is_some self.new.aside ≡ false) }
-        ensures synced { OnOk result (IsTrue self.new.was_synced) }
         ensures lost { OnErr result (IsTrue self.new.is_lost) }
         ensures none_lost { OnOk result (self.new.is_lost ≡ false) }
         ensures for_good { IsTrue self.old.is_lost → IsErr result }
@@ -112,7 +105,6 @@ impl<R: Files<File = File> + Clone + Drop> Store<R> {
         self.put_into_place()?;
         self.aside = None;
         self.sync_folders()?;
-        self.was_synced = true;
         self.is_lost = false;
         Ok(())
     }
@@ -121,7 +113,15 @@ impl<R: Files<File = File> + Clone + Drop> Store<R> {
     fn put_into_place(&self) -> Result<(), Refused> {
         match &self.aside {
             Some(file) => self.rename(file),
-            None => self.disk.sync(self.own.store.as_str()),
+            None => self.sync_stored(),
+        }
+    }
+
+    // Syncs the store's file, if there is one. Anything else in its place is a failure.
+    fn sync_stored(&self) -> Result<(), Refused> {
+        match self.stored_len()? {
+            Some(_) => self.disk.sync(self.own.store.as_str()),
+            None => Ok(()),
         }
     }
 
@@ -131,12 +131,9 @@ impl<R: Files<File = File> + Clone + Drop> Store<R> {
         self.disk.at(store, fs::rename(&self.disk.rt, aside, store))
     }
 
-    // The first sync of a process makes the own folder durable too, whoever made it.
+    // Makes the own folder durable too: it may have been made since the last sync.
     fn sync_folders(&self) -> Result<(), Refused> {
         self.disk.sync(self.own.folder.as_str())?;
-        if self.was_synced {
-            return Ok(());
-        }
         self.disk.sync(self.disk.root())
     }
 
@@ -162,7 +159,6 @@ impl<R: Files<File = File> + Clone + Drop> Store<R> {
     // The file aside, begun as a copy of the store where there is none yet.
     fn take_aside(&mut self) -> Result<File, Refused>
         ensures there { IsTrue (is_some self.old.aside) → IsOk result }
-        ensures synced { self.new.was_synced ≡ self.old.was_synced }
         ensures lost { self.new.is_lost ≡ self.old.is_lost }
         ensures own { self.new.own ≡ self.old.own }
     {
@@ -173,7 +169,6 @@ impl<R: Files<File = File> + Clone + Drop> Store<R> {
     }
 
     fn open_aside(&mut self) -> Result<File, Refused>
-        ensures synced { self.new.was_synced ≡ self.old.was_synced }
         ensures lost { self.new.is_lost ≡ self.old.is_lost }
         ensures own { self.new.own ≡ self.old.own }
     {

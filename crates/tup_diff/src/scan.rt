@@ -5,7 +5,8 @@ ghost use Rattle.tup_diff.specs.Edits.{AreScanEdits};
 
 use crate::present::Present;
 use std::alloc::Global;
-use tup_graph::{Edits, GraphFault, Nodes};
+use tup_graph::{Edits, GraphFault};
+use tup_index::Indexed;
 use tup_scan::Seen;
 
 /// What taking note of a scan does to a graph: files are seen with the stamps that the scan found, and no others are;
@@ -15,13 +16,13 @@ use tup_scan::Seen;
 /// that has a fault each folder that asked it is to be read.
 ///
 /// Of each key there is one edit, and none that changes nothing.
-pub fn note_scan(alloc: Global, nodes: &Nodes, seen: &Seen) -> Result<Edits, GraphFault>
-    requires runs { AreRunsOfRules nodes.now }
-    ensures edits { IfOk result (AreScanEdits nodes.now seen.now.files seen.now.config) }
+pub fn note_scan(alloc: Global, graph: &Indexed, seen: &Seen) -> Result<Edits, GraphFault>
+    requires runs { AreRunsOfRules graph.now }
+    ensures edits { IfOk result (AreScanEdits graph.now seen.now.files seen.now.config) }
     ensures memory { IfErr result (λ fault. fault ≡ GraphFault.Memory) }
 {
-    let present = Present::new(alloc, nodes, seen)?;
+    let present = Present::new(alloc, graph.nodes(), seen)?;
     let dirs = present.stale(alloc)?;
-    let numbers = present.to_run(alloc)?;
+    let numbers = present.to_run(alloc, graph)?;
     present.edits(alloc, &dirs, numbers.as_slice())
 }

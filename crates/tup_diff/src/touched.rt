@@ -17,6 +17,7 @@ use crate::present::Present;
 use std::alloc::Global;
 use tup_above::{above, rule_count};
 use tup_graph::GraphFault;
+use tup_index::Indexed;
 use tup_path::{Items, Path};
 use tup_rule::Rule;
 use tup_stamp::Stamp;
@@ -24,15 +25,16 @@ use tup_stamp::Stamp;
 impl Present<'_> {
     /// The rules that are to be run, in ascending order: those that are flagged or touched, and all that recorded reads
     /// lead to from them.
-    pub(crate) fn to_run(&self, alloc: Global) -> Result<Items<u32>, GraphFault>
-        requires runs { AreRunsOfRules self.now.nodes.now }
+    pub(crate) fn to_run(&self, alloc: Global, graph: &Indexed) -> Result<Items<u32>, GraphFault>
+        requires same { graph.now ≡ self.now.nodes.now }
+        requires runs { AreRunsOfRules graph.now }
         ensures above { IfOk result (λ numbers. (number : ℕ) → Contains numbers number
             ↔ IsAbove (graph_of self.now) (IsScanRoot (graph_of self.now)) number) }
         ensures ascending { IfOk result (λ numbers. IsStrictlySortedBy nat_cmp numbers) }
         ensures memory { IfErr result (λ fault. fault ≡ GraphFault.Memory) }
     {
         let roots = self.roots(alloc)?;
-        above(alloc, self.nodes, roots.as_slice())
+        above(alloc, graph, roots.as_slice())
     }
 
     /// The rules that are flagged or touched.

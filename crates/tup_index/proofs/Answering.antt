@@ -48,22 +48,29 @@ module _ {K : Type 0} (cmp : K → K → Ordering) (total : IsTotalOrder cmp) (e
   pub all_listed : (items : List K) (found : Option (BTreeSet K)) → items ≡ values_in found → (x : K) → Contains items x ↔ (is_in cmp found x ≡ true)
   all_listed items found is x = subst (λ (l : List K). Contains l x ↔ (is_in cmp found x ≡ true)) (sym is) (among found x)
 
--- the rules that asked a path are those that are listed
+-- the rules that asked a path are those in its set
+pub readers_in : (g : GraphState) (readers : Readers) (path : Names) (found : Option (BTreeSet ℕ)) → AreReaders g.runs readers → found ≡ get by_names readers.sets.map path
+    → (number : ℕ) → (is_in nat_cmp found number ≡ true) ↔ HasAsked g number path
+readers_in g readers path found are there number = (to, from)
+  where
+    to : is_in nat_cmp found number ≡ true → HasAsked g number path
+    to h =
+        let (run, here, (other, given), in_it, same) = (are (path, number)).0 (subst (λ (o : Option (BTreeSet ℕ)). is_in nat_cmp o number ≡ true) there h) in
+        (run, given, here, subst (λ (p : Names). Contains run.asks (p, given)) same in_it)
+
+    from : HasAsked g number path → is_in nat_cmp found number ≡ true
+    from (run, given, here, in_it) = subst (λ (o : Option (BTreeSet ℕ)). is_in nat_cmp o number ≡ true) (sym there) ((are (path, number)).1 (run, here, (path, given), in_it, refl))
+
+-- those that are listed
 pub readers_listed : (g : GraphState) (readers : Readers) (path : Names) (items : List ℕ) (found : Option (BTreeSet ℕ)) → AreReaders g.runs readers → found ≡ get by_names readers.sets.map path
     → items ≡ values_in nat_cmp nat_cmp_total nat_cmp-IsAntisymmetric found → (number : ℕ) → Contains items number ↔ HasAsked g number path
-readers_listed g readers path items found are there is number = (to, from)
+readers_listed g readers path items found are there is number = (λ h. asked.0 (listed_so.0 h), λ h. listed_so.1 (asked.1 h))
   where
     listed_so : Contains items number ↔ (is_in nat_cmp found number ≡ true)
     listed_so = all_listed nat_cmp nat_cmp_total nat_cmp-IsAntisymmetric items found is number
 
-    to : Contains items number → HasAsked g number path
-    to h =
-        let (run, here, (other, given), in_it, same) = (are (path, number)).0 (subst (λ (o : Option (BTreeSet ℕ)). is_in nat_cmp o number ≡ true) there (listed_so.0 h)) in
-        (run, given, here, subst (λ (p : Names). Contains run.asks (p, given)) same in_it)
-
-    from : HasAsked g number path → Contains items number
-    from (run, given, here, in_it) =
-        listed_so.1 (subst (λ (o : Option (BTreeSet ℕ)). is_in nat_cmp o number ≡ true) (sym there) ((are (path, number)).1 (run, here, (path, given), in_it, refl)))
+    asked : (is_in nat_cmp found number ≡ true) ↔ HasAsked g number path
+    asked = readers_in g readers path found are there number
 
 -- the folders that asked a question are those that are listed
 pub askers_listed : (g : GraphState) (askers : Askers) (question : Question) (items : List Names) (found : Option (BTreeSet Names)) → AreAskers g.readings askers → found ≡ askers_of askers question

@@ -1,11 +1,13 @@
 //! A graph in memory that knows who asked what.
-ghost use Rattle.std.specs.Prelude.{◌≡◌, ◌↔◌, ℕ, Contains, IfErr, IfOk, OnErr, OnOk};
+ghost use Rattle.std.specs.Prelude.{◌≡◌, ◌↔◌, ℕ, true, Contains, IfErr, IfOk, OnErr, OnOk};
 ghost use Rattle.std.specs.List.Sorted.{IsStrictlySortedBy};
+ghost use Rattle.std.specs.Option.{option_copied};
 ghost use Rattle.std.specs.Ordering.{nat_cmp};
 ghost use Rattle.tup_graph.specs.Above.{HasAsked};
 ghost use Rattle.tup_graph.specs.Edits.{edited, edited_by};
 ghost use Rattle.tup_graph.specs.Graph.{empty_graph};
 ghost use Rattle.tup_index.specs.Index.{HasQuestioned};
+ghost use Rattle.tup_index.specs.Sets.{is_in};
 ghost use Rattle.tup_path.specs.Name.{Names};
 ghost use Rattle.tup_path.specs.Order.{by_names};
 
@@ -65,6 +67,14 @@ impl Indexed {
         ensures { result.now ≡ self.now }
     {
         &self.nodes
+    }
+
+    /// The rules whose records ask a path, where there are some.
+    pub fn readers(&self, path: &Path) -> Option<&BTreeSet<u32>>
+        ensures { (number : ℕ) → (is_in nat_cmp (option_copied result) number ≡ true)
+            ↔ HasAsked self.now number path.now }
+    {
+        self.index.readers.of(path)
     }
 
     /// The rules whose records ask a path, in ascending order.

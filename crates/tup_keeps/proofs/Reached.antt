@@ -1,5 +1,5 @@
 -- Where no rule is flagged and the tree is as it was seen, no rule is reached.
-use Rattle.std.specs.Prelude.{◌≡◌, ℕ, zero, suc, false, List, None, Some}
+use Rattle.std.specs.Prelude.{◌≡◌, ℕ, zero, suc, false, List, None, Some, Ok}
 use Rattle.std.proofs.Common.{sym, subst, ◌∙◌, inl, inr}
 use Rattle.std.specs.FinMap as finite
 use Rattle.std.proofs.lemmas.Bool.{true≢false}
@@ -9,6 +9,8 @@ use Rattle.tup_path.specs.Tree.{Tree}
 use Rattle.tup_stamp.specs.declared.Stamp.{Stamp}
 use Rattle.tup_rule.specs.declared.rule.Rule.{Rule}
 use Rattle.tup_runner.specs.Next.{Next}
+use Rattle.tup_whole.specs.Project.{ComeTo}
+use Rattle.tup_whole.proofs.Alike.{projects_alike}
 use Rattle.tup_record.specs.declared.run.RunRecord.{RunRecord}
 use Rattle.tup_graph.specs.Graph.{GraphState, is_flagged}
 use Rattle.tup_graph.specs.Kept.{IsKept, IsRuleAt, HasSeenStamps}
@@ -46,3 +48,7 @@ module _ (next : Next) (language : Language) (known : List Content) (g : GraphSt
 
   pub none_reached : (at : ℕ) → IsReached g tree g.rules at → ⊥
   none_reached at (reads, is) = over reads at is
+
+  -- the rules of sources are one list
+  pub none_left : (sources : Tree) (rules : List Rule) → ComeTo sources (Ok g.rules) → ComeTo sources (Ok rules) → (at : ℕ) → IsReached g tree rules at → ⊥
+  none_left sources rules mine come at reached = none_reached at (subst (λ (l : List Rule). IsReached g tree l at) (projects_alike sources (Ok rules) (Ok g.rules) come mine) reached)

@@ -25,6 +25,17 @@ pub fn nothing_is_reached()
         → IsReached g tree g.rules at → ⊥ }
 {}
 
+/// A law: nor is any of the rules to which sources come, where those of the graph are such: after a finish of all that was to
+/// be run nothing is left to run.
+pub fn nothing_is_left()
+    ensures { (next : Next) (language : Language) (known : List Content) (g : GraphState)
+        (tree sources : Tree) (rules : List Rule) (at : ℕ) → IsKept next language known g
+        → ((number : ℕ) (rule : Rule) → IsRuleAt g number rule → is_flagged g number ≡ false)
+        → ((path : Names) → finite.get g.seen path ≡ stamp_in tree path)
+        → ComeTo sources (Ok g.rules) → ComeTo sources (Ok rules)
+        → IsReached g tree rules at → ⊥ }
+{}
+
 /// A law: after a scan that found a tree, and a swap that brings the rules of the sources in it, just those rules are
 /// flagged that are reached from the graph that was kept before both, where its language links as projects are linked.
 pub fn flagged_is_reached()

@@ -3,10 +3,8 @@ use Rattle.std.proofs.Common.{◌≡◌, ℕ, ◌&&◌, Bool, true, false, List,
 use Rattle.tup_table.specs.Entries.{Standing, IsAscending, committed}
 use Rattle.tup_table.specs.Table.{entries_in, is_fresh as is_fresh_table}
 use Rattle.tup_table.specs.declared.change.Change.{Change}
-use Rattle.tup_table.specs.declared.table.Table.{Table}
 use Rattle.tup_graph.specs.Changes.{needed, once_made}
 use Rattle.tup_graph.specs.Edits.{change_of, edited_by}
-use Rattle.tup_graph.specs.Graph.{GraphState}
 use Rattle.tup_graph.specs.Opening.{IsGraphOf}
 use Rattle.tup_graph.specs.declared.edit.Edit.{Edit}
 use Rattle.tup_graph.proofs.OneWay.{one_graph}

@@ -1,6 +1,6 @@
 -- What a crash leaves of a graph, by what it leaves of its table.
 use Rattle.std.proofs.Common.{◌≡◌, ℕ, List, ⊎_elim, inl, inr, sym, subst, arith}
-use Rattle.tup_site.specs.Crash.{GoesOn, LeavesOnly}
+use Rattle.tup_site.specs.Crash.{GoesOn}
 use Rattle.tup_site.specs.World.{World}
 use Rattle.tup_table.specs.Entries.{Standing, committed}
 use Rattle.tup_table.specs.Images.{CommitStep}

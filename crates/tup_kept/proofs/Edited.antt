@@ -1,5 +1,5 @@
 -- A transaction, by the edits that it was given.
-use Rattle.std.proofs.Common.{◌≡◌, ℕ, List, Result, Ok, Err, All, sym, ap, subst, ◌∙◌, ⊎_elim}
+use Rattle.std.proofs.Common.{◌≡◌, ℕ, List, Result, Ok, All, sym, ap, subst, ◌∙◌, ⊎_elim}
 use Rattle.tup_path.specs.Gives.{GivesUnless}
 use Rattle.tup_site.specs.World.{World}
 use Rattle.tup_table.specs.Entries.{Standing}

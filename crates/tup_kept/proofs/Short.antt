@@ -1,5 +1,5 @@
 -- The keys of records are short.
-use Rattle.std.proofs.Common.{◌≡◌, ℕ, ◌+◌, ◌*◌, ◌≤◌, Bool, true, false, cond, List, [], ◌∷◌, ◌++◌, length, map, fold, filter, All, refl, sym, ap, subst, ◌∙◌, length-append, arith}
+use Rattle.std.proofs.Common.{◌≡◌, ℕ, ◌*◌, ◌≤◌, Bool, true, false, cond, List, [], ◌∷◌, length, map, fold, filter, All, refl, sym, ap, subst, ◌∙◌, length-append, arith}
 use Rattle.std.specs.FinMap as finite
 use Rattle.std.specs.FinMap.{FinMap, insert, empty, entries}
 use Rattle.std.specs.FinMap.Entries.{by_order}

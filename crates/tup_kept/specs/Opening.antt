@@ -1,6 +1,5 @@
 -- What opening a graph answers, by the bytes of the store (own).
 use Rattle.std.specs.Prelude.{◌≡◌, ◌⊎◌, ℕ, List, [], ◌++◌, take, drop, Result, Ok, Err}
-use Rattle.tup_site.specs.World.{World}
 use Rattle.tup_table.specs.Images.{closed_end}
 use Rattle.tup_table.specs.Reading.{ReadsAs}
 use Rattle.tup_table.specs.Table.{entries_in, gate_of}

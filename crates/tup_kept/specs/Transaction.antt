@@ -1,6 +1,5 @@
 -- What a transaction does to a graph and to its store (own).
 use Rattle.std.specs.Prelude.{◌≡◌, ◌≢◌, ◌⊎◌, true, false, List, [], ◌∷◌, All, map, Result, Ok, Err}
-use Rattle.tup_table.specs.Entries.{Standing}
 use Rattle.tup_table.specs.Table.{entries_in, after_commit, IsOver}
 use Rattle.tup_table.specs.declared.change.Change.{Change}
 use Rattle.tup_table.specs.declared.table.Table.{Table}

@@ -1,5 +1,9 @@
 //! A graph over the store of a site.
-ghost use Rattle.std.specs.Prelude.{◌≡◌, ◌≢◌, ◌++◌, ◌∷◌, ℕ, [], All, IsTrue, IfOk, OnOk, Err};
+ghost use Rattle.std.specs.Prelude.{◌≡◌, ◌≢◌, ◌⊎◌, ◌↔◌, ◌++◌, ◌∷◌, ℕ, [], All, Contains, IsTrue, IfOk, IfErr, OnOk, Err};
+ghost use Rattle.std.specs.List.Sorted.{IsStrictlySortedBy};
+ghost use Rattle.std.specs.Ordering.{nat_cmp};
+ghost use Rattle.tup_path.specs.Name.{Names};
+ghost use Rattle.tup_path.specs.Order.{by_names};
 ghost use Rattle.tup_path.specs.Gives.{GivesUnless};
 ghost use Rattle.tup_site.specs.Crash.{GoesOn, WriteStep};
 ghost use Rattle.tup_site.specs.World.{TreeStays};
@@ -7,10 +11,12 @@ ghost use Rattle.tup_table.specs.Entries.{IsAscending};
 ghost use Rattle.tup_table.specs.Images.{OpenStep};
 ghost use Rattle.tup_table.specs.Store.{header};
 ghost use Rattle.tup_table.specs.Table.{entries_in};
+ghost use Rattle.tup_graph.specs.Above.{HasAsked};
 ghost use Rattle.tup_graph.specs.Changes.{once_made};
 ghost use Rattle.tup_graph.specs.Edits.{edited_by, HasSpelling};
 ghost use Rattle.tup_graph.specs.Graph.{empty_graph};
 ghost use Rattle.tup_graph.specs.Opening.{IsGraphOf};
+ghost use Rattle.tup_index.specs.Index.{HasQuestioned};
 ghost use Rattle.tup_kept.specs.Cause.{CountsFaults, OnlyOutside};
 ghost use Rattle.tup_kept.specs.Crash.{LeavesEither};
 ghost use Rattle.tup_kept.specs.Held.{is_fresh, StandsFor};
@@ -20,6 +26,9 @@ ghost use Rattle.tup_kept.specs.Transaction.{Leaves, IsFull};
 use std::alloc::Global;
 use std::marker::Model;
 use tup_graph::{Edits, GraphFault, Nodes, changes, read_graph};
+use tup_index::Indexed;
+use tup_path::Path;
+use tup_rule::Question;
 use tup_site::Site;
 use tup_table::Table;
 
@@ -32,7 +41,7 @@ use tup_table::Table;
 #[derive(Drop)]
 pub struct Graph {
     pub(crate) table: Table,
-    pub(crate) nodes: Nodes,
+    pub(crate) nodes: Indexed,
     /// Whether the nodes have all that the table has.
     whole: bool,
 }
@@ -73,7 +82,7 @@ impl Graph {
         let table = Table::make(alloc, site)?;
         Ok(Graph {
             table,
-            nodes: Nodes::empty(alloc),
+            nodes: Indexed::empty(alloc),
             whole: true,
         })
     }
@@ -92,6 +101,9 @@ impl Graph {
             × IsGraphOf (entries_in graph.table) graph.nodes) }
         ensures stands { IsTrue S.tells
             → IfOk result (λ graph. StandsFor S.world S.moment S.left_since graph site.new) }
+        // Whatever it answers, all is as it was, or the store has the same entries.
+        ensures keeps { IsTrue S.tells → (S.world site.new ≡ S.world site.old)
+            ⊎ OpenStep (S.world site.old) (S.world site.new) }
 
         // What it changes meanwhile, and what a crash may leave then: the same entries.
         ensures tree { IsTrue S.tells → TreeStays (S.world site.old) (S.world site.new) }
@@ -103,9 +115,10 @@ impl Graph {
     {
         let table = Table::open(alloc, site)?;
         let nodes = read_graph(alloc, table.entries())?;
+        let indexed = Indexed::of(alloc, nodes)?;
         Ok(Graph {
             table,
-            nodes,
+            nodes: indexed,
             whole: true,
         })
     }
@@ -116,7 +129,36 @@ impl Graph {
         ensures graph { IsTrue (is_fresh self.now)
             → IsGraphOf (entries_in self.now.table) result.now }
     {
+        self.nodes.nodes()
+    }
+
+    /// The same nodes, with the maps that lead back over what their records ask.
+    pub fn indexed(&self) -> &Indexed
+        ensures value { result.now ≡ self.now.nodes }
+        ensures graph { IsTrue (is_fresh self.now)
+            → IsGraphOf (entries_in self.now.table) result.now }
+    {
         &self.nodes
+    }
+
+    /// The rules whose records ask a path, in ascending order.
+    pub fn readers_of(&self, alloc: Global, path: &Path) -> Result<Vec<u32>, GraphFault>
+        ensures readers { IfOk result (λ numbers. (number : ℕ)
+            → Contains numbers.items number ↔ HasAsked self.now.nodes number path.now) }
+        ensures ascending { IfOk result (λ numbers. IsStrictlySortedBy nat_cmp numbers.items) }
+        ensures memory { IfErr result (λ fault. fault ≡ GraphFault.Memory) }
+    {
+        self.nodes.readers_of(alloc, path)
+    }
+
+    /// The folders whose readings asked a question, in the order of paths.
+    pub fn asked_by(&self, alloc: Global, question: &Question) -> Result<Vec<Path>, GraphFault>
+        ensures folders { IfOk result (λ dirs. (dir : Names)
+            → Contains dirs.items dir ↔ HasQuestioned self.now.nodes dir question.now) }
+        ensures ascending { IfOk result (λ dirs. IsStrictlySortedBy by_names dirs.items) }
+        ensures memory { IfErr result (λ fault. fault ≡ GraphFault.Memory) }
+    {
+        self.nodes.asked_by(alloc, question)
     }
 
     /// Whether the graph stands for its store.

@@ -42,7 +42,7 @@ impl Graph {
         ensures known { IsTrue S.tells → S.known site.new ≡ S.known site.old }
         ensures cause { CountsFaults (S.faults site.old) (S.faults site.new) result }
     {
-        let edits = self.nodes.begin(alloc, rule)?;
+        let edits = self.nodes().begin(alloc, rule)?;
         self.commit_edits(alloc, site, edits)
     }
 
@@ -73,7 +73,7 @@ impl Graph {
         ensures known { IsTrue S.tells → S.known site.new ≡ S.known site.old }
         ensures cause { CountsFaults (S.faults site.old) (S.faults site.new) result }
     {
-        let edits = self.nodes.finish(alloc, rule, run)?;
+        let edits = self.nodes().finish(alloc, rule, run)?;
         self.commit_edits(alloc, site, edits)
     }
 
@@ -102,7 +102,7 @@ impl Graph {
         ensures known { IsTrue S.tells → S.known site.new ≡ S.known site.old }
         ensures cause { CountsFaults (S.faults site.old) (S.faults site.new) result }
     {
-        let edits = self.nodes.doom(alloc, paths)?;
+        let edits = self.nodes().doom(alloc, paths)?;
         self.commit_edits(alloc, site, edits)
     }
 
@@ -130,7 +130,7 @@ impl Graph {
         ensures known { IsTrue S.tells → S.known site.new ≡ S.known site.old }
         ensures cause { CountsFaults (S.faults site.old) (S.faults site.new) result }
     {
-        let edits = self.nodes.forget(alloc, paths)?;
+        let edits = self.nodes().forget(alloc, paths)?;
         self.commit_edits(alloc, site, edits)
     }
 
@@ -158,7 +158,7 @@ impl Graph {
         ensures known { IsTrue S.tells → S.known site.new ≡ S.known site.old }
         ensures cause { CountsFaults (S.faults site.old) (S.faults site.new) result }
     {
-        let edits = self.nodes.flag(alloc, rules)?;
+        let edits = self.nodes().flag(alloc, rules)?;
         self.commit_edits(alloc, site, edits)
     }
 }

@@ -13,8 +13,9 @@ pub(crate) fn file(alloc: Global, said: &Words) -> Vec<u8> {
     file
 }
 
-fn add(said: &Words, file: &mut Vec<u8>, more: &[u8]) {
-    if file.extend_from_slice(more).is_err() {
+/// Adds bytes at the end.
+pub(crate) fn add(said: &Words, bytes: &mut Vec<u8>, more: &[u8]) {
+    if bytes.extend_from_slice(more).is_err() {
         said.fail(RowFault::Memory);
     }
 }

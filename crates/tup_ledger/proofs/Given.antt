@@ -1,5 +1,5 @@
 -- Giving up paths, by how the settling and the commit ended.
-use Rattle.std.proofs.Common.{◌≡◌, ◌⊎◌, ◌&&◌, Bool, true, false, List, [], ◌∷◌, IsTrue, Result, Ok, Err, inl, inr, ⊎_elim, refl, sym, subst, ◌∙◌}
+use Rattle.std.proofs.Common.{◌≡◌, ◌⊎◌, ◌&&◌, Bool, true, false, List, [], ◌∷◌, IsTrue, Result, Ok, Err, inl, inr, ⊎_elim, refl, sym, ap, subst, ◌∙◌}
 use Rattle.std.specs.Result.{OnOk}
 use Rattle.tup_path.specs.Gives.{GivesUnless}
 use Rattle.tup_path.specs.Name.{Names}
@@ -46,10 +46,11 @@ changed_is_fresh table [] fresh = fresh
 changed_is_fresh table (change ∷ changes) fresh = refl
 
 module _ (edits : List Edit) (nodes : GraphState) (old new : Held) (fresh : IsTrue (is_fresh old)) where
-  pub ok_durable : {S : Type 0} (before now : S) {P : Type 0} (result : Result (Unit {0}) GraphFault) → Leaves edits nodes old new before now result → (IsTrue (is_fresh new) → P) → OnOk result P
-  ok_durable before now (Ok done) leaves then =
+  pub ok_after : {S : Type 0} (before now : S) {P : Type 0} (result : Result (Unit {0}) GraphFault) → Leaves edits nodes old new before now result → (IsTrue (is_fresh new) → new.nodes ≡ nodes → P) → OnOk result P
+  ok_after before now (Ok done) leaves then =
       then (subst (λ (h : Held). IsTrue (is_fresh h)) (sym leaves.0) (changed_is_fresh old.table (to_write old edits) (second old.whole (is_fresh_table old.table) fresh)))
-  ok_durable before now (Err fault) leaves then = tt
+      (ap (λ (h : Held). h.nodes) leaves.0)
+  ok_after before now (Err fault) leaves then = tt
 
 -- what is told where the store has no room
 pub told_full : (result : Result (Unit {0}) GraphFault) → GivesUnless result Memory (Err Full) → IsRefused result

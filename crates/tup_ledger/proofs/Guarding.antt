@@ -25,7 +25,7 @@ use Rattle.tup_ledger.specs.Sources.{sources_of, Kept, HasSources, HaveNoFiles, 
 use Rattle.tup_ledger.proofs.Trees.{own_more, own_less, own_same, owns_more, owns_less}
 
 -- ---- a store is of one graph
-entries_one : (bytes : List ℕ) (es fs : Standing) → Leaves es bytes → Leaves fs bytes → es ≡ fs
+pub entries_one : (bytes : List ℕ) (es fs : Standing) → Leaves es bytes → Leaves fs bytes → es ≡ fs
 entries_one bytes es fs one other =
     let read : ◌≡◌ {A = Result Opened TableFault} (Ok (opened_of one.0)) (Ok (opened_of other.0)) =
     reads_one bytes (Ok (opened_of one.0)) (Ok (opened_of other.0)) (one.0, one.1, refl) (other.0, other.1, refl) in

@@ -1,5 +1,5 @@
 -- How a project begins, by how its opening ended.
-use Rattle.std.proofs.Common.{◌≡◌, ◌≢◌, ℕ, List, [], ◌∷◌, ◌++◌, Result, Ok, Err, inl, inr, ⊎_elim, refl, ap, ◌∙◌}
+use Rattle.std.proofs.Common.{◌≡◌, ◌≢◌, ◌⊎◌, ℕ, List, [], ◌∷◌, ◌++◌, Result, Ok, Err, inl, inr, ⊎_elim, refl, ap, ◌∙◌}
 use Rattle.std.specs.Result.{OnOk}
 use Rattle.tup_site.specs.Crash.{GoesOn, WriteStep}
 use Rattle.tup_site.specs.World.{World, TreeStays}
@@ -46,6 +46,13 @@ begins_made v w empty (Err (BadStore offset)) made store outside = ⊎_elim (λ 
 begins_made v w empty (Err Full) made store outside = ⊎_elim (λ is. absurd (cc)) (λ is. absurd (cc)) outside
 begins_made v w empty (Err Site) made store outside = tt
 begins_made v w empty (Err Memory) made store outside = tt
+
+-- what is kept at every end
+abbrev pub KeepsBegun : World → World → Type 0
+KeepsBegun v w = (w ≡ v) ⊎ BeginStep v v w
+
+pub keeps_begun : (v w : World) → (w ≡ v) ⊎ OpenStep v w → KeepsBegun v w
+keeps_begun v w how = ⊎_elim inl (λ step. inr (inl step)) how
 
 -- ---- what a crash leaves
 module _ {S : Type 0} (moment : S → ℕ) (left_since : S → ℕ → World → Type 0) (first : World) where

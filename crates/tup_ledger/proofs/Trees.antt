@@ -1,5 +1,5 @@
 -- What the sources of a tree are where other paths are owned, and where other files stand.
-use Rattle.std.proofs.Common.{◌≡◌, Bool, true, false, cond, not, ◌||◌, is_some, List, [], ◌∷◌, fold, Option, None, Some, All, refl, sym, ap, ◌∙◌}
+use Rattle.std.proofs.Common.{◌≡◌, Bool, true, false, cond, not, ◌||◌, ◌&&◌, is_some, List, [], ◌∷◌, fold, Option, None, Some, All, refl, sym, ap, ◌∙◌}
 use Rattle.std.specs.FinMap as finite
 use Rattle.std.specs.Ordering.{eq_by_cmp}
 use Rattle.std.proofs.lemmas.List.Elements.{All-contains}
@@ -28,7 +28,7 @@ module _ (g : GraphState) where
   unsure path = record { maker = maker_in g path; state = Unsure }
 
   -- these paths are, and those that were
-  owned_more : (paths : List Names) (owned : finite.FinMap by_names Owned) (q : Names) → is_some (finite.get (fold (with_own g) owned paths) q) ≡ (among q paths || is_some (finite.get owned q))
+  pub owned_more : (paths : List Names) (owned : finite.FinMap by_names Owned) (q : Names) → is_some (finite.get (fold (with_own g) owned paths) q) ≡ (among q paths || is_some (finite.get owned q))
   owned_more [] owned q = refl
   owned_more (path ∷ paths) owned q =
       owned_more paths (with_own g owned path) q
@@ -58,6 +58,21 @@ still_owned (path ∷ paths) owned q is =
     left_some : (b : Bool) (found : Option Owned) → is_some (cond b None found) ≡ true → is_some found ≡ true
     left_some true found is = absurd (cc)
     left_some false found is = is
+
+-- owned are just the others
+pub owned_less : (paths : List Names) (owned : finite.FinMap by_names Owned) (q : Names) → is_some (finite.get (fold finite.remove owned paths) q) ≡ (not (among q paths) && is_some (finite.get owned q))
+owned_less [] owned q = refl
+owned_less (path ∷ paths) owned q =
+    owned_less paths (finite.remove owned path) q
+    ∙ ap (λ (found : Option Owned). not (among q paths) && is_some found)
+    (finite.get-remove by_names-total owned path q ∙ ap (λ (b : Bool). cond b None (finite.get owned q)) (sym (same_path-by_names q path)))
+    ∙ neither (same_path q path) (among q paths) (finite.get owned q)
+  where
+    neither : (a b : Bool) (found : Option Owned) → (not b && is_some (cond a None found)) ≡ (not (a || b) && is_some found)
+    neither true true found = refl
+    neither true false found = refl
+    neither false true found = refl
+    neither false false found = refl
 
 -- ---- which paths are owned
 pub owns_more : (g : GraphState) (paths : List Names) (may : Names → Bool) → OwnsOnly may g → All (λ path. may path ≡ true) paths → OwnsOnly may (with_owned g paths)

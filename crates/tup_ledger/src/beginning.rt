@@ -1,5 +1,5 @@
 //! How a project begins.
-ghost use Rattle.std.specs.Prelude.{◌≡◌, ◌++◌, ◌∷◌, [], IsTrue, OnOk, Ok};
+ghost use Rattle.std.specs.Prelude.{◌≡◌, ◌⊎◌, ◌++◌, ◌∷◌, [], IsTrue, OnOk, Ok};
 ghost use Rattle.tup_site.specs.Crash.{GoesOn, PinsStore, WriteStep};
 ghost use Rattle.tup_site.specs.World.{TreeStays};
 ghost use Rattle.tup_table.specs.Store.{header};
@@ -26,6 +26,9 @@ pub enum Begun {
 /// A refusal that comes while the store is made, or a crash then, may leave any bytes in it.
 pub fn begin<S: Site>(alloc: Global, site: &mut S) -> Result<Begun, GraphFault>
     ensures begins { IsTrue S.tells → Begins (S.world site.old) (S.world site.new) result }
+    // At every end all is as it was, or the store has the same entries, or there was none.
+    ensures keeps { IsTrue S.tells → (S.world site.new ≡ S.world site.old)
+        ⊎ BeginStep (S.world site.old) (S.world site.old) (S.world site.new) }
     ensures tree { IsTrue S.tells → TreeStays (S.world site.old) (S.world site.new) }
     ensures durable { IsTrue S.tells → OnOk result
         (PinsStore (S.left_since site.new (S.moment site.new)) (S.world site.new)) }

@@ -1,13 +1,16 @@
 //! Paths are owned no longer.
-ghost use Rattle.std.specs.Prelude.{◌≡◌, IsTrue, OnOk};
+ghost use Rattle.std.specs.Prelude.{◌≡◌, filter, not, IsTrue, OnOk};
 ghost use Rattle.tup_site.specs.Crash.{GoesOn, NoStep, PinsTree};
 ghost use Rattle.tup_site.specs.World.{TreeStays};
+ghost use Rattle.tup_rule.specs.Rule.{among};
 ghost use Rattle.tup_graph.specs.Transactions.{forget_edits, with_forgotten};
 ghost use Rattle.tup_kept.specs.Cause.{CountsFaults, OnlyOutside};
 ghost use Rattle.tup_kept.specs.Crash.{LeavesEither};
 ghost use Rattle.tup_kept.specs.Held.{is_fresh, StandsFor};
 ghost use Rattle.tup_kept.specs.Transaction.{IsFull};
 ghost use Rattle.tup_ledger.specs.Given.{GivesUp, IsRefused};
+ghost use Rattle.tup_ledger.specs.Listing.{Lists, SettledStep};
+ghost use Rattle.tup_ledger.specs.Owned.{owned_in};
 ghost use Rattle.tup_ledger.specs.Sources.{Guards, HaveNoFiles, IsDurable, Kept, KeepsSources};
 
 use std::alloc::Global;
@@ -32,6 +35,11 @@ pub fn give_up<S: Site>(
 
     ensures gives_up { GivesUp S.tells paths.now graph.old graph.new
         (S.world site.old) (S.world site.new) result }
+    ensures owned { OnOk result (IsTrue (is_fresh graph.new)
+        × (owned_in graph.new.nodes
+        ≡ filter (λ path. not (among path paths.now)) (owned_in graph.old.nodes))) }
+    ensures lists { IsTrue S.tells
+        → OnOk result (Lists (S.world site.new).store (owned_in graph.new.nodes)) }
     ensures full { IsFull graph.old (forget_edits graph.old.nodes paths.now) → IsRefused result }
     ensures stands { IsTrue S.tells → IsTrue (is_fresh graph.new)
         → StandsFor S.world S.moment S.left_since graph.new site.new }
@@ -40,6 +48,9 @@ pub fn give_up<S: Site>(
         (IsDurable (S.left_since site.new (S.moment site.new)) (S.world site.new)) }
     ensures crash { IsTrue S.tells → LeavesEither S.moment S.left_since site.old site.new
         graph.old.nodes (with_forgotten graph.old.nodes paths.now) }
+    // All that it adds to what a crash may leave has the present files.
+    ensures settled { IsTrue S.tells
+        → GoesOn S.moment S.left_since site.old site.new (SettledStep (S.world site.old)) }
     ensures sources { IsTrue S.tells → (kept : Kept)
         → Guards (S.left_since site.old (S.moment site.old)) graph.old.nodes kept
         → KeepsSources S.moment S.left_since site.old site.new

@@ -1,11 +1,13 @@
 //! Paths become owned.
-ghost use Rattle.std.specs.Prelude.{◌≡◌, true, All, IsTrue, IfOk, Ok, Err};
+ghost use Rattle.std.specs.Prelude.{◌≡◌, ◌++◌, true, All, IsTrue, IfOk, OnOk, Ok, Err};
 ghost use Rattle.tup_path.specs.Gives.{GivesUnless};
 ghost use Rattle.tup_site.specs.World.{TreeStays};
 ghost use Rattle.tup_kept.specs.Cause.{CountsFaults};
 ghost use Rattle.tup_kept.specs.Crash.{LeavesEither};
 ghost use Rattle.tup_kept.specs.Held.{is_fresh, StandsFor};
 ghost use Rattle.tup_kept.specs.Transaction.{Leaves, IsFull};
+ghost use Rattle.tup_ledger.specs.Ascending.{ascending};
+ghost use Rattle.tup_ledger.specs.Listing.{Lists};
 ghost use Rattle.tup_ledger.specs.Owned.{owned_in, maker_in, owning as owning_of, own_edits, with_owned};
 ghost use Rattle.tup_ledger.specs.Sources.{Guards, HaveNoFiles, Kept, KeepsSources};
 
@@ -42,6 +44,10 @@ pub fn own<S: Site>(
     ensures leaves { Leaves (own_edits graph.old.nodes paths.now)
         (with_owned graph.old.nodes paths.now)
         graph.old graph.new site.old site.new result }
+    ensures owned { OnOk result (IsTrue (is_fresh graph.new)
+        × (owned_in graph.new.nodes ≡ ascending (owned_in graph.old.nodes ++ paths.now))) }
+    ensures lists { IsTrue S.tells
+        → OnOk result (Lists (S.world site.new).store (owned_in graph.new.nodes)) }
     ensures full { IsFull graph.old (own_edits graph.old.nodes paths.now)
         → GivesUnless result GraphFault.Memory (Err GraphFault.Full) }
     ensures stands { IsTrue S.tells → IsTrue (is_fresh graph.new)

@@ -43,6 +43,6 @@ pub fn note_scan<S: Site>(
     runs_are_of_rules();
     scan_edits_are_read();
     scan_edits_leave();
-    let edits = tup_diff::note_scan(alloc, graph.nodes(), seen)?;
+    let edits = tup_diff::note_scan(alloc, graph.indexed(), seen)?;
     graph.commit_edits(alloc, site, edits)
 }

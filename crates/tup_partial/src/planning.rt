@@ -13,11 +13,12 @@ use std::alloc::{AllocError, Global};
 use tup_above::rule_count;
 use tup_core::{Numbers, Plan};
 use tup_graph::Nodes;
+use tup_index::Indexed;
 use tup_rule::{Rule, Rules};
 
 /// These rules and all that recorded reads lead to from them, over any number of reads, in ascending order: the rules that
 /// asked an output of one of these, those that asked an output of such a one, and so on.
-pub fn above(alloc: Global, graph: &Nodes, roots: &[u32]) -> Result<Numbers, PartialFault>
+pub fn above(alloc: Global, graph: &Indexed, roots: &[u32]) -> Result<Numbers, PartialFault>
     requires runs { AreRunsOfRules graph.now }
     requires roots { (root : ℕ) → Contains roots.now root → is_rule graph.now root ≡ true }
 
@@ -31,7 +32,7 @@ pub fn above(alloc: Global, graph: &Nodes, roots: &[u32]) -> Result<Numbers, Par
 
 /// The plan of an update: the rules of the graph in their order, and of these the flagged ones and all above them are to be
 /// run.
-pub fn plan_of(alloc: Global, graph: &Nodes, keep_going: bool) -> Result<Plan, PartialFault>
+pub fn plan_of(alloc: Global, graph: &Indexed, keep_going: bool) -> Result<Plan, PartialFault>
     // Both hold of each graph that a store stands for.
     requires runs { AreRunsOfRules graph.now }
     requires flags { AreFlagsOfRules graph.now }
@@ -45,7 +46,7 @@ pub fn plan_of(alloc: Global, graph: &Nodes, keep_going: bool) -> Result<Plan, P
     ensures memory { IfErr result (λ fault. fault ≡ PartialFault.Memory) }
 {
     let reach = reach(alloc, graph)?;
-    let rules = copies(alloc, graph.rules())?;
+    let rules = copies(alloc, graph.nodes().rules())?;
     Ok(Plan {
         rules,
         reach,
@@ -54,7 +55,7 @@ pub fn plan_of(alloc: Global, graph: &Nodes, keep_going: bool) -> Result<Plan, P
 }
 
 /// The flagged rules and all above them.
-fn reach(alloc: Global, graph: &Nodes) -> Result<Numbers, PartialFault>
+fn reach(alloc: Global, graph: &Indexed) -> Result<Numbers, PartialFault>
     requires runs { AreRunsOfRules graph.now }
     requires flags { AreFlagsOfRules graph.now }
     ensures reach { IfOk result (λ numbers. (number : ℕ)
@@ -62,7 +63,7 @@ fn reach(alloc: Global, graph: &Nodes) -> Result<Numbers, PartialFault>
     ensures ascending { IfOk result (λ numbers. IsStrictlySortedBy nat_cmp numbers) }
     ensures memory { IfErr result (λ fault. fault ≡ PartialFault.Memory) }
 {
-    let flagged = flagged(alloc, graph)?;
+    let flagged = flagged(alloc, graph.nodes())?;
     above(alloc, graph, flagged.as_slice())
 }
 

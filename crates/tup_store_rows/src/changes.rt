@@ -44,7 +44,8 @@ fn delete(alloc: Global, key: &[u8]) -> Result<Change, RowFault> {
     }
 }
 
-fn bytes(alloc: Global, word: &[u8]) -> Result<Bytes, RowFault> {
+/// The bytes of a word, to keep.
+pub fn bytes(alloc: Global, word: &[u8]) -> Result<Bytes, RowFault> {
     match Vec::from_slice(alloc, word) {
         Ok(bytes) => Ok(Bytes::new(bytes)),
         Err(_) => Err(RowFault::Memory),

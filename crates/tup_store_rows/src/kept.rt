@@ -1,9 +1,10 @@
 //! The calls of `kept.rows`: transactions over a site in memory.
-ghost use Rattle.std.specs.Prelude.{◌≡◌, ◌↔◌, true, None, All, IsTrue};
+ghost use Rattle.std.specs.Prelude.{◌≡◌, ◌↔◌, [], true, None, All, IsTrue};
 ghost use Rattle.std.specs.FinMap as finite;
 ghost use Rattle.tup_graph.specs.Graph.{is_rule as is_rule_of};
 ghost use Rattle.tup_ledger.specs.Sources.{HaveNoFiles};
-ghost use Rattle.tup_site.specs.Memory.{tree_in};
+ghost use Rattle.tup_site.specs.Memory.{tree_in, store_in};
+ghost use Rattle.tup_store_rows.specs.Kept.{Stands};
 
 use crate::field::joined;
 use crate::graph::store;
@@ -12,14 +13,14 @@ use crate::scan::seen;
 use crate::sites::site_with;
 use crate::swap::{are_by_folder, is_one, news};
 use crate::transaction::{number, numbers, paths, run};
-use std::alloc::Global;
+use std::alloc::{AllocError, Global};
 use tup_graph::GraphFault;
 use tup_kept::Graph;
-use tup_ledger::{Begun, begin as begin_project, give_up, own};
+use tup_ledger::{Begun, begin as begin_project, give_up, open, own, owned_paths, sorted};
 use tup_note::{note_scan, swap_rules};
-use tup_path::Path;
+use tup_path::{Path, Paths};
 use tup_rows::{Answers, RowFault, Words};
-use tup_site::{MemSite, Site};
+use tup_site::MemSite;
 
 /// How many calls a site has answered when a graph of it makes a transaction: the store is written
 /// and synced, and then synced, measured and read.
@@ -42,6 +43,8 @@ impl Answers for KeptGraphs {
             "failing" => self.set_fails(alloc, said),
             "make" => make(alloc, said, &self.fails),
             "init" => self.init(alloc, said),
+            "open" => self.open(alloc, said),
+            "sorted" => in_order(alloc, said),
             _ => self.transaction(alloc, call, said),
         })
     }
@@ -76,12 +79,24 @@ impl KeptGraphs {
 
     /// Begins a project over these bytes of a store.
     fn init(&self, alloc: Global, said: &Words) -> Words {
-        let fails = behind(alloc, said, &self.fails, BEFORE_A_STORE_IS_READ);
-        let store = joined(alloc, said, said.as_slice());
-        match site_with(alloc, &store, fails) {
+        match self.site(alloc, said) {
             Ok(mut site) => begun_in(alloc, &mut site),
             Err(fault) => Words::none(alloc, fault),
         }
+    }
+
+    /// Opens the store of a project, which has these bytes.
+    fn open(&self, alloc: Global, said: &Words) -> Words {
+        match self.site(alloc, said) {
+            Ok(mut site) => opened_in(alloc, &mut site),
+            Err(fault) => Words::none(alloc, fault),
+        }
+    }
+
+    /// A site whose store has these bytes.
+    fn site(&self, alloc: Global, said: &Words) -> Result<MemSite, RowFault> {
+        let fails = behind(alloc, said, &self.fails, BEFORE_A_STORE_IS_READ);
+        site_with(alloc, &joined(alloc, said, said.as_slice()), fails)
     }
 
     /// Opens the store, and makes a transaction.
@@ -93,9 +108,6 @@ impl KeptGraphs {
         }
     }
 }
-
-/// A graph that was opened, and how a transaction on it ended; or why it wasn't opened.
-type Made = Result<(Graph, Result<(), GraphFault>), GraphFault>;
 
 /// The numbers, each so much later.
 fn behind(alloc: Global, said: &Words, numbers: &[u64], calls: u64) -> Vec<u64> {
@@ -127,28 +139,77 @@ fn add_beginning(alloc: Global, words: &mut Words, begun: Result<Begun, GraphFau
     }
 }
 
+/// How the opening of a store ends after how many calls of the site, what it lists, and its bytes then.
+fn opened_in(alloc: Global, site: &mut MemSite) -> Words {
+    let opened = open(alloc, site);
+    let calls = site.calls().saturating_sub(BEFORE_A_STORE_IS_READ);
+    let mut words = Words::shown(alloc, &calls);
+    add_opening(alloc, &mut words, opened);
+    words.put(alloc, site.store());
+    words
+}
+
+/// Adds what a store lists that was opened, or why it wasn't.
+fn add_opening(alloc: Global, words: &mut Words, opened: Result<Graph, GraphFault>) {
+    match opened {
+        Ok(graph) => add_paths(alloc, words, &owned_paths(alloc, graph.nodes())),
+        Err(fault) => add_end(alloc, words, Err(fault)),
+    }
+}
+
+/// The paths in their order.
+fn in_order(alloc: Global, said: &Words) -> Words {
+    let mut words = Words::new(alloc);
+    add_paths(
+        alloc,
+        &mut words,
+        &sorted(alloc, &paths(alloc, said, said.len())),
+    );
+    words
+}
+
+/// Adds how many paths there are, and each of them.
+fn add_paths(alloc: Global, words: &mut Words, paths: &Result<Paths, AllocError>) {
+    match paths {
+        Ok(paths) => paths.say(alloc, words),
+        Err(_) => words.fail(RowFault::Memory),
+    }
+}
+
 /// The graph of a store that was made.
 fn make(alloc: Global, said: &Words, fails: &[u64]) -> Words {
     match MemSite::new(alloc, Vec::new(alloc), behind(alloc, said, fails, 0)) {
-        Ok(mut site) => match Graph::make(alloc, &mut site) {
-            Ok(graph) => with_graph(alloc, Words::new(alloc), &graph, &mut site),
-            Err(fault) => refused(alloc, fault),
-        },
+        Ok(mut site) => make_in(alloc, &mut site),
         Err(_) => Words::none(alloc, RowFault::Memory),
+    }
+}
+
+fn make_in(alloc: Global, site: &mut MemSite) -> Words
+    requires { store_in site.old ≡ [] }
+{
+    match Graph::make(alloc, site) {
+        Ok(graph) => with_graph(alloc, Words::new(alloc), &graph, site),
+        Err(fault) => refused(alloc, fault),
     }
 }
 
 /// How a transaction ends after how many calls of the site, and the graph then.
 fn transaction_in(alloc: Global, call: &str, said: &Words, site: &mut MemSite) -> Words {
-    match made(alloc, call, said, site) {
-        Ok((graph, ended)) => {
-            let calls = site.calls().saturating_sub(BEFORE_A_TRANSACTION);
-            let mut words = Words::shown(alloc, &calls);
-            add_end(alloc, &mut words, ended);
-            with_graph(alloc, words, &graph, site)
-        }
+    match Graph::open(alloc, site) {
+        Ok(mut graph) => made(alloc, call, said, &mut graph, site),
         Err(fault) => unopened(alloc, said, fault),
     }
+}
+
+/// The same of the graph that was opened.
+fn made(alloc: Global, call: &str, said: &Words, graph: &mut Graph, site: &mut MemSite) -> Words
+    requires { Stands graph.old site.old }
+{
+    let ended = make_on(alloc, call, said, graph, site);
+    let calls = site.calls().saturating_sub(BEFORE_A_TRANSACTION);
+    let mut words = Words::shown(alloc, &calls);
+    add_end(alloc, &mut words, ended);
+    with_graph(alloc, words, graph, site)
 }
 
 /// The words of a store that doesn't open, whatever the arguments of a transaction are.
@@ -157,108 +218,112 @@ fn unopened(alloc: Global, said: &Words, fault: GraphFault) -> Words {
     refused(alloc, fault)
 }
 
-/// Opens the store of a site, and makes a transaction.
-fn made(alloc: Global, call: &str, said: &Words, site: &mut MemSite) -> Made {
+/// Makes a transaction.
+fn make_on(
+    alloc: Global,
+    call: &str,
+    said: &Words,
+    graph: &mut Graph,
+    site: &mut MemSite,
+) -> Result<(), GraphFault>
+    requires { Stands graph.old site.old }
+{
     match call {
-        "begin" => begin(alloc, said, site),
-        "finish" => finish(alloc, said, site),
-        "doom" => doom(alloc, said, site),
-        "forget" => forget(alloc, said, site),
-        "flag" => flag(alloc, said, site),
-        "scan" => scan(alloc, said, site),
-        "swap" => swap(alloc, said, site),
-        "own" => own_paths(alloc, said, site),
-        "give_up" => give_up_paths(alloc, said, site),
-        _ => nothing(alloc, said, site),
+        "begin" => begin(alloc, said, graph, site),
+        "finish" => finish(alloc, said, graph, site),
+        "doom" => graph.doom(alloc, site, &paths(alloc, said, said.len())),
+        "forget" => graph.forget(alloc, site, &paths(alloc, said, said.len())),
+        "flag" => flag(alloc, said, graph, site),
+        "scan" => note_scan(alloc, graph, site, &seen(alloc, said, said.len() / 2)),
+        "swap" => swap(alloc, said, graph, site),
+        "own" => own(alloc, graph, site, &paths(alloc, said, said.len())),
+        "give_up" => give_up_paths(alloc, said, graph, site),
+        _ => unmade(said, RowFault::NoSuchCall),
     }
 }
 
-/// Opens a store, and begins the run of a rule.
-fn begin<S: Site>(alloc: Global, said: &Words, site: &mut S) -> Made {
-    let mut graph = Graph::open(alloc, site)?;
+/// Begins the run of a rule.
+fn begin(
+    alloc: Global,
+    said: &Words,
+    graph: &mut Graph,
+    site: &mut MemSite,
+) -> Result<(), GraphFault>
+    requires { Stands graph.old site.old }
+{
     let rule = number(said);
-    if !is_rule(said, &graph, rule) {
-        return Ok((graph, Ok(())));
+    if !is_rule(said, graph, rule) {
+        return Ok(());
     }
-    let ended = graph.begin(alloc, site, rule);
-    Ok((graph, ended))
+    graph.begin(alloc, site, rule)
 }
 
-/// Opens a store, and ends the run of a rule well.
-fn finish<S: Site>(alloc: Global, said: &Words, site: &mut S) -> Made {
-    let mut graph = Graph::open(alloc, site)?;
+/// Ends the run of a rule well.
+fn finish(
+    alloc: Global,
+    said: &Words,
+    graph: &mut Graph,
+    site: &mut MemSite,
+) -> Result<(), GraphFault>
+    requires { Stands graph.old site.old }
+{
     let rule = number(said);
-    if !is_rule(said, &graph, rule) {
-        return Ok((graph, Ok(())));
+    if !is_rule(said, graph, rule) {
+        return Ok(());
     }
-    let ended = match run(alloc, said, said.as_slice()) {
+    match run(alloc, said, said.as_slice()) {
         Ok(run) => graph.finish(alloc, site, rule, run),
         Err(fault) => unmade(said, fault),
-    };
-    Ok((graph, ended))
-}
-
-/// Opens a store, and dooms the files at paths.
-fn doom<S: Site>(alloc: Global, said: &Words, site: &mut S) -> Made {
-    let mut graph = Graph::open(alloc, site)?;
-    let ended = graph.doom(alloc, site, &paths(alloc, said, said.len()));
-    Ok((graph, ended))
-}
-
-/// Opens a store, and forgets paths.
-fn forget<S: Site>(alloc: Global, said: &Words, site: &mut S) -> Made {
-    let mut graph = Graph::open(alloc, site)?;
-    let ended = graph.forget(alloc, site, &paths(alloc, said, said.len()));
-    Ok((graph, ended))
-}
-
-/// Opens a store, and flags rules.
-fn flag<S: Site>(alloc: Global, said: &Words, site: &mut S) -> Made {
-    let mut graph = Graph::open(alloc, site)?;
-    let rules = numbers(alloc, said, said.len());
-    if !are_rules(said, &graph, &rules) {
-        return Ok((graph, Ok(())));
     }
-    let ended = graph.flag(alloc, site, &rules);
-    Ok((graph, ended))
 }
 
-/// Opens a store, and takes note of a scan.
-fn scan<S: Site>(alloc: Global, said: &Words, site: &mut S) -> Made {
-    let mut graph = Graph::open(alloc, site)?;
-    let seen = seen(alloc, said, said.len() / 2);
-    let ended = note_scan(alloc, &mut graph, site, &seen);
-    Ok((graph, ended))
+/// Flags rules.
+fn flag(
+    alloc: Global,
+    said: &Words,
+    graph: &mut Graph,
+    site: &mut MemSite,
+) -> Result<(), GraphFault>
+    requires { Stands graph.old site.old }
+{
+    let rules = numbers(alloc, said, said.len());
+    if !are_rules(said, graph, &rules) {
+        return Ok(());
+    }
+    graph.flag(alloc, site, &rules)
 }
 
-/// Opens a store, and swaps its rules: to one new reading at most, and to rules in the order of their folders.
-fn swap<S: Site>(alloc: Global, said: &Words, site: &mut S) -> Made {
-    let mut graph = Graph::open(alloc, site)?;
+/// Swaps its rules: to one new reading at most, and to rules in the order of their folders.
+fn swap(
+    alloc: Global,
+    said: &Words,
+    graph: &mut Graph,
+    site: &mut MemSite,
+) -> Result<(), GraphFault>
+    requires { Stands graph.old site.old }
+{
     let (fresh, rules) = news(alloc, said, said.as_slice());
     if !is_one(&fresh) || !are_by_folder(rules.as_slice()) {
-        return Ok((graph, unmade(said, RowFault::OtherKind)));
+        return unmade(said, RowFault::OtherKind);
     }
-    let ended = swap_rules(alloc, &mut graph, site, &fresh, rules.as_slice());
-    Ok((graph, ended))
+    swap_rules(alloc, graph, site, &fresh, rules.as_slice())
 }
 
-/// Opens a store, and owns paths.
-fn own_paths<S: Site>(alloc: Global, said: &Words, site: &mut S) -> Made {
-    let mut graph = Graph::open(alloc, site)?;
-    let ended = own(alloc, &mut graph, site, &paths(alloc, said, said.len()));
-    Ok((graph, ended))
-}
-
-/// Opens a store, and gives up paths at which no file stands.
-fn give_up_paths(alloc: Global, said: &Words, site: &mut MemSite) -> Made {
-    let mut graph = Graph::open(alloc, site)?;
+/// Gives up paths at which no file stands.
+fn give_up_paths(
+    alloc: Global,
+    said: &Words,
+    graph: &mut Graph,
+    site: &mut MemSite,
+) -> Result<(), GraphFault>
+    requires { Stands graph.old site.old }
+{
     let paths = paths(alloc, said, said.len());
-    let ended = if have_no_files(site, &paths) {
-        give_up(alloc, &mut graph, site, &paths)
+    if have_no_files(site, &paths) {
+        give_up(alloc, graph, site, &paths)
     } else {
         unmade(said, RowFault::OtherKind)
-    };
-    Ok((graph, ended))
+    }
 }
 
 /// Whether no file stands at some paths.
@@ -273,12 +338,6 @@ fn has_no_file(site: &MemSite, path: &Path) -> bool
     ensures { IsTrue result ↔ (finite.get (tree_in site.now) path.now ≡ None) }
 {
     site.file(path).is_none()
-}
-
-/// Opens a store, and makes no transaction, since there is none of this name.
-fn nothing<S: Site>(alloc: Global, said: &Words, site: &mut S) -> Made {
-    let graph = Graph::open(alloc, site)?;
-    Ok((graph, unmade(said, RowFault::NoSuchCall)))
 }
 
 /// Notes why a transaction isn't made.
@@ -318,13 +377,16 @@ fn add_end(alloc: Global, words: &mut Words, ended: Result<(), GraphFault>) {
 /// reads there.
 fn with_graph(alloc: Global, mut words: Words, graph: &Graph, site: &mut MemSite) -> Words {
     match Graph::open(alloc, site) {
-        Ok(again) => {
-            words.put(alloc, standing(alloc, graph, &again).as_bytes());
-            again.nodes().say(alloc, &mut words);
-            words
-        }
-        Err(fault) => refused(alloc, fault),
+        Ok(again) => add_graph(alloc, &mut words, graph, &again),
+        Err(fault) => return refused(alloc, fault),
     }
+    words
+}
+
+/// Adds whether a graph stands for its store, and the graph that was read there again.
+fn add_graph(alloc: Global, words: &mut Words, graph: &Graph, again: &Graph) {
+    words.put(alloc, standing(alloc, graph, again).as_bytes());
+    again.nodes().say(alloc, words);
 }
 
 /// Whether a graph is fresh, and has then what was read again.

@@ -1,4 +1,4 @@
-//! The rows of the store: fields, records, lists of owned paths, stores, tables and graphs over a site, and graphs.
+//! The rows of the store: fields, records, stores, tables and graphs over a site, graphs, and who asked what.
 //!
 //! Each file of `data/` has rows, a call with the answer that is wanted each. The head of a file says what its calls
 //! and their arguments mean.
@@ -7,8 +7,8 @@
 mod changes;
 mod field;
 mod graph;
+mod index;
 mod kept;
-mod owned;
 mod record;
 mod say;
 mod scan;
@@ -21,10 +21,12 @@ mod values;
 
 use field::Fields;
 use graph::Graphs;
+use index::Indexes;
 use kept::KeptGraphs;
-use owned::OwnedLists;
 use record::Records;
 use sites::Sites;
+use std::alloc::Global;
+use std::fs::Files;
 use std::io;
 use sweep::Sweeps;
 use table::Tables;
@@ -32,14 +34,34 @@ use tup_rows::{try_file, try_file_by};
 
 fn main(rt: HostRuntime) -> io::Result<()> {
     let alloc = rt.alloc();
-    try_file(&rt, alloc, "field.rows", &mut Fields)?;
-    try_file(&rt, alloc, "record.rows", &mut Records)?;
-    try_file(&rt, alloc, "owned.rows", &mut OwnedLists)?;
-    try_file(&rt, alloc, "table.rows", &mut Tables)?;
-    try_file_by(&rt, alloc, "site.rows", Sites::new(alloc))?;
-    try_file(&rt, alloc, "graph.rows", &mut Graphs)?;
-    try_file(&rt, alloc, "scan.rows", &mut Graphs)?;
-    try_file(&rt, alloc, "swap.rows", &mut Graphs)?;
-    try_file_by(&rt, alloc, "sweep.rows", Sweeps::new(alloc))?;
-    try_file_by(&rt, alloc, "kept.rows", KeptGraphs::new(alloc))
+    try_values(&rt, alloc)?;
+    try_tables(&rt, alloc)?;
+    try_graphs(&rt, alloc)?;
+    try_transactions(&rt, alloc)
+}
+
+/// The rows on fields and records.
+fn try_values<R: Files + Print>(rt: &R, alloc: Global) -> io::Result<()> {
+    try_file(rt, alloc, "field.rows", &mut Fields)?;
+    try_file(rt, alloc, "record.rows", &mut Records)
+}
+
+/// The rows on tables.
+fn try_tables<R: Files + Print>(rt: &R, alloc: Global) -> io::Result<()> {
+    try_file(rt, alloc, "table.rows", &mut Tables)?;
+    try_file_by(rt, alloc, "site.rows", Sites::new(alloc))
+}
+
+/// The rows on graphs.
+fn try_graphs<R: Files + Print>(rt: &R, alloc: Global) -> io::Result<()> {
+    try_file(rt, alloc, "graph.rows", &mut Graphs)?;
+    try_file(rt, alloc, "scan.rows", &mut Graphs)?;
+    try_file(rt, alloc, "swap.rows", &mut Graphs)
+}
+
+/// The rows on transactions over a site, and on who asked what.
+fn try_transactions<R: Files + Print>(rt: &R, alloc: Global) -> io::Result<()> {
+    try_file_by(rt, alloc, "sweep.rows", Sweeps::new(alloc))?;
+    try_file_by(rt, alloc, "kept.rows", KeptGraphs::new(alloc))?;
+    try_file_by(rt, alloc, "index.rows", Indexes::new(alloc))
 }

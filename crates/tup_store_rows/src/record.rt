@@ -1,4 +1,5 @@
 //! The call of `record.rows`: it reads a record, copies it, and spells the copy again.
+use crate::changes::bytes;
 use crate::field::{joined, refused};
 use crate::say::Say;
 use std::alloc::Global;
@@ -72,5 +73,15 @@ fn compare(
         words.put(alloc, b"spelled");
         words.put(alloc, again.0.as_slice());
         words.put(alloc, again.1.as_slice());
+    }
+}
+
+/// The record that a key and a value spell.
+pub fn record_of(alloc: Global, key: &[u8], value: &[u8]) -> Result<Record, RowFault> {
+    let key = bytes(alloc, key)?;
+    let value = bytes(alloc, value)?;
+    match decode(alloc, &key, &value) {
+        Ok(record) => Ok(record),
+        Err(_) => Err(RowFault::OtherKind),
     }
 }

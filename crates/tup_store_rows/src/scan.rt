@@ -3,7 +3,8 @@ ghost use Rattle.tup_above.specs.Readers.{AreRunsOfRules};
 
 use std::alloc::Global;
 use tup_diff::note_scan;
-use tup_graph::{Edits, GraphFault, Nodes};
+use tup_graph::{Edits, GraphFault};
+use tup_index::Indexed;
 use tup_path::{Bytes, Items, Path};
 use tup_rows::Words;
 use tup_scan::Seen;
@@ -13,7 +14,7 @@ use tup_stamp::{Stamp, stamp_of};
 pub fn scanned(
     alloc: Global,
     said: &Words,
-    graph: &Nodes,
+    graph: &Indexed,
     count: usize,
 ) -> Result<Edits, GraphFault>
     requires { AreRunsOfRules graph.now }

@@ -1,4 +1,9 @@
 //! The calls of `site.rows`.
+ghost use Rattle.std.specs.Prelude.{◌≡◌, [], All, IsTrue};
+ghost use Rattle.tup_site.specs.Memory.{world_in, store_in, moment_of, left_since};
+ghost use Rattle.tup_table.specs.Appending.{HasShortKey};
+ghost use Rattle.tup_table.specs.Table.{is_fresh, StandsFor};
+
 use crate::changes::{add_entries, changes_of, refused};
 use crate::field::joined;
 use std::alloc::Global;
@@ -94,23 +99,39 @@ const BEFORE_A_COMMIT: u64 = 5;
 
 /// A site without files that holds a store. The calls with these numbers will fail.
 pub fn site_with(alloc: Global, store: &[u8], fails: Vec<u64>) -> Result<MemSite, RowFault> {
-    let Ok(mut site) = MemSite::new(alloc, Vec::new(alloc), fails) else {
-        return Err(RowFault::Memory);
-    };
-    if site.db_write(alloc, 0, store).is_err() || site.db_sync(alloc).is_err() {
-        return Err(RowFault::Memory);
+    match MemSite::new(alloc, Vec::new(alloc), fails) {
+        Ok(site) => filled(alloc, site, store),
+        Err(_) => Err(RowFault::Memory),
     }
-    Ok(site)
+}
+
+fn filled(alloc: Global, mut site: MemSite, store: &[u8]) -> Result<MemSite, RowFault> {
+    if is_filled(alloc, &mut site, store) {
+        Ok(site)
+    } else {
+        Err(RowFault::Memory)
+    }
+}
+
+/// Writes the store of a site, durably. Whether that was done.
+fn is_filled(alloc: Global, site: &mut MemSite, store: &[u8]) -> bool {
+    site.db_write(alloc, 0, store).is_ok() && site.db_sync(alloc).is_ok()
 }
 
 /// The bytes of a store that was made.
 fn make(alloc: Global) -> Words {
     match MemSite::new(alloc, Vec::new(alloc), Vec::new(alloc)) {
-        Ok(mut site) => match Table::make(alloc, &mut site) {
-            Ok(table) => left(alloc, &[], &site, &table),
-            Err(fault) => refused(alloc, fault),
-        },
+        Ok(mut site) => make_in(alloc, &mut site),
         Err(_) => Words::none(alloc, RowFault::Memory),
+    }
+}
+
+fn make_in(alloc: Global, site: &mut MemSite) -> Words
+    requires { store_in site.old ≡ [] }
+{
+    match Table::make(alloc, site) {
+        Ok(table) => left(alloc, &[], site, &table),
+        Err(fault) => refused(alloc, fault),
     }
 }
 
@@ -152,16 +173,28 @@ fn commit_in(alloc: Global, store: &[u8], site: &mut MemSite, changes: &[Change]
         return Words::none(alloc, RowFault::OtherKind);
     }
     match Table::open(alloc, site) {
-        Ok(mut table) => {
-            let opened = site.calls();
-            let ended = table.commit(alloc, site, changes);
-            let mut words = Words::shown(alloc, &site.calls().saturating_sub(opened));
-            add_end(alloc, &mut words, ended);
-            add_written(alloc, &mut words, store, site.store());
-            with_entries(alloc, words, site, &table)
-        }
+        Ok(mut table) => committed(alloc, store, site, &mut table, changes),
         Err(fault) => refused(alloc, fault),
     }
+}
+
+fn committed(
+    alloc: Global,
+    store: &[u8],
+    site: &mut MemSite,
+    table: &mut Table,
+    changes: &[Change],
+) -> Words
+    requires fresh { IsTrue (is_fresh table.old) }
+    requires keys { All HasShortKey changes.now }
+    requires stands { StandsFor world_in moment_of left_since table.old site.old }
+{
+    let opened = site.calls();
+    let ended = table.commit(alloc, site, changes);
+    let mut words = Words::shown(alloc, &site.calls().saturating_sub(opened));
+    add_end(alloc, &mut words, ended);
+    add_written(alloc, &mut words, store, site.store());
+    with_entries(alloc, words, site, table)
 }
 
 /// The words, and the entries of a table behind them.

@@ -6,11 +6,12 @@ ghost use Rattle.tup_path.specs.Order.{by_names, same_path};
 ghost use Rattle.tup_swap.specs.Edits.{dir_of};
 ghost use Rattle.tup_swap.specs.Order.{AreByFolder};
 
+use crate::record::record_of;
 use std::alloc::Global;
 use std::cmp::Ordering;
 use tup_graph::{Edits, GraphFault, Nodes};
-use tup_path::{Bytes, Items};
-use tup_record::{Record, decode};
+use tup_path::Items;
+use tup_record::Record;
 use tup_rows::{RowFault, Words};
 use tup_rule::{Rule, Rules};
 use tup_swap::{Refreshed, swap_rules};
@@ -78,10 +79,8 @@ fn take(alloc: Global, said: &Words, fresh: &mut Refreshed, rules: &mut Rules, p
 }
 
 fn record(alloc: Global, pair: &[Vec<u8>]) -> Option<Record> {
-    let [key, value] = pair else {
-        return None;
-    };
-    let key = Bytes::new(Vec::from_slice(alloc, key).ok()?);
-    let value = Bytes::new(Vec::from_slice(alloc, value).ok()?);
-    decode(alloc, &key, &value).ok()
+    match pair {
+        [key, value] => record_of(alloc, key, value).ok(),
+        _ => None,
+    }
 }

@@ -10,6 +10,7 @@ use std::alloc::Global;
 use tup_above::runs_are_of_rules;
 use tup_field::{Field, Reader};
 use tup_graph::{Edits, GraphFault, Nodes, changes, read_graph};
+use tup_index::Indexed;
 use tup_path::Path;
 use tup_record::RunRecord;
 use tup_rows::{RowFault, Words};
@@ -90,8 +91,24 @@ fn made_of(
 ) -> Result<Vec<Change>, RowFault> {
     runs_are_of_rules();
     match read_graph(alloc, entries) {
-        Ok(graph) => made_in(alloc, said, entries, &graph, transaction),
+        Ok(nodes) => made_over(alloc, said, entries, nodes, transaction),
         Err(_) => Err(RowFault::OtherKind),
+    }
+}
+
+/// The changes that a transaction makes to a graph, whose maps are made first.
+fn made_over(
+    alloc: Global,
+    said: &Words,
+    entries: &Entries,
+    nodes: Nodes,
+    transaction: (&str, &[Vec<u8>]),
+) -> Result<Vec<Change>, RowFault>
+    requires { AreRunsOfRules nodes }
+{
+    match Indexed::of(alloc, nodes) {
+        Ok(graph) => made_in(alloc, said, entries, &graph, transaction),
+        Err(_) => Err(RowFault::Memory),
     }
 }
 
@@ -100,7 +117,7 @@ fn made_in(
     alloc: Global,
     said: &Words,
     entries: &Entries,
-    graph: &Nodes,
+    graph: &Indexed,
     transaction: (&str, &[Vec<u8>]),
 ) -> Result<Vec<Change>, RowFault>
     requires { AreRunsOfRules graph.now }
@@ -126,20 +143,21 @@ fn needed(
 fn edits(
     alloc: Global,
     said: &Words,
-    graph: &Nodes,
+    graph: &Indexed,
     transaction: (&str, &[Vec<u8>]),
 ) -> Result<Edits, GraphFault>
     requires { AreRunsOfRules graph.now }
 {
     let (call, arguments) = transaction;
+    let nodes = graph.nodes();
     match call {
-        "begin" => graph.begin(alloc, number(said)),
-        "finish" => finish(alloc, said, graph, arguments),
-        "doom" => graph.doom(alloc, &paths(alloc, said, arguments.len())),
-        "forget" => graph.forget(alloc, &paths(alloc, said, arguments.len())),
-        "flag" => graph.flag(alloc, &numbers(alloc, said, arguments.len())),
+        "begin" => nodes.begin(alloc, number(said)),
+        "finish" => finish(alloc, said, nodes, arguments),
+        "doom" => nodes.doom(alloc, &paths(alloc, said, arguments.len())),
+        "forget" => nodes.forget(alloc, &paths(alloc, said, arguments.len())),
+        "flag" => nodes.flag(alloc, &numbers(alloc, said, arguments.len())),
         "scan" => scanned(alloc, said, graph, arguments.len()),
-        "swap" => swapped(alloc, said, graph, arguments),
+        "swap" => swapped(alloc, said, nodes, arguments),
         _ => none(alloc, said, RowFault::NoSuchCall),
     }
 }
@@ -169,10 +187,10 @@ pub fn number(said: &Words) -> u32 {
 
 /// The number that a word is, from 0 to 2.
 fn number_at(said: &Words, at: usize) -> u32 {
-    match said.word_at(at) {
-        b"0" => 0,
-        b"1" => 1,
-        b"2" => 2,
+    match said.str_at(at) {
+        "0" => 0,
+        "1" => 1,
+        "2" => 2,
         _ => {
             said.fail(RowFault::OtherKind);
             0

@@ -1,7 +1,6 @@
 -- The records and the flags that rules keep, and the rules that are to be run.
 use Rattle.std.specs.Prelude.{◌≡◌, ◌⊎◌, ◌↔◌, ℕ, Bool, true, false, List, [], ◌∷◌, ◌++◌, Option, None, Some, Contains, is_none, length, map, option_map, option_to_list, slice_get, unwrap_or, if◌then◌else◌}
 use Rattle.std.proofs.Common.{refl, sym, ap, subst, ◌∙◌, inl, inr}
-use Rattle.std.specs.List.{flat_map}
 use Rattle.std.specs.Ordering.{nat_cmp}
 use Rattle.std.specs.Cmp.{nat_cmp_total}
 use Rattle.std.specs.FinMap as finite
@@ -19,17 +18,15 @@ use Rattle.tup_graph.specs.Above.{IsAbove}
 use Rattle.tup_graph.specs.Graph.{GraphState, is_rule, is_flagged}
 use Rattle.tup_graph.specs.Swap.{WasAt, IsNew, IsFlaggedYet, ReadsNew}
 use Rattle.tup_graph.specs.Transactions.{flag_edits}
-use Rattle.tup_above.specs.Lists.{list_of}
-use Rattle.tup_above.specs.Readers.{AreReaders, AreRunsOfRules}
-use Rattle.tup_above.specs.declared.readers.Readers.{Readers}
+use Rattle.tup_above.specs.Readers.{AreRunsOfRules}
 use Rattle.tup_above.proofs.Members.{number-decides}
 use Rattle.tup_diff.proofs.Noting.{above_as}
-use Rattle.tup_diff.proofs.Ordered.{in_front, behind_front, none_in, front_or_behind}
+use Rattle.tup_diff.proofs.Ordered.{in_front, none_in, front_or_behind}
 use Rattle.tup_swap.specs.Before.{AreNumbersBefore, IsNumberBefore}
 use Rattle.tup_swap.specs.Edits.{AreSwapEdits, IsRunNow, IsToRun, clear_edits, led_by, less_edits, more_edits, own_so, reading_edits, run_so}
 use Rattle.tup_swap.specs.Numbered.{numbered}
 use Rattle.tup_swap.specs.Owners.{AreOwned}
-use Rattle.tup_swap.specs.Running.{flag_at, is_new_at, readers_at, readers_of, run_at, was_flagged}
+use Rattle.tup_swap.specs.Running.{ReadsOneNew, flag_at, is_new_at, run_at, was_flagged}
 use Rattle.tup_swap.proofs.Leaving.{Owners, led_graph, led_is}
 use Rattle.tup_swap.proofs.Looked.{before_of, rule_of}
 use Rattle.tup_swap.proofs.Numbered.{had_at, is_had_at}
@@ -50,21 +47,6 @@ in_chosen false n number inside = absurd (none_in number inside)
 in_found : (found : Option RunRecord) (n number : ℕ) (run : RunRecord) → Contains {X = ℕ × RunRecord} (option_to_list (option_map (λ (r : RunRecord). (n, r)) found)) (number, run) → (n ≡ number) × (found ≡ Some run)
 in_found None n number run inside = absurd (none_in (number, run) inside)
 in_found (Some one) n number run inside = let same = in_one (n, one) (number, run) inside in ((λ k. (same k).0), (λ k. Some (same k).1))
-
-module _ {X Y : Type 0} (f : X → List Y) where
-  of_one : (xs : List X) (y : Y) → Contains (flat_map f xs) y → (x : X) × Contains xs x × Contains (f x) y
-  of_one [] y h = absurd (none_in y h)
-  of_one (first ∷ xs) y h = elim (Contains-append_cases (f first) (flat_map f xs) y h) [
-    | inl here ↦ (first, in_front first xs, here)
-    | inr later ↦ let found = of_one xs y later in (found.0, behind_front first found.0 xs found.1, found.2)
-  ]
-
-  in_all : (xs : List X) (x : X) (y : Y) → Contains xs x → Contains (f x) y → Contains (flat_map f xs) y
-  in_all [] x y h inside = absurd (none_in x h)
-  in_all (first ∷ xs) x y h inside = elim (front_or_behind first x xs h) [
-    | inl same ↦ Contains-append_left (f first) (flat_map f xs) y (subst (λ (z : X). Contains (f z) y) (sym same) inside)
-    | inr later ↦ Contains-append_right (f first) (flat_map f xs) y (in_all xs x y later inside)
-  ]
 
 -- ---- a rule and the number that it had
 module _ (g : GraphState) (rule : Rule) where
@@ -139,35 +121,22 @@ module _ (g : GraphState) (rules : List Rule) (befores : List (Option ℕ)) (are
         let before = before_of g rules befores i rule are (ap (λ (l : List Rule). slice_get l i) (sym same) ∙ here) in
         ap (λ (o : Option (Option ℕ)). unwrap_or (option_map is_none o) false) before.1 ∙ none_so g rule before.0 before.2 new
 
-    module _ (readers : Readers) (all : AreReaders led readers) (runs : AreRunsOfRules led) where
-      reads_so : (number i : ℕ) (rule : Rule) → slice_get led.rules i ≡ Some rule → (b : Bool) → is_new_at befores i ≡ b → Contains (if b then readers_of readers rule.outputs else []) number → ReadsNew g led number
-      reads_so number i rule here true new inside =
-          let found = of_one (list_of readers.lists) rule.outputs number inside in
-          (i, rule, here, is_new_to i rule here new, (found.0, ((all found.0 number).0 found.2).1, (among-decides found.0 rule.outputs).1 found.1))
-      reads_so number i rule here false old inside = absurd (none_in number inside)
+    reads_to : (number : ℕ) → ReadsOneNew led befores number → ReadsNew g led number
+    reads_to number (i, rule, here, (new, (path, inside, asked))) = (i, rule, here, is_new_to i rule here new, (path, asked, (among-decides path rule.outputs).1 inside))
 
-      pub reads_to : (number : ℕ) → Contains (numbered (readers_at readers befores) 0 led.rules) number → ReadsNew g led number
-      reads_to number h =
-          let had = had_at (readers_at readers befores) led.rules number h in
-          reads_so number had.0 had.1 had.2 (is_new_at befores had.0) refl had.3
+    reads_from : (number : ℕ) → ReadsNew g led number → ReadsOneNew led befores number
+    reads_from number (i, rule, here, new, (path, asked, wrote)) = (i, rule, here, (is_new_from i rule here new, (path, (among-decides path rule.outputs).0 wrote, asked)))
 
-      pub reads_from : (number : ℕ) → ReadsNew g led number → Contains (numbered (readers_at readers befores) 0 led.rules) number
-      reads_from number reads =
-          let read = reads.4 in
-          let asked = read.1 in
-          is_had_at (readers_at readers befores) led.rules reads.0 reads.1 number reads.2
-          (subst (λ (b : Bool). Contains (if b then readers_of readers reads.1.outputs else []) number) (sym (is_new_from reads.0 reads.1 reads.2 reads.3))
-          (in_all (list_of readers.lists) reads.1.outputs read.0 number ((among-decides read.0 reads.1.outputs).0 read.2) ((all read.0 number).1 (runs number asked.0 asked.2, asked))))
-
-      pub is_root : (number : ℕ) → Contains (numbered (readers_at readers befores) 0 led.rules) number → is_rule led number ≡ true
-      is_root number h = let reads = reads_to number h in runs number reads.4.1.0 reads.4.1.2
+    module _ (runs : AreRunsOfRules led) where
+      pub is_root : (number : ℕ) → ReadsOneNew led befores number → is_rule led number ≡ true
+      is_root number (i, rule, here, (new, (path, inside, asked))) = runs number asked.0 asked.2
 
       -- ---- all that are to be run
-      pub to_run_are : (roots above flags : List ℕ) → roots ≡ numbered (readers_at readers befores) 0 led.rules → ((n : ℕ) → Contains above n ↔ IsAbove led (Contains roots) n)
-          → flags ≡ above ++ numbered (flag_at g) 0 befores → (n : ℕ) → Contains flags n ↔ IsToRun g led n
+      pub to_run_are : (roots above flags : List ℕ) → ((n : ℕ) → Contains roots n ↔ ReadsOneNew led befores n) → ((n : ℕ) → Contains above n ↔ IsAbove led (Contains roots) n) → flags ≡ above ++ numbered (flag_at g) 0 befores
+          → (n : ℕ) → Contains flags n ↔ IsToRun g led n
       to_run_are roots above flags rooted over is n = (
         λ h. elim (Contains-append_cases above (numbered (flag_at g) 0 befores) n (subst (λ (l : List ℕ). Contains l n) is h)) [
-          | inl there ↦ let up = (over n).0 there in inr (up.0, above_as led led (Contains roots) (ReadsNew g led) refl refl (λ root h. reads_to root (subst (λ (l : List ℕ). Contains l root) rooted h)) up.0 n up.1)
+          | inl there ↦ let up = (over n).0 there in inr (up.0, above_as led led (Contains roots) (ReadsNew g led) refl refl (λ root h. reads_to root ((rooted root).0 h)) up.0 n up.1)
           | inr there ↦ inl (flag_to n there)
         ],
         λ to. subst (λ (l : List ℕ). Contains l n) (sym is) (from to),
@@ -177,7 +146,7 @@ module _ (g : GraphState) (rules : List Rule) (befores : List (Option ℕ)) (are
           from (inl yet) = Contains-append_right above (numbered (flag_at g) 0 befores) n (flag_from n yet)
           from (inr up) =
               Contains-append_left above (numbered (flag_at g) 0 befores) n
-              ((over n).1 (up.0, above_as led led (ReadsNew g led) (Contains roots) refl refl (λ root reads. subst (λ (l : List ℕ). Contains l root) (sym rooted) (reads_from root reads)) up.0 n up.1))
+              ((over n).1 (up.0, above_as led led (ReadsNew g led) (Contains roots) refl refl (λ root reads. (rooted root).1 (reads_from root reads)) up.0 n up.1))
 
   -- ---- the graph of the rules and of the records that they keep
   module _ (runs : List (ℕ × RunRecord)) (kept : runs ≡ numbered (run_at g) 0 befores) where

@@ -6,5 +6,6 @@ mod Taking
 mod Numbered
 mod Looked
 mod Owning
+mod Reading
 mod Kept
 mod Placing

@@ -1,13 +1,10 @@
 -- What rules keep by the numbers that they had, and who reads what new ones make (own).
-use Rattle.std.specs.Prelude.{ℕ, Bool, true, false, List, [], ◌∷◌, Option, None, Some, is_none, option_map, option_to_list, unwrap_or, slice_get, if◌then◌else◌}
-use Rattle.std.specs.List.{flat_map}
+use Rattle.std.specs.Prelude.{◌≡◌, ℕ, Bool, true, false, List, [], ◌∷◌, Option, None, Some, is_none, option_map, option_to_list, unwrap_or, slice_get, if◌then◌else◌}
 use Rattle.std.specs.FinMap as finite
-use Rattle.tup_path.specs.Name.{Names}
 use Rattle.tup_rule.specs.declared.rule.Rule.{Rule}
 use Rattle.tup_record.specs.declared.run.RunRecord.{RunRecord}
 use Rattle.tup_graph.specs.Graph.{GraphState, is_flagged}
-use Rattle.tup_above.specs.Lists.{list_of}
-use Rattle.tup_above.specs.declared.readers.Readers.{Readers}
+use Rattle.tup_above.specs.Readers.{HasAskedOneOf}
 
 -- the record of a rule of this number, by the number that it had
 abbrev pub run_at : GraphState → ℕ → Option ℕ → List (ℕ × RunRecord)
@@ -27,10 +24,10 @@ flag_at g number before = if was_flagged g before then number ∷ [] else []
 abbrev pub is_new_at : List (Option ℕ) → ℕ → Bool
 is_new_at befores number = unwrap_or (option_map is_none (slice_get befores number)) false
 
--- the rules whose records ask one of some paths
-abbrev pub readers_of : Readers → List Names → List ℕ
-readers_of readers paths = flat_map (list_of readers.lists) paths
+-- the record of a rule asks an output of the rule at a place, if that is new
+abbrev pub ReadsIfNew : GraphState → List (Option ℕ) → ℕ → Rule → ℕ → Type 0
+ReadsIfNew led befores at rule number = (is_new_at befores at ≡ true) × HasAskedOneOf led rule.outputs number
 
--- those whose records ask an output of a rule, if it is new
-abbrev pub readers_at : Readers → List (Option ℕ) → ℕ → Rule → List ℕ
-readers_at readers befores number rule = if is_new_at befores number then readers_of readers rule.outputs else []
+-- the record of a rule asks an output of a new rule
+abbrev pub ReadsOneNew : GraphState → List (Option ℕ) → ℕ → Type 0
+ReadsOneNew led befores number = (at : ℕ) × (rule : Rule) × (slice_get led.rules at ≡ Some rule) × ReadsIfNew led befores at rule number

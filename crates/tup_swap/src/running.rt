@@ -1,16 +1,20 @@
 //! Which rules are to be run after a swap.
 ghost use Rattle.std.specs.Prelude.{◌≡◌, ◌↔◌, ◌++◌, ℕ, Contains, IfOk, IfErr, OnOk};
-ghost use Rattle.tup_above.specs.Readers.{AreRunsOfRules};
+ghost use Rattle.tup_graph.specs.Above.{HasAsked};
+ghost use Rattle.tup_above.specs.Grows.{Grows};
+ghost use Rattle.tup_above.specs.Readers.{AreRunsOfRules, HasAskedOneOf};
 ghost use Rattle.tup_swap.specs.Before.{AreNumbersBefore};
 ghost use Rattle.tup_swap.specs.Edits.{IsToRun, led_by};
 ghost use Rattle.tup_swap.specs.Numbered.{numbered};
-ghost use Rattle.tup_swap.specs.Running.{flag_at, is_new_at, readers_at, readers_of, run_at, was_flagged};
+ghost use Rattle.tup_swap.specs.Running.{ReadsIfNew, ReadsOneNew, flag_at, is_new_at, run_at, was_flagged};
 
 use crate::before::number_of;
 use crate::putting::{push_more, push_runs};
 use std::alloc::Global;
-use tup_above::Readers;
+use std::collections::BTreeSet;
+use tup_above::above;
 use tup_graph::{Edits, GraphFault, Nodes};
+use tup_index::Indexed;
 use tup_path::{Items, Path};
 use tup_record::RunRecord;
 use tup_rule::Rule;
@@ -54,14 +58,14 @@ pub(crate) fn led(
     alloc: Global,
     rules: &[Rule],
     runs: &[(u32, RunRecord)],
-) -> Result<Nodes, GraphFault>
+) -> Result<Indexed, GraphFault>
     ensures led { IfOk result (λ led. led ≡ led_by rules.now runs.now) }
     ensures memory { IfErr result (λ fault. fault ≡ GraphFault.Memory) }
 {
     let mut edits = Items::new(alloc);
     push_more(alloc, &mut edits, rules)?;
     push_runs(&mut edits, runs)?;
-    let mut led = Nodes::empty(alloc);
+    let mut led = Indexed::empty(alloc);
     led.edit_all(alloc, edits)?;
     Ok(led)
 }
@@ -71,7 +75,7 @@ pub(crate) fn led(
 pub(crate) fn to_run(
     alloc: Global,
     nodes: &Nodes,
-    led: &Nodes,
+    led: &Indexed,
     befores: &[Option<u32>],
 ) -> Result<Items<u32>, GraphFault>
     requires befores { AreNumbersBefore nodes.now led.now.rules befores.now }
@@ -80,9 +84,8 @@ pub(crate) fn to_run(
         → Contains flags number ↔ IsToRun nodes.now led.now number) }
     ensures memory { IfErr result (λ fault. fault ≡ GraphFault.Memory) }
 {
-    let readers = Readers::new(alloc, led)?;
-    let roots = readers_of_new(alloc, led.rules(), &readers, befores)?;
-    let mut flags = readers.above(alloc, led, roots.as_slice())?;
+    let roots = readers_of_new(alloc, led, led.nodes().rules(), befores)?;
+    let mut flags = above(alloc, led, roots.as_slice())?;
     push_flagged(&mut flags, nodes, befores)?;
     Ok(flags)
 }
@@ -90,17 +93,18 @@ pub(crate) fn to_run(
 /// The rules whose records ask an output of a new one.
 fn readers_of_new(
     alloc: Global,
+    led: &Indexed,
     rules: &[Rule],
-    readers: &Readers,
     befores: &[Option<u32>],
 ) -> Result<Items<u32>, GraphFault>
-    ensures ok { IfOk result (λ found. found
-        ≡ numbered (readers_at readers.now befores.now) 0 rules.now) }
-    ensures err { IfErr result (λ fault. fault ≡ GraphFault.Memory) }
+    requires { rules.now ≡ led.now.rules }
+    ensures readers { IfOk result (λ found. (number : ℕ)
+        → Contains found number ↔ ReadsOneNew led.now befores.now number) }
+    ensures memory { IfErr result (λ fault. fault ≡ GraphFault.Memory) }
 {
     let mut found = Items::new(alloc);
     for (at, rule) in rules.iter().enumerate() {
-        push_if_new(&mut found, readers, befores, at, rule)?;
+        push_if_new(&mut found, led, befores, at, rule)?;
     }
     Ok(found)
 }
@@ -108,17 +112,51 @@ fn readers_of_new(
 /// The rules whose records ask an output of the rule at a place, if that is new.
 fn push_if_new(
     found: &mut Items<u32>,
-    readers: &Readers,
+    led: &Indexed,
     befores: &[Option<u32>],
     at: usize,
     rule: &Rule,
 ) -> Result<(), GraphFault>
-    ensures ok { OnOk result (found.new
-        ≡ found.old ++ readers_at readers.now befores.now at rule.now) }
-    ensures err { IfErr result (λ fault. fault ≡ GraphFault.Memory) }
+    ensures readers { OnOk result (Grows (ReadsIfNew led.now befores.now at rule.now)
+        (Contains found.old) (Contains found.new)) }
+    ensures memory { IfErr result (λ fault. fault ≡ GraphFault.Memory) }
 {
     if is_new(befores, at) {
-        push_readers(found, readers, rule.outputs.as_slice())?;
+        return push_readers(found, led, rule.outputs.as_slice());
+    }
+    Ok(())
+}
+
+/// The rules whose records ask one of some paths.
+fn push_readers(found: &mut Items<u32>, led: &Indexed, paths: &[Path]) -> Result<(), GraphFault>
+    ensures readers { OnOk result (Grows (HasAskedOneOf led.now paths.now)
+        (Contains found.old) (Contains found.new)) }
+    ensures memory { IfErr result (λ fault. fault ≡ GraphFault.Memory) }
+{
+    for path in paths {
+        push_readers_of(found, led, path)?;
+    }
+    Ok(())
+}
+
+/// The rules whose records ask a path.
+fn push_readers_of(found: &mut Items<u32>, led: &Indexed, path: &Path) -> Result<(), GraphFault>
+    ensures readers { OnOk result (Grows (λ number. HasAsked led.now number path.now)
+        (Contains found.old) (Contains found.new)) }
+    ensures memory { IfErr result (λ fault. fault ≡ GraphFault.Memory) }
+{
+    match led.readers(path) {
+        Some(numbers) => push_set(found, numbers),
+        None => Ok(()),
+    }
+}
+
+fn push_set(found: &mut Items<u32>, numbers: &BTreeSet<u32>) -> Result<(), GraphFault>
+    ensures ok { OnOk result (found.new ≡ found.old ++ numbers.now.keys) }
+    ensures err { IfErr result (λ fault. fault ≡ GraphFault.Memory) }
+{
+    for number in numbers {
+        found.push(*number)?;
     }
     Ok(())
 }
@@ -131,27 +169,6 @@ fn is_new(befores: &[Option<u32>], at: usize) -> bool
         Some(before) => before.is_none(),
         None => false,
     }
-}
-
-/// The rules whose records ask one of some paths.
-fn push_readers(found: &mut Items<u32>, readers: &Readers, paths: &[Path]) -> Result<(), GraphFault>
-    ensures ok { OnOk result (found.new ≡ found.old ++ readers_of readers.now paths.now) }
-    ensures err { IfErr result (λ fault. fault ≡ GraphFault.Memory) }
-{
-    for path in paths {
-        push_all(found, readers.of(path))?;
-    }
-    Ok(())
-}
-
-fn push_all(found: &mut Items<u32>, numbers: &[u32]) -> Result<(), GraphFault>
-    ensures ok { OnOk result (found.new ≡ found.old ++ numbers.now) }
-    ensures err { IfErr result (λ fault. fault ≡ GraphFault.Memory) }
-{
-    for number in numbers {
-        found.push(*number)?;
-    }
-    Ok(())
 }
 
 /// Rules that are new, and those that were flagged.

@@ -1,5 +1,5 @@
 -- How an order ends whose update came out so: what is promised of the update holds of the status that tells of it.
-use Rattle.std.proofs.Common.{◌≡◌, inl, inr, ℕ, zero, suc, Bool, not, IsTrue, List, [], ◌∷◌, Option, None, Some, Ok, IfSome, refl, sym, ap, subst, ◌∙◌, append-nil, arith}
+use Rattle.std.proofs.Common.{◌≡◌, inl, inr, ℕ, zero, suc, Bool, not, IsTrue, List, [], ◌∷◌, Option, None, Some, IfSome, refl, sym, ap, subst, ◌∙◌, append-nil, arith}
 use Rattle.std.specs.FinMap as finite
 use Rattle.std.specs.List.{slice_get}
 use Rattle.std.proofs.lemmas.Bool.{false≢true}
@@ -11,7 +11,7 @@ use Rattle.tup_rule.specs.declared.rule.Rule.{Rule}
 use Rattle.tup_rule.specs.declared.rule.RuleName.{RuleName}
 use Rattle.tup_runner.specs.Next.{Next}
 use Rattle.tup_access.specs.declared.verdict.Verdict.TheVariants.{Good, Failed, IllegalRead as ReadsIllegally, IllegalWrite as WritesIllegally, Unwritten as LeavesUnwritten, TooManyReads as ReadsTooOften}
-use Rattle.tup_owned.specs.Ascending.{ascending}
+use Rattle.tup_ledger.specs.Ascending.{ascending}
 use Rattle.tup_update.specs.Holding.{holding}
 use Rattle.tup_clean.specs.Taken.{Taken}
 use Rattle.tup_update.specs.Log.{LogFits, RulesFit, OfRules}
@@ -27,7 +27,7 @@ use Rattle.tup_update.specs.declared.fault.SourcesFault.{SourcesFault}
 use Rattle.tup_update.specs.declared.fault.SourcesFault.TheVariants as sources
 use Rattle.tup_update.specs.declared.update.Log.{Log}
 use Rattle.tup_update.specs.declared.stop.Stop.{Stop}
-use Rattle.tup_update.specs.declared.stop.Stop.TheVariants.{BadStore as StoreDamaged, Sources, Bad, Run, Outside}
+use Rattle.tup_update.specs.declared.stop.Stop.TheVariants.{BadStore as StoreDamaged, Sources, Bad, Run, Full, Outside}
 use Rattle.tup_top.specs.Lines.{lines}
 use Rattle.tup_top.specs.Crew.{OneRose, RanFits}
 use Rattle.tup_top.specs.Promise.{CountsAll, Counts, AreSteady, HasCountedCause, HasDemoCause}
@@ -67,6 +67,7 @@ came_to-status_of before now log (Some (Bad rule (WritesIllegally text))) cause 
 came_to-status_of before now log (Some (Bad rule (LeavesUnwritten path))) cause = refl
 came_to-status_of before now log (Some (Bad rule ReadsTooOften)) cause = refl
 came_to-status_of before now log (Some Run) cause = refl
+came_to-status_of before now log (Some Full) cause = refl
 came_to-status_of before now log (Some (Outside Fault)) cause = refl
 came_to-status_of before now log (Some (Outside (TooLarge number))) cause = refl
 came_to-status_of before now log (Some (Outside NoMemory)) cause = refl
@@ -83,6 +84,7 @@ done_is_none log (Some (Bad rule (WritesIllegally text))) done = absurd done
 done_is_none log (Some (Bad rule (LeavesUnwritten path))) done = absurd done
 done_is_none log (Some (Bad rule ReadsTooOften)) done = absurd done
 done_is_none log (Some Run) done = absurd done
+done_is_none log (Some Full) done = absurd done
 done_is_none log (Some (Outside Fault)) done = absurd done
 done_is_none log (Some (Outside (TooLarge number))) done = absurd done
 done_is_none log (Some (Outside NoMemory)) done = absurd done
@@ -106,6 +108,7 @@ untold_rules old rules (Some (StoreDamaged offset)) fits = inl fits
 untold_rules old rules (Some (Sources fault)) fits = inl fits
 untold_rules old rules (Some (Bad rule verdict)) fits = inr fits
 untold_rules old rules (Some Run) fits = inr fits
+untold_rules old rules (Some Full) fits = inr fits
 untold_rules old rules (Some (Outside failed)) fits = fits
 
 -- a promise of the rules that an update found is one of what is answered for it
@@ -128,20 +131,21 @@ same_listed paths w = sym (λ i. finite.retain_keys w.tree (λ path. not (among_
 
 pub untold_left : (tells : Bool) (next : Next) (rules : List Rule) (old new : World) (stopped : Option Stop) → RulesFit old rules stopped → NothingForgotten tells next rules old new stopped →
     (IsTrue tells → ExactlyTheFiles next rules old new stopped) → NothingForgotten tells next rules old new (Some (Outside NoMemory))
-untold_left tells next rules old new None fits listed files = inr (
+untold_left tells next rules old new None fits listed files = inr (inr (
   fits,
   inr (inr (λ held shows. record {
     beside = same_listed (outputs rules) new ∙ (listed held shows).same;
     built = λ means. let made = files means held shows in record { clean = made.clean; files = made.files };
   })),
-)
+))
 untold_left tells next rules old new (Some (StoreDamaged offset)) fits same files = inl same
 untold_left tells next rules old new (Some (Sources fault)) fits same files = inl same
-untold_left tells next rules old new (Some (Bad rule verdict)) fits listed files = inr (fits, inl listed)
-untold_left tells next rules old new (Some Run) fits listed files = inr (fits, inl listed)
+untold_left tells next rules old new (Some (Bad rule verdict)) fits listed files = inr (inr (fits, inl listed))
+untold_left tells next rules old new (Some Run) fits listed files = inr (inr (fits, inl listed))
+untold_left tells next rules old new (Some Full) fits left files = inr (inr left)
 untold_left tells next rules old new (Some (Outside Fault)) fits left files = left
 untold_left tells next rules old new (Some (Outside (TooLarge number))) fits (inl same) files = inl same
-untold_left tells next rules old new (Some (Outside (TooLarge number))) fits (inr (asks, listed)) files = inr (asks, inl listed)
+untold_left tells next rules old new (Some (Outside (TooLarge number))) fits (inr (asks, listed)) files = inr (inr (asks, inl listed))
 untold_left tells next rules old new (Some (Outside NoMemory)) fits left files = left
 
 -- ---- counts
@@ -166,6 +170,7 @@ counts_of_stop next rules old log (Some (Bad rule (WritesIllegally text))) fits 
 counts_of_stop next rules old log (Some (Bad rule (LeavesUnwritten path))) fits = tt
 counts_of_stop next rules old log (Some (Bad rule ReadsTooOften)) fits = tt
 counts_of_stop next rules old log (Some Run) fits = tt
+counts_of_stop next rules old log (Some Full) fits = tt
 counts_of_stop next rules old log (Some (Outside Fault)) fits = tt
 counts_of_stop next rules old log (Some (Outside (TooLarge number))) fits = tt
 counts_of_stop next rules old log (Some (Outside NoMemory)) fits = tt
@@ -215,6 +220,7 @@ module _ (site_before site_now run_before run_now sink_before sink_now : ℕ) wh
   counted_of_stop log (Some (Bad rule (LeavesUnwritten path))) sink cause run = steady cause.0 run
   counted_of_stop log (Some (Bad rule ReadsTooOften)) sink cause run = steady cause.0 run
   counted_of_stop log (Some Run) sink cause run = (cause, one_rose run)
+  counted_of_stop log (Some Full) sink cause run = (steady cause run, omega arith)
   counted_of_stop log (Some (Outside Fault)) sink cause run = (cause, ap (λ (n : ℕ). n ∷ []) run)
   counted_of_stop log (Some (Outside (TooLarge number))) sink cause run = (steady cause.0 run, cause.1)
   counted_of_stop log (Some (Outside NoMemory)) sink cause run = tt
@@ -351,6 +357,7 @@ ran_fits next rules old log (Some (StoreDamaged offset)) fits = fits.2
 ran_fits next rules old log (Some (Sources fault)) fits = fits.2
 ran_fits next rules old log (Some (Bad rule verdict)) fits = λ held shows. ap (λ (l : Log). l.ran) (fits held shows)
 ran_fits next rules old log (Some Run) fits = λ held shows. (fits held shows).ran
+ran_fits next rules old log (Some Full) fits = λ held shows. (fits held shows).ran
 ran_fits next rules old log (Some (Outside failed)) (inl empty) = λ held shows. no_front log.ran (names_of rules (ends next rules held)) empty.2
 ran_fits next rules old log (Some (Outside failed)) (inr (asks, part)) = λ held shows. (part held shows).ran
 
@@ -361,6 +368,7 @@ untold_ran next rules old ran (Some (StoreDamaged offset)) fits = λ held shows.
 untold_ran next rules old ran (Some (Sources fault)) fits = λ held shows. no_front ran (names_of rules (ends next rules held)) fits
 untold_ran next rules old ran (Some (Bad rule verdict)) fits = λ held shows. whole_front ran (names_of rules (ends next rules held)) (fits held shows)
 untold_ran next rules old ran (Some Run) fits = fits
+untold_ran next rules old ran (Some Full) fits = fits
 untold_ran next rules old ran (Some (Outside failed)) fits = fits
 
 -- in turn
@@ -370,6 +378,7 @@ untold_turns rules ran ended (Some (StoreDamaged offset)) turns = no_turns rules
 untold_turns rules ran ended (Some (Sources fault)) turns = no_turns rules ran ended turns.0 turns.1
 untold_turns rules ran ended (Some (Bad rule verdict)) turns = (turns.0, inl turns.1)
 untold_turns rules ran ended (Some Run) turns = turns
+untold_turns rules ran ended (Some Full) turns = turns
 untold_turns rules ran ended (Some (Outside failed)) turns = turns
 
 -- and the runner was given what was begun, but for the last where there was no memory
@@ -379,6 +388,7 @@ untold_runs ran old new (Some (StoreDamaged offset)) runs = inl runs
 untold_runs ran old new (Some (Sources fault)) runs = inl runs
 untold_runs ran old new (Some (Bad rule verdict)) runs = inl runs
 untold_runs ran old new (Some Run) runs = inl runs
+untold_runs ran old new (Some Full) runs = inl runs
 untold_runs ran old new (Some (Outside Fault)) runs = inl runs
 untold_runs ran old new (Some (Outside (TooLarge number))) runs = inl runs
 untold_runs ran old new (Some (Outside NoMemory)) runs = runs

@@ -9,13 +9,21 @@ use Rattle.tup_update.specs.Log.{OfRules}
 use Rattle.tup_update.specs.declared.compare.Compared.{Compared}
 use Rattle.tup_update.specs.declared.stop.Stop.{Stop}
 use Rattle.tup_update.specs.declared.stop.Stop.TheVariants.{Outside}
+use Rattle.tup_update.proofs.Held.{holds_itself}
 use Rattle.tup_top.specs.Lines.{last_line, compared_line}
 use Rattle.tup_top.specs.Order.{Wanted}
 use Rattle.tup_top.specs.Printed.{Printed, PrintedAlone, demo_world}
-use Rattle.tup_top.specs.Promise.{ForUpdate, ForVerify, ForDemo}
+use Rattle.tup_top.specs.Promise.{ForUpdate, ForVerify, ForDemo, NothingDone}
 use Rattle.tup_top.specs.declared.order.Order.TheVariants.{Upd, Verify, Demo}
 use Rattle.tup_top.specs.declared.status.Status.TheVariants.{Usage, Memory}
 use Rattle.tup_top.proofs.Causes.{prints_nothing, prints_no_update}
+
+-- nothing was done
+pub idle : (wanted : Wanted) (w : World) → NothingDone wanted w w
+idle (Ok (Upd program)) w = tt
+idle (Ok Verify) w = holds_itself w
+idle (Ok Demo) w = refl
+idle (Err place) w = refl
 
 -- what an update promises where there was no memory
 pub memory_for_update : (wanted : Wanted) (P : Option Stop → Type 0) → P (Some (Outside NoMemory)) → ForUpdate wanted Memory P

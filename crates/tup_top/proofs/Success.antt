@@ -12,6 +12,7 @@ use Rattle.tup_access.specs.declared.verdict.Verdict.{Verdict}
 use Rattle.tup_access.specs.declared.verdict.Verdict.TheVariants.{Failed, IllegalRead as ReadsIllegally, IllegalWrite as WritesIllegally, Unwritten as LeavesUnwritten, TooManyReads as ReadsTooOften}
 use Rattle.tup_clean.specs.Clean.{is_good}
 use Rattle.tup_path.specs.Count.{Rose}
+use Rattle.tup_update.proofs.Held.{undamaged}
 use Rattle.tup_update.specs.Log.{OfRules}
 use Rattle.tup_update.specs.Outcome.{SourcesStay, HasCause}
 use Rattle.tup_update.specs.Parts.{HasFileOf}
@@ -23,7 +24,7 @@ use Rattle.tup_update.proofs.Beside.{left_is}
 use Rattle.tup_top.specs.Status.{came_to, compared_to}
 use Rattle.tup_top.specs.Crew.{OneRose}
 use Rattle.tup_top.specs.Promise.{HasCountedCause, HasComparedCause, Counts, NothingFailed, IsClear, IsDoneOrMemory, CanBeCompared, IsComparisonOrMemory}
-use Rattle.tup_top.specs.declared.status.What.TheVariants.{Files, FileSize, Commands, Links}
+use Rattle.tup_top.specs.declared.status.What.TheVariants.{Files, FileSize, Commands, Links, StoreSize}
 use Rattle.tup_top.specs.declared.status.Status.{Status}
 use Rattle.tup_top.specs.declared.status.Status.TheVariants.{Done, Command, IllegalRead, IllegalWrite, Unwritten, TooManyReads, Usage, BadStore, Parse, CircularDirs, CircularCommands, NoSuchGroup, SiteFault, RunFault, SinkFault, Limit, Memory, Differs}
 
@@ -64,7 +65,7 @@ succeeds_so next old new before now (IllegalWrite rule text) cause counted clear
 succeeds_so next old new before now (Unwritten rule path) cause counted clear fine = no_bad_rule next old new rule (LeavesUnwritten path) clear cause
 succeeds_so next old new before now (TooManyReads rule) cause counted clear fine = no_bad_rule next old new rule ReadsTooOften clear cause
 succeeds_so next old new before now (Usage place) cause counted clear fine = absurd counted
-succeeds_so next old new before now (BadStore offset) (rules, fits, damaged) counted clear fine = absurd (cc (sym damaged ∙ clear.store_reads.lists))
+succeeds_so next old new before now (BadStore offset) (rules, fits, damaged) counted clear fine = absurd (undamaged old.store clear.held.owned offset clear.store_reads.lists damaged)
 succeeds_so next old new before now (Parse fault) (rules, fits, refused) counted clear fine = absurd (clear.sources_read (sources.Parse fault) refused)
 succeeds_so next old new before now (CircularDirs cycle) (rules, fits, refused) counted clear fine = absurd (clear.sources_read (sources.CircularDirs cycle) refused)
 succeeds_so next old new before now (CircularCommands cycle) (rules, fits, refused) counted clear fine = absurd (clear.sources_read (sources.CircularCommands cycle) refused)
@@ -76,6 +77,7 @@ succeeds_so next old new before now (Limit FileSize number) (rules, fits, large)
 succeeds_so next old new before now (Limit Files number) (rules, fits, refused) counted clear fine = absurd (clear.sources_read (sources.TooManyFiles number) refused)
 succeeds_so next old new before now (Limit Commands number) (rules, fits, refused) counted clear fine = absurd (clear.sources_read (sources.TooManyCommands number) refused)
 succeeds_so next old new before now (Limit Links number) (rules, fits, refused) counted clear fine = absurd (clear.sources_read (sources.TooManyLinks number) refused)
+succeeds_so next old new before now (Limit StoreSize number) (rules, fits, full) counted clear fine = absurd (clear.room rules fits (full clear.held clear.store_reads))
 succeeds_so next old new before now (Differs path) cause counted clear fine = absurd counted
 succeeds_so next old new before now Memory cause counted clear fine = tt
 
@@ -94,7 +96,7 @@ compares_so next w before now (IllegalWrite rule text) cause counted can fine = 
 compares_so next w before now (Unwritten rule path) cause counted can fine = tt
 compares_so next w before now (TooManyReads rule) cause counted can fine = tt
 compares_so next w before now (Usage place) cause counted can fine = absurd counted
-compares_so next w before now (BadStore offset) cause counted can fine = absurd (cc (sym cause ∙ can.store_reads.lists))
+compares_so next w before now (BadStore offset) cause counted can fine = absurd (undamaged w.store can.held.owned offset can.store_reads.lists cause)
 compares_so next w before now (Parse fault) cause counted can fine = absurd (can.sources_read (sources.Parse fault) cause)
 compares_so next w before now (CircularDirs cycle) cause counted can fine = absurd (can.sources_read (sources.CircularDirs cycle) cause)
 compares_so next w before now (CircularCommands cycle) cause counted can fine = absurd (can.sources_read (sources.CircularCommands cycle) cause)
@@ -106,6 +108,7 @@ compares_so next w before now (Limit FileSize number) cause counted can fine = n
 compares_so next w before now (Limit Files number) cause counted can fine = absurd (can.sources_read (sources.TooManyFiles number) cause)
 compares_so next w before now (Limit Commands number) cause counted can fine = absurd (can.sources_read (sources.TooManyCommands number) cause)
 compares_so next w before now (Limit Links number) cause counted can fine = absurd (can.sources_read (sources.TooManyLinks number) cause)
+compares_so next w before now (Limit StoreSize number) cause counted can fine = absurd cause
 compares_so next w before now Memory cause counted can fine = tt
 compares_so next w before now (Differs path) cause counted can fine = tt
 

@@ -1,18 +1,16 @@
 -- How a comparison ends that came out so: what is promised of it holds of the status that tells of it.
-use Rattle.std.proofs.Common.{◌≡◌, inl, inr, ℕ, List, [], ◌++◌, Option, None, Some, option_map, Result, Ok, Err, IfSome, refl, sym, ap, subst, ◌∙◌, append-nil}
+use Rattle.std.proofs.Common.{◌≡◌, inl, inr, ℕ, List, [], Option, None, Some, option_map, Result, Ok, Err, IfSome, refl, sym, ap, subst, ◌∙◌}
 use Rattle.std.specs.Result.{result_err}
 use Rattle.tup_path.specs.Name.{Names}
 use Rattle.tup_site.specs.World.{World}
 use Rattle.tup_site.specs.declared.fault.SiteFailed.TheVariants.{Memory as NoMemory}
 use Rattle.tup_runner.specs.Next.{Next}
-use Rattle.tup_clean.specs.Ran.{commands, RunsFront}
-use Rattle.tup_update.specs.Compared.{HasCompared, RunsToCompare, RunsIt}
+use Rattle.tup_update.specs.Compared.{HasCompared, RunsToCompare}
 use Rattle.tup_update.specs.Outcome.{HasRunCause, HasCountedCause as StopHasCountedCause}
-use Rattle.tup_update.specs.Sources.{sources}
 use Rattle.tup_update.specs.declared.compare.Compared.{Compared}
 use Rattle.tup_update.specs.declared.compare.Compared.TheVariants as compared
 use Rattle.tup_update.specs.declared.stop.Stop.{Stop}
-use Rattle.tup_update.specs.declared.stop.Stop.TheVariants.{BadStore as StoreDamaged, Sources, Bad, Run, Outside}
+use Rattle.tup_update.specs.declared.stop.Stop.TheVariants.{BadStore as StoreDamaged, Sources, Bad, Run, Full, Outside}
 use Rattle.tup_update.specs.declared.update.Log.{Log}
 use Rattle.tup_update.proofs.Comparing.{all_is_front}
 use Rattle.tup_top.specs.Lines.{compared_line}
@@ -21,7 +19,7 @@ use Rattle.tup_top.specs.Promise.{Counts, HasCountedCause, HasComparedCause}
 use Rattle.tup_top.specs.Status.{status_of_stop, status_of_compared, came_to, compared_to, of_stop}
 use Rattle.tup_top.specs.declared.status.Status.{Status}
 use Rattle.tup_top.specs.declared.status.Status.TheVariants.{Done, Command, IllegalRead, IllegalWrite, Unwritten, TooManyReads, Usage, BadStore, Parse, CircularDirs, CircularCommands, NoSuchGroup, SiteFault, RunFault, SinkFault, Limit, Memory, Differs}
-use Rattle.tup_top.specs.declared.status.What.TheVariants.{Files, FileSize, Commands, Links}
+use Rattle.tup_top.specs.declared.status.What.TheVariants.{Files, FileSize, Commands, Links, StoreSize}
 use Rattle.tup_top.proofs.Causes.{came_to-status_of, done_is_none, of_one, steady, counted_of_stop, prints_nothing}
 
 -- the log of nothing
@@ -49,6 +47,7 @@ same_came (Limit Files number) came is = ap (option_map of_stop) is
 same_came (Limit FileSize number) came is = ap (option_map of_stop) is
 same_came (Limit Commands number) came is = ap (option_map of_stop) is
 same_came (Limit Links number) came is = ap (option_map of_stop) is
+same_came (Limit StoreSize number) came is = ap (option_map of_stop) is
 same_came Memory came is = ap (option_map of_stop) is
 same_came (Differs path) came is = absurd (cc is)
 
@@ -82,6 +81,7 @@ untold_compared next w old new (Some (StoreDamaged offset)) same = inl same
 untold_compared next w old new (Some (Sources fault)) same = inl same
 untold_compared next w old new (Some (Bad name verdict)) runs = inr (record { held = runs.held; shows = runs.shows; rules = runs.rules; asked = runs.asked; ran = all_is_front _ old new runs.ran })
 untold_compared next w old new (Some Run) runs = inr (record { held = runs.held; shows = runs.shows; rules = runs.rules; asked = runs.asked; ran = runs.ran })
+untold_compared next w old new (Some Full) runs = absurd runs
 untold_compared next w old new (Some (Outside failed)) (inl same) = inl same
 untold_compared next w old new (Some (Outside failed)) (inr runs) = inr (record { held = runs.held; shows = runs.shows; rules = runs.rules; asked = runs.asked; ran = runs.ran })
 

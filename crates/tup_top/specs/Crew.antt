@@ -16,7 +16,7 @@ use Rattle.tup_update.specs.Turns.{names_of, TurnsFit}
 use Rattle.tup_update.specs.Compared.{RunsToCompare}
 use Rattle.tup_update.specs.declared.compare.Compared.{Compared}
 use Rattle.tup_update.specs.declared.stop.Stop.{Stop}
-use Rattle.tup_update.specs.declared.stop.Stop.TheVariants.{BadStore, Sources, Bad, Run, Outside}
+use Rattle.tup_update.specs.declared.stop.Stop.TheVariants.{BadStore, Sources, Bad, Run, Full, Outside}
 use Rattle.tup_top.specs.Order.{Wanted, IsUpdate, HasCommandsRun}
 
 -- a crew has a runner, and at most 16
@@ -40,6 +40,7 @@ RanFits next rules old ran (Some (Bad name verdict)) = OfHeld old (λ held. ran 
 RanFits next rules old ran (Some (BadStore offset)) = ran ≡ []
 RanFits next rules old ran (Some (Sources fault)) = ran ≡ []
 RanFits next rules old ran (Some Run) = OfHeld old (λ held. IsFront ran (names_of rules (ends next rules held)))
+RanFits next rules old ran (Some Full) = OfHeld old (λ held. IsFront ran (names_of rules (ends next rules held)))
 RanFits next rules old ran (Some (Outside failed)) = OfHeld old (λ held. IsFront ran (names_of rules (ends next rules held)))
 
 -- the rules that it began, whatever its runners mean: each was the first that was ready, by the verdicts that came out, and

@@ -18,7 +18,7 @@ use Rattle.tup_update.specs.declared.update.Log.{Log}
 use Rattle.tup_top.specs.declared.status.Status.{Status}
 use Rattle.tup_top.specs.declared.status.Status.TheVariants.{Done, Command, IllegalRead, IllegalWrite, Unwritten, TooManyReads, Usage, BadStore, Parse, CircularDirs, CircularCommands, NoSuchGroup, SiteFault, RunFault, SinkFault, Limit, Memory, Differs}
 use Rattle.tup_top.specs.declared.status.What.{What}
-use Rattle.tup_top.specs.declared.status.What.TheVariants.{Files, FileSize, Commands, Links}
+use Rattle.tup_top.specs.declared.status.What.TheVariants.{Files, FileSize, Commands, Links, StoreSize}
 
 -- a folder whose Tupfile was read
 abbrev pub read_line : Names → List ℕ
@@ -43,6 +43,7 @@ what_text Files = codes "Files"
 what_text FileSize = codes "FileSize"
 what_text Commands = codes "Commands"
 what_text Links = codes "Links"
+what_text StoreSize = codes "StoreSize"
 
 -- a fault of the command of a rule: `DIR: COMMAND`, and what it did
 abbrev pub rule_fault : RuleName → List ℕ → List ℕ

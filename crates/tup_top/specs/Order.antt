@@ -1,5 +1,5 @@
 -- What the words of a command line ask for (own). A word that isn't known here can't stand anywhere.
-use Rattle.std.specs.Prelude.{◌≡◌, ◌+◌, ◌==◌, ℕ, ⊤, Bool, false, if◌then◌else◌, List, [], ◌∷◌, Option, None, Some, Result, Ok, Err, codes, bytes_eq}
+use Rattle.std.specs.Prelude.{◌≡◌, ◌+◌, ◌==◌, ℕ, ⊤, Bool, false, if◌then◌else◌, List, [], ◌∷◌, None, Some, Result, Ok, Err, codes, bytes_eq}
 use Rattle.tup_top.specs.declared.order.Word.{Word}
 use Rattle.tup_top.specs.declared.order.Order.{Order}
 use Rattle.tup_top.specs.declared.order.Order.TheVariants.{Upd, Verify, Demo}

@@ -1,6 +1,6 @@
 -- What the program promises of one call, each promise a word. What it says of an update is what tup_update says, of what
 -- the status tells that the update came to.
-use Rattle.std.specs.Prelude.{◌≡◌, ◌≢◌, ◌<◌, ◌≤◌, ⊤, ℕ, ◌-◌, ◌^◌, List, length, map, slice_get, Option, None, Some, IsTrue, IfSome, Result, Ok, Err}
+use Rattle.std.specs.Prelude.{◌≡◌, ◌<◌, ◌≤◌, ⊤, ℕ, ◌-◌, ◌^◌, List, length, map, slice_get, Option, None, Some, IsTrue, IfSome, Result, Ok, Err}
 use Rattle.std.specs.FinMap as finite
 use Rattle.tup_path.specs.Count.{Rose}
 use Rattle.tup_path.specs.Name.{Names, Content}
@@ -8,10 +8,10 @@ use Rattle.tup_site.specs.World.{World}
 use Rattle.tup_rule.specs.declared.rule.Rule.{Rule}
 use Rattle.tup_runner.specs.Next.{Next}
 use Rattle.tup_clean.specs.Clean.{succeeds}
-use Rattle.tup_update.specs.Holding.{Holding, OfHeld, Shows}
+use Rattle.tup_update.specs.Holding.{Holding, HoldsOn, OfHeld, Shows}
 use Rattle.tup_mini.specs.Means.{mini_next}
 use Rattle.tup_update.specs.Log.{OfRules, whole_log}
-use Rattle.tup_update.specs.Outcome.{HasCause}
+use Rattle.tup_update.specs.Outcome.{HasCause, HasNoRoom}
 use Rattle.tup_update.specs.Sources.{IsAsked, IsRefused, build}
 use Rattle.tup_update.specs.declared.compare.Compared.{Compared}
 use Rattle.tup_update.specs.declared.fault.SourcesFault.{SourcesFault}
@@ -24,7 +24,7 @@ use Rattle.tup_top.specs.declared.order.Order.TheVariants.{Upd, Verify, Demo}
 use Rattle.tup_top.specs.declared.status.Status.{Status}
 use Rattle.tup_top.specs.declared.status.Status.TheVariants.{Done, Command, IllegalRead, IllegalWrite, Unwritten, TooManyReads, Usage, SiteFault, RunFault, SinkFault, Limit, Memory, Differs}
 use Rattle.tup_top.specs.declared.status.What.{What}
-use Rattle.tup_top.specs.declared.status.What.TheVariants.{Files, FileSize, Commands, Links}
+use Rattle.tup_top.specs.declared.status.What.TheVariants.{Files, FileSize, Commands, Links, StoreSize}
 
 -- a promise of an update, of what the update came to
 abbrev pub ForUpdate : Wanted → Status → (Option Stop → Type 0) → Type 0
@@ -51,9 +51,17 @@ ForDemo (Err place) status promise = ⊤
 abbrev pub StopsDemo : Option Stop → Type 0
 StopsDemo stopped = (new : World) × OfRules demo_world (λ rules. HasCause mini_next rules demo_world new) stopped
 
--- only an update changes anything
+-- only an update does anything: a comparison leaves a world that holds the same, and any other call the world as it was
 abbrev pub NothingDone : Wanted → World → World → Type 0
-NothingDone wanted old new = (IsUpdate wanted → ⊥) → new ≡ old
+NothingDone (Ok (Upd program)) old new = ⊤
+NothingDone (Ok Verify) old new = HoldsOn old new
+NothingDone (Ok Demo) old new = new ≡ old
+NothingDone (Err place) old new = new ≡ old
+
+-- and so of all that it adds to what a crash may leave
+abbrev pub QuietStep : Wanted → World → World → Type 0
+QuietStep (Ok Verify) v w = HoldsOn v w
+QuietStep other v w = ⊥
 
 -- what is counted as done is all that there was to do
 abbrev pub CountsAll : Next → List Rule → World → Status → Type 0
@@ -80,6 +88,7 @@ most Files = 65536
 most FileSize = 16777216
 most Commands = 65536
 most Links = 4194304
+most StoreSize = 1073741824
 
 -- the causes that every site, runner and sink shows: no count rises unseen, and a count that is blamed rose. Want of memory
 -- while lines are printed is answered in the place of all else.
@@ -131,13 +140,15 @@ pub record NothingFailed (before now : Counts) : Type 0 where
   pub sink : now.sink ≡ before.sink
   pub sink_counts : now.sink < 2 ^ 64 - 1
 
--- nothing stands in the way of an update: the store reads, the sources ask for rules, and their clean build succeeds
+-- nothing stands in the way of an update: the store reads and has room, the sources ask for rules, and their clean build
+-- succeeds
 pub record IsClear (next : Next) (old new : World) : Type 0 where
   pub held : Holding
   pub store_reads : Shows old held
   pub sources_read : (fault : SourcesFault) → IsRefused old fault → ⊥
   pub clean : (rules : List Rule) → IsAsked old rules → IsTrue (succeeds (build next rules held))
   pub small : (path : Names) (content : Content) → finite.get new.tree path ≡ Some content → length content ≤ 16777216
+  pub room : (rules : List Rule) → IsAsked old rules → HasNoRoom rules held new → ⊥
 
 -- an answer that is free, or says that all was done
 abbrev pub IsDoneOrMemory : Status → Type 0

@@ -11,10 +11,10 @@ use Rattle.tup_update.specs.declared.fault.SourcesFault.{SourcesFault}
 use Rattle.tup_update.specs.declared.fault.SourcesFault.TheVariants as sources
 use Rattle.tup_update.specs.declared.update.Log.{Log}
 use Rattle.tup_update.specs.declared.stop.Stop.{Stop}
-use Rattle.tup_update.specs.declared.stop.Stop.TheVariants.{BadStore as StoreDamaged, Sources, Bad, Run, Outside}
+use Rattle.tup_update.specs.declared.stop.Stop.TheVariants.{BadStore as StoreDamaged, Sources, Bad, Run, Full, Outside}
 use Rattle.tup_top.specs.declared.status.Status.{Status}
 use Rattle.tup_top.specs.declared.status.Status.TheVariants.{Done, Command, IllegalRead, IllegalWrite, Unwritten, TooManyReads, Usage, BadStore, Parse, CircularDirs, CircularCommands, NoSuchGroup, SiteFault, RunFault, SinkFault, Limit, Memory, Differs}
-use Rattle.tup_top.specs.declared.status.What.TheVariants.{Files, FileSize, Commands, Links}
+use Rattle.tup_top.specs.declared.status.What.TheVariants.{Files, FileSize, Commands, Links, StoreSize}
 
 -- the exit number of the program
 abbrev pub exit_of : Status → ℕ
@@ -72,6 +72,7 @@ status_of_stop (StoreDamaged offset) = BadStore offset
 status_of_stop (Sources fault) = status_of_sources fault
 status_of_stop (Bad rule verdict) = status_of_bad rule verdict
 status_of_stop Run = RunFault
+status_of_stop Full = Limit StoreSize 1073741825
 status_of_stop (Outside failed) = status_of_outside failed
 
 -- the status of an update with this log that stopped for this reason, or came to its end
@@ -106,6 +107,7 @@ came_to (Limit Files number) = Some (Some (Sources (sources.TooManyFiles number)
 came_to (Limit FileSize number) = Some (Some (Outside (TooLarge number)))
 came_to (Limit Commands number) = Some (Some (Sources (sources.TooManyCommands number)))
 came_to (Limit Links number) = Some (Some (Sources (sources.TooManyLinks number)))
+came_to (Limit StoreSize number) = Some (Some Full)
 came_to Memory = Some (Some (Outside NoMemory))
 came_to (Usage place) = None
 came_to (Differs path) = None

@@ -1,8 +1,8 @@
 //! The top call.
 ghost use Rattle.std.specs.Prelude.{IsTrue, map};
-ghost use Rattle.tup_site.specs.Crash.{GoesOn, NoStep};
+ghost use Rattle.tup_site.specs.Crash.{GoesOn};
 ghost use Rattle.tup_update.specs.Compared.{HasCompared};
-ghost use Rattle.tup_update.specs.Images.{MakesStep};
+ghost use Rattle.tup_update.specs.Images.{UpdateStep};
 ghost use Rattle.tup_update.specs.Log.{OfRules};
 ghost use Rattle.tup_update.specs.Settled.{IsSettled};
 ghost use Rattle.tup_update.specs.Outcome.{ExactlyTheFiles, MadeBeforeBad, SourcesStay, NothingForgotten, HasCause};
@@ -10,7 +10,7 @@ ghost use Rattle.tup_top.specs.Order.{IsUpdate, order};
 ghost use Rattle.tup_top.specs.Crew.{IsCrew, CrewRuns, CrewCompares, RanFits, RanInTurn, NothingRun};
 ghost use Rattle.tup_top.specs.Lines.{last_line as line_of};
 ghost use Rattle.tup_top.specs.Printed.{Printed, PrintedAlone, Prints};
-ghost use Rattle.tup_top.specs.Promise.{ForUpdate, ForVerify, ForDemo, StopsDemo, NothingDone, CountsAll};
+ghost use Rattle.tup_top.specs.Promise.{ForUpdate, ForVerify, ForDemo, StopsDemo, NothingDone, QuietStep, CountsAll};
 ghost use Rattle.tup_top.specs.Promise.{HasPlainCause, IsRefusal, Succeeds, Compares, counts};
 ghost use Rattle.tup_top.specs.declared.status.Status.TheVariants.{Usage};
 
@@ -40,7 +40,7 @@ pub struct Ran<S, R> {
 /// Carries out what the words ask for, and prints its lines to `out` in one write.
 ///
 /// No words, or `upd`, update the files of the site; the first runner of the crew runs the
-/// commands. `verify` has it run those of a clean build beside them, and changes nothing. `demo`
+/// commands. `verify` has it run those of a clean build beside them, and touches no file. `demo`
 /// shows an update of a small project in memory, and leaves site and crew alone. Other words are
 /// refused by the place of the first that can't stand there. A crew has 1 to 16 runners.
 pub fn tup<S: Site, R: Runner, K: Sink>(
@@ -64,10 +64,10 @@ pub fn tup<S: Site, R: Runner, K: Sink>(
     // Whenever a crash comes: no file changes but owned ones and outputs, and nothing is forgotten.
     ensures crash { IsTrue S.tells → let old = S.world site in
         ForUpdate (order words.now) result.status (OfRules old (λ rules _.
-        GoesOn S.moment S.left_since site result.site (MakesStep R.tells R.next rules old))) }
-    // Only an update adds anything to what a crash may leave.
+        GoesOn S.moment S.left_since site result.site (UpdateStep R.tells R.next rules old))) }
+    // Any other order adds no more than a comparison's opening of the store.
     ensures quiet { IsTrue S.tells → (IsUpdate (order words.now) → ⊥)
-        → GoesOn S.moment S.left_since site result.site NoStep }
+        → GoesOn S.moment S.left_since site result.site (QuietStep (order words.now)) }
     ensures settled { IsTrue S.tells
         → let left = S.left_since result.site (S.moment result.site) in
         ForUpdate (order words.now) result.status (IsSettled left (S.world result.site)) }

@@ -25,7 +25,12 @@ pub enum What {
     Commands,
     /// The inputs that all rules declare.
     Links,
+    /// The bytes of the store.
+    StoreSize,
 }
+
+/// The most bytes that a store may have.
+const MAX_STORE: u64 = 1 << 30;
 
 /// How an order ended.
 #[derive(Drop)]
@@ -44,7 +49,7 @@ pub enum Status {
     TooManyReads { rule: RuleName },
     /// The word at this place, counted from 1, can't stand there. Nothing was done.
     Usage { place: u32 },
-    /// The store doesn't read from this byte on. Nothing was done.
+    /// The store doesn't read from this byte on. No file was touched.
     BadStore { offset: u64 },
     /// A file that says what to build has this fault. Nothing was done.
     Parse { fault: ParseFault },
@@ -136,6 +141,7 @@ fn status_of_stop(stop: Stop) -> Status
         Stop::Sources(fault) => status_of_sources(fault),
         Stop::Bad(rule, verdict) => status_of_bad(rule, verdict),
         Stop::Run => Status::RunFault,
+        Stop::Full => over(What::StoreSize, MAX_STORE + 1),
         Stop::Outside(failed) => status_of_outside(failed),
     }
 }
@@ -204,6 +210,7 @@ impl fmt::Display for What {
             What::FileSize => "FileSize",
             What::Commands => "Commands",
             What::Links => "Links",
+            What::StoreSize => "StoreSize",
         })
     }
 }

@@ -4,7 +4,7 @@ ghost use Rattle.tup_path.specs.Resolve.{resolve};
 ghost use Rattle.tup_site.specs.Crash.{GoesOn};
 ghost use Rattle.tup_site.specs.Memory.{world_in};
 ghost use Rattle.tup_mini.specs.Means.{mini_next};
-ghost use Rattle.tup_update.specs.Images.{MakesStep};
+ghost use Rattle.tup_update.specs.Images.{UpdateStep};
 ghost use Rattle.tup_update.specs.Log.{OfRules};
 ghost use Rattle.tup_update.specs.Ran.{RunsThese};
 ghost use Rattle.tup_update.specs.Settled.{IsSettled};
@@ -51,7 +51,7 @@ pub(crate) fn update<S: Site, R: Runner, K: Sink>(
         (OfRules old (λ rules. NothingForgotten R.tells R.next rules old (S.world site.new))) }
     ensures crash { IsTrue S.tells → let old = S.world site.old in
         IfSome (came_to result.status) (OfRules old (λ rules _.
-        GoesOn S.moment S.left_since site.old site.new (MakesStep R.tells R.next rules old))) }
+        GoesOn S.moment S.left_since site.old site.new (UpdateStep R.tells R.next rules old))) }
     ensures settled { IsTrue S.tells → let left = S.left_since site.new (S.moment site.new) in
         IfSome (came_to result.status) (IsSettled left (S.world site.new)) }
     ensures cause { IsTrue S.tells → IsTrue R.tells → let old = S.world site.old in

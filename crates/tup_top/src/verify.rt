@@ -1,8 +1,9 @@
 //! A comparison of the files of a site with a clean build of its sources, and what is told of it.
-ghost use Rattle.std.specs.Prelude.{◌≡◌, [], ◌∷◌, IsTrue, IfSome};
+ghost use Rattle.std.specs.Prelude.{[], ◌∷◌, IsTrue, IfSome};
 ghost use Rattle.std.specs.Result.{result_err};
-ghost use Rattle.tup_site.specs.Crash.{GoesOn, NoStep};
+ghost use Rattle.tup_site.specs.Crash.{GoesOn};
 ghost use Rattle.tup_update.specs.Compared.{HasCompared, RunsToCompare};
+ghost use Rattle.tup_update.specs.Holding.{HoldsOn};
 ghost use Rattle.tup_top.specs.Printed.{PrintsComparison};
 ghost use Rattle.tup_top.specs.Promise.{HasComparedCause, counts};
 ghost use Rattle.tup_top.specs.Status.{compared_to};
@@ -25,8 +26,8 @@ pub(crate) fn verify<S: Site, R: Runner, K: Sink>(
 ) -> Status
     ensures compared { IsTrue S.tells → IsTrue R.tells
         → IfSome (compared_to result) (HasCompared R.next (S.world site.old)) }
-    ensures same { IsTrue S.tells → S.world site.new ≡ S.world site.old }
-    ensures crash { IsTrue S.tells → GoesOn S.moment S.left_since site.old site.new NoStep }
+    ensures holds { IsTrue S.tells → HoldsOn (S.world site.old) (S.world site.new) }
+    ensures crash { IsTrue S.tells → GoesOn S.moment S.left_since site.old site.new HoldsOn }
     ensures ran { IsTrue S.tells → IsTrue R.tells → IsTrue R.tells_ran
         → let old = S.world site.old in IfSome (compared_to result) (λ compared.
         RunsToCompare R.next old (R.ran runner.old) (R.ran runner.new) (result_err compared)) }

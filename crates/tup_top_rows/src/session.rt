@@ -1,7 +1,10 @@
 //! The calls of `tup.rows`.
 use crate::failing::Failing;
 use std::alloc::Global;
-use tup_path::{Bytes, Items};
+use tup_graph::GraphFault;
+use tup_kept::Graph;
+use tup_ledger::{open, owned_paths};
+use tup_path::{Bytes, Items, Path, Paths};
 use tup_rows::{Answers, RowFault, Words};
 use tup_rule::RuleName;
 use tup_site::{MemSite, Site};
@@ -131,7 +134,8 @@ fn answer_of_site(alloc: Global, site: &mut MemSite, call: &str, said: &Words) -
         "write" => edit(alloc, site, said, Some(Bytes::new(said.bytes_at(alloc, 1)))),
         "delete" => edit(alloc, site, said, None),
         "file" => file(alloc, site, said),
-        "store" => Words::word(alloc, site.store()),
+        "store" => listed(alloc, site),
+        "store_bytes" => Words::word(alloc, site.store()),
         "write_store" => write_store(alloc, site, said.word_at(0)),
         _ => Words::none(alloc, RowFault::NoSuchCall),
     }
@@ -157,6 +161,43 @@ fn file(alloc: Global, site: &MemSite, said: &Words) -> Words {
 fn holds(alloc: Global, content: &Bytes) -> Words {
     let mut words = Words::word(alloc, b"holds");
     words.put(alloc, content.as_slice());
+    words
+}
+
+/// The paths that the store lists.
+fn listed(alloc: Global, site: &MemSite) -> Words {
+    match owned(alloc, site.store()) {
+        Ok(paths) => shown(alloc, paths.as_slice()),
+        Err(fault) => Words::refusal(alloc, &fault),
+    }
+}
+
+/// The paths that a store of these bytes lists; none where there are no bytes.
+fn owned(alloc: Global, bytes: &[u8]) -> Result<Paths, GraphFault> {
+    let Ok(mut site) = MemSite::new(alloc, Vec::new(alloc), Vec::new(alloc)) else {
+        return Err(GraphFault::Memory);
+    };
+    if site.db_write(alloc, 0, bytes).is_err() {
+        return Err(GraphFault::Memory);
+    }
+    match open(alloc, &mut site) {
+        Ok(graph) => owned_by(alloc, &graph),
+        Err(GraphFault::NotThere) => Ok(Paths::new(alloc)),
+        Err(fault) => Err(fault),
+    }
+}
+
+/// The paths that a graph owns.
+fn owned_by(alloc: Global, graph: &Graph) -> Result<Paths, GraphFault> {
+    Ok(owned_paths(alloc, graph.nodes())?)
+}
+
+/// Paths, each as it is written.
+fn shown(alloc: Global, paths: &[Path]) -> Words {
+    let mut words = Words::new(alloc);
+    for path in paths {
+        words.show(alloc, path);
+    }
     words
 }
 

@@ -1,6 +1,6 @@
 -- Where two lists of files first differ, and what the clean build is beside which files are looked at.
-use Rattle.std.proofs.Common.{◌≡◌, ◌≢◌, ℕ, ◌<◌, Bool, true, false, cond, bytes_eq, if◌then◌else◌, List, [], ◌∷◌, ◌++◌, length, append-nil, Option, None, Some, Result, Ok, Err, IsTrue, inr, refl, sym, ◌∙◌, ap, subst}
-use Rattle.std.specs.Result.{result_err, IsErrAnd}
+use Rattle.std.proofs.Common.{◌≡◌, ◌≢◌, ℕ, ◌<◌, Bool, true, false, cond, bytes_eq, if◌then◌else◌, List, [], ◌∷◌, ◌++◌, length, append-nil, Option, None, Some, Result, Ok, Err, IsTrue, ⊎_elim, inl, inr, refl, sym, ◌∙◌, ap, subst}
+use Rattle.std.specs.Result.{result_err, IfErr, IsErrAnd}
 use Rattle.std.specs.Ordering.{is_eq, is_lt, eq_by_cmp, match_ordering, ordering_reverse}
 use Rattle.std.specs.declared.cmp.Ordering.{Ordering}
 use Rattle.std.specs.declared.cmp.Ordering.TheVariants.{Less, Equal, Greater}
@@ -13,7 +13,7 @@ use Rattle.tup_path.specs.Order.{by_names, same_path, by_names-total, by_names-a
 use Rattle.tup_path.specs.Tree.{Tree}
 use Rattle.tup_path.proofs.Same.{same_path-decides, same_bytes-decides, by_names-decides}
 use Rattle.tup_site.specs.World.{World}
-use Rattle.tup_update.specs.Holding.{Holding, Shows}
+use Rattle.tup_update.specs.Holding.{Holding, HoldsOn, Shows}
 use Rattle.tup_site.specs.declared.fault.SiteFailed.{SiteFailed}
 use Rattle.tup_site.specs.declared.fault.SiteFailed.TheVariants.{Fault, TooLarge, Memory}
 use Rattle.tup_rule.specs.declared.rule.Rule.{Rule}
@@ -31,15 +31,17 @@ use Rattle.tup_clean.proofs.Standing.{ready_stands}
 use Rattle.tup_clean.proofs.Whole.{good_is}
 use Rattle.tup_clean.proofs.Turns.{all_are_good, is_the_good, succeeds_all}
 use Rattle.tup_update.proofs.Reading.{from_T}
-use Rattle.tup_update.specs.Compared.{AreCompared, HasCompared, HasBuilt, BuildsWell, BuildsAlike, IsGoodBuild, NoneIsBad, RunsBuildOf, RunsToCompare, compared_at, difference, first_of, same_file}
-use Rattle.tup_update.specs.Parts.{IsUnread}
+use Rattle.tup_update.specs.Compared.{AreCompared, HasCompared, HasBuilt, BuildsWell, BuildsAlike, IsGoodBuild, NoneIsBad, RunsBuildOf, RunsIt, RunsToCompare, compared_at, difference, first_of, same_file}
+use Rattle.tup_update.specs.Opened.{IsUnlisted, StopsOpening}
+use Rattle.tup_update.specs.Parts.{HasFileOf, IsUnread, NoDamage}
+use Rattle.tup_update.proofs.Held.{shown_before}
 use Rattle.tup_update.specs.Sources.{AsksFor, build, sources}
 use Rattle.tup_update.specs.Stopped.{stop_of}
 use Rattle.tup_update.specs.declared.compare.Compared.{Compared}
 use Rattle.tup_update.specs.declared.stop.Stop.{Stop}
-use Rattle.tup_update.specs.declared.stop.Stop.TheVariants.{BadStore, Sources, Bad, Run, Outside}
+use Rattle.tup_update.specs.declared.stop.Stop.TheVariants.{BadStore, Sources, Bad, Run, Full, Outside}
 use Rattle.tup_update.specs.declared.stop.Unread.{Unread}
-use Rattle.tup_update.specs.declared.stop.Unread.TheVariants.{Store, Sources as NoRules, Outside as Unlucky}
+use Rattle.tup_update.specs.declared.stop.Unread.TheVariants.{Sources as NoRules, Outside as Unlucky}
 
 abbrev Entries : Type 0
 Entries = List (Names × Content)
@@ -239,10 +241,14 @@ module _ (next : Next) (rules : List Rule) (sources : Tree) (buildable : IsBuild
 pub all_is_front : (all old new : List (Names × List ℕ)) → new ≡ old ++ all → RunsFront all old new
 all_is_front all old new ran = (all, [], append-nil all, ran)
 
+-- what stops the reading of the sources is no damage of the store
+pub unread_sound : (unread : Unread) → NoDamage (stop_of unread)
+unread_sound (NoRules fault) = tt
+unread_sound (Unlucky failed) = tt
+
 module _ (next : Next) (w : World) where
   -- where the sources can't be read, or ask for no rules
   pub unread_compared : (unread : Unread) → IsUnread w unread → HasCompared next w (Err (stop_of unread))
-  unread_compared (Store offset) why = why
   unread_compared (NoRules fault) why = why
   unread_compared (Unlucky Fault) why = tt
   unread_compared (Unlucky (TooLarge n)) why = why
@@ -268,6 +274,7 @@ module _ (next : Next) (w : World) where
       by (Err (BadStore offset)) never = absurd never
       by (Err (Sources fault)) never = absurd never
       by (Err Run) is = tt
+      by (Err Full) never = absurd never
       by (Err (Outside Fault)) is = tt
       by (Err (Outside (TooLarge n))) is = absurd (cc is)
       by (Err (Outside Memory)) is = tt
@@ -283,6 +290,7 @@ module _ (next : Next) (w : World) where
       by (Err (Bad name verdict)) is ran = record { held = held; shows = shows; rules = rules; asked = asked; ran = ran }
       by (Err (BadStore offset)) never ran = absurd never
       by (Err (Sources fault)) never ran = absurd never
+      by (Err Full) never ran = absurd never
       by (Err Run) is ran = record { held = held; shows = shows; rules = rules; asked = asked; ran = ran }
       by (Err (Outside failed)) is ran = inr (record { held = held; shows = shows; rules = rules; asked = asked; ran = ran })
 
@@ -298,3 +306,50 @@ module _ (next : Next) (w : World) where
         subst (AreCompared well.held.tree (build next well.rules well.held).tree) (sym (is ∙ (λ i. compared_at (difference (of_held i) (well.are i)))))
         (compared_are well.held.tree (build next well.rules well.held).tree);
   }
+
+-- ---- a comparison of the world behind the opening of its store is one of the world before it
+
+module _ (next : Next) (old mid : World) (on : HoldsOn old mid) where
+  pub compared_before : (result : Result Compared Stop) → IfErr result NoDamage → HasCompared next mid result → HasCompared next old result
+  compared_before (Ok compared) opened has = record { held = has.held; shows = shown_before old mid on has.held has.shows; rules = has.rules; asked = has.asked; clean = has.clean; alike = has.alike }
+  compared_before (Err (BadStore offset)) opened has = absurd opened
+  compared_before (Err (Sources fault)) opened has = (has.0, shown_before old mid on has.0 has.1, has.2)
+  compared_before (Err (Bad name verdict)) opened has = record { held = has.held; shows = shown_before old mid on has.held has.shows; rules = has.rules; asked = has.asked; first = has.first }
+  compared_before (Err Run) opened has = tt
+  compared_before (Err Full) opened has = has
+  compared_before (Err (Outside Fault)) opened has = tt
+  compared_before (Err (Outside (TooLarge n))) opened has = subst (HasFileOf n) on.tree has
+  compared_before (Err (Outside Memory)) opened has = tt
+
+  module _ (before now : List (Names × List ℕ)) where
+    it_before : (stopped : Option Stop) → RunsIt next mid before now stopped → RunsIt next old before now stopped
+    it_before stopped runs = record { held = runs.held; shows = shown_before old mid on runs.held runs.shows; rules = runs.rules; asked = runs.asked; ran = runs.ran }
+
+    pub runs_before : (stopped : Option Stop) → RunsToCompare next mid before now stopped → RunsToCompare next old before now stopped
+    runs_before None runs = it_before None runs
+    runs_before (Some (BadStore offset)) runs = runs
+    runs_before (Some (Sources fault)) runs = runs
+    runs_before (Some (Bad name verdict)) runs = it_before (Some (Bad name verdict)) runs
+    runs_before (Some Run) runs = it_before (Some Run) runs
+    runs_before (Some Full) runs = runs
+    runs_before (Some (Outside failed)) runs = ⊎_elim inl (λ it. inr (it_before (Some (Outside failed)) it)) runs
+
+-- where the store couldn't be opened, nothing was compared and nothing run
+module _ (next : Next) (old : World) where
+  pub unlisted_compared : (stop : Stop) → StopsOpening stop → IsUnlisted old stop → HasCompared next old (Err stop)
+  unlisted_compared (BadStore offset) stops why = why
+  unlisted_compared (Sources fault) stops why = absurd stops
+  unlisted_compared (Bad rule verdict) stops why = absurd stops
+  unlisted_compared Run stops why = absurd stops
+  unlisted_compared Full stops why = absurd stops
+  unlisted_compared (Outside Fault) stops why = tt
+  unlisted_compared (Outside (TooLarge n)) stops why = absurd stops
+  unlisted_compared (Outside Memory) stops why = tt
+
+  pub unlisted_runs : (ran : List (Names × List ℕ)) (stop : Stop) → StopsOpening stop → RunsToCompare next old ran ran (Some stop)
+  unlisted_runs ran (BadStore offset) stops = refl
+  unlisted_runs ran (Sources fault) stops = absurd stops
+  unlisted_runs ran (Bad rule verdict) stops = absurd stops
+  unlisted_runs ran Run stops = absurd stops
+  unlisted_runs ran Full stops = absurd stops
+  unlisted_runs ran (Outside failed) stops = inl refl

@@ -1,5 +1,5 @@
 -- What a crash may leave, one call of a site behind another.
-use Rattle.std.proofs.Common.{◌≡◌, ◌⊎◌, ℕ, ◌<◌, Bool, true, false, List, [], ◌++◌, Some, Ok, length, inl, inr, ⊎_elim, refl, sym, ap, subst, ◌∙◌, get_or, arith}
+use Rattle.std.proofs.Common.{◌≡◌, ◌⊎◌, ℕ, ◌<◌, Bool, true, false, List, [], Some, length, inl, inr, ⊎_elim, refl, sym, ap, subst, ◌∙◌, get_or, arith}
 use Rattle.std.specs.FinMap as finite
 use Rattle.std.specs.List.{slice_get}
 use Rattle.std.proofs.lemmas.Bool.{false≢true}
@@ -10,24 +10,23 @@ use Rattle.tup_path.specs.Order.{same_path}
 use Rattle.tup_path.specs.Tree.{Tree}
 use Rattle.tup_path.proofs.Same.{same_path-decides}
 use Rattle.tup_site.specs.Cause.{SameBut}
-use Rattle.tup_site.specs.Crash.{GoesOn, NoStep, FileStep, WriteStep, CutStep, PinsStore}
+use Rattle.tup_site.specs.Crash.{GoesOn, NoStep, FileStep, PinsStore}
 use Rattle.tup_site.specs.World.{World, TreeStays, StoreStays}
 use Rattle.tup_table.proofs.Going.{IsEarlier, as_step, nothing_then, then_on}
 use Rattle.tup_rule.specs.declared.rule.Rule.{Rule}
 use Rattle.tup_rule.specs.Rule.{among}
 use Rattle.tup_rule.proofs.Laws.{writes-at}
 use Rattle.tup_runner.specs.Next.{Next}
-use Rattle.tup_owned.specs.Ascending.{ascending}
-use Rattle.tup_owned.specs.Owned.{owned_of, spelling}
-use Rattle.tup_update.specs.Holding.{Holding, Lists, Shows, holding}
-use Rattle.tup_update.specs.Images.{FilesStep, ListedStep, SettledStep, MakesStep}
+use Rattle.tup_ledger.specs.Listing.{SettledStep}
+use Rattle.tup_update.specs.Holding.{Holding, HoldsOn, Lists, Shows, holding}
+use Rattle.tup_update.specs.Images.{FilesStep, ListedStep, MakesStep, OpensStep, UpdateStep}
 use Rattle.tup_update.specs.Outcome.{claimed, AllIsMade}
 use Rattle.tup_update.specs.Parts.{Changes, IsBuilt, IsProject, SameBeside, SameBesideOutputs}
 use Rattle.tup_update.specs.SeeingLaws.{rests}
-use Rattle.tup_update.specs.Sources.{outputs, sources, vanished, files_beside, build, AsksFor}
+use Rattle.tup_update.specs.Sources.{outputs, vanished, files_beside, build, AsksFor}
 use Rattle.tup_update.specs.declared.project.Project.{Project}
-use Rattle.tup_update.proofs.Held.{shows_one}
-use Rattle.tup_update.proofs.Preparing.{kept_beside, claimed_reads}
+use Rattle.tup_update.proofs.Held.{shows_one, held_before, shown_before}
+use Rattle.tup_update.proofs.Preparing.{kept_beside}
 use Rattle.tup_update.proofs.Trees.{places}
 
 -- ---- how trees agree
@@ -52,13 +51,6 @@ place_here files i file within here =
 
 pub store_reads : (project : Project) (was : World) → IsProject project was → Shows was (holding was project.owned)
 store_reads project was is = record { lists = is.owned; tree = refl }
-
--- what is claimed reads back
-pub claims_read : (project : Project) (was : World) (claiming : List Names) → IsProject project was → claiming ≡ ascending (project.owned ++ outputs project.rules)
-    → Lists (spelling claiming) (claimed project.rules (holding was project.owned))
-claims_read project was claiming is claims =
-    ap (λ (paths : List Names). owned_of (spelling paths)) claims
-    ∙ claimed_reads was.store project.owned (sources (holding was project.owned)) project.rules is.owned is.buildable
 
 module _ {S : Type 0} (moment : S → ℕ) (left_since : S → ℕ → World → Type 0) where
   -- nothing was done
@@ -144,14 +136,6 @@ module _ {S : Type 0} (moment : S → ℕ) (left_since : S → ℕ → World →
 
   -- ---- the store
 
-  -- the store is written, cut and synced
-  pub written_on : (old mid next new : S) (at n len : ℕ) → IsEarlier moment left_since mid → IsEarlier moment left_since next → GoesOn moment left_since old mid (WriteStep at n) →
-      GoesOn moment left_since mid next (CutStep len) → GoesOn moment left_since next new NoStep → GoesOn moment left_since old new TreeStays
-  written_on old mid next new at n len earlier later write cut sync =
-      then_quiet old next new TreeStays
-      (then_on moment left_since old mid next TreeStays earlier (λ u v w one two. two ∙ one) (as_step moment left_since old mid (WriteStep at n) TreeStays (λ v w left step. step.tree) write)
-      (as_step moment left_since mid next (CutStep len) TreeStays (λ v w left step. step.tree) cut)) sync
-
   -- what is durable in the store stays so where files are changed
   pub still_listed : (old new : S) (now later : World) (agree : Tree → Tree → Type 0) → IsEarlier moment left_since new → GoesOn moment left_since old new (FilesStep agree) → StoreStays now later →
       PinsStore (left_since old (moment old)) now → PinsStore (left_since new (moment new)) later
@@ -159,25 +143,25 @@ module _ {S : Type 0} (moment : S → ℕ) (left_since : S → ℕ → World →
       ⊎_elim (λ (before : left_since old (moment old) w). pinned w before ∙ sym same) (λ from. from.2.store ∙ pinned from.0 from.1 ∙ sym same)
       (on.since (moment old) w (omega arith) (earlier (moment old) (moment new) w on.later left))
 
-  -- the store is written, and no file was touched yet
-  pub written_only : (old new : S) (paths : List Names) (bytes : List ℕ) → GoesOn moment left_since old new TreeStays → GoesOn moment left_since old new (ListedStep (SameBeside paths) bytes)
-  written_only old new paths bytes on =
-      as_step moment left_since old new TreeStays (ListedStep (SameBeside paths) bytes)
-      (λ v w left same. (let step : ListedStep (SameBeside paths) bytes v w = record { files = λ path outside. ap (λ (t : Tree). finite.get t path) same; listed = inr same } in step)) on
+  -- a commit is made, and no file was touched yet
+  pub written_only : (old new : S) (vanishing paths : List Names) → GoesOn moment left_since old new TreeStays → GoesOn moment left_since old new (ListedStep (SameBeside vanishing) paths)
+  written_only old new vanishing paths on =
+      as_step moment left_since old new TreeStays (ListedStep (SameBeside vanishing) paths)
+      (λ v w left same. (let step : ListedStep (SameBeside vanishing) paths v w = record { files = λ path outside. ap (λ (t : Tree). finite.get t path) same; listed = inr same } in step)) on
 
-  -- the store is written durably, and then files are removed
-  pub prepared : (old mid new : S) (paths slice : List Names) (now : World) (bytes : List ℕ) → slice ≡ paths → IsEarlier moment left_since mid → GoesOn moment left_since old mid TreeStays →
-      PinsStore (left_since mid (moment mid)) now → now.store ≡ bytes → GoesOn moment left_since mid new (FilesStep (SameBeside slice)) → GoesOn moment left_since old new (ListedStep (SameBeside paths) bytes)
-  prepared old mid new paths slice now bytes is earlier written pinned stored removed =
-      joined_on old mid new TreeStays last (ListedStep (SameBeside paths) bytes) earlier
-      (λ v w same. (let step : ListedStep (SameBeside paths) bytes v w = record { files = λ path outside. ap (λ (t : Tree). finite.get t path) same; listed = inr same } in step))
-      (λ v w step. (let now : ListedStep (SameBeside paths) bytes v w = record { files = step.0; listed = inl step.1 } in now))
-      (λ u v w same step. (let now : ListedStep (SameBeside paths) bytes u w = record { files = λ path outside. step.0 path outside ∙ ap (λ (t : Tree). finite.get t path) same; listed = inl step.1 } in now))
+  -- a commit is made durably, and then files are removed
+  pub prepared : (old mid new : S) (vanishing slice : List Names) (now : World) (paths : List Names) → slice ≡ vanishing → IsEarlier moment left_since mid → GoesOn moment left_since old mid TreeStays →
+      PinsStore (left_since mid (moment mid)) now → Lists now.store paths → GoesOn moment left_since mid new (FilesStep (SameBeside slice)) → GoesOn moment left_since old new (ListedStep (SameBeside vanishing) paths)
+  prepared old mid new vanishing slice now paths is earlier written pinned stored removed =
+      joined_on old mid new TreeStays last (ListedStep (SameBeside vanishing) paths) earlier
+      (λ v w same. (let step : ListedStep (SameBeside vanishing) paths v w = record { files = λ path outside. ap (λ (t : Tree). finite.get t path) same; listed = inr same } in step))
+      (λ v w step. (let now : ListedStep (SameBeside vanishing) paths v w = record { files = step.0; listed = inl step.1 } in now))
+      (λ u v w same step. (let now : ListedStep (SameBeside vanishing) paths u w = record { files = λ path outside. step.0 path outside ∙ ap (λ (t : Tree). finite.get t path) same; listed = inl step.1 } in now))
       written (as_step moment left_since mid new (FilesStep (SameBeside slice)) last
-      (λ v w left step. (λ path outside. step.files path (ap (among path) is ∙ outside), step.store ∙ pinned v left ∙ stored)) removed)
+      (λ v w left step. (λ path outside. step.files path (ap (among path) is ∙ outside), subst (λ (b : List ℕ). Lists b paths) (sym (step.store ∙ pinned v left)) stored)) removed)
     where
       last : World → World → Type 0
-      last v w = SameBeside paths v.tree w.tree × (w.store ≡ bytes)
+      last v w = SameBeside vanishing v.tree w.tree × Lists w.store paths
 
   -- ---- a whole update: the store is written and vanished files are removed, rules are run, and the store is written again
   module _ (tells : Bool) (next : Next) (rules : List Rule) (was : World) (start : Holding) (read : Shows was start) (asked : AsksFor start rules) where
@@ -195,13 +179,13 @@ module _ {S : Type 0} (moment : S → ℕ) (left_since : S → ℕ → World →
       listed = λ held shows. subst (left_by v w) (shows_one was start held read shows) left;
     }
 
-    pub prepared_so : (old new : S) (vanishing : List Names) (bytes : List ℕ) → vanishing ≡ vanished rules start → Lists bytes (claimed rules start) →
-        GoesOn moment left_since old new (ListedStep (SameBeside vanishing) bytes) → GoesOn moment left_since old new makes
-    prepared_so old new vanishing bytes is reads on =
-        as_step moment left_since old new (ListedStep (SameBeside vanishing) bytes) makes
+    pub prepared_so : (old new : S) (vanishing claiming : List Names) → vanishing ≡ vanished rules start → claiming ≡ claimed rules start →
+        GoesOn moment left_since old new (ListedStep (SameBeside vanishing) claiming) → GoesOn moment left_since old new makes
+    prepared_so old new vanishing claiming is claims on =
+        as_step moment left_since old new (ListedStep (SameBeside vanishing) claiming) makes
         (λ v w left step.
         made_step v w (λ path unowned unmade. step.files path (ap (among path) is ∙ kept_beside start.owned (finite.keys start.tree) rules path unowned))
-        (⊎_elim (λ stored. inl (ap owned_of stored ∙ reads)) (λ same. inr (inl same)) step.listed)) on
+        (⊎_elim (λ stored. inl (subst (Lists w.store) claims stored)) (λ same. inr (inl same)) step.listed)) on
 
     pub ran_so : (old mid new : S) (now : World) → IsEarlier moment left_since mid → PinsStore (left_since mid (moment mid)) now → Lists now.store (claimed rules start) → GoesOn moment left_since old mid makes →
         GoesOn moment left_since mid new (FilesStep (SameBesideOutputs rules)) → GoesOn moment left_since old new makes
@@ -209,7 +193,7 @@ module _ {S : Type 0} (moment : S → ℕ) (left_since : S → ℕ → World →
         joined_on old mid new makes last makes earlier (λ v w step. step)
         (λ v w step. made_step v w (λ path unowned unmade. step.0 path unmade) (inl step.1))
         (λ u v w one two. made_step u w (λ path unowned unmade. two.0 path unmade ∙ one.files start read path unowned unmade) (inl two.1))
-        before (as_step moment left_since mid new (FilesStep (SameBesideOutputs rules)) last (λ v w left step. (step.files, ap owned_of (step.store ∙ pinned v left) ∙ reads)) ran)
+        before (as_step moment left_since mid new (FilesStep (SameBesideOutputs rules)) last (λ v w left step. (step.files, subst (λ (b : List ℕ). Lists b (claimed rules start)) (sym (step.store ∙ pinned v left)) reads)) ran)
       where
         last : World → World → Type 0
         last v w = SameBesideOutputs rules v.tree w.tree × Lists w.store (claimed rules start)
@@ -227,3 +211,39 @@ module _ {S : Type 0} (moment : S → ℕ) (left_since : S → ℕ → World →
         joined_on old mid new makes (SettledStep now) makes earlier (λ v w step. step)
         (λ v w step. made_step v w (λ path unowned unmade. ap (λ (t : Tree). finite.get t path) step.0) (inr (inr (made_in now w made step.1))))
         (λ u v w one step. made_step u w (λ path unowned unmade. ap (λ (t : Tree). finite.get t path) step.0 ∙ one.files start read path unowned unmade) (inr (inr (made_in now w made step.1)))) before on
+
+  -- ---- the store is opened first
+
+  -- what is made behind an opening is made of what was held before it
+  made_before : (tells : Bool) (next : Next) (rules : List Rule) (was mid v w : World) → HoldsOn was mid → MakesStep tells next rules mid v w → MakesStep tells next rules was v w
+  made_before tells next rules was mid v w on step = record {
+    asked = (step.asked.0, shown_before was mid on step.asked.0 step.asked.1, step.asked.2);
+    files = held_before was mid on (λ old. Changes old.owned rules v.tree w.tree) step.files;
+    listed = held_before was mid on (λ old. Lists w.store (claimed rules old) ⊎ TreeStays v w ⊎ AllIsMade tells next rules old w) step.listed;
+  }
+
+  opened_tree : (was v w : World) → OpensStep was v w → TreeStays v w
+  opened_tree was v w step = ⊎_elim (λ same. same.tree) (λ none. none.1) step
+
+  -- and so of what a crash left before it
+  pub opened_so : (tells : Bool) (next : Next) (rules : List Rule) (old mid new : S) (was now : World) → IsEarlier moment left_since mid → HoldsOn was now → GoesOn moment left_since old mid (OpensStep was) →
+      GoesOn moment left_since mid new (MakesStep tells next rules now) → GoesOn moment left_since old new (UpdateStep tells next rules was)
+  opened_so tells next rules old mid new was now earlier on opened made =
+      joined_on old mid new (OpensStep was) (MakesStep tells next rules now) (UpdateStep tells next rules was) earlier (λ v w step. inl step) (λ v w step. inr (made_before tells next rules was now v w on step))
+      (λ u v w first step. inr (further u v w (opened_tree was u v first) (made_before tells next rules was now v w on step))) opened made
+    where
+      further : (u v w : World) → TreeStays u v → MakesStep tells next rules was v w → MakesStep tells next rules was u w
+      further u v w same step = record {
+        asked = step.asked;
+        files = subst (λ (t : Tree). (held : Holding) → Shows was held → Changes held.owned rules t w.tree) same step.files;
+        listed = λ held shows. ⊎_elim inl (λ rest. inr (⊎_elim (λ stays. inl (stays ∙ same)) inr rest)) (step.listed held shows);
+      }
+
+  pub as_opened : (tells : Bool) (next : Next) (rules : List Rule) (old new : S) (was : World) → GoesOn moment left_since old new (OpensStep was) → GoesOn moment left_since old new (UpdateStep tells next rules was)
+  as_opened tells next rules old new was on = as_step moment left_since old new (OpensStep was) (UpdateStep tells next rules was) (λ v w left step. inl step) on
+
+  -- where nothing more is added
+  pub opened_only : (tells : Bool) (next : Next) (rules : List Rule) (old mid new : S) (was : World) → GoesOn moment left_since old mid (OpensStep was) → GoesOn moment left_since mid new NoStep →
+      GoesOn moment left_since old new (UpdateStep tells next rules was)
+  opened_only tells next rules old mid new was opened quiet =
+      then_quiet old mid new (UpdateStep tells next rules was) (as_opened tells next rules old mid was opened) quiet

@@ -1,5 +1,5 @@
 -- What an update did and what it says of itself, by its reading of the sources and its making of the files.
-use Rattle.std.proofs.Common.{◌≡◌, ℕ, ◌++◌, [], Bool, true, false, List, Option, IsSome, Result, Ok, Err, refl, sym, ◌∙◌, ap, subst}
+use Rattle.std.proofs.Common.{◌≡◌, ◌++◌, [], Bool, true, false, List, Option, IsSome, refl, sym, ◌∙◌, ap, subst}
 use Rattle.std.specs.FinMap as finite
 use Rattle.std.proofs.lemmas.List.{append-nil}
 use Rattle.std.proofs.lemmas.Bool.{false≢true}
@@ -10,11 +10,9 @@ use Rattle.tup_update.specs.Holding.{Holding, holding}
 use Rattle.tup_rule.specs.declared.rule.Rule.{Rule}
 use Rattle.tup_rule.specs.Rule.{among, is_generated}
 use Rattle.tup_clean.specs.Buildable.{IsBuildable}
-use Rattle.tup_owned.specs.Ascending.{ascending}
 use Rattle.tup_update.specs.Log.{IsFront}
-use Rattle.tup_update.specs.Outcome.{claimed}
 use Rattle.tup_update.specs.Parts.{IsProject, Changes}
-use Rattle.tup_update.specs.Sources.{sources, files_beside, outputs, vanished, gone, left_over}
+use Rattle.tup_update.specs.Sources.{sources, vanished, gone, left_over}
 use Rattle.tup_update.specs.declared.project.Project.{Project}
 use Rattle.tup_update.proofs.Beside.{left_is}
 use Rattle.tup_update.proofs.Running.{made_at}

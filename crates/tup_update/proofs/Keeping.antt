@@ -1,11 +1,10 @@
 -- What an update promises, for each way in which it can come out.
-use Rattle.std.proofs.Common.{◌≡◌, ◌≢◌, ◌⊎◌, inl, inr, ℕ, Bool, IsTrue, if◌then◌else◌, ◌++◌, [], List, None, Some, IsSome, Result, Ok, Err, refl, sym, ◌∙◌, ap, subst}
+use Rattle.std.proofs.Common.{◌≡◌, ◌⊎◌, ⊎_elim, inl, inr, ℕ, Bool, IsTrue, if◌then◌else◌, ◌++◌, [], List, None, Some, IsSome, Result, Ok, Err, refl, sym, ◌∙◌, ap, subst}
 use Rattle.std.specs.Result.{result_err, IsErrAnd}
 use Rattle.std.specs.FinMap as finite
 use Rattle.tup_path.specs.Name.{Names}
 use Rattle.tup_path.specs.Tree.{Tree}
 use Rattle.tup_site.specs.World.{World, TreeStays}
-use Rattle.tup_site.specs.declared.fault.SiteFailed.{SiteFailed}
 use Rattle.tup_site.specs.declared.fault.SiteFailed.TheVariants.{Fault, TooLarge, Memory}
 use Rattle.tup_rule.specs.declared.rule.Rule.{Rule}
 use Rattle.tup_rule.specs.declared.rule.RuleName.{RuleName}
@@ -13,13 +12,13 @@ use Rattle.tup_access.specs.declared.verdict.Verdict.{Verdict}
 use Rattle.tup_runner.specs.Next.{Next}
 use Rattle.tup_clean.specs.Clean.{clean}
 use Rattle.tup_clean.specs.Taken.{Taken, takes, up_to_bad, verdicts_of}
-use Rattle.tup_owned.specs.Owned.{owned_of, spelling}
-use Rattle.tup_update.specs.Holding.{Holding, Lists, OfHeld, holding}
-use Rattle.tup_owned.specs.Ascending.{ascending}
+use Rattle.tup_update.specs.Holding.{Holding, HoldsOn, Lists, OfHeld, holding}
+use Rattle.tup_ledger.specs.Ascending.{ascending}
 use Rattle.tup_update.specs.Log.{IsFront, IsGrownByFront, IsPartOf, IsEmptyLog, IsUnused, LogFits, RulesFit, whole_log, with_read}
-use Rattle.tup_update.specs.Outcome.{Stays, Keeps, MadeBeforeBad, IsBehindBad, HasCause, HasCountedCause, IsBadRule, IsMade, IsListed, ClaimedListed, AllIsMade, IsLeft, NothingForgotten, SourcesStay, claimed}
+use Rattle.tup_update.specs.Outcome.{Stays, Keeps, MadeBeforeBad, IsBehindBad, HasCause, HasCountedCause, IsBadRule, IsMade, IsListed, ClaimedListed, AllIsMade, HasNoRoom, IsLeft, NothingForgotten, SourcesStay, claimed}
+use Rattle.tup_update.specs.Opened.{IsUnopened, StopsOpening}
 use Rattle.tup_update.specs.Outside.{HandsOn}
-use Rattle.tup_update.specs.Parts.{IsOfRules, IsRefusal, IsUnread, KnowsLimits, Changes, SameBeside, SameBesideOutputs, IsCleared, IsRunnable, HasFileOf, HasRun, AreNoted, ArePartNoted, IsBuilt, IsProject, HasMade, StopsAt}
+use Rattle.tup_update.specs.Parts.{IsLate, IsOfRules, IsRefusal, IsUnread, KnowsLimits, Changes, SameBeside, SameBesideOutputs, IsCleared, IsRunnable, HasFileOf, HasRun, AreNoted, ArePartNoted, IsBuilt, IsProject, HasMade, StopsAt}
 use Rattle.tup_update.specs.Sources.{IsAsked, sources, files_beside, ends, outputs, vanished}
 use Rattle.tup_update.specs.Stopped.{stop_of, stop_of_halt}
 use Rattle.tup_update.specs.Turns.{names_of, AreInTurn, AreBegun, TurnsFit}
@@ -27,16 +26,16 @@ use Rattle.tup_update.specs.declared.project.Project.{Project}
 use Rattle.tup_update.specs.declared.stop.Halt.{Halt}
 use Rattle.tup_update.specs.declared.stop.Halt.TheVariants.{Run as RunHalted, Outside as Halted}
 use Rattle.tup_update.specs.declared.stop.Stop.{Stop}
-use Rattle.tup_update.specs.declared.stop.Stop.TheVariants.{Bad, Outside}
+use Rattle.tup_update.specs.declared.stop.Stop.TheVariants.{BadStore, Sources as NoSources, Bad, Run, Full, Outside}
 use Rattle.tup_update.specs.declared.stop.Unread.{Unread}
-use Rattle.tup_update.specs.declared.stop.Unread.TheVariants.{Store, Sources, Outside as Unlucky}
+use Rattle.tup_update.specs.declared.stop.Unread.TheVariants.{Sources, Outside as Unlucky}
 use Rattle.tup_update.specs.declared.update.Log.{Log}
 use Rattle.tup_update.proofs.Beside.{left_is}
-use Rattle.tup_update.proofs.Held.{of_held}
+use Rattle.tup_update.proofs.Held.{of_held, holds_itself, shown_before}
 use Rattle.tup_update.proofs.Behind.{none_made}
 use Rattle.tup_update.proofs.Ending.{sources_are_kept, no_front, whole_front, grown_from_nothing}
 use Rattle.tup_update.proofs.Known.{claimed_known, beside_outputs, beside_ascending}
-use Rattle.tup_update.proofs.Preparing.{same_sources, changes, gone_unmade, listed_reads, runnable}
+use Rattle.tup_update.proofs.Preparing.{same_sources, changes, gone_unmade, runnable}
 use Rattle.tup_update.proofs.Turning.{noted_part}
 
 -- the stop that a result carries
@@ -50,27 +49,23 @@ err_back {A} {E} (Err given) stop is = let same : given ≡ stop = cc is in ap (
 
 -- why a project has no rules
 pub refusal_unread : (w : World) (paths : List Names) (unread : Unread) → Lists w.store paths → IsRefusal (holding w paths) unread → IsUnread w unread
-refusal_unread w paths (Store offset) lists refused = absurd refused
 refusal_unread w paths (Sources fault) lists refused = (holding w paths, record { lists = lists; tree = refl }, refused)
 refusal_unread w paths (Unlucky Fault) lists refused = tt
 refusal_unread w paths (Unlucky (TooLarge n)) lists refused = absurd (cc refused)
 refusal_unread w paths (Unlucky Memory) lists refused = tt
 
-pub unread_cause : (next : Next) (rules : List Rule) (old new : World) (unread : Unread) → new ≡ old → IsUnread old unread → HasCause next rules old new (Some (stop_of unread))
-unread_cause next rules old new (Store offset) same why = why
-unread_cause next rules old new (Sources fault) same why = why
-unread_cause next rules old new (Unlucky Fault) same why = tt
-unread_cause next rules old new (Unlucky (TooLarge n)) same why = subst (λ (w : World). HasFileOf n w.tree) (sym same) why
-unread_cause next rules old new (Unlucky Memory) same why = tt
+pub unread_cause : (next : Next) (rules : List Rule) (old new : World) (unread : Unread) → HoldsOn old new → IsUnread new unread → HasCause next rules old new (Some (stop_of unread))
+unread_cause next rules old new (Sources fault) on why = (why.0, shown_before old new on why.0 why.1, why.2)
+unread_cause next rules old new (Unlucky Fault) on why = tt
+unread_cause next rules old new (Unlucky (TooLarge n)) on why = why
+unread_cause next rules old new (Unlucky Memory) on why = tt
 
 -- what is told of the rules tells of no failure of the site
 pub refusal_knows : (unread : Unread) → IsOfRules unread → KnowsLimits unread
-refusal_knows (Store offset) told = absurd told
 refusal_knows (Sources fault) told = told
 refusal_knows (Unlucky failed) told = tt
 
 pub refusal_counts : (before now : ℕ) (unread : Unread) → now ≡ before → IsOfRules unread → HasCountedCause before now (Some (stop_of unread))
-refusal_counts before now (Store offset) same told = absurd told
 refusal_counts before now (Sources fault) same told = (same, told)
 refusal_counts before now (Unlucky Fault) same told = absurd (cc told)
 refusal_counts before now (Unlucky (TooLarge n)) same told = absurd (cc told)
@@ -87,7 +82,6 @@ refusal_hands_on {T} before now (Err given) unread is same told = record {
 -- the counts of what stops before it begins
 pub unread_counts : {T : Type 0} (before now : ℕ) (result : Result T Unread) (unread : Unread) → result ≡ Err unread → HandsOn Unlucky before now result → KnowsLimits unread →
     HasCountedCause before now (Some (stop_of unread))
-unread_counts before now result (Store offset) is hands limits = hands.steady (λ e. cc (is, e))
 unread_counts before now result (Sources fault) is hands limits = (hands.steady (λ e. cc (is, e)), limits)
 unread_counts before now result (Unlucky Fault) is hands limits = hands.fault is
 unread_counts before now result (Unlucky (TooLarge n)) is hands limits = (hands.steady (λ e. cc (is, e)), hands.too_large n is)
@@ -95,9 +89,9 @@ unread_counts before now result (Unlucky Memory) is hands limits = hands.steady 
 
 -- ---- an update that changed nothing
 
-unchanged_sources : (old new : World) → new ≡ old → SourcesStay old new
+pub unchanged_sources : (old new : World) → TreeStays old new → SourcesStay old new
 unchanged_sources old new same held shows path there =
-    ap (λ (w : World). finite.get w.tree path) same ∙ ap (λ (t : Tree). finite.get t path) (sym shows.tree) ∙ sym (left_is held.owned held.tree path there).1
+    ap (λ (t : Tree). finite.get t path) same ∙ ap (λ (t : Tree). finite.get t path) (sym shows.tree) ∙ sym (left_is held.owned held.tree path there).1
 
 -- where nothing was run nothing was run out of turn
 pub no_turns : (rules : List Rule) (ran : List RuleName) (ended : List Taken) → ran ≡ [] → ended ≡ [] → AreInTurn rules ended × AreBegun rules ran ended
@@ -105,29 +99,26 @@ no_turns rules ran ended nothing none =
     subst (λ (l : List Taken). AreInTurn rules l × AreBegun rules ran l) (sym none) ((tt, refl), inl nothing)
 
 -- where the project couldn't be read
-pub unread_stays : (tells : Bool) (next : Next) (rules : List Rule) (old new : World) (log : Log) (unread : Unread) → new ≡ old → rules ≡ [] → IsEmptyLog log →
+pub unread_stays : (tells : Bool) (next : Next) (rules : List Rule) (old new : World) (log : Log) (unread : Unread) → HoldsOn old new → rules ≡ [] → IsEmptyLog log →
     Stays tells next rules old new log (Some (stop_of unread))
-unread_stays tells next rules old new log unread same none empty = record {
-  sources_stay = unchanged_sources old new same;
+unread_stays tells next rules old new log unread on none empty = record {
+  sources_stay = unchanged_sources old new on.tree;
   rules_fit = fit unread;
   nothing_forgotten = forgotten unread;
   turns_fit = turns unread;
 }
   where
     fit : (unread : Unread) → RulesFit old rules (Some (stop_of unread))
-    fit (Store offset) = none
     fit (Sources fault) = none
     fit (Unlucky failed) = inl none
 
     forgotten : (unread : Unread) → NothingForgotten tells next rules old new (Some (stop_of unread))
-    forgotten (Store offset) = same
-    forgotten (Sources fault) = same
-    forgotten (Unlucky Fault) = inl same
-    forgotten (Unlucky (TooLarge n)) = inl same
-    forgotten (Unlucky Memory) = inl same
+    forgotten (Sources fault) = on
+    forgotten (Unlucky Fault) = inl on
+    forgotten (Unlucky (TooLarge n)) = inl on
+    forgotten (Unlucky Memory) = inl on
 
     turns : (unread : Unread) → TurnsFit rules log.ran log.ended (Some (stop_of unread))
-    turns (Store offset) = (empty.2, empty.3)
     turns (Sources fault) = (empty.2, empty.3)
     turns (Unlucky failed) = no_turns rules log.ran log.ended empty.2 empty.3
 
@@ -141,35 +132,113 @@ unread_keeps next rules old new log unread why empty = record {
 }
   where
     before : (unread : Unread) → MadeBeforeBad next rules old new (Some (stop_of unread))
-    before (Store offset) = tt
     before (Sources fault) = tt
     before (Unlucky failed) = tt
 
     logged : (unread : Unread) → LogFits next rules old log (Some (stop_of unread))
-    logged (Store offset) = empty
     logged (Sources fault) = empty
     logged (Unlucky failed) = inl empty
 
+-- where the store couldn't be opened
+unopened_tree : (old new : World) (stop : Stop) → StopsOpening stop → IsUnopened old new stop → TreeStays old new
+unopened_tree old new (BadStore offset) stops why = why.1.tree
+unopened_tree old new (NoSources fault) stops why = absurd stops
+unopened_tree old new (Bad rule verdict) stops why = absurd stops
+unopened_tree old new Run stops why = absurd stops
+unopened_tree old new Full stops why = absurd stops
+unopened_tree old new (Outside (TooLarge n)) stops why = absurd stops
+unopened_tree old new (Outside Fault) stops why = ⊎_elim (λ on. on.tree) (λ none. none.1) why
+unopened_tree old new (Outside Memory) stops why = ⊎_elim (λ on. on.tree) (λ none. none.1) why
+
+pub unopened_stays : (tells : Bool) (next : Next) (rules : List Rule) (old new : World) (log : Log) (stop : Stop) → StopsOpening stop → IsUnopened old new stop → rules ≡ [] → IsEmptyLog log →
+    Stays tells next rules old new log (Some stop)
+unopened_stays tells next rules old new log stop stops why none empty = record {
+  sources_stay = unchanged_sources old new (unopened_tree old new stop stops why);
+  rules_fit = fit stop stops;
+  nothing_forgotten = forgotten stop stops why;
+  turns_fit = turns stop stops;
+}
+  where
+    fit : (stop : Stop) → StopsOpening stop → RulesFit old rules (Some stop)
+    fit (BadStore offset) stops = none
+    fit (NoSources fault) stops = absurd stops
+    fit (Bad rule verdict) stops = absurd stops
+    fit Run stops = absurd stops
+    fit Full stops = absurd stops
+    fit (Outside failed) stops = inl none
+
+    forgotten : (stop : Stop) → StopsOpening stop → IsUnopened old new stop → NothingForgotten tells next rules old new (Some stop)
+    forgotten (BadStore offset) stops why = why.1
+    forgotten (NoSources fault) stops why = absurd stops
+    forgotten (Bad rule verdict) stops why = absurd stops
+    forgotten Run stops why = absurd stops
+    forgotten Full stops why = absurd stops
+    forgotten (Outside (TooLarge n)) stops why = absurd stops
+    forgotten (Outside Fault) stops why = ⊎_elim inl (λ unmade. inr (inl unmade)) why
+    forgotten (Outside Memory) stops why = ⊎_elim inl (λ unmade. inr (inl unmade)) why
+
+    turns : (stop : Stop) → StopsOpening stop → TurnsFit rules log.ran log.ended (Some stop)
+    turns (BadStore offset) stops = (empty.2, empty.3)
+    turns (NoSources fault) stops = absurd stops
+    turns (Bad rule verdict) stops = absurd stops
+    turns Run stops = absurd stops
+    turns Full stops = absurd stops
+    turns (Outside failed) stops = no_turns rules log.ran log.ended empty.2 empty.3
+
+pub unopened_keeps : (next : Next) (rules : List Rule) (old new : World) (log : Log) (stop : Stop) → StopsOpening stop → IsUnopened old new stop → IsEmptyLog log → Keeps next rules old new log (Some stop)
+unopened_keeps next rules old new log stop stops why empty = record {
+  exactly_the_files = tt;
+  made_before_bad = before stop stops;
+  cause = caused stop stops why;
+  log_fits = logged stop stops;
+}
+  where
+    before : (stop : Stop) → StopsOpening stop → MadeBeforeBad next rules old new (Some stop)
+    before (BadStore offset) stops = tt
+    before (NoSources fault) stops = absurd stops
+    before (Bad rule verdict) stops = absurd stops
+    before Run stops = absurd stops
+    before Full stops = absurd stops
+    before (Outside failed) stops = tt
+
+    caused : (stop : Stop) → StopsOpening stop → IsUnopened old new stop → HasCause next rules old new (Some stop)
+    caused (BadStore offset) stops why = why.0
+    caused (NoSources fault) stops why = absurd stops
+    caused (Bad rule verdict) stops why = absurd stops
+    caused Run stops why = absurd stops
+    caused Full stops why = absurd stops
+    caused (Outside Fault) stops why = tt
+    caused (Outside (TooLarge n)) stops why = absurd stops
+    caused (Outside Memory) stops why = tt
+
+    logged : (stop : Stop) → StopsOpening stop → LogFits next rules old log (Some stop)
+    logged (BadStore offset) stops = empty
+    logged (NoSources fault) stops = absurd stops
+    logged (Bad rule verdict) stops = absurd stops
+    logged Run stops = absurd stops
+    logged Full stops = absurd stops
+    logged (Outside failed) stops = inl empty
+
 -- ---- an update that made files, to its end or not
 
--- no file was too large
-abbrev pub IsSmallFailure : SiteFailed → Type 0
-IsSmallFailure failed = (n : ℕ) → failed ≢ TooLarge n
+-- what is left where the outside stops the making, or the store has no room
+left_forgets_nothing : (tells : Bool) (next : Next) (rules : List Rule) (old new : World) (stop : Stop) → IsLate stop → IsLeft tells next rules old new → NothingForgotten tells next rules old new (Some stop)
+left_forgets_nothing tells next rules old new (BadStore offset) late left = absurd late
+left_forgets_nothing tells next rules old new (NoSources fault) late left = absurd late
+left_forgets_nothing tells next rules old new (Bad rule verdict) late left = absurd late
+left_forgets_nothing tells next rules old new Run late left = absurd late
+left_forgets_nothing tells next rules old new Full late left = left
+left_forgets_nothing tells next rules old new (Outside Fault) late left = inr (inr left)
+left_forgets_nothing tells next rules old new (Outside (TooLarge n)) late left = absurd late
+left_forgets_nothing tells next rules old new (Outside Memory) late left = inr (inr left)
 
-pub small_failure : {A : Type 0} (called : Result A SiteFailed) (failed : SiteFailed) → called ≡ Err failed → ((n : ℕ) → called ≢ Err (TooLarge n)) → IsSmallFailure failed
-small_failure {A} called failed is never n e = never n (is ∙ ap (λ (f : SiteFailed). Err f) e)
-
--- what is left where the outside stops the making
-left_forgets_nothing : (tells : Bool) (next : Next) (rules : List Rule) (old new : World) (failed : SiteFailed) → IsSmallFailure failed → IsLeft tells next rules old new →
-    NothingForgotten tells next rules old new (Some (Outside failed))
-left_forgets_nothing tells next rules old new Fault small left = inr left
-left_forgets_nothing tells next rules old new (TooLarge n) small left = absurd (small n refl)
-left_forgets_nothing tells next rules old new Memory small left = inr left
-
-small_cause : (next : Next) (rules : List Rule) (old new : World) (failed : SiteFailed) → IsSmallFailure failed → HasCause next rules old new (Some (Outside failed))
-small_cause next rules old new Fault small = tt
-small_cause next rules old new (TooLarge n) small = absurd (small n refl)
-small_cause next rules old new Memory small = tt
+late_turns : (rules : List Rule) (ran : List RuleName) (ended : List Taken) (stop : Stop) → IsLate stop → AreInTurn rules ended × AreBegun rules ran ended → TurnsFit rules ran ended (Some stop)
+late_turns rules ran ended (BadStore offset) late turns = absurd late
+late_turns rules ran ended (NoSources fault) late turns = absurd late
+late_turns rules ran ended (Bad rule verdict) late turns = absurd late
+late_turns rules ran ended Run late turns = absurd late
+late_turns rules ran ended Full late turns = turns
+late_turns rules ran ended (Outside failed) late turns = turns
 
 large_cause : (next : Next) (rules : List Rule) (old new : World) (halt : Halt) → ((n : ℕ) → halt ≡ Halted (TooLarge n) → HasFileOf n new.tree) → HasCause next rules old new (Some (stop_of_halt halt))
 large_cause next rules old new RunHalted large = tt
@@ -196,9 +265,56 @@ module _ (project : Project) (old : World) (is : IsProject project old) where
   asks : IsAsked old project.rules
   asks = (held, record { lists = is.owned; tree = refl }, is.asked)
 
+  late_fit : (stop : Stop) → IsLate stop → RulesFit old project.rules (Some stop)
+  late_fit (BadStore offset) late = absurd late
+  late_fit (NoSources fault) late = absurd late
+  late_fit (Bad rule verdict) late = absurd late
+  late_fit Run late = absurd late
+  late_fit Full late = asks
+  late_fit (Outside failed) late = inr asks
+
   rules_fit : (halt : Halt) → RulesFit old project.rules (Some (stop_of_halt halt))
   rules_fit RunHalted = asks
   rules_fit (Halted failed) = inr asks
+
+  -- what is told of a part
+  told_part : (next : Next) (log : Log) → IsFront log.removed (vanished project.rules held) → ArePartNoted project.rules (ends next project.rules held) log.ran log.ended →
+      OfHeld old (λ held. IsPartOf (with_read project.read log) (whole_log next project.rules held))
+  told_part next log removed noted = promised (λ held. IsPartOf (with_read project.read log) (whole_log next project.rules held)) part
+    where
+      part : IsPartOf (with_read project.read log) (whole_log next project.rules held)
+      part = record { read = whole_front project.read (whole_log next project.rules held).read is.read; removed = removed; ran = noted.0; ended = noted.1 }
+
+  -- the store couldn't be written, or files couldn't be removed
+  late_keeps : (next : Next) (new : World) (log : Log) (stop : Stop) → IsLate stop → (stop ≡ Full → HasNoRoom project.rules held new) →
+      IsFront log.removed (vanished project.rules held) → ArePartNoted project.rules (ends next project.rules held) log.ran log.ended → Keeps next project.rules old new (with_read project.read log) (Some stop)
+  late_keeps next new log stop late room removed noted = record { exactly_the_files = tt; made_before_bad = before stop late; cause = caused stop late room; log_fits = fits stop late }
+    where
+      before : (stop : Stop) → IsLate stop → MadeBeforeBad next project.rules old new (Some stop)
+      before (BadStore offset) late = absurd late
+      before (NoSources fault) late = absurd late
+      before (Bad rule verdict) late = absurd late
+      before Run late = absurd late
+      before Full late = tt
+      before (Outside failed) late = tt
+
+      caused : (stop : Stop) → IsLate stop → (stop ≡ Full → HasNoRoom project.rules held new) → HasCause next project.rules old new (Some stop)
+      caused (BadStore offset) late room = absurd late
+      caused (NoSources fault) late room = absurd late
+      caused (Bad rule verdict) late room = absurd late
+      caused Run late room = absurd late
+      caused Full late room = promised (λ held. HasNoRoom project.rules held new) (room refl)
+      caused (Outside Fault) late room = tt
+      caused (Outside (TooLarge n)) late room = absurd late
+      caused (Outside Memory) late room = tt
+
+      fits : (stop : Stop) → IsLate stop → LogFits next project.rules old (with_read project.read log) (Some stop)
+      fits (BadStore offset) late = absurd late
+      fits (NoSources fault) late = absurd late
+      fits (Bad rule verdict) late = absurd late
+      fits Run late = absurd late
+      fits Full late = told_part next log removed noted
+      fits (Outside failed) late = inr (asks, told_part next log removed noted)
 
   -- the making was stopped under way
   halted_keeps : (next : Next) (new : World) (log : Log) (halt : Halt) → HasCause next project.rules old new (Some (stop_of_halt halt)) →
@@ -210,11 +326,8 @@ module _ (project : Project) (old : World) (is : IsProject project old) where
       before RunHalted = tt
       before (Halted failed) = tt
 
-      part : IsPartOf (with_read project.read log) (whole_log next project.rules held)
-      part = record { read = whole_front project.read (whole_log next project.rules held).read is.read; removed = removed; ran = noted.0; ended = noted.1 }
-
       told : OfHeld old (λ held. IsPartOf (with_read project.read log) (whole_log next project.rules held))
-      told = promised (λ held. IsPartOf (with_read project.read log) (whole_log next project.rules held)) part
+      told = told_part next log removed noted
 
       fits : (halt : Halt) → LogFits next project.rules old (with_read project.read log) (Some (stop_of_halt halt))
       fits RunHalted = told
@@ -229,7 +342,7 @@ module _ (project : Project) (old : World) (is : IsProject project old) where
   unplanned_stays tells next log unused = record {
     sources_stay = unchanged_sources old old refl;
     rules_fit = inr asks;
-    nothing_forgotten = inl refl;
+    nothing_forgotten = inl (holds_itself old);
     turns_fit = no_turns project.rules log.ran log.ended unused.1 unused.2;
   }
 
@@ -275,38 +388,38 @@ module _ (project : Project) (old mid : World) (vanishing claiming : List Names)
       (sources_are_kept held_then project.rules now.tree way.is.buildable (subst (λ (t : Tree). Changes project.owned project.rules old.tree t) (sym same) (changed ran behind)))
 
   -- all that was claimed is listed
-  listed : (now : World) → SameBesideOutputs project.rules mid.tree now.tree → now.store ≡ spelling claiming → ClaimedListed project.rules old now
+  listed : (now : World) → SameBesideOutputs project.rules mid.tree now.tree → Lists now.store claiming → ClaimedListed project.rules old now
   listed now behind stored =
       kept_then (λ held. IsListed (claimed project.rules held) held now)
-      (claimed_known old.store held_then now project.rules way.is.owned way.is.buildable (changed now behind) (stored ∙ ap spelling way.claims))
+      (claimed_known held_then now project.rules way.is.buildable (changed now behind) (subst (Lists now.store) way.claims stored))
 
   -- ---- the outside stopped what comes before the rules
 
-  pub unprepared_stays : (tells : Bool) (next : Next) (log : Log) (failed : SiteFailed) → (mid.store ≡ spelling claiming) ⊎ TreeStays old mid → IsSmallFailure failed →
-      log.ran ≡ [] → log.ended ≡ [] → Stays tells next project.rules old mid (with_read project.read log) (Some (Outside failed))
-  unprepared_stays tells next log failed left small nothing none = record {
+  pub unprepared_stays : (tells : Bool) (next : Next) (log : Log) (stop : Stop) → Lists mid.store claiming ⊎ TreeStays old mid → IsLate stop →
+      log.ran ≡ [] → log.ended ≡ [] → Stays tells next project.rules old mid (with_read project.read log) (Some stop)
+  unprepared_stays tells next log stop left late nothing none = record {
     sources_stay = stay mid mid (λ path unmade. refl) refl;
-    rules_fit = inr asks_then;
-    nothing_forgotten = left_forgets_nothing tells next project.rules old mid failed small (asks_then, by left);
-    turns_fit = no_turns project.rules log.ran log.ended nothing none;
+    rules_fit = late_fit project old way.is stop late;
+    nothing_forgotten = left_forgets_nothing tells next project.rules old mid stop late (asks_then, by left);
+    turns_fit = late_turns project.rules log.ran log.ended stop late (no_turns project.rules log.ran log.ended nothing none);
   }
     where
-      by : (mid.store ≡ spelling claiming) ⊎ TreeStays old mid → ClaimedListed project.rules old mid ⊎ (mid.tree ≡ old.tree) ⊎ OfHeld old (λ held. AllIsMade tells next project.rules held mid)
+      by : Lists mid.store claiming ⊎ TreeStays old mid → ClaimedListed project.rules old mid ⊎ (mid.tree ≡ old.tree) ⊎ OfHeld old (λ held. AllIsMade tells next project.rules held mid)
       by (inl stored) = inl (listed mid (λ path unmade. refl) stored)
       by (inr same) = inr (inl same)
 
   removed_whole : (before removed : List Names) → before ≡ [] → removed ≡ before ++ vanishing → removed ≡ vanished project.rules held_then
   removed_whole before removed none grown = grown ∙ ap (λ (l : List Names). l ++ vanishing) none ∙ way.vanishes
 
-  pub unprepared_keeps : (next : Next) (before : List Names) (log : Log) (failed : SiteFailed) → IsSmallFailure failed → before ≡ [] → IsGrownByFront before log.removed vanishing →
-      log.ran ≡ [] → log.ended ≡ [] → Keeps next project.rules old mid (with_read project.read log) (Some (Outside failed))
-  unprepared_keeps next before log failed small empty removed nothing none =
-      halted_keeps project old way.is next mid log (Halted failed) (small_cause next project.rules old mid failed small)
+  pub unprepared_keeps : (next : Next) (before : List Names) (log : Log) (stop : Stop) → IsLate stop → (stop ≡ Full → HasNoRoom project.rules held_then mid) → before ≡ [] → IsGrownByFront before log.removed vanishing →
+      log.ran ≡ [] → log.ended ≡ [] → Keeps next project.rules old mid (with_read project.read log) (Some stop)
+  unprepared_keeps next before log stop late room empty removed nothing none =
+      late_keeps project old way.is next mid log stop late room
       (subst (IsFront log.removed) way.vanishes (grown_from_nothing before log.removed vanishing empty removed)) (none_noted project old way.is next log.ran log.ended nothing none)
 
   -- ---- the rules were halted
 
-  pub unrun_stays : (tells : Bool) (next : Next) (now : World) (log : Log) (halt : Halt) → SameBesideOutputs project.rules mid.tree now.tree → now.store ≡ spelling claiming →
+  pub unrun_stays : (tells : Bool) (next : Next) (now : World) (log : Log) (halt : Halt) → SameBesideOutputs project.rules mid.tree now.tree → Lists now.store claiming →
       TurnsFit project.rules log.ran log.ended (Some (stop_of_halt halt)) → Stays tells next project.rules old now (with_read project.read log) (Some (stop_of_halt halt))
   unrun_stays tells next now log halt behind stored turns = record {
     sources_stay = stay now now behind refl;
@@ -317,9 +430,9 @@ module _ (project : Project) (old mid : World) (vanishing claiming : List Names)
     where
       by : (halt : Halt) → NothingForgotten tells next project.rules old now (Some (stop_of_halt halt))
       by RunHalted = listed now behind stored
-      by (Halted Fault) = inr (asks_then, inl (listed now behind stored))
+      by (Halted Fault) = inr (inr (asks_then, inl (listed now behind stored)))
       by (Halted (TooLarge n)) = inr (asks_then, listed now behind stored)
-      by (Halted Memory) = inr (asks_then, inl (listed now behind stored))
+      by (Halted Memory) = inr (inr (asks_then, inl (listed now behind stored)))
 
   pub unrun_keeps : (next : Next) (now : World) (before : List Names) (log : Log) (halt : Halt) → ((n : ℕ) → halt ≡ Halted (TooLarge n) → HasFileOf n now.tree) → before ≡ [] →
       log.removed ≡ before ++ vanishing → ArePartNoted project.rules (up_to_bad (takes next project.rules (files_beside project.owned mid.tree))) log.ran log.ended →
@@ -341,7 +454,7 @@ module _ (project : Project) (old mid : World) (vanishing claiming : List Names)
       kept_then (λ held. with_read project.read log ≡ whole_log next project.rules held) (λ i. record { read = way.is.read i; removed = gone i; ran = names i; ended = all i })
 
   -- a rule was bad
-  pub bad_stays : (tells : Bool) (next : Next) (now : World) (log : Log) (name : RuleName) (verdict : Verdict) → SameBesideOutputs project.rules mid.tree now.tree → now.store ≡ spelling claiming →
+  pub bad_stays : (tells : Bool) (next : Next) (now : World) (log : Log) (name : RuleName) (verdict : Verdict) → SameBesideOutputs project.rules mid.tree now.tree → Lists now.store claiming →
       TurnsFit project.rules log.ran log.ended (Some (Bad name verdict)) → Stays tells next project.rules old now (with_read project.read log) (Some (Bad name verdict))
   bad_stays tells next now log name verdict behind stored turns = record {
     sources_stay = stay now now behind refl;
@@ -376,7 +489,7 @@ module _ (project : Project) (old mid : World) (vanishing claiming : List Names)
 
   -- a rule was bad, and the site settled its files, or failed to
   pub stopped_stays : (tells : Bool) (next : Next) (now : World) (log : Log) (name : RuleName) (verdict : Verdict) (stop : Stop) → StopsAt name verdict stop → SameBesideOutputs project.rules mid.tree now.tree →
-      now.store ≡ spelling claiming → TurnsFit project.rules log.ran log.ended (Some (Bad name verdict)) → Stays tells next project.rules old now (with_read project.read log) (Some stop)
+      Lists now.store claiming → TurnsFit project.rules log.ran log.ended (Some (Bad name verdict)) → Stays tells next project.rules old now (with_read project.read log) (Some stop)
   stopped_stays tells next now log name verdict stop (inl is) behind stored turns =
       subst (λ (s : Stop). Stays tells next project.rules old now (with_read project.read log) (Some s)) (sym is) (bad_stays tells next now log name verdict behind stored turns)
   stopped_stays tells next now log name verdict stop (inr (failed, is, small)) behind stored turns =
@@ -406,38 +519,34 @@ module _ (project : Project) (old mid : World) (vanishing claiming : List Names)
   }
 
   -- and the outside stopped what comes behind the rules
-  pub unfinished_stays : (tells : Bool) (next : Next) (ran new : World) (log : Log) (failed : SiteFailed) → IsCleared vanishing old.tree mid.tree → SameBesideOutputs project.rules mid.tree ran.tree → TreeStays ran new →
-      IsSmallFailure failed → (IsTrue tells → HasRun next project.rules (files_beside project.owned mid.tree) ran.tree None) → TurnsFit project.rules log.ran log.ended None →
-      Stays tells next project.rules old new (with_read project.read log) (Some (Outside failed))
-  unfinished_stays tells next ran new log failed cleared behind same small built turns = record {
+  pub unfinished_stays : (tells : Bool) (next : Next) (ran new : World) (log : Log) (stop : Stop) → IsCleared vanishing old.tree mid.tree → SameBesideOutputs project.rules mid.tree ran.tree → TreeStays ran new →
+      IsLate stop → (IsTrue tells → HasRun next project.rules (files_beside project.owned mid.tree) ran.tree None) → TurnsFit project.rules log.ran log.ended None →
+      Stays tells next project.rules old new (with_read project.read log) (Some stop)
+  unfinished_stays tells next ran new log stop cleared behind same late built turns = record {
     sources_stay = stay ran new behind same;
-    rules_fit = inr asks_then;
-    nothing_forgotten = left_forgets_nothing tells next project.rules old new failed small (
+    rules_fit = late_fit project old way.is stop late;
+    nothing_forgotten = left_forgets_nothing tells next project.rules old new stop late (
       asks_then,
       inr (inr (kept_then (λ held. AllIsMade tells next project.rules held new) (all_made tells next ran new cleared behind same built))),
     );
-    turns_fit = (turns.0, inl turns.1);
+    turns_fit = late_turns project.rules log.ran log.ended stop late (turns.0, inl turns.1);
   }
 
-  pub unfinished_keeps : (next : Next) (new : World) (before : List Names) (log : Log) (failed : SiteFailed) → IsSmallFailure failed → before ≡ [] → log.removed ≡ before ++ vanishing →
+  pub unfinished_keeps : (next : Next) (new : World) (before : List Names) (log : Log) (stop : Stop) → IsLate stop → (stop ≡ Full → HasNoRoom project.rules held_then new) → before ≡ [] → log.removed ≡ before ++ vanishing →
       AreNoted project.rules (up_to_bad (takes next project.rules (files_beside project.owned mid.tree))) log.ran log.ended →
-      Keeps next project.rules old new (with_read project.read log) (Some (Outside failed))
-  unfinished_keeps next new before log failed small none removed noted =
-      halted_keeps project old way.is next new log (Halted failed) (small_cause next project.rules old new failed small)
+      Keeps next project.rules old new (with_read project.read log) (Some stop)
+  unfinished_keeps next new before log stop late room none removed noted =
+      late_keeps project old way.is next new log stop late room
       (whole_front log.removed (vanished project.rules held_then) (removed_whole before log.removed none removed)) (
         whole_front log.ran (names_of project.rules (ends next project.rules held_then)) (noted.0 ∙ ap (names_of project.rules) (same_ends next)),
         whole_front log.ended (ends next project.rules held_then) (noted.1 ∙ same_ends next),
       )
 
   -- all was made and the outputs are owned
-  made_reads : (new : World) (listing : List Names) → new.store ≡ spelling listing → listing ≡ ascending (outputs project.rules) → Lists new.store (ascending (outputs project.rules))
-  made_reads new listing stored lists = ap owned_of (stored ∙ ap spelling lists) ∙ listed_reads (sources held_then) project.rules way.is.buildable
-
-  pub finished_stays : (tells : Bool) (next : Next) (ran new : World) (listing : List Names) (log : Log) → IsCleared vanishing old.tree mid.tree → SameBesideOutputs project.rules mid.tree ran.tree → TreeStays ran new →
-      new.store ≡ spelling listing → listing ≡ ascending (outputs project.rules) → TurnsFit project.rules log.ran log.ended None →
+  pub finished_stays : (tells : Bool) (next : Next) (ran new : World) (log : Log) → IsCleared vanishing old.tree mid.tree → SameBesideOutputs project.rules mid.tree ran.tree → TreeStays ran new →
+      Lists new.store (ascending (outputs project.rules)) → TurnsFit project.rules log.ran log.ended None →
       Stays tells next project.rules old new (with_read project.read log) None
-  finished_stays tells next ran new listing log cleared behind same stored lists turns =
-      let reads = made_reads new listing stored lists in
+  finished_stays tells next ran new log cleared behind same reads turns =
       record {
         sources_stay = stay ran new behind same;
         rules_fit = asks_then;
@@ -450,13 +559,13 @@ module _ (project : Project) (old mid : World) (vanishing claiming : List Names)
         turns_fit = turns;
       }
 
-  pub finished_keeps : (next : Next) (ran new : World) (before listing : List Names) (log : Log) → HasRun next project.rules (files_beside project.owned mid.tree) ran.tree None → TreeStays ran new →
-      new.store ≡ spelling listing → listing ≡ ascending (outputs project.rules) → before ≡ [] → log.removed ≡ before ++ vanishing →
+  pub finished_keeps : (next : Next) (ran new : World) (before : List Names) (log : Log) → HasRun next project.rules (files_beside project.owned mid.tree) ran.tree None → TreeStays ran new →
+      Lists new.store (ascending (outputs project.rules)) → before ≡ [] → log.removed ≡ before ++ vanishing →
       AreNoted project.rules (up_to_bad (takes next project.rules (files_beside project.owned mid.tree))) log.ran log.ended → Keeps next project.rules old new (with_read project.read log) None
-  finished_keeps next ran new before listing log built same stored lists none removed noted =
+  finished_keeps next ran new before log built same reads none removed noted =
       let made = is_built next ran new built same in
       record {
-        exactly_the_files = kept_then (λ held. IsMade next project.rules held new) (record { clean = made.clean; files = made.files; listed = made_reads new listing stored lists });
+        exactly_the_files = kept_then (λ held. IsMade next project.rules held new) (record { clean = made.clean; files = made.files; listed = reads });
         made_before_bad = tt;
         cause = tt;
         log_fits = told_whole next before log none removed noted;

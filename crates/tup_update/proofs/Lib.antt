@@ -12,7 +12,9 @@ pub mod Trees
 pub mod Known
 pub mod Settling
 pub mod Held
+pub mod Before
 pub mod Crashing
+pub mod Storing
 pub mod Behind
 pub mod Ending
 pub mod Keeping

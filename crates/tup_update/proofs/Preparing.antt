@@ -1,15 +1,8 @@
 -- A tree from which the files of vanished rules were taken: its sources are the same, and the rules can be run over it.
-use Rattle.std.proofs.lemmas.List.Elements.{All-weaker, All-contains, All-contains_itself, Contains-append_cases}
-use Rattle.std.proofs.Common.{◌≡◌, ◌≢◌, inl, inr, ℕ, [], ◌++◌, Ok, Contains, Bool, true, false, cond, if◌then◌else◌, not, ◌&&◌, filter, List, Option, None, IsSome, is_some, refl, sym, ◌∙◌, ap, subst}
+use Rattle.std.proofs.Common.{◌≡◌, Bool, true, false, cond, if◌then◌else◌, not, ◌&&◌, filter, List, Option, None, IsSome, is_some, refl, sym, ◌∙◌, ap, subst}
 use Rattle.std.specs.FinMap as finite
 use Rattle.std.proofs.lemmas.Bool.{false≢true}
-use Rattle.tup_path.specs.Name.{Names, Content, IsPath}
-use Rattle.tup_owned.specs.Owned.{owned_of, spelling}
-use Rattle.tup_owned.specs.Ascending.{ascending}
-use Rattle.tup_owned.specs.Members.{ascending-IsAscending, ascending_has_only}
-use Rattle.tup_owned.specs.Spelled.{reads_back, spelled}
-use Rattle.tup_clean.proofs.Among.{among-Contains}
-use Rattle.tup_update.proofs.Running.{made_at}
+use Rattle.tup_path.specs.Name.{Names, Content}
 use Rattle.tup_path.specs.Tree.{Tree}
 use Rattle.tup_path.proofs.Same.{same_tree}
 use Rattle.tup_rule.specs.declared.rule.Rule.{Rule}
@@ -85,31 +78,3 @@ runnable owned files rules old new keys buildable cleared same = record {
 -- what changes beside the vanished files and then beside the outputs, changes owned files and outputs alone
 pub changes : (owned files : List Names) (rules : List Rule) (old between new : Tree) → SameBeside (gone owned files rules) old between → SameBesideOutputs rules between new → Changes owned rules old new
 changes owned files rules old between new first second path unowned unmade = second path unmade ∙ first path (kept_beside owned files rules path unowned)
-
--- paths below the top read back, each once and in order
-pub paths_read : (paths : List Names) → ((path : Names) → Contains paths path → IsPath path × (path ≢ [])) → owned_of (spelling (ascending paths)) ≡ Ok (ascending paths)
-paths_read paths proper = reads_back (ascending paths) (record {
-  each = All-weaker (Contains (ascending paths)) IsPath (λ path has. (proper path (ascending_has_only paths path has)).0) (ascending paths) (All-contains_itself (ascending paths));
-  files = All-weaker (Contains (ascending paths)) (λ path. path ≢ []) (λ path has. (proper path (ascending_has_only paths path has)).1) (ascending paths) (All-contains_itself (ascending paths));
-  up = ascending-IsAscending paths;
-})
-
--- as outputs are
-pub output_is_proper : (sources : Tree) (rules : List Rule) (path : Names) → IsBuildable sources rules → Contains (outputs rules) path → IsPath path × (path ≢ [])
-output_is_proper sources rules path buildable has =
-    let output = made_at rules path (sym (among_outputs rules path) ∙ among-Contains path (outputs rules) has) in
-    buildable.paths output.0 path output.1
-
--- so what is listed in the end reads back
-pub listed_reads : (sources : Tree) (rules : List Rule) → IsBuildable sources rules → owned_of (spelling (ascending (outputs rules))) ≡ Ok (ascending (outputs rules))
-listed_reads sources rules buildable = paths_read (outputs rules) (λ path has. output_is_proper sources rules path buildable has)
-
--- and what is claimed before
-pub claimed_reads : (store : List ℕ) (owned : List Names) (sources : Tree) (rules : List Rule) → owned_of store ≡ Ok owned → IsBuildable sources rules →
-    owned_of (spelling (ascending (owned ++ outputs rules))) ≡ Ok (ascending (owned ++ outputs rules))
-claimed_reads store owned sources rules owns buildable =
-    let mine = (spelled store owned owns).1 in
-    paths_read (owned ++ outputs rules) (λ path has. elim (Contains-append_cases owned (outputs rules) path has) [
-      | inl here ↦ (All-contains IsPath owned path mine.each here, All-contains (λ p. p ≢ []) owned path mine.files here)
-      | inr there ↦ output_is_proper sources rules path buildable there
-    ])

@@ -16,12 +16,11 @@ use Rattle.tup_runner.specs.Next.{Next}
 use Rattle.tup_clean.specs.Buildable.{IsBuildable}
 use Rattle.tup_clean.specs.Clean.{Build, is_good, succeeds}
 use Rattle.tup_clean.specs.Ran.{commands, RunsFront}
-use Rattle.tup_owned.specs.Owned.{owned_of}
-use Rattle.tup_update.specs.Holding.{Holding, Shows}
+use Rattle.tup_update.specs.Holding.{Holding, Shows, IsDamaged}
 use Rattle.tup_update.specs.declared.compare.Compared.{Compared}
 use Rattle.tup_update.specs.declared.compare.Compared.TheVariants.{Same, Differs}
 use Rattle.tup_update.specs.declared.stop.Stop.{Stop}
-use Rattle.tup_update.specs.declared.stop.Stop.TheVariants.{BadStore, Sources, Bad, Run, Outside}
+use Rattle.tup_update.specs.declared.stop.Stop.TheVariants.{BadStore, Sources, Bad, Run, Full, Outside}
 use Rattle.tup_update.specs.Parts.{HasFileOf}
 use Rattle.tup_update.specs.Sources.{AsksFor, IsRefused, build, sources}
 
@@ -66,9 +65,10 @@ pub record BuildsBadly (next : Next) (w : World) (name : RuleName) (verdict : Ve
 abbrev pub HasCompared : Next → World → Result Compared Stop → Type 0
 HasCompared next w (Ok compared) = BuildsAlike next w compared
 HasCompared next w (Err (Bad name verdict)) = BuildsBadly next w name verdict
-HasCompared next w (Err (BadStore offset)) = owned_of w.store ≡ Err offset
+HasCompared next w (Err (BadStore offset)) = IsDamaged w.store offset
 HasCompared next w (Err (Sources fault)) = IsRefused w fault
 HasCompared next w (Err Run) = ⊤
+HasCompared next w (Err Full) = ⊥
 HasCompared next w (Err (Outside (TooLarge n))) = HasFileOf n w.tree
 HasCompared next w (Err (Outside Fault)) = ⊤
 HasCompared next w (Err (Outside Memory)) = ⊤
@@ -110,6 +110,7 @@ RunsToCompare next w old new (Some (BadStore offset)) = new ≡ old
 RunsToCompare next w old new (Some (Sources fault)) = new ≡ old
 RunsToCompare next w old new (Some (Bad name verdict)) = RunsIt next w old new (Some (Bad name verdict))
 RunsToCompare next w old new (Some Run) = RunsIt next w old new (Some Run)
+RunsToCompare next w old new (Some Full) = ⊥
 RunsToCompare next w old new (Some (Outside failed)) = (new ≡ old) ⊎ RunsIt next w old new (Some (Outside failed))
 
 -- ---- the verdicts of a build

@@ -1,10 +1,11 @@
 -- What a crash may leave while the files of a project are made.
-use Rattle.std.specs.Prelude.{◌≡◌, ◌⊎◌, ℕ, Bool, List}
+use Rattle.std.specs.Prelude.{◌≡◌, ◌⊎◌, Bool, List, []}
+use Rattle.tup_path.specs.Name.{Names}
 use Rattle.tup_path.specs.Tree.{Tree}
 use Rattle.tup_site.specs.World.{World, TreeStays, StoreStays}
 use Rattle.tup_rule.specs.declared.rule.Rule.{Rule}
 use Rattle.tup_runner.specs.Next.{Next}
-use Rattle.tup_update.specs.Holding.{Lists, OfHeld}
+use Rattle.tup_update.specs.Holding.{HoldsOn, Lists, OfHeld}
 use Rattle.tup_update.specs.Outcome.{claimed, AllIsMade}
 use Rattle.tup_update.specs.Parts.{Changes}
 use Rattle.tup_update.specs.Sources.{IsAsked}
@@ -14,20 +15,23 @@ pub record FilesStep (agree : Tree → Tree → Type 0) (v w : World) : Type 0 w
   pub files : agree v.tree w.tree
   pub store : StoreStays v w
 
--- The same behind a writing of the store: the trees agree so, and the store holds these bytes unless the files are what they
--- were.
-pub record ListedStep (agree : Tree → Tree → Type 0) (bytes : List ℕ) (v w : World) : Type 0 where
+-- The same behind a commit: the trees agree so, and the store lists these paths unless the files are what they were.
+pub record ListedStep (agree : Tree → Tree → Type 0) (paths : List Names) (v w : World) : Type 0 where
   pub files : agree v.tree w.tree
-  pub listed : (w.store ≡ bytes) ⊎ TreeStays v w
+  pub listed : Lists w.store paths ⊎ TreeStays v w
 
--- what a writing of the store adds once the files are settled: they are what they were, and are what they are now
-abbrev pub SettledStep : World → World → World → Type 0
-SettledStep now v w = TreeStays v w × TreeStays now w
-
--- What an update adds to what a crash may leave, and only one that read the store and the sources adds anything: each file
--- that is neither owned nor an output of its rules is what it was. The store lists all that was claimed; a store that may list
--- anything is left only where no file was touched yet, or all were made.
+-- What an update that read the sources adds to what a crash may leave: each file that is neither owned nor an output of its
+-- rules is what it was. The store lists all that was claimed; another list is left only where no file was touched yet, or all
+-- were made.
 pub record MakesStep (tells : Bool) (next : Next) (rules : List Rule) (was v w : World) : Type 0 where
   pub asked : IsAsked was rules
   pub files : OfHeld was (λ old. Changes old.owned rules v.tree w.tree)
   pub listed : OfHeld was (λ old. Lists w.store (claimed rules old) ⊎ TreeStays v w ⊎ AllIsMade tells next rules old w)
+
+-- what the opening of the store adds: a world that holds the same, or where there was no store yet one with the same files
+abbrev pub OpensStep : World → World → World → Type 0
+OpensStep was v w = HoldsOn v w ⊎ ((was.store ≡ []) × TreeStays v w)
+
+-- what a whole update adds
+abbrev pub UpdateStep : Bool → Next → List Rule → World → World → World → Type 0
+UpdateStep tells next rules was v w = OpensStep was v w ⊎ MakesStep tells next rules was v w

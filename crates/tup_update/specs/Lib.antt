@@ -1,4 +1,5 @@
 pub mod Holding
+pub mod Opened
 pub mod Sources
 pub mod Turns
 pub mod Log

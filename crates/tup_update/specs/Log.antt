@@ -9,7 +9,7 @@ use Rattle.tup_update.specs.Sources.{IsAsked, ends, folders_read, vanished}
 use Rattle.tup_update.specs.Turns.{names_of}
 use Rattle.tup_update.specs.declared.update.Log.{Log}
 use Rattle.tup_update.specs.declared.stop.Stop.{Stop}
-use Rattle.tup_update.specs.declared.stop.Stop.TheVariants.{BadStore, Sources, Bad, Run, Outside}
+use Rattle.tup_update.specs.declared.stop.Stop.TheVariants.{BadStore, Sources, Bad, Run, Full, Outside}
 
 -- a list with which another begins
 abbrev pub IsFront : {A : Type 0} → List A → List A → Type 0
@@ -40,6 +40,7 @@ RulesFit old rules (Some (Bad name verdict)) = IsAsked old rules
 RulesFit old rules (Some (BadStore offset)) = rules ≡ []
 RulesFit old rules (Some (Sources fault)) = rules ≡ []
 RulesFit old rules (Some Run) = IsAsked old rules
+RulesFit old rules (Some Full) = IsAsked old rules
 RulesFit old rules (Some (Outside failed)) = (rules ≡ []) ⊎ IsAsked old rules
 
 -- a promise of an update and of the rules that it found
@@ -71,4 +72,5 @@ LogFits next rules old log (Some (Bad name verdict)) = OfHeld old (λ held. log 
 LogFits next rules old log (Some (BadStore offset)) = IsEmptyLog log
 LogFits next rules old log (Some (Sources fault)) = IsEmptyLog log
 LogFits next rules old log (Some Run) = OfHeld old (λ held. IsPartOf log (whole_log next rules held))
+LogFits next rules old log (Some Full) = OfHeld old (λ held. IsPartOf log (whole_log next rules held))
 LogFits next rules old log (Some (Outside failed)) = IsEmptyLog log ⊎ (IsAsked old rules × OfHeld old (λ held. IsPartOf log (whole_log next rules held)))

@@ -1,6 +1,6 @@
 -- What an update promises, each promise a word and a table: the site before, the site after, the rules that it found, and why
 -- it stopped before its end, if it did.
-use Rattle.std.specs.Prelude.{◌≡◌, ◌⊎◌, ◌++◌, ◌<◌, ⊤, ℕ, Bool, true, false, List, Option, None, Some, IsSome, IsTrue, Ok, Err}
+use Rattle.std.specs.Prelude.{◌≡◌, ◌⊎◌, ◌++◌, ◌<◌, ⊤, ℕ, Bool, true, false, List, Option, None, Some, IsSome, IsTrue, Ok}
 use Rattle.std.specs.FinMap as finite
 use Rattle.tup_path.specs.Count.{Rose}
 use Rattle.tup_path.specs.Name.{Names}
@@ -12,15 +12,22 @@ use Rattle.tup_rule.specs.Rule.{among}
 use Rattle.tup_runner.specs.Next.{Next}
 use Rattle.tup_access.specs.declared.verdict.Verdict.{Verdict}
 use Rattle.tup_clean.specs.Clean.{succeeds, is_good}
-use Rattle.tup_owned.specs.Ascending.{ascending}
-use Rattle.tup_owned.specs.Owned.{owned_of}
-use Rattle.tup_update.specs.Holding.{Holding, Lists, OfHeld, holding}
+use Rattle.tup_ledger.specs.Ascending.{ascending}
+use Rattle.tup_table.specs.Reading.{ReadsAs}
+use Rattle.tup_graph.specs.Graph.{GraphState}
+use Rattle.tup_graph.specs.Transactions.{forget_edits}
+use Rattle.tup_graph.specs.declared.edit.Edit.{Edit}
+use Rattle.tup_kept.specs.Held.{Held}
+use Rattle.tup_kept.specs.Opening.{opened_in}
+use Rattle.tup_kept.specs.Transaction.{IsFull}
+use Rattle.tup_ledger.specs.Owned.{own_edits}
+use Rattle.tup_update.specs.Holding.{Holding, HoldsOn, IsDamaged, IsUnmade, Lists, OfHeld, holding}
 use Rattle.tup_update.specs.declared.update.Log.{Log}
 use Rattle.tup_update.specs.declared.stop.Stop.{Stop}
-use Rattle.tup_update.specs.declared.stop.Stop.TheVariants.{BadStore, Sources, Bad, Run, Outside}
+use Rattle.tup_update.specs.declared.stop.Stop.TheVariants.{BadStore, Sources, Bad, Run, Full, Outside}
 use Rattle.tup_update.specs.Log.{LogFits, RulesFit}
 use Rattle.tup_update.specs.Parts.{HasFileOf, IsBuilt, IsFirstBad}
-use Rattle.tup_update.specs.Sources.{sources, files_beside, IsAsked, IsRefused, PassesLimit, build, ends, outputs, vanished, is_made_in_turn}
+use Rattle.tup_update.specs.Sources.{sources, files_beside, IsAsked, IsRefused, PassesLimit, build, ends, left_over, outputs, vanished, is_made_in_turn}
 use Rattle.tup_update.specs.Turns.{TurnsFit}
 
 -- the files are those of the clean build, which succeeds, and the store lists just the outputs
@@ -56,12 +63,23 @@ SourcesStay old new =
 abbrev pub IsBadRule : Next → List Rule → Holding → RuleName → Verdict → Type 0
 IsBadRule next rules old name verdict = IsFirstBad rules (ends next rules old) (build next rules old) name verdict
 
+-- the store of a world has no room for a commit of these edits
+pub record LacksRoom (edits : GraphState → List Edit) (w : World) : Type 0 where
+  pub graph : Held
+  pub reads : ReadsAs w.store (Ok (opened_in graph))
+  pub full : IsFull graph (edits graph.nodes)
+
+-- it has none for the outputs of some rules, which are to be owned, or for giving up what was owned and no rule makes
+abbrev pub HasNoRoom : List Rule → Holding → World → Type 0
+HasNoRoom rules old new = LacksRoom (λ g. own_edits g (outputs rules)) new ⊎ LacksRoom (λ g. forget_edits g (left_over old.owned rules)) new
+
 -- why an update stops, where the site tells
 abbrev pub HasCause : Next → List Rule → World → World → Option Stop → Type 0
-HasCause next rules old new (Some (BadStore offset)) = owned_of old.store ≡ Err offset
+HasCause next rules old new (Some (BadStore offset)) = IsDamaged old.store offset
 HasCause next rules old new (Some (Sources fault)) = IsRefused old fault
 HasCause next rules old new (Some (Bad name verdict)) = OfHeld old (λ held. IsBadRule next rules held name verdict)
 HasCause next rules old new (Some Run) = ⊤
+HasCause next rules old new (Some Full) = OfHeld old (λ held. HasNoRoom rules held new)
 HasCause next rules old new (Some (Outside (TooLarge n))) = HasFileOf n new.tree
 HasCause next rules old new (Some (Outside SiteFault)) = ⊤
 HasCause next rules old new (Some (Outside Memory)) = ⊤
@@ -76,6 +94,7 @@ HasCountedCause before now (Some (Bad name verdict)) = (now ≡ before) × (is_g
 HasCountedCause before now (Some (BadStore offset)) = now ≡ before
 HasCountedCause before now (Some (Sources fault)) = (now ≡ before) × PassesLimit fault
 HasCountedCause before now (Some Run) = now ≡ before
+HasCountedCause before now (Some Full) = now ≡ before
 HasCountedCause before now None = now ≡ before
 
 -- and by what every runner counts: its count rises where it is blamed, and nowhere else
@@ -113,16 +132,17 @@ IsLeft tells next rules old new =
     IsAsked old rules × (ClaimedListed rules old new ⊎ (new.tree ≡ old.tree) ⊎ OfHeld old (λ held. AllIsMade tells next rules held new))
 
 -- nothing is forgotten, wherever an update stops: what wasn't a source before is owned by the next update too. Where the
--- store or the sources couldn't be read, nothing was changed.
+-- store or the sources couldn't be read, the world holds what it held.
 abbrev pub NothingForgotten : Bool → Next → List Rule → World → World → Option Stop → Type 0
 NothingForgotten tells next rules old new None = OutputsListed rules old new
-NothingForgotten tells next rules old new (Some (BadStore offset)) = new ≡ old
-NothingForgotten tells next rules old new (Some (Sources fault)) = new ≡ old
+NothingForgotten tells next rules old new (Some (BadStore offset)) = HoldsOn old new
+NothingForgotten tells next rules old new (Some (Sources fault)) = HoldsOn old new
 NothingForgotten tells next rules old new (Some (Bad name verdict)) = ClaimedListed rules old new
 NothingForgotten tells next rules old new (Some Run) = ClaimedListed rules old new
-NothingForgotten tells next rules old new (Some (Outside (TooLarge n))) = (new ≡ old) ⊎ (IsAsked old rules × ClaimedListed rules old new)
-NothingForgotten tells next rules old new (Some (Outside SiteFault)) = (new ≡ old) ⊎ IsLeft tells next rules old new
-NothingForgotten tells next rules old new (Some (Outside Memory)) = (new ≡ old) ⊎ IsLeft tells next rules old new
+NothingForgotten tells next rules old new (Some (Outside (TooLarge n))) = HoldsOn old new ⊎ (IsAsked old rules × ClaimedListed rules old new)
+NothingForgotten tells next rules old new (Some Full) = IsLeft tells next rules old new
+NothingForgotten tells next rules old new (Some (Outside SiteFault)) = HoldsOn old new ⊎ IsUnmade old new ⊎ IsLeft tells next rules old new
+NothingForgotten tells next rules old new (Some (Outside Memory)) = HoldsOn old new ⊎ IsUnmade old new ⊎ IsLeft tells next rules old new
 
 -- what an update promises where the site tells, whatever its runner does; with the rules that it found, and the log that it
 -- tells of itself

@@ -1,5 +1,5 @@
 -- What the parts of an update promise to each other.
-use Rattle.std.specs.Prelude.{◌≡◌, ◌≢◌, ◌⊎◌, ◌<◌, ◌≤◌, ⊤, ℕ, true, false, length, filter_map, unwrap_or, if◌then◌else◌, List, [], ◌∷◌, ◌++◌, None, Some, IsSome, IsTrue, Option, Result, Ok, Err, filter, slice_get}
+use Rattle.std.specs.Prelude.{◌≡◌, ◌≢◌, ◌⊎◌, ◌<◌, ◌≤◌, ⊤, ℕ, true, false, length, filter_map, unwrap_or, if◌then◌else◌, List, [], ◌∷◌, ◌++◌, None, Some, IsSome, IsTrue, Option, Result, Err, filter, slice_get}
 use Rattle.std.specs.FinMap as finite
 use Rattle.std.specs.Result.{result_ok}
 use Rattle.tup_path.specs.Name.{Names, Content}
@@ -18,7 +18,6 @@ use Rattle.tup_runner.specs.Next.{Next}
 use Rattle.tup_clean.specs.Buildable.{IsBuildable}
 use Rattle.tup_clean.specs.Clean.{Build, clean, is_good, succeeds, with_files}
 use Rattle.tup_clean.specs.Taken.{Taken, takes, up_to_bad, verdicts_of}
-use Rattle.tup_owned.specs.Owned.{owned_of}
 use Rattle.tup_update.specs.Holding.{Holding, Lists, holding}
 use Rattle.tup_update.specs.Log.{IsFront}
 use Rattle.tup_update.specs.Sources.{AsksFor, IsRefused, Refuses, PassesLimit, sources, files_beside, folder_of_tupfile, folders_read, is_made, is_made_in_turn}
@@ -27,9 +26,9 @@ use Rattle.tup_update.specs.declared.fault.SourcesFault.TheVariants.{TooManyFile
 use Rattle.tup_update.specs.declared.found.Found.{Found}
 use Rattle.tup_update.specs.declared.project.Project.{Project}
 use Rattle.tup_update.specs.declared.stop.Stop.{Stop}
-use Rattle.tup_update.specs.declared.stop.Stop.TheVariants.{Bad, Outside as Stopped}
+use Rattle.tup_update.specs.declared.stop.Stop.TheVariants.{BadStore, Sources as NoSources, Bad, Full, Outside as Stopped}
 use Rattle.tup_update.specs.declared.stop.Unread.{Unread}
-use Rattle.tup_update.specs.declared.stop.Unread.TheVariants.{Store, Sources as NoRules, Outside}
+use Rattle.tup_update.specs.declared.stop.Unread.TheVariants.{Sources as NoRules, Outside}
 
 -- what is found in a world: what the store lists, the files among that, and the sources, which are no more files than may be
 pub record IsFound (w : World) (found : Found) : Type 0 where
@@ -44,7 +43,6 @@ IsTooMany count unread = (unread ≡ NoRules (TooManyFiles count)) × (65536 < c
 
 -- the sources ask for no rules, or there was no memory
 abbrev pub IsRefusal : Holding → Unread → Type 0
-IsRefusal held (Store offset) = ⊥
 IsRefusal held (NoRules fault) = Refuses held fault
 IsRefusal held (Outside failed) = failed ≡ Memory
 
@@ -52,9 +50,8 @@ IsRefusal held (Outside failed) = failed ≡ Memory
 abbrev pub HasFileOf : ℕ → Tree → Type 0
 HasFileOf n tree = (path : Names) × IsTooLarge tree path n
 
--- why a project couldn't be read: the store is damaged just there, or the sources ask for no rules, or a file is too large
+-- why a project couldn't be read: the sources ask for no rules, or a file is too large
 abbrev pub IsUnread : World → Unread → Type 0
-IsUnread w (Store offset) = owned_of w.store ≡ Err offset
 IsUnread w (NoRules fault) = IsRefused w fault
 IsUnread w (Outside (TooLarge n)) = HasFileOf n w.tree
 IsUnread w (Outside Fault) = ⊤
@@ -62,7 +59,6 @@ IsUnread w (Outside Memory) = ⊤
 
 -- a limit is told only where it is passed
 abbrev pub KnowsLimits : Unread → Type 0
-KnowsLimits (Store offset) = ⊤
 KnowsLimits (NoRules fault) = PassesLimit fault
 KnowsLimits (Outside failed) = ⊤
 
@@ -72,7 +68,6 @@ IsFolderOf path folder = folder ≡ unwrap_or (result_ok (above path)) []
 
 -- why there are no rules, whatever is told of the sources: a limit only where it is passed, and no failure of the site
 abbrev pub IsOfRules : Unread → Type 0
-IsOfRules (Store offset) = ⊥
 IsOfRules (NoRules fault) = PassesLimit fault
 IsOfRules (Outside failed) = failed ≡ Memory
 
@@ -166,6 +161,24 @@ pub record HasMade (next : Next) (rules : List Rule) (sources old new : Tree) : 
 -- an update stops at this bad rule, or where the site fails once more
 abbrev pub StopsAt : RuleName → Verdict → Stop → Type 0
 StopsAt name verdict stop = (stop ≡ Bad name verdict) ⊎ ((failed : SiteFailed) × (stop ≡ Stopped failed) × ((n : ℕ) → failed ≢ TooLarge n))
+
+-- what stops the making of files: no damage of the store, and no fault of the sources
+abbrev pub StopsMaking : Stop → Type 0
+StopsMaking (BadStore offset) = ⊥
+StopsMaking (NoSources fault) = ⊥
+StopsMaking stop = ⊤
+
+-- no damage of the store stops it
+abbrev pub NoDamage : Stop → Type 0
+NoDamage (BadStore offset) = ⊥
+NoDamage stop = ⊤
+
+-- what stops the writing of the store, or a removal: no room in the store, a failure of the site, or want of memory
+abbrev pub IsLate : Stop → Type 0
+IsLate Full = ⊤
+IsLate (Stopped Fault) = ⊤
+IsLate (Stopped Memory) = ⊤
+IsLate stop = ⊥
 
 -- what is noted of rules that are run: the names of those that were begun, and the verdicts of those that ended
 abbrev pub AreNoted : List Rule → List Taken → List RuleName → List Taken → Type 0

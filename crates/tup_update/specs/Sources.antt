@@ -14,7 +14,7 @@ use Rattle.tup_link.specs.declared.fault.What.TheVariants.{Commands, Links}
 use Rattle.tup_whole.specs.Project.{ComeTo}
 use Rattle.tup_whole.specs.declared.fault.ProjectFault.{ProjectFault}
 use Rattle.tup_whole.specs.declared.fault.ProjectFault.TheVariants as project
-use Rattle.tup_owned.specs.Ascending.{ascending}
+use Rattle.tup_ledger.specs.Ascending.{ascending}
 use Rattle.tup_site.specs.World.{World}
 use Rattle.tup_update.specs.Holding.{Holding, Shows}
 use Rattle.tup_update.specs.declared.fault.SourcesFault.{SourcesFault}

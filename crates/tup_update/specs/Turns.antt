@@ -8,7 +8,7 @@ use Rattle.tup_access.specs.declared.verdict.Verdict.{Verdict}
 use Rattle.tup_clean.specs.Clean.{is_good, first_ready}
 use Rattle.tup_clean.specs.Taken.{Taken, rules_taken, verdicts_of, AreTaken, AllTaken, up_to_bad}
 use Rattle.tup_update.specs.declared.stop.Stop.{Stop}
-use Rattle.tup_update.specs.declared.stop.Stop.TheVariants.{BadStore, Sources, Bad, Run, Outside}
+use Rattle.tup_update.specs.declared.stop.Stop.TheVariants.{BadStore, Sources, Bad, Run, Full, Outside}
 
 -- the names of rules that were taken, in their order
 abbrev pub names_of : List Rule → List Taken → List RuleName
@@ -47,4 +47,5 @@ TurnsFit rules ran ended (Some (Bad name verdict)) = AreInTurn rules ended × (r
 TurnsFit rules ran ended (Some (BadStore offset)) = (ran ≡ []) × (ended ≡ [])
 TurnsFit rules ran ended (Some (Sources fault)) = (ran ≡ []) × (ended ≡ [])
 TurnsFit rules ran ended (Some Run) = AreInTurn rules ended × AreBegun rules ran ended
+TurnsFit rules ran ended (Some Full) = AreInTurn rules ended × AreBegun rules ran ended
 TurnsFit rules ran ended (Some (Outside failed)) = AreInTurn rules ended × AreBegun rules ran ended

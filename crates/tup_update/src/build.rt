@@ -1,22 +1,29 @@
 //! The making of a project's files.
-ghost use Rattle.std.specs.Prelude.{◌≡◌, ◌⊎◌, ◌++◌, false, IsTrue, IfOk, IfErr, OnOk, Some};
+ghost use Rattle.std.specs.Prelude.{◌≡◌, ◌⊎◌, ◌++◌, false, filter, not, IsTrue, IfOk, IfErr, OnOk, Err, Some};
 ghost use Rattle.std.specs.Result.{result_err};
 ghost use Rattle.tup_site.specs.Crash.{GoesOn, NoStep, PinsStore, PinsTree};
 ghost use Rattle.tup_site.specs.World.{TreeStays, StoreStays};
 ghost use Rattle.tup_site.specs.Cause.{CountsFaults, NeverTooLarge};
 ghost use Rattle.tup_access.specs.Generated.{IsGenerated};
 ghost use Rattle.tup_clean.specs.Clean.{is_good};
-ghost use Rattle.tup_owned.specs.Owned.{spelling};
-ghost use Rattle.tup_owned.specs.Ascending.{ascending};
-ghost use Rattle.tup_update.specs.Images.{FilesStep, ListedStep, MakesStep, SettledStep};
+ghost use Rattle.tup_graph.specs.Transactions.{forget_edits};
+ghost use Rattle.tup_kept.specs.Held.{is_fresh, StandsFor};
+ghost use Rattle.tup_ledger.specs.Ascending.{ascending};
+ghost use Rattle.tup_ledger.specs.Listing.{SettledStep};
+ghost use Rattle.tup_ledger.specs.Owned.{own_edits, owned_in};
+ghost use Rattle.tup_ledger.specs.Sources.{HaveNoFiles};
+ghost use Rattle.tup_rule.specs.Rule.{among};
+ghost use Rattle.tup_update.specs.Holding.{Lists};
+ghost use Rattle.tup_update.specs.Images.{FilesStep, ListedStep, MakesStep};
+ghost use Rattle.tup_update.specs.Opened.{IsOpened};
 ghost use Rattle.tup_update.specs.Log.{IsGrownByFront, IsUnused, with_read};
-ghost use Rattle.tup_update.specs.Outcome.{Keeps, Stays, HasCountedCause, HasRunCause};
-ghost use Rattle.tup_update.specs.Parts.{IsProject, IsCleared, SameBeside, StopsAt};
+ghost use Rattle.tup_update.specs.Outcome.{Keeps, Stays, HasCountedCause, HasRunCause, LacksRoom};
+ghost use Rattle.tup_update.specs.Parts.{IsProject, IsCleared, IsLate, SameBeside, StopsAt, StopsMaking};
 ghost use Rattle.tup_update.specs.Ran.{RunsThese};
 ghost use Rattle.tup_update.specs.Settled.{IsDurable, IsSettled};
 ghost use Rattle.tup_update.specs.Sources.{outputs, left_over};
 ghost use Rattle.tup_site.specs.declared.fault.SiteFailed.TheVariants.{Memory};
-ghost use Rattle.tup_update.specs.declared.stop.Stop.TheVariants.{Outside};
+ghost use Rattle.tup_update.specs.declared.stop.Stop.TheVariants.{Full, Outside};
 
 use crate::project::{Project, parted, path_set};
 use crate::run::BadRule;
@@ -24,7 +31,8 @@ use crate::stop::Stop;
 use crate::update::Log;
 use std::alloc::{AllocError, Global};
 use std::collections::BTreeSet;
-use tup_owned::{sorted, spell_owned, union};
+use tup_kept::Graph;
+use tup_ledger::{give_up, own};
 use tup_path::{Path, Paths};
 use tup_rule::Rule;
 use tup_runner::Runner;
@@ -35,39 +43,33 @@ use tup_site::{Site, SiteFailed};
 pub(crate) struct Plan {
     /// The outputs of all rules, for quick look-ups.
     pub made: BTreeSet<Path>,
-    /// What is owned while the rules run: what was, and the outputs.
-    pub claimed: Paths,
+    /// The outputs, which are owned before any is made.
+    pub outputs: Paths,
     /// The files of vanished rules, which are removed.
     pub vanished: Paths,
-    /// What is owned in the end: the outputs.
-    pub listed: Paths,
+    /// The owned paths that no rule makes, which are given up in the end.
+    pub left: Paths,
 }
 
 impl Plan {
     /// What is to be done for this project; it takes memory and touches nothing.
     fn of(alloc: Global, project: &Project) -> Result<Plan, AllocError>
         ensures made { IfOk result (λ plan. IsGenerated project.now.rules plan.made) }
-        ensures claimed { IfOk result
-            (λ plan. plan.claimed ≡ ascending (project.now.owned ++ outputs project.now.rules)) }
+        ensures outputs { IfOk result (λ plan. plan.outputs ≡ outputs project.now.rules) }
         ensures vanished { IfOk result
             (λ plan. plan.vanished ≡ left_over project.now.owned_files project.now.rules) }
-        ensures listed { IfOk result (λ plan. plan.listed ≡ ascending (outputs project.now.rules)) }
+        ensures left { IfOk result
+            (λ plan. plan.left ≡ left_over project.now.owned project.now.rules) }
     {
         let outputs = outputs_of(alloc, project.rules.as_slice())?;
-        let outputs = outputs.as_slice();
-        let made = path_set(alloc, outputs)?;
+        let made = path_set(alloc, outputs.as_slice())?;
         let (_, vanished) = parted(alloc, project.owned_files.as_slice(), &made)?;
-        let Ok(claimed) = union(alloc, project.owned.as_slice(), outputs) else {
-            return Err(AllocError);
-        };
-        let Ok(listed) = sorted(alloc, outputs) else {
-            return Err(AllocError);
-        };
+        let (_, left) = parted(alloc, project.owned.as_slice(), &made)?;
         Ok(Plan {
             made,
-            claimed,
+            outputs,
             vanished,
-            listed,
+            left,
         })
     }
 }
@@ -99,11 +101,16 @@ impl Project {
         &self,
         alloc: Global,
         site: &mut S,
+        graph: &mut Graph,
         runner: &mut R,
         log: &mut Log,
     ) -> Result<(), Stop>
+        requires opened { IsOpened graph.old self.now.owned }
+        requires stands { IsTrue S.tells
+            → StandsFor S.world S.moment S.left_since graph.old site.old }
         requires project { IsTrue S.tells → IsProject self.now (S.world site.old) }
         requires unused { IsUnused log.old }
+        ensures makes { IfErr result StopsMaking }
         ensures stays { IsTrue S.tells → let told = with_read self.now.read log.new in
             Stays R.tells R.next
             self.now.rules (S.world site.old) (S.world site.new) told (result_err result) }
@@ -123,7 +130,7 @@ impl Project {
             HasRunCause (R.faults runner.old) (R.faults runner.new) stopped }
     {
         let plan = Plan::of(alloc, self)?;
-        prepare(alloc, site, &plan, &mut log.removed)?;
+        prepare(alloc, site, graph, &plan, &mut log.removed)?;
         match self.run(
             alloc,
             site,
@@ -133,7 +140,7 @@ impl Project {
             &mut log.ended,
         )? {
             Some(bad) => Err(stop_at(alloc, site, bad)),
-            None => Ok(finish(alloc, site, plan.listed.as_slice())?),
+            None => Ok(finish(alloc, site, graph, plan.left.as_slice())?),
         }
     }
 }
@@ -142,28 +149,42 @@ impl Project {
 fn prepare<S: Site>(
     alloc: Global,
     site: &mut S,
+    graph: &mut Graph,
     plan: &Plan,
     removed: &mut Paths,
-) -> Result<(), SiteFailed>
+) -> Result<(), Stop>
+    requires fresh { IsTrue (is_fresh graph.old) }
+    requires stands { IsTrue S.tells
+        → StandsFor S.world S.moment S.left_since graph.old site.old }
     ensures cleared { IsTrue S.tells → OnOk result
         (IsCleared plan.now.vanished (S.world site.old).tree (S.world site.new).tree) }
     ensures others { IsTrue S.tells
         → SameBeside plan.now.vanished (S.world site.old).tree (S.world site.new).tree }
     ensures claimed { IsTrue S.tells
-        → OnOk result ((S.world site.new).store ≡ spelling plan.now.claimed) }
-    ensures unclaimed { IsTrue S.tells → ((S.world site.new).store ≡ spelling plan.now.claimed)
-        ⊎ TreeStays (S.world site.old) (S.world site.new) }
-    ensures crash { IsTrue S.tells → GoesOn S.moment S.left_since site.old site.new
-        (ListedStep (SameBeside plan.now.vanished) (spelling plan.now.claimed)) }
+        → let claimed = ascending (owned_in graph.old.nodes ++ plan.now.outputs) in
+        OnOk result (Lists (S.world site.new).store claimed) }
+    ensures unclaimed { IsTrue S.tells
+        → let claimed = ascending (owned_in graph.old.nodes ++ plan.now.outputs) in
+        Lists (S.world site.new).store claimed ⊎ TreeStays (S.world site.old) (S.world site.new) }
+    ensures crash { IsTrue S.tells
+        → let claimed = ascending (owned_in graph.old.nodes ++ plan.now.outputs) in
+        GoesOn S.moment S.left_since site.old site.new
+        (ListedStep (SameBeside plan.now.vanished) claimed) }
     ensures pinned { IsTrue S.tells → let left = S.left_since site.new (S.moment site.new) in
         OnOk result (PinsStore left (S.world site.new)) }
+    ensures opened { OnOk result
+        (IsOpened graph.new (ascending (owned_in graph.old.nodes ++ plan.now.outputs))) }
+    ensures stands { IsTrue S.tells
+        → OnOk result (StandsFor S.world S.moment S.left_since graph.new site.new) }
+    ensures full { IsTrue S.tells → result ≡ Err Full
+        → LacksRoom (λ g. own_edits g plan.now.outputs) (S.world site.new) }
     ensures removed { OnOk result (removed.new ≡ removed.old ++ plan.now.vanished) }
     ensures part { IsGrownByFront removed.old removed.new plan.now.vanished }
-    ensures never_too_large { NeverTooLarge result }
-    ensures counted { CountsFaults (S.faults site.old) (S.faults site.new) result }
+    ensures late { IfErr result IsLate }
+    ensures counted { HasCountedCause (S.faults site.old) (S.faults site.new) (result_err result) }
 {
-    write_store(alloc, site, plan.claimed.as_slice())?;
-    clear(alloc, site, plan.vanished.as_slice(), removed)
+    own(alloc, graph, site, plan.outputs.as_slice())?;
+    Ok(clear(alloc, site, plan.vanished.as_slice(), removed)?)
 }
 
 /// Removes the files at these paths in order, and notes each that was removed.
@@ -210,41 +231,29 @@ fn stop_at<S: Site>(alloc: Global, site: &mut S, bad: BadRule) -> Stop
     }
 }
 
-/// Settles the files, and owns what was made and nothing else. After `Ok` a crash leaves all as it
-/// is then.
-fn finish<S: Site>(alloc: Global, site: &mut S, listed: &[Path]) -> Result<(), SiteFailed>
-    ensures listed { IsTrue S.tells → OnOk result ((S.world site.new).store ≡ spelling listed.now) }
+/// Gives up what was owned and isn't made any more. The files are settled before: after `Ok` a
+/// crash leaves all as it is then.
+fn finish<S: Site>(
+    alloc: Global,
+    site: &mut S,
+    graph: &mut Graph,
+    left: &[Path],
+) -> Result<(), Stop>
+    requires fresh { IsTrue (is_fresh graph.old) }
+    requires stands { IsTrue S.tells
+        → StandsFor S.world S.moment S.left_since graph.old site.old }
+    requires gone { IsTrue S.tells → HaveNoFiles (S.world site.old).tree left.now }
+    ensures listed { IsTrue S.tells → OnOk result (Lists (S.world site.new).store
+        (filter (λ path. not (among path left.now)) (owned_in graph.old.nodes))) }
     ensures tree { IsTrue S.tells → TreeStays (S.world site.old) (S.world site.new) }
     ensures crash { IsTrue S.tells → GoesOn S.moment S.left_since site.old site.new
         (SettledStep (S.world site.old)) }
     ensures durable { IsTrue S.tells → OnOk result
         (IsDurable (S.left_since site.new (S.moment site.new)) (S.world site.new)) }
-    ensures never_too_large { NeverTooLarge result }
-    ensures counted { CountsFaults (S.faults site.old) (S.faults site.new) result }
+    ensures full { IsTrue S.tells → result ≡ Err Full
+        → LacksRoom (λ g. forget_edits g left.now) (S.world site.new) }
+    ensures late { IfErr result IsLate }
+    ensures counted { HasCountedCause (S.faults site.old) (S.faults site.new) (result_err result) }
 {
-    site.settle(alloc)?;
-    write_store(alloc, site, listed)
-}
-
-/// Makes the store the list of these paths, durably. After a refusal the store holds anything.
-fn write_store<S: Site>(alloc: Global, site: &mut S, paths: &[Path]) -> Result<(), SiteFailed>
-    ensures owned { IsTrue S.tells → OnOk result ((S.world site.new).store ≡ spelling paths.now) }
-    ensures tree { IsTrue S.tells → TreeStays (S.world site.old) (S.world site.new) }
-    ensures crash { IsTrue S.tells → GoesOn S.moment S.left_since site.old site.new TreeStays }
-    ensures pinned { IsTrue S.tells → let left = S.left_since site.new (S.moment site.new) in
-        OnOk result (PinsStore left (S.world site.new)) }
-    // Where the files were settled before, a crash then leaves all as it is.
-    ensures durable { IsTrue S.tells
-        → PinsTree (S.left_since site.old (S.moment site.old)) (S.world site.old)
-        → OnOk result (IsDurable (S.left_since site.new (S.moment site.new)) (S.world site.new)) }
-    ensures never_too_large { NeverTooLarge result }
-    ensures counted { CountsFaults (S.faults site.old) (S.faults site.new) result }
-{
-    let Ok(bytes) = spell_owned(alloc, paths) else {
-        return Err(SiteFailed::Memory);
-    };
-    let bytes = bytes.as_slice();
-    site.db_write(alloc, 0, bytes)?;
-    site.db_cut(alloc, bytes.len() as u64)?;
-    site.db_sync(alloc)
+    Ok(give_up(alloc, graph, site, left)?)
 }

@@ -1,5 +1,5 @@
 //! The files of a site beside a clean build of its sources.
-ghost use Rattle.std.specs.Prelude.{◌≡◌, ℕ, IsTrue, IfOk};
+ghost use Rattle.std.specs.Prelude.{◌≡◌, ℕ, IsTrue, IfOk, IfErr};
 ghost use Rattle.std.specs.FinMap as finite;
 ghost use Rattle.std.specs.Option.{option_copied};
 ghost use Rattle.std.specs.Result.{result_err};
@@ -10,16 +10,18 @@ ghost use Rattle.tup_clean.specs.Clean.{clean};
 ghost use Rattle.tup_clean.specs.Ran.{commands};
 ghost use Rattle.tup_update.specs.Compared as specs;
 ghost use Rattle.tup_update.specs.Compared.{HasCompared, HasBuilt, IsGoodBuild, FindsNotGood, RunsToCompare, RunsBuildOf, compared_at};
+ghost use Rattle.tup_update.specs.Holding.{HoldsOn, Lists};
 ghost use Rattle.tup_update.specs.Outcome.{HasCountedCause, HasRunCause};
-ghost use Rattle.tup_update.specs.Parts.{NamesALargeFile};
+ghost use Rattle.tup_update.specs.Parts.{NamesALargeFile, NoDamage};
 
 use crate::found::{Found, contents};
 use crate::run::BadRule;
 use crate::stop::Stop;
+use crate::store::listed;
 use std::alloc::{AllocError, Global};
 use tup_access::Verdict;
 use tup_clean::{CleanFault, Cleaned, clean_build};
-use tup_path::{Bytes, Files, Path};
+use tup_path::{Bytes, Files, Path, Paths};
 use tup_rule::Rule;
 use tup_runner::Runner;
 use tup_site::{Site, SiteFailed};
@@ -34,7 +36,7 @@ pub enum Compared {
 }
 
 /// Compares the files of a site with a clean build of its sources, whose commands the runner runs
-/// beside them. The site stays as it is.
+/// beside them. The files stay as they are, and what the store lists.
 ///
 /// A rule that isn't Good is a `Bad` stop: the first in the order of the rules.
 pub fn compare_site<S: Site, R: Runner>(
@@ -42,6 +44,31 @@ pub fn compare_site<S: Site, R: Runner>(
     site: &mut S,
     runner: &mut R,
 ) -> Result<Compared, Stop>
+    ensures compared { IsTrue S.tells → IsTrue R.tells
+        → HasCompared R.next (S.world site.old) result }
+    ensures holds { IsTrue S.tells → HoldsOn (S.world site.old) (S.world site.new) }
+    ensures crash { IsTrue S.tells → GoesOn S.moment S.left_since site.old site.new HoldsOn }
+    ensures ran { IsTrue S.tells → IsTrue R.tells → IsTrue R.tells_ran
+        → RunsToCompare R.next (S.world site.old) (R.ran runner.old) (R.ran runner.new)
+        (result_err result) }
+    ensures counted_cause { HasCountedCause (S.faults site.old) (S.faults site.new)
+        (result_err result) }
+    ensures run_cause { HasRunCause (R.faults runner.old) (R.faults runner.new)
+        (result_err result) }
+{
+    let owned = listed(alloc, site)?;
+    compare_beside(alloc, site, owned, runner)
+}
+
+/// The same, for a site whose store lists these paths.
+fn compare_beside<S: Site, R: Runner>(
+    alloc: Global,
+    site: &mut S,
+    owned: Paths,
+    runner: &mut R,
+) -> Result<Compared, Stop>
+    requires { IsTrue S.tells → Lists (S.world site.old).store owned }
+    ensures sound { IfErr result NoDamage }
     ensures compared { IsTrue S.tells → IsTrue R.tells
         → HasCompared R.next (S.world site.old) result }
     ensures same { IsTrue S.tells → S.world site.new ≡ S.world site.old }
@@ -54,7 +81,7 @@ pub fn compare_site<S: Site, R: Runner>(
     ensures run_cause { HasRunCause (R.faults runner.old) (R.faults runner.new)
         (result_err result) }
 {
-    let built = clean_files(alloc, site, runner)?;
+    let built = clean_files(alloc, site, owned, runner)?;
     let files = all_files(alloc, site)?;
     Ok(comparison(files.as_slice(), built.as_slice())?)
 }
@@ -63,8 +90,11 @@ pub fn compare_site<S: Site, R: Runner>(
 fn clean_files<S: Site, R: Runner>(
     alloc: Global,
     site: &mut S,
+    owned: Paths,
     runner: &mut R,
 ) -> Result<Files, Stop>
+    requires { IsTrue S.tells → Lists (S.world site.old).store owned }
+    ensures sound { IfErr result NoDamage }
     ensures clean { IsTrue S.tells → IsTrue R.tells
         → HasBuilt R.next (S.world site.old) result }
     ensures same { IsTrue S.tells → S.world site.new ≡ S.world site.old }
@@ -77,7 +107,7 @@ fn clean_files<S: Site, R: Runner>(
     ensures run_cause { HasRunCause (R.faults runner.old) (R.faults runner.new)
         (result_err result) }
 {
-    let found = Found::read(alloc, site)?;
+    let found = Found::read(alloc, site, owned)?;
     let rules = found.rules(alloc)?;
     good_build(alloc, runner, rules.as_slice(), &found.sources)
 }
@@ -90,6 +120,7 @@ fn good_build<R: Runner>(
     sources: &Files,
 ) -> Result<Files, Stop>
     requires { IsTrue (finite.is_sorted by_names sources.now) }
+    ensures sound { IfErr result NoDamage }
     ensures built { IsTrue R.tells
         → IsGoodBuild rules.now (clean R.next rules.now (finite.from_sorted sources.now)) result }
     ensures ran { IsTrue R.tells → IsTrue R.tells_ran

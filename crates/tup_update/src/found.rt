@@ -7,7 +7,7 @@ ghost use Rattle.tup_site.specs.Crash.{GoesOn, NoStep};
 ghost use Rattle.tup_site.specs.World.{World};
 ghost use Rattle.tup_site.specs.Cause.{CountsFaults, NeverTooLarge, OnlyLarge};
 ghost use Rattle.tup_clean.specs.Buildable.{IsBuildable};
-ghost use Rattle.tup_update.specs.Holding.{holding};
+ghost use Rattle.tup_update.specs.Holding.{Lists, holding};
 ghost use Rattle.tup_update.specs.Outside.{HandsOn};
 ghost use Rattle.tup_update.specs.Parts.{IsFound, IsOfRules, IsRefusal, IsTooMany};
 ghost use Rattle.tup_update.specs.Parts.{KnowsLimits, IsUnread};
@@ -21,7 +21,6 @@ use crate::project::{parted, path_set};
 use crate::stop::Unread;
 use std::alloc::Global;
 use tup_map::ByPath;
-use tup_owned::read_owned;
 use tup_path::{Bytes, Files, Path, Paths};
 use tup_rule::Rules;
 use tup_scan::MAX_FILES;
@@ -40,9 +39,11 @@ pub(crate) struct Found {
 }
 
 impl Found {
-    /// Reads what a site holds, and changes nothing.
-    pub(crate) fn read<S: Site>(alloc: Global, site: &mut S) -> Result<Found, Unread>
+    /// Reads what a site holds whose store lists these paths, and changes nothing.
+    pub(crate) fn read<S: Site>(alloc: Global, site: &mut S, owned: Paths) -> Result<Found, Unread>
+        requires { IsTrue S.tells → Lists (S.world site.old).store owned }
         ensures found { IsTrue S.tells → IfOk result (IsFound (S.world site.old)) }
+        ensures owned { IfOk result (λ found. found.owned ≡ owned) }
         ensures sorted { IfOk result (λ found. IsTrue (finite.is_sorted by_names found.sources)) }
         ensures cause { IsTrue S.tells → IfErr result (IsUnread (S.world site.old)) }
         ensures limits { IfErr result KnowsLimits }
@@ -51,8 +52,6 @@ impl Found {
             → GoesOn S.moment S.left_since site.old site.new NoStep }
         ensures counted { HandsOn Outside (S.faults site.old) (S.faults site.new) result }
     {
-        let store = read_store(alloc, site)?;
-        let owned = read_owned(alloc, &store)?;
         let files = site.list(alloc)?;
         few(&files)?;
         let apart = path_set(alloc, owned.as_slice())?;
@@ -78,20 +77,6 @@ impl Found {
     {
         Ok(read_all(alloc, &self.sources)?)
     }
-}
-
-/// The bytes of the store.
-fn read_store<S: Site>(alloc: Global, site: &mut S) -> Result<Vec<u8>, SiteFailed>
-    ensures bytes { IsTrue S.tells → IfOk result (λ bytes. bytes.items ≡ (S.world site.old).store) }
-    ensures same { IsTrue S.tells → S.world site.new ≡ S.world site.old }
-    ensures crash { IsTrue S.tells → GoesOn S.moment S.left_since site.old site.new NoStep }
-    ensures never_too_large { NeverTooLarge result }
-    ensures counted { CountsFaults (S.faults site.old) (S.faults site.new) result }
-{
-    let len = site.db_len(alloc)?;
-    let mut bytes = vec![in alloc; 0; len as usize]?;
-    site.db_read(alloc, 0, &mut bytes)?;
-    Ok(bytes)
 }
 
 /// Whether there are no more files than a project may have.

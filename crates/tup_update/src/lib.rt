@@ -13,6 +13,7 @@ mod found;
 mod project;
 mod run;
 mod stop;
+mod store;
 mod update;
 mod view;
 

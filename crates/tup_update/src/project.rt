@@ -6,6 +6,7 @@ ghost use Rattle.tup_path.specs.Name.{Names};
 ghost use Rattle.tup_path.specs.Order.{by_names};
 ghost use Rattle.tup_site.specs.Crash.{GoesOn, NoStep};
 ghost use Rattle.tup_rule.specs.Rule.{among};
+ghost use Rattle.tup_update.specs.Holding.{Lists};
 ghost use Rattle.tup_update.specs.Outside.{HandsOn};
 ghost use Rattle.tup_update.specs.Parts.{IsProject, IsFolderOf, KnowsLimits, IsUnread, AddsFolder};
 ghost use Rattle.tup_update.specs.Sources as specs;
@@ -15,7 +16,7 @@ use crate::found::Found;
 use crate::stop::Unread;
 use std::alloc::{AllocError, Global};
 use std::collections::BTreeSet;
-use tup_owned::sorted;
+use tup_ledger::sorted;
 use tup_path::{Bytes, Path, Paths};
 use tup_rule::Rules;
 use tup_site::Site;
@@ -34,10 +35,16 @@ pub(crate) struct Project {
 }
 
 impl Project {
-    /// Reads what the site asks for, and changes nothing.
-    pub(crate) fn read<S: Site>(alloc: Global, site: &mut S) -> Result<Project, Unread>
+    /// Reads what the site asks for whose store lists these paths, and changes nothing.
+    pub(crate) fn read<S: Site>(
+        alloc: Global,
+        site: &mut S,
+        owned: Paths,
+    ) -> Result<Project, Unread>
+        requires { IsTrue S.tells → Lists (S.world site.old).store owned }
         ensures project { IsTrue S.tells
             → IfOk result (λ project. IsProject project (S.world site.old)) }
+        ensures owned { IfOk result (λ project. project.owned ≡ owned) }
         ensures cause { IsTrue S.tells → IfErr result (IsUnread (S.world site.old)) }
         ensures limits { IfErr result KnowsLimits }
         ensures same { IsTrue S.tells → S.world site.new ≡ S.world site.old }
@@ -45,7 +52,7 @@ impl Project {
             → GoesOn S.moment S.left_since site.old site.new NoStep }
         ensures counted { HandsOn Outside (S.faults site.old) (S.faults site.new) result }
     {
-        let found = Found::read(alloc, site)?;
+        let found = Found::read(alloc, site, owned)?;
         let read = folders_read(alloc, found.sources.as_slice())?;
         let rules = found.rules(alloc)?;
         Ok(Project {

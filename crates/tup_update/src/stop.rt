@@ -6,8 +6,8 @@ use crate::fault::SourcesFault;
 use std::alloc::AllocError;
 use thiserror::Error;
 use tup_access::Verdict;
+use tup_graph::GraphFault;
 use tup_link::What;
-use tup_owned::OwnedFault;
 use tup_rule::RuleName;
 use tup_site::SiteFailed;
 use tup_whole::ProjectFault;
@@ -15,7 +15,7 @@ use tup_whole::ProjectFault;
 /// Why an update stopped.
 #[derive(Debug, Drop, Error)]
 pub enum Stop {
-    /// The store doesn't read from this byte on. Nothing was changed.
+    /// The store doesn't read from this byte on. No file was touched.
     #[error("the store is damaged at byte {0}")]
     BadStore(u64),
     /// The sources ask for no rules, for this fault. Nothing was changed.
@@ -27,6 +27,9 @@ pub enum Stop {
     /// The runner failed; what ran before it stands.
     #[error("a command can't be run")]
     Run,
+    /// The store has no room for what is to be owned, or to be given up.
+    #[error("the store has no room")]
+    Full,
     /// The site failed, or a file to be read is too large, or there was no memory.
     #[error("{0}")]
     Outside(SiteFailed),
@@ -35,8 +38,6 @@ pub enum Stop {
 /// Why the reading of a project stops. Nothing was changed.
 #[derive(Drop)]
 pub(crate) enum Unread {
-    /// The store doesn't read from this byte on.
-    Store(u64),
     /// The sources ask for no rules, for this fault.
     Sources(SourcesFault),
     /// The site failed, or a file to be read is too large, or there was no memory.
@@ -60,7 +61,6 @@ impl From<Unread> for Stop {
 
     fn from(unread: Unread) -> Stop {
         match unread {
-            Unread::Store(offset) => Stop::BadStore(offset),
             Unread::Sources(fault) => Stop::Sources(fault),
             Unread::Outside(failed) => Stop::Outside(failed),
         }
@@ -150,16 +150,19 @@ impl From<AllocError> for Unread {
     }
 }
 
-impl From<OwnedFault> for Unread {
+impl From<GraphFault> for Stop {
     ghost use Rattle.std.specs.Prelude.{◌≡◌};
-    ghost use Rattle.tup_update.specs.Stopped.{unread_of_owned};
+    ghost use Rattle.tup_update.specs.Stopped.{stop_of_graph};
 
-    ghost from_gives = { λ fault unread. unread ≡ unread_of_owned fault };
+    ghost from_gives = { λ fault stop. stop ≡ stop_of_graph fault };
 
-    fn from(fault: OwnedFault) -> Unread {
+    fn from(fault: GraphFault) -> Stop {
         match fault {
-            OwnedFault::Damaged { offset } => Unread::Store(offset),
-            OwnedFault::Memory => Unread::Outside(SiteFailed::Memory),
+            GraphFault::NotThere => Stop::BadStore(0),
+            GraphFault::BadStore { offset } => Stop::BadStore(offset),
+            GraphFault::Site => Stop::Outside(SiteFailed::Fault),
+            GraphFault::Full => Stop::Full,
+            GraphFault::Memory => Stop::Outside(SiteFailed::Memory),
         }
     }
 }

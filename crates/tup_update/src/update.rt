@@ -2,7 +2,7 @@
 ghost use Rattle.std.specs.Prelude.{◌≡◌, [], IsTrue};
 ghost use Rattle.std.specs.Result.{result_err};
 ghost use Rattle.tup_site.specs.Crash.{GoesOn};
-ghost use Rattle.tup_update.specs.Images.{MakesStep};
+ghost use Rattle.tup_update.specs.Images.{UpdateStep};
 ghost use Rattle.tup_update.specs.Log.{IsEmptyLog, LogFits, RulesFit};
 ghost use Rattle.tup_update.specs.Outcome.{Keeps, Stays, ExactlyTheFiles, MadeBeforeBad, SourcesStay, NothingForgotten, HasCause, HasCountedCause, HasRunCause};
 ghost use Rattle.tup_update.specs.Ran.{RunsThese};
@@ -11,6 +11,7 @@ ghost use Rattle.tup_update.specs.Turns.{TurnsFit};
 
 use crate::project::Project;
 use crate::stop::Stop;
+use crate::store::opened;
 use std::alloc::Global;
 use tup_access::Verdict;
 use tup_path::{Items, Paths};
@@ -55,7 +56,7 @@ pub struct Update {
     pub stopped: Option<Stop>,
 }
 
-/// Updates the files of a site: reads the store and the sources, removes the files of vanished
+/// Updates the files of a site: opens the store, reads the sources, removes the files of vanished
 /// rules, and has the runner run the rules in turn, the first that is ready again and again, up to
 /// the first that is bad. What was made by then is durable, whichever of the two ends it.
 pub fn update_site<S: Site, R: Runner>(alloc: Global, site: &mut S, runner: &mut R) -> Update
@@ -67,7 +68,7 @@ pub fn update_site<S: Site, R: Runner>(alloc: Global, site: &mut S, runner: &mut
     ensures nothing_forgotten { IsTrue S.tells → NothingForgotten R.tells R.next
         result.rules (S.world site.old) (S.world site.new) result.stopped }
     ensures crash { IsTrue S.tells → GoesOn S.moment S.left_since site.old site.new
-        (MakesStep R.tells R.next result.rules (S.world site.old)) }
+        (UpdateStep R.tells R.next result.rules (S.world site.old)) }
     ensures settled { IsTrue S.tells → let left = S.left_since site.new (S.moment site.new) in
         IsSettled left (S.world site.new) result.stopped }
     ensures cause { IsTrue S.tells → IsTrue R.tells → HasCause R.next
@@ -107,7 +108,7 @@ fn carry_out<S: Site, R: Runner>(
     ensures kept { IsTrue S.tells → IsTrue R.tells → Keeps R.next
         rules.new (S.world site.old) (S.world site.new) log.new (result_err result) }
     ensures crash { IsTrue S.tells → GoesOn S.moment S.left_since site.old site.new
-        (MakesStep R.tells R.next rules.new (S.world site.old)) }
+        (UpdateStep R.tells R.next rules.new (S.world site.old)) }
     ensures settled { IsTrue S.tells → let left = S.left_since site.new (S.moment site.new) in
         IsSettled left (S.world site.new) (result_err result) }
     ensures ran { IsTrue R.tells_ran
@@ -116,8 +117,9 @@ fn carry_out<S: Site, R: Runner>(
     ensures counted_runs { let stopped = result_err result in
         HasRunCause (R.faults runner.old) (R.faults runner.new) stopped }
 {
-    let project = Project::read(alloc, site)?;
-    let built = project.build(alloc, site, runner, log);
+    let (mut graph, owned) = opened(alloc, site)?;
+    let project = Project::read(alloc, site, owned)?;
+    let built = project.build(alloc, site, &mut graph, runner, log);
     log.read = project.read;
     *rules = project.rules;
     built

@@ -1,4 +1,8 @@
 //! The calls of `stale.rows`.
+ghost use Rattle.std.specs.Prelude.{IsTrue};
+ghost use Rattle.tup_kept.specs.Held.{is_fresh, StandsFor};
+ghost use Rattle.tup_site.specs.Memory.{world_in, moment_of, left_since};
+
 use crate::left::{add_left, add_refusal};
 use crate::project::Project;
 use std::alloc::Global;
@@ -26,9 +30,9 @@ impl Answers for Clearings {
             "seen" => self.project.seen(alloc, said),
             "rule" => self.project.rule(alloc, said),
             "file" => self.project.file(alloc, said),
-            "clear" => self.clear(alloc, u64::MAX),
-            "stopped" => self.clear(alloc, said.number_at(0)),
-            "crashed" => self.crashed(alloc, said),
+            "clear" => self.clear(alloc, call, said, u64::MAX),
+            "stopped" => self.clear(alloc, call, said, said.number_at(0)),
+            "crashed" => self.clear(alloc, call, said, said.number_at(0)),
             _ => Words::none(alloc, RowFault::NoSuchCall),
         })
     }
@@ -55,38 +59,39 @@ impl Clearings {
     }
 
     /// Clears the project, stopped after so many calls of the site.
-    fn clear(&self, alloc: Global, calls: u64) -> Words {
+    fn clear(&self, alloc: Global, call: &str, said: &Words, calls: u64) -> Words {
         let mut words = Words::new(alloc);
         match self.site(alloc, calls) {
-            Ok(mut site) => self.clear_in(alloc, &mut words, &mut site),
+            Ok(mut site) => self.clear_in(alloc, &mut words, call, said, &mut site),
             Err(fault) => words.fail(fault),
         }
         words
     }
 
-    fn clear_in(&self, alloc: Global, words: &mut Words, site: &mut MemSite) {
+    fn clear_in(
+        &self,
+        alloc: Global,
+        words: &mut Words,
+        call: &str,
+        said: &Words,
+        site: &mut MemSite,
+    ) {
+        if call == "crashed" {
+            return self.crashed(alloc, words, said, site);
+        }
         add_clearing(alloc, words, site);
         site.run_on();
         add_left(alloc, words, &self.project, site);
     }
 
-    /// Clears the project, stopped after so many calls of the site; a crash then leaves the store as it was after so many
-    /// calls, cut by so many bytes, and files. Then it is cleared again.
-    fn crashed(&self, alloc: Global, said: &Words) -> Words {
-        match self.site(alloc, said.number_at(0)) {
-            Ok(mut site) => self.crashed_in(alloc, said, &mut site),
-            Err(fault) => Words::none(alloc, fault),
-        }
-    }
-
-    fn crashed_in(&self, alloc: Global, said: &Words, site: &mut MemSite) -> Words {
-        let mut words = Words::new(alloc);
+    /// Clears the project; a crash then leaves the store as it was after so many calls, cut by so many bytes, and files.
+    /// Then it is cleared again.
+    fn crashed(&self, alloc: Global, words: &mut Words, said: &Words, site: &mut MemSite) {
         add_clearing(alloc, &mut Words::new(alloc), site);
         match self.choice(alloc, said) {
-            Ok(choice) => self.crash(alloc, &mut words, site, choice),
+            Ok(choice) => self.crash(alloc, words, site, choice),
             Err(fault) => words.fail(fault),
         }
-        words
     }
 
     fn crash(&self, alloc: Global, words: &mut Words, site: &mut MemSite, choice: Choice) {
@@ -103,17 +108,23 @@ impl Clearings {
 
     /// The store as it was after so many calls, cut by so many bytes, and files.
     fn choice(&self, alloc: Global, said: &Words) -> Result<Choice, RowFault> {
-        let mut before = self.site(alloc, said.number_at(1))?;
-        add_clearing(alloc, &mut Words::new(alloc), &mut before);
-        let store = before.store();
-        let end = store.len().saturating_sub(said.number_at(2) as usize);
-        match store.get(..end) {
-            Some(front) => Ok(Choice {
-                db: Bytes::new(Vec::from_slice(alloc, front)?),
-                tree: changed(alloc, said),
-            }),
-            None => Err(RowFault::OtherKind),
+        match self.site(alloc, said.number_at(1)) {
+            Ok(mut before) => choice_at(alloc, said, &mut before),
+            Err(fault) => Err(fault),
         }
+    }
+}
+
+fn choice_at(alloc: Global, said: &Words, before: &mut MemSite) -> Result<Choice, RowFault> {
+    add_clearing(alloc, &mut Words::new(alloc), before);
+    let store = before.store();
+    let end = store.len().saturating_sub(said.number_at(2) as usize);
+    match store.get(..end) {
+        Some(front) => Ok(Choice {
+            db: Bytes::new(Vec::from_slice(alloc, front)?),
+            tree: changed(alloc, said),
+        }),
+        None => Err(RowFault::OtherKind),
     }
 }
 
@@ -142,15 +153,20 @@ fn change(alloc: Global, said: &Words, at: usize) -> (Path, Option<Bytes>) {
 /// for the store.
 fn add_clearing(alloc: Global, words: &mut Words, site: &mut MemSite) {
     match Graph::open(alloc, site) {
-        Ok(mut graph) => {
-            let opened = site.calls();
-            let ended = clear(alloc, &mut graph, site);
-            words.show(alloc, &site.calls().saturating_sub(opened));
-            add_end(alloc, words, ended);
-            words.put(alloc, if graph.fresh() { b"fresh" } else { b"stale" });
-        }
+        Ok(mut graph) => add_clearing_of(alloc, words, &mut graph, site),
         Err(fault) => add_refusal(alloc, words, fault),
     }
+}
+
+fn add_clearing_of(alloc: Global, words: &mut Words, graph: &mut Graph, site: &mut MemSite)
+    requires fresh { IsTrue (is_fresh graph.old) }
+    requires stands { StandsFor world_in moment_of left_since graph.old site.old }
+{
+    let opened = site.calls();
+    let ended = clear(alloc, graph, site);
+    words.show(alloc, &site.calls().saturating_sub(opened));
+    add_end(alloc, words, ended);
+    words.put(alloc, if graph.fresh() { b"fresh" } else { b"stale" });
 }
 
 /// Adds the paths at which files were removed, or why none is left to be.

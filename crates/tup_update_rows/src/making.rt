@@ -28,13 +28,6 @@ pub(crate) struct Makings {
     project: Project,
 }
 
-/// A ground after the files of a rule were made, or not.
-#[derive(Drop)]
-struct Made<S: Site> {
-    ground: Ground<S>,
-    answer: Result<(), BoardFault>,
-}
-
 impl Answers for Makings {
     fn answer(&mut self, alloc: Global, call: &str, said: &Words) -> Result<Words, RowFault> {
         Ok(match call {
@@ -84,30 +77,38 @@ impl Makings {
 
     fn make_in(&self, alloc: Global, said: &Words, site: MemSite) -> Words {
         let before = site.calls().saturating_add(OPENING);
-        match make(alloc, site, number_at(said, 0), said.word_at(1)) {
-            Some(made) => self.shown(alloc, made, before),
+        match ready(alloc, site) {
+            Some(mut ground) => {
+                let made = make_on(alloc, &mut ground, number_at(said, 0), said.word_at(1));
+                self.shown(alloc, made, &mut ground, before)
+            }
             None => Words::none(alloc, RowFault::OtherKind),
         }
     }
 
     /// How many calls of the site the making took, what it answered, whether the graph still stands for the store, and
     /// what is left.
-    fn shown(&self, alloc: Global, made: Made<MemSite>, before: u64) -> Words {
-        let Made { mut ground, answer } = made;
+    fn shown(
+        &self,
+        alloc: Global,
+        made: Option<Result<(), BoardFault>>,
+        ground: &mut Ground<MemSite>,
+        before: u64,
+    ) -> Words {
+        let Some(answer) = made else {
+            return Words::none(alloc, RowFault::OtherKind);
+        };
         let mut words = Words::shown(alloc, &ground.site.calls().saturating_sub(before));
         words.put(alloc, answer_word(answer));
-        words.put(
-            alloc,
-            if ground.graph.fresh() {
-                b"fresh"
-            } else {
-                b"stale"
-            },
-        );
+        words.put(alloc, freshness(&ground.graph));
         ground.site.run_on();
         add_left(alloc, &mut words, &self.project, &mut ground.site);
         words
     }
+}
+
+fn freshness(graph: &Graph) -> &'static [u8] {
+    if graph.fresh() { b"fresh" } else { b"stale" }
 }
 
 fn answer_word(answer: Result<(), BoardFault>) -> &'static [u8] {
@@ -120,20 +121,28 @@ fn answer_word(answer: Result<(), BoardFault>) -> &'static [u8] {
     }
 }
 
-/// Makes the files of a rule at a site, each with this content; or nothing, where a file of it or of the rule doesn't
-/// stand at the top, or there is no such rule.
-fn make<S: Site>(alloc: Global, mut site: S, number: u32, content: &[u8]) -> Option<Made<S>> {
-    match site.list(alloc) {
-        Ok(paths) if are_flat(paths.as_slice()) => make_over(alloc, site, number, content),
-        _ => None,
+/// A site of which all files stand at the top, with the graph of its store.
+fn ready<S: Site>(alloc: Global, mut site: S) -> Option<Ground<S>>
+    ensures fresh { IfSome result (λ it. IsGround S.Site.own it × (it.lost ≡ None)) }
+    ensures flat { IfSome result (λ it. IsTrue S.tells
+        → All IsFlat (finite.keys (S.world it.site).tree)) }
+{
+    if lists_flat(alloc, &mut site) {
+        opened(alloc, site)
+    } else {
+        None
     }
 }
 
-/// The same where all files stand at the top.
-fn make_over<S: Site>(alloc: Global, site: S, number: u32, content: &[u8]) -> Option<Made<S>>
-    requires { IsTrue S.tells → All IsFlat (finite.keys (S.world site).tree) }
+/// Whether all files of a site stand at the top.
+fn lists_flat<S: Site>(alloc: Global, site: &mut S) -> bool
+    ensures { IsTrue result → IsTrue S.tells
+        → All IsFlat (finite.keys (S.world site.new).tree) }
 {
-    make_on(alloc, opened(alloc, site)?, number, content)
+    match site.list(alloc) {
+        Ok(paths) => are_flat(paths.as_slice()),
+        Err(_) => false,
+    }
 }
 
 /// A site with the graph of its store.
@@ -154,9 +163,13 @@ fn opened<S: Site>(alloc: Global, mut site: S) -> Option<Ground<S>>
 
 /// What a ground over a site reads at a path: a content, or `-` where no file is.
 fn read<S: Site>(alloc: Global, path: &Path, site: S) -> Words {
-    let Some(mut ground) = opened(alloc, site) else {
-        return Words::none(alloc, RowFault::OtherKind);
-    };
+    match opened(alloc, site) {
+        Some(mut ground) => read_on(alloc, path, &mut ground),
+        None => Words::none(alloc, RowFault::OtherKind),
+    }
+}
+
+fn read_on<S: Site>(alloc: Global, path: &Path, ground: &mut Ground<S>) -> Words {
     match ground.get(alloc, path) {
         Ok(Some(content)) => Words::word(alloc, content.as_slice()),
         Ok(None) => Words::word(alloc, b"-"),
@@ -164,25 +177,26 @@ fn read<S: Site>(alloc: Global, path: &Path, site: S) -> Words {
     }
 }
 
-/// The same on a ground where no commit was lost.
+/// Makes the files of a rule, each with this content; or nothing, where a file of it doesn't stand at the top, or there is
+/// no such rule.
 fn make_on<S: Site>(
     alloc: Global,
-    mut ground: Ground<S>,
+    ground: &mut Ground<S>,
     number: u32,
     content: &[u8],
-) -> Option<Made<S>>
-    requires is_ground { IsGround S.Site.own ground }
-    requires flat { IsTrue S.tells → All IsFlat (finite.keys (S.world ground.site).tree) }
+) -> Option<Result<(), BoardFault>>
+    requires is_ground { IsGround S.Site.own ground.old }
+    requires flat { IsTrue S.tells → All IsFlat (finite.keys (S.world ground.old.site).tree) }
 {
     let files = files_of(alloc, ground.graph.nodes(), number, content)?;
     let end = end_of(alloc, number, files.as_slice())?;
-    let answer = ground.make(alloc, end, &files);
-    Some(Made { ground, answer })
+    Some(ground.make(alloc, end, &files))
 }
 
 /// The files of a rule, each with this content.
 fn files_of(alloc: Global, nodes: &Nodes, number: u32, content: &[u8]) -> Option<Files>
-    ensures { (files : List (Names × Content)) → result ≡ Some files → AreFilesOf nodes.now number files }
+    ensures { (files : List (Names × Content)) → result ≡ Some files
+        → AreFilesOf nodes.now number files }
 {
     let rule = nodes.rules().get(number as usize)?;
     let outputs = rule.outputs.as_slice();
@@ -197,8 +211,10 @@ fn files_of(alloc: Global, nodes: &Nodes, number: u32, content: &[u8]) -> Option
 
 /// Files at some paths, each with this content.
 fn filled(alloc: Global, paths: &[Path], content: &[u8]) -> Result<Files, AllocError>
-    ensures paths { (files : List (Names × Content)) → result ≡ Ok files → paths_of files ≡ paths.now }
-    ensures content { (files : List (Names × Content)) → result ≡ Ok files → All (λ file. file.1 ≡ content.now) files }
+    ensures paths { (files : List (Names × Content)) → result ≡ Ok files
+        → paths_of files ≡ paths.now }
+    ensures content { (files : List (Names × Content)) → result ≡ Ok files
+        → All (λ file. file.1 ≡ content.now) files }
 {
     let mut files = Items::new(alloc);
     for path in paths {

@@ -9,7 +9,8 @@ use crate::project::{Project, number_at};
 use std::alloc::Global;
 use tup_above::runs_are_of_rules;
 use tup_core::{Numbers, Plan};
-use tup_graph::{GraphFault, Nodes};
+use tup_graph::GraphFault;
+use tup_index::Indexed;
 use tup_kept::Graph;
 use tup_partial::{PartialFault, above, flags_are_of_rules, plan_of};
 use tup_rows::{Answers, RowFault, Words};
@@ -69,22 +70,22 @@ fn answer_of(alloc: Global, call: &str, said: &Words, graph: &Graph) -> Words
     runs_are_of_rules();
     flags_are_of_rules();
     match call {
-        "above" => above_of(alloc, said, graph.nodes()),
-        "plan" => plan(alloc, said.number_at(0) == 1, graph.nodes()),
+        "above" => above_of(alloc, said, graph.indexed()),
+        "plan" => plan(alloc, said.number_at(0) == 1, graph.indexed()),
         _ => Words::none(alloc, RowFault::NoSuchCall),
     }
 }
 
 /// The rules that are above some rules.
-fn above_of(alloc: Global, said: &Words, nodes: &Nodes) -> Words
-    requires { AreRunsOfRules nodes.now }
+fn above_of(alloc: Global, said: &Words, graph: &Indexed) -> Words
+    requires { AreRunsOfRules graph.now }
 {
     let roots = numbers(alloc, said);
-    if !are_rules(nodes, &roots) {
+    if !are_rules(graph, &roots) {
         return Words::none(alloc, RowFault::OtherKind);
     }
     let mut words = Words::new(alloc);
-    match above(alloc, nodes, &roots) {
+    match above(alloc, graph, &roots) {
         Ok(numbers) => add_numbers(alloc, &mut words, &numbers),
         Err(PartialFault::Memory) => words.fail(RowFault::Memory),
     }
@@ -102,24 +103,24 @@ fn numbers(alloc: Global, said: &Words) -> Vec<u32> {
 }
 
 /// Whether all numbers are those of rules.
-fn are_rules(nodes: &Nodes, numbers: &[u32]) -> bool
-    ensures { IsTrue result ↔ All (λ number. is_rule_of nodes.now number ≡ true) numbers.now }
+fn are_rules(graph: &Indexed, numbers: &[u32]) -> bool
+    ensures { IsTrue result ↔ All (λ number. is_rule_of graph.now number ≡ true) numbers.now }
 {
-    numbers.iter().all(|number| is_rule(nodes, *number))
+    numbers.iter().all(|number| is_rule(graph, *number))
 }
 
-fn is_rule(nodes: &Nodes, number: u32) -> bool
-    ensures { result ≡ is_rule_of nodes.now number }
+fn is_rule(graph: &Indexed, number: u32) -> bool
+    ensures { result ≡ is_rule_of graph.now number }
 {
-    (number as usize) < nodes.rules().len()
+    (number as usize) < graph.nodes().rules().len()
 }
 
 /// The plan of a graph.
-fn plan(alloc: Global, keep_going: bool, nodes: &Nodes) -> Words
-    requires runs { AreRunsOfRules nodes.now }
-    requires flags { AreFlagsOfRules nodes.now }
+fn plan(alloc: Global, keep_going: bool, graph: &Indexed) -> Words
+    requires runs { AreRunsOfRules graph.now }
+    requires flags { AreFlagsOfRules graph.now }
 {
-    match plan_of(alloc, nodes, keep_going) {
+    match plan_of(alloc, graph, keep_going) {
         Ok(plan) => words_of(alloc, &plan),
         Err(PartialFault::Memory) => Words::none(alloc, RowFault::Memory),
     }

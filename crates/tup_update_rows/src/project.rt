@@ -113,10 +113,7 @@ impl Project {
     pub fn site(&self, alloc: Global) -> Result<MemSite, RowFault> {
         let store = self.store(alloc)?;
         match MemSite::new(alloc, self.copies(alloc)?, Vec::new(alloc)) {
-            Ok(mut site) => match (site.db_write(alloc, 0, &store), site.db_sync(alloc)) {
-                (Ok(()), Ok(())) => Ok(site),
-                _ => Err(RowFault::Memory),
-            },
+            Ok(site) => filled(alloc, site, &store),
             Err(_) => Err(RowFault::OtherKind),
         }
     }
@@ -128,6 +125,19 @@ impl Project {
         }
         Ok(files)
     }
+}
+
+/// A site whose store has these bytes, durably.
+fn filled(alloc: Global, mut site: MemSite, store: &[u8]) -> Result<MemSite, RowFault> {
+    if is_filled(alloc, &mut site, store) {
+        Ok(site)
+    } else {
+        Err(RowFault::Memory)
+    }
+}
+
+fn is_filled(alloc: Global, site: &mut MemSite, store: &[u8]) -> bool {
+    site.db_write(alloc, 0, store).is_ok() && site.db_sync(alloc).is_ok()
 }
 
 fn owned(path: Path, maker: Option<u32>, state: OwnedState) -> Record {
@@ -165,10 +175,10 @@ fn run(alloc: Global, said: &Words) -> RunRecord {
 
 /// The state that the word at a place is; that of what was written has the content behind it.
 fn state_at(said: &Words, at: usize) -> OwnedState {
-    match said.word_at(at) {
-        b"never" => OwnedState::Never,
-        b"unsure" => OwnedState::Unsure,
-        b"written" => OwnedState::Written(stamp_at(said, at.saturating_add(1))),
+    match said.str_at(at) {
+        "never" => OwnedState::Never,
+        "unsure" => OwnedState::Unsure,
+        "written" => OwnedState::Written(stamp_at(said, at.saturating_add(1))),
         _ => {
             said.fail(RowFault::OtherKind);
             OwnedState::Never

@@ -1,4 +1,4 @@
-use Rattle.std.proofs.Common.{rules, ◌≢◌, IsTrue, Result, Ok, Err, sym, subst}
+use Rattle.std.proofs.Common.{rules, ◌≢◌, IsTrue, Result, Ok, Err, inr, sym, subst, ◌∙◌}
 use Rattle.std.specs.Result.{IfOk}
 use Rattle.tup_site.specs.Crash.{GoesOn}
 use Rattle.tup_table.specs.Table.{entries_in}
@@ -11,7 +11,7 @@ use Rattle.tup_ledger.specs.Begin.{Begins, BeginStep}
 use Rattle.tup_ledger.specs.declared.beginning.Begun.{Begun}
 use Rattle.tup_ledger.specs.declared.beginning.Begun.TheVariants.{WasThere}
 use Rattle.tup_ledger.proofs.Guarding.{stored}
-use Rattle.tup_ledger.proofs.Opening.{opened_store, begins_not, begins_made, opened_on, made_on}
+use Rattle.tup_ledger.proofs.Opening.{KeepsBegun, opened_store, begins_not, begins_made, keeps_begun, opened_on, made_on}
 use Rattle.tup_ledger.proofs.beginning.begin.Goals as goal
 use Rattle.tup_ledger.proofs.beginning.begin.Goals.{in-Ok, in-Err-NotThere, in-Err}
 
@@ -56,4 +56,19 @@ returns-clause-crash g c = λ tells.
           subst (λ (s : g.row.S.Denot). GoesOn g.S.Site.moment g.S.Site.left_since c.args.site.now s (BeginStep first)) (sym w.site-is)
           (made_on g.S.Site.moment g.S.Site.left_since first c.args.site.now mid w.make.new.site (λ t u w le left. site_laws.earlier mid t u w tells le left) empty.0 (c.open.ensures.crash tells) (w.make.ensures.crash tells))
       | in-Err w ↦ subst (λ (s : g.row.S.Denot). GoesOn g.S.Site.moment g.S.Site.left_since c.args.site.now s (BeginStep first)) (sym w.site-is) opened
+    ]
+
+pub returns-clause-keeps : goal.returns-clause-keeps
+returns-clause-keeps g c = λ tells.
+    let v = g.S.Site.world c.args.site.now in
+    let mid = c.open.new.site in
+    let opened = keeps_begun v (g.S.Site.world mid) (c.open.ensures.keeps tells) in
+    elim c.match-open.branch [
+      | in-Ok w ↦ subst (λ (s : g.row.S.Denot). KeepsBegun v (g.S.Site.world s)) (sym w.site-is) opened
+      | in-Err-NotThere w ↦
+          let told = subst (λ (r : Result Held GraphFault). OpensAs v.store (g.S.Site.world mid).store r) w.in-Err-NotThere.is (c.open.ensures.opens tells) in
+          let empty = subst (λ (f : GraphFault). OpensAs v.store (g.S.Site.world mid).store (Err f)) w.in-Err-NotThere.field-0-is told in
+          subst (λ (s : g.row.S.Denot). KeepsBegun v (g.S.Site.world s)) (sym w.site-is)
+          (inr (inr (empty.0, w.make.ensures.tree tells ∙ c.open.ensures.tree tells)))
+      | in-Err w ↦ subst (λ (s : g.row.S.Denot). KeepsBegun v (g.S.Site.world s)) (sym w.site-is) opened
     ]

@@ -1,12 +1,15 @@
-use Rattle.std.proofs.Common.{ap, subst}
+use Rattle.std.proofs.Common.{ap, subst, ◌∙◌}
 use Rattle.tup_site.specs.Crash.{NoStep}
 use Rattle.tup_site.specs.World.{World}
 use Rattle.tup_table.specs.Table.{entries_in}
 use Rattle.tup_table.proofs.Stands.{stands_on}
 use Rattle.tup_graph.specs.Opening.{IsGraphOf}
 use Rattle.tup_graph.specs.Transactions.{forget_edits, with_forgotten}
-use Rattle.tup_ledger.proofs.Given.{ok_durable}
+use Rattle.tup_ledger.proofs.Given.{ok_after}
+use Rattle.tup_ledger.specs.Owned.{owned_in}
+use Rattle.tup_ledger.proofs.Keys.{owned_without}
 use Rattle.tup_ledger.proofs.Guarding.{durable_now, either_quiet, either_settled, forget_keeps, guards_now, nothing_keeps, pins_on}
+use Rattle.tup_ledger.proofs.Listing.{lists_now, settled_first, settled_not}
 use Rattle.tup_ledger.proofs.giving.give_up.Goals as goal
 
 pub returns-in_err-settle-clause-stands : goal.returns-in_err-settle-clause-stands
@@ -53,11 +56,42 @@ returns-clause-durable g c = λ tells.
     let mid = c.settle.new.site in
     let new = c.forget-ended.new.self in
     let end = c.forget-ended.new.site in
-    ok_durable (forget_edits old.nodes paths) (with_forgotten old.nodes paths) old new c.requires.fresh mid end c.forget-ended.result c.forget-ended.ensures.leaves
-    (λ fresh.
+    ok_after (forget_edits old.nodes paths) (with_forgotten old.nodes paths) old new c.requires.fresh mid end c.forget-ended.result c.forget-ended.ensures.leaves
+    (λ fresh nodes.
     durable_now g.S.Site.world g.S.Site.moment g.S.Site.left_since new.table end (c.forget-ended.ensures.stands tells fresh)
     (pins_on g.S.Site.world g.S.Site.moment g.S.Site.left_since old.nodes (with_forgotten old.nodes paths) mid end (λ t u w le left. site_laws.earlier end t u w tells le left)
     (c.in_ok-settle.ensures.durable tells) (c.forget-ended.ensures.tree tells) (c.forget-ended.ensures.crash tells)))
+
+pub returns-clause-owned : goal.returns-clause-owned
+returns-clause-owned g c =
+    let old = c.args.graph.now in
+    let paths = c.args.paths.now in
+    let new = c.forget-ended.new.self in
+    ok_after (forget_edits old.nodes paths) (with_forgotten old.nodes paths) old new c.requires.fresh c.settle.new.site c.forget-ended.new.site c.forget-ended.result c.forget-ended.ensures.leaves
+    (λ fresh nodes. (fresh, ap owned_in nodes ∙ owned_without old.nodes paths))
+
+pub returns-clause-lists : goal.returns-clause-lists
+returns-clause-lists g c = λ tells.
+    let site_laws = g.met.S.Site g.world.𝓛 g.world.𝓜 g.world.𝓡 ((λ s x. x), (λ x. x), (λ x. x), λ x. x) in
+    let old = c.args.graph.now in
+    let paths = c.args.paths.now in
+    let new = c.forget-ended.new.self in
+    let end = c.forget-ended.new.site in
+    ok_after (forget_edits old.nodes paths) (with_forgotten old.nodes paths) old new c.requires.fresh c.settle.new.site end c.forget-ended.result c.forget-ended.ensures.leaves
+    (λ fresh nodes. lists_now g.S.Site.world g.S.Site.moment g.S.Site.left_since end (site_laws.present end tells) new.table new.nodes (c.forget-ended.ensures.stands tells fresh)
+    (subst (IsGraphOf (entries_in new.table)) c.nodes-2.ensures.value (c.nodes-2.ensures.graph fresh)))
+
+pub returns-in_err-settle-clause-settled : goal.returns-in_err-settle-clause-settled
+returns-in_err-settle-clause-settled g c = λ tells.
+    settled_not g.S.Site.world g.S.Site.moment g.S.Site.left_since (g.S.Site.world c.args.site.now) c.args.site.now c.settle.new.site (c.settle.ensures.crash tells)
+
+pub returns-clause-settled : goal.returns-clause-settled
+returns-clause-settled g c = λ tells.
+    let site_laws = g.met.S.Site g.world.𝓛 g.world.𝓜 g.world.𝓡 ((λ s x. x), (λ x. x), (λ x. x), λ x. x) in
+    let old = c.args.graph.now in
+    let mid = c.settle.new.site in
+    settled_first g.S.Site.world g.S.Site.moment g.S.Site.left_since (g.S.Site.world c.args.site.now) c.args.site.now mid c.forget-ended.new.site old.nodes (with_forgotten old.nodes c.args.paths.now)
+    (λ t u w le left. site_laws.earlier mid t u w tells le left) (c.settle.ensures.same tells) (c.settle.ensures.crash tells) (c.in_ok-settle.ensures.durable tells) (c.forget-ended.ensures.crash tells)
 
 pub returns-clause-crash : goal.returns-clause-crash
 returns-clause-crash g c = λ tells.

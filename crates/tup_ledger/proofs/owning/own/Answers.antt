@@ -4,9 +4,12 @@ use Rattle.tup_graph.specs.Graph.{GraphState}
 use Rattle.tup_graph.specs.Opening.{IsGraphOf}
 use Rattle.tup_kept.proofs.Edited.{ok_given, as_read, as_left, as_crashed}
 use Rattle.tup_kept.proofs.Crashes.{as_it_was}
-use Rattle.tup_ledger.specs.Owned.{own_edits, with_owned}
+use Rattle.tup_ledger.specs.Owned.{own_edits, owned_in, with_owned}
+use Rattle.tup_ledger.proofs.Given.{ok_after}
 use Rattle.tup_ledger.proofs.Guarding.{at_rest, nothing_keeps, own_keeps, guards_now}
 use Rattle.tup_ledger.proofs.Owned.{own_leaves, own_commits}
+use Rattle.tup_ledger.proofs.Keys.{owned_with}
+use Rattle.tup_ledger.proofs.Listing.{lists_now}
 use Rattle.tup_ledger.proofs.owning.own.Goals as goal
 
 pub commit_edits-ended-requires-clause-read : goal.commit_edits-ended-requires-clause-read
@@ -23,6 +26,30 @@ returns-clause-leaves g c =
     let same = ok_given c.in_ok-edits.edits (own_edits c.nodes.result.now paths) c.in_ok-edits.ensures ∙ ap (λ (n : GraphState). own_edits n paths) c.nodes.ensures.value in
     as_left c.in_ok-edits.edits (own_edits old.nodes paths) old.nodes (with_owned old.nodes paths) same (own_leaves old.nodes paths) old c.commit_edits-ended.new.self c.args.site.now c.commit_edits-ended.new.site
     c.commit_edits-ended.result c.commit_edits-ended.ensures.leaves
+
+pub returns-clause-owned : goal.returns-clause-owned
+returns-clause-owned g c =
+    let old = c.args.graph.now in
+    let new = c.commit_edits-ended.new.self in
+    let end = c.commit_edits-ended.new.site in
+    let paths = c.args.paths.now in
+    let same = ok_given c.in_ok-edits.edits (own_edits c.nodes.result.now paths) c.in_ok-edits.ensures ∙ ap (λ (n : GraphState). own_edits n paths) c.nodes.ensures.value in
+    ok_after (own_edits old.nodes paths) (with_owned old.nodes paths) old new c.requires.fresh c.args.site.now end c.commit_edits-ended.result
+    (as_left c.in_ok-edits.edits (own_edits old.nodes paths) old.nodes (with_owned old.nodes paths) same (own_leaves old.nodes paths) old new c.args.site.now end c.commit_edits-ended.result c.commit_edits-ended.ensures.leaves)
+    (λ fresh nodes. (fresh, ap owned_in nodes ∙ owned_with old.nodes paths))
+
+pub returns-clause-lists : goal.returns-clause-lists
+returns-clause-lists g c = λ tells.
+    let site_laws = g.met.S.Site g.world.𝓛 g.world.𝓜 g.world.𝓡 ((λ s x. x), (λ x. x), (λ x. x), λ x. x) in
+    let old = c.args.graph.now in
+    let new = c.commit_edits-ended.new.self in
+    let end = c.commit_edits-ended.new.site in
+    let paths = c.args.paths.now in
+    let same = ok_given c.in_ok-edits.edits (own_edits c.nodes.result.now paths) c.in_ok-edits.ensures ∙ ap (λ (n : GraphState). own_edits n paths) c.nodes.ensures.value in
+    ok_after (own_edits old.nodes paths) (with_owned old.nodes paths) old new c.requires.fresh c.args.site.now end c.commit_edits-ended.result
+    (as_left c.in_ok-edits.edits (own_edits old.nodes paths) old.nodes (with_owned old.nodes paths) same (own_leaves old.nodes paths) old new c.args.site.now end c.commit_edits-ended.result c.commit_edits-ended.ensures.leaves)
+    (λ fresh nodes. lists_now g.S.Site.world g.S.Site.moment g.S.Site.left_since end (site_laws.present end tells) new.table new.nodes (c.commit_edits-ended.ensures.stands tells fresh)
+    (subst (IsGraphOf (entries_in new.table)) c.nodes-2.ensures.value (c.nodes-2.ensures.graph fresh)))
 
 pub returns-clause-crash : goal.returns-clause-crash
 returns-clause-crash g c = λ tells.

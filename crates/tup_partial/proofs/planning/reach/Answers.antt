@@ -1,19 +1,26 @@
 use Rattle.std.proofs.Common.{◌≡◌, ◌↔◌, ℕ, true, List, Contains, sym, subst}
 use Rattle.tup_graph.specs.Above.{IsAbove}
-use Rattle.tup_graph.specs.Graph.{is_flagged}
-use Rattle.tup_partial.specs.Plan.{IsToRun}
+use Rattle.tup_graph.specs.Graph.{GraphState, is_flagged}
+use Rattle.tup_partial.specs.Plan.{AreFlagsOfRules, IsToRun}
 use Rattle.tup_partial.proofs.Reach.{above_others, in_other_words}
 use Rattle.tup_partial.proofs.planning.reach.Goals as goal
 
+-- the flagged rules of the same graph
+flagged_of : (numbers : List ℕ) (nodes g : GraphState) → nodes ≡ g → ((n : ℕ) → Contains numbers n ↔ (is_flagged nodes n ≡ true)) → (n : ℕ) → Contains numbers n ↔ (is_flagged g n ≡ true)
+flagged_of numbers nodes g same flagged = subst (λ (h : GraphState). (n : ℕ) → Contains numbers n ↔ (is_flagged h n ≡ true)) same flagged
+
+pub flagged-requires : goal.flagged-requires
+flagged-requires c = subst AreFlagsOfRules (sym c.nodes.ensures) c.requires.flags
+
 pub above-requires-clause-roots : goal.above-requires-clause-roots
 above-requires-clause-roots c = λ root inside.
-    c.requires.flags root ((c.in_ok-flagged.ensures.flagged root).0 (subst (λ (ns : List ℕ). Contains ns root) c.as_slice.ensures inside))
+    c.requires.flags root ((flagged_of c.in_ok-flagged.flagged c.nodes.result.now c.args.graph.now c.nodes.ensures c.in_ok-flagged.ensures.flagged root).0 (subst (λ (ns : List ℕ). Contains ns root) c.as_slice.ensures inside))
 
 pub returns-clause-reach : goal.returns-clause-reach
 returns-clause-reach c =
     let g = c.args.graph.now in
     let roots = c.as_slice.result.now in
-    let flagged = c.in_ok-flagged.ensures.flagged in
+    let flagged = flagged_of c.in_ok-flagged.flagged c.nodes.result.now g c.nodes.ensures c.in_ok-flagged.ensures.flagged in
     in_other_words (λ (numbers : List ℕ). (n : ℕ) → Contains numbers n ↔ IsAbove g (Contains roots) n) (λ (numbers : List ℕ). (n : ℕ) → Contains numbers n ↔ IsToRun g n) c.above.result
     (λ numbers are n. (
       λ inside. above_others g (Contains roots) (λ root. is_flagged g root ≡ true) (λ root there. (flagged root).0 (subst (λ (ns : List ℕ). Contains ns root) c.as_slice.ensures there)) n ((are n).0 inside),

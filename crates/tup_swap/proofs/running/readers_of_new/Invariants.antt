@@ -1,7 +1,6 @@
-use Rattle.std.proofs.Common.{◌≡◌, take}
-use Rattle.tup_swap.specs.Numbered.{numbered}
-use Rattle.tup_swap.specs.Running.{readers_at}
+use Rattle.std.specs.Prelude.{◌↔◌, ℕ, Contains}
+use Rattle.tup_swap.proofs.Reading.{ReadsOneOf}
 use Rattle.tup_swap.proofs.running.readers_of_new.Given as goal
 
 abbrev pub invariant-loop-at : goal.invariant-loop-at
-invariant-loop-at l = l.found ≡ numbered (readers_at l.readers l.befores) 0 (take l.at l.rules)
+invariant-loop-at l = (number : ℕ) → Contains l.found number ↔ ReadsOneOf l.led l.befores l.rules l.at number

@@ -1,23 +1,23 @@
-use Rattle.std.proofs.Common.{[], map, Ok, inl, refl, sym, subst}
+use Rattle.std.proofs.Common.{[], map, inl, refl, sym, subst}
 use Rattle.std.specs.Prelude.{slice_set}
 use Rattle.tup_site.specs.Crash.{GoesOn}
 use Rattle.tup_update.specs.Compared.{HasCompared}
-use Rattle.tup_update.specs.Images.{MakesStep}
-use Rattle.tup_update.specs.Outcome.{ExactlyTheFiles, MadeBeforeBad, SourcesStay, NothingForgotten, HasCause}
+use Rattle.tup_update.specs.Images.{UpdateStep}
+use Rattle.tup_update.specs.Outcome.{ExactlyTheFiles, MadeBeforeBad, NothingForgotten, HasCause}
 use Rattle.tup_update.specs.Settled.{IsSettled}
 use Rattle.tup_update.specs.Sources.{ends}
-use Rattle.tup_update.specs.SeeingLaws.{rests}
 use Rattle.tup_update.specs.Turns.{names_of}
 use Rattle.tup_update.proofs.Crashing.{at_rest}
 use Rattle.tup_update.proofs.Ending.{no_front}
-use Rattle.tup_update.proofs.Keeping.{no_turns}
+use Rattle.tup_update.proofs.Held.{holds_itself}
+use Rattle.tup_update.proofs.Keeping.{no_turns, unchanged_sources}
 use Rattle.tup_top.specs.Crew.{RanFits, RanInTurn, CrewRuns, CrewCompares}
 use Rattle.tup_top.specs.Order.{Wanted, order}
-use Rattle.tup_top.specs.Promise.{ForUpdate, ForVerify, StopsDemo, CountsAll, HasPlainCause, counts}
+use Rattle.tup_top.specs.Promise.{ForUpdate, ForVerify, NothingDone, QuietStep, StopsDemo, CountsAll, HasPlainCause, counts}
 use Rattle.tup_top.specs.Status.{came_to, compared_to}
 use Rattle.tup_top.specs.declared.status.Status.TheVariants.{Memory}
 use Rattle.tup_top.proofs.Crewed.{crew_cause, crew_compared, crew_runs, crew_compares, no_crew_ran}
-use Rattle.tup_top.proofs.Idle.{memory_of, memory_for_update, memory_for_verify, memory_for_demo, memory_prints, memory_prints_alone}
+use Rattle.tup_top.proofs.Idle.{idle, memory_of, memory_for_update, memory_for_verify, memory_for_demo, memory_prints, memory_prints_alone}
 use Rattle.tup_top.proofs.Success.{succeeds_so, compares_so, sources_stay_so}
 use Rattle.tup_top.proofs.call.tup.Goals as goal
 
@@ -52,7 +52,7 @@ returns-in-Ok-Upd-clause-ran g c = λ tells.
 
 pub returns-in-Ok-Verify-clause-sources_stay : goal.returns-in-Ok-Verify-clause-sources_stay
 returns-in-Ok-Verify-clause-sources_stay g c = λ tells.
-    subst (SourcesStay (g.S.Site.world c.args.site)) (sym (c.verify-status.ensures.same tells)) (sources_stay_so (g.S.Site.world c.args.site))
+    unchanged_sources (g.S.Site.world c.args.site) (g.S.Site.world c.verify-status.new.site) (c.verify-status.ensures.holds tells).tree
 
 pub returns-in-Ok-Verify-clause-plain_cause : goal.returns-in-Ok-Verify-clause-plain_cause
 returns-in-Ok-Verify-clause-plain_cause g c =
@@ -111,7 +111,7 @@ returns-clause-settled g c = λ _.
 pub returns-clause-nothing_forgotten : goal.returns-clause-nothing_forgotten
 returns-clause-nothing_forgotten g c = λ _.
     let world = g.S.Site.world c.args.site in
-    memory_of (order c.args.words.now) world (λ rules. NothingForgotten g.R.Runner.tells g.R.Runner.next rules world world) (inl refl)
+    memory_of (order c.args.words.now) world (λ rules. NothingForgotten g.R.Runner.tells g.R.Runner.next rules world world) (inl (holds_itself world))
 
 pub returns-clause-cause : goal.returns-clause-cause
 returns-clause-cause g c = λ _ _.
@@ -155,14 +155,31 @@ pub returns-clause-crash : goal.returns-clause-crash
 returns-clause-crash g c = λ _.
     let site = c.args.site in
     let world = g.S.Site.world site in
-    memory_of (order c.args.words.now) world (λ rules _. GoesOn g.S.Site.moment g.S.Site.left_since site site (MakesStep g.R.Runner.tells g.R.Runner.next rules world))
-    (at_rest g.S.Site.moment g.S.Site.left_since site (MakesStep g.R.Runner.tells g.R.Runner.next [] world))
+    memory_of (order c.args.words.now) world (λ rules _. GoesOn g.S.Site.moment g.S.Site.left_since site site (UpdateStep g.R.Runner.tells g.R.Runner.next rules world))
+    (at_rest g.S.Site.moment g.S.Site.left_since site (UpdateStep g.R.Runner.tells g.R.Runner.next [] world))
 
 pub returns-in-Ok-Demo-clause-quiet : goal.returns-in-Ok-Demo-clause-quiet
-returns-in-Ok-Demo-clause-quiet g c = λ _ _. rests g.S.Site.moment g.S.Site.left_since c.args.site
+returns-in-Ok-Demo-clause-quiet g c = λ _ _. at_rest g.S.Site.moment g.S.Site.left_since c.args.site (QuietStep (order c.args.words.now))
 
 pub returns-in-Err-Usage-clause-quiet : goal.returns-in-Err-Usage-clause-quiet
-returns-in-Err-Usage-clause-quiet g c = λ _ _. rests g.S.Site.moment g.S.Site.left_since c.args.site
+returns-in-Err-Usage-clause-quiet g c = λ _ _. at_rest g.S.Site.moment g.S.Site.left_since c.args.site (QuietStep (order c.args.words.now))
 
 pub returns-clause-quiet : goal.returns-clause-quiet
-returns-clause-quiet g c = λ _ _. rests g.S.Site.moment g.S.Site.left_since c.args.site
+returns-clause-quiet g c = λ _ _. at_rest g.S.Site.moment g.S.Site.left_since c.args.site (QuietStep (order c.args.words.now))
+
+pub returns-in-Ok-Verify-clause-quiet : goal.returns-in-Ok-Verify-clause-quiet
+returns-in-Ok-Verify-clause-quiet g c = λ tells _.
+    let wanted = rw c.in-Ok-Verify.is at c.order_of.ensures in
+    let is = rw c.in-Ok-Verify.field-0-is at wanted in
+    let site = c.args.site in
+    let new = c.verify-status.new.site in
+    subst (λ (w : Wanted). GoesOn g.S.Site.moment g.S.Site.left_since site new (QuietStep w)) (sym is) (c.verify-status.ensures.crash tells)
+
+pub returns-in-Ok-Verify-clause-nothing_done : goal.returns-in-Ok-Verify-clause-nothing_done
+returns-in-Ok-Verify-clause-nothing_done g c = λ tells.
+    let wanted = rw c.in-Ok-Verify.is at c.order_of.ensures in
+    let is = rw c.in-Ok-Verify.field-0-is at wanted in
+    subst (λ (w : Wanted). NothingDone w (g.S.Site.world c.args.site) (g.S.Site.world c.verify-status.new.site)) (sym is) (c.verify-status.ensures.holds tells)
+
+pub returns-clause-nothing_done : goal.returns-clause-nothing_done
+returns-clause-nothing_done g c = λ _. idle (order c.args.words.now) (g.S.Site.world c.args.site)

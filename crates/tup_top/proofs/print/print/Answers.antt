@@ -1,5 +1,5 @@
-use Rattle.std.proofs.Common.{rules, ◌∙◌, sym, ap, subst}
-use Rattle.tup_top.specs.Printed.{Ends, Prints}
+use Rattle.std.proofs.Common.{rules, ◌∙◌, sym, subst}
+use Rattle.tup_top.specs.Printed.{Ends}
 use Rattle.tup_top.proofs.Causes.{ends_after, memory_after}
 use Rattle.tup_top.proofs.print.print.Goals as goal
 

@@ -1,6 +1,6 @@
 use Rattle.std.proofs.Common.{rules, inl, inr, refl}
 use Rattle.tup_site.specs.Crash.{GoesOn}
-use Rattle.tup_update.specs.Images.{MakesStep}
+use Rattle.tup_update.specs.Images.{UpdateStep}
 use Rattle.tup_update.specs.Log.{RulesFit}
 use Rattle.tup_update.specs.Outcome.{ExactlyTheFiles, MadeBeforeBad, NothingForgotten, HasCause}
 use Rattle.tup_update.specs.Ran.{RunsThese}
@@ -8,7 +8,6 @@ use Rattle.tup_update.specs.Settled.{IsSettled}
 use Rattle.tup_top.specs.Crew.{RanFits, RanInTurn}
 use Rattle.tup_top.specs.Promise.{CountsAll}
 use Rattle.tup_top.specs.Status.{came_to}
-use Rattle.tup_top.specs.declared.status.Status.TheVariants.{Memory}
 use Rattle.tup_top.proofs.Causes.{answered, answered_of, told_of, untold_rules, untold_left, untold_ran, untold_turns, untold_runs, ran_fits, counts_all, counted_cause, prints_nothing, prints_update}
 use Rattle.tup_top.proofs.update.update.Goals as goal
 
@@ -172,6 +171,6 @@ returns-clause-crash g c = λ tells.
     let old = g.S.Site.world c.args.site.now in
     let rules = update.result.rules in
     let fits = update.ensures.rules tells in
-    told_of old rules (λ found. GoesOn g.S.Site.moment g.S.Site.left_since c.args.site.now update.new.site (MakesStep g.R.Runner.tells g.R.Runner.next found old)) (came_to c.print-status.result)
+    told_of old rules (λ found. GoesOn g.S.Site.moment g.S.Site.left_since c.args.site.now update.new.site (UpdateStep g.R.Runner.tells g.R.Runner.next found old)) (came_to c.print-status.result)
     (answered (RulesFit old rules) _ _ _ _ update.result.log update.result.stopped _ _ c.status_of-status.ensures c.print-status.ensures.ends update.ensures.counted_cause fits (untold_rules old rules update.result.stopped fits))
     (update.ensures.crash tells)

@@ -1,24 +1,39 @@
-use Rattle.std.proofs.Common.{sym, subst, ◌∙◌}
-use Rattle.tup_site.specs.Crash.{NoStep, PinsTree}
-use Rattle.tup_site.specs.World.{TreeStays}
-use Rattle.tup_table.proofs.Going.{as_step, nothing_then}
-use Rattle.tup_update.specs.Images.{SettledStep}
+use Rattle.std.proofs.Common.{◌≡◌, ◌∙◌, sym, ap, subst, Some}
+use Rattle.std.specs.Result.{result_err}
+use Rattle.tup_graph.specs.Graph.{GraphState}
+use Rattle.tup_graph.specs.Transactions.{forget_edits}
+use Rattle.tup_update.specs.Outcome.{HasCountedCause}
+use Rattle.tup_update.specs.Parts.{IsLate}
+use Rattle.tup_update.specs.Holding.{Lists}
+use Rattle.tup_update.specs.Stopped.{stop_of_graph}
+use Rattle.tup_update.specs.declared.stop.Stop.TheVariants.{Full}
+use Rattle.tup_update.proofs.Handed.{err_if}
+use Rattle.tup_update.proofs.Held.{by_ledger}
+use Rattle.tup_update.proofs.Keeping.{err_is}
+use Rattle.tup_update.proofs.Storing.{given_late, given_full, graph_counts, no_room}
 use Rattle.tup_update.proofs.build.finish.Goals as goal
 
-pub returns-clause-durable : goal.returns-clause-durable
-returns-clause-durable g c = λ tells.
-    let mid = c.settle.new.self in
-    c.write_store.ensures.durable tells (subst (PinsTree (g.S.Site.left_since mid (g.S.Site.moment mid))) (sym (c.settle.ensures.same tells)) (c.in_ok-settle.ensures.durable tells))
+pub returns-in_err-give_up-clause-late : goal.returns-in_err-give_up-clause-late
+returns-in_err-give_up-clause-late g c =
+    let fault = c.in_err-give_up.field-0.0 in
+    err_if c.from_residual.result (stop_of_graph fault) IsLate c.from_residual.ensures.1
+    (given_late g.S.Site.tells c.args.left.now c.args.graph.now c.give_up.new.graph (g.S.Site.world c.args.site.now) (g.S.Site.world c.give_up.new.site) fault c.in_err-give_up.ensures.gives_up)
 
-pub returns-in_err-settle-clause-crash : goal.returns-in_err-settle-clause-crash
-returns-in_err-settle-clause-crash g c = λ tells. as_step g.S.Site.moment g.S.Site.left_since c.args.site.now c.settle.new.self NoStep (SettledStep (g.S.Site.world c.args.site.now)) (λ v w left none. absurd none) (c.settle.ensures.crash tells)
+pub returns-in_err-give_up-clause-full : goal.returns-in_err-give_up-clause-full
+returns-in_err-give_up-clause-full g c = λ tells full.
+    let fault = c.in_err-give_up.field-0.0 in
+    let held = c.args.graph.now in
+    let left = c.args.left.now in
+    let both : Some (stop_of_graph fault) ≡ Some Full = sym (err_is c.from_residual.result (stop_of_graph fault) c.from_residual.ensures.1) ∙ ap (λ r. result_err r) full in
+    let gives = given_full g.S.Site.tells left held c.give_up.new.graph (g.S.Site.world c.args.site.now) (g.S.Site.world c.give_up.new.site) fault tells c.in_err-give_up.ensures.gives_up (cc both) in
+    no_room g.S.Site.world g.S.Site.moment g.S.Site.left_since (λ (g : GraphState). forget_edits g left) held c.args.site.now (g.S.Site.world c.give_up.new.site) (c.requires.stands tells) gives.1 gives.0
 
-pub returns-clause-crash : goal.returns-clause-crash
-returns-clause-crash g c = λ tells.
-    let site_laws = g.met.S.Site g.world.𝓛 g.world.𝓜 g.world.𝓡 ((λ s x. x), (λ x. x), (λ x. x), λ x. x) in
-    let old = c.args.site.now in
-    let mid = c.settle.new.self in
-    let new = c.write_store.new.site in
-    let now = g.S.Site.world old in
-    nothing_then g.S.Site.moment g.S.Site.left_since old mid new (SettledStep now) (λ t u w le left. site_laws.earlier mid t u w tells le left) (c.settle.ensures.crash tells)
-    (as_step g.S.Site.moment g.S.Site.left_since mid new TreeStays (SettledStep now) (λ v w left same. (same, same ∙ c.in_ok-settle.ensures.durable tells v left)) (c.write_store.ensures.crash tells))
+pub returns-in_err-give_up-clause-counted : goal.returns-in_err-give_up-clause-counted
+returns-in_err-give_up-clause-counted g c =
+    let fault = c.in_err-give_up.field-0.0 in
+    subst (HasCountedCause (g.S.Site.faults c.args.site.now) (g.S.Site.faults c.give_up.new.site)) (sym (err_is c.from_residual.result (stop_of_graph fault) c.from_residual.ensures.1))
+    (graph_counts (g.S.Site.faults c.args.site.now) (g.S.Site.faults c.give_up.new.site) c.give_up.result fault c.in_err-give_up.was c.give_up.ensures.cause)
+
+pub returns-clause-listed : goal.returns-clause-listed
+returns-clause-listed g c = λ tells.
+    subst (Lists (g.S.Site.world c.give_up.new.site).store) c.in_ok-give_up.ensures.owned.1 (by_ledger _ _ (c.in_ok-give_up.ensures.lists tells))

@@ -1,40 +1,125 @@
-use Rattle.std.proofs.Common.{ap, ◌≡◌, ◌∙◌, List, Result, Ok, Err, OnOk, subst}
+use Rattle.std.proofs.Common.{◌≡◌, ◌∙◌, ◌++◌, ℕ, inl, sym, ap, subst, List, Some, Err}
+use Rattle.std.specs.Result.{result_err}
 use Rattle.tup_path.specs.Name.{Names}
-use Rattle.tup_path.specs.Tree.{Tree}
-use Rattle.tup_owned.specs.Owned.{spelling}
-use Rattle.tup_update.specs.Parts.{IsCleared}
+use Rattle.tup_site.specs.World.{TreeStays}
+use Rattle.tup_table.proofs.Going.{as_step}
+use Rattle.tup_graph.specs.Graph.{GraphState}
+use Rattle.tup_kept.specs.Crash.{GraphStep}
+use Rattle.tup_kept.specs.Transaction.{IsFull}
+use Rattle.tup_ledger.specs.Ascending.{ascending}
+use Rattle.tup_ledger.specs.Owned.{own_edits, owned_in, with_owned}
+use Rattle.tup_update.specs.Holding.{Lists}
+use Rattle.tup_update.specs.Outcome.{HasCountedCause}
+use Rattle.tup_update.specs.Parts.{IsLate, SameBeside}
+use Rattle.tup_update.specs.Stopped.{stop_of_graph}
+use Rattle.tup_update.specs.declared.stop.Stop.TheVariants.{Full, Outside}
 use Rattle.tup_update.proofs.Crashing.{prepared, still_listed, written_only}
+use Rattle.tup_update.proofs.Handed.{err_if}
+use Rattle.tup_update.proofs.Held.{by_ledger}
+use Rattle.tup_update.proofs.Keeping.{err_is}
+use Rattle.tup_update.proofs.Storing.{committed_late, committed_full, graph_counts, site_late, site_counts, no_room, stands_on}
 use Rattle.tup_update.proofs.build.prepare.Goals as goal
 
-cleared_of : {E : Type 0} (r : Result (Unit {0}) E) (paths slice : List Names) (old between new : Tree) → slice ≡ paths → between ≡ old → OnOk r (IsCleared slice between new) → OnOk r (IsCleared paths old new)
-cleared_of (Ok value) paths slice old between new is same cleared = subst (λ (t : Tree). IsCleared paths t new) same (subst (λ (l : List Names). IsCleared l between new) is cleared)
-cleared_of (Err e) paths slice old between new is same cleared = cleared
+-- ---- what couldn't be owned
 
-if_ok : {E : Type 0} (r : Result (Unit {0}) E) (P : Type 0) → P → OnOk r P
-if_ok (Ok value) P p = p
-if_ok (Err e) P p = tt
-
-pub returns-clause-cleared : goal.returns-clause-cleared
-returns-clause-cleared g c = λ tells.
-    cleared_of c.clear.result _ _ _ _ _ c.as_slice-2.ensures (c.in_ok-write_store.ensures.tree tells) (c.clear.ensures.cleared tells)
-
-pub returns-in_err-write_store-clause-crash : goal.returns-in_err-write_store-clause-crash
-returns-in_err-write_store-clause-crash g c = λ tells.
+pub returns-in_err-own-clause-crash : goal.returns-in_err-own-clause-crash
+returns-in_err-own-clause-crash g c = λ tells.
     let plan = c.args.plan.now in
-    written_only g.S.Site.moment g.S.Site.left_since c.args.site.now c.write_store.new.site plan.vanished (spelling plan.claimed) (c.write_store.ensures.crash tells)
+    let held = c.args.graph.now in
+    let on = as_step g.S.Site.moment g.S.Site.left_since c.args.site.now c.own.new.site (GraphStep held.nodes (with_owned held.nodes c.as_slice.result.now)) TreeStays (λ v w left step. step.tree) (c.own.ensures.crash tells).on in
+    written_only g.S.Site.moment g.S.Site.left_since c.args.site.now c.own.new.site plan.vanished (ascending (owned_in held.nodes ++ plan.outputs)) on
+
+pub returns-in_err-own-clause-late : goal.returns-in_err-own-clause-late
+returns-in_err-own-clause-late g c =
+    let fault = c.in_err-own.field-0.0 in
+    err_if c.from_residual.result (stop_of_graph fault) IsLate c.from_residual.ensures.1
+    (committed_late (own_edits c.args.graph.now.nodes c.as_slice.result.now) (with_owned c.args.graph.now.nodes c.as_slice.result.now) c.args.graph.now c.own.new.graph c.args.site.now c.own.new.site fault c.in_err-own.ensures.leaves)
+
+pub returns-in_err-own-clause-full : goal.returns-in_err-own-clause-full
+returns-in_err-own-clause-full g c = λ tells full.
+    let fault = c.in_err-own.field-0.0 in
+    let held = c.args.graph.now in
+    let outputs = c.args.plan.now.outputs in
+    let stop : stop_of_graph fault ≡ Full = (let both : Some (stop_of_graph fault) ≡ Some Full = sym (err_is c.from_residual.result (stop_of_graph fault) c.from_residual.ensures.1) ∙ ap (λ r. result_err r) full in cc both) in
+    let is = committed_full (own_edits held.nodes c.as_slice.result.now) (with_owned held.nodes c.as_slice.result.now) held c.own.new.graph c.args.site.now c.own.new.site fault c.in_err-own.ensures.leaves stop in
+    no_room g.S.Site.world g.S.Site.moment g.S.Site.left_since (λ (g : GraphState). own_edits g outputs) held c.args.site.now (g.S.Site.world c.own.new.site) (c.requires.stands tells) (ap (λ s. g.S.Site.world s) is.1)
+    (subst (λ (paths : List Names). IsFull held (own_edits held.nodes paths)) c.as_slice.ensures is.0)
+
+pub returns-in_err-own-clause-counted : goal.returns-in_err-own-clause-counted
+returns-in_err-own-clause-counted g c =
+    let fault = c.in_err-own.field-0.0 in
+    subst (HasCountedCause (g.S.Site.faults c.args.site.now) (g.S.Site.faults c.own.new.site)) (sym (err_is c.from_residual.result (stop_of_graph fault) c.from_residual.ensures.1))
+    (graph_counts (g.S.Site.faults c.args.site.now) (g.S.Site.faults c.own.new.site) c.own.result fault c.in_err-own.was c.own.ensures.cause)
+
+-- ---- it was owned
+
+pub returns-in_err-clear-clause-unclaimed : goal.returns-in_err-clear-clause-unclaimed
+returns-in_err-clear-clause-unclaimed g c = λ tells.
+    let new = g.S.Site.world c.clear.new.site in
+    inl (subst (λ (b : List ℕ). Lists b (ascending (owned_in c.args.graph.now.nodes ++ c.args.plan.now.outputs))) (sym (c.clear.ensures.store tells))
+    (subst (Lists (g.S.Site.world c.own.new.site).store) (c.in_ok-own.ensures.owned.1 ∙ ap (λ (paths : List Names). ascending (owned_in c.args.graph.now.nodes ++ paths)) c.as_slice.ensures)
+    (by_ledger _ _ (c.in_ok-own.ensures.lists tells))))
+
+pub returns-in_err-clear-clause-crash : goal.returns-in_err-clear-clause-crash
+returns-in_err-clear-clause-crash g c = λ tells.
+    let site_laws = g.met.S.Site g.world.𝓛 g.world.𝓜 g.world.𝓡 ((λ s x. x), (λ x. x), (λ x. x), λ x. x) in
+    let plan = c.args.plan.now in
+    let mid = c.own.new.site in
+    let claiming = ascending (owned_in c.args.graph.now.nodes ++ plan.outputs) in
+    let stands = c.own.ensures.stands tells c.in_ok-own.ensures.owned.0 in
+    prepared g.S.Site.moment g.S.Site.left_since c.args.site.now mid c.clear.new.site plan.vanished c.as_slice-2.result.now (g.S.Site.world mid) claiming c.as_slice-2.ensures (λ t u w le left. site_laws.earlier mid t u w tells le left)
+    (as_step g.S.Site.moment g.S.Site.left_since c.args.site.now mid (GraphStep c.args.graph.now.nodes (with_owned c.args.graph.now.nodes c.as_slice.result.now)) TreeStays (λ v w left step. step.tree) (c.own.ensures.crash tells).on) stands.rests.durable
+    (subst (Lists (g.S.Site.world mid).store) (c.in_ok-own.ensures.owned.1 ∙ ap (λ (paths : List Names). ascending (owned_in c.args.graph.now.nodes ++ paths)) c.as_slice.ensures) (by_ledger _ _ (c.in_ok-own.ensures.lists tells)))
+    (c.clear.ensures.crash tells)
+
+pub returns-in_err-clear-clause-full : goal.returns-in_err-clear-clause-full
+returns-in_err-clear-clause-full g c = λ tells full.
+    let failed = c.in_err-clear.field-0.0 in
+    let both : Some (Outside failed) ≡ Some Full = sym (err_is c.from_residual-in_err-clear.result (Outside failed) c.from_residual-in_err-clear.ensures.1) ∙ ap (λ r. result_err r) full in
+    absurd (cc both)
+
+pub returns-in_err-clear-clause-late : goal.returns-in_err-clear-clause-late
+returns-in_err-clear-clause-late g c =
+    let failed = c.in_err-clear.field-0.0 in
+    err_if c.from_residual-in_err-clear.result (Outside failed) IsLate c.from_residual-in_err-clear.ensures.1 (site_late failed (λ n e. c.clear.ensures.never_too_large n (c.in_err-clear.was ∙ ap (λ f. Err f) e)))
+
+pub returns-in_err-clear-clause-counted : goal.returns-in_err-clear-clause-counted
+returns-in_err-clear-clause-counted g c =
+    let failed = c.in_err-clear.field-0.0 in
+    let before = g.S.Site.faults c.args.site.now in
+    let now = g.S.Site.faults c.clear.new.site in
+    let same = c.own.ensures.cause.steady (λ e. cc (c.in_ok-own.was, e)) in
+    subst (HasCountedCause before now) (sym (err_is c.from_residual-in_err-clear.result (Outside failed) c.from_residual-in_err-clear.ensures.1))
+    (subst (λ (n : ℕ). HasCountedCause n now (Some (Outside failed))) same
+    (site_counts (g.S.Site.faults c.own.new.site) now c.clear.result failed c.in_err-clear.was c.clear.ensures.counted (λ n e. c.clear.ensures.never_too_large n (c.in_err-clear.was ∙ ap (λ f. Err f) e))))
+
+-- ---- and the files were removed
 
 pub returns-clause-crash : goal.returns-clause-crash
 returns-clause-crash g c = λ tells.
     let site_laws = g.met.S.Site g.world.𝓛 g.world.𝓜 g.world.𝓡 ((λ s x. x), (λ x. x), (λ x. x), λ x. x) in
     let plan = c.args.plan.now in
-    let mid = c.write_store.new.site in
-    prepared g.S.Site.moment g.S.Site.left_since c.args.site.now mid c.clear.new.site plan.vanished _ (g.S.Site.world mid) (spelling plan.claimed) c.as_slice-2.ensures (λ t u w le left. site_laws.earlier mid t u w tells le left)
-    (c.write_store.ensures.crash tells) (c.in_ok-write_store.ensures.pinned tells) (c.in_ok-write_store.ensures.owned tells ∙ ap spelling c.as_slice.ensures) (c.clear.ensures.crash tells)
+    let mid = c.own.new.site in
+    let claiming = ascending (owned_in c.args.graph.now.nodes ++ plan.outputs) in
+    let stands = c.own.ensures.stands tells c.in_ok-own.ensures.owned.0 in
+    prepared g.S.Site.moment g.S.Site.left_since c.args.site.now mid c.clear.new.site plan.vanished c.as_slice-2.result.now (g.S.Site.world mid) claiming c.as_slice-2.ensures (λ t u w le left. site_laws.earlier mid t u w tells le left)
+    (as_step g.S.Site.moment g.S.Site.left_since c.args.site.now mid (GraphStep c.args.graph.now.nodes (with_owned c.args.graph.now.nodes c.as_slice.result.now)) TreeStays (λ v w left step. step.tree) (c.own.ensures.crash tells).on) stands.rests.durable
+    (subst (Lists (g.S.Site.world mid).store) (c.in_ok-own.ensures.owned.1 ∙ ap (λ (paths : List Names). ascending (owned_in c.args.graph.now.nodes ++ paths)) c.as_slice.ensures) (by_ledger _ _ (c.in_ok-own.ensures.lists tells)))
+    (c.clear.ensures.crash tells)
 
 pub returns-clause-pinned : goal.returns-clause-pinned
 returns-clause-pinned g c = λ tells.
     let site_laws = g.met.S.Site g.world.𝓛 g.world.𝓜 g.world.𝓡 ((λ s x. x), (λ x. x), (λ x. x), λ x. x) in
-    let mid = c.write_store.new.site in
+    let mid = c.own.new.site in
     let new = c.clear.new.site in
-    if_ok c.clear.result _ (still_listed g.S.Site.moment g.S.Site.left_since mid new (g.S.Site.world mid) (g.S.Site.world new) _ (λ t u w le left. site_laws.earlier new t u w tells le left) (c.clear.ensures.crash tells) (c.clear.ensures.store tells)
-    (c.in_ok-write_store.ensures.pinned tells))
+    let stands = c.own.ensures.stands tells c.in_ok-own.ensures.owned.0 in
+    still_listed g.S.Site.moment g.S.Site.left_since mid new (g.S.Site.world mid) (g.S.Site.world new) (SameBeside c.as_slice-2.result.now) (λ t u w le left. site_laws.earlier new t u w tells le left) (c.clear.ensures.crash tells) (c.clear.ensures.store tells)
+    stands.rests.durable
+
+pub returns-clause-stands : goal.returns-clause-stands
+returns-clause-stands g c = λ tells.
+    let site_laws = g.met.S.Site g.world.𝓛 g.world.𝓜 g.world.𝓡 ((λ s x. x), (λ x. x), (λ x. x), λ x. x) in
+    let mid = c.own.new.site in
+    let new = c.clear.new.site in
+    stands_on g.S.Site.world g.S.Site.moment g.S.Site.left_since c.own.new.graph mid new (SameBeside c.as_slice-2.result.now) (λ t u w le left. site_laws.earlier new t u w tells le left) (c.clear.ensures.store tells) (c.clear.ensures.crash tells)
+    (c.own.ensures.stands tells c.in_ok-own.ensures.owned.0)

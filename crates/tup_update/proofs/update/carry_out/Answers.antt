@@ -1,46 +1,104 @@
-use Rattle.std.proofs.Common.{sym, subst}
+use Rattle.std.proofs.Common.{sym, subst, ap}
+use Rattle.std.specs.Result.{result_err}
+use Rattle.tup_path.specs.Tree.{Tree}
+use Rattle.tup_site.specs.World.{World}
+use Rattle.tup_update.specs.Holding.{HoldsOn}
+use Rattle.tup_update.specs.Images.{OpensStep}
 use Rattle.tup_update.specs.Outcome.{Stays, Keeps}
+use Rattle.tup_update.specs.Parts.{IsUnread}
 use Rattle.tup_update.specs.Settled.{IsSettled}
 use Rattle.tup_update.specs.Stopped.{stop_of}
+use Rattle.tup_update.proofs.Before.{stays_before, keeps_before, makes_on}
 use Rattle.tup_update.proofs.Begun.{ran_none, ran_all_of}
-use Rattle.tup_update.proofs.Keeping.{err_is, unread_cause, unread_stays, unread_keeps}
-use Rattle.tup_update.proofs.Settling.{unread_unsettled}
-use Rattle.tup_site.specs.Crash.{GoesOn, NoStep}
-use Rattle.tup_site.specs.World.{World}
-use Rattle.tup_table.proofs.Going.{as_step, nothing_then}
-use Rattle.tup_update.specs.Images.{MakesStep}
+use Rattle.tup_update.proofs.Crashing.{opened_so, opened_only, as_opened, quiet_files, then_quiet}
+use Rattle.tup_update.proofs.Storing.{stands_on}
+use Rattle.tup_update.proofs.Keeping.{err_is, unread_cause, unread_stays, unread_keeps, unopened_stays, unopened_keeps}
+use Rattle.tup_update.proofs.Settling.{unread_unsettled, opening_unsettled}
 use Rattle.tup_update.proofs.update.carry_out.Goals as goal
+
+-- ---- the store couldn't be opened
+
+pub returns-in_err-graph-clause-stays : goal.returns-in_err-graph-clause-stays
+returns-in_err-graph-clause-stays g c = λ tells.
+    let old = g.S.Site.world c.args.site.now in
+    let new = g.S.Site.world c.opened.new.site in
+    let stop = c.in_err-graph.field-0.0 in
+    subst (Stays g.R.Runner.tells g.R.Runner.next c.args.rules.now old new c.args.log.now) (sym (err_is c.from_residual.result stop c.from_residual.ensures.1))
+    (unopened_stays g.R.Runner.tells g.R.Runner.next c.args.rules.now old new c.args.log.now stop c.in_err-graph.ensures.stops (c.in_err-graph.ensures.cause tells) c.requires.rules c.requires.log)
+
+pub returns-in_err-graph-clause-kept : goal.returns-in_err-graph-clause-kept
+returns-in_err-graph-clause-kept g c = λ tells means.
+    let old = g.S.Site.world c.args.site.now in
+    let new = g.S.Site.world c.opened.new.site in
+    let stop = c.in_err-graph.field-0.0 in
+    subst (Keeps g.R.Runner.next c.args.rules.now old new c.args.log.now) (sym (err_is c.from_residual.result stop c.from_residual.ensures.1))
+    (unopened_keeps g.R.Runner.next c.args.rules.now old new c.args.log.now stop c.in_err-graph.ensures.stops (c.in_err-graph.ensures.cause tells) c.requires.log)
+
+pub returns-in_err-graph-clause-settled : goal.returns-in_err-graph-clause-settled
+returns-in_err-graph-clause-settled g c = λ tells.
+    let site = c.opened.new.site in
+    let left = g.S.Site.left_since site (g.S.Site.moment site) in
+    let stop = c.in_err-graph.field-0.0 in
+    subst (IsSettled left (g.S.Site.world site)) (sym (err_is c.from_residual.result stop c.from_residual.ensures.1)) (opening_unsettled left (g.S.Site.world site) stop c.in_err-graph.ensures.stops)
+
+pub returns-in_err-graph-clause-ran : goal.returns-in_err-graph-clause-ran
+returns-in_err-graph-clause-ran g c = λ tells. ran_all_of c.args.log.now.ran _ _ _ (ran_none c.args.log.now.ran _ c.requires.log.2)
+
+pub returns-in_err-graph-clause-crash : goal.returns-in_err-graph-clause-crash
+returns-in_err-graph-clause-crash g c = λ tells.
+    as_opened g.S.Site.moment g.S.Site.left_since g.R.Runner.tells g.R.Runner.next c.args.rules.now c.args.site.now c.opened.new.site (g.S.Site.world c.args.site.now) (c.opened.ensures.crash tells)
+
+-- ---- the sources couldn't be read
 
 pub returns-in_err-project-clause-stays : goal.returns-in_err-project-clause-stays
 returns-in_err-project-clause-stays g c = λ tells.
     let old = g.S.Site.world c.args.site.now in
     let new = g.S.Site.world c.read.new.site in
     let unread = c.in_err-project.field-0.0 in
-    subst (Stays g.R.Runner.tells g.R.Runner.next c.args.rules.now old new c.args.log.now) (sym (err_is c.from_residual.result (stop_of unread) c.from_residual.ensures.1))
-    (unread_stays g.R.Runner.tells g.R.Runner.next c.args.rules.now old new c.args.log.now unread (c.read.ensures.same tells) c.requires.rules c.requires.log)
+    let on = subst (HoldsOn old) (sym (c.read.ensures.same tells)) (c.in_ok-graph.ensures.holds tells) in
+    subst (Stays g.R.Runner.tells g.R.Runner.next c.args.rules.now old new c.args.log.now) (sym (err_is c.from_residual-in_err-project.result (stop_of unread) c.from_residual-in_err-project.ensures.1))
+    (unread_stays g.R.Runner.tells g.R.Runner.next c.args.rules.now old new c.args.log.now unread on c.requires.rules c.requires.log)
 
 pub returns-in_err-project-clause-kept : goal.returns-in_err-project-clause-kept
 returns-in_err-project-clause-kept g c = λ tells means.
     let old = g.S.Site.world c.args.site.now in
     let new = g.S.Site.world c.read.new.site in
     let unread = c.in_err-project.field-0.0 in
-    subst (Keeps g.R.Runner.next c.args.rules.now old new c.args.log.now) (sym (err_is c.from_residual.result (stop_of unread) c.from_residual.ensures.1))
-    (unread_keeps g.R.Runner.next c.args.rules.now old new c.args.log.now unread (unread_cause g.R.Runner.next c.args.rules.now old new unread (c.read.ensures.same tells) (c.in_err-project.ensures.cause tells)) c.requires.log)
+    let same = sym (c.read.ensures.same tells) in
+    let on = subst (HoldsOn old) same (c.in_ok-graph.ensures.holds tells) in
+    subst (Keeps g.R.Runner.next c.args.rules.now old new c.args.log.now) (sym (err_is c.from_residual-in_err-project.result (stop_of unread) c.from_residual-in_err-project.ensures.1))
+    (unread_keeps g.R.Runner.next c.args.rules.now old new c.args.log.now unread
+    (unread_cause g.R.Runner.next c.args.rules.now old new unread on (subst (λ (w : World). IsUnread w unread) same (c.in_err-project.ensures.cause tells))) c.requires.log)
 
 pub returns-in_err-project-clause-settled : goal.returns-in_err-project-clause-settled
 returns-in_err-project-clause-settled g c = λ tells.
     let site = c.read.new.site in
     let left = g.S.Site.left_since site (g.S.Site.moment site) in
     let unread = c.in_err-project.field-0.0 in
-    subst (IsSettled left (g.S.Site.world site)) (sym (err_is c.from_residual.result (stop_of unread) c.from_residual.ensures.1)) (unread_unsettled left (g.S.Site.world site) unread)
+    subst (IsSettled left (g.S.Site.world site)) (sym (err_is c.from_residual-in_err-project.result (stop_of unread) c.from_residual-in_err-project.ensures.1)) (unread_unsettled left (g.S.Site.world site) unread)
 
 pub returns-in_err-project-clause-ran : goal.returns-in_err-project-clause-ran
 returns-in_err-project-clause-ran g c = λ tells. ran_all_of c.args.log.now.ran _ _ _ (ran_none c.args.log.now.ran _ c.requires.log.2)
 
 pub returns-in_err-project-clause-crash : goal.returns-in_err-project-clause-crash
 returns-in_err-project-clause-crash g c = λ tells.
-    let makes = MakesStep g.R.Runner.tells g.R.Runner.next c.args.rules.now (g.S.Site.world c.args.site.now) in
-    as_step g.S.Site.moment g.S.Site.left_since c.args.site.now c.read.new.site NoStep makes (λ v w left none. absurd none) (c.read.ensures.crash tells)
+    opened_only g.S.Site.moment g.S.Site.left_since g.R.Runner.tells g.R.Runner.next c.args.rules.now c.args.site.now c.opened.new.site c.read.new.site (g.S.Site.world c.args.site.now) (c.opened.ensures.crash tells) (c.read.ensures.crash tells)
+
+-- ---- files were made
+
+pub returns-clause-stays : goal.returns-clause-stays
+returns-clause-stays g c = λ tells.
+    let old = g.S.Site.world c.args.site.now in
+    let mid = g.S.Site.world c.read.new.site in
+    let on = subst (HoldsOn old) (sym (c.read.ensures.same tells)) (c.in_ok-graph.ensures.holds tells) in
+    stays_before c.in_ok-project.project.rules old mid (g.S.Site.world c.build-built.new.site) on g.R.Runner.tells g.R.Runner.next _ (result_err c.build-built.result) (makes_on c.build-built.result c.build-built.ensures.makes) (c.build-built.ensures.stays tells)
+
+pub returns-clause-kept : goal.returns-clause-kept
+returns-clause-kept g c = λ tells means.
+    let old = g.S.Site.world c.args.site.now in
+    let mid = g.S.Site.world c.read.new.site in
+    let on = subst (HoldsOn old) (sym (c.read.ensures.same tells)) (c.in_ok-graph.ensures.holds tells) in
+    keeps_before c.in_ok-project.project.rules old mid (g.S.Site.world c.build-built.new.site) on g.R.Runner.next _ (result_err c.build-built.result) (makes_on c.build-built.result c.build-built.ensures.makes) (c.build-built.ensures.kept tells means)
 
 pub returns-clause-crash : goal.returns-clause-crash
 returns-clause-crash g c = λ tells.
@@ -48,6 +106,16 @@ returns-clause-crash g c = λ tells.
     let old = c.args.site.now in
     let mid = c.read.new.site in
     let new = c.build-built.new.site in
-    let makes = MakesStep g.R.Runner.tells g.R.Runner.next c.in_ok-project.project.rules in
-    subst (λ (w : World). GoesOn g.S.Site.moment g.S.Site.left_since old new (makes w)) (c.read.ensures.same tells)
-    (nothing_then g.S.Site.moment g.S.Site.left_since old mid new (makes (g.S.Site.world mid)) (λ t u w le left. site_laws.earlier mid t u w tells le left) (c.read.ensures.crash tells) (c.build-built.ensures.crash tells))
+    let was = g.S.Site.world old in
+    let on = subst (HoldsOn was) (sym (c.read.ensures.same tells)) (c.in_ok-graph.ensures.holds tells) in
+    opened_so g.S.Site.moment g.S.Site.left_since g.R.Runner.tells g.R.Runner.next c.in_ok-project.project.rules old mid new was (g.S.Site.world mid) (λ t u w le left. site_laws.earlier mid t u w tells le left) on
+    (then_quiet g.S.Site.moment g.S.Site.left_since old c.opened.new.site mid (OpensStep was) (c.opened.ensures.crash tells) (c.read.ensures.crash tells)) (c.build-built.ensures.crash tells)
+
+pub build-built-requires-clause-stands : goal.build-built-requires-clause-stands
+build-built-requires-clause-stands g c κs within = λ tells.
+    let site_laws = g.met.S.Site g.world.𝓛 g.world.𝓜 g.world.𝓡 ((λ s x. x), (λ x. x), (λ x. x), λ x. x) in
+    let mid = c.opened.new.site in
+    let new = c.read.new.site in
+    let agree : Tree → Tree → Type 0 = λ _ _. Unit {0} in
+    stands_on g.S.Site.world g.S.Site.moment g.S.Site.left_since c.in_ok-graph.graph mid new agree (λ t u w le left. site_laws.earlier new t u w tells le left) (ap (λ (w : World). w.store) (c.read.ensures.same tells))
+    (quiet_files g.S.Site.moment g.S.Site.left_since mid new agree (c.read.ensures.crash tells)) (c.in_ok-graph.ensures.stands tells)

@@ -67,7 +67,7 @@ invariant_of-self-in-Err g c =
     )
 
 pub fail-requires-clause-true_cause : goal.fail-requires-clause-true_cause
-fail-requires-clause-true_cause g c κs within =
+fail-requires-clause-true_cause g c =
     let site_laws = g.met.S.Site g.world.𝓛 g.world.𝓜 g.world.𝓡 ((λ s x. x), (λ x. x), (λ x. x), λ x. x) in
     refused_true_here g.S.Site g.R.Runner _ c.args.self.now c.self.invariant.1 c.self.view_is c.args.seat c.args.report.now.dir c.args.report.now.text (asks_of c.args.report.now) (ended_of c.args.report.now) c.requires.report c.args.report.now.means
     c.args.files.now c.requires.judged c.in_ok-end.end.rule c.in_ok-end.end.run c.in_ok-end.event c.in_ok-end.ensures.end

@@ -1,10 +1,9 @@
-use Rattle.std.proofs.Common.{◌≡◌, ℕ, List, [], ◌∷◌, length, All, refl, sym, subst, ◌∙◌, arith}
+use Rattle.std.proofs.Common.{◌≡◌, List, [], ◌∷◌, length, All, refl, sym, subst, ◌∙◌, arith}
 use Rattle.std.proofs.lemmas.Bool.{eqb-true}
 use Rattle.tup_table.specs.Appending.{HasShortKey}
 use Rattle.tup_table.specs.Table.{entries_in}
 use Rattle.tup_table.specs.declared.change.Change.{Change}
 use Rattle.tup_kept.specs.Held.{Held}
-use Rattle.tup_kept.specs.Transaction.{to_write}
 use Rattle.tup_kept.proofs.Committing.{sound_now, ascending_now, written_now, unchanged}
 use Rattle.tup_kept.proofs.Crashes.{crash_now}
 use Rattle.tup_kept.proofs.Short.{needed_short}

@@ -1,25 +1,37 @@
-use Rattle.std.proofs.Common.{ℕ, IfSome, Some, Ok, Err, refl, sym, ◌∙◌, ap, subst}
-use Rattle.tup_owned.specs.Owned.{owned_of, spelling}
+use Rattle.std.proofs.Common.{ℕ, List, ◌++◌, IfSome, Some, Ok, Err, inl, inr, refl, sym, ◌∙◌, ap, subst}
+use Rattle.tup_path.specs.Name.{Names}
+use Rattle.tup_graph.specs.Graph.{GraphState}
+use Rattle.tup_graph.specs.Transactions.{forget_edits}
+use Rattle.tup_ledger.specs.Ascending.{ascending}
+use Rattle.tup_ledger.specs.Owned.{own_edits, owned_in}
+use Rattle.tup_update.specs.Holding.{Lists}
 use Rattle.tup_site.specs.World.{World}
 use Rattle.tup_site.specs.declared.fault.SiteFailed.TheVariants.{Memory}
 use Rattle.tup_update.specs.Log.{with_read}
-use Rattle.tup_update.specs.Outcome.{Keeps, Stays, HasCountedCause}
-use Rattle.tup_update.specs.Parts.{HasRun, HasMade}
+use Rattle.tup_update.specs.Outcome.{Keeps, Stays, HasCountedCause, LacksRoom}
+use Rattle.tup_update.specs.Parts.{HasRun, HasMade, SameBesideOutputs}
 use Rattle.tup_update.specs.Ran.{RunsThese, stopped_by, comes_to}
 use Rattle.tup_update.specs.Settled.{IsSettled}
 use Rattle.tup_update.specs.Sources.{files_beside}
 use Rattle.tup_update.specs.Stopped.{stop_of_halt}
 use Rattle.tup_update.specs.Turns.{TurnsFit}
 use Rattle.tup_update.specs.declared.stop.Halt.{Halt}
+use Rattle.tup_update.specs.declared.stop.Stop.{Stop}
 use Rattle.tup_update.specs.declared.stop.Stop.TheVariants.{Outside}
 use Rattle.tup_update.specs.declared.update.Log.{Log}
 use Rattle.tup_update.proofs.Begun.{ran_none, ran_all_of, stopped_runs}
 use Rattle.tup_update.specs.Holding.{holding}
 use Rattle.tup_update.proofs.Ending.{vanished_are}
-use Rattle.tup_update.proofs.Keeping.{IsUnderWay, all_made, err_is, small_failure, way_runnable, unplanned_stays, unplanned_keeps, unprepared_stays, unprepared_keeps, unrun_stays, unrun_keeps, stopped_stays, stopped_keeps, unfinished_stays, unfinished_keeps, finished_stays, finished_keeps}
-use Rattle.tup_update.proofs.Settling.{halted_unsettled}
+use Rattle.tup_update.proofs.Known.{given_up, none_left}
+use Rattle.tup_update.proofs.Storing.{stands_on}
+use Rattle.tup_ledger.specs.Sources.{HaveNoFiles}
+use Rattle.tup_update.specs.Parts.{StopsMaking}
+use Rattle.tup_update.proofs.Handed.{err_if}
+use Rattle.tup_update.proofs.Settling.{late_makes, halt_makes, stopped_makes}
+use Rattle.tup_update.proofs.Keeping.{IsUnderWay, all_made, err_is, way_runnable, unplanned_stays, unplanned_keeps, unprepared_stays, unprepared_keeps, unrun_stays, unrun_keeps, stopped_stays, stopped_keeps, unfinished_stays, unfinished_keeps, finished_stays, finished_keeps}
+use Rattle.tup_update.proofs.Settling.{halted_unsettled, late_unsettled}
 use Rattle.tup_update.specs.Images.{MakesStep}
-use Rattle.tup_update.proofs.Crashing.{at_rest, then_quiet, store_reads, claims_read, prepared_so, ran_so, finished_so}
+use Rattle.tup_update.proofs.Crashing.{at_rest, then_quiet, store_reads, prepared_so, ran_so, finished_so}
 use Rattle.tup_update.proofs.project.Project.build.Goals as goal
 
 -- ---- what could not be planned
@@ -55,17 +67,18 @@ returns-in_err-prepare-clause-stays g c = λ tells.
     let mid = g.S.Site.world c.prepare.new.site in
     let project = c.args.self.now in
     let plan = c.in_ok-plan.plan in
-    let way : IsUnderWay project old mid plan.vanished plan.claimed = record {
+    let claiming = ascending (owned_in c.args.graph.now.nodes ++ plan.outputs) in
+    let way : IsUnderWay project old mid plan.vanished claiming = record {
       is = c.requires.project tells;
       vanishes = c.in_ok-plan.ensures.vanished ∙ vanished_are project old (c.requires.project tells);
-      claims = c.in_ok-plan.ensures.claimed;
+      claims = λ i. ascending (sym c.requires.opened.owned i ++ c.in_ok-plan.ensures.outputs i);
       beside = c.prepare.ensures.others tells;
     } in
     let log : Log = record { read = c.args.log.now.read; removed = c.prepare.new.removed; ran = c.args.log.now.ran; ended = c.args.log.now.ended } in
-    let failed = c.in_err-prepare.field-0.0 in
-    subst (Stays g.R.Runner.tells g.R.Runner.next project.rules old mid (with_read project.read log)) (sym (err_is c.from_residual-in_err-prepare.result (Outside failed) c.from_residual-in_err-prepare.ensures.1))
-    (unprepared_stays project old mid plan.vanished plan.claimed way g.R.Runner.tells g.R.Runner.next log failed (c.prepare.ensures.unclaimed tells)
-    (small_failure c.prepare.result failed c.in_err-prepare.was c.prepare.ensures.never_too_large) c.requires.unused.1 c.requires.unused.2)
+    let stop = c.in_err-prepare.field-0.0 in
+    subst (Stays g.R.Runner.tells g.R.Runner.next project.rules old mid (with_read project.read log)) (sym (err_is c.from_residual-in_err-prepare.result stop c.from_residual-in_err-prepare.ensures.1))
+    (unprepared_stays project old mid plan.vanished claiming way g.R.Runner.tells g.R.Runner.next log stop (c.prepare.ensures.unclaimed tells)
+    (c.in_err-prepare.ensures.late) c.requires.unused.1 c.requires.unused.2)
 
 pub returns-in_err-prepare-clause-kept : goal.returns-in_err-prepare-clause-kept
 returns-in_err-prepare-clause-kept g c = λ tells means.
@@ -73,17 +86,20 @@ returns-in_err-prepare-clause-kept g c = λ tells means.
     let mid = g.S.Site.world c.prepare.new.site in
     let project = c.args.self.now in
     let plan = c.in_ok-plan.plan in
-    let way : IsUnderWay project old mid plan.vanished plan.claimed = record {
+    let claiming = ascending (owned_in c.args.graph.now.nodes ++ plan.outputs) in
+    let way : IsUnderWay project old mid plan.vanished claiming = record {
       is = c.requires.project tells;
       vanishes = c.in_ok-plan.ensures.vanished ∙ vanished_are project old (c.requires.project tells);
-      claims = c.in_ok-plan.ensures.claimed;
+      claims = λ i. ascending (sym c.requires.opened.owned i ++ c.in_ok-plan.ensures.outputs i);
       beside = c.prepare.ensures.others tells;
     } in
     let log : Log = record { read = c.args.log.now.read; removed = c.prepare.new.removed; ran = c.args.log.now.ran; ended = c.args.log.now.ended } in
-    let failed = c.in_err-prepare.field-0.0 in
-    subst (Keeps g.R.Runner.next project.rules old mid (with_read project.read log)) (sym (err_is c.from_residual-in_err-prepare.result (Outside failed) c.from_residual-in_err-prepare.ensures.1))
-    (unprepared_keeps project old mid plan.vanished plan.claimed way g.R.Runner.next c.args.log.now.removed log failed
-    (small_failure c.prepare.result failed c.in_err-prepare.was c.prepare.ensures.never_too_large) c.requires.unused.0 c.prepare.ensures.part c.requires.unused.1 c.requires.unused.2)
+    let stop = c.in_err-prepare.field-0.0 in
+    subst (Keeps g.R.Runner.next project.rules old mid (with_read project.read log)) (sym (err_is c.from_residual-in_err-prepare.result stop c.from_residual-in_err-prepare.ensures.1))
+    (unprepared_keeps project old mid plan.vanished claiming way g.R.Runner.next c.args.log.now.removed log stop
+    c.in_err-prepare.ensures.late
+    (λ e. inl (subst (λ (paths : List Names). LacksRoom (λ (g : GraphState). own_edits g paths) mid) c.in_ok-plan.ensures.outputs (c.prepare.ensures.full tells (c.in_err-prepare.was ∙ ap (λ (s : Stop). Err s) e))))
+    c.requires.unused.0 c.prepare.ensures.part c.requires.unused.1 c.requires.unused.2)
 
 pub returns-in_err-prepare-clause-ran : goal.returns-in_err-prepare-clause-ran
 returns-in_err-prepare-clause-ran g c = λ _.
@@ -92,7 +108,9 @@ returns-in_err-prepare-clause-ran g c = λ _.
 pub returns-in_err-prepare-clause-settled : goal.returns-in_err-prepare-clause-settled
 returns-in_err-prepare-clause-settled g c = λ tells.
     let site = c.prepare.new.site in
-    subst (IsSettled (g.S.Site.left_since site (g.S.Site.moment site)) (g.S.Site.world site)) (sym (err_is c.from_residual-in_err-prepare.result (Outside c.in_err-prepare.field-0.0) c.from_residual-in_err-prepare.ensures.1)) tt
+    let left = g.S.Site.left_since site (g.S.Site.moment site) in
+    let stop = c.in_err-prepare.field-0.0 in
+    subst (IsSettled left (g.S.Site.world site)) (sym (err_is c.from_residual-in_err-prepare.result stop c.from_residual-in_err-prepare.ensures.1)) (late_unsettled left (g.S.Site.world site) stop c.in_err-prepare.ensures.late)
 
 -- ---- rules that were halted
 
@@ -102,17 +120,18 @@ returns-in_err-bad-clause-stays g c = λ tells.
     let mid = g.S.Site.world c.prepare.new.site in
     let project = c.args.self.now in
     let plan = c.in_ok-plan.plan in
-    let way : IsUnderWay project old mid plan.vanished plan.claimed = record {
+    let claiming = ascending (owned_in c.args.graph.now.nodes ++ plan.outputs) in
+    let way : IsUnderWay project old mid plan.vanished claiming = record {
       is = c.requires.project tells;
       vanishes = c.in_ok-plan.ensures.vanished ∙ vanished_are project old (c.requires.project tells);
-      claims = c.in_ok-plan.ensures.claimed;
+      claims = λ i. ascending (sym c.requires.opened.owned i ++ c.in_ok-plan.ensures.outputs i);
       beside = c.prepare.ensures.others tells;
     } in
     let log : Log = record { read = c.args.log.now.read; removed = c.prepare.new.removed; ran = c.run.new.ran; ended = c.run.new.ended } in
     let ran = g.S.Site.world c.run.new.site in
     let halt = c.in_err-bad.field-0.0 in
     subst (Stays g.R.Runner.tells g.R.Runner.next project.rules old ran (with_read project.read log)) (sym (err_is c.from_residual-in_err-bad.result (stop_of_halt halt) c.from_residual-in_err-bad.ensures.1))
-    (unrun_stays project old mid plan.vanished plan.claimed way g.R.Runner.tells g.R.Runner.next ran log halt (c.run.ensures.others tells) (c.run.ensures.store tells ∙ c.in_ok-prepare.ensures.claimed tells)
+    (unrun_stays project old mid plan.vanished claiming way g.R.Runner.tells g.R.Runner.next ran log halt (c.run.ensures.others tells) (subst (λ (b : List ℕ). Lists b claiming) (sym (c.run.ensures.store tells)) (c.in_ok-prepare.ensures.claimed tells))
     (subst (TurnsFit project.rules log.ran log.ended) (ap comes_to c.in_err-bad.was) (c.run.ensures.in_turn tells)))
 
 pub returns-in_err-bad-clause-kept : goal.returns-in_err-bad-clause-kept
@@ -121,17 +140,18 @@ returns-in_err-bad-clause-kept g c = λ tells means.
     let mid = g.S.Site.world c.prepare.new.site in
     let project = c.args.self.now in
     let plan = c.in_ok-plan.plan in
-    let way : IsUnderWay project old mid plan.vanished plan.claimed = record {
+    let claiming = ascending (owned_in c.args.graph.now.nodes ++ plan.outputs) in
+    let way : IsUnderWay project old mid plan.vanished claiming = record {
       is = c.requires.project tells;
       vanishes = c.in_ok-plan.ensures.vanished ∙ vanished_are project old (c.requires.project tells);
-      claims = c.in_ok-plan.ensures.claimed;
+      claims = λ i. ascending (sym c.requires.opened.owned i ++ c.in_ok-plan.ensures.outputs i);
       beside = c.prepare.ensures.others tells;
     } in
     let log : Log = record { read = c.args.log.now.read; removed = c.prepare.new.removed; ran = c.run.new.ran; ended = c.run.new.ended } in
     let ran = g.S.Site.world c.run.new.site in
     let halt = c.in_err-bad.field-0.0 in
     subst (Keeps g.R.Runner.next project.rules old ran (with_read project.read log)) (sym (err_is c.from_residual-in_err-bad.result (stop_of_halt halt) c.from_residual-in_err-bad.ensures.1))
-    (unrun_keeps project old mid plan.vanished plan.claimed way g.R.Runner.next ran c.args.log.now.removed log halt
+    (unrun_keeps project old mid plan.vanished claiming way g.R.Runner.next ran c.args.log.now.removed log halt
     (λ n e. c.run.ensures.large tells n (c.in_err-bad.was ∙ ap (λ (h : Halt). Err h) e)) c.requires.unused.0 c.in_ok-prepare.ensures.removed
     (c.run.ensures.part tells means))
 
@@ -157,10 +177,11 @@ returns-in-Some-clause-stays g c = λ tells.
     let mid = g.S.Site.world c.prepare.new.site in
     let project = c.args.self.now in
     let plan = c.in_ok-plan.plan in
-    let way : IsUnderWay project old mid plan.vanished plan.claimed = record {
+    let claiming = ascending (owned_in c.args.graph.now.nodes ++ plan.outputs) in
+    let way : IsUnderWay project old mid plan.vanished claiming = record {
       is = c.requires.project tells;
       vanishes = c.in_ok-plan.ensures.vanished ∙ vanished_are project old (c.requires.project tells);
-      claims = c.in_ok-plan.ensures.claimed;
+      claims = λ i. ascending (sym c.requires.opened.owned i ++ c.in_ok-plan.ensures.outputs i);
       beside = c.prepare.ensures.others tells;
     } in
     let log : Log = record { read = c.args.log.now.read; removed = c.prepare.new.removed; ran = c.run.new.ran; ended = c.run.new.ended } in
@@ -168,7 +189,7 @@ returns-in-Some-clause-stays g c = λ tells.
     let bad = c.in-Some.bad in
     let stop = c.stop_at.result in
     subst (λ (w : World). Stays g.R.Runner.tells g.R.Runner.next project.rules old w (with_read project.read log) (Some stop)) (sym (c.stop_at.ensures.same tells))
-    (stopped_stays project old mid plan.vanished plan.claimed way g.R.Runner.tells g.R.Runner.next ran log bad.0 bad.1 stop c.stop_at.ensures.stops (c.run.ensures.others tells) (c.run.ensures.store tells ∙ c.in_ok-prepare.ensures.claimed tells)
+    (stopped_stays project old mid plan.vanished claiming way g.R.Runner.tells g.R.Runner.next ran log bad.0 bad.1 stop c.stop_at.ensures.stops (c.run.ensures.others tells) (subst (λ (b : List ℕ). Lists b claiming) (sym (c.run.ensures.store tells)) (c.in_ok-prepare.ensures.claimed tells))
     (subst (TurnsFit project.rules log.ran log.ended) (ap comes_to (c.in_ok-bad.was ∙ ap (λ o. Ok o) c.in-Some.is)) (c.run.ensures.in_turn tells)))
 
 pub returns-in-Some-clause-kept : goal.returns-in-Some-clause-kept
@@ -177,10 +198,11 @@ returns-in-Some-clause-kept g c = λ tells means.
     let mid = g.S.Site.world c.prepare.new.site in
     let project = c.args.self.now in
     let plan = c.in_ok-plan.plan in
-    let way : IsUnderWay project old mid plan.vanished plan.claimed = record {
+    let claiming = ascending (owned_in c.args.graph.now.nodes ++ plan.outputs) in
+    let way : IsUnderWay project old mid plan.vanished claiming = record {
       is = c.requires.project tells;
       vanishes = c.in_ok-plan.ensures.vanished ∙ vanished_are project old (c.requires.project tells);
-      claims = c.in_ok-plan.ensures.claimed;
+      claims = λ i. ascending (sym c.requires.opened.owned i ++ c.in_ok-plan.ensures.outputs i);
       beside = c.prepare.ensures.others tells;
     } in
     let log : Log = record { read = c.args.log.now.read; removed = c.prepare.new.removed; ran = c.run.new.ran; ended = c.run.new.ended } in
@@ -190,7 +212,7 @@ returns-in-Some-clause-kept g c = λ tells means.
     let sources = files_beside project.owned mid.tree in
     let made = c.in_ok-bad.ensures.made tells means in
     subst (λ (w : World). Keeps g.R.Runner.next project.rules old w (with_read project.read log) (Some stop)) (sym (c.stop_at.ensures.same tells))
-    (stopped_keeps project old mid plan.vanished plan.claimed way g.R.Runner.next ran c.args.log.now.removed log bad.0 bad.1 stop c.stop_at.ensures.stops (c.in_ok-prepare.ensures.cleared tells)
+    (stopped_keeps project old mid plan.vanished claiming way g.R.Runner.next ran c.args.log.now.removed log bad.0 bad.1 stop c.stop_at.ensures.stops (c.in_ok-prepare.ensures.cleared tells)
     (subst (λ o. IfSome o (λ _. HasMade g.R.Runner.next project.rules sources mid.tree ran.tree)) c.in-Some.is made)
     (subst (HasRun g.R.Runner.next project.rules sources ran.tree) c.in-Some.is (c.in_ok-bad.ensures.run tells means)) c.requires.unused.0 c.in_ok-prepare.ensures.removed
     (c.in_ok-bad.ensures.noted tells means))
@@ -205,7 +227,7 @@ returns-in-Some-clause-ran g c = λ tells.
 
 pub returns-in-Some-clause-counted : goal.returns-in-Some-clause-counted
 returns-in-Some-clause-counted g c =
-    let same = c.run.ensures.cause.steady (λ e. cc (c.in_ok-bad.was, e)) ∙ c.prepare.ensures.counted.steady (λ e. cc (c.in_ok-prepare.was, e)) in
+    let same = c.run.ensures.cause.steady (λ e. cc (c.in_ok-bad.was, e)) ∙ c.in_ok-prepare.ensures.counted in
     subst (λ (n : ℕ). HasCountedCause n (g.S.Site.faults c.stop_at.new.site) (Some c.stop_at.result)) same c.stop_at.ensures.counted
 
 pub returns-in-Some-clause-counted_runs : goal.returns-in-Some-clause-counted_runs
@@ -220,20 +242,21 @@ returns-in_err-finish-in-None-clause-stays g c = λ tells.
     let mid = g.S.Site.world c.prepare.new.site in
     let project = c.args.self.now in
     let plan = c.in_ok-plan.plan in
-    let way : IsUnderWay project old mid plan.vanished plan.claimed = record {
+    let claiming = ascending (owned_in c.args.graph.now.nodes ++ plan.outputs) in
+    let way : IsUnderWay project old mid plan.vanished claiming = record {
       is = c.requires.project tells;
       vanishes = c.in_ok-plan.ensures.vanished ∙ vanished_are project old (c.requires.project tells);
-      claims = c.in_ok-plan.ensures.claimed;
+      claims = λ i. ascending (sym c.requires.opened.owned i ++ c.in_ok-plan.ensures.outputs i);
       beside = c.prepare.ensures.others tells;
     } in
     let log : Log = record { read = c.args.log.now.read; removed = c.prepare.new.removed; ran = c.run.new.ran; ended = c.run.new.ended } in
     let ran = g.S.Site.world c.run.new.site in
     let new = g.S.Site.world c.finish.new.site in
-    let failed = c.in_err-finish-in-None.field-0.0 in
+    let stop = c.in_err-finish-in-None.field-0.0 in
     let sources = files_beside project.owned mid.tree in
-    subst (Stays g.R.Runner.tells g.R.Runner.next project.rules old new (with_read project.read log)) (sym (err_is c.from_residual-in_err-finish-in-None.result (Outside failed) c.from_residual-in_err-finish-in-None.ensures.1))
-    (unfinished_stays project old mid plan.vanished plan.claimed way g.R.Runner.tells g.R.Runner.next ran new log failed (c.in_ok-prepare.ensures.cleared tells) (c.run.ensures.others tells) (c.finish.ensures.tree tells)
-    (small_failure c.finish.result failed c.in_err-finish-in-None.was c.finish.ensures.never_too_large)
+    subst (Stays g.R.Runner.tells g.R.Runner.next project.rules old new (with_read project.read log)) (sym (err_is c.from_residual-in_err-finish-in-None.result stop c.from_residual-in_err-finish-in-None.ensures.1))
+    (unfinished_stays project old mid plan.vanished claiming way g.R.Runner.tells g.R.Runner.next ran new log stop (c.in_ok-prepare.ensures.cleared tells) (c.run.ensures.others tells) (c.finish.ensures.tree tells)
+    c.in_err-finish-in-None.ensures.late
     (λ means. subst (HasRun g.R.Runner.next project.rules sources ran.tree) c.in-None.is (c.in_ok-bad.ensures.run tells means))
     (subst (TurnsFit project.rules log.ran log.ended) (ap comes_to (c.in_ok-bad.was ∙ ap (λ o. Ok o) c.in-None.is)) (c.run.ensures.in_turn tells)))
 
@@ -243,18 +266,20 @@ returns-in_err-finish-in-None-clause-kept g c = λ tells means.
     let mid = g.S.Site.world c.prepare.new.site in
     let project = c.args.self.now in
     let plan = c.in_ok-plan.plan in
-    let way : IsUnderWay project old mid plan.vanished plan.claimed = record {
+    let claiming = ascending (owned_in c.args.graph.now.nodes ++ plan.outputs) in
+    let way : IsUnderWay project old mid plan.vanished claiming = record {
       is = c.requires.project tells;
       vanishes = c.in_ok-plan.ensures.vanished ∙ vanished_are project old (c.requires.project tells);
-      claims = c.in_ok-plan.ensures.claimed;
+      claims = λ i. ascending (sym c.requires.opened.owned i ++ c.in_ok-plan.ensures.outputs i);
       beside = c.prepare.ensures.others tells;
     } in
     let log : Log = record { read = c.args.log.now.read; removed = c.prepare.new.removed; ran = c.run.new.ran; ended = c.run.new.ended } in
     let new = g.S.Site.world c.finish.new.site in
-    let failed = c.in_err-finish-in-None.field-0.0 in
-    subst (Keeps g.R.Runner.next project.rules old new (with_read project.read log)) (sym (err_is c.from_residual-in_err-finish-in-None.result (Outside failed) c.from_residual-in_err-finish-in-None.ensures.1))
-    (unfinished_keeps project old mid plan.vanished plan.claimed way g.R.Runner.next new c.args.log.now.removed log failed
-    (small_failure c.finish.result failed c.in_err-finish-in-None.was c.finish.ensures.never_too_large)
+    let stop = c.in_err-finish-in-None.field-0.0 in
+    subst (Keeps g.R.Runner.next project.rules old new (with_read project.read log)) (sym (err_is c.from_residual-in_err-finish-in-None.result stop c.from_residual-in_err-finish-in-None.ensures.1))
+    (unfinished_keeps project old mid plan.vanished claiming way g.R.Runner.next new c.args.log.now.removed log stop
+    c.in_err-finish-in-None.ensures.late
+    (λ e. inr (subst (λ (paths : List Names). LacksRoom (λ (g : GraphState). forget_edits g paths) new) (c.as_slice.ensures ∙ c.in_ok-plan.ensures.left) (c.finish.ensures.full tells (c.in_err-finish-in-None.was ∙ ap (λ (s : Stop). Err s) e))))
     c.requires.unused.0 c.in_ok-prepare.ensures.removed (c.in_ok-bad.ensures.noted tells means))
 
 pub returns-in_err-finish-in-None-clause-ran : goal.returns-in_err-finish-in-None-clause-ran
@@ -265,7 +290,9 @@ returns-in_err-finish-in-None-clause-ran g c = λ tells.
 pub returns-in_err-finish-in-None-clause-settled : goal.returns-in_err-finish-in-None-clause-settled
 returns-in_err-finish-in-None-clause-settled g c = λ tells.
     let site = c.finish.new.site in
-    subst (IsSettled (g.S.Site.left_since site (g.S.Site.moment site)) (g.S.Site.world site)) (sym (err_is c.from_residual-in_err-finish-in-None.result (Outside c.in_err-finish-in-None.field-0.0) c.from_residual-in_err-finish-in-None.ensures.1)) tt
+    let left = g.S.Site.left_since site (g.S.Site.moment site) in
+    let stop = c.in_err-finish-in-None.field-0.0 in
+    subst (IsSettled left (g.S.Site.world site)) (sym (err_is c.from_residual-in_err-finish-in-None.result stop c.from_residual-in_err-finish-in-None.ensures.1)) (late_unsettled left (g.S.Site.world site) stop c.in_err-finish-in-None.ensures.late)
 
 pub returns-clause-stays : goal.returns-clause-stays
 returns-clause-stays g c = λ tells.
@@ -273,17 +300,18 @@ returns-clause-stays g c = λ tells.
     let mid = g.S.Site.world c.prepare.new.site in
     let project = c.args.self.now in
     let plan = c.in_ok-plan.plan in
-    let way : IsUnderWay project old mid plan.vanished plan.claimed = record {
+    let claiming = ascending (owned_in c.args.graph.now.nodes ++ plan.outputs) in
+    let way : IsUnderWay project old mid plan.vanished claiming = record {
       is = c.requires.project tells;
       vanishes = c.in_ok-plan.ensures.vanished ∙ vanished_are project old (c.requires.project tells);
-      claims = c.in_ok-plan.ensures.claimed;
+      claims = λ i. ascending (sym c.requires.opened.owned i ++ c.in_ok-plan.ensures.outputs i);
       beside = c.prepare.ensures.others tells;
     } in
     let log : Log = record { read = c.args.log.now.read; removed = c.prepare.new.removed; ran = c.run.new.ran; ended = c.run.new.ended } in
     let ran = g.S.Site.world c.run.new.site in
     let new = g.S.Site.world c.finish.new.site in
-    finished_stays project old mid plan.vanished plan.claimed way g.R.Runner.tells g.R.Runner.next ran new plan.listed log (c.in_ok-prepare.ensures.cleared tells) (c.run.ensures.others tells) (c.finish.ensures.tree tells)
-    (c.in_ok-finish-in-None.ensures.listed tells ∙ ap spelling c.as_slice.ensures) c.in_ok-plan.ensures.listed
+    finished_stays project old mid plan.vanished claiming way g.R.Runner.tells g.R.Runner.next ran new log (c.in_ok-prepare.ensures.cleared tells) (c.run.ensures.others tells) (c.finish.ensures.tree tells)
+    (given_up project.owned project.rules (owned_in c.args.graph.now.nodes) plan.outputs plan.left _ (owned_in c.prepare.new.graph.nodes) new.store c.requires.opened.owned c.in_ok-plan.ensures.outputs c.in_ok-plan.ensures.left c.as_slice.ensures c.in_ok-prepare.ensures.opened.owned (c.in_ok-finish-in-None.ensures.listed tells))
     (subst (TurnsFit project.rules log.ran log.ended) (ap comes_to (c.in_ok-bad.was ∙ ap (λ o. Ok o) c.in-None.is)) (c.run.ensures.in_turn tells))
 
 pub returns-clause-kept : goal.returns-clause-kept
@@ -292,19 +320,20 @@ returns-clause-kept g c = λ tells means.
     let mid = g.S.Site.world c.prepare.new.site in
     let project = c.args.self.now in
     let plan = c.in_ok-plan.plan in
-    let way : IsUnderWay project old mid plan.vanished plan.claimed = record {
+    let claiming = ascending (owned_in c.args.graph.now.nodes ++ plan.outputs) in
+    let way : IsUnderWay project old mid plan.vanished claiming = record {
       is = c.requires.project tells;
       vanishes = c.in_ok-plan.ensures.vanished ∙ vanished_are project old (c.requires.project tells);
-      claims = c.in_ok-plan.ensures.claimed;
+      claims = λ i. ascending (sym c.requires.opened.owned i ++ c.in_ok-plan.ensures.outputs i);
       beside = c.prepare.ensures.others tells;
     } in
     let log : Log = record { read = c.args.log.now.read; removed = c.prepare.new.removed; ran = c.run.new.ran; ended = c.run.new.ended } in
     let ran = g.S.Site.world c.run.new.site in
     let new = g.S.Site.world c.finish.new.site in
     let sources = files_beside project.owned mid.tree in
-    finished_keeps project old mid plan.vanished plan.claimed way g.R.Runner.next ran new c.args.log.now.removed plan.listed log
+    finished_keeps project old mid plan.vanished claiming way g.R.Runner.next ran new c.args.log.now.removed log
     (subst (HasRun g.R.Runner.next project.rules sources ran.tree) c.in-None.is (c.in_ok-bad.ensures.run tells means)) (c.finish.ensures.tree tells)
-    (c.in_ok-finish-in-None.ensures.listed tells ∙ ap spelling c.as_slice.ensures) c.in_ok-plan.ensures.listed
+    (given_up project.owned project.rules (owned_in c.args.graph.now.nodes) plan.outputs plan.left _ (owned_in c.prepare.new.graph.nodes) new.store c.requires.opened.owned c.in_ok-plan.ensures.outputs c.in_ok-plan.ensures.left c.as_slice.ensures c.in_ok-prepare.ensures.opened.owned (c.in_ok-finish-in-None.ensures.listed tells))
     c.requires.unused.0 c.in_ok-prepare.ensures.removed (c.in_ok-bad.ensures.noted tells means)
 
 pub returns-clause-ran : goal.returns-clause-ran
@@ -317,13 +346,14 @@ run-requires-clause-runnable g c κs = λ lives tells.
     let mid = g.S.Site.world c.prepare.new.site in
     let project = c.args.self.now in
     let plan = c.in_ok-plan.plan in
-    let way : IsUnderWay project old mid plan.vanished plan.claimed = record {
+    let claiming = ascending (owned_in c.args.graph.now.nodes ++ plan.outputs) in
+    let way : IsUnderWay project old mid plan.vanished claiming = record {
       is = c.requires.project tells;
       vanishes = c.in_ok-plan.ensures.vanished ∙ vanished_are project old (c.requires.project tells);
-      claims = c.in_ok-plan.ensures.claimed;
+      claims = λ i. ascending (sym c.requires.opened.owned i ++ c.in_ok-plan.ensures.outputs i);
       beside = c.prepare.ensures.others tells;
     } in
-    way_runnable project old mid plan.vanished plan.claimed way (c.in_ok-prepare.ensures.cleared tells)
+    way_runnable project old mid plan.vanished claiming way (c.in_ok-prepare.ensures.cleared tells)
 
 -- ---- what it adds to what a crash may leave
 
@@ -338,8 +368,9 @@ returns-in_err-prepare-clause-crash g c = λ tells.
     let old = g.S.Site.world site in
     let project = c.args.self.now in
     let plan = c.in_ok-plan.plan in
+    let claiming = ascending (owned_in c.args.graph.now.nodes ++ plan.outputs) in
     let is = c.requires.project tells in
-    let prepared = prepared_so g.S.Site.moment g.S.Site.left_since g.R.Runner.tells g.R.Runner.next project.rules old (holding old project.owned) (store_reads project old is) is.asked site mid plan.vanished (spelling plan.claimed) (c.in_ok-plan.ensures.vanished ∙ vanished_are project old is) (claims_read project old plan.claimed is c.in_ok-plan.ensures.claimed) (c.prepare.ensures.crash tells) in
+    let prepared = prepared_so g.S.Site.moment g.S.Site.left_since g.R.Runner.tells g.R.Runner.next project.rules old (holding old project.owned) (store_reads project old is) is.asked site mid plan.vanished claiming (c.in_ok-plan.ensures.vanished ∙ vanished_are project old is) (λ i. ascending (sym c.requires.opened.owned i ++ c.in_ok-plan.ensures.outputs i)) (c.prepare.ensures.crash tells) in
     prepared
 
 pub returns-in_err-bad-clause-crash : goal.returns-in_err-bad-clause-crash
@@ -350,9 +381,10 @@ returns-in_err-bad-clause-crash g c = λ tells.
     let old = g.S.Site.world site in
     let project = c.args.self.now in
     let plan = c.in_ok-plan.plan in
+    let claiming = ascending (owned_in c.args.graph.now.nodes ++ plan.outputs) in
     let is = c.requires.project tells in
-    let prepared = prepared_so g.S.Site.moment g.S.Site.left_since g.R.Runner.tells g.R.Runner.next project.rules old (holding old project.owned) (store_reads project old is) is.asked site mid plan.vanished (spelling plan.claimed) (c.in_ok-plan.ensures.vanished ∙ vanished_are project old is) (claims_read project old plan.claimed is c.in_ok-plan.ensures.claimed) (c.prepare.ensures.crash tells) in
-    let stored = ap owned_of (c.in_ok-prepare.ensures.claimed tells) ∙ claims_read project old plan.claimed is c.in_ok-plan.ensures.claimed in
+    let prepared = prepared_so g.S.Site.moment g.S.Site.left_since g.R.Runner.tells g.R.Runner.next project.rules old (holding old project.owned) (store_reads project old is) is.asked site mid plan.vanished claiming (c.in_ok-plan.ensures.vanished ∙ vanished_are project old is) (λ i. ascending (sym c.requires.opened.owned i ++ c.in_ok-plan.ensures.outputs i)) (c.prepare.ensures.crash tells) in
+    let stored = subst (Lists (g.S.Site.world mid).store) (λ i. ascending (sym c.requires.opened.owned i ++ c.in_ok-plan.ensures.outputs i)) (c.in_ok-prepare.ensures.claimed tells) in
     let ran = ran_so g.S.Site.moment g.S.Site.left_since g.R.Runner.tells g.R.Runner.next project.rules old (holding old project.owned) (store_reads project old is) is.asked site mid c.run.new.site (g.S.Site.world mid) (λ t u w le left. site_laws.earlier mid t u w tells le left) (c.in_ok-prepare.ensures.pinned tells) stored prepared (c.run.ensures.crash tells) in
     ran
 
@@ -364,9 +396,10 @@ returns-in-Some-clause-crash g c = λ tells.
     let old = g.S.Site.world site in
     let project = c.args.self.now in
     let plan = c.in_ok-plan.plan in
+    let claiming = ascending (owned_in c.args.graph.now.nodes ++ plan.outputs) in
     let is = c.requires.project tells in
-    let prepared = prepared_so g.S.Site.moment g.S.Site.left_since g.R.Runner.tells g.R.Runner.next project.rules old (holding old project.owned) (store_reads project old is) is.asked site mid plan.vanished (spelling plan.claimed) (c.in_ok-plan.ensures.vanished ∙ vanished_are project old is) (claims_read project old plan.claimed is c.in_ok-plan.ensures.claimed) (c.prepare.ensures.crash tells) in
-    let stored = ap owned_of (c.in_ok-prepare.ensures.claimed tells) ∙ claims_read project old plan.claimed is c.in_ok-plan.ensures.claimed in
+    let prepared = prepared_so g.S.Site.moment g.S.Site.left_since g.R.Runner.tells g.R.Runner.next project.rules old (holding old project.owned) (store_reads project old is) is.asked site mid plan.vanished claiming (c.in_ok-plan.ensures.vanished ∙ vanished_are project old is) (λ i. ascending (sym c.requires.opened.owned i ++ c.in_ok-plan.ensures.outputs i)) (c.prepare.ensures.crash tells) in
+    let stored = subst (Lists (g.S.Site.world mid).store) (λ i. ascending (sym c.requires.opened.owned i ++ c.in_ok-plan.ensures.outputs i)) (c.in_ok-prepare.ensures.claimed tells) in
     let ran = ran_so g.S.Site.moment g.S.Site.left_since g.R.Runner.tells g.R.Runner.next project.rules old (holding old project.owned) (store_reads project old is) is.asked site mid c.run.new.site (g.S.Site.world mid) (λ t u w le left. site_laws.earlier mid t u w tells le left) (c.in_ok-prepare.ensures.pinned tells) stored prepared (c.run.ensures.crash tells) in
     then_quiet g.S.Site.moment g.S.Site.left_since site c.run.new.site c.stop_at.new.site (MakesStep g.R.Runner.tells g.R.Runner.next project.rules old) ran (c.stop_at.ensures.crash tells)
 
@@ -378,19 +411,20 @@ returns-in_err-finish-in-None-clause-crash g c = λ tells.
     let old = g.S.Site.world site in
     let project = c.args.self.now in
     let plan = c.in_ok-plan.plan in
+    let claiming = ascending (owned_in c.args.graph.now.nodes ++ plan.outputs) in
     let is = c.requires.project tells in
-    let prepared = prepared_so g.S.Site.moment g.S.Site.left_since g.R.Runner.tells g.R.Runner.next project.rules old (holding old project.owned) (store_reads project old is) is.asked site mid plan.vanished (spelling plan.claimed) (c.in_ok-plan.ensures.vanished ∙ vanished_are project old is) (claims_read project old plan.claimed is c.in_ok-plan.ensures.claimed) (c.prepare.ensures.crash tells) in
-    let stored = ap owned_of (c.in_ok-prepare.ensures.claimed tells) ∙ claims_read project old plan.claimed is c.in_ok-plan.ensures.claimed in
+    let prepared = prepared_so g.S.Site.moment g.S.Site.left_since g.R.Runner.tells g.R.Runner.next project.rules old (holding old project.owned) (store_reads project old is) is.asked site mid plan.vanished claiming (c.in_ok-plan.ensures.vanished ∙ vanished_are project old is) (λ i. ascending (sym c.requires.opened.owned i ++ c.in_ok-plan.ensures.outputs i)) (c.prepare.ensures.crash tells) in
+    let stored = subst (Lists (g.S.Site.world mid).store) (λ i. ascending (sym c.requires.opened.owned i ++ c.in_ok-plan.ensures.outputs i)) (c.in_ok-prepare.ensures.claimed tells) in
     let ran = ran_so g.S.Site.moment g.S.Site.left_since g.R.Runner.tells g.R.Runner.next project.rules old (holding old project.owned) (store_reads project old is) is.asked site mid c.run.new.site (g.S.Site.world mid) (λ t u w le left. site_laws.earlier mid t u w tells le left) (c.in_ok-prepare.ensures.pinned tells) stored prepared (c.run.ensures.crash tells) in
-    let way : IsUnderWay project old (g.S.Site.world mid) plan.vanished plan.claimed = record {
+    let way : IsUnderWay project old (g.S.Site.world mid) plan.vanished claiming = record {
       is = is;
       vanishes = c.in_ok-plan.ensures.vanished ∙ vanished_are project old is;
-      claims = c.in_ok-plan.ensures.claimed;
+      claims = λ i. ascending (sym c.requires.opened.owned i ++ c.in_ok-plan.ensures.outputs i);
       beside = c.prepare.ensures.others tells;
     } in
     let now = g.S.Site.world c.run.new.site in
     let sources = files_beside project.owned (g.S.Site.world mid).tree in
-    let made = all_made project old (g.S.Site.world mid) plan.vanished plan.claimed way g.R.Runner.tells g.R.Runner.next now now (c.in_ok-prepare.ensures.cleared tells) (c.run.ensures.others tells) refl
+    let made = all_made project old (g.S.Site.world mid) plan.vanished claiming way g.R.Runner.tells g.R.Runner.next now now (c.in_ok-prepare.ensures.cleared tells) (c.run.ensures.others tells) refl
     (λ means. subst (HasRun g.R.Runner.next project.rules sources now.tree) c.in-None.is (c.in_ok-bad.ensures.run tells means)) in
     finished_so g.S.Site.moment g.S.Site.left_since g.R.Runner.tells g.R.Runner.next project.rules old (holding old project.owned) (store_reads project old is) is.asked site c.run.new.site c.finish.new.site now (λ t u w le left. site_laws.earlier c.run.new.site t u w tells le left) made ran (c.finish.ensures.crash tells)
 
@@ -402,18 +436,61 @@ returns-clause-crash g c = λ tells.
     let old = g.S.Site.world site in
     let project = c.args.self.now in
     let plan = c.in_ok-plan.plan in
+    let claiming = ascending (owned_in c.args.graph.now.nodes ++ plan.outputs) in
     let is = c.requires.project tells in
-    let prepared = prepared_so g.S.Site.moment g.S.Site.left_since g.R.Runner.tells g.R.Runner.next project.rules old (holding old project.owned) (store_reads project old is) is.asked site mid plan.vanished (spelling plan.claimed) (c.in_ok-plan.ensures.vanished ∙ vanished_are project old is) (claims_read project old plan.claimed is c.in_ok-plan.ensures.claimed) (c.prepare.ensures.crash tells) in
-    let stored = ap owned_of (c.in_ok-prepare.ensures.claimed tells) ∙ claims_read project old plan.claimed is c.in_ok-plan.ensures.claimed in
+    let prepared = prepared_so g.S.Site.moment g.S.Site.left_since g.R.Runner.tells g.R.Runner.next project.rules old (holding old project.owned) (store_reads project old is) is.asked site mid plan.vanished claiming (c.in_ok-plan.ensures.vanished ∙ vanished_are project old is) (λ i. ascending (sym c.requires.opened.owned i ++ c.in_ok-plan.ensures.outputs i)) (c.prepare.ensures.crash tells) in
+    let stored = subst (Lists (g.S.Site.world mid).store) (λ i. ascending (sym c.requires.opened.owned i ++ c.in_ok-plan.ensures.outputs i)) (c.in_ok-prepare.ensures.claimed tells) in
     let ran = ran_so g.S.Site.moment g.S.Site.left_since g.R.Runner.tells g.R.Runner.next project.rules old (holding old project.owned) (store_reads project old is) is.asked site mid c.run.new.site (g.S.Site.world mid) (λ t u w le left. site_laws.earlier mid t u w tells le left) (c.in_ok-prepare.ensures.pinned tells) stored prepared (c.run.ensures.crash tells) in
-    let way : IsUnderWay project old (g.S.Site.world mid) plan.vanished plan.claimed = record {
+    let way : IsUnderWay project old (g.S.Site.world mid) plan.vanished claiming = record {
       is = is;
       vanishes = c.in_ok-plan.ensures.vanished ∙ vanished_are project old is;
-      claims = c.in_ok-plan.ensures.claimed;
+      claims = λ i. ascending (sym c.requires.opened.owned i ++ c.in_ok-plan.ensures.outputs i);
       beside = c.prepare.ensures.others tells;
     } in
     let now = g.S.Site.world c.run.new.site in
     let sources = files_beside project.owned (g.S.Site.world mid).tree in
-    let made = all_made project old (g.S.Site.world mid) plan.vanished plan.claimed way g.R.Runner.tells g.R.Runner.next now now (c.in_ok-prepare.ensures.cleared tells) (c.run.ensures.others tells) refl
+    let made = all_made project old (g.S.Site.world mid) plan.vanished claiming way g.R.Runner.tells g.R.Runner.next now now (c.in_ok-prepare.ensures.cleared tells) (c.run.ensures.others tells) refl
     (λ means. subst (HasRun g.R.Runner.next project.rules sources now.tree) c.in-None.is (c.in_ok-bad.ensures.run tells means)) in
     finished_so g.S.Site.moment g.S.Site.left_since g.R.Runner.tells g.R.Runner.next project.rules old (holding old project.owned) (store_reads project old is) is.asked site c.run.new.site c.finish.new.site now (λ t u w le left. site_laws.earlier c.run.new.site t u w tells le left) made ran (c.finish.ensures.crash tells)
+
+pub returns-in_err-plan-clause-makes : goal.returns-in_err-plan-clause-makes
+returns-in_err-plan-clause-makes g c = err_if c.from_residual.result (Outside Memory) StopsMaking c.from_residual.ensures.1 tt
+
+pub returns-in_err-prepare-clause-makes : goal.returns-in_err-prepare-clause-makes
+returns-in_err-prepare-clause-makes g c = err_if c.from_residual-in_err-prepare.result c.in_err-prepare.field-0.0 StopsMaking c.from_residual-in_err-prepare.ensures.1 (late_makes c.in_err-prepare.field-0.0 c.in_err-prepare.ensures.late)
+
+pub returns-in_err-bad-clause-makes : goal.returns-in_err-bad-clause-makes
+returns-in_err-bad-clause-makes g c = err_if c.from_residual-in_err-bad.result (stop_of_halt c.in_err-bad.field-0.0) StopsMaking c.from_residual-in_err-bad.ensures.1 (halt_makes c.in_err-bad.field-0.0)
+
+pub returns-in_err-finish-in-None-clause-makes : goal.returns-in_err-finish-in-None-clause-makes
+returns-in_err-finish-in-None-clause-makes g c = err_if c.from_residual-in_err-finish-in-None.result c.in_err-finish-in-None.field-0.0 StopsMaking c.from_residual-in_err-finish-in-None.ensures.1 (late_makes c.in_err-finish-in-None.field-0.0 c.in_err-finish-in-None.ensures.late)
+
+pub returns-in-Some-clause-makes : goal.returns-in-Some-clause-makes
+returns-in-Some-clause-makes g c = stopped_makes c.in-Some.bad.0 c.in-Some.bad.1 c.stop_at.result c.stop_at.ensures.stops
+
+-- ---- what the giving up asks
+
+pub finish-requires-clause-stands : goal.finish-requires-clause-stands
+finish-requires-clause-stands g c κs = λ lives tells.
+    let site_laws = g.met.S.Site g.world.𝓛 g.world.𝓜 g.world.𝓡 ((λ s x. x), (λ x. x), (λ x. x), λ x. x) in
+    let mid = c.prepare.new.site in
+    let ran = c.run.new.site in
+    stands_on g.S.Site.world g.S.Site.moment g.S.Site.left_since c.prepare.new.graph mid ran (SameBesideOutputs c.args.self.now.rules) (λ t u w le left. site_laws.earlier ran t u w tells le left) (c.run.ensures.store tells) (c.run.ensures.crash tells)
+    (c.in_ok-prepare.ensures.stands tells)
+
+pub finish-requires-clause-gone : goal.finish-requires-clause-gone
+finish-requires-clause-gone g c κs = λ lives tells.
+    let old = g.S.Site.world c.args.site.now in
+    let mid = g.S.Site.world c.prepare.new.site in
+    let ran = g.S.Site.world c.run.new.site in
+    let project = c.args.self.now in
+    let plan = c.in_ok-plan.plan in
+    let claiming = ascending (owned_in c.args.graph.now.nodes ++ plan.outputs) in
+    let way : IsUnderWay project old mid plan.vanished claiming = record {
+      is = c.requires.project tells;
+      vanishes = c.in_ok-plan.ensures.vanished ∙ vanished_are project old (c.requires.project tells);
+      claims = λ i. ascending (sym c.requires.opened.owned i ++ c.in_ok-plan.ensures.outputs i);
+      beside = c.prepare.ensures.others tells;
+    } in
+    subst (HaveNoFiles ran.tree) (sym (c.as_slice.ensures ∙ c.in_ok-plan.ensures.left))
+    (none_left project.owned project.rules mid.tree ran.tree (way_runnable project old mid plan.vanished claiming way (c.in_ok-prepare.ensures.cleared tells)) (c.run.ensures.others tells))

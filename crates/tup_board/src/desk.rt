@@ -1,0 +1,289 @@
+//! What a board does for the command that a seat runs.
+ghost use Rattle.std.specs.Prelude.{◌≡◌, ◌≢◌, ◌++◌, ◌↔◌, length, true, IsTrue, IfOk, None, Err};
+ghost use Rattle.std.specs.FinMap as finite;
+ghost use Rattle.std.specs.Option.{option_map};
+ghost use Rattle.tup_stamp.specs.Stamp.{stamp as stamp_of_content};
+ghost use Rattle.tup_access.specs.Access.{access};
+ghost use Rattle.tup_core.specs.Step.{IsEnabled};
+ghost use Rattle.tup_core.specs.declared.event.CoreEvent.TheVariants.{Deny};
+ghost use Rattle.tup_course.specs.Course.{GoesOn, RunsRule};
+ghost use Rattle.tup_ground.specs.Fault.{CountsFaults};
+ghost use Rattle.tup_ground.specs.Ground.{NamesLength, OnlyLarge, ReadsSite};
+ghost use Rattle.tup_board.specs.Board.{course_of, plan_of, state, with_history};
+ghost use Rattle.tup_board.specs.Calls.{Asks, AsksFor, AsksForOwn, told_of};
+ghost use Rattle.tup_board.specs.Cause.{stops_by};
+ghost use Rattle.tup_board.specs.Seat.{is_granted};
+ghost use Rattle.tup_board.specs.Sound.{IsTrueFault};
+
+use crate::answers::Asked;
+use crate::board::Board;
+use std::alloc::Global;
+use tup_access::{Access, Verdict};
+use tup_core::{Cause, Plan};
+use tup_course::Course;
+use tup_ground::{BoardFault, Ground};
+use tup_path::{Bytes, Path, Text};
+use tup_rule::Rule;
+use tup_runner::Runner;
+use tup_site::Site;
+use tup_stamp::{Stamp, stamp_of};
+
+/// What looks up files for a command.
+///
+/// This and `Desk` are traits, since the view of a seat calls them: what it calls rests on no bound that has to hold on
+/// each thread, as that of a function outside of a trait does.
+pub(crate) trait Reads {
+    ghost use Rattle.tup_ground.specs.declared.ground.Ground.{Ground};
+
+    type Site: Site;
+
+    /// The site, and the graph of its store.
+    ghost base: { Self → Ground Self.Site };
+
+    /// The content of a file, or `None` where no file is. One that is too large is refused, with its length.
+    fn read(&mut self, alloc: Global, path: &Path) -> Result<Option<Bytes>, BoardFault>
+        ensures content { IsTrue Self.Site.Site.tells
+            → IfOk result (λ content. content
+            ≡ finite.get (Self.Site.Site.world (base self.old).site).tree path.now) }
+        ensures too_large { OnlyLarge result }
+        ensures length { IsTrue Self.Site.Site.tells
+            → NamesLength (Self.Site.Site.world (base self.old).site).tree path.now result }
+        ensures never_full { result ≢ Err BoardFault.Full }
+        ensures reads { ReadsSite Self.Site.Site (base self.old) (base self.new) }
+        ensures cause { CountsFaults (Self.Site.Site.faults (base self.old).site)
+            (Self.Site.Site.faults (base self.new).site) None result };
+}
+
+impl<S: Site> Reads for Ground<S> {
+    type Site = S;
+
+    ghost base = { λ base. base };
+
+    fn read(&mut self, alloc: Global, path: &Path) -> Result<Option<Bytes>, BoardFault> {
+        Ok(self.site.get(alloc, path)?)
+    }
+}
+
+/// What a board does for the command that a seat runs.
+pub(crate) trait Desk {
+    ghost use Rattle.tup_board.specs.Board.{BoardState};
+
+    type Site: Site;
+
+    /// The board.
+    ghost board: { Self → BoardState Self.Site };
+
+    /// Answers what the command of a seat asks for.
+    fn reply(
+        &mut self,
+        alloc: Global,
+        plan: &Plan,
+        seat: u32,
+        text: &Text,
+    ) -> Result<Asked, BoardFault>
+        requires plan { plan.now ≡ plan_of (board self.old) }
+        requires runs { is_granted ((state (board self.old)).seats seat) ≡ true }
+        ensures asks { Asks Self.Site.Site seat text.now
+            (board self.old) result (board self.new) };
+
+    /// Denies a text.
+    fn deny(
+        &mut self,
+        alloc: Global,
+        plan: &Plan,
+        seat: u32,
+        text: &Text,
+        verdict: Verdict,
+    ) -> Result<Asked, BoardFault>
+        requires plan { plan.now ≡ plan_of (board self.old) }
+        requires denied { IsEnabled plan.now (state (board self.old))
+            (Deny seat text.now verdict) }
+        ensures asks { Asks Self.Site.Site seat text.now
+            (board self.old) result (board self.new) };
+
+    /// Answers for a path: an own output is absent, whatever stands there.
+    fn answer(
+        &mut self,
+        alloc: Global,
+        plan: &Plan,
+        seat: u32,
+        text: &Text,
+        path: &Path,
+    ) -> Result<Asked, BoardFault>
+        requires plan { plan.now ≡ plan_of (board self.old) }
+        requires runs { GoesOn (course_of (board self.old)) seat }
+        requires may { (it : RunsRule (course_of (board self.old)) seat)
+            → access plan.now.rules it.rule (length it.running.asks) text.now
+            ≡ Access.Yes path.now }
+        ensures asks { Asks Self.Site.Site seat text.now
+            (board self.old) result (board self.new) };
+
+    /// Answers that an own output is absent.
+    fn answer_own(
+        &mut self,
+        alloc: Global,
+        plan: &Plan,
+        seat: u32,
+        text: &Text,
+    ) -> Result<Asked, BoardFault>
+        requires plan { plan.now ≡ plan_of (board self.old) }
+        requires runs { GoesOn (course_of (board self.old)) seat }
+        requires own { AsksForOwn (board self.old) seat text.now }
+        ensures asks { Asks Self.Site.Site seat text.now
+            (board self.old) result (board self.new) };
+
+    /// Tells what was read at a path. It is what the core's files have there, unless somebody else changed it: that may
+    /// be so over a site that doesn't tell its tree, and then it isn't told.
+    fn tell(
+        &mut self,
+        alloc: Global,
+        plan: &Plan,
+        seat: u32,
+        text: &Text,
+        path: &Path,
+        found: Option<Bytes>,
+    ) -> Result<Asked, BoardFault>
+        requires plan { plan.now ≡ plan_of (board self.old) }
+        requires runs { GoesOn (course_of (board self.old)) seat }
+        requires asks_for { AsksFor (board self.old) seat text.now path.now }
+        requires found { IsTrue Self.Site.Site.tells
+            → found ≡ finite.get (Self.Site.Site.world (board self.old).site).tree path.now }
+        ensures asks { Asks Self.Site.Site seat text.now
+            (board self.old) result (board self.new) };
+
+    /// Stops at a seat that runs a rule for a refusal, if it isn't one for want of memory, and gives it back.
+    fn fail(&mut self, plan: &Plan, seat: u32, fault: BoardFault) -> BoardFault
+        requires plan { plan.now ≡ plan_of (board self.old) }
+        requires runs { RunsRule (course_of (board self.old)) seat }
+        requires true_cause { IsTrueFault Self.Site.Site (board self.old) seat fault }
+        ensures same { result ≡ fault }
+        ensures adds { board self.new ≡ with_history (board self.old)
+            ((board self.old).history ++ stops_by seat fault) };
+}
+
+impl<S: Site, R: Runner> Desk for Board<S, R> {
+    type Site = S;
+
+    ghost board = { λ board. board };
+
+    fn reply(
+        &mut self,
+        alloc: Global,
+        plan: &Plan,
+        seat: u32,
+        text: &Text,
+    ) -> Result<Asked, BoardFault> {
+        match self.course.access(alloc, plan, seat, text)? {
+            Access::Yes(path) => self.answer(alloc, plan, seat, text, &path),
+            Access::No(verdict) => self.deny(alloc, plan, seat, text, verdict),
+        }
+    }
+
+    fn deny(
+        &mut self,
+        alloc: Global,
+        plan: &Plan,
+        seat: u32,
+        text: &Text,
+        verdict: Verdict,
+    ) -> Result<Asked, BoardFault> {
+        self.course.deny(alloc, plan, seat, text, &verdict)?;
+        Ok(Asked::Denied(verdict))
+    }
+
+    fn answer(
+        &mut self,
+        alloc: Global,
+        plan: &Plan,
+        seat: u32,
+        text: &Text,
+        path: &Path,
+    ) -> Result<Asked, BoardFault> {
+        if rule_run(&self.course, plan, seat).writes(path) {
+            return self.answer_own(alloc, plan, seat, text);
+        }
+        match self.ground.read(alloc, path) {
+            Ok(found) => self.tell(alloc, plan, seat, text, path, found),
+            Err(fault) => Err(self.fail(plan, seat, fault)),
+        }
+    }
+
+    fn answer_own(
+        &mut self,
+        alloc: Global,
+        plan: &Plan,
+        seat: u32,
+        text: &Text,
+    ) -> Result<Asked, BoardFault> {
+        self.course.ask(alloc, plan, seat, text, None)?;
+        Ok(Asked::Absent)
+    }
+
+    fn tell(
+        &mut self,
+        alloc: Global,
+        plan: &Plan,
+        seat: u32,
+        text: &Text,
+        path: &Path,
+        found: Option<Bytes>,
+    ) -> Result<Asked, BoardFault> {
+        let stamp = stamp_at(&found);
+        if !same_stamp(&stamp, &self.course.file(path)) {
+            return Err(BoardFault::Memory);
+        }
+        self.course.ask(alloc, plan, seat, text, stamp)?;
+        Ok(told(found))
+    }
+
+    fn fail(&mut self, plan: &Plan, seat: u32, fault: BoardFault) -> BoardFault {
+        match fault {
+            BoardFault::Site => self.course.end_by(plan, seat, Cause::Site),
+            BoardFault::TooLarge(bytes) => {
+                self.course.end_by(plan, seat, Cause::TooLarge(bytes));
+            }
+            BoardFault::Full => self.course.end_by(plan, seat, Cause::Full),
+            BoardFault::Memory => {}
+        }
+        fault
+    }
+}
+
+/// The rule that a seat runs.
+pub(crate) fn rule_run<'p>(course: &Course, plan: &'p Plan, seat: u32) -> &'p Rule
+    requires plan { plan.now ≡ course.now.plan }
+    requires runs { RunsRule course.now seat }
+    ensures { (it : RunsRule course.now seat) → result.now ≡ it.rule }
+{
+    match course.running(seat) {
+        Some(running) => &plan.rules.as_slice()[running.rule as usize],
+        None => unreachable!(),
+    }
+}
+
+/// The stamp of what was found.
+fn stamp_at(found: &Option<Bytes>) -> Option<Stamp>
+    ensures { result ≡ option_map stamp_of_content found.now }
+{
+    match found {
+        Some(content) => Some(stamp_of(content.as_slice())),
+        None => None,
+    }
+}
+
+/// Whether two stamps are the same, or both are absent.
+fn same_stamp(one: &Option<Stamp>, other: &Option<Stamp>) -> bool
+    ensures { IsTrue result ↔ (one.now ≡ other.now) }
+{
+    one == other
+}
+
+/// What a command is told of what was found.
+fn told(found: Option<Bytes>) -> Asked
+    ensures { result ≡ told_of found }
+{
+    match found {
+        Some(content) => Asked::Content(content),
+        None => Asked::Absent,
+    }
+}

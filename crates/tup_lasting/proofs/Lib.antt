@@ -1,0 +1,4 @@
+pub mod Runs
+pub mod Honestly
+pub mod Lasting
+pub mod Sites

@@ -1,3 +1,0 @@
-pub mod Ordered
-pub mod Cut
-pub mod Answered

@@ -1,5 +1,0 @@
-pub mod Ascending
-pub mod Members
-pub mod Owned
-pub mod Lines
-pub mod Spelled

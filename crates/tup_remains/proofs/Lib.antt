@@ -1,0 +1,6 @@
+pub mod Stores
+pub mod Remaining
+pub mod Following
+pub mod Noting
+pub mod Changing
+pub mod Laws

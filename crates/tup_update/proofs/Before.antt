@@ -1,0 +1,120 @@
+-- What is promised of a world behind the opening of its store is promised of the one before it.
+use Rattle.std.proofs.Common.{◌≡◌, ⊎_elim, inl, inr, ◌∙◌, Bool, IsSome, List, Option, None, Some, Result, Ok, Err, IfErr}
+use Rattle.tup_path.specs.Name.{Names}
+use Rattle.tup_site.specs.World.{World}
+use Rattle.tup_site.specs.declared.fault.SiteFailed.TheVariants.{Fault, TooLarge, Memory}
+use Rattle.tup_rule.specs.declared.rule.Rule.{Rule}
+use Rattle.tup_runner.specs.Next.{Next}
+use Rattle.tup_ledger.specs.Ascending.{ascending}
+use Rattle.std.specs.FinMap as finite
+use Rattle.std.specs.Result.{result_err}
+use Rattle.tup_update.specs.Holding.{Holding, HoldsOn}
+use Rattle.tup_update.specs.Log.{IsPartOf, LogFits, RulesFit, whole_log}
+use Rattle.tup_update.specs.Outcome.{AllIsMade, ClaimedListed, ExactlyTheFiles, HasCause, HasNoRoom, IsBadRule, IsBehindBad, IsLeft, IsListed, IsMade, Keeps, MadeBeforeBad, NothingForgotten, Stays, claimed}
+use Rattle.tup_update.specs.Parts.{StopsMaking}
+use Rattle.tup_update.specs.Sources.{IsAsked, outputs, sources}
+use Rattle.tup_update.specs.declared.stop.Stop.{Stop}
+use Rattle.tup_update.specs.declared.stop.Stop.TheVariants.{BadStore, Sources, Bad, Run, Full, Outside}
+use Rattle.tup_update.specs.declared.update.Log.{Log}
+use Rattle.tup_update.proofs.Held.{held_before, holds_then, shown_before}
+
+-- it stopped in the making of files, if it stopped
+abbrev pub MakesOn : Option Stop → Type 0
+MakesOn None = Unit {0}
+MakesOn (Some stop) = StopsMaking stop
+
+pub makes_on : {T : Type 0} (result : Result T Stop) → IfErr result StopsMaking → MakesOn (result_err result)
+makes_on {T} (Ok value) makes = tt
+makes_on {T} (Err stop) makes = makes
+
+module _ (rules : List Rule) (old mid new : World) (on : HoldsOn old mid) where
+  pub asked_before : IsAsked mid rules → IsAsked old rules
+  asked_before asked = (asked.0, shown_before old mid on asked.0 asked.1, asked.2)
+
+  claimed_before : ClaimedListed rules mid new → ClaimedListed rules old new
+  claimed_before listed = held_before old mid on (λ held. IsListed (claimed rules held) held new) listed
+
+  module _ (tells : Bool) (next : Next) where
+    left_before : IsLeft tells next rules mid new → IsLeft tells next rules old new
+    left_before left = (
+      asked_before left.0,
+      ⊎_elim (λ listed. inl (claimed_before listed))
+          (λ rest. inr (⊎_elim (λ same. inl (same ∙ on.tree)) (λ made. inr (held_before old mid on (λ held. AllIsMade tells next rules held new) made)) rest)) left.1,
+    )
+
+    forgotten_before : (stopped : Option Stop) → MakesOn stopped → NothingForgotten tells next rules mid new stopped → NothingForgotten tells next rules old new stopped
+    forgotten_before None makes kept = held_before old mid on (λ held. IsListed (ascending (outputs rules)) held new) kept
+    forgotten_before (Some (BadStore offset)) makes kept = absurd makes
+    forgotten_before (Some (Sources fault)) makes kept = absurd makes
+    forgotten_before (Some (Bad name verdict)) makes kept = claimed_before kept
+    forgotten_before (Some Run) makes kept = claimed_before kept
+    forgotten_before (Some Full) makes kept = left_before kept
+    forgotten_before (Some (Outside (TooLarge n))) makes kept = ⊎_elim (λ same. inl (holds_then old mid new on same)) (λ listed. inr (asked_before listed.0, claimed_before listed.1)) kept
+    forgotten_before (Some (Outside Fault)) makes kept =
+        ⊎_elim (λ same. inl (holds_then old mid new on same)) (λ rest. inr (⊎_elim (λ none. inl (on.none none.0, none.1 ∙ on.tree)) (λ left. inr (left_before left)) rest)) kept
+    forgotten_before (Some (Outside Memory)) makes kept =
+        ⊎_elim (λ same. inl (holds_then old mid new on same)) (λ rest. inr (⊎_elim (λ none. inl (on.none none.0, none.1 ∙ on.tree)) (λ left. inr (left_before left)) rest)) kept
+
+  fit_before : (stopped : Option Stop) → MakesOn stopped → RulesFit mid rules stopped → RulesFit old rules stopped
+  fit_before None makes fit = asked_before fit
+  fit_before (Some (BadStore offset)) makes fit = absurd makes
+  fit_before (Some (Sources fault)) makes fit = absurd makes
+  fit_before (Some (Bad name verdict)) makes fit = asked_before fit
+  fit_before (Some Run) makes fit = asked_before fit
+  fit_before (Some Full) makes fit = asked_before fit
+  fit_before (Some (Outside failed)) makes fit = ⊎_elim inl (λ asked. inr (asked_before asked)) fit
+
+  pub stays_before : (tells : Bool) (next : Next) (log : Log) (stopped : Option Stop) → MakesOn stopped → Stays tells next rules mid new log stopped → Stays tells next rules old new log stopped
+  stays_before tells next log stopped makes stays = record {
+    sources_stay =
+        held_before old mid on (λ held. (path : Names) → IsSome (finite.get (sources held) path) → finite.get new.tree path ≡ finite.get (sources held) path)
+        stays.sources_stay;
+    rules_fit = fit_before stopped makes stays.rules_fit;
+    nothing_forgotten = forgotten_before tells next stopped makes stays.nothing_forgotten;
+    turns_fit = stays.turns_fit;
+  }
+
+  module _ (next : Next) (log : Log) where
+    files_before : (stopped : Option Stop) → ExactlyTheFiles next rules mid new stopped → ExactlyTheFiles next rules old new stopped
+    files_before None made = held_before old mid on (λ held. IsMade next rules held new) made
+    files_before (Some stop) made = tt
+
+    bad_before : (stopped : Option Stop) → MakesOn stopped → MadeBeforeBad next rules mid new stopped → MadeBeforeBad next rules old new stopped
+    bad_before None makes made = tt
+    bad_before (Some (BadStore offset)) makes made = absurd makes
+    bad_before (Some (Sources fault)) makes made = absurd makes
+    bad_before (Some (Bad name verdict)) makes made = held_before old mid on (λ held. IsBehindBad next rules held new) made
+    bad_before (Some Run) makes made = tt
+    bad_before (Some Full) makes made = tt
+    bad_before (Some (Outside failed)) makes made = tt
+
+    cause_before : (stopped : Option Stop) → MakesOn stopped → HasCause next rules mid new stopped → HasCause next rules old new stopped
+    cause_before None makes why = tt
+    cause_before (Some (BadStore offset)) makes why = absurd makes
+    cause_before (Some (Sources fault)) makes why = absurd makes
+    cause_before (Some (Bad name verdict)) makes why = held_before old mid on (λ held. IsBadRule next rules held name verdict) why
+    cause_before (Some Run) makes why = tt
+    cause_before (Some Full) makes why = held_before old mid on (λ held. HasNoRoom rules held new) why
+    cause_before (Some (Outside Fault)) makes why = tt
+    cause_before (Some (Outside (TooLarge n))) makes why = why
+    cause_before (Some (Outside Memory)) makes why = tt
+
+    abbrev tells_part : Holding → Type 0
+    tells_part held = IsPartOf log (whole_log next rules held)
+
+    log_before : (stopped : Option Stop) → MakesOn stopped → LogFits next rules mid log stopped → LogFits next rules old log stopped
+    log_before None makes fits = held_before old mid on (λ held. log ≡ whole_log next rules held) fits
+    log_before (Some (BadStore offset)) makes fits = absurd makes
+    log_before (Some (Sources fault)) makes fits = absurd makes
+    log_before (Some (Bad name verdict)) makes fits = held_before old mid on (λ held. log ≡ whole_log next rules held) fits
+    log_before (Some Run) makes fits = held_before old mid on tells_part fits
+    log_before (Some Full) makes fits = held_before old mid on tells_part fits
+    log_before (Some (Outside failed)) makes fits = ⊎_elim inl (λ part. inr (asked_before part.0, held_before old mid on tells_part part.1)) fits
+
+    pub keeps_before : (stopped : Option Stop) → MakesOn stopped → Keeps next rules mid new log stopped → Keeps next rules old new log stopped
+    keeps_before stopped makes keeps = record {
+      exactly_the_files = files_before stopped keeps.exactly_the_files;
+      made_before_bad = bad_before stopped makes keeps.made_before_bad;
+      cause = cause_before stopped makes keeps.cause;
+      log_fits = log_before stopped makes keeps.log_fits;
+    }
