@@ -13,7 +13,6 @@ use Rattle.tup_path.specs.Name.{Names}
 use Rattle.tup_path.specs.Order.{by_names, same_path}
 use Rattle.tup_path.specs.Resolve.{above}
 use Rattle.tup_path.specs.Tree.{Tree}
-use Rattle.tup_path.proofs.Same.{by_names-decides}
 use Rattle.tup_rule.specs.Rule.{among, declares, is_generated}
 use Rattle.tup_rule.specs.declared.draft.Draft.{Draft}
 use Rattle.tup_rule.specs.declared.draft.GroupRef.{GroupRef}
@@ -46,7 +45,6 @@ use Rattle.tup_link.specs.Placed.{Placed, placed, placed_in, drafts_of as all_dr
 use Rattle.tup_whole.specs.Project.{AreLinked, ComeTo}
 use Rattle.tup_whole.proofs.Making.{all_keep, names_files}
 use Rattle.tup_graph.specs.Answers.{IsDrafted}
-use Rattle.tup_above.proofs.Members.{in_list}
 use Rattle.tup_diff.proofs.Editing.{entry_found, found_entry}
 use Rattle.tup_diff.proofs.Ordered.{behind_front, front_or_behind, in_front, none_in}
 use Rattle.tup_keeps.specs.Linking.{DeclareWhatIsThere}
