@@ -18,7 +18,7 @@ use Rattle.tup_top.specs.Printed.{IsDone, Ends, Prints, PrintsComparison}
 use Rattle.tup_top.specs.Promise.{Counts, HasCountedCause, HasComparedCause}
 use Rattle.tup_top.specs.Status.{status_of_stop, status_of_compared, came_to, compared_to, of_stop}
 use Rattle.tup_top.specs.declared.status.Status.{Status}
-use Rattle.tup_top.specs.declared.status.Status.TheVariants.{Done, Command, IllegalRead, IllegalWrite, Unwritten, TooManyReads, Usage, BadStore, Parse, CircularDirs, CircularCommands, NoSuchGroup, SiteFault, RunFault, SinkFault, Limit, Memory, Differs}
+use Rattle.tup_top.specs.declared.status.Status.TheVariants.{Done, Command, IllegalRead, IllegalWrite, Unwritten, TooManyReads, Usage, NotInit, AlreadyInit, BadStore, Parse, CircularDirs, CircularCommands, NoSuchGroup, SiteFault, RunFault, SinkFault, Limit, Memory, Differs}
 use Rattle.tup_top.specs.declared.status.What.TheVariants.{Files, FileSize, Commands, Links, StoreSize}
 use Rattle.tup_top.proofs.Causes.{came_to-status_of, done_is_none, of_one, steady, counted_of_stop, prints_nothing}
 
