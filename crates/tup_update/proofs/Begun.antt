@@ -14,7 +14,7 @@ use Rattle.tup_update.specs.Stopped.{stop_of_halt}
 use Rattle.tup_update.specs.declared.stop.Halt.{Halt}
 use Rattle.tup_update.specs.declared.stop.Halt.TheVariants.{Run as RunHalted, Outside as Halted}
 use Rattle.tup_update.specs.declared.stop.Stop.{Stop}
-use Rattle.tup_update.specs.declared.stop.Stop.TheVariants.{BadStore, Sources, Bad, Run, Full, Outside}
+use Rattle.tup_update.specs.declared.stop.Stop.TheVariants.{NoStore, BadStore, Sources, Bad, Run, Full, Outside}
 
 -- nothing
 pub ran_none : (rules : List RuleName) (old : List (Names × List ℕ)) → rules ≡ [] → RanAll rules old old
@@ -31,6 +31,7 @@ ran_more rule front rules old between new before is one =
 -- all that was begun, however the update stopped
 pub ran_all_of : (rules : List RuleName) (old new : List (Names × List ℕ)) (stopped : Option Stop) → RanAll rules old new → RunsThese rules old new stopped
 ran_all_of rules old new None ran = ran
+ran_all_of rules old new (Some NoStore) ran = ran
 ran_all_of rules old new (Some (BadStore offset)) ran = ran
 ran_all_of rules old new (Some (Sources fault)) ran = ran
 ran_all_of rules old new (Some (Bad name verdict)) ran = ran
@@ -65,6 +66,7 @@ ran_to_halt (Halted Memory) rule front rules old between new before is (inr one)
 
 -- what stops an opening, or the writing of the store, is no runner
 pub opening_runs : (count : ℕ) (stop : Stop) → StopsOpening stop → HasRunCause count count (Some stop)
+opening_runs count NoStore stops = refl
 opening_runs count (BadStore offset) stops = refl
 opening_runs count (Outside Fault) stops = refl
 opening_runs count (Outside Memory) stops = refl
@@ -78,6 +80,7 @@ pub late_runs : (before now : ℕ) (stop : Stop) → IsLate stop → now ≡ bef
 late_runs before now Full late same = same
 late_runs before now (Outside Fault) late same = same
 late_runs before now (Outside Memory) late same = same
+late_runs before now NoStore late same = absurd late
 late_runs before now (BadStore offset) late same = absurd late
 late_runs before now (Sources fault) late same = absurd late
 late_runs before now (Bad rule verdict) late same = absurd late

@@ -19,7 +19,7 @@ use Rattle.tup_rule.proofs.Laws.{writes-at}
 use Rattle.tup_runner.specs.Next.{Next}
 use Rattle.tup_ledger.specs.Listing.{SettledStep}
 use Rattle.tup_update.specs.Holding.{Holding, HoldsOn, Lists, Shows, holding}
-use Rattle.tup_update.specs.Images.{FilesStep, ListedStep, MakesStep, OpensStep, UpdateStep}
+use Rattle.tup_update.specs.Images.{FilesStep, ListedStep, MakesStep, UpdateStep}
 use Rattle.tup_update.specs.Outcome.{claimed, AllIsMade}
 use Rattle.tup_update.specs.Parts.{Changes, IsBuilt, IsProject, SameBeside, SameBesideOutputs}
 use Rattle.tup_update.specs.SeeingLaws.{rests}
@@ -222,15 +222,12 @@ module _ {S : Type 0} (moment : S → ℕ) (left_since : S → ℕ → World →
     listed = held_before was mid on (λ old. Lists w.store (claimed rules old) ⊎ TreeStays v w ⊎ AllIsMade tells next rules old w) step.listed;
   }
 
-  opened_tree : (was v w : World) → OpensStep was v w → TreeStays v w
-  opened_tree was v w step = ⊎_elim (λ same. same.tree) (λ none. none.1) step
-
   -- and so of what a crash left before it
-  pub opened_so : (tells : Bool) (next : Next) (rules : List Rule) (old mid new : S) (was now : World) → IsEarlier moment left_since mid → HoldsOn was now → GoesOn moment left_since old mid (OpensStep was) →
+  pub opened_so : (tells : Bool) (next : Next) (rules : List Rule) (old mid new : S) (was now : World) → IsEarlier moment left_since mid → HoldsOn was now → GoesOn moment left_since old mid HoldsOn →
       GoesOn moment left_since mid new (MakesStep tells next rules now) → GoesOn moment left_since old new (UpdateStep tells next rules was)
   opened_so tells next rules old mid new was now earlier on opened made =
-      joined_on old mid new (OpensStep was) (MakesStep tells next rules now) (UpdateStep tells next rules was) earlier (λ v w step. inl step) (λ v w step. inr (made_before tells next rules was now v w on step))
-      (λ u v w first step. inr (further u v w (opened_tree was u v first) (made_before tells next rules was now v w on step))) opened made
+      joined_on old mid new HoldsOn (MakesStep tells next rules now) (UpdateStep tells next rules was) earlier (λ v w step. inl step) (λ v w step. inr (made_before tells next rules was now v w on step))
+      (λ u v w first step. inr (further u v w first.tree (made_before tells next rules was now v w on step))) opened made
     where
       further : (u v w : World) → TreeStays u v → MakesStep tells next rules was v w → MakesStep tells next rules was u w
       further u v w same step = record {
@@ -239,11 +236,11 @@ module _ {S : Type 0} (moment : S → ℕ) (left_since : S → ℕ → World →
         listed = λ held shows. ⊎_elim inl (λ rest. inr (⊎_elim (λ stays. inl (stays ∙ same)) inr rest)) (step.listed held shows);
       }
 
-  pub as_opened : (tells : Bool) (next : Next) (rules : List Rule) (old new : S) (was : World) → GoesOn moment left_since old new (OpensStep was) → GoesOn moment left_since old new (UpdateStep tells next rules was)
-  as_opened tells next rules old new was on = as_step moment left_since old new (OpensStep was) (UpdateStep tells next rules was) (λ v w left step. inl step) on
+  pub as_opened : (tells : Bool) (next : Next) (rules : List Rule) (old new : S) (was : World) → GoesOn moment left_since old new HoldsOn → GoesOn moment left_since old new (UpdateStep tells next rules was)
+  as_opened tells next rules old new was on = as_step moment left_since old new HoldsOn (UpdateStep tells next rules was) (λ v w left step. inl step) on
 
   -- where nothing more is added
-  pub opened_only : (tells : Bool) (next : Next) (rules : List Rule) (old mid new : S) (was : World) → GoesOn moment left_since old mid (OpensStep was) → GoesOn moment left_since mid new NoStep →
+  pub opened_only : (tells : Bool) (next : Next) (rules : List Rule) (old mid new : S) (was : World) → GoesOn moment left_since old mid HoldsOn → GoesOn moment left_since mid new NoStep →
       GoesOn moment left_since old new (UpdateStep tells next rules was)
   opened_only tells next rules old mid new was opened quiet =
       then_quiet old mid new (UpdateStep tells next rules was) (as_opened tells next rules old mid was opened) quiet

@@ -26,7 +26,7 @@ use Rattle.tup_update.specs.declared.project.Project.{Project}
 use Rattle.tup_update.specs.declared.stop.Halt.{Halt}
 use Rattle.tup_update.specs.declared.stop.Halt.TheVariants.{Run as RunHalted, Outside as Halted}
 use Rattle.tup_update.specs.declared.stop.Stop.{Stop}
-use Rattle.tup_update.specs.declared.stop.Stop.TheVariants.{BadStore, Sources as NoSources, Bad, Run, Full, Outside}
+use Rattle.tup_update.specs.declared.stop.Stop.TheVariants.{NoStore, BadStore, Sources as NoSources, Bad, Run, Full, Outside}
 use Rattle.tup_update.specs.declared.stop.Unread.{Unread}
 use Rattle.tup_update.specs.declared.stop.Unread.TheVariants.{Sources, Outside as Unlucky}
 use Rattle.tup_update.specs.declared.update.Log.{Log}
@@ -140,26 +140,17 @@ unread_keeps next rules old new log unread why empty = record {
     logged (Unlucky failed) = inl empty
 
 -- where the store couldn't be opened
-unopened_tree : (old new : World) (stop : Stop) → StopsOpening stop → IsUnopened old new stop → TreeStays old new
-unopened_tree old new (BadStore offset) stops why = why.1.tree
-unopened_tree old new (NoSources fault) stops why = absurd stops
-unopened_tree old new (Bad rule verdict) stops why = absurd stops
-unopened_tree old new Run stops why = absurd stops
-unopened_tree old new Full stops why = absurd stops
-unopened_tree old new (Outside (TooLarge n)) stops why = absurd stops
-unopened_tree old new (Outside Fault) stops why = ⊎_elim (λ on. on.tree) (λ none. none.1) why
-unopened_tree old new (Outside Memory) stops why = ⊎_elim (λ on. on.tree) (λ none. none.1) why
-
-pub unopened_stays : (tells : Bool) (next : Next) (rules : List Rule) (old new : World) (log : Log) (stop : Stop) → StopsOpening stop → IsUnopened old new stop → rules ≡ [] → IsEmptyLog log →
+pub unopened_stays : (tells : Bool) (next : Next) (rules : List Rule) (old new : World) (log : Log) (stop : Stop) → StopsOpening stop → HoldsOn old new → rules ≡ [] → IsEmptyLog log →
     Stays tells next rules old new log (Some stop)
-unopened_stays tells next rules old new log stop stops why none empty = record {
-  sources_stay = unchanged_sources old new (unopened_tree old new stop stops why);
+unopened_stays tells next rules old new log stop stops on none empty = record {
+  sources_stay = unchanged_sources old new on.tree;
   rules_fit = fit stop stops;
-  nothing_forgotten = forgotten stop stops why;
+  nothing_forgotten = forgotten stop stops;
   turns_fit = turns stop stops;
 }
   where
     fit : (stop : Stop) → StopsOpening stop → RulesFit old rules (Some stop)
+    fit NoStore stops = none
     fit (BadStore offset) stops = none
     fit (NoSources fault) stops = absurd stops
     fit (Bad rule verdict) stops = absurd stops
@@ -167,17 +158,19 @@ unopened_stays tells next rules old new log stop stops why none empty = record {
     fit Full stops = absurd stops
     fit (Outside failed) stops = inl none
 
-    forgotten : (stop : Stop) → StopsOpening stop → IsUnopened old new stop → NothingForgotten tells next rules old new (Some stop)
-    forgotten (BadStore offset) stops why = why.1
-    forgotten (NoSources fault) stops why = absurd stops
-    forgotten (Bad rule verdict) stops why = absurd stops
-    forgotten Run stops why = absurd stops
-    forgotten Full stops why = absurd stops
-    forgotten (Outside (TooLarge n)) stops why = absurd stops
-    forgotten (Outside Fault) stops why = ⊎_elim inl (λ unmade. inr (inl unmade)) why
-    forgotten (Outside Memory) stops why = ⊎_elim inl (λ unmade. inr (inl unmade)) why
+    forgotten : (stop : Stop) → StopsOpening stop → NothingForgotten tells next rules old new (Some stop)
+    forgotten NoStore stops = on
+    forgotten (BadStore offset) stops = on
+    forgotten (NoSources fault) stops = absurd stops
+    forgotten (Bad rule verdict) stops = absurd stops
+    forgotten Run stops = absurd stops
+    forgotten Full stops = absurd stops
+    forgotten (Outside (TooLarge n)) stops = absurd stops
+    forgotten (Outside Fault) stops = inl on
+    forgotten (Outside Memory) stops = inl on
 
     turns : (stop : Stop) → StopsOpening stop → TurnsFit rules log.ran log.ended (Some stop)
+    turns NoStore stops = (empty.2, empty.3)
     turns (BadStore offset) stops = (empty.2, empty.3)
     turns (NoSources fault) stops = absurd stops
     turns (Bad rule verdict) stops = absurd stops
@@ -185,7 +178,7 @@ unopened_stays tells next rules old new log stop stops why none empty = record {
     turns Full stops = absurd stops
     turns (Outside failed) stops = no_turns rules log.ran log.ended empty.2 empty.3
 
-pub unopened_keeps : (next : Next) (rules : List Rule) (old new : World) (log : Log) (stop : Stop) → StopsOpening stop → IsUnopened old new stop → IsEmptyLog log → Keeps next rules old new log (Some stop)
+pub unopened_keeps : (next : Next) (rules : List Rule) (old new : World) (log : Log) (stop : Stop) → StopsOpening stop → IsUnopened old stop → IsEmptyLog log → Keeps next rules old new log (Some stop)
 unopened_keeps next rules old new log stop stops why empty = record {
   exactly_the_files = tt;
   made_before_bad = before stop stops;
@@ -194,6 +187,7 @@ unopened_keeps next rules old new log stop stops why empty = record {
 }
   where
     before : (stop : Stop) → StopsOpening stop → MadeBeforeBad next rules old new (Some stop)
+    before NoStore stops = tt
     before (BadStore offset) stops = tt
     before (NoSources fault) stops = absurd stops
     before (Bad rule verdict) stops = absurd stops
@@ -201,8 +195,9 @@ unopened_keeps next rules old new log stop stops why empty = record {
     before Full stops = absurd stops
     before (Outside failed) stops = tt
 
-    caused : (stop : Stop) → StopsOpening stop → IsUnopened old new stop → HasCause next rules old new (Some stop)
-    caused (BadStore offset) stops why = why.0
+    caused : (stop : Stop) → StopsOpening stop → IsUnopened old stop → HasCause next rules old new (Some stop)
+    caused NoStore stops why = why
+    caused (BadStore offset) stops why = why
     caused (NoSources fault) stops why = absurd stops
     caused (Bad rule verdict) stops why = absurd stops
     caused Run stops why = absurd stops
@@ -212,6 +207,7 @@ unopened_keeps next rules old new log stop stops why empty = record {
     caused (Outside Memory) stops why = tt
 
     logged : (stop : Stop) → StopsOpening stop → LogFits next rules old log (Some stop)
+    logged NoStore stops = empty
     logged (BadStore offset) stops = empty
     logged (NoSources fault) stops = absurd stops
     logged (Bad rule verdict) stops = absurd stops
@@ -223,16 +219,18 @@ unopened_keeps next rules old new log stop stops why empty = record {
 
 -- what is left where the outside stops the making, or the store has no room
 left_forgets_nothing : (tells : Bool) (next : Next) (rules : List Rule) (old new : World) (stop : Stop) → IsLate stop → IsLeft tells next rules old new → NothingForgotten tells next rules old new (Some stop)
+left_forgets_nothing tells next rules old new NoStore late left = absurd late
 left_forgets_nothing tells next rules old new (BadStore offset) late left = absurd late
 left_forgets_nothing tells next rules old new (NoSources fault) late left = absurd late
 left_forgets_nothing tells next rules old new (Bad rule verdict) late left = absurd late
 left_forgets_nothing tells next rules old new Run late left = absurd late
 left_forgets_nothing tells next rules old new Full late left = left
-left_forgets_nothing tells next rules old new (Outside Fault) late left = inr (inr left)
+left_forgets_nothing tells next rules old new (Outside Fault) late left = inr left
 left_forgets_nothing tells next rules old new (Outside (TooLarge n)) late left = absurd late
-left_forgets_nothing tells next rules old new (Outside Memory) late left = inr (inr left)
+left_forgets_nothing tells next rules old new (Outside Memory) late left = inr left
 
 late_turns : (rules : List Rule) (ran : List RuleName) (ended : List Taken) (stop : Stop) → IsLate stop → AreInTurn rules ended × AreBegun rules ran ended → TurnsFit rules ran ended (Some stop)
+late_turns rules ran ended NoStore late turns = absurd late
 late_turns rules ran ended (BadStore offset) late turns = absurd late
 late_turns rules ran ended (NoSources fault) late turns = absurd late
 late_turns rules ran ended (Bad rule verdict) late turns = absurd late
@@ -266,6 +264,7 @@ module _ (project : Project) (old : World) (is : IsProject project old) where
   asks = (held, record { lists = is.owned; tree = refl }, is.asked)
 
   late_fit : (stop : Stop) → IsLate stop → RulesFit old project.rules (Some stop)
+  late_fit NoStore late = absurd late
   late_fit (BadStore offset) late = absurd late
   late_fit (NoSources fault) late = absurd late
   late_fit (Bad rule verdict) late = absurd late
@@ -291,6 +290,7 @@ module _ (project : Project) (old : World) (is : IsProject project old) where
   late_keeps next new log stop late room removed noted = record { exactly_the_files = tt; made_before_bad = before stop late; cause = caused stop late room; log_fits = fits stop late }
     where
       before : (stop : Stop) → IsLate stop → MadeBeforeBad next project.rules old new (Some stop)
+      before NoStore late = absurd late
       before (BadStore offset) late = absurd late
       before (NoSources fault) late = absurd late
       before (Bad rule verdict) late = absurd late
@@ -299,6 +299,7 @@ module _ (project : Project) (old : World) (is : IsProject project old) where
       before (Outside failed) late = tt
 
       caused : (stop : Stop) → IsLate stop → (stop ≡ Full → HasNoRoom project.rules held new) → HasCause next project.rules old new (Some stop)
+      caused NoStore late room = absurd late
       caused (BadStore offset) late room = absurd late
       caused (NoSources fault) late room = absurd late
       caused (Bad rule verdict) late room = absurd late
@@ -309,6 +310,7 @@ module _ (project : Project) (old : World) (is : IsProject project old) where
       caused (Outside Memory) late room = tt
 
       fits : (stop : Stop) → IsLate stop → LogFits next project.rules old (with_read project.read log) (Some stop)
+      fits NoStore late = absurd late
       fits (BadStore offset) late = absurd late
       fits (NoSources fault) late = absurd late
       fits (Bad rule verdict) late = absurd late
@@ -430,9 +432,9 @@ module _ (project : Project) (old mid : World) (vanishing claiming : List Names)
     where
       by : (halt : Halt) → NothingForgotten tells next project.rules old now (Some (stop_of_halt halt))
       by RunHalted = listed now behind stored
-      by (Halted Fault) = inr (inr (asks_then, inl (listed now behind stored)))
+      by (Halted Fault) = inr (asks_then, inl (listed now behind stored))
       by (Halted (TooLarge n)) = inr (asks_then, listed now behind stored)
-      by (Halted Memory) = inr (inr (asks_then, inl (listed now behind stored)))
+      by (Halted Memory) = inr (asks_then, inl (listed now behind stored))
 
   pub unrun_keeps : (next : Next) (now : World) (before : List Names) (log : Log) (halt : Halt) → ((n : ℕ) → halt ≡ Halted (TooLarge n) → HasFileOf n now.tree) → before ≡ [] →
       log.removed ≡ before ++ vanishing → ArePartNoted project.rules (up_to_bad (takes next project.rules (files_beside project.owned mid.tree))) log.ran log.ended →

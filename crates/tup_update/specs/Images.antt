@@ -28,10 +28,6 @@ pub record MakesStep (tells : Bool) (next : Next) (rules : List Rule) (was v w :
   pub files : OfHeld was (λ old. Changes old.owned rules v.tree w.tree)
   pub listed : OfHeld was (λ old. Lists w.store (claimed rules old) ⊎ TreeStays v w ⊎ AllIsMade tells next rules old w)
 
--- what the opening of the store adds: a world that holds the same, or where there was no store yet one with the same files
-abbrev pub OpensStep : World → World → World → Type 0
-OpensStep was v w = HoldsOn v w ⊎ ((was.store ≡ []) × TreeStays v w)
-
--- what a whole update adds
+-- what a whole update adds; its opening of the store adds worlds that hold the same
 abbrev pub UpdateStep : Bool → Next → List Rule → World → World → World → Type 0
-UpdateStep tells next rules was v w = OpensStep was v w ⊎ MakesStep tells next rules was v w
+UpdateStep tells next rules was v w = HoldsOn v w ⊎ MakesStep tells next rules was v w

@@ -21,10 +21,10 @@ use Rattle.tup_kept.specs.Held.{Held}
 use Rattle.tup_kept.specs.Opening.{opened_in}
 use Rattle.tup_kept.specs.Transaction.{IsFull}
 use Rattle.tup_ledger.specs.Owned.{own_edits}
-use Rattle.tup_update.specs.Holding.{Holding, HoldsOn, IsDamaged, IsUnmade, Lists, OfHeld, holding}
+use Rattle.tup_update.specs.Holding.{Holding, HoldsOn, IsDamaged, Lists, OfHeld, holding}
 use Rattle.tup_update.specs.declared.update.Log.{Log}
 use Rattle.tup_update.specs.declared.stop.Stop.{Stop}
-use Rattle.tup_update.specs.declared.stop.Stop.TheVariants.{BadStore, Sources, Bad, Run, Full, Outside}
+use Rattle.tup_update.specs.declared.stop.Stop.TheVariants.{NoStore, BadStore, Sources, Bad, Run, Full, Outside}
 use Rattle.tup_update.specs.Log.{LogFits, RulesFit}
 use Rattle.tup_update.specs.Parts.{HasFileOf, IsBuilt, IsFirstBad}
 use Rattle.tup_update.specs.Sources.{sources, files_beside, IsAsked, IsRefused, PassesLimit, build, ends, left_over, outputs, vanished, is_made_in_turn}
@@ -75,6 +75,7 @@ HasNoRoom rules old new = LacksRoom (λ g. own_edits g (outputs rules)) new ⊎ 
 
 -- why an update stops, where the site tells
 abbrev pub HasCause : Next → List Rule → World → World → Option Stop → Type 0
+HasCause next rules old new (Some NoStore) = old.store ≡ []
 HasCause next rules old new (Some (BadStore offset)) = IsDamaged old.store offset
 HasCause next rules old new (Some (Sources fault)) = IsRefused old fault
 HasCause next rules old new (Some (Bad name verdict)) = OfHeld old (λ held. IsBadRule next rules held name verdict)
@@ -91,6 +92,7 @@ HasCountedCause before now (Some (Outside SiteFault)) = Rose before now
 HasCountedCause before now (Some (Outside (TooLarge n))) = (now ≡ before) × (16777216 < n)
 HasCountedCause before now (Some (Outside Memory)) = now ≡ before
 HasCountedCause before now (Some (Bad name verdict)) = (now ≡ before) × (is_good (Some verdict) ≡ false)
+HasCountedCause before now (Some NoStore) = now ≡ before
 HasCountedCause before now (Some (BadStore offset)) = now ≡ before
 HasCountedCause before now (Some (Sources fault)) = (now ≡ before) × PassesLimit fault
 HasCountedCause before now (Some Run) = now ≡ before
@@ -135,14 +137,15 @@ IsLeft tells next rules old new =
 -- store or the sources couldn't be read, the world holds what it held.
 abbrev pub NothingForgotten : Bool → Next → List Rule → World → World → Option Stop → Type 0
 NothingForgotten tells next rules old new None = OutputsListed rules old new
+NothingForgotten tells next rules old new (Some NoStore) = HoldsOn old new
 NothingForgotten tells next rules old new (Some (BadStore offset)) = HoldsOn old new
 NothingForgotten tells next rules old new (Some (Sources fault)) = HoldsOn old new
 NothingForgotten tells next rules old new (Some (Bad name verdict)) = ClaimedListed rules old new
 NothingForgotten tells next rules old new (Some Run) = ClaimedListed rules old new
 NothingForgotten tells next rules old new (Some (Outside (TooLarge n))) = HoldsOn old new ⊎ (IsAsked old rules × ClaimedListed rules old new)
 NothingForgotten tells next rules old new (Some Full) = IsLeft tells next rules old new
-NothingForgotten tells next rules old new (Some (Outside SiteFault)) = HoldsOn old new ⊎ IsUnmade old new ⊎ IsLeft tells next rules old new
-NothingForgotten tells next rules old new (Some (Outside Memory)) = HoldsOn old new ⊎ IsUnmade old new ⊎ IsLeft tells next rules old new
+NothingForgotten tells next rules old new (Some (Outside SiteFault)) = HoldsOn old new ⊎ IsLeft tells next rules old new
+NothingForgotten tells next rules old new (Some (Outside Memory)) = HoldsOn old new ⊎ IsLeft tells next rules old new
 
 -- what an update promises where the site tells, whatever its runner does; with the rules that it found, and the log that it
 -- tells of itself

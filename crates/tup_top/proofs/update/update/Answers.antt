@@ -7,7 +7,6 @@ use Rattle.tup_update.specs.Ran.{RunsThese}
 use Rattle.tup_update.specs.Settled.{IsSettled}
 use Rattle.tup_top.specs.Crew.{RanFits, RanInTurn}
 use Rattle.tup_top.specs.Promise.{CountsAll}
-use Rattle.tup_top.specs.Status.{came_to}
 use Rattle.tup_top.proofs.Causes.{answered, answered_of, told_of, untold_rules, untold_left, untold_ran, untold_turns, untold_runs, ran_fits, counts_all, counted_cause, prints_nothing, prints_update}
 use Rattle.tup_top.proofs.update.update.Goals as goal
 
@@ -137,7 +136,7 @@ returns-clause-told g c = λ tells means.
     let old = g.S.Site.world c.args.site.now in
     let rules = update.result.rules in
     let fits = update.ensures.rules tells in
-    told_of old rules (λ found. CountsAll g.R.Runner.next found old c.print-status.result) (came_to c.print-status.result)
+    told_of old rules (λ found. CountsAll g.R.Runner.next found old c.print-status.result) c.print-status.result
     (answered (RulesFit old rules) _ _ _ _ update.result.log update.result.stopped _ _ c.status_of-status.ensures c.print-status.ensures.ends update.ensures.counted_cause fits (untold_rules old rules update.result.stopped fits))
     (counts_all g.R.Runner.next rules old _ _ update.result.log update.result.stopped _ _ c.status_of-status.ensures c.print-status.ensures.ends (update.ensures.logged tells means))
 
@@ -171,6 +170,6 @@ returns-clause-crash g c = λ tells.
     let old = g.S.Site.world c.args.site.now in
     let rules = update.result.rules in
     let fits = update.ensures.rules tells in
-    told_of old rules (λ found. GoesOn g.S.Site.moment g.S.Site.left_since c.args.site.now update.new.site (UpdateStep g.R.Runner.tells g.R.Runner.next found old)) (came_to c.print-status.result)
+    told_of old rules (λ found. GoesOn g.S.Site.moment g.S.Site.left_since c.args.site.now update.new.site (UpdateStep g.R.Runner.tells g.R.Runner.next found old)) c.print-status.result
     (answered (RulesFit old rules) _ _ _ _ update.result.log update.result.stopped _ _ c.status_of-status.ensures c.print-status.ensures.ends update.ensures.counted_cause fits (untold_rules old rules update.result.stopped fits))
     (update.ensures.crash tells)

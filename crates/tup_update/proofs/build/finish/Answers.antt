@@ -8,7 +8,6 @@ use Rattle.tup_update.specs.Holding.{Lists}
 use Rattle.tup_update.specs.Stopped.{stop_of_graph}
 use Rattle.tup_update.specs.declared.stop.Stop.TheVariants.{Full}
 use Rattle.tup_update.proofs.Handed.{err_if}
-use Rattle.tup_update.proofs.Held.{by_ledger}
 use Rattle.tup_update.proofs.Keeping.{err_is}
 use Rattle.tup_update.proofs.Storing.{given_late, given_full, graph_counts, no_room}
 use Rattle.tup_update.proofs.build.finish.Goals as goal
@@ -36,4 +35,4 @@ returns-in_err-give_up-clause-counted g c =
 
 pub returns-clause-listed : goal.returns-clause-listed
 returns-clause-listed g c = λ tells.
-    subst (Lists (g.S.Site.world c.give_up.new.site).store) c.in_ok-give_up.ensures.owned.1 (by_ledger _ _ (c.in_ok-give_up.ensures.lists tells))
+    subst (Lists (g.S.Site.world c.give_up.new.site).store) c.in_ok-give_up.ensures.owned.1 (c.in_ok-give_up.ensures.lists tells)

@@ -15,7 +15,6 @@ use Rattle.tup_update.specs.Stopped.{stop_of_graph}
 use Rattle.tup_update.specs.declared.stop.Stop.TheVariants.{Full, Outside}
 use Rattle.tup_update.proofs.Crashing.{prepared, still_listed, written_only}
 use Rattle.tup_update.proofs.Handed.{err_if}
-use Rattle.tup_update.proofs.Held.{by_ledger}
 use Rattle.tup_update.proofs.Keeping.{err_is}
 use Rattle.tup_update.proofs.Storing.{committed_late, committed_full, graph_counts, site_late, site_counts, no_room, stands_on}
 use Rattle.tup_update.proofs.build.prepare.Goals as goal
@@ -58,7 +57,7 @@ returns-in_err-clear-clause-unclaimed g c = λ tells.
     let new = g.S.Site.world c.clear.new.site in
     inl (subst (λ (b : List ℕ). Lists b (ascending (owned_in c.args.graph.now.nodes ++ c.args.plan.now.outputs))) (sym (c.clear.ensures.store tells))
     (subst (Lists (g.S.Site.world c.own.new.site).store) (c.in_ok-own.ensures.owned.1 ∙ ap (λ (paths : List Names). ascending (owned_in c.args.graph.now.nodes ++ paths)) c.as_slice.ensures)
-    (by_ledger _ _ (c.in_ok-own.ensures.lists tells))))
+    (c.in_ok-own.ensures.lists tells)))
 
 pub returns-in_err-clear-clause-crash : goal.returns-in_err-clear-clause-crash
 returns-in_err-clear-clause-crash g c = λ tells.
@@ -69,7 +68,7 @@ returns-in_err-clear-clause-crash g c = λ tells.
     let stands = c.own.ensures.stands tells c.in_ok-own.ensures.owned.0 in
     prepared g.S.Site.moment g.S.Site.left_since c.args.site.now mid c.clear.new.site plan.vanished c.as_slice-2.result.now (g.S.Site.world mid) claiming c.as_slice-2.ensures (λ t u w le left. site_laws.earlier mid t u w tells le left)
     (as_step g.S.Site.moment g.S.Site.left_since c.args.site.now mid (GraphStep c.args.graph.now.nodes (with_owned c.args.graph.now.nodes c.as_slice.result.now)) TreeStays (λ v w left step. step.tree) (c.own.ensures.crash tells).on) stands.rests.durable
-    (subst (Lists (g.S.Site.world mid).store) (c.in_ok-own.ensures.owned.1 ∙ ap (λ (paths : List Names). ascending (owned_in c.args.graph.now.nodes ++ paths)) c.as_slice.ensures) (by_ledger _ _ (c.in_ok-own.ensures.lists tells)))
+    (subst (Lists (g.S.Site.world mid).store) (c.in_ok-own.ensures.owned.1 ∙ ap (λ (paths : List Names). ascending (owned_in c.args.graph.now.nodes ++ paths)) c.as_slice.ensures) (c.in_ok-own.ensures.lists tells))
     (c.clear.ensures.crash tells)
 
 pub returns-in_err-clear-clause-full : goal.returns-in_err-clear-clause-full
@@ -104,7 +103,7 @@ returns-clause-crash g c = λ tells.
     let stands = c.own.ensures.stands tells c.in_ok-own.ensures.owned.0 in
     prepared g.S.Site.moment g.S.Site.left_since c.args.site.now mid c.clear.new.site plan.vanished c.as_slice-2.result.now (g.S.Site.world mid) claiming c.as_slice-2.ensures (λ t u w le left. site_laws.earlier mid t u w tells le left)
     (as_step g.S.Site.moment g.S.Site.left_since c.args.site.now mid (GraphStep c.args.graph.now.nodes (with_owned c.args.graph.now.nodes c.as_slice.result.now)) TreeStays (λ v w left step. step.tree) (c.own.ensures.crash tells).on) stands.rests.durable
-    (subst (Lists (g.S.Site.world mid).store) (c.in_ok-own.ensures.owned.1 ∙ ap (λ (paths : List Names). ascending (owned_in c.args.graph.now.nodes ++ paths)) c.as_slice.ensures) (by_ledger _ _ (c.in_ok-own.ensures.lists tells)))
+    (subst (Lists (g.S.Site.world mid).store) (c.in_ok-own.ensures.owned.1 ∙ ap (λ (paths : List Names). ascending (owned_in c.args.graph.now.nodes ++ paths)) c.as_slice.ensures) (c.in_ok-own.ensures.lists tells))
     (c.clear.ensures.crash tells)
 
 pub returns-clause-pinned : goal.returns-clause-pinned
