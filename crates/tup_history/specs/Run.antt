@@ -1,5 +1,5 @@
 -- What a run of the program leaves, by what the program promises of each run (tup_top). Own.
-use Rattle.std.specs.Prelude.{◌≡◌, ⊥, Bool, ℕ, List, [], Option, None, Some, IsTrue, Ok}
+use Rattle.std.specs.Prelude.{◌≡◌, ⊤, ⊥, Bool, ℕ, List, [], Option, None, Some, IsTrue, Ok}
 use Rattle.tup_site.specs.World.{World}
 use Rattle.tup_site.specs.Memory.{world_in, first_of, changes_of, calls_of, faults_of, fails_of, left_of}
 use Rattle.tup_site.specs.declared.memory.MemSite.{MemSite}
@@ -9,6 +9,7 @@ use Rattle.tup_runner.specs.Next.{Next}
 use Rattle.tup_clean.specs.Clean.{succeeds}
 use Rattle.tup_whole.specs.Project.{ComeTo}
 use Rattle.tup_ledger.specs.Ascending.{ascending}
+use Rattle.tup_ledger.specs.Begin.{Begins}
 use Rattle.tup_update.specs.Compared.{HasCompared}
 use Rattle.tup_update.specs.Holding.{Holding, Shows}
 use Rattle.tup_update.specs.Log.{OfRules}
@@ -16,9 +17,9 @@ use Rattle.tup_update.specs.Outcome.{ExactlyTheFiles, MadeBeforeBad, SourcesStay
 use Rattle.tup_update.specs.Sources.{sources, build, outputs}
 use Rattle.tup_top.specs.Crew.{RanFits, RanInTurn}
 use Rattle.tup_top.specs.Order.{Wanted, IsUpdate}
-use Rattle.tup_top.specs.Promise.{ForUpdate, ForVerify, ForDemo, StopsDemo, NothingDone, CountsAll, Counts, HasPlainCause, Succeeds, Compares}
-use Rattle.tup_top.specs.Status.{came_to}
+use Rattle.tup_top.specs.Promise.{ForUpdate, ForInit, ForVerify, ForDemo, StopsDemo, NothingDone, CountsAll, Counts, HasPlainCause, Succeeds, Initializes, Compares}
 use Rattle.tup_top.specs.declared.status.Status.{Status}
+use Rattle.tup_top.specs.declared.status.Status.TheVariants.{Done, SinkFault}
 
 -- The world is a clean build of its own sources: the store reads, and the files that it doesn't own are the sources. Their
 -- rules, built from these alone, are all Good, and give just the files that are there; owned are just their outputs.
@@ -31,10 +32,16 @@ pub record IsCleanBuild (next : Next) (w : World) : Type 0 where
   pub files : w.tree ≡ (build next rules held).tree
   pub owned : held.owned ≡ ascending (outputs rules)
 
+-- the answer says that all was done, and that its lines were written or couldn't be
+abbrev pub SaysDone : Status → Type 0
+SaysDone (Done read ran removed) = ⊤
+SaysDone SinkFault = ⊤
+SaysDone other = ⊥
+
 -- What a run leaves of a world, what it answers, and which rules it began. The site, the runners and the sink count their
 -- failures before it and behind it. The first promise is the headline; the others are those of every call of the program.
 pub record Keeps (tells : Bool) (next : Next) (wanted : Wanted) (old new : World) (before now : Counts) (status : Status) (ran : List RuleName) : Type 0 where
-  pub clean_build : IsTrue tells → IsUpdate wanted → came_to status ≡ Some None → IsCleanBuild next new
+  pub clean_build : IsTrue tells → IsUpdate wanted → SaysDone status → IsCleanBuild next new
   pub exactly_the_files : IsTrue tells → ForUpdate wanted status (OfRules old (λ rules. ExactlyTheFiles next rules old new))
   pub made_before_bad : IsTrue tells → ForUpdate wanted status (OfRules old (λ rules. MadeBeforeBad next rules old new))
   pub sources_stay : SourcesStay old new
@@ -47,6 +54,8 @@ pub record Keeps (tells : Bool) (next : Next) (wanted : Wanted) (old new : World
   pub demo_cause : ForDemo wanted status StopsDemo
   pub plain_cause : HasPlainCause wanted before now status
   pub success : IsTrue tells → Succeeds wanted next old new before now status
+  pub begins : ForInit wanted status (Begins old new)
+  pub initializes : Initializes wanted old before now status
   pub compared : IsTrue tells → ForVerify wanted status (HasCompared next old)
   pub compares : IsTrue tells → Compares wanted old before now status
   pub told : IsTrue tells → ForUpdate wanted status (OfRules old (λ rules _. CountsAll next rules old status))
