@@ -12,7 +12,7 @@ use Rattle.tup_top.specs.declared.order.Word.{Word}
 use Rattle.tup_top.specs.declared.status.Status.{Status}
 use Rattle.tup_history.specs.Chain.{Leads}
 use Rattle.tup_history.specs.Deed.{IsDone, IsUntouched, Refuses}
-use Rattle.tup_history.specs.Run.{Keeps, Lets, left_then, left_behind}
+use Rattle.tup_history.specs.Run.{Keeps, Leaves, Lets, left_then, left_behind}
 use Rattle.tup_history.specs.declared.turn.Turn.{Turn}
 use Rattle.tup_history.specs.declared.turn.Turn.TheVariants.{Deed, Run}
 use Rattle.tup_history.specs.declared.turn.End.{End}
@@ -52,6 +52,7 @@ pub record TakesRun (tells : Bool) (next : Next) (words : List Word) (stop_after
   pub status : Status
   pub begins : Lets (left_then stop_after (left_of from.site)) from.site begun
   pub keeps : Keeps tells next (order words) (world_in begun) (world_in ended) (counted begun from) (counted ended to) status end.ran
+  pub leaves : Leaves tells next (order words) begun ended status
   pub goes_on : Lets (left_behind stop_after (left_of ended)) ended to.site
   pub moment : end.moment ≡ moment_of to.site
   pub answered : end.status ≡ Some status

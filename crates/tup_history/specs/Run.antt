@@ -1,7 +1,8 @@
 -- What a run of the program leaves, by what the program promises of each run (tup_top). Own.
 use Rattle.std.specs.Prelude.{◌≡◌, ⊤, ⊥, Bool, ℕ, List, [], Option, None, Some, IsTrue, Ok}
+use Rattle.tup_site.specs.Crash.{GoesOn}
 use Rattle.tup_site.specs.World.{World}
-use Rattle.tup_site.specs.Memory.{world_in, first_of, changes_of, calls_of, faults_of, fails_of, left_of}
+use Rattle.tup_site.specs.Memory.{world_in, first_of, changes_of, moment_of, left_since, calls_of, faults_of, fails_of, left_of}
 use Rattle.tup_site.specs.declared.memory.MemSite.{MemSite}
 use Rattle.tup_rule.specs.declared.rule.Rule.{Rule}
 use Rattle.tup_rule.specs.declared.rule.RuleName.{RuleName}
@@ -12,12 +13,14 @@ use Rattle.tup_ledger.specs.Ascending.{ascending}
 use Rattle.tup_ledger.specs.Begin.{Begins}
 use Rattle.tup_update.specs.Compared.{HasCompared}
 use Rattle.tup_update.specs.Holding.{Holding, Shows}
+use Rattle.tup_update.specs.Images.{UpdateStep}
 use Rattle.tup_update.specs.Log.{OfRules}
 use Rattle.tup_update.specs.Outcome.{ExactlyTheFiles, MadeBeforeBad, SourcesStay, NothingForgotten, HasCause}
+use Rattle.tup_update.specs.Settled.{IsSettled}
 use Rattle.tup_update.specs.Sources.{sources, build, outputs}
 use Rattle.tup_top.specs.Crew.{RanFits, RanInTurn}
 use Rattle.tup_top.specs.Order.{Wanted, IsUpdate}
-use Rattle.tup_top.specs.Promise.{ForUpdate, ForInit, ForVerify, ForDemo, StopsDemo, NothingDone, CountsAll, Counts, HasPlainCause, Succeeds, Initializes, Compares}
+use Rattle.tup_top.specs.Promise.{ForUpdate, ForInit, ForVerify, ForDemo, StopsDemo, Lasts, NothingDone, QuietStep, CountsAll, Counts, HasPlainCause, Succeeds, Initializes, Compares}
 use Rattle.tup_top.specs.declared.status.Status.{Status}
 use Rattle.tup_top.specs.declared.status.Status.TheVariants.{Done, SinkFault}
 
@@ -59,6 +62,13 @@ pub record Keeps (tells : Bool) (next : Next) (wanted : Wanted) (old new : World
   pub compared : IsTrue tells → ForVerify wanted status (HasCompared next old)
   pub compares : IsTrue tells → Compares wanted old before now status
   pub told : IsTrue tells → ForUpdate wanted status (OfRules old (λ rules _. CountsAll next rules old status))
+
+-- What a crash may leave since such a run began, and once it has ended.
+pub record Leaves (tells : Bool) (next : Next) (wanted : Wanted) (old new : MemSite) (status : Status) : Type 0 where
+  pub crash : ForUpdate wanted status (OfRules (world_in old) (λ rules _. GoesOn moment_of left_since old new (UpdateStep tells next rules (world_in old))))
+  pub quiet : (IsUpdate wanted → ⊥) → GoesOn moment_of left_since old new (QuietStep wanted (world_in old))
+  pub settled : ForUpdate wanted status (IsSettled (left_since new (moment_of new)) (world_in new))
+  pub lasts : ForInit wanted status (Lasts (left_since new (moment_of new)) (world_in new))
 
 -- ---- the calls that pass
 

@@ -1,10 +1,9 @@
 //! A run of the program as a turn.
-ghost use Rattle.std.specs.Prelude.{◌≡◌, length};
 ghost use Rattle.tup_site.specs.Memory.{world_in, faults_of, left_of};
 ghost use Rattle.tup_top.specs.Crew.{IsCrew};
 ghost use Rattle.tup_top.specs.Order.{order};
 ghost use Rattle.tup_top.specs.Promise.{counts};
-ghost use Rattle.tup_history.specs.Run.{Keeps, Lets, left_then, left_behind};
+ghost use Rattle.tup_history.specs.Run.{Keeps, Leaves, Lets, left_then, left_behind};
 
 use std::alloc::Global;
 use tup_runner::Runner;
@@ -26,6 +25,7 @@ pub(crate) fn run<R: Runner, K: Sink>(
         let now = counted result.site result.crew.items out.new in
         Keeps R.tells R.next (order words.now) (world_in site) (world_in result.site) before now
         result.status result.ran }
+    ensures leaves { Leaves R.tells R.next (order words.now) site result.site result.status }
     ensures crew { IsCrew result.crew.items }
 {
     tup(alloc, words, site, crew, out)

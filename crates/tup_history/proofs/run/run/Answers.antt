@@ -24,3 +24,11 @@ returns-clause-keeps g c = record {
   compares = λ means. c.tup.ensures.compares tt means;
   told = λ means. c.tup.ensures.told tt means;
 }
+
+pub returns-clause-leaves : goal.returns-clause-leaves
+returns-clause-leaves g c = record {
+  crash = c.tup.ensures.crash tt;
+  quiet = c.tup.ensures.quiet tt;
+  settled = c.tup.ensures.settled tt;
+  lasts = c.tup.ensures.lasts tt;
+}
