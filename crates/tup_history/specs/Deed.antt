@@ -1,5 +1,5 @@
 -- What is done to a site in memory between two runs: an edit of a file, or a crash. Own.
-use Rattle.std.specs.Prelude.{◌≡◌, ⊤, ⊥, [], ◌∷◌, ◌++◌, Option, None}
+use Rattle.std.specs.Prelude.{◌≡◌, ⊤, [], ◌∷◌, ◌++◌, Option, None}
 use Rattle.tup_path.specs.Name.{Names, Content}
 use Rattle.tup_path.specs.Tree.{IsTree}
 use Rattle.tup_site.specs.Choice.{IsChoice, chosen_world}

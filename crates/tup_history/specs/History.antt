@@ -1,5 +1,5 @@
 -- A history of a project: edits, crashes and runs of the program, one after another. Own.
-use Rattle.std.specs.Prelude.{◌≡◌, ◌⊎◌, ⊥, Bool, ℕ, List, [], length, take, map, Option, None, Some, slice_get}
+use Rattle.std.specs.Prelude.{◌≡◌, ◌⊎◌, Bool, ℕ, List, [], length, take, map, Option, None, Some, slice_get}
 use Rattle.tup_site.specs.Memory.{world_in, moment_of, faults_of, left_of}
 use Rattle.tup_site.specs.declared.choice.Deed.{Deed as ADeed}
 use Rattle.tup_site.specs.declared.memory.MemSite.{MemSite}

@@ -1,5 +1,5 @@
 -- What a run of the program leaves, by what the program promises of each run (tup_top). Own.
-use Rattle.std.specs.Prelude.{◌≡◌, ⊤, ⊥, Bool, ℕ, List, [], Option, None, Some, IsTrue, Ok}
+use Rattle.std.specs.Prelude.{◌≡◌, ⊤, Bool, ℕ, List, [], Option, None, Some, IsTrue, Ok}
 use Rattle.tup_site.specs.Crash.{GoesOn}
 use Rattle.tup_site.specs.World.{World}
 use Rattle.tup_site.specs.Memory.{world_in, first_of, changes_of, moment_of, left_since, calls_of, faults_of, fails_of, left_of}

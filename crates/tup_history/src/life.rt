@@ -1,5 +1,5 @@
 //! Turn after turn.
-ghost use Rattle.std.specs.Prelude.{◌≡◌, Some, IfOk, OnErr, IfErr, length};
+ghost use Rattle.std.specs.Prelude.{◌≡◌, IfOk, OnErr, IfErr};
 ghost use Rattle.tup_top.specs.Crew.{IsCrew};
 ghost use Rattle.tup_history.specs.Deed.{IsUntouched, Refuses};
 ghost use Rattle.tup_history.specs.History.{standing, EndsDeed, TakesRun, Takes, RefusesTurn, StandsAs, AreLived};
@@ -57,7 +57,14 @@ pub fn history<R: Runner, K: Sink>(
         life = next;
         match end {
             Ok(end) => ends.push_reserved(end),
-            Err(why) => return stopped(life, ends, why),
+            Err(why) => {
+                return Lived {
+                    refused: Some((ends.len(), why)),
+                    site: life.site,
+                    crew: life.crew,
+                    ends: Items::from_vec(ends),
+                };
+            }
         }
     }
     Lived {
@@ -80,22 +87,6 @@ struct Life<R> {
 struct Taken<R> {
     life: Life<R>,
     end: Result<End, MemRefused>,
-}
-
-/// What became of turns of which one was refused, for this reason.
-fn stopped<R>(life: Life<R>, ends: Vec<End>, why: MemRefused) -> Lived<R>
-    ensures site { result.site ≡ life.site }
-    ensures crew { result.crew ≡ life.crew }
-    ensures ends { result.ends ≡ ends.items }
-    ensures refused { result.refused ≡ Some (length ends.items, why) }
-{
-    let at = ends.len();
-    Lived {
-        site: life.site,
-        crew: life.crew,
-        ends: Items::from_vec(ends),
-        refused: Some((at, why)),
-    }
 }
 
 /// Carries out a turn. After a refusal all is as before.
