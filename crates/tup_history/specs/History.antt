@@ -1,18 +1,18 @@
 -- A history of a project: edits, crashes and runs of the program, one after another. Own.
-use Rattle.std.specs.Prelude.{◌≡◌, ◌⊎◌, Bool, ℕ, List, [], length, take, map, Option, None, Some, slice_get}
+use Rattle.std.specs.Prelude.{◌≡◌, ◌⊎◌, Bool, ℕ, List, [], ◌∷◌, length, take, map, Option, None, Some, slice_get}
 use Rattle.tup_site.specs.Memory.{world_in, moment_of, faults_of, left_of}
 use Rattle.tup_site.specs.declared.choice.Deed.{Deed as ADeed}
 use Rattle.tup_site.specs.declared.memory.MemSite.{MemSite}
 use Rattle.tup_site.specs.declared.refused.MemRefused.{MemRefused}
 use Rattle.tup_site.specs.declared.refused.MemRefused.TheVariants.{Memory}
 use Rattle.tup_runner.specs.Next.{Next}
-use Rattle.tup_top.specs.Order.{order}
+use Rattle.tup_top.specs.Order.{IsUpdate, order}
 use Rattle.tup_top.specs.Promise.{Counts}
 use Rattle.tup_top.specs.declared.order.Word.{Word}
 use Rattle.tup_top.specs.declared.status.Status.{Status}
 use Rattle.tup_history.specs.Chain.{Leads}
 use Rattle.tup_history.specs.Deed.{IsDone, IsUntouched, Refuses}
-use Rattle.tup_history.specs.Run.{Keeps, Leaves, Lets, left_then, left_behind}
+use Rattle.tup_history.specs.Run.{SaysDone, Keeps, Leaves, Lets, left_then, left_behind}
 use Rattle.tup_history.specs.declared.turn.Turn.{Turn}
 use Rattle.tup_history.specs.declared.turn.Turn.TheVariants.{Deed, Run}
 use Rattle.tup_history.specs.declared.turn.End.{End}
@@ -95,3 +95,23 @@ pub record AreLived (tells : Bool) (next : Next) (turns : List Turn) (ends : Lis
   pub history : IsHistory tells next (take (length ends) turns) ends from last
   pub stops : StopsThere turns ends last.site refused
   pub stands : StandsAs last to
+
+-- ---- the headline
+
+-- a run answered that all was done
+abbrev pub AnswersDone : Option Status → Type 0
+AnswersDone None = ⊥
+AnswersDone (Some status) = SaysDone status
+
+-- the turn is an update of which all was done
+abbrev pub IsDoneUpdate : Turn → End → Type 0
+IsDoneUpdate (Deed deed) end = ⊥
+IsDoneUpdate (Run words stop_after) end = IsUpdate (order words) × AnswersDone end.status
+
+-- so is the last of these turns, each of which was carried out
+abbrev pub EndsDone : List Turn → List End → Type 0
+EndsDone [] ends = ⊥
+EndsDone (turn ∷ turns) [] = ⊥
+EndsDone (turn ∷ []) (end ∷ []) = IsDoneUpdate turn end
+EndsDone (turn ∷ []) (end ∷ other ∷ ends) = ⊥
+EndsDone (turn ∷ next ∷ turns) (end ∷ ends) = EndsDone (next ∷ turns) ends

@@ -1,8 +1,10 @@
 //! Turn after turn.
-ghost use Rattle.std.specs.Prelude.{◌≡◌, IfOk, OnErr, IfErr};
+ghost use Rattle.std.specs.Prelude.{◌≡◌, IfOk, OnErr, IfErr, IsTrue};
+ghost use Rattle.tup_site.specs.Memory.{world_in};
 ghost use Rattle.tup_top.specs.Crew.{IsCrew};
 ghost use Rattle.tup_history.specs.Deed.{IsUntouched, Refuses};
-ghost use Rattle.tup_history.specs.History.{standing, EndsDeed, TakesRun, Takes, RefusesTurn, StandsAs, AreLived};
+ghost use Rattle.tup_history.specs.Run.{IsCleanBuild};
+ghost use Rattle.tup_history.specs.History.{standing, EndsDeed, TakesRun, Takes, RefusesTurn, StandsAs, AreLived, EndsDone};
 
 use crate::deed::do_deed;
 use crate::run::{begin, go_on, run};
@@ -38,7 +40,10 @@ pub fn history<R: Runner, K: Sink>(
     out: &mut K,
 ) -> Lived<R>
     requires crew { IsCrew crew.items }
-    ensures { let stands = standing R.faults K.faults in
+    // After any turns: an update that is done leaves exactly the files of a clean build.
+    ensures clean_build { IsTrue R.tells → EndsDone turns.items result.ends
+        → IsCleanBuild R.next (world_in result.site) }
+    ensures lived { let stands = standing R.faults K.faults in
         AreLived R.tells R.next turns.items result.ends result.refused
         (stands site crew.items out.old) (stands result.site result.crew.items out.new) }
 {
