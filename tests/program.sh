@@ -34,13 +34,17 @@ same() {
 }
 
 # Runs the program with words: the row's name, its exit number, its lines with a semicolon behind each, the words. Only
-# where a call of the system, or what runs the commands, failed it says something on standard error.
+# where a call of the system, or what runs the commands, failed, or no project was begun, it says something on standard error.
 row() {
     name=$1 status=$2 lines=$3
     shift 3
     found=$("$tup" "$@" 2> "$work/said"; printf 'exit %s' "$?")
     same "$name" "$(printf '%s' "$found" | tr '\n' ';')" "${lines}exit $status"
-    if [ "$status" != 7 ] && [ "$status" != 8 ]; then same "$name, standard error" "$(cat "$work/said")" ""; fi
+    case "$status $lines" in
+        7* | 8*) ;;
+        *'no tup project here;') said '`tup init` begins a project here' ;;
+        *) same "$name, standard error" "$(cat "$work/said")" "" ;;
+    esac
 }
 
 # What the last row said on standard error: the place, and the system's words.
