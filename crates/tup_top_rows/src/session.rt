@@ -31,9 +31,9 @@ impl Answers for Session {
         Ok(match call {
             "folder" => self.begin(alloc, folder(alloc, 0), 0),
             "failing_folder" => self.begin(alloc, folder(alloc, said.number_at(0)), 0),
-            "project" => self.begin(alloc, project(alloc, 0), 0),
-            "failing" => self.begin(alloc, project(alloc, said.number_at(0)), 0),
-            "failing_run" => self.begin(alloc, project(alloc, 0), said.number_at(0)),
+            "project" => self.begin(alloc, started(alloc, 0), 0),
+            "failing" => self.begin(alloc, started(alloc, said.number_at(0)), 0),
+            "failing_run" => self.begin(alloc, started(alloc, 0), said.number_at(0)),
             "tup" => self.call(alloc, said, 0),
             "tup_unheard" => self.call(alloc, said, 1),
             _ => match &mut self.project {
@@ -123,7 +123,7 @@ fn folder(alloc: Global, fails: u64) -> Result<MemSite, RowFault> {
 }
 
 /// A project without files, of which the call of this number fails behind its beginning.
-fn project(alloc: Global, fails: u64) -> Result<MemSite, RowFault> {
+fn started(alloc: Global, fails: u64) -> Result<MemSite, RowFault> {
     let begun = begun_over(alloc, folder(alloc, 0)?)?;
     if fails == 0 {
         return Ok(begun);
