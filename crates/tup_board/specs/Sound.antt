@@ -46,10 +46,11 @@ pub record WasToHappen {S R : Type 0} (site : Site S) (runner : Runner R) (board
   pub run : (run : RunRecord) → commit.run ≡ Some run → CouldEnd (plan_of board) (start board) board.history commit.rule run
       (IsTrue site.tells × IsTrue runner.tells) (EndsHonestly runner.next (site.known board.site))
 
--- what a crash since the board was made may leave, and what one right before that might have left
+-- what a crash since the board was made may leave
 abbrev pub Since : {S : Type 0} → Site S → BoardState S → World → Type 0
 Since site board w = site.left_since board.site (site.moment board.opening.site) w
 
+-- what one right before that might have left
 abbrev pub Before : {S : Type 0} → Site S → BoardState S → World → Type 0
 Before site board w = site.left_since board.opening.site (site.moment board.opening.site) w
 
