@@ -82,12 +82,12 @@ fn run<R: Runner>(rt: HostRuntime, alloc: Global, words: &[Word], runner: R) -> 
         // Words that can't be printed change nothing: the exit number tells as much.
         drop(eprintln!(rt; "tup: {failure}"));
     }
-    hint(&rt, &ran.status);
+    hint(rt, &ran.status);
     (ran.status.exit(), ran.crew.pop())
 }
 
 /// Says what to do where no project was begun.
-fn hint(rt: &impl Print, status: &Status) {
+fn hint(rt: HostRuntime, status: &Status) {
     if let Status::NotInit = status {
         // Words that can't be printed change nothing: the exit number tells as much.
         drop(eprintln!(rt; "tup: `tup init` begins a project here"));
