@@ -54,10 +54,11 @@ abbrev pub parse_fault : ParseFault → List ℕ
 parse_fault fault =
     codes "fault: " ++ (show fault.file ++ (codes ":" ++ (decimal fault.line ++ (codes ": " ++ (kind_text fault.kind ++ (codes ", read for " ++ show fault.dir))))))
 
--- a folder, and a rule, with an arrow behind it
+-- a folder with an arrow behind it
 abbrev pub folder_arrow : Names → List ℕ
 folder_arrow dir = show dir ++ codes " -> "
 
+-- the same of a rule
 abbrev pub rule_arrow : RuleName → List ℕ
 rule_arrow rule = show rule.dir ++ (codes ": " ++ (rule.text ++ codes " -> "))
 

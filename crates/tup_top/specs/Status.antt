@@ -134,11 +134,12 @@ IfCame (Usage place) promise = ⊥
 IfCame AlreadyInit promise = ⊥
 IfCame (Differs path) promise = ⊥
 
--- the same of a comparison, which may tell a difference
+-- what came of an update as what came of a comparison
 abbrev pub of_stop : Option Stop → Result Compared Stop
 of_stop None = Ok compared.Same
 of_stop (Some stop) = Err stop
 
+-- a promise of what a comparison came to, which may tell a difference
 abbrev pub IfCompared : Status → (Result Compared Stop → Type 0) → Type 0
 IfCompared (Differs path) promise = promise (Ok (compared.Differs path))
 IfCompared other promise = IfCame other (λ came. promise (of_stop came))

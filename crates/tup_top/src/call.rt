@@ -42,9 +42,10 @@ pub struct Ran<S, R> {
 /// Carries out what the words ask for, and prints its lines to `out` in one write.
 ///
 /// `init` makes the store of a project where there is none. No words, or `upd`, update the files of
-/// the site; the first runner of the crew runs the commands. `verify` has it run those of a clean build beside them, and touches no file. `demo`
-/// shows an update of a small project in memory, and leaves site and crew alone. Other words are
-/// refused by the place of the first that can't stand there. A crew has 1 to 16 runners.
+/// the site; the first runner of the crew runs the commands. `verify` has it run those of a clean
+/// build beside them, and touches no file. `demo` shows an update of a small project in memory, and
+/// leaves site and crew alone. Other words are refused by the place of the first that can't stand
+/// there. A crew has 1 to 16 runners.
 pub fn tup<S: Site, R: Runner, K: Sink>(
     alloc: Global,
     words: &[Word],

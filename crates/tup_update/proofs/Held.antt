@@ -1,5 +1,5 @@
 -- What a world holds is one thing alone, and what two worlds hold that list the same.
-use Rattle.std.proofs.Common.{◌≡◌, ◌⊎◌, ℕ, List, [], ◌∷◌, ◌++◌, ⊎_elim, Result, Ok, Err, inl, inr, refl, sym, ap, subst, ◌∙◌}
+use Rattle.std.proofs.Common.{◌≡◌, ◌⊎◌, ℕ, List, [], ◌++◌, ⊎_elim, Result, Ok, Err, inl, inr, refl, sym, ap, subst, ◌∙◌}
 use Rattle.tup_path.specs.Name.{Names}
 use Rattle.tup_site.specs.World.{World}
 use Rattle.tup_table.specs.Entries.{Standing}
@@ -11,6 +11,7 @@ use Rattle.tup_table.proofs.Stores.{reads_one}
 use Rattle.tup_graph.specs.Opening.{IsGraphOf}
 use Rattle.tup_graph.proofs.OneWay.{not_broken}
 use Rattle.tup_table.specs.Images.{Leaves, OpenStep}
+use Rattle.tup_table.specs.Store.{header, blocks}
 use Rattle.tup_ledger.proofs.Listing.{lists_one, nothing_lists, opened_still}
 use Rattle.tup_update.specs.Holding.{Holding, HoldsOn, IsDamaged, Lists, OfHeld, Shows, holding}
 
@@ -28,7 +29,7 @@ of_held w paths promise lists kept held shows = subst promise (held_is w held pa
 
 -- ---- worlds that hold the same
 pub holds_itself : (w : World) → HoldsOn w w
-holds_itself w = record { tree = refl; lists = λ paths lists. lists; back = λ paths lists. lists }
+holds_itself w = record { tree = refl; none = λ none. none; lists = λ paths lists. lists; back = λ paths lists. lists }
 
 pub holds_same : (v w : World) → w ≡ v → HoldsOn v w
 holds_same v w same = subst (HoldsOn v) (sym same) (holds_itself v)
@@ -36,14 +37,22 @@ holds_same v w same = subst (HoldsOn v) (sym same) (holds_itself v)
 pub holds_then : (u v w : World) → HoldsOn u v → HoldsOn v w → HoldsOn u w
 holds_then u v w one two = record {
   tree = two.tree ∙ one.tree;
+  none = λ none. two.none (one.none none);
   lists = λ paths lists. two.lists paths (one.lists paths lists);
   back = λ paths lists. one.back paths (two.back paths lists);
 }
+
+-- where nothing stands, no store does
+not_store : (entries : Standing) → Leaves entries [] → ⊥
+not_store entries (commits, store, is) =
+    let no : [] ≡ header ++ (blocks commits ++ store.0) = store.1.whole in
+    cc
 
 -- as where a store was opened: it has the same entries
 pub opened_holds : (v w : World) → OpenStep v w → HoldsOn v w
 opened_holds v w step = record {
   tree = step.tree;
+  none = λ none. absurd (not_store step.entries (subst (Leaves step.entries) none step.before));
   lists = λ paths. (opened_still v w step paths).0;
   back = λ paths. (opened_still v w step paths).1;
 }

@@ -1,12 +1,10 @@
 -- What a call of the ledger that is refused becomes, and what its graph stands for when files are changed.
-use Rattle.std.proofs.Common.{◌≡◌, ◌≢◌, ◌⊎◌, inl, inr, ℕ, Bool, IsTrue, List, [], ◌∷◌, length, map, Some, Result, Ok, Err, IfErr, IfOk, refl, sym, ◌∙◌, subst, arith}
+use Rattle.std.proofs.Common.{◌≡◌, ◌≢◌, ℕ, Bool, IsTrue, List, Some, Result, Ok, Err, refl, sym, subst}
 use Rattle.std.specs.FinMap as finite
-use Rattle.std.specs.Result.{result_err}
 use Rattle.tup_path.specs.Name.{Names}
-use Rattle.tup_path.specs.Order.{by_names}
 use Rattle.tup_path.specs.Tree.{Tree}
-use Rattle.tup_site.specs.Crash.{GoesOn, WriteStep}
-use Rattle.tup_site.specs.World.{World, StoreStays, TreeStays}
+use Rattle.tup_site.specs.Crash.{GoesOn}
+use Rattle.tup_site.specs.World.{World, StoreStays}
 use Rattle.tup_site.specs.Cause.{CountsFaults as SiteCounts}
 use Rattle.tup_site.specs.declared.fault.SiteFailed.{SiteFailed}
 use Rattle.tup_site.specs.declared.fault.SiteFailed.TheVariants.{Fault, TooLarge, Memory}
@@ -16,8 +14,7 @@ use Rattle.tup_table.specs.Store.{IsStore}
 use Rattle.tup_table.specs.Table.{IsAtRest}
 use Rattle.tup_table.proofs.Appends.{closed_store}
 use Rattle.tup_table.proofs.Going.{IsEarlier, as_step}
-use Rattle.tup_graph.specs.Graph.{GraphState, empty_graph}
-use Rattle.tup_graph.specs.declared.owned.Owned.{Owned}
+use Rattle.tup_graph.specs.Graph.{GraphState}
 use Rattle.tup_graph.specs.Transactions.{forget_edits}
 use Rattle.tup_graph.specs.declared.edit.Edit.{Edit}
 use Rattle.tup_graph.specs.declared.fault.GraphFault.{GraphFault}
@@ -27,18 +24,15 @@ use Rattle.tup_kept.specs.Held.{Held, StandsFor}
 use Rattle.tup_kept.specs.Opening.{OpensAs, opened_in}
 use Rattle.tup_kept.specs.Transaction.{IsFull, Leaves}
 use Rattle.tup_ledger.specs.Given.{GivesUp}
-use Rattle.tup_ledger.specs.Listing.{Lists as ListsOwned}
-use Rattle.tup_ledger.specs.Owned.{owned_in}
-use Rattle.tup_update.specs.Holding.{HoldsOn, IsUnmade, Lists}
-use Rattle.tup_update.specs.Images.{FilesStep, OpensStep}
-use Rattle.tup_update.specs.Opened.{ArePathsOf, IsNew, IsUnlisted, IsUnopened, StopsOpening}
+use Rattle.tup_update.specs.Holding.{HoldsOn}
+use Rattle.tup_update.specs.Images.{FilesStep}
+use Rattle.tup_update.specs.Opened.{IsUnopened, StopsOpening}
 use Rattle.tup_update.specs.Outcome.{HasCountedCause, LacksRoom}
 use Rattle.tup_update.specs.Parts.{IsLate}
 use Rattle.tup_update.specs.Stopped.{stop_of_graph}
-use Rattle.tup_update.specs.declared.stop.Stop.{Stop}
 use Rattle.tup_update.specs.declared.stop.Stop.TheVariants.{Full, Outside}
-use Rattle.tup_update.proofs.Crashing.{joined_on, still_listed}
-use Rattle.tup_update.proofs.Held.{by_ledger, listed_one, opened_holds}
+use Rattle.tup_update.proofs.Crashing.{still_listed}
+use Rattle.tup_update.proofs.Held.{opened_holds}
 
 -- ---- a refusal, and what the site counted
 

@@ -1,5 +1,5 @@
 -- What a site holds, as an update sees it: the files of its tree, and the paths that its store lists as owned.
-use Rattle.std.specs.Prelude.{◌≡◌, ℕ, List, [], ◌∷◌, Err}
+use Rattle.std.specs.Prelude.{◌≡◌, ℕ, List, [], Err}
 use Rattle.tup_path.specs.Name.{Names}
 use Rattle.tup_path.specs.Tree.{Tree}
 use Rattle.tup_site.specs.World.{World}
@@ -7,6 +7,7 @@ use Rattle.tup_graph.specs.declared.fault.GraphFault.TheVariants.{BadStore}
 use Rattle.tup_kept.specs.Opening.{OpensAs}
 pub use Rattle.tup_ledger.specs.Listing.{Lists}
 
+-- the files of a site, and the paths that its store lists
 pub record Holding : Type 0 where
   pub tree : Tree
   pub owned : List Names
@@ -24,9 +25,11 @@ holding w paths = record { tree = w.tree; owned = paths }
 abbrev pub OfHeld : World → (Holding → Type 0) → Type 0
 OfHeld w promise = (held : Holding) → Shows w held → promise held
 
--- a later world holds what an earlier one did: it has the same files, and its store lists the same
+-- a later world holds what an earlier one did: it has the same files, its store lists the same, and one that isn't there still
+-- isn't
 pub record HoldsOn (old new : World) : Type 0 where
   pub tree : new.tree ≡ old.tree
+  pub none : old.store ≡ [] → new.store ≡ []
   pub lists : (paths : List Names) → Lists old.store paths → Lists new.store paths
   pub back : (paths : List Names) → Lists new.store paths → Lists old.store paths
 

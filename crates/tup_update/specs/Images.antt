@@ -1,5 +1,5 @@
 -- What a crash may leave while the files of a project are made.
-use Rattle.std.specs.Prelude.{◌≡◌, ◌⊎◌, Bool, List, []}
+use Rattle.std.specs.Prelude.{◌⊎◌, Bool, List}
 use Rattle.tup_path.specs.Name.{Names}
 use Rattle.tup_path.specs.Tree.{Tree}
 use Rattle.tup_site.specs.World.{World, TreeStays, StoreStays}

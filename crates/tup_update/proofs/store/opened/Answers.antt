@@ -1,5 +1,4 @@
-use Rattle.std.proofs.Common.{ℕ, Result, Err, Some, ap, sym, subst, ◌∙◌}
-use Rattle.tup_graph.specs.declared.fault.GraphFault.{GraphFault}
+use Rattle.std.proofs.Common.{ap, sym, subst, ◌∙◌}
 use Rattle.tup_ledger.specs.Owned.{owned_in}
 use Rattle.tup_site.specs.declared.fault.SiteFailed.TheVariants.{Memory}
 use Rattle.tup_update.specs.Holding.{Lists}

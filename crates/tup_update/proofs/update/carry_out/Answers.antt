@@ -3,7 +3,6 @@ use Rattle.std.specs.Result.{result_err}
 use Rattle.tup_path.specs.Tree.{Tree}
 use Rattle.tup_site.specs.World.{World}
 use Rattle.tup_update.specs.Holding.{HoldsOn}
-use Rattle.tup_update.specs.Images.{OpensStep}
 use Rattle.tup_update.specs.Outcome.{Stays, Keeps}
 use Rattle.tup_update.specs.Parts.{IsUnread}
 use Rattle.tup_update.specs.Settled.{IsSettled}
