@@ -34,9 +34,9 @@ pub record IsCrashed (choice : Choice) (old new : MemSite) : Type 0 where
   pub fails : fails_of new ≡ fails_of old
 
 -- a deed was done
-abbrev pub IsDone : Deed → MemSite → MemSite → Type 0
-IsDone (Edit path content) old new = IsEdited path content old new
-IsDone (Crash choice) old new = IsCrashed choice old new
+abbrev pub IsCarriedOut : Deed → MemSite → MemSite → Type 0
+IsCarriedOut (Edit path content) old new = IsEdited path content old new
+IsCarriedOut (Crash choice) old new = IsCrashed choice old new
 
 -- nothing happened
 pub record IsUntouched (old new : MemSite) : Type 0 where

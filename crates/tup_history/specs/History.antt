@@ -11,7 +11,7 @@ use Rattle.tup_top.specs.Promise.{Counts}
 use Rattle.tup_top.specs.declared.order.Word.{Word}
 use Rattle.tup_top.specs.declared.status.Status.{Status}
 use Rattle.tup_history.specs.Chain.{Leads}
-use Rattle.tup_history.specs.Deed.{IsDone, IsUntouched, Refuses}
+use Rattle.tup_history.specs.Deed.{IsCarriedOut, IsUntouched, Refuses}
 use Rattle.tup_history.specs.Run.{SaysDone, Keeps, Leaves, Lets, left_then, left_behind}
 use Rattle.tup_history.specs.declared.turn.Turn.{Turn}
 use Rattle.tup_history.specs.declared.turn.Turn.TheVariants.{Deed, Run}
@@ -33,7 +33,7 @@ counted site stands = record { site = faults_of site; runners = stands.runners; 
 
 -- a deed was done, and its end tells the moment then
 pub record EndsDeed (deed : ADeed) (end : End) (old new : MemSite) : Type 0 where
-  pub done : IsDone deed old new
+  pub done : IsCarriedOut deed old new
   pub moment : end.moment ≡ moment_of new
   pub status : end.status ≡ None
   pub ran : end.ran ≡ []

@@ -95,12 +95,7 @@ struct Taken<R> {
 }
 
 /// Carries out a turn. After a refusal all is as before.
-fn take_turn<R: Runner, K: Sink>(
-    alloc: Global,
-    life: Life<R>,
-    turn: Turn,
-    out: &mut K,
-) -> Taken<R>
+fn take_turn<R: Runner, K: Sink>(alloc: Global, life: Life<R>, turn: Turn, out: &mut K) -> Taken<R>
     requires crew { IsCrew life.crew.items }
     ensures takes { let stands = standing R.faults K.faults in
         let from = stands life.site life.crew.items out.old in

@@ -80,7 +80,12 @@ impl Copies {
     }
 
     /// What becomes of the project if its first update is stopped so, and then crashed and updated again.
-    fn lived(&self, alloc: Global, stop: u64, crash: Option<Turn>) -> Result<Lived<Mini>, RowFault> {
+    fn lived(
+        &self,
+        alloc: Global,
+        stop: u64,
+        crash: Option<Turn>,
+    ) -> Result<Lived<Mini>, RowFault> {
         let mut turns = Vec::new(alloc);
         turns.push(written(&self.tupfile)?)?;
         turns.push(written(&self.source)?)?;
@@ -98,7 +103,10 @@ impl Copies {
         let site = self.lived(alloc, stop, None)?.site;
         let store = site.store();
         Ok(match tear {
-            Tear::Kept => crash(Bytes::new(Vec::from_slice(alloc, store)?), Items::new(alloc)),
+            Tear::Kept => crash(
+                Bytes::new(Vec::from_slice(alloc, store)?),
+                Items::new(alloc),
+            ),
             Tear::Lost => crash(
                 self.least_store(alloc, stop, store)?,
                 self.loose(alloc, stop, store, None)?,

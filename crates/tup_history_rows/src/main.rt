@@ -11,10 +11,5 @@ use tup_rows::try_file_by;
 
 /// Tries the rows.
 fn main(rt: HostRuntime) -> io::Result<()> {
-    try_file_by(
-        &rt,
-        rt.alloc(),
-        "history.rows",
-        Session::new(rt.alloc()),
-    )
+    try_file_by(&rt, rt.alloc(), "history.rows", Session::new(rt.alloc()))
 }
