@@ -70,7 +70,8 @@ pub fn tup<S: Site, R: Runner, K: Sink>(
         GoesOn S.moment S.left_since site result.site (UpdateStep R.tells R.next rules old))) }
     // Any other order adds no more than a beginning, or a comparison's opening of the store.
     ensures quiet { IsTrue S.tells → (IsUpdate (order words.now) → ⊥)
-        → GoesOn S.moment S.left_since site result.site (QuietStep (order words.now) (S.world site)) }
+        → let step = QuietStep (order words.now) (S.world site) in
+        GoesOn S.moment S.left_since site result.site step }
     ensures settled { IsTrue S.tells
         → let left = S.left_since result.site (S.moment result.site) in
         ForUpdate (order words.now) result.status (IsSettled left (S.world result.site)) }
