@@ -8,7 +8,7 @@ use Rattle.tup_rule.specs.declared.rule.RuleName.{RuleName}
 use Rattle.tup_access.specs.declared.verdict.Verdict.{Verdict}
 use Rattle.tup_update.specs.Outcome.{HasRunCause}
 use Rattle.tup_update.specs.Opened.{StopsOpening}
-use Rattle.tup_update.specs.Parts.{IsLate, StopsAt}
+use Rattle.tup_update.specs.Parts.{StopsAt}
 use Rattle.tup_update.specs.Ran.{command_of, RanAll, RunsThese, BeginsOne, stopped_by, comes_to}
 use Rattle.tup_update.specs.Stopped.{stop_of_halt}
 use Rattle.tup_update.specs.declared.stop.Halt.{Halt}
@@ -75,14 +75,3 @@ opening_runs count (Bad rule verdict) stops = absurd stops
 opening_runs count Run stops = absurd stops
 opening_runs count Full stops = absurd stops
 opening_runs count (Outside (TooLarge n)) stops = absurd stops
-
-pub late_runs : (before now : ℕ) (stop : Stop) → IsLate stop → now ≡ before → HasRunCause before now (Some stop)
-late_runs before now Full late same = same
-late_runs before now (Outside Fault) late same = same
-late_runs before now (Outside Memory) late same = same
-late_runs before now NoStore late same = absurd late
-late_runs before now (BadStore offset) late same = absurd late
-late_runs before now (Sources fault) late same = absurd late
-late_runs before now (Bad rule verdict) late same = absurd late
-late_runs before now Run late same = absurd late
-late_runs before now (Outside (TooLarge n)) late same = absurd late

@@ -241,11 +241,6 @@ module _ (next : Next) (rules : List Rule) (sources : Tree) (buildable : IsBuild
 pub all_is_front : (all old new : List (Names × List ℕ)) → new ≡ old ++ all → RunsFront all old new
 all_is_front all old new ran = (all, [], append-nil all, ran)
 
--- what stops the reading of the sources is no damage of the store
-pub unread_sound : (unread : Unread) → NoDamage (stop_of unread)
-unread_sound (NoRules fault) = tt
-unread_sound (Unlucky failed) = tt
-
 module _ (next : Next) (w : World) where
   -- where the sources can't be read, or ask for no rules
   pub unread_compared : (unread : Unread) → IsUnread w unread → HasCompared next w (Err (stop_of unread))

@@ -43,10 +43,6 @@ pub err_is : {A E : Type 0} (result : Result A E) (stop : E) → IsErrAnd result
 err_is {A} {E} (Ok value) stop is = absurd is
 err_is {A} {E} (Err given) stop is = ap (λ (e : E). Some e) is
 
-pub err_back : {A E : Type 0} (result : Result A E) (stop : E) → result_err result ≡ Some stop → result ≡ Err stop
-err_back {A} {E} (Ok value) stop is = absurd (cc is)
-err_back {A} {E} (Err given) stop is = let same : given ≡ stop = cc is in ap (λ (e : E). Err e) same
-
 -- why a project has no rules
 pub refusal_unread : (w : World) (paths : List Names) (unread : Unread) → Lists w.store paths → IsRefusal (holding w paths) unread → IsUnread w unread
 refusal_unread w paths (Sources fault) lists refused = (holding w paths, record { lists = lists; tree = refl }, refused)
@@ -78,14 +74,6 @@ refusal_hands_on {T} before now (Err given) unread is same told = record {
   steady = λ other. same;
   too_large = λ n e. let it : given ≡ Unlucky (TooLarge n) = cc e in let never : TooLarge n ≡ Memory = subst IsOfRules (sym is ∙ it) told in absurd (cc never);
 }
-
--- the counts of what stops before it begins
-pub unread_counts : {T : Type 0} (before now : ℕ) (result : Result T Unread) (unread : Unread) → result ≡ Err unread → HandsOn Unlucky before now result → KnowsLimits unread →
-    HasCountedCause before now (Some (stop_of unread))
-unread_counts before now result (Sources fault) is hands limits = (hands.steady (λ e. cc (is, e)), limits)
-unread_counts before now result (Unlucky Fault) is hands limits = hands.fault is
-unread_counts before now result (Unlucky (TooLarge n)) is hands limits = (hands.steady (λ e. cc (is, e)), hands.too_large n is)
-unread_counts before now result (Unlucky Memory) is hands limits = hands.steady (λ e. cc (is, e))
 
 -- ---- an update that changed nothing
 

@@ -74,7 +74,7 @@ HasCompared next w (Err (Outside (TooLarge n))) = HasFileOf n w.tree
 HasCompared next w (Err (Outside Fault)) = ⊤
 HasCompared next w (Err (Outside Memory)) = ⊤
 
--- a clean build that succeeds, with its files, or why there is none
+-- a clean build that succeeds, with its files
 pub record BuildsWell (next : Next) (w : World) (files : List (Names × Content)) : Type 0 where
   pub held : Holding
   pub shows : Shows w held
@@ -84,6 +84,7 @@ pub record BuildsWell (next : Next) (w : World) (files : List (Names × Content)
   pub clean : IsTrue (succeeds (build next rules held))
   pub are : files ≡ finite.entries (build next rules held).tree
 
+-- the files that it leaves, or why there are none
 abbrev pub HasBuilt : Next → World → Result (List (Names × Content)) Stop → Type 0
 HasBuilt next w (Ok files) = BuildsWell next w files
 HasBuilt next w (Err stop) = HasCompared next w (Err stop)

@@ -7,6 +7,7 @@ use Rattle.tup_graph.specs.declared.fault.GraphFault.TheVariants.{BadStore}
 use Rattle.tup_kept.specs.Opening.{OpensAs}
 pub use Rattle.tup_ledger.specs.Listing.{Lists}
 
+-- the files of a site, and the paths that its store lists
 pub record Holding : Type 0 where
   pub tree : Tree
   pub owned : List Names

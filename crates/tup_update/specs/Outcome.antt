@@ -114,10 +114,11 @@ pub record IsListed (paths : List Names) (old : Holding) (new : World) : Type 0 
   pub listed : Lists new.store paths
   pub same : sources (holding new paths) ≡ sources old
 
--- the same of all that was claimed, and of the outputs alone
+-- the same of all that was claimed
 abbrev pub ClaimedListed : List Rule → World → World → Type 0
 ClaimedListed rules old new = OfHeld old (λ held. IsListed (claimed rules held) held new)
 
+-- and of the outputs alone
 abbrev pub OutputsListed : List Rule → World → World → Type 0
 OutputsListed rules old new = OfHeld old (λ held. IsListed (ascending (outputs rules)) held new)
 
