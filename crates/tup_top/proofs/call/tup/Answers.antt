@@ -1,8 +1,9 @@
 use Rattle.std.proofs.Common.{[], map, inl, refl, sym, subst}
 use Rattle.std.specs.Prelude.{slice_set}
-use Rattle.tup_site.specs.Crash.{GoesOn}
+use Rattle.tup_site.specs.Crash.{GoesOn, LeavesOnly}
+use Rattle.tup_ledger.specs.Sources.{HasSources}
 use Rattle.tup_update.specs.Compared.{HasCompared}
-use Rattle.tup_update.specs.Images.{UpdateStep}
+use Rattle.tup_update.specs.Images.{UpdateStep, with_outputs}
 use Rattle.tup_update.specs.Outcome.{ExactlyTheFiles, MadeBeforeBad, NothingForgotten, HasCause}
 use Rattle.tup_update.specs.Settled.{IsSettled}
 use Rattle.tup_update.specs.Sources.{ends}
@@ -18,7 +19,7 @@ use Rattle.tup_top.specs.declared.status.Status.TheVariants.{Memory}
 use Rattle.tup_ledger.specs.Begin.{Begins}
 use Rattle.tup_top.proofs.Begun.{initializes_so}
 use Rattle.tup_top.proofs.Crewed.{crew_cause, crew_compared, crew_runs, crew_compares, no_crew_ran}
-use Rattle.tup_top.proofs.Idle.{idle, memory_of, memory_for_update, memory_for_init, memory_for_verify, memory_for_demo, memory_prints, memory_prints_alone}
+use Rattle.tup_top.proofs.Idle.{idle, memory_of, memory_for_update, memory_for_init, memory_for_verify, memory_for_demo, memory_prints, memory_prints_alone, rest_images}
 use Rattle.tup_top.proofs.Success.{succeeds_so, compares_so, sources_stay_so}
 use Rattle.tup_top.proofs.call.tup.Goals as goal
 
@@ -218,3 +219,9 @@ returns-in-Ok-Init-clause-nothing_done g c = λ tells.
     let wanted = rw c.in-Ok-Init.is at c.order_of.ensures in
     let is = rw c.in-Ok-Init.field-0-is at wanted in
     subst (λ (w : Wanted). NothingDone w (g.S.Site.world c.args.site) (g.S.Site.world c.init-status.new.site)) (sym is) (c.init-status.ensures.keeps tells)
+
+pub returns-clause-images : goal.returns-clause-images
+returns-clause-images g c = λ _ kept safe.
+    let site = c.args.site in
+    memory_of (order c.args.words.now) (g.S.Site.world site) (λ rules _. LeavesOnly g.S.Site.moment g.S.Site.left_since site site (HasSources (with_outputs rules kept)))
+    (rest_images g.S.Site.moment g.S.Site.left_since site kept safe)
