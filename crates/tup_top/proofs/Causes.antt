@@ -1,6 +1,5 @@
 -- How an order ends whose update came out so: what is promised of the update holds of the status that tells of it.
 use Rattle.std.proofs.Common.{◌≡◌, inl, inr, ℕ, zero, suc, Bool, not, IsTrue, List, [], ◌∷◌, Option, None, Some, refl, sym, ap, subst, ◌∙◌, append-nil, arith}
-use Rattle.std.specs.FinMap as finite
 use Rattle.std.specs.List.{slice_get}
 use Rattle.std.proofs.lemmas.Bool.{false≢true}
 use Rattle.tup_path.specs.Count.{Rose}
@@ -12,18 +11,15 @@ use Rattle.tup_rule.specs.declared.rule.Rule.{Rule}
 use Rattle.tup_rule.specs.declared.rule.RuleName.{RuleName}
 use Rattle.tup_runner.specs.Next.{Next}
 use Rattle.tup_access.specs.declared.verdict.Verdict.TheVariants.{Good, Failed, IllegalRead as ReadsIllegally, IllegalWrite as WritesIllegally, Unwritten as LeavesUnwritten, TooManyReads as ReadsTooOften}
-use Rattle.tup_ledger.specs.Ascending.{ascending}
-use Rattle.tup_update.specs.Holding.{holding}
 use Rattle.tup_clean.specs.Taken.{Taken}
 use Rattle.tup_update.specs.Log.{LogFits, RulesFit, OfRules}
 use Rattle.tup_update.specs.Ran.{RunsThese}
 use Rattle.tup_mini.specs.Means.{mini_next}
 use Rattle.tup_update.specs.Outcome.{ExactlyTheFiles, HasCause, NothingForgotten, HasRunCause, HasCountedCause as StopHasCountedCause}
-use Rattle.tup_update.specs.Sources.{sources as sources_of, files_beside, outputs, ends, PassesLimit}
+use Rattle.tup_update.specs.Sources.{ends, PassesLimit}
 use Rattle.tup_update.specs.Turns.{names_of, TurnsFit}
 use Rattle.tup_update.proofs.Ending.{no_front, whole_front}
 use Rattle.tup_update.proofs.Keeping.{no_turns}
-use Rattle.tup_update.proofs.Known.{among_ascending}
 use Rattle.tup_update.specs.declared.fault.SourcesFault.{SourcesFault}
 use Rattle.tup_update.specs.declared.fault.SourcesFault.TheVariants as sources
 use Rattle.tup_update.specs.declared.update.Log.{Log}
@@ -156,28 +152,24 @@ told_of old rules promise status fits kept = came_on (RulesFit old rules) (OfRul
 
 -- ---- what is left
 
--- outputs in their order are the same paths
-same_listed : (paths : List Names) (w : World) → files_beside paths w.tree ≡ sources_of (holding w (ascending paths))
-same_listed paths w = sym (λ i. finite.retain_keys w.tree (λ path. not (among_ascending paths path i)))
-
 pub untold_left : (tells : Bool) (next : Next) (rules : List Rule) (old new : World) (stopped : Option Stop) → RulesFit old rules stopped → NothingForgotten tells next rules old new stopped →
     (IsTrue tells → ExactlyTheFiles next rules old new stopped) → NothingForgotten tells next rules old new (Some (Outside NoMemory))
-untold_left tells next rules old new None fits listed files = inr (inr (
+untold_left tells next rules old new None fits listed files = inr (
   fits,
   inr (inr (λ held shows. record {
-    beside = same_listed (outputs rules) new ∙ (listed held shows).same;
+    known = listed held shows;
     built = λ means. let made = files means held shows in record { clean = made.clean; files = made.files };
   })),
-))
+)
 untold_left tells next rules old new (Some NoStore) fits same files = inl same
 untold_left tells next rules old new (Some (StoreDamaged offset)) fits same files = inl same
 untold_left tells next rules old new (Some (Sources fault)) fits same files = inl same
-untold_left tells next rules old new (Some (Bad rule verdict)) fits listed files = inr (inr (fits, inl listed))
-untold_left tells next rules old new (Some Run) fits listed files = inr (inr (fits, inl listed))
-untold_left tells next rules old new (Some Full) fits left files = inr (inr left)
+untold_left tells next rules old new (Some (Bad rule verdict)) fits listed files = inr (fits, inr (inl listed))
+untold_left tells next rules old new (Some Run) fits listed files = inr (fits, inr (inl listed))
+untold_left tells next rules old new (Some Full) fits left files = inr left
 untold_left tells next rules old new (Some (Outside Fault)) fits left files = left
 untold_left tells next rules old new (Some (Outside (TooLarge number))) fits (inl same) files = inl same
-untold_left tells next rules old new (Some (Outside (TooLarge number))) fits (inr (asks, listed)) files = inr (inr (asks, inl listed))
+untold_left tells next rules old new (Some (Outside (TooLarge number))) fits (inr (asks, listed)) files = inr (asks, inr (inl listed))
 untold_left tells next rules old new (Some (Outside NoMemory)) fits left files = left
 
 -- ---- counts

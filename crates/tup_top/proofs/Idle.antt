@@ -1,6 +1,11 @@
 -- A call that found no memory to read its words did nothing.
-use Rattle.std.proofs.Common.{ℕ, List, [], Option, Some, Result, Ok, Err, inl, refl}
+use Rattle.std.proofs.Common.{ℕ, Bool, ◌||◌, List, [], Option, Some, Result, Ok, Err, inl, refl, ap, arith}
+use Rattle.tup_site.specs.Crash.{LeavesOnly}
 use Rattle.tup_site.specs.World.{World}
+use Rattle.tup_ledger.specs.Listing.{IsSafe}
+use Rattle.tup_ledger.specs.Sources.{HasSources, Kept}
+use Rattle.tup_rule.specs.Rule.{is_generated}
+use Rattle.tup_update.specs.Images.{with_outputs}
 use Rattle.tup_site.specs.declared.fault.SiteFailed.TheVariants.{Memory as NoMemory}
 use Rattle.tup_rule.specs.declared.rule.Rule.{Rule}
 use Rattle.tup_runner.specs.Next.{Next}
@@ -89,3 +94,20 @@ memory_prints_alone (Err place) count held = prints_nothing (Usage place) (last_
 -- what was promised of the rules that it found, where it found none
 pub memory_of : (wanted : Wanted) (old : World) (promise : List Rule → Option Stop → Type 0) → promise [] (Some (Outside NoMemory)) → ForUpdate wanted Memory (OfRules old promise)
 memory_of wanted old promise p = memory_for_update wanted (OfRules old promise) ([], inl refl, p)
+
+-- what is left where nothing was done, and no more is owned
+module _ {S : Type 0} (moment : S → ℕ) (left_since : S → ℕ → World → Type 0) (site : S) (kept : Kept) where
+  no_more : (w : World) → HasSources kept w → HasSources (with_outputs [] kept) w
+  no_more w has = record {
+    graph = has.graph;
+    store = has.store;
+    sources = has.sources;
+    only = λ path owned. ap (λ (b : Bool). b || is_generated [] path) (has.only path owned);
+  }
+
+  pub rest_images : IsSafe moment left_since site kept → LeavesOnly moment left_since site site (HasSources (with_outputs [] kept))
+  rest_images safe = record {
+    later = omega arith;
+    each = λ w left. no_more w (safe w left);
+    before = λ t w le left. inl left;
+  }

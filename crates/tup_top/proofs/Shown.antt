@@ -14,7 +14,7 @@ use Rattle.tup_top.specs.declared.status.Status.TheVariants.{SiteFault, Memory}
 use Rattle.tup_top.proofs.Causes.{told_nothing}
 
 -- the outside stopped it, or there was no memory
-IsUnshown : Status → Type 0
+abbrev IsUnshown : Status → Type 0
 IsUnshown status = (status ≡ SiteFault) ⊎ (status ≡ Memory)
 
 unshown_status : (fault : GraphFault) → (fault ≡ graph.Site) ⊎ (fault ≡ graph.Memory) → IsUnshown (status_of_begun (Err fault))

@@ -75,10 +75,10 @@ succeeds_so next old new before now (NoSuchGroup group) (rules, fits, refused) c
 succeeds_so next old new before now SiteFault cause counted clear fine = not_rose before.site now.site fine.site fine.site_counts counted.0
 succeeds_so next old new before now RunFault cause counted clear fine = no_runner_rose before now fine counted.1
 succeeds_so next old new before now SinkFault cause counted clear fine = not_rose before.sink now.sink fine.sink fine.sink_counts counted.1
-succeeds_so next old new before now (Limit FileSize number) (count, passed, rules, fits, large) counted clear fine = no_large_file next old new count clear large passed
-succeeds_so next old new before now (Limit Files number) (count, passed, rules, fits, refused) counted clear fine = absurd (clear.sources_read (sources.TooManyFiles count) refused)
-succeeds_so next old new before now (Limit Commands number) (count, passed, rules, fits, refused) counted clear fine = absurd (clear.sources_read (sources.TooManyCommands count) refused)
-succeeds_so next old new before now (Limit Links number) (count, passed, rules, fits, refused) counted clear fine = absurd (clear.sources_read (sources.TooManyLinks count) refused)
+succeeds_so next old new before now (Limit FileSize number) (count, passed, (rules, fits, large)) counted clear fine = no_large_file next old new count clear large passed
+succeeds_so next old new before now (Limit Files number) (count, passed, (rules, fits, refused)) counted clear fine = absurd (clear.sources_read (sources.TooManyFiles count) refused)
+succeeds_so next old new before now (Limit Commands number) (count, passed, (rules, fits, refused)) counted clear fine = absurd (clear.sources_read (sources.TooManyCommands count) refused)
+succeeds_so next old new before now (Limit Links number) (count, passed, (rules, fits, refused)) counted clear fine = absurd (clear.sources_read (sources.TooManyLinks count) refused)
 succeeds_so next old new before now (Limit StoreSize number) (rules, fits, full) counted clear fine = absurd (clear.room rules fits (full clear.held clear.store_reads))
 succeeds_so next old new before now (Differs path) cause counted clear fine = absurd counted
 succeeds_so next old new before now Memory cause counted clear fine = tt

@@ -1,9 +1,11 @@
 //! The top call.
 ghost use Rattle.std.specs.Prelude.{◌≡◌, IsTrue, length, map};
-ghost use Rattle.tup_site.specs.Crash.{GoesOn};
+ghost use Rattle.tup_site.specs.Crash.{GoesOn, LeavesOnly};
 ghost use Rattle.tup_ledger.specs.Begin.{Begins};
 ghost use Rattle.tup_update.specs.Compared.{HasCompared};
-ghost use Rattle.tup_update.specs.Images.{UpdateStep};
+ghost use Rattle.tup_ledger.specs.Listing.{IsSafe};
+ghost use Rattle.tup_ledger.specs.Sources.{HasSources, Kept};
+ghost use Rattle.tup_update.specs.Images.{UpdateStep, with_outputs};
 ghost use Rattle.tup_update.specs.Log.{OfRules};
 ghost use Rattle.tup_update.specs.Settled.{IsSettled};
 ghost use Rattle.tup_update.specs.Outcome.{ExactlyTheFiles, MadeBeforeBad, SourcesStay, NothingForgotten, HasCause};
@@ -68,9 +70,15 @@ pub fn tup<S: Site, R: Runner, K: Sink>(
     ensures crash { IsTrue S.tells → let old = S.world site in
         ForUpdate (order words.now) result.status (OfRules old (λ rules _.
         GoesOn S.moment S.left_since site result.site (UpdateStep R.tells R.next rules old))) }
+    // Where each world that a crash may leave before has these sources, and owns no other path than
+    // may be, so has each that one may leave since: an update owns its outputs too, and none else.
+    ensures images { IsTrue S.tells → (kept : Kept) → IsSafe S.moment S.left_since site kept
+        → ForUpdate (order words.now) result.status (OfRules (S.world site) (λ rules _.
+        LeavesOnly S.moment S.left_since site result.site (HasSources (with_outputs rules kept)))) }
     // Any other order adds no more than a beginning, or a comparison's opening of the store.
     ensures quiet { IsTrue S.tells → (IsUpdate (order words.now) → ⊥)
-        → GoesOn S.moment S.left_since site result.site (QuietStep (order words.now) (S.world site)) }
+        → let step = QuietStep (order words.now) (S.world site) in
+        GoesOn S.moment S.left_since site result.site step }
     ensures settled { IsTrue S.tells
         → let left = S.left_since result.site (S.moment result.site) in
         ForUpdate (order words.now) result.status (IsSettled left (S.world result.site)) }

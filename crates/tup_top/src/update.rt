@@ -1,12 +1,14 @@
 //! An update, and what is told of it.
 ghost use Rattle.std.specs.Prelude.{◌≡◌, [], ◌∷◌, ◌++◌, IsTrue, IfOk, IfSome, Ok};
 ghost use Rattle.tup_path.specs.Resolve.{resolve};
-ghost use Rattle.tup_site.specs.Crash.{GoesOn};
+ghost use Rattle.tup_site.specs.Crash.{GoesOn, LeavesOnly};
 ghost use Rattle.tup_site.specs.Memory.{world_in, tree_in, store_in};
 ghost use Rattle.tup_mini.specs.Means.{mini_next};
 ghost use Rattle.tup_table.specs.Store.{header};
 ghost use Rattle.tup_kept.specs.Cause.{OnlyOutside};
-ghost use Rattle.tup_update.specs.Images.{UpdateStep};
+ghost use Rattle.tup_ledger.specs.Listing.{IsSafe};
+ghost use Rattle.tup_ledger.specs.Sources.{HasSources, Kept};
+ghost use Rattle.tup_update.specs.Images.{UpdateStep, with_outputs};
 ghost use Rattle.tup_update.specs.Log.{OfRules};
 ghost use Rattle.tup_update.specs.Ran.{RunsThese};
 ghost use Rattle.tup_update.specs.Settled.{IsSettled};
@@ -57,6 +59,10 @@ pub(crate) fn update<S: Site, R: Runner, K: Sink>(
     ensures crash { IsTrue S.tells → let old = S.world site.old in
         IfCame result.status (OfRules old (λ rules _.
         GoesOn S.moment S.left_since site.old site.new (UpdateStep R.tells R.next rules old))) }
+    ensures images { IsTrue S.tells → (kept : Kept) → IsSafe S.moment S.left_since site.old kept
+        → IfCame result.status (OfRules (S.world site.old) (λ rules _.
+        LeavesOnly S.moment S.left_since site.old site.new
+        (HasSources (with_outputs rules kept)))) }
     ensures settled { IsTrue S.tells → let left = S.left_since site.new (S.moment site.new) in
         IfCame result.status (IsSettled left (S.world site.new)) }
     ensures cause { IsTrue S.tells → IsTrue R.tells → let old = S.world site.old in

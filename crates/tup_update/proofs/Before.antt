@@ -1,5 +1,5 @@
 -- What is promised of a world behind the opening of its store is promised of the one before it.
-use Rattle.std.proofs.Common.{◌≡◌, ⊎_elim, inl, inr, ◌∙◌, Bool, IsSome, List, Option, None, Some, Result, Ok, Err, IfErr}
+use Rattle.std.proofs.Common.{◌≡◌, ⊎_elim, inl, inr, Bool, IsSome, List, Option, None, Some, Result, Ok, Err, IfErr}
 use Rattle.tup_path.specs.Name.{Names}
 use Rattle.tup_site.specs.World.{World}
 use Rattle.tup_site.specs.declared.fault.SiteFailed.TheVariants.{Fault, TooLarge, Memory}
@@ -38,8 +38,8 @@ module _ (rules : List Rule) (old mid new : World) (on : HoldsOn old mid) where
     left_before : IsLeft tells next rules mid new → IsLeft tells next rules old new
     left_before left = (
       asked_before left.0,
-      ⊎_elim (λ listed. inl (claimed_before listed))
-          (λ rest. inr (⊎_elim (λ same. inl (same ∙ on.tree)) (λ made. inr (held_before old mid on (λ held. AllIsMade tells next rules held new) made)) rest)) left.1,
+      ⊎_elim (λ holds. inl (holds_then old mid new on holds))
+          (λ rest. inr (⊎_elim (λ listed. inl (claimed_before listed)) (λ made. inr (held_before old mid on (λ held. AllIsMade tells next rules held new) made)) rest)) left.1,
     )
 
     forgotten_before : (stopped : Option Stop) → MakesOn stopped → NothingForgotten tells next rules mid new stopped → NothingForgotten tells next rules old new stopped

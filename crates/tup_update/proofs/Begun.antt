@@ -1,5 +1,5 @@
 -- The rules that are begun, one after another, and what their runner ran.
-use Rattle.std.proofs.Common.{◌≡◌, inl, inr, ℕ, List, [], ◌∷◌, ◌++◌, map, Option, None, Some, Result, Ok, Err, refl, sym, ◌∙◌, ap, subst, append_assoc, append-nil}
+use Rattle.std.proofs.Common.{◌≡◌, inl, inr, ℕ, List, [], ◌∷◌, ◌++◌, map, Option, None, Some, Result, Ok, Err, sym, ◌∙◌, ap, subst, append_assoc, append-nil}
 use Rattle.std.specs.Result.{IsErrAnd}
 use Rattle.std.proofs.lemmas.List.{map-append}
 use Rattle.tup_path.specs.Name.{Names}
@@ -7,7 +7,6 @@ use Rattle.tup_site.specs.declared.fault.SiteFailed.TheVariants.{Fault, TooLarge
 use Rattle.tup_rule.specs.declared.rule.RuleName.{RuleName}
 use Rattle.tup_access.specs.declared.verdict.Verdict.{Verdict}
 use Rattle.tup_update.specs.Outcome.{HasRunCause}
-use Rattle.tup_update.specs.Opened.{StopsOpening}
 use Rattle.tup_update.specs.Parts.{StopsAt}
 use Rattle.tup_update.specs.Ran.{command_of, RanAll, RunsThese, BeginsOne, stopped_by, comes_to}
 use Rattle.tup_update.specs.Stopped.{stop_of_halt}
@@ -63,15 +62,3 @@ ran_to_halt (Halted Fault) rule front rules old between new before is one = ran_
 ran_to_halt (Halted (TooLarge n)) rule front rules old between new before is one = ran_more rule front rules old between new before is one
 ran_to_halt (Halted Memory) rule front rules old between new before is (inl none) = inr (front, rule, is, none ∙ before)
 ran_to_halt (Halted Memory) rule front rules old between new before is (inr one) = inl (ran_more rule front rules old between new before is one)
-
--- what stops an opening, or the writing of the store, is no runner
-pub opening_runs : (count : ℕ) (stop : Stop) → StopsOpening stop → HasRunCause count count (Some stop)
-opening_runs count NoStore stops = refl
-opening_runs count (BadStore offset) stops = refl
-opening_runs count (Outside Fault) stops = refl
-opening_runs count (Outside Memory) stops = refl
-opening_runs count (Sources fault) stops = absurd stops
-opening_runs count (Bad rule verdict) stops = absurd stops
-opening_runs count Run stops = absurd stops
-opening_runs count Full stops = absurd stops
-opening_runs count (Outside (TooLarge n)) stops = absurd stops

@@ -32,7 +32,6 @@ use Rattle.tup_clean.proofs.Whole.{good_is}
 use Rattle.tup_clean.proofs.Turns.{all_are_good, is_the_good, succeeds_all}
 use Rattle.tup_update.proofs.Reading.{from_T}
 use Rattle.tup_update.specs.Compared.{AreCompared, HasCompared, HasBuilt, BuildsWell, BuildsAlike, IsGoodBuild, NoneIsBad, RunsBuildOf, RunsIt, RunsToCompare, compared_at, difference, first_of, same_file}
-use Rattle.tup_update.specs.Opened.{IsUnopened, StopsOpening}
 use Rattle.tup_update.specs.Parts.{HasFileOf, IsUnread, NoDamage}
 use Rattle.tup_update.proofs.Held.{shown_before}
 use Rattle.tup_update.specs.Sources.{AsksFor, build, sources}
@@ -332,25 +331,3 @@ module _ (next : Next) (old mid : World) (on : HoldsOn old mid) where
     runs_before (Some Run) runs = it_before (Some Run) runs
     runs_before (Some Full) runs = runs
     runs_before (Some (Outside failed)) runs = ⊎_elim inl (λ it. inr (it_before (Some (Outside failed)) it)) runs
-
--- where the store couldn't be opened, nothing was compared and nothing run
-module _ (next : Next) (old : World) where
-  pub unopened_compared : (stop : Stop) → StopsOpening stop → IsUnopened old stop → HasCompared next old (Err stop)
-  unopened_compared NoStore stops why = why
-  unopened_compared (BadStore offset) stops why = why
-  unopened_compared (Sources fault) stops why = absurd stops
-  unopened_compared (Bad rule verdict) stops why = absurd stops
-  unopened_compared Run stops why = absurd stops
-  unopened_compared Full stops why = absurd stops
-  unopened_compared (Outside Fault) stops why = tt
-  unopened_compared (Outside (TooLarge n)) stops why = absurd stops
-  unopened_compared (Outside Memory) stops why = tt
-
-  pub unopened_runs : (ran : List (Names × List ℕ)) (stop : Stop) → StopsOpening stop → RunsToCompare next old ran ran (Some stop)
-  unopened_runs ran NoStore stops = refl
-  unopened_runs ran (BadStore offset) stops = refl
-  unopened_runs ran (Sources fault) stops = absurd stops
-  unopened_runs ran (Bad rule verdict) stops = absurd stops
-  unopened_runs ran Run stops = absurd stops
-  unopened_runs ran Full stops = absurd stops
-  unopened_runs ran (Outside failed) stops = inl refl

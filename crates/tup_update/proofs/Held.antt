@@ -76,6 +76,15 @@ module _ (old mid : World) (on : HoldsOn old mid) where
 pub there : (bytes : List ℕ) (paths : List Names) → Lists bytes paths → bytes ≡ [] → ⊥
 there bytes paths lists none = nothing_lists paths (subst (λ (b : List ℕ). Lists b paths) none lists)
 
+-- worlds with the same files hold the same where both stores list these paths
+pub holds_listed : (v w : World) (paths : List Names) → Lists v.store paths → Lists w.store paths → w.tree ≡ v.tree → HoldsOn v w
+holds_listed v w paths was is same = record {
+  tree = same;
+  none = λ none. absurd (there v.store paths was none);
+  lists = λ others lists. subst (Lists w.store) (lists_one v.store paths others was lists) is;
+  back = λ others lists. subst (Lists v.store) (lists_one w.store paths others is lists) was;
+}
+
 pub undamaged : (bytes : List ℕ) (paths : List Names) (offset : ℕ) → Lists bytes paths → IsDamaged bytes offset → ⊥
 undamaged bytes paths offset lists (left, opens) =
     ⊎_elim

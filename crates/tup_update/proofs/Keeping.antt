@@ -1,5 +1,5 @@
 -- What an update promises, for each way in which it can come out.
-use Rattle.std.proofs.Common.{◌≡◌, ◌⊎◌, inl, inr, ℕ, Bool, IsTrue, if◌then◌else◌, ◌++◌, [], List, None, Some, IsSome, Result, Ok, Err, refl, sym, ◌∙◌, ap, subst}
+use Rattle.std.proofs.Common.{◌≡◌, ◌⊎◌, ⊎_elim, inl, inr, ℕ, Bool, IsTrue, if◌then◌else◌, ◌++◌, [], List, None, Some, IsSome, Result, Ok, Err, refl, sym, ◌∙◌, ap, subst}
 use Rattle.std.specs.Result.{result_err, IsErrAnd}
 use Rattle.std.specs.FinMap as finite
 use Rattle.tup_path.specs.Name.{Names}
@@ -31,10 +31,10 @@ use Rattle.tup_update.specs.declared.stop.Unread.{Unread}
 use Rattle.tup_update.specs.declared.stop.Unread.TheVariants.{Sources, Outside as Unlucky}
 use Rattle.tup_update.specs.declared.update.Log.{Log}
 use Rattle.tup_update.proofs.Beside.{left_is}
-use Rattle.tup_update.proofs.Held.{of_held, holds_itself, shown_before}
+use Rattle.tup_update.proofs.Held.{of_held, holds_itself, holds_listed, shown_before}
 use Rattle.tup_update.proofs.Behind.{none_made}
 use Rattle.tup_update.proofs.Ending.{sources_are_kept, no_front, whole_front, grown_from_nothing}
-use Rattle.tup_update.proofs.Known.{claimed_known, beside_outputs, beside_ascending}
+use Rattle.tup_update.proofs.Known.{claimed_known, beside_ascending}
 use Rattle.tup_update.proofs.Preparing.{same_sources, changes, gone_unmade, runnable}
 use Rattle.tup_update.proofs.Turning.{noted_part}
 
@@ -385,18 +385,18 @@ module _ (project : Project) (old mid : World) (vanishing claiming : List Names)
 
   -- ---- the outside stopped what comes before the rules
 
-  pub unprepared_stays : (tells : Bool) (next : Next) (log : Log) (stop : Stop) → Lists mid.store claiming ⊎ TreeStays old mid → IsLate stop →
+  pub unprepared_stays : (tells : Bool) (next : Next) (log : Log) (stop : Stop) (before : List Names) → project.owned ≡ before → Lists mid.store claiming ⊎ (Lists mid.store before × TreeStays old mid) → IsLate stop →
       log.ran ≡ [] → log.ended ≡ [] → Stays tells next project.rules old mid (with_read project.read log) (Some stop)
-  unprepared_stays tells next log stop left late nothing none = record {
+  unprepared_stays tells next log stop before owned left late nothing none = record {
     sources_stay = stay mid mid (λ path unmade. refl) refl;
     rules_fit = late_fit project old way.is stop late;
     nothing_forgotten = left_forgets_nothing tells next project.rules old mid stop late (asks_then, by left);
     turns_fit = late_turns project.rules log.ran log.ended stop late (no_turns project.rules log.ran log.ended nothing none);
   }
     where
-      by : Lists mid.store claiming ⊎ TreeStays old mid → ClaimedListed project.rules old mid ⊎ (mid.tree ≡ old.tree) ⊎ OfHeld old (λ held. AllIsMade tells next project.rules held mid)
-      by (inl stored) = inl (listed mid (λ path unmade. refl) stored)
-      by (inr same) = inr (inl same)
+      by : Lists mid.store claiming ⊎ (Lists mid.store before × TreeStays old mid) → HoldsOn old mid ⊎ ClaimedListed project.rules old mid ⊎ OfHeld old (λ held. AllIsMade tells next project.rules held mid)
+      by (inl stored) = inr (inl (listed mid (λ path unmade. refl) stored))
+      by (inr (still, same)) = inl (holds_listed old mid project.owned way.is.owned (subst (Lists mid.store) (sym owned) still) same)
 
   removed_whole : (before removed : List Names) → before ≡ [] → removed ≡ before ++ vanishing → removed ≡ vanished project.rules held_then
   removed_whole before removed none grown = grown ∙ ap (λ (l : List Names). l ++ vanishing) none ∙ way.vanishes
@@ -420,9 +420,9 @@ module _ (project : Project) (old mid : World) (vanishing claiming : List Names)
     where
       by : (halt : Halt) → NothingForgotten tells next project.rules old now (Some (stop_of_halt halt))
       by RunHalted = listed now behind stored
-      by (Halted Fault) = inr (asks_then, inl (listed now behind stored))
+      by (Halted Fault) = inr (asks_then, inr (inl (listed now behind stored)))
       by (Halted (TooLarge n)) = inr (asks_then, listed now behind stored)
-      by (Halted Memory) = inr (asks_then, inl (listed now behind stored))
+      by (Halted Memory) = inr (asks_then, inr (inl (listed now behind stored)))
 
   pub unrun_keeps : (next : Next) (now : World) (before : List Names) (log : Log) (halt : Halt) → ((n : ℕ) → halt ≡ Halted (TooLarge n) → HasFileOf n now.tree) → before ≡ [] →
       log.removed ≡ before ++ vanishing → ArePartNoted project.rules (up_to_bad (takes next project.rules (files_beside project.owned mid.tree))) log.ran log.ended →
@@ -500,24 +500,34 @@ module _ (project : Project) (old mid : World) (vanishing claiming : List Names)
   is_built next ran new built same =
       subst (λ (t : Tree). IsBuilt (clean next project.rules (sources held_then)) t) (sym same) (subst (λ (t : Tree). HasRun next project.rules t ran.tree None) same_run built)
 
-  -- all was made
+  -- just the outputs are listed, and all were made
+  outputs_known : (ran new : World) → IsCleared vanishing old.tree mid.tree → SameBesideOutputs project.rules mid.tree ran.tree → TreeStays ran new →
+      Lists new.store (ascending (outputs project.rules)) → IsListed (ascending (outputs project.rules)) held_then new
+  outputs_known ran new cleared behind same reads = record {
+    listed = reads;
+    same =
+        ap (files_beside (ascending (outputs project.rules))) same
+        ∙ beside_ascending project.owned project.rules old.tree mid.tree ran.tree way.is.buildable same_run (way_runnable cleared) behind;
+  }
+
   pub all_made : (tells : Bool) (next : Next) (ran new : World) → IsCleared vanishing old.tree mid.tree → SameBesideOutputs project.rules mid.tree ran.tree → TreeStays ran new →
-      (IsTrue tells → HasRun next project.rules (files_beside project.owned mid.tree) ran.tree None) → AllIsMade tells next project.rules held_then new
-  all_made tells next ran new cleared behind same built = record {
-    beside = ap (files_beside (outputs project.rules)) same ∙ beside_outputs project.owned project.rules old.tree mid.tree ran.tree way.is.buildable same_run (way_runnable cleared) behind;
+      Lists new.store (ascending (outputs project.rules)) → (IsTrue tells → HasRun next project.rules (files_beside project.owned mid.tree) ran.tree None) → AllIsMade tells next project.rules held_then new
+  all_made tells next ran new cleared behind same reads built = record {
+    known = outputs_known ran new cleared behind same reads;
     built = λ means. is_built next ran new (built means) same;
   }
 
   -- and the outside stopped what comes behind the rules
   pub unfinished_stays : (tells : Bool) (next : Next) (ran new : World) (log : Log) (stop : Stop) → IsCleared vanishing old.tree mid.tree → SameBesideOutputs project.rules mid.tree ran.tree → TreeStays ran new →
-      IsLate stop → (IsTrue tells → HasRun next project.rules (files_beside project.owned mid.tree) ran.tree None) → TurnsFit project.rules log.ran log.ended None →
+      Lists new.store claiming ⊎ Lists new.store (ascending (outputs project.rules)) → IsLate stop → (IsTrue tells → HasRun next project.rules (files_beside project.owned mid.tree) ran.tree None) → TurnsFit project.rules log.ran log.ended None →
       Stays tells next project.rules old new (with_read project.read log) (Some stop)
-  unfinished_stays tells next ran new log stop cleared behind same late built turns = record {
+  unfinished_stays tells next ran new log stop cleared behind same left late built turns = record {
     sources_stay = stay ran new behind same;
     rules_fit = late_fit project old way.is stop late;
     nothing_forgotten = left_forgets_nothing tells next project.rules old new stop late (
       asks_then,
-      inr (inr (kept_then (λ held. AllIsMade tells next project.rules held new) (all_made tells next ran new cleared behind same built))),
+      inr (⊎_elim (λ stored. inl (listed new (λ path unmade. ap (λ (t : Tree). finite.get t path) same ∙ behind path unmade) stored))
+          (λ reads. inr (kept_then (λ held. AllIsMade tells next project.rules held new) (all_made tells next ran new cleared behind same reads built))) left),
     );
     turns_fit = late_turns project.rules log.ran log.ended stop late (turns.0, inl turns.1);
   }
@@ -540,12 +550,7 @@ module _ (project : Project) (old mid : World) (vanishing claiming : List Names)
       record {
         sources_stay = stay ran new behind same;
         rules_fit = asks_then;
-        nothing_forgotten = kept_then (λ held. IsListed (ascending (outputs project.rules)) held new) (record {
-          listed = reads;
-          same =
-              ap (files_beside (ascending (outputs project.rules))) same
-              ∙ beside_ascending project.owned project.rules old.tree mid.tree ran.tree way.is.buildable same_run (way_runnable cleared) behind;
-        });
+        nothing_forgotten = kept_then (λ held. IsListed (ascending (outputs project.rules)) held new) (outputs_known ran new cleared behind same reads);
         turns_fit = turns;
       }
 

@@ -1,6 +1,5 @@
 -- What a call of the ledger that is refused becomes, and what its graph stands for when files are changed.
 use Rattle.std.proofs.Common.{◌≡◌, ◌≢◌, ℕ, Bool, IsTrue, List, Some, Result, Ok, Err, refl, sym, subst}
-use Rattle.std.specs.FinMap as finite
 use Rattle.tup_path.specs.Name.{Names}
 use Rattle.tup_path.specs.Tree.{Tree}
 use Rattle.tup_site.specs.Crash.{GoesOn}
@@ -39,7 +38,7 @@ use Rattle.tup_update.proofs.Held.{opened_holds}
 pub graph_counts : {T : Type 0} (before now : ℕ) (result : Result T GraphFault) (fault : GraphFault) → result ≡ Err fault → CountsFaults before now result → HasCountedCause before now (Some (stop_of_graph fault))
 graph_counts before now result graph.NotThere is counts = counts.steady (λ e. cc (is, e))
 graph_counts before now result (graph.BadStore offset) is counts = counts.steady (λ e. cc (is, e))
-graph_counts before now result graph.Site is counts = counts.site is
+graph_counts before now result graph.Site is counts = counts.fault is
 graph_counts before now result graph.Full is counts = counts.steady (λ e. cc (is, e))
 graph_counts before now result graph.Memory is counts = counts.steady (λ e. cc (is, e))
 

@@ -27,7 +27,7 @@ use Rattle.tup_update.specs.declared.stop.Stop.{Stop}
 use Rattle.tup_update.specs.declared.stop.Stop.TheVariants.{NoStore, BadStore, Sources, Bad, Run, Full, Outside}
 use Rattle.tup_update.specs.Log.{LogFits, RulesFit}
 use Rattle.tup_update.specs.Parts.{HasFileOf, IsBuilt, IsFirstBad}
-use Rattle.tup_update.specs.Sources.{sources, files_beside, IsAsked, IsRefused, PassesLimit, build, ends, left_over, outputs, vanished, is_made_in_turn}
+use Rattle.tup_update.specs.Sources.{sources, IsAsked, IsRefused, PassesLimit, build, ends, left_over, outputs, vanished, is_made_in_turn}
 use Rattle.tup_update.specs.Turns.{TurnsFit}
 
 -- the files are those of the clean build, which succeeds, and the store lists just the outputs
@@ -122,17 +122,16 @@ ClaimedListed rules old new = OfHeld old (λ held. IsListed (claimed rules held)
 abbrev pub OutputsListed : List Rule → World → World → Type 0
 OutputsListed rules old new = OfHeld old (λ held. IsListed (ascending (outputs rules)) held new)
 
--- all was made, whatever the store lists: beside the outputs the tree has the sources of before, and the outputs are those
--- of the clean build, where the runner tells
+-- all was made, and just the outputs are listed: they are those of the clean build, where the runner tells
 pub record AllIsMade (tells : Bool) (next : Next) (rules : List Rule) (old : Holding) (new : World) : Type 0 where
-  pub beside : files_beside (outputs rules) new.tree ≡ sources old
+  pub known : IsListed (ascending (outputs rules)) old new
   pub built : IsTrue tells → IsBuilt (build next rules old) new.tree
 
--- what is left where the outside stops an update whose rules were read: all that was claimed is listed. Only a writing of
--- the store that failed half way may leave a store that lists anything; then no file was touched yet, or all were made.
+-- what is left where the outside stops an update whose rules were read: the world holds what it held, or all that was claimed
+-- is listed, or all was made
 abbrev pub IsLeft : Bool → Next → List Rule → World → World → Type 0
 IsLeft tells next rules old new =
-    IsAsked old rules × (ClaimedListed rules old new ⊎ (new.tree ≡ old.tree) ⊎ OfHeld old (λ held. AllIsMade tells next rules held new))
+    IsAsked old rules × (HoldsOn old new ⊎ ClaimedListed rules old new ⊎ OfHeld old (λ held. AllIsMade tells next rules held new))
 
 -- nothing is forgotten, wherever an update stops: what wasn't a source before is owned by the next update too. Where the
 -- store or the sources couldn't be read, the world holds what it held.

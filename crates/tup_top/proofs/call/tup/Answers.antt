@@ -1,8 +1,10 @@
 use Rattle.std.proofs.Common.{[], map, inl, refl, sym, subst}
 use Rattle.std.specs.Prelude.{slice_set}
-use Rattle.tup_site.specs.Crash.{GoesOn}
+use Rattle.tup_site.specs.Crash.{GoesOn, LeavesOnly}
+use Rattle.tup_ledger.specs.Sources.{HasSources}
 use Rattle.tup_update.specs.Compared.{HasCompared}
-use Rattle.tup_update.specs.Images.{UpdateStep}
+use Rattle.tup_update.specs.Images.{UpdateStep, with_outputs}
+use Rattle.tup_update.specs.Log.{OfRules}
 use Rattle.tup_update.specs.Outcome.{ExactlyTheFiles, MadeBeforeBad, NothingForgotten, HasCause}
 use Rattle.tup_update.specs.Settled.{IsSettled}
 use Rattle.tup_update.specs.Sources.{ends}
@@ -18,7 +20,7 @@ use Rattle.tup_top.specs.declared.status.Status.TheVariants.{Memory}
 use Rattle.tup_ledger.specs.Begin.{Begins}
 use Rattle.tup_top.proofs.Begun.{initializes_so}
 use Rattle.tup_top.proofs.Crewed.{crew_cause, crew_compared, crew_runs, crew_compares, no_crew_ran}
-use Rattle.tup_top.proofs.Idle.{idle, memory_of, memory_for_update, memory_for_init, memory_for_verify, memory_for_demo, memory_prints, memory_prints_alone}
+use Rattle.tup_top.proofs.Idle.{idle, memory_of, memory_for_update, memory_for_init, memory_for_verify, memory_for_demo, memory_prints, memory_prints_alone, rest_images}
 use Rattle.tup_top.proofs.Success.{succeeds_so, compares_so, sources_stay_so}
 use Rattle.tup_top.proofs.call.tup.Goals as goal
 
@@ -48,6 +50,15 @@ returns-in-Ok-Upd-clause-ran g c = λ tells.
     subst (λ (w : Wanted). ForUpdate w c.update-status.result.status runs) (sym is)
     (crew_runs g.R.Runner.ran c.args.crew.items c.index_mut.result.now c.update-status.new.runner c.requires.crew.0 c.index_mut.ensures.value c.update-status.result.ran
     c.update-status.result.status (c.update-status.ensures.ran tells))
+
+pub returns-in-Ok-Upd-clause-images : goal.returns-in-Ok-Upd-clause-images
+returns-in-Ok-Upd-clause-images g c = λ tells kept safe.
+    let wanted = rw c.in-Ok-Upd.is at c.order_of.ensures in
+    let is = rw c.in-Ok-Upd.field-0-is at wanted in
+    let site = c.args.site in
+    let new = c.update-status.new.site in
+    let promise = OfRules (g.S.Site.world site) (λ rules _. LeavesOnly g.S.Site.moment g.S.Site.left_since site new (HasSources (with_outputs rules kept))) in
+    subst (λ (w : Wanted). ForUpdate w c.update-status.result.status promise) (sym is) (c.update-status.ensures.images tells kept safe)
 
 -- a comparison
 
@@ -218,3 +229,9 @@ returns-in-Ok-Init-clause-nothing_done g c = λ tells.
     let wanted = rw c.in-Ok-Init.is at c.order_of.ensures in
     let is = rw c.in-Ok-Init.field-0-is at wanted in
     subst (λ (w : Wanted). NothingDone w (g.S.Site.world c.args.site) (g.S.Site.world c.init-status.new.site)) (sym is) (c.init-status.ensures.keeps tells)
+
+pub returns-clause-images : goal.returns-clause-images
+returns-clause-images g c = λ _ kept safe.
+    let site = c.args.site in
+    memory_of (order c.args.words.now) (g.S.Site.world site) (λ rules _. LeavesOnly g.S.Site.moment g.S.Site.left_since site site (HasSources (with_outputs rules kept)))
+    (rest_images g.S.Site.moment g.S.Site.left_since site kept safe)

@@ -1,6 +1,7 @@
 use Rattle.std.proofs.Common.{rules, inl, inr, refl}
-use Rattle.tup_site.specs.Crash.{GoesOn}
-use Rattle.tup_update.specs.Images.{UpdateStep}
+use Rattle.tup_site.specs.Crash.{GoesOn, LeavesOnly}
+use Rattle.tup_ledger.specs.Sources.{HasSources}
+use Rattle.tup_update.specs.Images.{UpdateStep, with_outputs}
 use Rattle.tup_update.specs.Log.{RulesFit}
 use Rattle.tup_update.specs.Outcome.{ExactlyTheFiles, MadeBeforeBad, NothingForgotten, HasCause}
 use Rattle.tup_update.specs.Ran.{RunsThese}
@@ -173,3 +174,18 @@ returns-clause-crash g c = λ tells.
     told_of old rules (λ found. GoesOn g.S.Site.moment g.S.Site.left_since c.args.site.now update.new.site (UpdateStep g.R.Runner.tells g.R.Runner.next found old)) c.print-status.result
     (answered (RulesFit old rules) _ _ _ _ update.result.log update.result.stopped _ _ c.status_of-status.ensures c.print-status.ensures.ends update.ensures.counted_cause fits (untold_rules old rules update.result.stopped fits))
     (update.ensures.crash tells)
+
+pub returns-in_default-clause-images : goal.returns-in_default-clause-images
+returns-in_default-clause-images g c = λ tells kept safe.
+    let update = c.update_site-rules in
+    (update.result.rules, untold_rules (g.S.Site.world c.args.site.now) update.result.rules update.result.stopped (update.ensures.rules tells), update.ensures.images tells kept safe)
+
+pub returns-clause-images : goal.returns-clause-images
+returns-clause-images g c = λ tells kept safe.
+    let update = c.update_site-rules in
+    let old = g.S.Site.world c.args.site.now in
+    let rules = update.result.rules in
+    let fits = update.ensures.rules tells in
+    told_of old rules (λ found. LeavesOnly g.S.Site.moment g.S.Site.left_since c.args.site.now update.new.site (HasSources (with_outputs found kept))) c.print-status.result
+    (answered (RulesFit old rules) _ _ _ _ update.result.log update.result.stopped _ _ c.status_of-status.ensures c.print-status.ensures.ends update.ensures.counted_cause fits (untold_rules old rules update.result.stopped fits))
+    (update.ensures.images tells kept safe)
