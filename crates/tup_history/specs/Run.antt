@@ -1,6 +1,6 @@
 -- What a run of the program leaves, by what the program promises of each run (tup_top). Own.
 use Rattle.std.specs.Prelude.{◌≡◌, ⊤, Bool, ℕ, List, [], Option, None, Some, IsTrue, Ok}
-use Rattle.tup_site.specs.Crash.{GoesOn}
+use Rattle.tup_site.specs.Crash.{GoesOn, LeavesOnly}
 use Rattle.tup_site.specs.World.{World}
 use Rattle.tup_site.specs.Memory.{world_in, first_of, changes_of, moment_of, left_since, calls_of, faults_of, fails_of, left_of}
 use Rattle.tup_site.specs.declared.memory.MemSite.{MemSite}
@@ -11,9 +11,11 @@ use Rattle.tup_clean.specs.Clean.{succeeds}
 use Rattle.tup_whole.specs.Project.{ComeTo}
 use Rattle.tup_ledger.specs.Ascending.{ascending}
 use Rattle.tup_ledger.specs.Begin.{Begins}
+use Rattle.tup_ledger.specs.Listing.{IsSafe}
+use Rattle.tup_ledger.specs.Sources.{Kept, HasSources}
 use Rattle.tup_update.specs.Compared.{HasCompared}
 use Rattle.tup_update.specs.Holding.{Holding, Shows}
-use Rattle.tup_update.specs.Images.{UpdateStep}
+use Rattle.tup_update.specs.Images.{UpdateStep, with_outputs}
 use Rattle.tup_update.specs.Log.{OfRules}
 use Rattle.tup_update.specs.Outcome.{ExactlyTheFiles, MadeBeforeBad, SourcesStay, NothingForgotten, HasCause}
 use Rattle.tup_update.specs.Settled.{IsSettled}
@@ -66,6 +68,7 @@ pub record Keeps (tells : Bool) (next : Next) (wanted : Wanted) (old new : World
 -- What a crash may leave since such a run began, and once it has ended.
 pub record Leaves (tells : Bool) (next : Next) (wanted : Wanted) (old new : MemSite) (status : Status) : Type 0 where
   pub crash : ForUpdate wanted status (OfRules (world_in old) (λ rules _. GoesOn moment_of left_since old new (UpdateStep tells next rules (world_in old))))
+  pub images : (kept : Kept) → IsSafe moment_of left_since old kept → ForUpdate wanted status (OfRules (world_in old) (λ rules _. LeavesOnly moment_of left_since old new (HasSources (with_outputs rules kept))))
   pub quiet : (IsUpdate wanted → ⊥) → GoesOn moment_of left_since old new (QuietStep wanted (world_in old))
   pub settled : ForUpdate wanted status (IsSettled (left_since new (moment_of new)) (world_in new))
   pub lasts : ForInit wanted status (Lasts (left_since new (moment_of new)) (world_in new))

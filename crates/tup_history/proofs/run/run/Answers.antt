@@ -29,6 +29,7 @@ returns-clause-keeps g c = record {
 pub returns-clause-leaves : goal.returns-clause-leaves
 returns-clause-leaves g c = record {
   crash = c.tup.ensures.crash refl;
+  images = c.tup.ensures.images refl;
   quiet = c.tup.ensures.quiet refl;
   settled = c.tup.ensures.settled refl;
   lasts = c.tup.ensures.lasts refl;
