@@ -6,13 +6,12 @@ use Rattle.tup_path.specs.Tree.{Tree}
 use Rattle.tup_site.specs.Memory.{world_in}
 use Rattle.tup_site.specs.World.{World}
 use Rattle.tup_site.specs.declared.refused.MemRefused.{MemRefused}
-use Rattle.tup_rule.specs.declared.rule.Rule.{Rule}
 use Rattle.tup_runner.specs.Next.{Next}
 use Rattle.tup_clean.specs.Clean.{clean, succeeds}
 use Rattle.tup_whole.specs.Project.{ComeTo}
 use Rattle.tup_ledger.specs.Ascending.{ascending}
 use Rattle.tup_ledger.proofs.Listing.{lists_one}
-use Rattle.tup_update.specs.Holding.{Holding, holding}
+use Rattle.tup_update.specs.Holding.{holding}
 use Rattle.tup_update.specs.Log.{OfRules}
 use Rattle.tup_update.specs.Outcome.{ExactlyTheFiles, NothingForgotten}
 use Rattle.tup_update.specs.Sources.{sources, outputs}

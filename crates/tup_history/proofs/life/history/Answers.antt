@@ -1,7 +1,6 @@
 use Rattle.std.proofs.Common.{ℕ, ◌+◌, None, Some, [], ◌∷◌, ◌++◌, length, sym, ap, subst, ◌∙◌, arith}
 use Rattle.std.proofs.lemmas.List.{length_push}
 use Rattle.tup_history.specs.History.{IsHistory, Takes, standing}
-use Rattle.tup_history.specs.declared.turn.End.{End}
 use Rattle.tup_site.specs.declared.refused.MemRefused.TheVariants.{Memory}
 use Rattle.tup_history.proofs.Built.{ends_built}
 use Rattle.tup_history.proofs.Turns.{leads_on, taken, here, were_all, refused_so, no_room, all_lived, lived_so_far}
