@@ -140,7 +140,7 @@ fn unsynced(alloc: Global, said: &Words, store: &[u8]) -> Words {
     if site.db_write(alloc, 0, store).is_err() {
         return Words::none(alloc, RowFault::Memory);
     }
-    if said.word_at(0) == b"open" && Table::open(alloc, &mut site).is_err() {
+    if said.word_at(0) == b"open".as_slice() && Table::open(alloc, &mut site).is_err() {
         return Words::none(alloc, RowFault::OtherKind);
     }
     crashed(alloc, &mut site, said.word_at(1))
