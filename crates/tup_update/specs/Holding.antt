@@ -38,7 +38,7 @@ pub record HoldsOn (old new : World) : Type 0 where
   pub none : old.store ≡ [] → new.store ≡ []
   pub lists : (paths : List Names) → Lists old.store paths → Lists new.store paths
   pub back : (paths : List Names) → Lists new.store paths → Lists old.store paths
-  -- one that doesn't read is as it was, but for its last gate
+  -- one that doesn't read is as it was, or keeps its entries
   pub unread : ((paths : List Names) → ¬ Lists old.store paths) → (new.store ≡ old.store) ⊎ HasSameEntries old.store new.store
 
 -- the bytes are no store, or one of which a record can't be read, from this byte on
