@@ -4,6 +4,7 @@ use Rattle.tup_site.specs.Crash.{GoesOn, LeavesOnly}
 use Rattle.tup_ledger.specs.Sources.{HasSources}
 use Rattle.tup_update.specs.Compared.{HasCompared}
 use Rattle.tup_update.specs.Images.{UpdateStep, with_outputs}
+use Rattle.tup_update.specs.Log.{OfRules}
 use Rattle.tup_update.specs.Outcome.{ExactlyTheFiles, MadeBeforeBad, NothingForgotten, HasCause}
 use Rattle.tup_update.specs.Settled.{IsSettled}
 use Rattle.tup_update.specs.Sources.{ends}
@@ -49,6 +50,15 @@ returns-in-Ok-Upd-clause-ran g c = λ tells.
     subst (λ (w : Wanted). ForUpdate w c.update-status.result.status runs) (sym is)
     (crew_runs g.R.Runner.ran c.args.crew.items c.index_mut.result.now c.update-status.new.runner c.requires.crew.0 c.index_mut.ensures.value c.update-status.result.ran
     c.update-status.result.status (c.update-status.ensures.ran tells))
+
+pub returns-in-Ok-Upd-clause-images : goal.returns-in-Ok-Upd-clause-images
+returns-in-Ok-Upd-clause-images g c = λ tells kept safe.
+    let wanted = rw c.in-Ok-Upd.is at c.order_of.ensures in
+    let is = rw c.in-Ok-Upd.field-0-is at wanted in
+    let site = c.args.site in
+    let new = c.update-status.new.site in
+    let promise = OfRules (g.S.Site.world site) (λ rules _. LeavesOnly g.S.Site.moment g.S.Site.left_since site new (HasSources (with_outputs rules kept))) in
+    subst (λ (w : Wanted). ForUpdate w c.update-status.result.status promise) (sym is) (c.update-status.ensures.images tells kept safe)
 
 -- a comparison
 
