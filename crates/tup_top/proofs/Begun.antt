@@ -1,6 +1,5 @@
 -- How a beginning ends that came out so: what is promised of it holds of the status that tells of it.
-use Rattle.std.proofs.Common.{◌≡◌, ◌≢◌, ◌⊎◌, ⊎_elim, inl, inr, ℕ, List, [], ◌∷◌, ◌++◌, Result, Ok, Err, refl, sym, subst, ◌∙◌}
-use Rattle.tup_path.specs.Count.{Rose}
+use Rattle.std.proofs.Common.{◌≡◌, ◌⊎◌, ⊎_elim, inl, inr, ℕ, List, [], ◌∷◌, ◌++◌, Result, Ok, Err, refl, sym, subst, ◌∙◌}
 use Rattle.tup_site.specs.World.{World}
 use Rattle.tup_table.specs.Store.{header}
 use Rattle.tup_table.specs.declared.fault.TableFault.{TableFault}

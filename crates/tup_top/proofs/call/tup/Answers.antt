@@ -15,7 +15,7 @@ use Rattle.tup_update.proofs.Held.{holds_itself}
 use Rattle.tup_update.proofs.Keeping.{no_turns, unchanged_sources}
 use Rattle.tup_top.specs.Crew.{RanFits, RanInTurn, CrewRuns, CrewCompares}
 use Rattle.tup_top.specs.Order.{Wanted, order}
-use Rattle.tup_top.specs.Promise.{ForUpdate, ForInit, ForVerify, Lasts, NothingDone, QuietStep, StopsDemo, CountsAll, HasPlainCause, counts}
+use Rattle.tup_top.specs.Promise.{ForUpdate, ForVerify, Lasts, NothingDone, QuietStep, StopsDemo, CountsAll, HasPlainCause, counts}
 use Rattle.tup_top.specs.declared.status.Status.TheVariants.{Memory}
 use Rattle.tup_ledger.specs.Begin.{Begins}
 use Rattle.tup_top.proofs.Begun.{initializes_so}

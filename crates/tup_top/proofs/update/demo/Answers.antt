@@ -5,7 +5,7 @@ use Rattle.tup_update.specs.Log.{OfRules}
 use Rattle.tup_update.specs.Outcome.{HasCause}
 use Rattle.tup_top.specs.Status.{IfCame}
 use Rattle.tup_mini.specs.Means.{mini_next}
-use Rattle.tup_top.specs.Printed.{PrintsUpdate, demo_world}
+use Rattle.tup_top.specs.Printed.{PrintsUpdate}
 use Rattle.tup_top.proofs.Causes.{demo_cause, with_new}
 use Rattle.tup_top.proofs.Shown.{unshown_cause, unshown_stops, unshown_prints}
 use Rattle.tup_top.proofs.update.demo.Goals as goal
