@@ -18,7 +18,8 @@ returns g c = record {
     (λ tells. c.get.ensures.same tells),
     record {
       first = λ none.
-          cause_of g.S.Site.tells (g.S.Site.world c.args.self.now.site.now) (g.S.Site.world c.get.new.self) c.in-Yes.path _ _ c.get.result c.in-Err.failed c.in-Err.is c.get.ensures.cause c.get.ensures.too_large
+          cause_of g.S.Site.tells c.args.self.now.sight.rules.now c.args.self.now.sight.rule.now (g.S.Site.world c.args.self.now.site.now) (g.S.Site.world c.get.new.self) c.in-Yes.path _ _ c.get.result c.in-Err.failed
+          (access-Yes c.args.self.now.sight.rules.now c.args.self.now.sight.rule.now c.args.self.now.asked c.args.text.now c.in-Yes.path ?).readable ? c.in-Err.is c.get.ensures.cause c.get.ensures.too_large
           (λ tells. c.get.ensures.length tells) (λ tells. c.get.ensures.same tells);
       stays = λ kept was. nothing_kept c.args.self.now.refused.now kept c.requires was;
     },
