@@ -22,6 +22,7 @@ use Rattle.tup_graph.specs.Graph.{GraphState}
 use Rattle.tup_kept.specs.Crash.{GraphStep, HasEither}
 use Rattle.tup_ledger.specs.Listing.{SettledStep}
 use Rattle.tup_ledger.specs.Owned.{owned_in}
+use Rattle.tup_ledger.proofs.Listing.{either_lists}
 use Rattle.tup_update.specs.Holding.{Holding, HoldsOn, Lists, Shows, holding}
 use Rattle.tup_update.specs.Images.{FilesStep, GivenStep, ListedStep, MakesStep, UpdateStep}
 use Rattle.tup_update.specs.Outcome.{claimed, AllIsMade}
@@ -56,17 +57,7 @@ place_here files i file within here =
 pub store_reads : (project : Project) (was : World) → IsProject project was → Shows was (holding was project.owned)
 store_reads project was is = record { lists = is.owned; tree = refl }
 
--- a world whose store has one of two graphs lists what that graph owns
-pub either_lists : (g h : GraphState) (paths : List Names) → owned_in h ≡ paths → (w : World) → HasEither g h w → Lists w.store (owned_in g) ⊎ Lists w.store paths
-either_lists g h paths is w (inl store) = inl (record { graph = g; store = store; owned = refl })
-either_lists g h paths is w (inr store) = inr (record { graph = h; store = store; owned = sym is })
-
 module _ {S : Type 0} (moment : S → ℕ) (left_since : S → ℕ → World → Type 0) where
-  -- and so does the present one, which a crash now may leave
-  pub lists_either : (old new : S) (g h : GraphState) (paths : List Names) (now : World) → IsEarlier moment left_since new → left_since new (moment new) now → owned_in h ≡ paths →
-      LeavesOnly moment left_since old new (HasEither g h) → Lists now.store (owned_in g) ⊎ Lists now.store paths
-  lists_either old new g h paths now earlier present is only = either_lists g h paths is now (only.each now (earlier (moment old) (moment new) now only.later present))
-
   -- nothing was done
   pub at_rest : (site : S) (step : World → World → Type 0) → GoesOn moment left_since site site step
   at_rest site step = as_step moment left_since site site NoStep step (λ v w left none. absurd none) (rests moment left_since site)

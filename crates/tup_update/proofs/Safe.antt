@@ -1,10 +1,8 @@
 -- Where each world that a crash may leave before an update has the same sources, so has each that one may leave since it began.
 use Rattle.std.proofs.Common.{◌≡◌, ◌⊎◌, ◌||◌, ◌++◌, ⊎_elim, inl, inr, ℕ, Bool, true, List, not, refl, sym, ◌∙◌, ap, subst, arith}
 use Rattle.std.specs.FinMap as finite
-use Rattle.std.specs.List.{list_any}
 use Rattle.std.proofs.lemmas.Bool.{or_cases, or_left, or_right}
 use Rattle.tup_path.specs.Name.{Names}
-use Rattle.tup_path.specs.Order.{same_path-by_names}
 use Rattle.tup_path.specs.Tree.{Tree}
 use Rattle.tup_site.specs.Crash.{GoesOn, LeavesOnly}
 use Rattle.tup_site.specs.World.{World}
@@ -17,6 +15,7 @@ use Rattle.tup_ledger.specs.Ascending.{ascending}
 use Rattle.tup_ledger.specs.Listing.{IsSafe}
 use Rattle.tup_ledger.specs.Owned.{owned_in}
 use Rattle.tup_ledger.specs.Sources.{HasSources, Kept, sources_of}
+use Rattle.tup_ledger.proofs.Keys.{among_keys}
 use Rattle.tup_ledger.proofs.Listing.{lists_one}
 use Rattle.tup_update.specs.Holding.{HoldsOn, Lists, Shows, holding}
 use Rattle.tup_update.specs.Images.{MakesStep, UpdateStep, with_outputs}
@@ -33,7 +32,7 @@ record Safe (kept : Kept) (w : World) (paths : List Names) : Type 0 where
 
 -- a path is owned where it is listed
 among_owned : (g : GraphState) (path : Names) → among path (owned_in g) ≡ is_owned g path
-among_owned g path = (λ i. list_any (λ other. same_path-by_names path other i) (owned_in g)) ∙ sym (finite.contains_key-keys g.owned path)
+among_owned g path = among_keys g.owned path
 
 beside_owned : (g : GraphState) (tree : Tree) → files_beside (owned_in g) tree ≡ sources_of g tree
 beside_owned g tree = λ i. finite.retain_keys tree (λ path. not (among_owned g path i))

@@ -7,6 +7,7 @@ use Rattle.tup_rule.specs.declared.rule.Rule.{Rule}
 use Rattle.tup_rule.specs.Rule.{is_generated}
 use Rattle.tup_runner.specs.Next.{Next}
 use Rattle.tup_clean.specs.Buildable.{IsBuildable}
+use Rattle.tup_ledger.specs.Listing.{ListsEither}
 use Rattle.tup_ledger.specs.Sources.{Kept}
 use Rattle.tup_update.specs.Holding.{HoldsOn, Lists, OfHeld}
 use Rattle.tup_update.specs.Outcome.{claimed, AllIsMade}
@@ -32,7 +33,7 @@ pub record ListedStep (agree : Tree → Tree → Type 0) (before paths : List Na
 pub record GivenStep (before paths : List Names) (now v w : World) : Type 0 where
   pub stays : TreeStays v w
   pub files : TreeStays now w
-  pub listed : Lists w.store before ⊎ Lists w.store paths
+  pub listed : ListsEither before paths w.store
 
 -- What an update that read the sources adds to what a crash may leave, beside a store that lists what was owned: each file that
 -- is neither owned nor an output of its rules is what it was. The store lists all that was claimed, or still what was owned

@@ -1,6 +1,6 @@
 -- What an update promises, each promise a word and a table: the site before, the site after, the rules that it found, and why
 -- it stopped before its end, if it did.
-use Rattle.std.specs.Prelude.{◌≡◌, ◌⊎◌, ◌++◌, ◌<◌, ⊤, ℕ, Bool, true, false, List, Option, None, Some, IsSome, IsTrue, Ok}
+use Rattle.std.specs.Prelude.{◌≡◌, ◌⊎◌, ◌++◌, ◌<◌, ⊤, ℕ, Bool, true, false, List, [], Option, None, Some, IsSome, IsTrue, Ok}
 use Rattle.std.specs.FinMap as finite
 use Rattle.tup_path.specs.Count.{Rose}
 use Rattle.tup_path.specs.Name.{Names}

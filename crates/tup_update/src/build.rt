@@ -9,6 +9,7 @@ ghost use Rattle.tup_clean.specs.Clean.{is_good};
 ghost use Rattle.tup_graph.specs.Transactions.{forget_edits};
 ghost use Rattle.tup_kept.specs.Held.{is_fresh, StandsFor};
 ghost use Rattle.tup_ledger.specs.Ascending.{ascending};
+ghost use Rattle.tup_ledger.specs.Listing.{ListsEither};
 ghost use Rattle.tup_ledger.specs.Owned.{own_edits, owned_in};
 ghost use Rattle.tup_ledger.specs.Sources.{HaveNoFiles};
 ghost use Rattle.tup_rule.specs.Rule.{among};
@@ -247,7 +248,7 @@ fn finish<S: Site>(
     // Whatever it answers, the store lists what it did, or what is left of that.
     ensures left { IsTrue S.tells → let owned = owned_in graph.old.nodes in
         let rest = filter (λ path. not (among path left.now)) owned in
-        Lists (S.world site.new).store owned ⊎ Lists (S.world site.new).store rest }
+        ListsEither owned rest (S.world site.new).store }
     ensures tree { IsTrue S.tells → TreeStays (S.world site.old) (S.world site.new) }
     ensures crash { IsTrue S.tells → let owned = owned_in graph.old.nodes in
         let rest = filter (λ path. not (among path left.now)) owned in

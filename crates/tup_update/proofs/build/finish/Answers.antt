@@ -8,7 +8,7 @@ use Rattle.tup_update.specs.Parts.{IsLate}
 use Rattle.tup_update.specs.Holding.{Lists}
 use Rattle.tup_update.specs.Stopped.{stop_of_graph}
 use Rattle.tup_update.specs.declared.stop.Stop.TheVariants.{Full}
-use Rattle.tup_update.proofs.Crashing.{given_so, lists_either}
+use Rattle.tup_update.proofs.Crashing.{given_so}
 use Rattle.tup_update.proofs.Handed.{err_if}
 use Rattle.tup_update.proofs.Keeping.{err_is}
 use Rattle.tup_update.proofs.Storing.{given_late, given_full, graph_counts, no_room}
@@ -39,30 +39,12 @@ pub returns-clause-listed : goal.returns-clause-listed
 returns-clause-listed g c = λ tells.
     subst (Lists (g.S.Site.world c.give_up.new.site).store) c.in_ok-give_up.ensures.owned.1 (c.in_ok-give_up.ensures.lists tells)
 
-pub returns-in_err-give_up-clause-left : goal.returns-in_err-give_up-clause-left
-returns-in_err-give_up-clause-left g c = λ tells.
-    let site_laws = g.met.S.Site g.world.𝓛 g.world.𝓜 g.world.𝓡 ((λ s x. x), (λ x. x), (λ x. x), λ x. x) in
-    let nodes = c.args.graph.now.nodes in
-    let left = c.args.left.now in
-    let new = c.give_up.new.site in
-    lists_either g.S.Site.moment g.S.Site.left_since c.args.site.now new nodes (with_forgotten nodes left) _ (g.S.Site.world new)
-    (λ t u w le left. site_laws.earlier new t u w tells le left) (site_laws.present new tells) (owned_without nodes left) (c.give_up.ensures.crash tells).only
-
 pub returns-in_err-give_up-clause-crash : goal.returns-in_err-give_up-clause-crash
 returns-in_err-give_up-clause-crash g c = λ tells.
     let nodes = c.args.graph.now.nodes in
     let left = c.args.left.now in
     given_so g.S.Site.moment g.S.Site.left_since c.args.site.now c.give_up.new.site nodes (with_forgotten nodes left) _ (g.S.Site.world c.args.site.now) (owned_without nodes left)
     (c.give_up.ensures.crash tells).only (c.give_up.ensures.settled tells)
-
-pub returns-clause-left : goal.returns-clause-left
-returns-clause-left g c = λ tells.
-    let site_laws = g.met.S.Site g.world.𝓛 g.world.𝓜 g.world.𝓡 ((λ s x. x), (λ x. x), (λ x. x), λ x. x) in
-    let nodes = c.args.graph.now.nodes in
-    let left = c.args.left.now in
-    let new = c.give_up.new.site in
-    lists_either g.S.Site.moment g.S.Site.left_since c.args.site.now new nodes (with_forgotten nodes left) _ (g.S.Site.world new)
-    (λ t u w le left. site_laws.earlier new t u w tells le left) (site_laws.present new tells) (owned_without nodes left) (c.give_up.ensures.crash tells).only
 
 pub returns-clause-crash : goal.returns-clause-crash
 returns-clause-crash g c = λ tells.

@@ -11,7 +11,7 @@ use Rattle.tup_update.specs.Parts.{IsLate, SameBeside}
 use Rattle.tup_update.specs.Stopped.{stop_of_graph}
 use Rattle.tup_update.specs.declared.stop.Stop.TheVariants.{Full, Outside}
 use Rattle.tup_ledger.proofs.Keys.{owned_with}
-use Rattle.tup_update.proofs.Crashing.{lists_either, prepared, still_listed, written_only}
+use Rattle.tup_update.proofs.Crashing.{prepared, still_listed, written_only}
 use Rattle.tup_update.proofs.Handed.{err_if}
 use Rattle.tup_update.proofs.Keeping.{err_is}
 use Rattle.tup_update.proofs.Storing.{committed_late, committed_full, graph_counts, site_late, site_counts, no_room, stands_on}
@@ -29,14 +29,8 @@ returns-in_err-own-clause-crash g c = λ tells.
 
 pub returns-in_err-own-clause-unclaimed : goal.returns-in_err-own-clause-unclaimed
 returns-in_err-own-clause-unclaimed g c = λ tells.
-    let site_laws = g.met.S.Site g.world.𝓛 g.world.𝓜 g.world.𝓡 ((λ s x. x), (λ x. x), (λ x. x), λ x. x) in
-    let nodes = c.args.graph.now.nodes in
-    let paths = c.as_slice.result.now in
-    let new = c.own.new.site in
-    ⊎_elim (λ still. inr (still, c.own.ensures.tree tells)) inl
-    (lists_either g.S.Site.moment g.S.Site.left_since c.args.site.now new nodes (with_owned nodes paths) (ascending (owned_in nodes ++ c.args.plan.now.outputs)) (g.S.Site.world new)
-    (λ t u w le left. site_laws.earlier new t u w tells le left) (site_laws.present new tells)
-    (owned_with nodes paths ∙ ap (λ (paths : List Names). ascending (owned_in nodes ++ paths)) c.as_slice.ensures) (c.own.ensures.crash tells).only)
+    ⊎_elim (λ still. inr (still, c.own.ensures.tree tells))
+    (λ owned. inl (subst (λ (paths : List Names). Lists (g.S.Site.world c.own.new.site).store (ascending (owned_in c.args.graph.now.nodes ++ paths))) c.as_slice.ensures owned)) (c.own.ensures.keeps tells)
 
 pub returns-in_err-own-clause-late : goal.returns-in_err-own-clause-late
 returns-in_err-own-clause-late g c =
