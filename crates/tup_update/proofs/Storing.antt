@@ -39,7 +39,7 @@ use Rattle.tup_update.proofs.Held.{opened_holds}
 pub graph_counts : {T : Type 0} (before now : ℕ) (result : Result T GraphFault) (fault : GraphFault) → result ≡ Err fault → CountsFaults before now result → HasCountedCause before now (Some (stop_of_graph fault))
 graph_counts before now result graph.NotThere is counts = counts.steady (λ e. cc (is, e))
 graph_counts before now result (graph.BadStore offset) is counts = counts.steady (λ e. cc (is, e))
-graph_counts before now result graph.Site is counts = counts.site is
+graph_counts before now result graph.Site is counts = counts.fault is
 graph_counts before now result graph.Full is counts = counts.steady (λ e. cc (is, e))
 graph_counts before now result graph.Memory is counts = counts.steady (λ e. cc (is, e))
 
