@@ -1,6 +1,5 @@
 -- What a call of the ledger that is refused becomes, and what its graph stands for when files are changed.
 use Rattle.std.proofs.Common.{◌≡◌, ◌≢◌, ℕ, Bool, IsTrue, List, Some, Result, Ok, Err, refl, sym, subst}
-use Rattle.std.specs.FinMap as finite
 use Rattle.tup_path.specs.Name.{Names}
 use Rattle.tup_path.specs.Tree.{Tree}
 use Rattle.tup_site.specs.Crash.{GoesOn}

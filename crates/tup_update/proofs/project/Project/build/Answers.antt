@@ -257,7 +257,7 @@ returns-in_err-finish-in-None-clause-stays g c = λ tells.
     subst (Stays g.R.Runner.tells g.R.Runner.next project.rules old new (with_read project.read log)) (sym (err_is c.from_residual-in_err-finish-in-None.result stop c.from_residual-in_err-finish-in-None.ensures.1))
     (unfinished_stays project old mid plan.vanished claiming way g.R.Runner.tells g.R.Runner.next ran new log stop (c.in_ok-prepare.ensures.cleared tells) (c.run.ensures.others tells) (c.finish.ensures.tree tells)
     (⊎_elim (λ stored. inl (subst (Lists new.store) (sym c.in_ok-prepare.ensures.opened.owned) stored))
-        (λ given. inr (given_up project.owned project.rules (owned_in c.args.graph.now.nodes) plan.outputs plan.left _ (owned_in c.prepare.new.graph.nodes) new.store c.requires.opened.owned c.in_ok-plan.ensures.outputs c.in_ok-plan.ensures.left c.as_slice.ensures c.in_ok-prepare.ensures.opened.owned given)) (c.finish.ensures.left tells))
+    (λ given. inr (given_up project.owned project.rules (owned_in c.args.graph.now.nodes) plan.outputs plan.left _ (owned_in c.prepare.new.graph.nodes) new.store c.requires.opened.owned c.in_ok-plan.ensures.outputs c.in_ok-plan.ensures.left c.as_slice.ensures c.in_ok-prepare.ensures.opened.owned given)) (c.finish.ensures.left tells))
     c.in_err-finish-in-None.ensures.late
     (λ means. subst (HasRun g.R.Runner.next project.rules sources ran.tree) c.in-None.is (c.in_ok-bad.ensures.run tells means))
     (subst (TurnsFit project.rules log.ran log.ended) (ap comes_to (c.in_ok-bad.was ∙ ap (λ o. Ok o) c.in-None.is)) (c.run.ensures.in_turn tells)))
