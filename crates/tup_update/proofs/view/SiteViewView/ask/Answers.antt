@@ -1,6 +1,7 @@
 use Rattle.std.proofs.Common.{ℕ, List, Some, refl, ap}
 use Rattle.std.proofs.lemmas.Bool.{false≢true}
 use Rattle.tup_access.proofs.Asked.{seen_none}
+use Rattle.tup_access.proofs.Permitted.{access-Yes}
 use Rattle.tup_runner.specs.declared.fault.ViewFailed.TheVariants.{Fault}
 use Rattle.tup_update.proofs.Failing.{cause_of, nothing_kept}
 use Rattle.tup_update.proofs.view.SiteViewView.ask.Goals as goal
