@@ -245,7 +245,7 @@ module _ (next : Next) (w : World) where
   pub unread_compared : (unread : Unread) → IsUnread w unread → HasCompared next w (Err (stop_of unread))
   unread_compared (NoRules fault) why = why
   unread_compared (Unlucky Fault) why = tt
-  unread_compared (Unlucky (TooLarge n)) (held, shows, path, large) = (path, source_is held w shows path n large)
+  unread_compared (Unlucky (TooLarge n)) (held, shows, (path, large)) = (path, source_is held w shows path n large)
   unread_compared (Unlucky Memory) why = tt
 
   -- where the outside stops it behind the build, all of it was run

@@ -51,6 +51,7 @@ refusal_unread w paths (Unlucky (TooLarge n)) lists refused = absurd (cc refused
 refusal_unread w paths (Unlucky Memory) lists refused = tt
 
 pub unread_cause : (next : Next) (rules : List Rule) (old new : World) (unread : Unread) → rules ≡ [] → HoldsOn old new → IsUnread new unread → HasCause next rules old new (Some (stop_of unread))
+unfolding clean
 unread_cause next rules old new (Sources fault) none on why = (why.0, shown_before old new on why.0 why.1, why.2)
 unread_cause next rules old new (Unlucky Fault) none on why = tt
 unread_cause next rules old new (Unlucky (TooLarge n)) none on why =

@@ -23,7 +23,7 @@ returns g c = record {
       first = λ none.
           cause_of g.S.Site.tells c.args.self.now.sight.rules.now c.args.self.now.sight.rule.now (g.S.Site.world c.args.self.now.site.now) (g.S.Site.world c.get.new.self) c.in-Yes.path _ _ c.get.result c.in-Err.failed
           (access-Yes c.args.self.now.sight.rules.now c.args.self.now.sight.rule.now c.args.self.now.asked c.args.text.now c.in-Yes.path
-          (sym (given_ok c.in_ok-path.field-0.0 (access c.args.self.now.sight.rules.now c.args.self.now.sight.rule.now c.args.self.now.asked c.args.text.now) _ c.in_ok-path.ensures) ∙ c.in-Yes.is)).readable
+          (sym (given_ok c.in_ok-path.field-0 (access c.args.self.now.sight.rules.now c.args.self.now.sight.rule.now c.args.self.now.asked c.args.text.now) _ c.in_ok-path.ensures) ∙ c.in-Yes.is)).readable
           (sym c.writes.ensures ∙ c.if-writes.false) c.in-Err.is c.get.ensures.cause c.get.ensures.too_large
           (λ tells. c.get.ensures.length tells) (λ tells. c.get.ensures.same tells);
       stays = λ kept was. nothing_kept c.args.self.now.refused.now kept c.requires was;
