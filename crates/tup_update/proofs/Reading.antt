@@ -249,8 +249,7 @@ large_unread w owned paths Memory lists keys named = tt
 large_unread w owned paths (TooLarge n) lists keys named =
     let found = named n refl in
     let path = found.0 in
-    let there : IsSome (finite.get (files_beside owned w.tree) path) = sym (among_their_keys (files_beside owned w.tree) path) ∙ ap (among path) keys ∙ found.1 in
-    (
+    let there : IsSome (finite.get (files_beside owned w.tree) path) = sym (among_their_keys (files_beside owned w.tree) path) ∙ ap (among path) keys ∙ found.1 in (
       holding w owned,
       record { lists = lists; tree = refl },
       (path, record { content = found.2.content; found = (left_is owned w.tree path there).1 ∙ found.2.found; bytes = found.2.bytes }),
