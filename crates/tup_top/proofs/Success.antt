@@ -1,11 +1,12 @@
 -- Where nothing stands in the way of an update, it is done, but for want of memory: every other cause is excluded.
-use Rattle.std.proofs.Common.{◌≡◌, inl, inr, ℕ, ◌-◌, ◌^◌, ◌<◌, Bool, true, false, List, Some, sym, subst, ap, ◌∙◌, arith}
+use Rattle.std.proofs.Common.{◌≡◌, ◌⊎◌, inl, inr, ℕ, ◌-◌, ◌^◌, ◌<◌, Bool, true, false, List, [], Some, sym, subst, ap, ◌∙◌, arith}
 use Rattle.std.specs.List.{list_all, slice_get}
 use Rattle.std.proofs.lemmas.List.Sums.{AllPass-from_list_all}
 use Rattle.std.proofs.lemmas.Option.{slice_get_within, get_or_from_slice_get}
 use Rattle.std.specs.FinMap as finite
 use Rattle.tup_path.specs.Tree.{Tree}
 use Rattle.tup_site.specs.World.{World}
+use Rattle.tup_rule.specs.declared.rule.Rule.{Rule}
 use Rattle.tup_rule.specs.declared.rule.RuleName.{RuleName}
 use Rattle.tup_runner.specs.Next.{Next}
 use Rattle.tup_access.specs.declared.verdict.Verdict.{Verdict}
@@ -16,7 +17,7 @@ use Rattle.tup_update.proofs.Held.{undamaged, there}
 use Rattle.tup_update.specs.Log.{OfRules}
 use Rattle.tup_update.specs.Outcome.{SourcesStay, HasCause}
 use Rattle.tup_update.specs.Parts.{HasFileOf}
-use Rattle.tup_update.specs.Sources.{build}
+use Rattle.tup_update.specs.Sources.{IsAsked, build}
 use Rattle.tup_update.specs.Compared.{HasCompared}
 use Rattle.tup_update.specs.declared.fault.SourcesFault.TheVariants as sources
 use Rattle.tup_update.specs.declared.stop.Stop.TheVariants.{Bad}
@@ -44,9 +45,9 @@ pub not_rose : (before now : ℕ) → now ≡ before → now < 2 ^ 64 - 1 → Ro
 not_rose before now same counts (inl more) = omega (arith, same, more)
 not_rose before now same counts (inr end) = omega (arith, counts, end)
 
-no_large_file : (next : Next) (old new : World) (number : ℕ) → IsClear next old new → HasFileOf number new.tree → 16777216 < number → ⊥
-no_large_file next old new number clear file large =
-    let small = clear.small file.0 file.1.content file.1.found in
+no_large_file : (next : Next) (old new : World) (rules : List Rule) (number : ℕ) (clear : IsClear next old new) → (rules ≡ []) ⊎ IsAsked old rules → HasFileOf number (build next rules clear.held).tree → 16777216 < number → ⊥
+no_large_file next old new rules number clear fits file large =
+    let small = clear.small rules fits file.0 file.1.content file.1.found in
     let bytes = file.1.bytes in
     omega (arith, small, bytes, large)
 
@@ -75,7 +76,7 @@ succeeds_so next old new before now (NoSuchGroup group) (rules, fits, refused) c
 succeeds_so next old new before now SiteFault cause counted clear fine = not_rose before.site now.site fine.site fine.site_counts counted.0
 succeeds_so next old new before now RunFault cause counted clear fine = no_runner_rose before now fine counted.1
 succeeds_so next old new before now SinkFault cause counted clear fine = not_rose before.sink now.sink fine.sink fine.sink_counts counted.1
-succeeds_so next old new before now (Limit FileSize number) (count, passed, (rules, fits, large)) counted clear fine = no_large_file next old new count clear large passed
+succeeds_so next old new before now (Limit FileSize number) (count, passed, (rules, fits, large)) counted clear fine = no_large_file next old new rules count clear fits (large clear.held clear.store_reads) passed
 succeeds_so next old new before now (Limit Files number) (count, passed, (rules, fits, refused)) counted clear fine = absurd (clear.sources_read (sources.TooManyFiles count) refused)
 succeeds_so next old new before now (Limit Commands number) (count, passed, (rules, fits, refused)) counted clear fine = absurd (clear.sources_read (sources.TooManyCommands count) refused)
 succeeds_so next old new before now (Limit Links number) (count, passed, (rules, fits, refused)) counted clear fine = absurd (clear.sources_read (sources.TooManyLinks count) refused)

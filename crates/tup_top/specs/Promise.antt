@@ -166,14 +166,14 @@ pub record NothingFailed (before now : Counts) : Type 0 where
   pub sink : now.sink ≡ before.sink
   pub sink_counts : now.sink < 2 ^ 64 - 1
 
--- nothing stands in the way of an update: the store reads and has room, the sources ask for rules, and their clean build
--- succeeds
+-- Nothing stands in the way of an update: the store reads and has room, the sources ask for rules, and their clean build
+-- succeeds. No source is too large, and no file of that build.
 pub record IsClear (next : Next) (old new : World) : Type 0 where
   pub held : Holding
   pub store_reads : Shows old held
   pub sources_read : (fault : SourcesFault) → IsRefused old fault → ⊥
   pub clean : (rules : List Rule) → IsAsked old rules → IsTrue (succeeds (build next rules held))
-  pub small : (path : Names) (content : Content) → finite.get new.tree path ≡ Some content → length content ≤ 16777216
+  pub small : (rules : List Rule) → (rules ≡ []) ⊎ IsAsked old rules → (path : Names) (content : Content) → finite.get (build next rules held).tree path ≡ Some content → length content ≤ 16777216
   pub room : (rules : List Rule) → IsAsked old rules → HasNoRoom rules held new → ⊥
 
 -- an answer that is free, or says that all was done

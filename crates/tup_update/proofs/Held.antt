@@ -12,8 +12,9 @@ use Rattle.tup_graph.specs.Opening.{IsGraphOf}
 use Rattle.tup_graph.proofs.OneWay.{not_broken}
 use Rattle.tup_table.specs.Images.{Leaves, OpenStep}
 use Rattle.tup_table.specs.Store.{header, blocks}
+use Rattle.tup_ledger.proofs.Guarding.{entries_one}
 use Rattle.tup_ledger.proofs.Listing.{lists_one, nothing_lists, opened_still}
-use Rattle.tup_update.specs.Holding.{Holding, HoldsOn, IsDamaged, Lists, OfHeld, Shows, holding}
+use Rattle.tup_update.specs.Holding.{HasSameEntries, Holding, HoldsOn, IsDamaged, Lists, OfHeld, Shows, holding}
 
 pub held_is : (w : World) (held : Holding) (paths : List Names) → Lists w.store paths → Shows w held → holding w paths ≡ held
 held_is w held paths lists shows =
@@ -29,10 +30,16 @@ of_held w paths promise lists kept held shows = subst promise (held_is w held pa
 
 -- ---- worlds that hold the same
 pub holds_itself : (w : World) → HoldsOn w w
-holds_itself w = record { tree = refl; none = λ none. none; lists = λ paths lists. lists; back = λ paths lists. lists }
+holds_itself w = record { tree = refl; none = λ none. none; lists = λ paths lists. lists; back = λ paths lists. lists; unread = λ none. inl refl }
 
 pub holds_same : (v w : World) → w ≡ v → HoldsOn v w
 holds_same v w same = subst (HoldsOn v) (sym same) (holds_itself v)
+
+same_then : (first mid last : List ℕ) → (mid ≡ first) ⊎ HasSameEntries first mid → (last ≡ mid) ⊎ HasSameEntries mid last → (last ≡ first) ⊎ HasSameEntries first last
+same_then first mid last (inl same) (inl again) = inl (again ∙ same)
+same_then first mid last (inl same) (inr (entries, was, is)) = inr (entries, subst (Leaves entries) same was, is)
+same_then first mid last (inr (entries, was, is)) (inl again) = inr (entries, was, subst (Leaves entries) (sym again) is)
+same_then first mid last (inr (entries, was, is)) (inr (others, then, now)) = inr (entries, was, subst (λ (es : Standing). Leaves es last) (entries_one mid others entries then is) now)
 
 pub holds_then : (u v w : World) → HoldsOn u v → HoldsOn v w → HoldsOn u w
 holds_then u v w one two = record {
@@ -40,6 +47,7 @@ holds_then u v w one two = record {
   none = λ none. two.none (one.none none);
   lists = λ paths lists. two.lists paths (one.lists paths lists);
   back = λ paths lists. one.back paths (two.back paths lists);
+  unread = λ none. same_then u.store v.store w.store (one.unread none) (two.unread (λ paths lists. none paths (one.back paths lists)));
 }
 
 -- where nothing stands, no store does
@@ -55,6 +63,7 @@ opened_holds v w step = record {
   none = λ none. absurd (not_store step.entries (subst (Leaves step.entries) none step.before));
   lists = λ paths. (opened_still v w step paths).0;
   back = λ paths. (opened_still v w step paths).1;
+  unread = λ none. inr (step.entries, step.before, step.after);
 }
 
 pub kept_holds : (v w : World) → (w ≡ v) ⊎ OpenStep v w → HoldsOn v w
@@ -83,6 +92,7 @@ holds_listed v w paths was is same = record {
   none = λ none. absurd (there v.store paths was none);
   lists = λ others lists. subst (Lists w.store) (lists_one v.store paths others was lists) is;
   back = λ others lists. subst (Lists v.store) (lists_one w.store paths others is lists) was;
+  unread = λ none. absurd (none paths was);
 }
 
 pub undamaged : (bytes : List ℕ) (paths : List Names) (offset : ℕ) → Lists bytes paths → IsDamaged bytes offset → ⊥
