@@ -1,0 +1,4 @@
+pub mod Going
+pub mod Openings
+pub mod Placed
+pub mod Told
