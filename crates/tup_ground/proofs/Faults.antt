@@ -58,7 +58,7 @@ pub counts_told : (before now : ℕ) (answer : Result (Unit {0}) GraphFault) →
 counts_told before now (Ok done) counts = record { later = counts.later; site = λ e. absurd (cc); steady = λ _. counts.steady (λ e. cc) }
 counts_told before now (Err graph.NotThere) counts = record { later = counts.later; site = λ e. absurd (cc); steady = λ _. counts.steady (λ e. cc) }
 counts_told before now (Err (graph.BadStore offset)) counts = record { later = counts.later; site = λ e. absurd (cc); steady = λ _. counts.steady (λ e. cc) }
-counts_told before now (Err graph.Site) counts = record { later = counts.later; site = λ _. inl (counts.site refl); steady = λ other. absurd (other refl) }
+counts_told before now (Err graph.Site) counts = record { later = counts.later; site = λ _. inl (counts.fault refl); steady = λ other. absurd (other refl) }
 counts_told before now (Err graph.Full) counts = record { later = counts.later; site = λ e. absurd (cc); steady = λ _. counts.steady (λ e. cc) }
 counts_told before now (Err graph.Memory) counts = record { later = counts.later; site = λ e. absurd (cc); steady = λ _. counts.steady (λ e. cc) }
 

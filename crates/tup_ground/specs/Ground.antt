@@ -1,11 +1,11 @@
 -- The site of a board with the graph of its store, and what making the files of a rule leaves of them (own). It commits that
 -- a run of the rule begins, puts the files, settles, and commits the run.
-use Rattle.std.specs.Prelude.{◌≡◌, ◌⊎◌, ℕ, ◌<◌, true, List, Option, None, Some, Result, Ok, Err, All, Contains, map, IsTrue, is_none}
+use Rattle.std.specs.Prelude.{◌≡◌, ◌⊎◌, ℕ, true, List, Option, None, Some, Result, Ok, Err, All, Contains, map, IsTrue, is_none}
 use Rattle.std.specs.FinMap as finite
 use Rattle.tup_path.specs.Name.{Names, Content}
 use Rattle.tup_path.specs.Tree.{Tree}
 use Rattle.tup_rule.specs.Rule.{among}
-use Rattle.tup_site.specs.Cause.{IsPlace, IsTooLarge}
+use Rattle.tup_site.specs.Cause.{IsPlace, TellsLarge, TellsLength}
 use Rattle.tup_site.specs.Crash.{GoesOn, NoStep}
 use Rattle.tup_site.specs.Known.{Keeps}
 use Rattle.tup_site.specs.World.{World, StoreStays, TreeStays}
@@ -39,10 +39,10 @@ pub record ReadsSite {S : Type 0} (site : Site S) (old new : Ground S) : Type 0 
 
 -- only a file that is longer than a file may be is too large, and it is the one at this path, of the length that the answer names
 abbrev pub OnlyLarge : {T : Type 0} → Result T BoardFault → Type 0
-OnlyLarge result = (bytes : ℕ) → result ≡ Err (TooLarge bytes) → 16777216 < bytes
+OnlyLarge result = TellsLarge TooLarge result
 
 abbrev pub NamesLength : {T : Type 0} → Tree → Names → Result T BoardFault → Type 0
-NamesLength tree path result = (bytes : ℕ) → result ≡ Err (TooLarge bytes) → IsTooLarge tree path bytes
+NamesLength tree path result = TellsLength TooLarge tree path result
 
 -- ---- files
 

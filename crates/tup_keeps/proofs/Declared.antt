@@ -6,14 +6,13 @@ use Rattle.std.specs.FinMap as finite
 use Rattle.std.specs.List.{cons_option}
 use Rattle.std.specs.Result.{result_ok}
 use Rattle.std.proofs.lemmas.Bool.{true≢false, or_cases}
-use Rattle.std.proofs.lemmas.List.Elements.{All-cons, All-contains, All-contains_itself, All-head, All-nil, All-tail, All-weaker, Contains-append_cases, Contains-push_cases}
+use Rattle.std.proofs.lemmas.List.Elements.{All-cons, All-contains, All-contains_itself, All-head, All-nil, All-tail, Contains-push_cases}
 use Rattle.std.proofs.lemmas.List.Folds.{Any-from_list_any}
 use Rattle.std.proofs.lemmas.Map.Views.{All-insert_key}
 use Rattle.tup_path.specs.Name.{Names}
 use Rattle.tup_path.specs.Order.{by_names, same_path}
 use Rattle.tup_path.specs.Resolve.{above}
 use Rattle.tup_path.specs.Tree.{Tree}
-use Rattle.tup_path.proofs.Same.{by_names-decides}
 use Rattle.tup_rule.specs.Rule.{among, declares, is_generated}
 use Rattle.tup_rule.specs.declared.draft.Draft.{Draft}
 use Rattle.tup_rule.specs.declared.draft.GroupRef.{GroupRef}
@@ -31,23 +30,21 @@ use Rattle.tup_ask.specs.Log.{Says}
 use Rattle.tup_ask.proofs.Runs.{ran_outcome}
 use Rattle.tup_draft.specs.Folder.{name_in}
 use Rattle.tup_draft.specs.Glob.{names_among}
-use Rattle.tup_draft.specs.Sound.{told_at, AreSound, IsSound, MayTake, NamesFiles}
-use Rattle.tup_draft.specs.State.{is_made, made_by}
-use Rattle.tup_draft.proofs.Soundness.{made_all, name_in-own, ordered-all}
+use Rattle.tup_draft.specs.Sound.{told_at, AreSound, IsSound, MayTake}
+use Rattle.tup_draft.specs.State.{is_made}
+use Rattle.tup_draft.proofs.Soundness.{name_in-own}
 use Rattle.tup_reader.specs.Reading.{reading}
 use Rattle.tup_reader.proofs.Soundness.{reading-sound}
-use Rattle.tup_folders.specs.Answers.{Readings, answer, drafts_of, made_kind, seen_drafts}
+use Rattle.tup_folders.specs.Answers.{Readings, answer, drafts_of, made_kind}
 use Rattle.tup_folders.specs.Readings.{AreAllReadings, AreReadWith, AreSomeReadings, IsReadingOver}
 use Rattle.tup_folders.specs.Sources.{has_below, is_source, settings_of}
 use Rattle.tup_folders.proofs.One.{of_tupfiles, reading_in, readings_agree}
-use Rattle.tup_folders.proofs.Told.{kind_is}
 use Rattle.tup_link.specs.Groups.{given_to, gives_to, members}
 use Rattle.tup_link.specs.Linked.{Members, rule_of, rules_of, with_path, with_paths}
 use Rattle.tup_link.specs.Placed.{Placed, placed, placed_in, drafts_of as all_drafts}
 use Rattle.tup_whole.specs.Project.{AreLinked, ComeTo}
-use Rattle.tup_whole.proofs.Making.{AllMakeHere, IsFree, MakesHere, all_keep}
+use Rattle.tup_whole.proofs.Making.{all_keep, names_files}
 use Rattle.tup_graph.specs.Answers.{IsDrafted}
-use Rattle.tup_above.proofs.Members.{in_list}
 use Rattle.tup_diff.proofs.Editing.{entry_found, found_entry}
 use Rattle.tup_diff.proofs.Ordered.{behind_front, front_or_behind, in_front, none_in}
 use Rattle.tup_keeps.specs.Linking.{DeclareWhatIsThere}
@@ -155,51 +152,6 @@ module _ (sources : Tree) (settings : Entries) (list : List (Names × Reading)) 
         by false is true e = absurd (let wrong : Dir ≡ File = e in cc)
         by false is false e = inr (made_there path (result_ok (above path)) e)
 
-    -- the names that are told are those of files
-    names_files : NamesFiles answers
-    names_files dir =
-        ordered-all (λ name. told_at answers (dir ++ name ∷ []) ≡ File) [] (names_among dir (finite.keys sources ++ made_by (seen_drafts before reader dir))) (All-nil (λ name. told_at answers (dir ++ name ∷ []) ≡ File))
-        (named (λ name. told_at answers (dir ++ name ∷ []) ≡ File) dir (finite.keys sources ++ made_by (seen_drafts before reader dir)) each)
-      where
-        free : All (IsFree sources) (made_by (seen_drafts before reader dir))
-        free = own (same_path reader dir)
-          where
-            of_drafts : (made drafts : List Draft) → AllMakeHere sources dir made drafts → (path : Names) → Contains (made_by drafts) path → IsFree sources path
-            of_drafts made [] make path h = absurd (none_in path h)
-            of_drafts made (draft ∷ drafts) (here, rest) path h = elim (Contains-append_cases draft.outputs (made_by drafts) path h) [
-              | inl mine ↦ (let makes = All-contains (MakesHere sources dir made) draft.outputs path here mine in (makes.no_source, makes.no_folder))
-              | inr later ↦ of_drafts (made ++ draft ∷ []) drafts rest path later
-            ]
-
-            of : (now : Option Reading) → finite.get before dir ≡ now → All (IsFree sources) (made_by (elim now as (λ _. List Draft) [ Some left ↦ left.drafts | None ↦ [] ]))
-            of None none = All-nil (IsFree sources)
-            of (Some left) here =
-                All-weaker (Contains (made_by left.drafts)) (IsFree sources) (of_drafts [] left.drafts (all_keep sources settings some.0 before some.1 dir left here)) (made_by left.drafts)
-                (All-contains_itself (made_by left.drafts))
-
-            own : (b : Bool) → All (IsFree sources) (made_by (cond b [] (drafts_of before dir)))
-            own true = All-nil (IsFree sources)
-            own false = of (finite.get before dir) refl
-
-        source_file : (path : Names) → Contains (finite.keys sources) path → told_at answers path ≡ File
-        source_file path key =
-            ap (λ b. cond b File (cond (has_below (finite.keys sources) path) Dir (made_in path (result_ok (above path)))))
-            (finite.contains_key-keys sources path ∙ in_list by_names by_names-decides (finite.keys sources) path key)
-
-        made_file : (name : List ℕ) → Contains (made_by (seen_drafts before reader dir)) (dir ++ name ∷ []) → told_at answers (dir ++ name ∷ []) ≡ File
-        made_file name made =
-            let path = dir ++ name ∷ [] in
-            let clear = All-contains (IsFree sources) (made_by (seen_drafts before reader dir)) path free made in
-            sym (kind_is sources before reader path dir name clear.0 clear.1 refl)
-            ∙ ap (λ b. cond b File Nothing)
-            (All-contains (λ p. is_made (seen_drafts before reader dir) p ≡ true) (made_by (seen_drafts before reader dir)) path (made_all (seen_drafts before reader dir)) made)
-
-        each : (name : List ℕ) → Contains (finite.keys sources ++ made_by (seen_drafts before reader dir)) (dir ++ name ∷ []) → told_at answers (dir ++ name ∷ []) ≡ File
-        each name h = elim (Contains-append_cases (finite.keys sources) (made_by (seen_drafts before reader dir)) (dir ++ name ∷ []) h) [
-          | inl key ↦ source_file (dir ++ name ∷ []) key
-          | inr made ↦ made_file name made
-        ]
-
     module _ (left : Reading) (here : Contains list (reader, left)) where
       takes_there : (earlier : List Draft) (path : Names) → ((draft : Draft) → Contains earlier draft → Contains left.drafts draft) → MayTake answers earlier path → IsThere path
       takes_there earlier path among_all (inl file) = file_there path file
@@ -227,7 +179,7 @@ module _ (sources : Tree) (settings : Entries) (list : List (Names × Reading)) 
       over_takes : IsReadingOver sources settings before reader left → (draft : Draft) → Contains left.drafts draft → (path : Names) → Contains draft.inputs path ⊎ Contains draft.order path → IsThere path
       over_takes over draft h path has =
           let says : Says answers over.log = λ question told e. sym (over.answered question told e).1 in
-          each_takes [] left.drafts draft (reading-sound answers reader names_files left.drafts (ran_outcome [] over.log (reading reader) (Ok left.drafts) answers over.ran says)) h
+          each_takes [] left.drafts draft (reading-sound answers reader (names_files sources settings before reader (all_keep sources settings some.0 before some.1)) left.drafts (ran_outcome [] over.log (reading reader) (Ok left.drafts) answers over.ran says)) h
           (λ one none. absurd (none_in one none)) (λ one there. there) path has
 
   draft_takes : (read : Names × Reading) → Contains list read → (draft : Draft) → Contains read.1.drafts draft → (path : Names) → Contains draft.inputs path ⊎ Contains draft.order path → IsThere path

@@ -1,9 +1,8 @@
 -- Why the readings of a site aren't refreshed (own).
-use Rattle.std.specs.Prelude.{◌≡◌, ◌≢◌, ℕ, ◌≤◌, ◌<◌, Result, Ok, Err}
-use Rattle.tup_path.specs.Count.{Rose}
+use Rattle.std.specs.Prelude.{◌≡◌, ℕ, Result, Ok, Err}
 use Rattle.tup_path.specs.Name.{Names}
 use Rattle.tup_path.specs.Tree.{Tree}
-use Rattle.tup_site.specs.Cause.{IsTooLarge}
+use Rattle.tup_site.specs.Cause.{Counts, IsTooLarge, TellsLarge}
 use Rattle.tup_site.specs.declared.fault.SiteFailed.{SiteFailed}
 use Rattle.tup_site.specs.declared.fault.SiteFailed.TheVariants as site
 use Rattle.tup_vars.specs.Table.{Entries}
@@ -28,15 +27,13 @@ of_folders (folders.Parse fault) = Parse fault
 of_folders (folders.Circular dirs) = Circular dirs
 of_folders folders.Memory = Memory
 
--- The site's count rises with each `Site`, and at no other answer: no fault of the site is dropped, and none is made up.
-pub record CountsFaults {T : Type 0} (before now : ℕ) (result : Result T RefreshFault) : Type 0 where
-  pub later : before ≤ now
-  pub site : result ≡ Err Site → Rose before now
-  pub steady : result ≢ Err Site → now ≡ before
+-- the site's count rises with each `Site`, and at no other answer
+abbrev pub CountsFaults : {T : Type 0} → ℕ → ℕ → Result T RefreshFault → Type 0
+CountsFaults before now result = Counts Site before now result
 
 -- only a file that is longer than a file may be is too large
 abbrev pub OnlyLarge : {T : Type 0} → Result T RefreshFault → Type 0
-OnlyLarge result = (bytes : ℕ) → result ≡ Err (TooLarge bytes) → 16777216 < bytes
+OnlyLarge result = TellsLarge TooLarge result
 
 -- the length that is told is that of a file of this tree
 abbrev pub NamesLength : {T : Type 0} → Tree → Result T RefreshFault → Type 0

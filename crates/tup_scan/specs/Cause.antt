@@ -1,10 +1,9 @@
 -- Why a scan is refused (own).
-use Rattle.std.specs.Prelude.{◌≡◌, ◌≢◌, ℕ, ◌≤◌, ◌<◌, length, All, Result, Err}
+use Rattle.std.specs.Prelude.{◌≡◌, ℕ, ◌≤◌, ◌<◌, length, All, Result, Err}
 use Rattle.std.specs.FinMap as finite
-use Rattle.tup_path.specs.Count.{Rose}
 use Rattle.tup_path.specs.Name.{Names}
 use Rattle.tup_path.specs.Tree.{Tree}
-use Rattle.tup_site.specs.Cause.{IsTooLarge, IsSmall}
+use Rattle.tup_site.specs.Cause.{Counts, IsSmall, IsTooLarge}
 use Rattle.tup_site.specs.declared.fault.SiteFailed.{SiteFailed}
 use Rattle.tup_site.specs.declared.fault.SiteFailed.TheVariants.{Fault, TooLarge as SiteTooLarge, Memory as SiteMemory}
 use Rattle.tup_scan.specs.declared.fault.ScanFault.{ScanFault}
@@ -16,11 +15,9 @@ fault_of Fault = Site
 fault_of (SiteTooLarge n) = TooLarge n
 fault_of SiteMemory = Memory
 
--- The site's count rises with each `Site`, and at no other answer: no fault of the site is dropped, and none is made up.
-pub record CountsFaults {T : Type 0} (before now : ℕ) (result : Result T ScanFault) : Type 0 where
-  pub later : before ≤ now
-  pub site : result ≡ Err Site → Rose before now
-  pub steady : result ≢ Err Site → now ≡ before
+-- the site's count rises with each `Site`, and at no other answer
+abbrev pub CountsFaults : {T : Type 0} → ℕ → ℕ → Result T ScanFault → Type 0
+CountsFaults before now result = Counts Site before now result
 
 -- numbers that are told are above the limits
 pub record IsAbove {T : Type 0} (result : Result T ScanFault) : Type 0 where

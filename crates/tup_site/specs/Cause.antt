@@ -7,11 +7,15 @@ use Rattle.tup_path.specs.Tree.{Tree, IsBelow}
 use Rattle.tup_site.specs.declared.fault.SiteFailed.{SiteFailed}
 use Rattle.tup_site.specs.declared.fault.SiteFailed.TheVariants.{Fault, TooLarge}
 
--- The count rises with each fault, and at no other answer: so whoever drops a fault is found out.
-pub record CountsFaults {T : Type 0} (before now : ℕ) (result : Result T SiteFailed) : Type 0 where
+-- The count rises with each answer that is this fault, and at no other: no fault of the site is dropped, and none is made up.
+pub record Counts {T F : Type 0} (which : F) (before now : ℕ) (result : Result T F) : Type 0 where
   pub later : before ≤ now
-  pub fault : result ≡ Err Fault → Rose before now
-  pub steady : result ≢ Err Fault → now ≡ before
+  pub fault : result ≡ Err which → Rose before now
+  pub steady : result ≢ Err which → now ≡ before
+
+-- the same of what a site itself answers
+abbrev pub CountsFaults : {T : Type 0} → ℕ → ℕ → Result T SiteFailed → Type 0
+CountsFaults before now result = Counts Fault before now result
 
 -- a call that reads no file finds none too large
 abbrev pub NeverTooLarge : {T : Type 0} → Result T SiteFailed → Type 0
@@ -21,9 +25,13 @@ NeverTooLarge result = (n : ℕ) → result ≢ Err (TooLarge n)
 abbrev pub IsSmall : Option Content → Type 0
 IsSmall found = (content : Content) → found ≡ Some content → length content ≤ 16777216
 
--- only a file that is longer than a file may be is too large
+-- only a file that is longer than a file may be is too large, as this fault tells it
+abbrev pub TellsLarge : {T F : Type 0} → (ℕ → F) → Result T F → Type 0
+TellsLarge large result = (n : ℕ) → result ≡ Err (large n) → 16777216 < n
+
+-- the same of what a site itself answers
 abbrev pub OnlyLarge : {T : Type 0} → Result T SiteFailed → Type 0
-OnlyLarge result = (n : ℕ) → result ≡ Err (TooLarge n) → 16777216 < n
+OnlyLarge result = TellsLarge TooLarge result
 
 -- the file at this path has so many bytes, which are too many
 pub record IsTooLarge (tree : Tree) (path : Names) (n : ℕ) : Type 0 where
@@ -31,9 +39,13 @@ pub record IsTooLarge (tree : Tree) (path : Names) (n : ℕ) : Type 0 where
   pub found : finite.get tree path ≡ Some content
   pub bytes : length content ≡ n
 
--- what is too large is the file at this path, of the length that the answer names
+-- what is too large is the file at this path, of the length that the answer names, as this fault tells it
+abbrev pub TellsLength : {T F : Type 0} → (ℕ → F) → Tree → Names → Result T F → Type 0
+TellsLength large tree path result = (n : ℕ) → result ≡ Err (large n) → IsTooLarge tree path n
+
+-- the same of what a site itself answers
 abbrev pub NamesLength : {T : Type 0} → Tree → Names → Result T SiteFailed → Type 0
-NamesLength tree path result = (n : ℕ) → result ≡ Err (TooLarge n) → IsTooLarge tree path n
+NamesLength tree path result = TellsLength TooLarge tree path result
 
 -- two trees agree everywhere but at one path
 abbrev pub SameBut : Names → Tree → Tree → Type 0

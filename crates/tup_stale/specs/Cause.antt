@@ -1,7 +1,7 @@
 -- Why a clearing is refused (own).
-use Rattle.std.specs.Prelude.{◌≡◌, ◌≢◌, ◌⊎◌, ℕ, ◌≤◌, ◌<◌, Result, Err}
+use Rattle.std.specs.Prelude.{◌≡◌, ◌⊎◌, ℕ, Result}
 use Rattle.std.specs.Result.{IfErr}
-use Rattle.tup_path.specs.Count.{Rose}
+use Rattle.tup_site.specs.Cause.{Counts, TellsLarge}
 use Rattle.tup_site.specs.declared.fault.SiteFailed.{SiteFailed}
 use Rattle.tup_site.specs.declared.fault.SiteFailed.TheVariants.{Fault, TooLarge as SiteTooLarge, Memory as SiteMemory}
 use Rattle.tup_graph.specs.declared.fault.GraphFault.{GraphFault}
@@ -23,15 +23,13 @@ of_graph GraphSite = Site
 of_graph GraphFull = Full
 of_graph GraphMemory = Memory
 
--- The site's count rises with each `Site`, and at no other answer: no fault of the site is dropped, and none is made up.
-pub record CountsFaults {T : Type 0} (before now : ℕ) (result : Result T StaleFault) : Type 0 where
-  pub later : before ≤ now
-  pub site : result ≡ Err Site → Rose before now
-  pub steady : result ≢ Err Site → now ≡ before
+-- the site's count rises with each `Site`, and at no other answer
+abbrev pub CountsFaults : {T : Type 0} → ℕ → ℕ → Result T StaleFault → Type 0
+CountsFaults before now result = Counts Site before now result
 
 -- only a file that is longer than a file may be is too large
 abbrev pub OnlyLarge : {T : Type 0} → Result T StaleFault → Type 0
-OnlyLarge result = (bytes : ℕ) → result ≡ Err (TooLarge bytes) → 16777216 < bytes
+OnlyLarge result = TellsLarge TooLarge result
 
 -- nothing refuses but a failure of the site, a full store, or want of memory
 abbrev pub IsStopped : {T : Type 0} → Result T StaleFault → Type 0

@@ -122,7 +122,7 @@ module _ (sources : Tree) (settings : Entries) where
         by true = All-nil (IsFree sources)
         by false = at (finite.get readings dir) refl
 
-    names_files : AllKeepTo sources readings → NamesFiles answers
+    pub names_files : AllKeepTo sources readings → NamesFiles answers
     names_files keep dir =
         let drafts = seen_drafts readings reader dir in
         ordered-all (λ name. told_at answers (dir ++ name ∷ []) ≡ File) [] (names_among dir (finite.keys sources ++ made_by drafts)) (All-nil (λ name. told_at answers (dir ++ name ∷ []) ≡ File))
