@@ -1,9 +1,9 @@
 -- Tests that no file has to be a folder (own).
-use Rattle.std.specs.Prelude.{◌≡◌, ◌≢◌, ◌<◌, ℕ, false, List, All, Some, length, slice_get}
+use Rattle.std.specs.Prelude.{◌≡◌, ℕ, ◌<◌, List, All, Contains, IsSome, None, Some, length, slice_get}
+use Rattle.std.specs.FinMap as finite
 use Rattle.tup_path.specs.Name.{Names}
-use Rattle.tup_path.specs.Tree.{IsBelow}
+use Rattle.tup_path.specs.Tree.{Tree, IsBelow, IsTree}
 use Rattle.tup_rule.specs.declared.rule.Rule.{Rule}
-use Rattle.tup_rule.specs.Rule.{writes}
 
 -- of two paths none lies below the other
 pub record IsBeside (path other : Names) : Type 0 where
@@ -15,28 +15,29 @@ pub record MayStand (paths : List Names) (path : Names) : Type 0 where
   pub not_top : 0 < length path
   pub beside : All (IsBeside path) paths
 
--- it lies beside the outputs of a rule
-pub record IsBesideOutputs (path : Names) (rule : Rule) : Type 0 where
-  pub beside : All (IsBeside path) rule.outputs
+-- a tree has a file at a path
+abbrev pub HasFile : Tree → Names → Type 0
+HasFile tree path = IsSome (finite.get tree path)
 
--- it may stand beside these paths, and beside the outputs of these rules; so do the outputs of a rule
-pub record StandsOver (rules : List Rule) (paths : List Names) (path : Names) : Type 0 where
-  pub may : MayStand paths path
-  pub beside : All (IsBesideOutputs path) rules
+-- it came to have a file at each of these paths, and kept those that it had
+pub record PutsAll (paths : List Names) (old new : Tree) : Type 0 where
+  pub kept : (path : Names) → HasFile old path → HasFile new path
+  pub put : All (HasFile new) paths
 
-pub record StandsBeside (rules : List Rule) (paths : List Names) (rule : Rule) : Type 0 where
-  pub over : All (StandsOver rules paths) rule.outputs
+-- it had none at any of these before
+pub record PutsNew (paths : List Names) (old new : Tree) : Type 0 where
+  pub all : PutsAll paths old new
+  pub fresh : All (λ (path : Names). finite.get old path ≡ None) paths
 
--- a rule writes none of these paths
-abbrev pub WritesNone : Rule → List Names → Type 0
-WritesNone rule paths = All (λ (path : Names). writes rule path ≡ false) paths
+-- it has the outputs of the first so many rules, of which no two have one in common
+pub record HasOutputs (rules : List Rule) (count : ℕ) (tree : Tree) : Type 0 where
+  pub files : (at : ℕ) (rule : Rule) → at < count → slice_get rules at ≡ Some rule → All (HasFile tree) rule.outputs
+  pub once : (at other : ℕ) (rule another : Rule) (path : Names) → at < other → other < count → slice_get rules at ≡ Some rule
+      → slice_get rules other ≡ Some another → Contains rule.outputs path → Contains another.outputs path → ⊥
 
--- the rules at two places have no output in common; that at a place with none of the others; none with another
-abbrev pub ShareNone : List Rule → ℕ → ℕ → Type 0
-ShareNone rules at other = (rule another : Rule) → slice_get rules at ≡ Some rule → slice_get rules other ≡ Some another → WritesNone another rule.outputs
-
-abbrev pub IsAlone : List Rule → ℕ → Type 0
-IsAlone rules at = (other : ℕ) → other < length rules → other ≢ at → ShareNone rules at other
-
-abbrev pub AreAlone : List Rule → Type 0
-AreAlone rules = (at : ℕ) → at < length rules → IsAlone rules at
+-- some tree has the outputs of these rules, of which no two have one in common, and files at these paths
+pub record StandTogether (rules : List Rule) (paths : List Names) : Type 0 where
+  pub tree : Tree
+  pub is_tree : IsTree tree
+  pub outputs : HasOutputs rules (length rules) tree
+  pub files : All (HasFile tree) paths

@@ -1,22 +1,25 @@
 //! Tests that no file has to be a folder.
-ghost use Rattle.std.specs.Prelude.{◌≡◌, ◌↔◌, All, IfOk, IsTrue};
+ghost use Rattle.std.specs.Prelude.{◌≡◌, ◌↔◌, [], All, IfOk, IsTrue, None, length};
 ghost use Rattle.std.specs.FinMap as finite;
+ghost use Rattle.tup_site.specs.Memory.{tree_in};
 ghost use Rattle.tup_board.specs.Outputs.{AreApart};
-ghost use Rattle.tup_board_rows.specs.Apart.{AreAlone, IsAlone, IsBeside, IsBesideOutputs, MayStand, ShareNone, StandsBeside, StandsOver, WritesNone};
+ghost use Rattle.tup_board_rows.specs.Apart.{HasOutputs, IsBeside, MayStand, PutsAll, PutsNew, StandTogether};
 
 use std::alloc::{AllocError, Global};
 use tup_core::Plan;
 use tup_graph::Nodes;
-use tup_path::{Items, Path, Paths};
+use tup_path::{Bytes, Items, Path, Paths};
 use tup_rule::Rule;
+use tup_site::{MemRefused, MemSite};
 
-/// Whether the outputs of a plan may be made over the files that a graph has seen.
+/// Whether the outputs of a plan may be made over the files that a graph has seen: whether a site can have all of these at
+/// once, and no two rules make the same.
 pub(crate) fn are_apart(alloc: Global, plan: &Plan, nodes: &Nodes) -> Result<bool, AllocError>
     ensures { IfOk result (λ apart. IsTrue apart → AreApart plan.now nodes.now) }
 {
     let seen = seen_in(alloc, nodes)?;
     let rules = plan.rules.as_slice();
-    Ok(stand_beside(rules, rules, seen.as_slice()) && are_alone(rules))
+    stand_together(alloc, rules, seen.as_slice())
 }
 
 /// The paths that a graph has seen.
@@ -30,26 +33,87 @@ fn seen_in(alloc: Global, nodes: &Nodes) -> Result<Paths, AllocError>
     Ok(paths)
 }
 
-/// Whether all outputs of some rules may be files beside those of others, and beside these paths.
-fn stand_beside(rules: &[Rule], others: &[Rule], paths: &[Path]) -> bool
-    ensures { IsTrue result ↔ All (StandsBeside others.now paths.now) rules.now }
+/// Whether the outputs of some rules can be files, of which no two rules make the same, beside files at these paths.
+fn stand_together(alloc: Global, rules: &[Rule], paths: &[Path]) -> Result<bool, AllocError>
+    ensures { IfOk result (λ may. IsTrue may → StandTogether rules.now paths.now) }
 {
-    rules.iter().all(|rule| stands_beside(rule, others, paths))
+    match MemSite::new(alloc, Vec::new(alloc), Vec::new(alloc)) {
+        Ok(site) => takes(alloc, site, rules, paths),
+        Err(_) => Err(AllocError),
+    }
 }
 
-fn stands_beside(rule: &Rule, others: &[Rule], paths: &[Path]) -> bool
-    ensures { IsTrue result ↔ StandsBeside others.now paths.now rule.now }
+/// Whether a site can have all of them.
+fn takes(
+    alloc: Global,
+    mut site: MemSite,
+    rules: &[Rule],
+    paths: &[Path],
+) -> Result<bool, AllocError>
+    ensures { IfOk result (λ may. IsTrue may → StandTogether rules.now paths.now) }
 {
-    rule.outputs
-        .as_slice()
-        .iter()
-        .all(|path| stands_over(path, others, paths))
+    if !put_outputs(alloc, &mut site, rules)? {
+        return Ok(false);
+    }
+    put_all(alloc, &mut site, paths)
 }
 
-fn stands_over(path: &Path, others: &[Rule], paths: &[Path]) -> bool
-    ensures { IsTrue result ↔ StandsOver others.now paths.now path.now }
+/// Puts a file at each output of some rules, if each may stand there, and no two rules make the same.
+fn put_outputs(alloc: Global, site: &mut MemSite, rules: &[Rule]) -> Result<bool, AllocError>
+    ensures { IfOk result (λ put. IsTrue put
+        → HasOutputs rules.now (length rules.now) (tree_in site.new)) }
 {
-    may_stand(path, paths) && is_beside_rules(path, others)
+    for rule in rules {
+        if !put_new(alloc, site, rule.outputs.as_slice())? {
+            return Ok(false);
+        }
+    }
+    Ok(true)
+}
+
+/// Puts files at these paths, if they may stand there, and none is there.
+fn put_new(alloc: Global, site: &mut MemSite, paths: &[Path]) -> Result<bool, AllocError>
+    ensures { IfOk result (λ put. IsTrue put
+        → PutsNew paths.now (tree_in site.old) (tree_in site.new)) }
+{
+    if !are_free(site, paths) {
+        return Ok(false);
+    }
+    put_all(alloc, site, paths)
+}
+
+/// Whether no file is at any of these paths.
+fn are_free(site: &MemSite, paths: &[Path]) -> bool
+    ensures { IsTrue result
+        → All (λ path. finite.get (tree_in site.now) path ≡ None) paths.now }
+{
+    paths.iter().all(|path| site.file(path).is_none())
+}
+
+/// Puts files at these paths, if they may stand there.
+fn put_all(alloc: Global, site: &mut MemSite, paths: &[Path]) -> Result<bool, AllocError>
+    ensures { IfOk result (λ put. IsTrue put
+        → PutsAll paths.now (tree_in site.old) (tree_in site.new)) }
+{
+    for path in paths {
+        if !put(alloc, site, path)? {
+            return Ok(false);
+        }
+    }
+    Ok(true)
+}
+
+/// Puts an empty file at a path, if one may stand there.
+fn put(alloc: Global, site: &mut MemSite, path: &Path) -> Result<bool, AllocError>
+    ensures { IfOk result (λ put. IsTrue put
+        → tree_in site.new ≡ finite.insert (tree_in site.old) path.now []) }
+{
+    let empty = Bytes::new(Vec::new(alloc));
+    match site.edit(alloc, path.clone()?, Some(empty)) {
+        Ok(()) => Ok(true),
+        Err(MemRefused::Memory) => Err(AllocError),
+        Err(_) => Ok(false),
+    }
 }
 
 /// Whether a file may stand at a path beside those at these paths: it isn't the top, nor above or below one.
@@ -57,18 +121,6 @@ pub(crate) fn may_stand(path: &Path, paths: &[Path]) -> bool
     ensures { IsTrue result ↔ MayStand paths.now path.now }
 {
     path.depth() > 0 && are_beside(path, paths)
-}
-
-fn is_beside_rules(path: &Path, rules: &[Rule]) -> bool
-    ensures { IsTrue result ↔ All (IsBesideOutputs path.now) rules.now }
-{
-    rules.iter().all(|rule| is_beside_outputs(path, rule))
-}
-
-fn is_beside_outputs(path: &Path, rule: &Rule) -> bool
-    ensures { IsTrue result ↔ IsBesideOutputs path.now rule.now }
-{
-    are_beside(path, rule.outputs.as_slice())
 }
 
 fn are_beside(path: &Path, others: &[Path]) -> bool
@@ -82,44 +134,4 @@ fn is_beside(path: &Path, other: &Path) -> bool
     ensures { IsTrue result ↔ IsBeside path.now other.now }
 {
     !path.is_below(other) && !other.is_below(path)
-}
-
-/// Whether no two rules have an output in common.
-fn are_alone(rules: &[Rule]) -> bool
-    ensures { IsTrue result → AreAlone rules.now }
-{
-    for at in 0..rules.len() {
-        if !is_alone(rules, at) {
-            return false;
-        }
-    }
-    true
-}
-
-/// Whether the rule at a place has no output in common with another.
-fn is_alone(rules: &[Rule], at: usize) -> bool
-    ensures { IsTrue result → IsAlone rules.now at }
-{
-    for other in 0..rules.len() {
-        if other != at && !share_none(rules, at, other) {
-            return false;
-        }
-    }
-    true
-}
-
-/// Whether the rules at two places have no output in common.
-fn share_none(rules: &[Rule], at: usize, other: usize) -> bool
-    ensures { IsTrue result → ShareNone rules.now at other }
-{
-    match (rules.get(at), rules.get(other)) {
-        (Some(rule), Some(another)) => writes_none(another, rule.outputs.as_slice()),
-        _ => false,
-    }
-}
-
-fn writes_none(rule: &Rule, paths: &[Path]) -> bool
-    ensures { IsTrue result ↔ WritesNone rule.now paths.now }
-{
-    paths.iter().all(|path| !rule.writes(path))
 }

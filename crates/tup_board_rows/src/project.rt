@@ -45,35 +45,53 @@ impl Project {
         Words::new(alloc)
     }
 
-    /// Adds a source, and so many rules, each of which copies what the one before it made.
+    /// Adds so many rules, each of which copies what the one before it made.
     pub(crate) fn add_chain(&mut self, alloc: Global, said: &Words) -> Words {
-        said.list(&mut self.sources, source(alloc, "f0"));
-        for at in 0..said.number_at(0) {
-            match link(alloc, at) {
-                Ok(rule) => said.list(&mut self.rules, rule),
-                Err(_) => said.fail(RowFault::Memory),
-            }
+        let count = said.number_at(0);
+        self.add_sources(alloc, said, count.saturating_add(1));
+        for at in 0..count {
+            self.add_link(alloc, said, at, at.saturating_add(1));
+        }
+        Words::new(alloc)
+    }
+
+    /// Adds so many rules, each of which copies one source.
+    pub(crate) fn add_fan(&mut self, alloc: Global, said: &Words) -> Words {
+        let count = said.number_at(0);
+        self.add_sources(alloc, said, count.saturating_add(1));
+        for at in 0..count {
+            self.add_link(alloc, said, 0, at.saturating_add(1));
         }
         Words::new(alloc)
     }
 
     /// Adds so many sources, and a rule that has them all as inputs.
     pub(crate) fn add_wide(&mut self, alloc: Global, said: &Words) -> Words {
-        let mut inputs = Items::new(alloc);
-        for at in 0..said.number_at(0) {
-            match numbered(alloc, "s", at) {
-                Ok(name) => {
-                    said.list(&mut self.sources, source(alloc, name.as_str()));
-                    said.list(&mut inputs, path(alloc, name.as_str()));
-                }
-                Err(_) => said.fail(RowFault::Memory),
-            }
-        }
-        match copying(alloc, "s0", "all", inputs) {
+        let count = said.number_at(0);
+        self.add_sources(alloc, said, count);
+        match wide(alloc, count) {
             Ok(rule) => said.list(&mut self.rules, rule),
             Err(_) => said.fail(RowFault::Memory),
         }
         Words::new(alloc)
+    }
+
+    /// Adds the sources `f0`, `f1` and so on.
+    fn add_sources(&mut self, alloc: Global, said: &Words, count: u64) {
+        for at in 0..count {
+            match numbered(alloc, at) {
+                Ok(name) => said.list(&mut self.sources, source(alloc, name.as_str())),
+                Err(_) => said.fail(RowFault::Memory),
+            }
+        }
+    }
+
+    /// Adds a rule that copies one of these to another.
+    fn add_link(&mut self, alloc: Global, said: &Words, from: u64, to: u64) {
+        match link(alloc, from, to) {
+            Ok(rule) => said.list(&mut self.rules, rule),
+            Err(_) => said.fail(RowFault::Memory),
+        }
     }
 
     /// Adds a rule.
@@ -96,13 +114,22 @@ fn rule(alloc: Global, said: &Words) -> Rule {
     }
 }
 
-/// The rule that copies a file of a chain to the next one.
-fn link(alloc: Global, at: u64) -> Result<Rule, AllocError> {
-    let from = numbered(alloc, "f", at)?;
-    let to = numbered(alloc, "f", at.saturating_add(1))?;
+fn link(alloc: Global, from: u64, to: u64) -> Result<Rule, AllocError> {
+    let from = numbered(alloc, from)?;
+    let to = numbered(alloc, to)?;
     let mut inputs = Items::new(alloc);
     inputs.push(path(alloc, from.as_str()))?;
     copying(alloc, from.as_str(), to.as_str(), inputs)
+}
+
+/// The rule that has so many inputs.
+fn wide(alloc: Global, count: u64) -> Result<Rule, AllocError> {
+    let mut inputs = Items::new(alloc);
+    for at in 0..count {
+        let name = numbered(alloc, at)?;
+        inputs.push(path(alloc, name.as_str()))?;
+    }
+    copying(alloc, "f0", "all", inputs)
 }
 
 /// A rule that copies a file to another, with these inputs.
@@ -129,8 +156,8 @@ fn source(alloc: Global, name: &str) -> (Path, Bytes) {
     }
 }
 
-fn numbered(alloc: Global, letter: &str, at: u64) -> Result<String, AllocError> {
-    format!(in alloc; "{letter}{at}")
+fn numbered(alloc: Global, at: u64) -> Result<String, AllocError> {
+    format!(in alloc; "f{at}")
 }
 
 fn path(alloc: Global, name: &str) -> Path {

@@ -77,8 +77,20 @@ impl Quiet {
         answer
     }
 
-    /// Whether a file may be put at a path.
+    /// Whether a file may be put at a path: there is one already, or one may stand beside all others.
     fn has_place(&mut self, alloc: Global, path: &Path) -> Result<bool, SiteFailed>
+        ensures place { IfOk result (λ has. IsTrue has → IsPlace (tree_in self.new.site) path.now) }
+        ensures cause { CountsFaults self.old.faults self.new.faults result }
+        ensures never_too_large { NeverTooLarge result }
+    {
+        if self.site.file(path).is_some() {
+            return Ok(true);
+        }
+        self.has_room(alloc, path)
+    }
+
+    /// Whether a file may stand at a path beside all that there are.
+    fn has_room(&mut self, alloc: Global, path: &Path) -> Result<bool, SiteFailed>
         ensures place { IfOk result (λ has. IsTrue has → IsPlace (tree_in self.new.site) path.now) }
         ensures cause { CountsFaults self.old.faults self.new.faults result }
         ensures never_too_large { NeverTooLarge result }

@@ -12,6 +12,7 @@ impl Answers for Project {
             "large" => Ok(self.add_large(alloc, said)),
             "rule" => Ok(self.add_rule(alloc, said)),
             "chain" => Ok(self.add_chain(alloc, said)),
+            "fan" => Ok(self.add_fan(alloc, said)),
             "wide" => Ok(self.add_wide(alloc, said)),
             "anew" => Ok(self.begin_anew(alloc)),
             "sweep" => sweep(alloc, self, said),
