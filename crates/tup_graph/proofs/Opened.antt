@@ -1,5 +1,5 @@
 -- A loop over the entries of a table: the graph so far, and what refuses an entry.
-use Rattle.std.proofs.Common.{◌≡◌, ◌⊎◌, ℕ, true, false, List, [], ◌∷◌, ◌++◌, Option, Some, Result, Ok, Err, OnOk, IfErr, MatchResult, refl, sym, ap, subst, ◌∙◌, inl, inr, append_assoc, append-nil}
+use Rattle.std.proofs.Common.{◌≡◌, ◌⊎◌, ℕ, true, List, [], ◌∷◌, ◌++◌, Option, Some, Result, Ok, Err, OnOk, IfErr, MatchResult, refl, sym, ap, subst, ◌∙◌, inl, inr, append_assoc, append-nil}
 use Rattle.tup_record.specs.declared.record.Record.{Record}
 use Rattle.tup_field.specs.declared.fault.RecordFault.{RecordFault}
 use Rattle.tup_field.specs.declared.fault.RecordFault.TheVariants.{Short, BadKind, BadField, Trailing, Memory}
@@ -31,19 +31,6 @@ no_record g entry fault other only r takes =
   where
     fault_of : err_of fault ≡ err_of Memory → fault ≡ Memory
     fault_of e = cc
-
--- what doesn't fit isn't taken
-pub no_fit : (g : GraphState) (entry : List ℕ × Entry) (found : Record) → ((r : Record) → IsSpelled entry.0 entry.1.value r → Gives (Ok found) (Ok r)) → fits g found ≡ false
-    → (r : Record) → Takes g entry r → ⊥
-no_fit g entry found only none r takes =
-    elim (only r takes.0) [
-      | inl memory ↦ let no : ok_of found ≡ err_of Memory = memory in cc
-      | inr read ↦
-          let same : ok_of found ≡ ok_of r = read in
-          let one : found ≡ r = cc in
-          let no : false ≡ true = sym none ∙ ap (fits g) one ∙ takes.1 in
-          cc
-    ]
 
 -- ---- the loop: the entries so far, and those that are left
 pub record IsSoFar (entries left : Standing) (g : GraphState) : Type 0 where

@@ -19,10 +19,11 @@ use Rattle.tup_rule.specs.declared.question.Reading.{Reading}
 use Rattle.tup_vars.specs.Config.{config_of}
 use Rattle.tup_vars.specs.Table.{Entries, look}
 
--- the Tupfile of a folder, and the tup.config of the top
+-- the Tupfile of a folder
 abbrev pub tupfile : Names → Names
 tupfile dir = dir ++ codes "Tupfile" ∷ []
 
+-- the tup.config of the top
 abbrev pub tup_config : Names
 tup_config = codes "tup.config" ∷ []
 

@@ -29,10 +29,11 @@ empty_graph = record {
 abbrev pub is_rule : GraphState → ℕ → Bool
 is_rule g number = nat_lt number (length g.rules)
 
--- whether a rule is to be run, and whether a folder is to be read
+-- whether a rule is to be run
 abbrev pub is_flagged : GraphState → ℕ → Bool
 is_flagged g number = finite.contains_key g.flags number
 
+-- whether a folder is to be read
 abbrev pub is_created : GraphState → Names → Bool
 is_created g dir = finite.contains_key g.created dir
 

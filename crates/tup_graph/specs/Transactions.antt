@@ -26,29 +26,37 @@ abbrev pub begin_edits : GraphState → ℕ → List Edit
 begin_edits g number = map (own g number Unsure) (outputs_of g number)
 
 -- ---- a run ended well: its rule has this record and is not to be run any more; what it wrote is written so, and seen
+-- a file that it wrote is owned as written
 abbrev pub written : GraphState → ℕ → Names × Stamp → Edit
 written g number file = own g number (Written file.1) file.0
 
+-- and seen with the stamp that it was written with
 abbrev pub seen_so : Names × Stamp → Edit
 seen_so file = Put (records.Seen file.0 file.1)
 
+-- all of it
 abbrev pub finish_edits : GraphState → ℕ → RunRecord → List Edit
 finish_edits g number run = map (written g number) run.writes ++ map seen_so run.writes ++ Put (records.Run number run) ∷ Remove (records.Modify number) ∷ []
 
 -- ---- files at owned paths are to go: the paths become unsure
+-- one path, if it is owned
 abbrev pub doomed : GraphState → Names → Option Edit
 doomed g path = option_map (λ (owned : Owned). Put (records.Owned path owned.maker Unsure)) (finite.get g.owned path)
 
+-- all of them
 abbrev pub doom_edits : GraphState → List Names → List Edit
 doom_edits g paths = filter_map (doomed g) paths
 
 -- ---- paths are owned no longer, and seen no longer
+-- one path, if it is owned
 abbrev pub disowned : GraphState → Names → Option Edit
 disowned g path = option_map (λ (owned : Owned). Remove (records.Owned path owned.maker owned.state)) (finite.get g.owned path)
 
+-- one path, if it was seen
 abbrev pub unseen : GraphState → Names → Option Edit
 unseen g path = option_map (λ (stamp : Stamp). Remove (records.Seen path stamp)) (finite.get g.seen path)
 
+-- all of them
 abbrev pub forget_edits : GraphState → List Names → List Edit
 forget_edits g paths = filter_map (disowned g) paths ++ filter_map (unseen g) paths
 
@@ -80,6 +88,7 @@ abbrev pub unsure_as : Names → Option Owned → finite.FinMap by_names Owned �
 unsure_as path (Some one) owned = finite.insert owned path (record { maker = one.maker; state = Unsure })
 unsure_as path None owned = owned
 
+-- all of these owned paths are unsure
 abbrev pub with_doomed : GraphState → List Names → GraphState
 with_doomed g paths = record g { owned = fold (λ owned path. unsure_as path (finite.get g.owned path) owned) g.owned paths }
 

@@ -7,7 +7,6 @@
 
 mod begin;
 mod by_number;
-mod by_path;
 mod changing;
 mod doom;
 mod edit;
@@ -23,7 +22,6 @@ mod owned;
 mod taking;
 
 pub use by_number::ByNumber;
-pub use by_path::ByPath;
 pub use changing::changes;
 pub use edit::{Edit, Edits};
 pub use fault::GraphFault;

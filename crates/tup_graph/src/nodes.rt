@@ -5,10 +5,10 @@ ghost use Rattle.std.specs.FinMap as finite;
 ghost use Rattle.tup_graph.specs.Graph.{empty_graph, is_rule, is_flagged, is_created, source};
 
 use crate::by_number::ByNumber;
-use crate::by_path::ByPath;
 use crate::owned::Owned;
 use std::alloc::Global;
 use std::collections::btree_map::Iter;
+use tup_map::ByPath;
 use tup_path::{Items, Path};
 use tup_record::RunRecord;
 use tup_rule::{Reading, Rule, Rules};

@@ -62,5 +62,6 @@ pub record IsPartOf (sources outline : Tree) (g : GraphState) (fetched : Fetched
   pub stamps : SeesSources sources g
   pub contents : AreFetched sources fetched
 
+-- the same of a part itself
 abbrev pub IsPart : Tree → Part → Type 0
 IsPart sources part = IsPartOf sources part.outline.now part.nodes.now part.fetched.now

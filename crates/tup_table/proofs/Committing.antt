@@ -1,15 +1,16 @@
 -- Where a table stands after a commit.
-use Rattle.std.proofs.Common.{◌≡◌, ℕ, ◌+◌, List, [], ◌∷◌, ◌++◌, length, sym, ap, subst, ◌∙◌, length-append, arith}
+use Rattle.std.proofs.Common.{◌≡◌, ℕ, ◌+◌, List, [], ◌∷◌, ◌++◌, length, inl, ⊎_elim, refl, sym, ap, subst, ◌∙◌, length-append, arith}
 use Rattle.tup_site.specs.Crash.{GoesOn}
-use Rattle.tup_site.specs.World.{World}
+use Rattle.tup_site.specs.World.{World, TreeStays}
 use Rattle.tup_table.specs.Appending.{appending}
 use Rattle.tup_table.specs.Entries.{Standing, committed, entries_of}
-use Rattle.tup_table.specs.Images.{CommitStep, IsNext}
-use Rattle.tup_table.specs.Store.{header, blocks, CommitFits}
+use Rattle.tup_table.specs.Images.{Leaves, CommitStep, IsNext}
+use Rattle.tup_table.specs.Store.{header, blocks, CommitFits, IsStore}
 use Rattle.tup_table.specs.Table.{entries_in, Rests, StandsFor, after_commit}
 use Rattle.tup_table.specs.declared.change.Change.{Change}
 use Rattle.tup_table.specs.declared.table.Table.{Table}
-use Rattle.tup_table.proofs.Appends.{opened_front}
+use Rattle.tup_table.proofs.Appends.{closed_store, opened_front}
+use Rattle.tup_table.proofs.Going.{IsEarlier}
 use Rattle.tup_table.proofs.Stores.{entries_push}
 
 length-more : (commits : List (List Change)) (changes : List Change) → length (header ++ blocks (commits ++ changes ∷ [])) ≡ length (header ++ blocks commits) + length (appending changes)
@@ -36,3 +37,24 @@ module _ {S : Type 0} (world : S → World) (moment : S → ℕ) (left_since : S
   crash_after new on =
       subst (λ (before : Standing). GoesOn moment left_since old new (CommitStep before (committed table.gate table.entries changes))) (sym stands.entries)
       (subst (λ (after : Standing). GoesOn moment left_since old new (CommitStep (entries_of stands.commits) after)) (sym entries_after) on)
+
+-- ---- what the store has at the end of a commit, whatever that answers
+module _ {S : Type 0} (world : S → World) (moment : S → ℕ) (left_since : S → ℕ → World → Type 0) (table : Table) (later : Standing) (old : S) (stands : StandsFor world moment left_since table old) where
+  stored : Leaves (entries_in table) (world old).store
+  stored =
+      let rested = stands.rests.bytes in
+      (stands.commits, subst (λ (b : List ℕ). IsStore b stands.commits) (sym rested.whole) (closed_store stands.commits rested.gate rested.rest rested.fits rested.closed), stands.entries)
+
+  -- nothing was written
+  pub nothing_done : CommitStep (entries_in table) later (world old) (world old)
+  nothing_done = record { tree = refl; store = inl stored }
+
+  -- what is there is among what a crash may leave
+  pub step_now : (new : S) → TreeStays (world old) (world new) → IsEarlier moment left_since new → left_since new (moment new) (world new) → GoesOn moment left_since old new (CommitStep (entries_in table) later)
+      → CommitStep (entries_in table) later (world old) (world new)
+  step_now new tree earlier present on = record {
+    tree = tree;
+    store =
+        ⊎_elim (λ before. inl (subst (Leaves (entries_in table)) (sym (stands.rests.durable (world new) before)) stored)) (λ from. from.2.store)
+        (on.since (moment old) (world new) (omega arith) (earlier (moment old) (moment new) (world new) on.later present));
+  }

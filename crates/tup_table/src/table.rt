@@ -156,6 +156,10 @@ impl Table {
         ensures stands { IsTrue S.tells → IsTrue (is_fresh self.new)
             → StandsFor S.world S.moment S.left_since self.new site.new }
 
+        // Whatever it answers, the store has the entries before it or those after it.
+        ensures keeps { IsTrue S.tells → CommitStep (entries_in self.old)
+            (entries_in (after_commit self.old changes.now)) (S.world site.old) (S.world site.new) }
+
         // What it changes meanwhile, and what a crash may leave then: the entries before it or after it.
         ensures tree { IsTrue S.tells → TreeStays (S.world site.old) (S.world site.new) }
         ensures crash { IsTrue S.tells → GoesOn S.moment S.left_since site.old site.new
