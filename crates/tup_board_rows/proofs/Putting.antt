@@ -55,7 +55,7 @@ outputs_more rules count rule old new here before puts = record { files = files;
         sym (get_or_from_slice_get rules count one rule (subst (λ (n : ℕ). slice_get rules n ≡ Some one) last found)) ∙ sym here
 
     either : (at : ℕ) → at < count + 1 → (at < count) ⊎ (at ≡ count)
-    either at less = elim (cases_lt at count) [ | inl front ↦ inl front | inr past ↦ inr (omega (arith, less, past)) ]
+    either at less = elim (cases_lt at count) [ inl front ↦ inl front | inr past ↦ inr (omega (arith, less, past)) ]
 
     files : (at : ℕ) (one : Rule) → at < count + 1 → slice_get rules at ≡ Some one → All (HasFile new) one.outputs
     files at one less found =
@@ -72,7 +72,7 @@ outputs_more rules count rule old new here before puts = record { files = files;
           | inr last ↦
               let there : HasFile old path = All-contains (HasFile old) one.outputs path (before.files at one (omega (arith, less, last)) found) made in
               let fresh : finite.get old path ≡ None =
-                  All-contains (λ (p : Names). finite.get old p ≡ None) rule.outputs path puts.fresh (subst (λ (r : Rule). Contains r.outputs path) (is_it other another last also) made_too) in
+              All-contains (λ (p : Names). finite.get old p ≡ None) rule.outputs path puts.fresh (subst (λ (r : Rule). Contains r.outputs path) (is_it other another last also) made_too) in
               nothing (finite.get old path) fresh there
         ]
       where

@@ -10,6 +10,6 @@ pub returns : goal.returns
 returns c =
     let rules = c.as_slice-rules.result.now in
     IfOk-weaker c.stand_together.result _ _ (λ apart together is.
-      apart_is c.args.plan.now c.args.nodes.now c.in_ok-seen.seen c.in_ok-seen.ensures
-      (subst (λ (rs : List Rule). StandTogether rs c.in_ok-seen.seen) c.as_slice-rules.ensures
-      (subst (StandTogether rules) c.as_slice.ensures (together is)))) c.stand_together.ensures
+    apart_is c.args.plan.now c.args.nodes.now c.in_ok-seen.seen c.in_ok-seen.ensures
+    (subst (λ (rs : List Rule). StandTogether rs c.in_ok-seen.seen) c.as_slice-rules.ensures
+    (subst (StandTogether rules) c.as_slice.ensures (together is)))) c.stand_together.ensures

@@ -16,7 +16,7 @@ returns-in-Some c = λ is it.
     let running = c.in-Some.running.now in
     let stamped = c.in_ok-stamped.stamped in
     let same : it.running ≡ running =
-        running_is (course_of c.args.board.now) c.args.seat running (sym c.running.ensures ∙ ap option_copied c.in-Some.is) it in
+    running_is (course_of c.args.board.now) c.args.seat running (sym c.running.ensures ∙ ap option_copied c.in-Some.is) it in
     let equal : running.asks ≡ stamped = (slice_eq-Decides ask_decides running.asks stamped c.eq.result c.eq.ensures).0 is in
     subst (λ (asks : List (List ℕ × Option Stamp)). AreStamped asks (asks_of c.args.report.now))
     (sym (ap (λ (r : Running). r.asks) same ∙ equal))
