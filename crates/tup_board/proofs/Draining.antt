@@ -42,11 +42,19 @@ use Rattle.tup_board.specs.declared.answers.Drained.{Drained}
 use Rattle.tup_board.specs.declared.answers.Drained.TheVariants.{Done, Left}
 use Rattle.tup_board.specs.Board.{BoardState, Opening, course_of, plan_of, start, state, with_history}
 use Rattle.tup_board.specs.Calls.{BuildsClean, Drains, Finishes, HasFailed, HasRun, HasRunCause, IsOver, RanAll, RunsOne, StartsAlone, command_of, commands}
-use Rattle.tup_board.specs.CameLaws.{from_both}
+use Rattle.tup_board.specs.CameLaws.{claims_both, from_both}
 use Rattle.tup_board.specs.Seat.{IsFromSeat, IsLeft}
 use Rattle.tup_board.specs.Sound.{IsSound}
 use Rattle.tup_board.proofs.Seated.{orderly}
 use Rattle.tup_board.proofs.Seeing.{apart_from, from_one, state_more}
+
+-- what is none isn't there; and a stop for want of memory is none for a runner
+never_some : {A : Type 0} (given : Option A) → given ≡ None → IsSome given → ⊥
+never_some None none some = false≢true some
+never_some (Some value) none some = none-some value (sym none)
+
+memory_or_run : Some causes.Memory ≡ Some causes.Run → ⊥
+memory_or_run e = cc
 
 -- ---- the end of a command, and a stop, leave what other seats run, and its own seat runs nothing then
 module _ (plan : Plan) (before : State) (seat : ℕ) where
@@ -132,16 +140,8 @@ module _ {S : Type 0} (seat : ℕ) (old new : BoardState S) (same : new.opening 
 
   pub stops_for : (cause : Cause) → (state old).stopped ≡ None → Stops seat cause (course_of old) (course_of new) → IsStoppedFor seat old new cause
   stops_for cause none stops =
-      let adds = ap (λ (c : CourseState). c.history) (stops.one (λ it. none_is_none (state old).stopped none it.1)) in
+      let adds = ap (λ (c : CourseState). c.history) (stops.one (λ it. never_some (state old).stopped none it.1)) in
       record { from = stop_from cause adds; ends = stop_leaves cause adds; stops = stop_is cause none adds }
-    where
-      none_is_none : (o : Option Cause) → o ≡ None → IsSome o → ⊥
-      none_is_none None e some = false≢true some
-      none_is_none (Some c) e some = none-some c (sym e)
-
--- ---- one after the other
-pub from_two : {S : Type 0} (a b c : BoardState S) (seat : ℕ) → IsFromSeat seat a b → IsFromSeat seat b c → IsFromSeat seat a c
-from_two a b c seat one two = from_both seat a b c one two
 
 -- ---- the end of a command that was denied an ask
 pub denied_left : {S : Type 0} (seat : ℕ) (old new : BoardState S) → EndsDenied seat (course_of old) (course_of new) → new ≡ with_history old new.history → IsLeft seat old new
@@ -156,7 +156,7 @@ stop_left seat old new cause none stops rest = stops_for seat old new (ap (λ (b
 pub memory_left : {S : Type 0} (seat : ℕ) (old mid new : BoardState S) → (state old).stopped ≡ None → mid.opening ≡ old.opening → mid.history ≡ old.history → Stops seat causes.Memory (course_of mid) (course_of new)
     → new ≡ with_history mid new.history → IsLeft seat old new
 memory_left seat old mid new none same history stops rest = record {
-  from = from_two old mid new seat nothing stopped.from;
+  from = from_both seat old mid new nothing stopped.from;
   ends = stopped.ends;
   never_run = λ going run. memory_or_run (sym stopped.stops ∙ run);
 }
@@ -177,9 +177,6 @@ memory_left seat old mid new none same history stops rest = record {
       others = λ other differ. ap (λ (s : State). s.seats other) same_state;
     }
 
-    memory_or_run : Some causes.Memory ≡ Some causes.Run → ⊥
-    memory_or_run e = cc
-
 -- the end of a command otherwise
 pub end_left : {S : Type 0} (seat : ℕ) (old new : BoardState S) (running : Running) (ended : Ended) (result : Result Verdict BoardFault) → (state old).seats seat ≡ Some running → new.opening ≡ old.opening
     → (result ≡ Err fault_by.Memory → ⊥) → Finishes seat ended old result new → IsLeft seat old new
@@ -197,9 +194,6 @@ failed_so was now stopped rose is = record { run = λ _. rose; steady = λ other
 
 pub for_memory : (was now : ℕ) (stopped : Option Cause) → now ≡ was → stopped ≡ Some causes.Memory → HasFailed was now stopped
 for_memory was now stopped same is = never_failed was now stopped same (λ run. memory_or_run (sym is ∙ run))
-  where
-    memory_or_run : Some causes.Memory ≡ Some causes.Run → ⊥
-    memory_or_run e = cc
 
 -- ---- a command that seat 0 ran alone was run or left
 pub ran_one : {S : Type 0} (old new : BoardState S) (number : ℕ) → StartsAlone old number → IsFromSeat 0 old new → (state new).seats 0 ≡ None → RunsOne old new
@@ -217,10 +211,10 @@ ran_one old new number starts from ends = record {
 
 module _ {S : Type 0} (old mid new : BoardState S) (number : ℕ) (starts : StartsAlone old number) (from : IsFromSeat 0 old mid) where
   pub ran_and_left : IsLeft 0 mid new → RunsOne old new
-  ran_and_left left = ran_one old new number starts (from_two old mid new 0 from left.from) left.ends
+  ran_and_left left = ran_one old new number starts (from_both 0 old mid new from left.from) left.ends
 
   pub ran_and_stopped : (cause : Cause) → IsStoppedFor 0 mid new cause → RunsOne old new
-  ran_and_stopped cause stopped = ran_one old new number starts (from_two old mid new 0 from stopped.from) stopped.ends
+  ran_and_stopped cause stopped = ran_one old new number starts (from_both 0 old mid new from stopped.from) stopped.ends
 
 -- ---- what events leave in which none is claimed
 claimed_none : (plan : Plan) (events : List CoreEvent) (state : State) → claims events ≡ [] → (end_of plan state events).claimed ≡ state.claimed
@@ -273,18 +267,10 @@ module _ {S : Type 0} (old mid new : BoardState S) (number : ℕ) (none : NoneRu
         omega (arith, fewer, is)
 
 -- ---- the commands of the rules that were claimed
-claims_more : (some more : List CoreEvent) → claims (some ++ more) ≡ claims some ++ claims more
-claims_more [] more = refl
-claims_more (Claim seat rule ∷ some) more = ap (λ (rest : List ℕ). rule ∷ rest) (claims_more some more)
-claims_more (Ask seat text answer ∷ some) more = claims_more some more
-claims_more (Deny seat text verdict ∷ some) more = claims_more some more
-claims_more (Finish seat given files ∷ some) more = claims_more some more
-claims_more (Stop seat cause ∷ some) more = claims_more some more
-
 commands_more : (plan : Plan) (events more : List CoreEvent) (number : ℕ) (rule : Rule) → slice_get plan.rules number ≡ Some rule → claims more ≡ []
     → commands plan (events ++ Claim 0 number ∷ more) ≡ commands plan events ++ command_of rule ∷ []
 commands_more plan events more number rule here none =
-    ap (filter_map command) (claims_more events (Claim 0 number ∷ more) ∙ ap (λ (rest : List ℕ). claims events ++ number ∷ rest) none)
+    ap (filter_map command) (claims_both events (Claim 0 number ∷ more) ∙ ap (λ (rest : List ℕ). claims events ++ number ∷ rest) none)
     ∙ filter_map-append command (claims events) (number ∷ []) ∙ ap (λ (o : Option (Names × List ℕ)). filter_map command (claims events) ++ cons_option o []) (ap (option_map command_of) here)
   where
     command : ℕ → Option (Names × List ℕ)
@@ -472,16 +458,12 @@ module _ {S R : Type 0} (site : Site S) (runner : Runner R) (now : BoardState S)
           (record {
             pending = (number, is);
             quiet = record {
-              none_ready = λ at ready. ⊎_elim (λ some. none_is (state now).stopped drains.0 some) (λ none. none at ready) over.1;
+              none_ready = λ at ready. ⊎_elim (λ some. never_some (state now).stopped drains.0 some) (λ none. none at ready) over.1;
               none_runs = over.0;
               going = drains.0;
             };
             none_bad = drains.1;
           }))
-        where
-          none_is : (o : Option Cause) → o ≡ None → IsSome o → ⊥
-          none_is None e some = false≢true some
-          none_is (Some c) e some = none-some c (sym e)
 
   -- and where the opening was planned the files are those of the clean build
   pub builds_clean : IsTrue site.tells → IsTrue runner.tells → (kept : Kept) (tree : Tree) → BuildsClean site runner now kept tree

@@ -40,7 +40,7 @@ use Rattle.tup_core.specs.declared.running.Running.{Running}
 use Rattle.tup_core.specs.Honest.{EndsHonestly, IsHonest, stamped}
 use Rattle.tup_core.specs.Run.{IsRun}
 use Rattle.tup_core.specs.Sound.{HasOneMaker}
-use Rattle.tup_core.specs.Step.{State, FitsEnd, IsEnabled, Runs, changed, emptied, ended, is_reached, with_stamps}
+use Rattle.tup_core.specs.Step.{State, FitsEnd, IsEnabled, Runs, changed, emptied, ended, with_stamps}
 use Rattle.tup_core.proofs.Changed.{changed_cases, with_stamps_apart}
 use Rattle.tup_core.proofs.Orderly.{IsOrderly, finished_is}
 use Rattle.tup_course.proofs.Courses.{end_more, run_more}
@@ -58,7 +58,7 @@ use Rattle.tup_board.specs.Images.{IsImageOver, LeavesImages}
 use Rattle.tup_board.specs.Outputs.{IsPending, Makes}
 use Rattle.tup_board.specs.Sound.{IsSound, IsTrueFault, WasToHappen, Since, Before}
 use Rattle.tup_board.proofs.Coming.{outputs_are}
-use Rattle.tup_board.proofs.Finishing.{claimed, come_begun, come_done, come_then, flagged, in_graph, other_outputs, placed, present_done, reached, same_or_other}
+use Rattle.tup_board.proofs.Finishing.{claimed, come_begun, come_done, come_then, flagged, in_graph, other_outputs, placed, present_done, same_or_other}
 use Rattle.tup_board.proofs.Imaging.{is_begun, is_done, not_begun}
 use Rattle.tup_board.proofs.Known.{honest_known, keeps_all, known_among}
 use Rattle.tup_board.proofs.WasRead.{rose_on, rose_since}
@@ -289,13 +289,13 @@ module _ {S R : Type 0} (site : Site S) (runner : Runner R) (b : BoardState S) (
           ]
 
       -- ---- a lost commit was to happen
-      could_end : (commit : Lost) → new.lost ≡ Some commit → WasToHappen site runner then_board commit
-      could_end commit lost =
+      could_end : ((commit : Lost) → new.lost ≡ Some commit → (state then_board).pending number ≡ true) → (commit : Lost) → new.lost ≡ Some commit → WasToHappen site runner then_board commit
+      could_end still commit lost =
           let loses = makes.lost commit lost in record {
             cause = λ by.
                 ⊎_elim (λ rises. rose_since (site.faults b.opening.site) (site.faults b.site) (site.faults new.site) sound.counted rises) (λ was. absurd (none-some was.0 was.1))
                 (counts.site (loses.fault ∙ ap Err (lost_by_site commit by)));
-            reached = subst (λ (n : ℕ). is_reached (plan_of b) n ≡ true) (sym loses.rule) (reached b none g rules_are one_maker in_order at_present seat number run kept);
+            pending = ap (state then_board).pending loses.rule ∙ still commit lost;
             run = λ ran ran_is.
                 let tries : commit.run ≡ Some run = ⊎_elim (λ began. absurd (none_or_run ran (sym began ∙ ran_is))) (λ kept. kept) loses.kept in
                 let same : run ≡ ran = same_run run ran (sym tries ∙ ran_is) in
@@ -357,8 +357,8 @@ module _ {S R : Type 0} (site : Site S) (runner : Runner R) (b : BoardState S) (
       pub sound_then : IsRun (plan_of b) (start b) hist
           → (IsTrue site.tells → IsTrue runner.tells → IsHonest runner.next (site.known new.site) (plan_of b) (start b) hist)
           → (IsTrue site.tells → (path : Names) → (IsPending (plan_of b) (state then_board) path → ⊥) → option_map stamp (finite.get (site.world new.site).tree path) ≡ (state then_board).files path)
-          → (new.lost ≡ None → IsPresent then_board new.graph.nodes) → IsSound site runner then_board
-      sound_then runs honest files_are presents = record {
+          → (new.lost ≡ None → IsPresent then_board new.graph.nodes) → ((commit : Lost) → new.lost ≡ Some commit → (state then_board).pending number ≡ true) → IsSound site runner then_board
+      sound_then runs honest files_are presents still = record {
         opening = record { fresh = sound.opening.fresh; stands = sound.opening.stands; seen = sound.opening.seen; plan = sound.opening.plan; apart = sound.opening.apart };
         run = runs;
         honest = honest;
@@ -366,7 +366,7 @@ module _ {S R : Type 0} (site : Site S) (runner : Runner R) (b : BoardState S) (
         fresh = makes.is_ground.fresh;
         stands = makes.is_ground.stands;
         present = presents;
-        lost = could_end;
+        lost = could_end still;
         now = image_now;
         images = images_now;
         cause = λ cause stopped. cause_on cause (sound.cause cause (sym stopped_is ∙ stopped));
@@ -401,7 +401,7 @@ module _ {S R : Type 0} (site : Site S) (runner : Runner R) (b : BoardState S) (
     sound_refused =
         sound_then b.history [] whole_is (λ m is. is) (λ m is. is) refl never_ok sound.run
         (λ told means. honest_known (site.known b.site) (site.known new.site) (more_known told) runner.next (plan_of b) (start b) b.history (sound.honest told means))
-        (λ told path free. ap (option_map stamp) (beside_now told path (not_own path free)) ∙ sound.files told path free) present_so
+        (λ told path free. ap (option_map stamp) (beside_now told path (not_own path free)) ∙ sound.files told path free) present_so (λ commit lost. is_pending)
 
     -- ---- and the refusal is true
     still_fresh : fault ≡ fault_by.Full → new.lost ≡ None
@@ -529,4 +529,4 @@ module _ {S R : Type 0} (site : Site S) (runner : Runner R) (b : BoardState S) (
         (λ told means.
         honest_more runner.next (site.known new.site) (plan_of b) (start b) b.history event
         (honest_known (site.known b.site) (site.known new.site) (more_known told) runner.next (plan_of b) (start b) b.history (sound.honest told means)) (honest_event told means))
-        files_so present_ended
+        files_so present_ended (λ commit lost. absurd (none-some commit (sym (makes.ok done ok).0 ∙ lost)))

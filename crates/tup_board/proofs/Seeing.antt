@@ -1,5 +1,5 @@
 -- What one ask of a board comes to for the view of a seat.
-use Rattle.std.proofs.Common.{◌≡◌, ◌≢◌, ◌⊎◌, ℕ, ◌<◌, Bool, true, false, List, [], ◌∷◌, ◌++◌, Option, None, Some, Result, Ok, Err, refl, sym, ap, ◌∙◌, subst, inl, inr, arith}
+use Rattle.std.proofs.Common.{◌≡◌, ◌≢◌, ◌⊎◌, ℕ, Bool, true, false, List, [], ◌∷◌, ◌++◌, Option, None, Some, Result, Ok, Err, refl, sym, ap, ◌∙◌, subst, inl, inr, arith}
 use Rattle.std.specs.Prelude.{Contains, IfErr, IfOk, IsTrue, is_none, unwrap_or}
 use Rattle.std.specs.FinMap as finite
 use Rattle.std.specs.Option.{option_map}
@@ -34,6 +34,7 @@ use Rattle.tup_board.specs.Board.{BoardState, Opening, plan_of, start, state}
 use Rattle.tup_board.specs.declared.answers.Asked.{Asked}
 use Rattle.tup_board.specs.declared.answers.Asked.TheVariants as reply_by
 use Rattle.tup_board.specs.Calls.{AreKnown, Asks as AllAsked, IsStampOf}
+use Rattle.tup_board.specs.CameLaws.{no_place}
 use Rattle.tup_board.proofs.Known.{known_among}
 use Rattle.tup_board.specs.Seat.{CameBy, IsFromSeat, KeepsSeat, answer_by, has_failed, is_granted, refused_by, seat_of, told_by}
 
@@ -44,9 +45,6 @@ apart_from seats seat what other differ =
       | inl here ↦ absurd (differ here.0)
       | inr apart ↦ apart.1
     ]
-
-no_place_in : {A : Type 0} (k : ℕ) → k < 0 → A
-no_place_in k below = absurd (omega arith)
 
 module _ {S : Type 0} (seat : ℕ) (old new : BoardState S) where
   -- one event was added
@@ -147,7 +145,7 @@ module _ {S : Type 0} (site : Site S) (seat : ℕ) (text : List ℕ) (old new : 
       same = refl;
       asked = sym (append-nil running.asks);
       stamps = tt;
-      known = λ told t content within. no_place_in within.0 within.1;
+      known = λ told t content within. no_place within.0 within.1;
       denied = inr (record { text = text; verdict = verdict; refused = refl; is = refl });
     };
   }
@@ -195,7 +193,7 @@ module _ {S : Type 0} (site : Site S) (seat : ℕ) (text : List ℕ) (old new : 
       same = refl;
       asked = sym (append-nil running.asks);
       stamps = tt;
-      known = λ told t content within. no_place_in within.0 within.1;
+      known = λ told t content within. no_place within.0 within.1;
       denied = inl (refl, refl);
     };
   }

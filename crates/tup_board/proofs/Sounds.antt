@@ -173,7 +173,7 @@ module _ {S R : Type 0} (site : Site S) (runner : Runner R) (board : BoardState 
     present = λ none. let present = sound.present none in record { come = come_to_on board.graph.nodes present.come; flags = λ number. present.flags number ∙ sym (pending_is number) };
     lost = λ commit here. let was = sound.lost commit here in record {
       cause = was.cause;
-      reached = was.reached;
+      pending = pending_is commit.rule ∙ was.pending;
       run = λ run kept. could_on commit.rule run (IsTrue site.tells × IsTrue runner.tells) (EndsHonestly runner.next (site.known board.site)) (was.run run kept);
     };
     now = λ told. let image = sound.now told in (image.0, image_on _ _ image.0 image.1);

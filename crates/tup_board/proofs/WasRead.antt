@@ -102,7 +102,7 @@ module _ {S R : Type 0} (site : Site S) (runner : Runner R) (b : BoardState S) (
     present = λ none. let present = sound.present none in record { come = come_read b.graph.nodes present.come; flags = present.flags };
     lost = λ commit here. let was = sound.lost commit here in record {
       cause = λ by. rose (was.cause by);
-      reached = was.reached;
+      pending = was.pending;
       run = λ run kept. let could = was.run run kept in record {
         before = could.before;
         after = could.after;

@@ -30,13 +30,15 @@ pub record BoardState (S : Type 0) : Type 0 where
 abbrev pub course_of : {S : Type 0} → BoardState S → CourseState
 course_of board = record { plan = board.opening.plan; files = finite.entries board.opening.graph.nodes.seen; history = board.history }
 
+-- the plan that it runs
 abbrev pub plan_of : {S : Type 0} → BoardState S → Plan
 plan_of board = board.opening.plan
 
--- the core's state at the opening, and now
+-- the core's state at the opening
 abbrev pub start : {S : Type 0} → BoardState S → State
 start board = first (course_of board)
 
+-- and now
 abbrev pub state : {S : Type 0} → BoardState S → State
 state board = now (course_of board)
 
@@ -48,12 +50,14 @@ first_graph board = board.opening.graph.nodes
 abbrev pub with_history : {S : Type 0} → BoardState S → List CoreEvent → BoardState S
 with_history board history = record board { history = history }
 
--- ---- how contracts store it: as its fields
+-- ---- how contracts store it
+-- an opening is stored as its fields are
 abbrev pub opening_code : {S : Type 0} → Coded S → Coded (Opening S)
 opening_code {S} site =
     code_by (Plan × (Held × S)) (coded× of_plan.the_row.coded (coded× held_code site))
     (λ o. (o.plan, (o.graph, o.site))) (λ p. record { plan = p.0; graph = p.1.0; site = p.1.1 }) (λ _. refl)
 
+-- and so is a board
 abbrev pub board_code : {S : Type 0} → Coded S → Coded (BoardState S)
 board_code {S} site =
     code_by (Opening S × (List CoreEvent × (S × (Held × Option Lost))))

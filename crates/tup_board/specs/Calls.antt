@@ -120,11 +120,12 @@ pub record Asks {S : Type 0} (site : Site S) (seat : ℕ) (text : List ℕ) (old
   pub cause : CountsFaults (site.faults old.site) (site.faults new.site) None result
 
 -- ---- finish
--- asks with answers have these stamps
+-- an answer has this stamp
 abbrev pub IsStampOf : Option Stamp → Answer → Type 0
 IsStampOf given (Holds content) = given ≡ Some (stamp content)
 IsStampOf given Nothing = given ≡ None
 
+-- asks with answers have these stamps
 abbrev pub AreStamped : List (List ℕ × Option Stamp) → Answered → Type 0
 AreStamped [] [] = Unit {0}
 AreStamped (ask ∷ asks) (given ∷ more) = (ask.0 ≡ given.0) × IsStampOf ask.1 given.1 × AreStamped asks more
@@ -231,10 +232,11 @@ BuildsClean site runner board kept tree =
 abbrev pub IsOver : {S : Type 0} → BoardState S → Type 0
 IsOver board = NoneRuns (course_of board) × (IsSome (state board).stopped ⊎ NoneReady (course_of board))
 
--- the commands of the rules that are claimed, in their order
+-- the command of a rule, in its folder
 abbrev pub command_of : Rule → Names × List ℕ
 command_of rule = (rule.dir, rule.text)
 
+-- the commands of the rules that are claimed, in their order
 abbrev pub commands : Plan → List CoreEvent → List (Names × List ℕ)
 commands plan events = filter_map (λ number. option_map command_of (slice_get plan.rules number)) (claims events)
 

@@ -20,7 +20,7 @@ use Rattle.tup_board.specs.Board.{BoardState, state}
 use Rattle.tup_board.specs.Calls.{AreKnown, AreStamped}
 use Rattle.tup_board.specs.Seat.{CameBy, HasAsked, IsDenial, IsFromSeat, KeepsSeat, has_failed, seat_of}
 
-claims_both : (some more : List CoreEvent) → claims (some ++ more) ≡ claims some ++ claims more
+pub claims_both : (some more : List CoreEvent) → claims (some ++ more) ≡ claims some ++ claims more
 claims_both [] more = refl
 claims_both (Claim seat rule ∷ some) more = ap (λ (rest : List ℕ). rule ∷ rest) (claims_both some more)
 claims_both (Ask seat text answer ∷ some) more = claims_both some more
@@ -37,7 +37,7 @@ stamped_both (ask ∷ asks) more (given ∷ answers) others one two = (one.0, on
 known_both : (known : List Content) (some more : Asks) → AreKnown known some → AreKnown known more → AreKnown known (some ++ more)
 known_both known some more one two text content within = ⊎_elim (one text content) (two text content) (Contains-append_cases some more (text, Holds content) within)
 
-no_place : {A : Type 0} (k : ℕ) → k < 0 → A
+pub no_place : {A : Type 0} (k : ℕ) → k < 0 → A
 no_place k below = absurd (omega arith)
 
 -- a refusal that was none failed at nothing

@@ -14,10 +14,11 @@ use Rattle.tup_core.specs.declared.running.Running.{Running}
 use Rattle.tup_core.specs.Step.{State, Runs}
 use Rattle.tup_core.specs.Run.{end_of}
 
--- a text names a path in a folder; so do all that a command asked for
+-- a text names a path in a folder
 abbrev pub IsNamed : Names → List ℕ → Type 0
 IsNamed dir text = (path : Names) × (resolve dir text ≡ Ok path)
 
+-- all that a command asked for names paths
 abbrev pub AreNamed : Names → List (List ℕ × Option Stamp) → Type 0
 AreNamed dir asks = All (λ (ask : List ℕ × Option Stamp). IsNamed dir ask.0) asks
 

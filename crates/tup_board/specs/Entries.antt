@@ -21,7 +21,7 @@ use Rattle.tup_ground.specs.declared.fault.BoardFault.TheVariants.{TooLarge}
 use Rattle.tup_board.specs.Calls.{AreStamped}
 use Rattle.tup_board.specs.Cause.{stops_by}
 
--- what a seat runs after one of its entries, and after all
+-- what a seat runs after one of its entries
 abbrev pub after_entry : Option Running → CoreEvent → Option Running
 after_entry runs (Claim seat rule) = Some (record { rule = rule; asks = []; denied = None })
 after_entry runs (Ask seat text answer) = option_map (asked text answer) runs
@@ -29,11 +29,12 @@ after_entry runs (Deny seat text verdict) = option_map (refused text verdict) ru
 after_entry runs (Finish seat given files) = None
 after_entry runs (Stop seat cause) = None
 
+-- and after all
 abbrev pub runs_after : Option Running → List CoreEvent → Option Running
 runs_after runs [] = runs
 runs_after runs (entry ∷ entries) = runs_after (after_entry runs entry) entries
 
--- by its entries a seat runs this, and no ask of its command was denied; or one was, with this verdict
+-- by its entries a seat runs this, and no ask of its command was denied
 pub record GoesOnBy (plan : Plan) (entries : List CoreEvent) : Type 0 where
   pub running : Running
   pub rule : Rule
@@ -41,6 +42,7 @@ pub record GoesOnBy (plan : Plan) (entries : List CoreEvent) : Type 0 where
   pub placed : slice_get plan.rules running.rule ≡ Some rule
   pub granted : running.denied ≡ None
 
+-- or one was, with this verdict
 pub record WasDeniedBy (plan : Plan) (entries : List CoreEvent) : Type 0 where
   pub running : Running
   pub rule : Rule
@@ -57,12 +59,13 @@ pub record IsReportBy (plan : Plan) (entries : List CoreEvent) (dir : Names) (te
   pub text_is : text ≡ it.rule.text
   pub asks_are : AreStamped it.running.asks asks
 
--- the entries that a claim adds, and the end of a command
+-- the entries that a claim adds
 abbrev pub claim_entries : ℕ → Claimed → List CoreEvent
 claim_entries seat (Gives rule) = Claim seat rule ∷ []
 claim_entries seat Wait = []
 claim_entries seat Over = []
 
+-- those that the end of a command adds, by its answer
 abbrev pub EndsBy : Plan → List CoreEvent → ℕ → Ended → Result Verdict BoardFault → List CoreEvent → Type 0
 EndsBy plan entries seat ended (Ok given) added =
     (it : GoesOnBy plan entries) × (given ≡ (judge it.rule ended).verdict) × (added ≡ Finish seat given (map stamped (judge it.rule ended).files) ∷ [])

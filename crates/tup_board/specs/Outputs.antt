@@ -16,13 +16,15 @@ pub record Makes (plan : Plan) (number : ℕ) (path : Names) : Type 0 where
   pub here : slice_get plan.rules number ≡ Some rule
   pub output : writes rule path ≡ true
 
--- a path is an output of a rule that is to be run, of one that was claimed, of one that is pending
+-- a path is an output of a rule that is to be run
 abbrev pub IsToMake : Plan → Names → Type 0
 IsToMake plan path = (number : ℕ) × (is_reached plan number ≡ true) × Makes plan number path
 
+-- of one that was claimed
 abbrev pub IsClaimed : Plan → State → Names → Type 0
 IsClaimed plan state path = (number : ℕ) × (state.claimed number ≡ true) × Makes plan number path
 
+-- of one that is pending
 abbrev pub IsPending : Plan → State → Names → Type 0
 IsPending plan state path = (number : ℕ) × (state.pending number ≡ true) × Makes plan number path
 

@@ -62,8 +62,7 @@ pub record IsLeft {S : Type 0} (seat : ℕ) (old new : BoardState S) : Type 0 wh
 abbrev pub refusal_of : Option Refused → Option Refusal
 refusal_of refused = option_map (λ (it : Refused). record { text = it.text.value; why = it.why }) refused
 
--- what a view answers by what the board replied, what its command is told then of a text, and what the view refuses; want of memory is
--- no refusal
+-- what a view answers by what the board replied
 abbrev pub answer_by : Result Asked BoardFault → Result Answer ViewFailed
 answer_by (Ok (reply_by.Content content)) = Ok (Holds content)
 answer_by (Ok reply_by.Absent) = Ok Nothing
@@ -71,12 +70,14 @@ answer_by (Ok (reply_by.Denied verdict)) = Err Denied
 answer_by (Err fault_by.Memory) = Err Memory
 answer_by (Err fault) = Err Fault
 
+-- what its command is told then of a text
 abbrev pub told_by : List ℕ → Result Asked BoardFault → Asks
 told_by text (Ok (reply_by.Content content)) = (text, Holds content) ∷ []
 told_by text (Ok reply_by.Absent) = (text, Nothing) ∷ []
 told_by text (Ok (reply_by.Denied verdict)) = []
 told_by text (Err fault) = []
 
+-- and what the view refuses: want of memory is no refusal
 abbrev pub refused_by : List ℕ → Result Asked BoardFault → Option Refusal
 refused_by text (Ok (reply_by.Content content)) = None
 refused_by text (Ok reply_by.Absent) = None

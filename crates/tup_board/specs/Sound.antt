@@ -15,7 +15,6 @@ use Rattle.tup_kept.specs.Held.{is_fresh, StandsFor}
 use Rattle.tup_core.specs.declared.event.Cause.{Cause}
 use Rattle.tup_core.specs.Honest.{IsHonest, EndsHonestly}
 use Rattle.tup_core.specs.Run.{IsRun}
-use Rattle.tup_core.specs.Step.{is_reached}
 use Rattle.tup_ground.specs.Lost.{Lost}
 use Rattle.tup_board.specs.Board.{BoardState, plan_of, first_graph, start, state, with_history}
 use Rattle.tup_ground.specs.declared.fault.BoardFault.{BoardFault}
@@ -39,18 +38,19 @@ pub record IsOpening {S : Type 0} (site : Site S) (board : BoardState S) : Type 
   pub plan : IsPlanOf (first_graph board) (plan_of board)
   pub apart : AreApart (plan_of board) (first_graph board)
 
--- a lost commit was to keep a run that a command had come to, and that its runner means; where it was lost by the site,
--- that failed
+-- a lost commit was to keep a run that a command had come to, and that its runner means; its rule is still to be run; and
+-- where it was lost by the site, that failed
 pub record WasToHappen {S R : Type 0} (site : Site S) (runner : Runner R) (board : BoardState S) (commit : Lost) : Type 0 where
   pub cause : IsTrue commit.by_site → Rose (site.faults board.opening.site) (site.faults board.site)
-  pub reached : is_reached (plan_of board) commit.rule ≡ true
+  pub pending : (state board).pending commit.rule ≡ true
   pub run : (run : RunRecord) → commit.run ≡ Some run → CouldEnd (plan_of board) (start board) board.history commit.rule run
       (IsTrue site.tells × IsTrue runner.tells) (EndsHonestly runner.next (site.known board.site))
 
--- what a crash since the board was made may leave, and what one right before that might have left
+-- what a crash since the board was made may leave
 abbrev pub Since : {S : Type 0} → Site S → BoardState S → World → Type 0
 Since site board w = site.left_since board.site (site.moment board.opening.site) w
 
+-- what one right before that might have left
 abbrev pub Before : {S : Type 0} → Site S → BoardState S → World → Type 0
 Before site board w = site.left_since board.opening.site (site.moment board.opening.site) w
 

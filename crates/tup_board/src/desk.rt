@@ -1,5 +1,5 @@
 //! What a board does for the command that a seat runs.
-ghost use Rattle.std.specs.Prelude.{◌≡◌, ◌≢◌, ◌++◌, ◌↔◌, length, true, IsTrue, IfOk, None, Err};
+ghost use Rattle.std.specs.Prelude.{◌≡◌, ◌++◌, ◌↔◌, length, true, IsTrue};
 ghost use Rattle.std.specs.FinMap as finite;
 ghost use Rattle.std.specs.Option.{option_map};
 ghost use Rattle.tup_stamp.specs.Stamp.{stamp as stamp_of_content};
@@ -7,8 +7,6 @@ ghost use Rattle.tup_access.specs.Access.{access};
 ghost use Rattle.tup_core.specs.Step.{IsEnabled};
 ghost use Rattle.tup_core.specs.declared.event.CoreEvent.TheVariants.{Deny};
 ghost use Rattle.tup_course.specs.Course.{GoesOn, RunsRule};
-ghost use Rattle.tup_ground.specs.Fault.{CountsFaults};
-ghost use Rattle.tup_ground.specs.Ground.{NamesLength, OnlyLarge, ReadsSite};
 ghost use Rattle.tup_board.specs.Board.{course_of, plan_of, state, with_history};
 ghost use Rattle.tup_board.specs.Calls.{Asks, AsksFor, AsksForOwn, told_of};
 ghost use Rattle.tup_board.specs.Cause.{stops_by};
@@ -21,50 +19,16 @@ use std::alloc::Global;
 use tup_access::{Access, Verdict};
 use tup_core::{Cause, Plan};
 use tup_course::Course;
-use tup_ground::{BoardFault, Ground};
+use tup_ground::{BoardFault, Reads};
 use tup_path::{Bytes, Path, Text};
 use tup_rule::Rule;
 use tup_runner::Runner;
 use tup_site::Site;
 use tup_stamp::{Stamp, stamp_of};
 
-/// What looks up files for a command.
-///
-/// This and `Desk` are traits, since the view of a seat calls them: what it calls rests on no bound that has to hold on
-/// each thread, as that of a function outside of a trait does.
-pub(crate) trait Reads {
-    ghost use Rattle.tup_ground.specs.declared.ground.Ground.{Ground};
-
-    type Site: Site;
-
-    /// The site, and the graph of its store.
-    ghost base: { Self → Ground Self.Site };
-
-    /// The content of a file, or `None` where no file is. One that is too large is refused, with its length.
-    fn read(&mut self, alloc: Global, path: &Path) -> Result<Option<Bytes>, BoardFault>
-        ensures content { IsTrue Self.Site.Site.tells
-            → IfOk result (λ content. content
-            ≡ finite.get (Self.Site.Site.world (base self.old).site).tree path.now) }
-        ensures too_large { OnlyLarge result }
-        ensures length { IsTrue Self.Site.Site.tells
-            → NamesLength (Self.Site.Site.world (base self.old).site).tree path.now result }
-        ensures never_full { result ≢ Err BoardFault.Full }
-        ensures reads { ReadsSite Self.Site.Site (base self.old) (base self.new) }
-        ensures cause { CountsFaults (Self.Site.Site.faults (base self.old).site)
-            (Self.Site.Site.faults (base self.new).site) None result };
-}
-
-impl<S: Site> Reads for Ground<S> {
-    type Site = S;
-
-    ghost base = { λ base. base };
-
-    fn read(&mut self, alloc: Global, path: &Path) -> Result<Option<Bytes>, BoardFault> {
-        Ok(self.site.get(alloc, path)?)
-    }
-}
-
 /// What a board does for the command that a seat runs.
+///
+/// It is a trait, as `Reads` of the site is, since the view of a seat calls it.
 pub(crate) trait Desk {
     ghost use Rattle.tup_board.specs.Board.{BoardState};
 
@@ -202,7 +166,7 @@ impl<S: Site, R: Runner> Desk for Board<S, R> {
         if rule_run(&self.course, plan, seat).writes(path) {
             return self.answer_own(alloc, plan, seat, text);
         }
-        match self.ground.read(alloc, path) {
+        match self.ground.get(alloc, path) {
             Ok(found) => self.tell(alloc, plan, seat, text, path, found),
             Err(fault) => Err(self.fail(plan, seat, fault)),
         }

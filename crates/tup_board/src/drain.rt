@@ -90,7 +90,8 @@ impl<S: Site, R: Runner> Board<S, R> {
         ensures one { RunsOne self.old self.new }
         ensures ran { IsTrue R.tells_ran → (it : RuleValue)
             → slice_get plan.now.rules rule ≡ Some it
-            → HasRun (command_of it) (R.ran runner.old) (R.ran runner.new) (state self.new).stopped }
+            → HasRun (command_of it) (R.ran runner.old) (R.ran runner.new)
+            (state self.new).stopped }
         ensures cause { HasFailed (R.faults runner.old) (R.faults runner.new)
             (state self.new).stopped }
     {

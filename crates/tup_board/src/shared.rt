@@ -76,10 +76,10 @@ pub trait Shared: Sync {
         ensures adds { entries seat.new
             ≡ entries seat.old ++ ask_events (number_of seat.old) text.now result }
         ensures never_full { result ≢ Err BoardFault.Full }
-        ensures told { (content : Content) → result ≡ Ok (Asked.Content content)
-            → Contains (known seat.new) content }
-        ensures known { (content : Content) → Contains (known seat.old) content
-            → Contains (known seat.new) content };
+        ensures told { IsTrue tells → (content : Content)
+            → result ≡ Ok (Asked.Content content) → Contains (known seat.new) content }
+        ensures known { IsTrue tells → (content : Content)
+            → Contains (known seat.old) content → Contains (known seat.new) content };
 
     /// As the board's call of this name.
     fn finish(

@@ -37,10 +37,11 @@ pub record ReadsSite {S : Type 0} (site : Site S) (old new : Ground S) : Type 0 
   pub crash : IsTrue site.tells → GoesOn site.moment site.left_since old.site new.site NoStep
   pub known : IsTrue site.tells → site.known new.site ≡ site.known old.site
 
--- only a file that is longer than a file may be is too large, and it is the one at this path, of the length that the answer names
+-- only a file that is longer than a file may be is too large
 abbrev pub OnlyLarge : {T : Type 0} → Result T BoardFault → Type 0
 OnlyLarge result = TellsLarge TooLarge result
 
+-- and it is the one at this path, of the length that the answer names
 abbrev pub NamesLength : {T : Type 0} → Tree → Names → Result T BoardFault → Type 0
 NamesLength tree path result = TellsLength TooLarge tree path result
 
@@ -92,25 +93,29 @@ pub record Commits {S : Type 0} (site : Site S) (number : ℕ) (run : Option Run
 abbrev pub WasTried : {T : Type 0} → RunRecord → Result T BoardFault → Option Lost → Type 0
 WasTried {T} run result lost = ((done : T) × (result ≡ Ok done)) ⊎ ((commit : Lost) × (lost ≡ Some commit) × (commit.run ≡ Some run))
 
--- What making the files of a rule does to a world, and to what a crash may leave: nothing yet; or the run has begun in the
--- store, and what stands at the rule's outputs is open; or, if that was tried, the run is kept there, and the files stand.
+-- How far making the files of a rule came in a world.
 module _ (g : GraphState) (number : ℕ) (run : RunRecord) (files : List (Names × Content)) (v w : World) where
+  -- nothing is done yet
   abbrev pub IsNotBegun : Type 0
   IsNotBegun = (StoreStays v w ⊎ IsStoreOf g w.store) × TreeStays v w
 
+  -- the run has begun in the store, and what stands at the rule's outputs is open
   abbrev pub IsBegun : Type 0
   IsBegun = IsStoreOf (begun g number) w.store × SameBeside (outputs_of g number) v.tree w.tree
 
+  -- the run is kept there, and the files stand
   abbrev pub IsEnded : Type 0
   IsEnded = IsStoreOf (finished (begun g number) number run) w.store × HoldsFiles files w.tree × SameBeside (outputs_of g number) v.tree w.tree
 
+-- what making the files of a rule does to a world, and to what a crash may leave: the last only if that was tried
 abbrev pub MakeStep : Type 0 → GraphState → ℕ → RunRecord → List (Names × Content) → World → World → Type 0
 MakeStep tried g number run files v w = IsNotBegun g number run files v w ⊎ IsBegun g number run files v w ⊎ (tried × IsEnded g number run files v w)
 
--- the graph after a run began, and after it ended
+-- the graph after a run began
 abbrev pub after_begin : Held → ℕ → Held
 after_begin graph number = after graph (begin_edits graph.nodes number) (begun graph.nodes number)
 
+-- and after it ended
 abbrev pub after_end : Held → ℕ → RunRecord → Held
 after_end graph number run = after (after_begin graph number) (finish_edits (begun graph.nodes number) number run) (finished (begun graph.nodes number) number run)
 

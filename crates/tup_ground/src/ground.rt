@@ -1,6 +1,5 @@
 //! The site of a board, and the graph of its store.
-ghost use Rattle.std.specs.Prelude.{◌≡◌, ◌≢◌, true, None, Some, Err, IsTrue, IfOk};
-ghost use Rattle.std.specs.FinMap as finite;
+ghost use Rattle.std.specs.Prelude.{◌≡◌, true, None, Some, Err};
 ghost use Rattle.tup_graph.specs.Graph.{is_rule};
 ghost use Rattle.tup_graph.specs.Transactions.{begin_edits, begun, finish_edits, finished};
 ghost use Rattle.tup_kept.specs.Held.{is_fresh};
@@ -12,7 +11,7 @@ use std::marker::Model;
 use std::snapshot::Snapshot;
 use tup_graph::GraphFault;
 use tup_kept::Graph;
-use tup_path::{Bytes, Files, Path};
+use tup_path::Files;
 use tup_record::RunRecord;
 use tup_site::Site;
 
@@ -74,25 +73,9 @@ pub struct Ground<S: Site> {
 }
 
 impl<S: Site> Ground<S> {
-    ghost use Rattle.tup_ground.specs.Ground.{IsGround, CanMake, Makes, MakesFiles, Commits, ReadsSite, OnlyLarge, NamesLength};
+    ghost use Rattle.tup_ground.specs.Ground.{IsGround, CanMake, Makes, MakesFiles, Commits};
     ghost use Rattle.tup_ground.specs.Lost.{run_in};
     ghost use Rattle.tup_ground.specs.Fault.{CountsFaults, told, of_graph, lost_now};
-
-    /// The content of a file, or `None` where no file is. One that is too large is refused, with its length.
-    pub fn get(&mut self, alloc: Global, path: &Path) -> Result<Option<Bytes>, BoardFault>
-        ensures content { IsTrue S.tells
-            → IfOk result (λ content. content
-            ≡ finite.get (S.world self.old.site).tree path.now) }
-        ensures too_large { OnlyLarge result }
-        ensures length { IsTrue S.tells
-            → NamesLength (S.world self.old.site).tree path.now result }
-        ensures never_full { result ≢ Err BoardFault.Full }
-        ensures reads { ReadsSite S.Site.own self.old self.new }
-        ensures cause { CountsFaults (S.faults self.old.site) (S.faults self.new.site)
-            None result }
-    {
-        Ok(self.site.get(alloc, path)?)
-    }
 
     /// Makes the files of a rule: its outputs are unsure in the store before the first of them is touched, and written
     /// there once all of them are durable. Where a commit was lost before it does nothing.

@@ -9,6 +9,8 @@
 mod fault;
 mod ground;
 mod putting;
+mod reads;
 
 pub use fault::BoardFault;
 pub use ground::{GoodEnd, Ground, Lost};
+pub use reads::Reads;

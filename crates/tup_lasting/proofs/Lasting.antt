@@ -111,7 +111,9 @@ module _ {S R : Type 0} (site : Site S) (runner : Runner R) (b : BoardState S) (
   ended_reached number run (inl done) =
       let order = orderly plan (course_of b).files done.before (run_front plan done.before (Finish done.seat Good run.writes ∷ done.after) (start b) (subst (IsRun plan (start b)) done.whole sound.run)) in
       subst (λ (n : ℕ). is_reached plan n ≡ true) done.kept.here (order.reached done.kept.running.rule (order.pending done.seat done.kept.running done.kept.runs.here))
-  ended_reached number run (inr lost) = subst (λ (n : ℕ). is_reached plan n ≡ true) lost.rule (sound.lost lost.commit lost.here).reached
+  ended_reached number run (inr lost) =
+      subst (λ (n : ℕ). is_reached plan n ≡ true) lost.rule
+      ((orderly plan (course_of b).files b.history sound.run).reached lost.commit.rule (sound.lost lost.commit lost.here).pending)
 
   record_names : (number : ℕ) (rule : Rule) (run : RunRecord) (at : State) (seat : ℕ) → slice_get plan.rules number ≡ Some rule → IsRecordOf plan at seat number run → map (λ (file : Names × Stamp). file.0) run.writes ≡ rule.outputs
   record_names number rule run at seat here is =
@@ -466,7 +468,7 @@ module _ {S R : Type 0} (site : Site S) (runner : Runner R) (b : BoardState S) (
               let c = came number run (inl ended) in
               let found = stamp_written run.writes (λ (p : Names). finite.get fg.seen p) path (ap (among path) (names number rule here run c) ∙ own) in
               ap (finite.get g.seen) (sym found.2) ∙ seen_ended number rule here run c has found.0 found.1 ∙ sym (file_ended number run ended rule here found.0 found.1) ∙ ap files_now found.2
-          by (inr (run, inr lost, has)) = absurd (true≢false (sym (held.lost lost.commit lost.here) ∙ ap (state b).pending lost.rule ∙ done))
+          by (inr (run, inr lost, has)) = absurd (true≢false (sym (sound.lost lost.commit lost.here).pending ∙ ap (state b).pending lost.rule ∙ done))
 
     -- ---- what is seen
     maker_by : (path : Names) → is_generated plan.rules path ≡ true → (number : ℕ) × Makes plan number path

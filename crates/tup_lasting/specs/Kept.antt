@@ -14,17 +14,14 @@ use Rattle.tup_graph.specs.declared.owned.Owned.{Owned}
 use Rattle.tup_core.specs.Honest.{EndsHonestly}
 use Rattle.tup_core.specs.Run.{end_of}
 use Rattle.tup_core.specs.declared.event.CoreEvent.{CoreEvent}
-use Rattle.tup_ground.specs.Lost.{Lost}
 use Rattle.tup_board.specs.Board.{BoardState, first_graph, plan_of, start, state}
 use Rattle.tup_board.specs.Ends.{IsRecordOf}
 use Rattle.tup_board.specs.Outputs.{Makes}
 
--- every owned path of the graph that a board began with has a maker, no rule names an output twice, and the rule of a lost commit
--- is still pending
+-- every owned path of the graph that a board began with has a maker, and no rule names an output twice
 pub record HoldsTogether {S : Type 0} (board : BoardState S) : Type 0 where
   pub made : (path : Names) (owned : Owned) → finite.get (first_graph board).owned path ≡ Some owned → owned.maker ≢ None
   pub once : (number : ℕ) (rule : Rule) → slice_get (plan_of board).rules number ≡ Some rule → IsDistinct same_path rule.outputs
-  pub lost : (commit : Lost) → board.lost ≡ Some commit → (state board).pending commit.rule ≡ true
 
 -- a rule's command came to a Good end with this record, as its runner means, or could have, at some moment of a board
 pub record CameTo {S : Type 0} (board : BoardState S) (next : Next) (known : List Content) (number : ℕ) (run : RunRecord) : Type 0 where

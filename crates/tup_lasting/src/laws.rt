@@ -34,8 +34,7 @@ pub fn boards_keep_sources<S: Site, R: Runner>(site: &S, runner: &R)
 }
 
 /// A law: so a site that was kept stays so, in each world that a crash since then may leave, where the board's runner tells what
-/// commands mean, and the board holds together: each owned path of its graph has a maker, no rule names an output twice, and the
-/// rule of a lost commit is still pending.
+/// commands mean, and the board holds together: each owned path of its graph has a maker, and no rule names an output twice.
 pub fn boards_keep_sites<S: Site, R: Runner>(site: &S, runner: &R)
     ensures { (language : Language) (board : BoardState S) → IsTrue S.tells → IsTrue R.tells
         → IsSound S.Site.own R.Runner.own board

@@ -2,10 +2,10 @@
 use Rattle.std.proofs.Common.{◌≡◌, ◌≢◌, ℕ, ◌+◌, ◌<◌, Bool, true, false, cond, ◌||◌, List, [], ◌∷◌, ◌++◌, length, take, drop, get_or, slice_get, fold, None, Some, Option, refl, sym, ap, subst, ◌∙◌, arith, take-append-drop}
 use Rattle.std.specs.FinMap as finite
 use Rattle.std.proofs.lemmas.Bool.{false≢true}
-use Rattle.std.proofs.lemmas.List.{take_more, take_all}
+use Rattle.std.proofs.lemmas.List.{take_more}
 use Rattle.std.proofs.lemmas.List.Folds.{list_any_at, list_any-append}
 use Rattle.std.proofs.lemmas.List.Sums.{fold-append}
-use Rattle.std.proofs.lemmas.Option.{slice_get-get_or, slice_get_past, slice_get_within, get_or_from_slice_get}
+use Rattle.std.proofs.lemmas.Option.{slice_get-get_or, slice_get_within, get_or_from_slice_get}
 use Rattle.tup_path.specs.Name.{Names}
 use Rattle.tup_path.specs.Order.{by_names, same_path, same_path-by_names, by_names-total}
 use Rattle.tup_path.specs.Tree.{Tree}
@@ -31,15 +31,6 @@ part_tried tree between now files i path within here is same = record {
   within = omega arith;
   next = subst (λ (o : Option Names). IsTried o (without tree (take i files)) now) (sym (slice_get-get_or files i path within ∙ ap Some here))
       (subst (λ (t : Tree). SameBut path t now) is same);
-}
-
--- all are gone
-pub part_all : (tree now : Tree) (files : List Names) → now ≡ without tree files → IsPart files tree now
-part_all tree now files is = record {
-  gone = length files;
-  within = omega arith;
-  next = subst (λ (o : Option Names). IsTried o (without tree (take (length files) files)) now) (sym (slice_get_past files (length files) (omega arith)))
-      (is ∙ ap (without tree) (sym (take_all (length files) files (omega arith))));
 }
 
 -- ---- beside the files

@@ -21,10 +21,11 @@ doomed graph paths = after graph (doom_edits graph.nodes paths) (with_doomed gra
 abbrev pub forgotten : Held → List Names → Held
 forgotten graph paths = after (doomed graph paths) (forget_edits (with_doomed graph.nodes paths) paths) (with_forgotten graph.nodes paths)
 
--- the store has no room for the one commit, or for the other
+-- the store has no room for the commit that dooms
 abbrev pub CannotDoom : Held → List Names → Type 0
 CannotDoom graph paths = IsFull graph (doom_edits graph.nodes paths)
 
+-- nor, once it dooms, for the one that forgets
 abbrev pub CannotForget : Held → List Names → Type 0
 CannotForget graph paths = IsFull (doomed graph paths) (forget_edits (with_doomed graph.nodes paths) paths)
 

@@ -10,7 +10,7 @@ use crate::left::add_left;
 use crate::project::{Project, number_at};
 use std::alloc::{AllocError, Global};
 use tup_graph::Nodes;
-use tup_ground::{BoardFault, GoodEnd, Ground};
+use tup_ground::{BoardFault, GoodEnd, Ground, Reads};
 use tup_kept::Graph;
 use tup_path::{Bytes, Files, Items, Path};
 use tup_record::RunRecord;

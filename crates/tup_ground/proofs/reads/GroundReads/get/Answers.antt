@@ -5,7 +5,7 @@ use Rattle.tup_ground.specs.Ground.{OnlyLarge, NamesLength}
 use Rattle.tup_ground.specs.declared.fault.BoardFault.{BoardFault}
 use Rattle.tup_ground.specs.declared.fault.BoardFault.TheVariants.{Full}
 use Rattle.tup_ground.proofs.Faults.{counts_given, large_failed, length_failed, full_failed}
-use Rattle.tup_board.proofs.desk.GroundReads.read.Goals as goal
+use Rattle.tup_ground.proofs.reads.GroundReads.get.Goals as goal
 
 pub returns-in_err-get-clause-too_large : goal.returns-in_err-get-clause-too_large
 returns-in_err-get-clause-too_large g c =
