@@ -43,7 +43,7 @@ module _ {X : Type 0} where
       (all_later e.0 es parts.0, sorted_ascend es parts.1)
 
   -- a path is among the keys where something stands under it
-  among_keys : (m : finite.FinMap by_names X) (path : Names) → among path (finite.keys m) ≡ is_some (finite.get m path)
+  pub among_keys : (m : finite.FinMap by_names X) (path : Names) → among path (finite.keys m) ≡ is_some (finite.get m path)
   among_keys m path = (λ i. list_any (λ other. same_path-by_names path other i) (finite.keys m)) ∙ sym (finite.contains_key-keys m path)
 
   -- so an ascending list with just those members is the list of keys

@@ -1,5 +1,5 @@
 -- What a store lists, by the graph that it stands for.
-use Rattle.std.proofs.Common.{◌≡◌, ◌⊎◌, ◌++◌, ℕ, List, [], IsTrue, Result, Ok, Err, ⊎_elim, refl, sym, ap, subst, ◌∙◌}
+use Rattle.std.proofs.Common.{◌≡◌, ◌⊎◌, ◌++◌, ℕ, List, [], IsTrue, Result, Ok, Err, inl, inr, ⊎_elim, refl, sym, ap, subst, ◌∙◌}
 use Rattle.std.specs.Result.{IfOk}
 use Rattle.tup_path.specs.Name.{Names}
 use Rattle.tup_site.specs.Crash.{GoesOn, NoStep, LeavesOnly, PinsTree}
@@ -13,9 +13,9 @@ use Rattle.tup_table.proofs.Going.{IsEarlier, as_step, nothing_then}
 use Rattle.tup_graph.specs.Graph.{GraphState}
 use Rattle.tup_graph.specs.Opening.{IsGraphOf}
 use Rattle.tup_graph.specs.declared.fault.GraphFault.{GraphFault}
-use Rattle.tup_kept.specs.Crash.{GraphStep, LeavesEither}
+use Rattle.tup_kept.specs.Crash.{GraphStep, HasEither, LeavesEither}
 use Rattle.tup_kept.specs.Held.{Held, is_fresh}
-use Rattle.tup_ledger.specs.Listing.{Lists, StillLists, SettledStep}
+use Rattle.tup_ledger.specs.Listing.{Lists, ListsEither, StillLists, SettledStep}
 use Rattle.tup_ledger.specs.Owned.{owned_in}
 use Rattle.tup_ledger.specs.Sources.{Guards, HasSources, Kept}
 use Rattle.tup_ledger.proofs.Guarding.{entries_one, guards_now, one_store, stored}
@@ -64,6 +64,18 @@ module _ {S : Type 0} (world : S → World) (moment : S → ℕ) (left_since : S
       → IfOk result (λ h. Guards (left_since site (moment site)) h.nodes kept)
   opened_guards kept old (Ok graph) earlier only is stands = guards_now world moment left_since graph.table graph.nodes site stands is.1 kept old earlier present only
   opened_guards kept old (Err fault) earlier only is stands = tt
+
+-- ---- a commit
+-- the graph before it lists these paths, and the one after it those
+pub either_lists : (g h : GraphState) (after : List Names) → owned_in h ≡ after → (w : World) → HasEither g h w → ListsEither (owned_in g) after w.store
+either_lists g h after same w has =
+    ⊎_elim (λ store. inl (record { graph = g; store = store; owned = refl })) (λ store. inr (record { graph = h; store = store; owned = sym same })) has
+
+-- what is there, however it ended, is among what a crash may leave
+module _ {S : Type 0} (world : S → World) (moment : S → ℕ) (left_since : S → ℕ → World → Type 0) (old new : S) (earlier : IsEarlier moment left_since new) (present : left_since new (moment new) (world new)) where
+  pub committed_lists : (g h : GraphState) (after : List Names) → owned_in h ≡ after → LeavesEither moment left_since old new g h → ListsEither (owned_in g) after (world new).store
+  committed_lists g h after same leaves =
+      either_lists g h after same (world new) (leaves.only.each (world new) (earlier (moment old) (moment new) (world new) leaves.only.later present))
 
 -- ---- files that were settled before the store was written
 module _ {S : Type 0} (world : S → World) (moment : S → ℕ) (left_since : S → ℕ → World → Type 0) (now : World) where

@@ -1,5 +1,5 @@
 -- What a store lists as owned (own).
-use Rattle.std.specs.Prelude.{◌≡◌, ℕ, List}
+use Rattle.std.specs.Prelude.{◌≡◌, ◌⊎◌, ℕ, List}
 use Rattle.tup_path.specs.Name.{Names}
 use Rattle.tup_site.specs.World.{World, TreeStays}
 use Rattle.tup_graph.specs.Graph.{GraphState}
@@ -16,6 +16,10 @@ pub record Lists (bytes : List ℕ) (paths : List Names) : Type 0 where
 -- the bytes list just what others listed
 abbrev pub StillLists : List ℕ → List ℕ → Type 0
 StillLists before after = (paths : List Names) → (Lists before paths → Lists after paths) × (Lists after paths → Lists before paths)
+
+-- the bytes list these paths or those
+abbrev pub ListsEither : List Names → List Names → List ℕ → Type 0
+ListsEither before after bytes = Lists bytes before ⊎ Lists bytes after
 
 -- the tree stays, and is the present one
 abbrev pub SettledStep : World → World → World → Type 0

@@ -16,7 +16,7 @@ use tup_site::Site;
 pub enum Begun {
     /// There was no store, and now there is one, which owns nothing.
     Made,
-    /// There was a store already; it is as it was.
+    /// There was a store already; it keeps what it has.
     WasThere,
 }
 

@@ -9,7 +9,7 @@ ghost use Rattle.tup_kept.specs.Crash.{LeavesEither};
 ghost use Rattle.tup_kept.specs.Held.{is_fresh, StandsFor};
 ghost use Rattle.tup_kept.specs.Transaction.{IsFull};
 ghost use Rattle.tup_ledger.specs.Given.{GivesUp, IsRefused};
-ghost use Rattle.tup_ledger.specs.Listing.{Lists, SettledStep};
+ghost use Rattle.tup_ledger.specs.Listing.{Lists, ListsEither, SettledStep};
 ghost use Rattle.tup_ledger.specs.Owned.{owned_in};
 ghost use Rattle.tup_ledger.specs.Sources.{Guards, HaveNoFiles, IsDurable, Kept, KeepsSources};
 
@@ -40,6 +40,10 @@ pub fn give_up<S: Site>(
         ≡ filter (λ path. not (among path paths.now)) (owned_in graph.old.nodes))) }
     ensures lists { IsTrue S.tells
         → OnOk result (Lists (S.world site.new).store (owned_in graph.new.nodes)) }
+    // Whatever it answers, the store lists what it listed, or all but these paths.
+    ensures keeps { IsTrue S.tells → ListsEither (owned_in graph.old.nodes)
+        (filter (λ path. not (among path paths.now)) (owned_in graph.old.nodes))
+        (S.world site.new).store }
     ensures full { IsFull graph.old (forget_edits graph.old.nodes paths.now) → IsRefused result }
     ensures stands { IsTrue S.tells → IsTrue (is_fresh graph.new)
         → StandsFor S.world S.moment S.left_since graph.new site.new }

@@ -7,7 +7,7 @@ ghost use Rattle.tup_kept.specs.Crash.{LeavesEither};
 ghost use Rattle.tup_kept.specs.Held.{is_fresh, StandsFor};
 ghost use Rattle.tup_kept.specs.Transaction.{Leaves, IsFull};
 ghost use Rattle.tup_ledger.specs.Ascending.{ascending};
-ghost use Rattle.tup_ledger.specs.Listing.{Lists};
+ghost use Rattle.tup_ledger.specs.Listing.{Lists, ListsEither};
 ghost use Rattle.tup_ledger.specs.Owned.{owned_in, maker_in, owning as owning_of, own_edits, with_owned};
 ghost use Rattle.tup_ledger.specs.Sources.{Guards, HaveNoFiles, Kept, KeepsSources};
 
@@ -48,6 +48,9 @@ pub fn own<S: Site>(
         × (owned_in graph.new.nodes ≡ ascending (owned_in graph.old.nodes ++ paths.now))) }
     ensures lists { IsTrue S.tells
         → OnOk result (Lists (S.world site.new).store (owned_in graph.new.nodes)) }
+    // Whatever it answers, the store lists what it listed, or these paths as well.
+    ensures keeps { IsTrue S.tells → ListsEither (owned_in graph.old.nodes)
+        (ascending (owned_in graph.old.nodes ++ paths.now)) (S.world site.new).store }
     ensures full { IsFull graph.old (own_edits graph.old.nodes paths.now)
         → GivesUnless result GraphFault.Memory (Err GraphFault.Full) }
     ensures stands { IsTrue S.tells → IsTrue (is_fresh graph.new)

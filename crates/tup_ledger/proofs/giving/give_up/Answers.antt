@@ -1,4 +1,4 @@
-use Rattle.std.proofs.Common.{ap, subst, ◌∙◌}
+use Rattle.std.proofs.Common.{filter, not, inl, sym, ap, subst, ◌∙◌}
 use Rattle.tup_site.specs.Crash.{NoStep}
 use Rattle.tup_site.specs.World.{World}
 use Rattle.tup_table.specs.Table.{entries_in}
@@ -6,10 +6,12 @@ use Rattle.tup_table.proofs.Stands.{stands_on}
 use Rattle.tup_graph.specs.Opening.{IsGraphOf}
 use Rattle.tup_graph.specs.Transactions.{forget_edits, with_forgotten}
 use Rattle.tup_ledger.proofs.Given.{ok_after}
+use Rattle.tup_rule.specs.Rule.{among}
+use Rattle.tup_ledger.specs.Listing.{Lists}
 use Rattle.tup_ledger.specs.Owned.{owned_in}
 use Rattle.tup_ledger.proofs.Keys.{owned_without}
 use Rattle.tup_ledger.proofs.Guarding.{durable_now, either_quiet, either_settled, forget_keeps, guards_now, nothing_keeps, pins_on}
-use Rattle.tup_ledger.proofs.Listing.{lists_now, settled_first, settled_not}
+use Rattle.tup_ledger.proofs.Listing.{committed_lists, lists_now, settled_first, settled_not}
 use Rattle.tup_ledger.proofs.giving.give_up.Goals as goal
 
 pub returns-in_err-settle-clause-stands : goal.returns-in_err-settle-clause-stands
@@ -80,6 +82,24 @@ returns-clause-lists g c = λ tells.
     ok_after (forget_edits old.nodes paths) (with_forgotten old.nodes paths) old new c.requires.fresh c.settle.new.site end c.forget-ended.result c.forget-ended.ensures.leaves
     (λ fresh nodes. lists_now g.S.Site.world g.S.Site.moment g.S.Site.left_since end (site_laws.present end tells) new.table new.nodes (c.forget-ended.ensures.stands tells fresh)
     (subst (IsGraphOf (entries_in new.table)) c.nodes-2.ensures.value (c.nodes-2.ensures.graph fresh)))
+
+pub returns-in_err-settle-clause-keeps : goal.returns-in_err-settle-clause-keeps
+returns-in_err-settle-clause-keeps g c = λ tells.
+    let site_laws = g.met.S.Site g.world.𝓛 g.world.𝓜 g.world.𝓡 ((λ s x. x), (λ x. x), (λ x. x), λ x. x) in
+    let old = c.args.graph.now in
+    let site = c.args.site.now in
+    let is = subst (IsGraphOf (entries_in old.table)) c.nodes.ensures.value (c.nodes.ensures.graph c.requires.fresh) in
+    let was = lists_now g.S.Site.world g.S.Site.moment g.S.Site.left_since site (site_laws.present site tells) old.table old.nodes (c.requires.stands tells) is in
+    inl (subst (λ (w : World). Lists w.store (owned_in old.nodes)) (sym (c.settle.ensures.same tells)) was)
+
+pub returns-clause-keeps : goal.returns-clause-keeps
+returns-clause-keeps g c = λ tells.
+    let site_laws = g.met.S.Site g.world.𝓛 g.world.𝓜 g.world.𝓡 ((λ s x. x), (λ x. x), (λ x. x), λ x. x) in
+    let old = c.args.graph.now in
+    let paths = c.args.paths.now in
+    let end = c.forget-ended.new.site in
+    committed_lists g.S.Site.world g.S.Site.moment g.S.Site.left_since c.settle.new.site end (λ t u w le left. site_laws.earlier end t u w tells le left) (site_laws.present end tells) old.nodes (with_forgotten old.nodes paths)
+    (filter (λ path. not (among path paths)) (owned_in old.nodes)) (owned_without old.nodes paths) (c.forget-ended.ensures.crash tells)
 
 pub returns-in_err-settle-clause-settled : goal.returns-in_err-settle-clause-settled
 returns-in_err-settle-clause-settled g c = λ tells.

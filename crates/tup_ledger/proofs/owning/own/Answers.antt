@@ -1,15 +1,16 @@
-use Rattle.std.proofs.Common.{ap, subst, ◌∙◌}
+use Rattle.std.proofs.Common.{◌++◌, inl, ap, subst, ◌∙◌}
 use Rattle.tup_table.specs.Table.{entries_in}
 use Rattle.tup_graph.specs.Graph.{GraphState}
 use Rattle.tup_graph.specs.Opening.{IsGraphOf}
 use Rattle.tup_kept.proofs.Edited.{ok_given, as_read, as_left, as_crashed}
 use Rattle.tup_kept.proofs.Crashes.{as_it_was}
+use Rattle.tup_ledger.specs.Ascending.{ascending}
 use Rattle.tup_ledger.specs.Owned.{own_edits, owned_in, with_owned}
 use Rattle.tup_ledger.proofs.Given.{ok_after}
 use Rattle.tup_ledger.proofs.Guarding.{at_rest, nothing_keeps, own_keeps, guards_now}
 use Rattle.tup_ledger.proofs.Owned.{own_leaves, own_commits}
 use Rattle.tup_ledger.proofs.Keys.{owned_with}
-use Rattle.tup_ledger.proofs.Listing.{lists_now}
+use Rattle.tup_ledger.proofs.Listing.{committed_lists, lists_now}
 use Rattle.tup_ledger.proofs.owning.own.Goals as goal
 
 pub commit_edits-ended-requires-clause-read : goal.commit_edits-ended-requires-clause-read
@@ -59,6 +60,18 @@ returns-clause-crash g c = λ tells.
     as_crashed c.in_ok-edits.edits (own_edits old.nodes paths) old.nodes (with_owned old.nodes paths) same (own_leaves old.nodes paths) g.S.Site.moment g.S.Site.left_since c.args.site.now c.commit_edits-ended.new.site old.nodes
     (c.commit_edits-ended.ensures.crash tells)
 
+pub returns-clause-keeps : goal.returns-clause-keeps
+returns-clause-keeps g c = λ tells.
+    let site_laws = g.met.S.Site g.world.𝓛 g.world.𝓜 g.world.𝓡 ((λ s x. x), (λ x. x), (λ x. x), λ x. x) in
+    let old = c.args.graph.now in
+    let end = c.commit_edits-ended.new.site in
+    let paths = c.args.paths.now in
+    let same = ok_given c.in_ok-edits.edits (own_edits c.nodes.result.now paths) c.in_ok-edits.ensures ∙ ap (λ (n : GraphState). own_edits n paths) c.nodes.ensures.value in
+    committed_lists g.S.Site.world g.S.Site.moment g.S.Site.left_since c.args.site.now end (λ t u w le left. site_laws.earlier end t u w tells le left) (site_laws.present end tells) old.nodes (with_owned old.nodes paths)
+    (ascending (owned_in old.nodes ++ paths)) (owned_with old.nodes paths)
+    (as_crashed c.in_ok-edits.edits (own_edits old.nodes paths) old.nodes (with_owned old.nodes paths) same (own_leaves old.nodes paths) g.S.Site.moment g.S.Site.left_since c.args.site.now end old.nodes
+    (c.commit_edits-ended.ensures.crash tells))
+
 pub returns-clause-sources : goal.returns-clause-sources
 returns-clause-sources g c = λ tells kept guards none may.
     let site_laws = g.met.S.Site g.world.𝓛 g.world.𝓜 g.world.𝓡 ((λ s x. x), (λ x. x), (λ x. x), λ x. x) in
@@ -84,6 +97,14 @@ returns-in_err-edits-clause-crash g c = λ tells.
     let old = c.args.graph.now in
     let is = subst (IsGraphOf (entries_in old.table)) c.nodes.ensures.value (c.nodes.ensures.graph c.requires.fresh) in
     as_it_was g.S.Site.world g.S.Site.moment g.S.Site.left_since old.table old.nodes c.args.site.now (c.requires.stands tells) is (with_owned old.nodes c.args.paths.now)
+
+pub returns-in_err-edits-clause-keeps : goal.returns-in_err-edits-clause-keeps
+returns-in_err-edits-clause-keeps g c = λ tells.
+    let site_laws = g.met.S.Site g.world.𝓛 g.world.𝓜 g.world.𝓡 ((λ s x. x), (λ x. x), (λ x. x), λ x. x) in
+    let old = c.args.graph.now in
+    let site = c.args.site.now in
+    let is = subst (IsGraphOf (entries_in old.table)) c.nodes.ensures.value (c.nodes.ensures.graph c.requires.fresh) in
+    inl (lists_now g.S.Site.world g.S.Site.moment g.S.Site.left_since site (site_laws.present site tells) old.table old.nodes (c.requires.stands tells) is)
 
 pub returns-in_err-edits-clause-sources : goal.returns-in_err-edits-clause-sources
 returns-in_err-edits-clause-sources g c = λ tells kept guards none may.
