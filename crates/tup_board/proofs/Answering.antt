@@ -1,14 +1,11 @@
 -- What a board by its parts does at an ask, at a refusal and at a bad end, as its callers see it.
-use Rattle.std.proofs.Common.{◌≡◌, ◌≢◌, ℕ, ◌<◌, ◌≤◌, Bool, true, false, List, [], ◌∷◌, ◌++◌, length, get_or, Option, None, Some, Result, Ok, Err, refl, sym, ap, ◌∙◌, subst}
-use Rattle.std.specs.Prelude.{◌↔◌, IsSome, IsTrue, slice_get, if◌then◌else◌, is_none, is_some}
+use Rattle.std.proofs.Common.{◌≡◌, ◌≢◌, ℕ, ◌≤◌, Bool, true, false, List, [], ◌∷◌, ◌++◌, length, Option, None, Some, Result, Err, refl, sym, ap, ◌∙◌, subst}
+use Rattle.std.specs.Prelude.{◌↔◌, IsSome, IsTrue, if◌then◌else◌, is_none, is_some}
 use Rattle.std.specs.FinMap as finite
-use Rattle.std.specs.Option.{option_map}
 use Rattle.std.proofs.lemmas.Bool.{false≢true}
-use Rattle.std.proofs.lemmas.List.{append-nil}
-use Rattle.std.proofs.lemmas.Option.{same_Some, none-some, slice_get_within, slice_get_read}
+use Rattle.std.proofs.lemmas.Option.{same_Some}
 use Rattle.tup_path.specs.Name.{Names, Content}
 use Rattle.tup_stamp.specs.declared.Stamp.{Stamp}
-use Rattle.tup_stamp.specs.Stamp.{stamp}
 use Rattle.tup_rule.specs.declared.rule.Rule.{Rule}
 use Rattle.tup_rule.specs.Rule.{writes}
 use Rattle.tup_site.specs.Crash.{GoesOn as GoesOnFrom, NoStep}
@@ -17,16 +14,15 @@ use Rattle.tup_site.specs.declared.site.Site.{Ghosts as Site}
 use Rattle.tup_runner.specs.declared.runner.Runner.{Ghosts as Runner}
 use Rattle.tup_access.specs.Access.{access}
 use Rattle.tup_access.specs.declared.verdict.Access.{Access}
-use Rattle.tup_access.specs.declared.verdict.Access.TheVariants.{Yes, No}
+use Rattle.tup_access.specs.declared.verdict.Access.TheVariants.{Yes}
 use Rattle.tup_access.specs.declared.verdict.Verdict.{Verdict}
 use Rattle.tup_kept.specs.Held.{Held}
 use Rattle.tup_core.specs.declared.event.Cause.{Cause}
 use Rattle.tup_core.specs.declared.event.Cause.TheVariants as cause_by
 use Rattle.tup_core.specs.declared.event.CoreEvent.{CoreEvent}
-use Rattle.tup_core.specs.declared.event.CoreEvent.TheVariants.{Ask, Deny, Finish, Stop}
-use Rattle.tup_core.specs.declared.plan.Plan.{Plan}
+use Rattle.tup_core.specs.declared.event.CoreEvent.TheVariants.{Finish, Stop}
 use Rattle.tup_core.specs.declared.running.Running.{Running}
-use Rattle.tup_core.specs.Step.{CanAsk, CanDeny, IsEnabled}
+use Rattle.tup_core.specs.Step.{CanAsk, IsEnabled}
 use Rattle.tup_course.specs.Course.{CourseState, GoesOn, RunsRule, WasDenied, now, with_events}
 use Rattle.tup_ground.specs.Fault.{CountsFaults}
 use Rattle.tup_ground.specs.Ground.{NamesLength, OnlyLarge, ReadsSite}
@@ -35,13 +31,12 @@ use Rattle.tup_ground.specs.declared.ground.Ground.{Ground}
 use Rattle.tup_ground.specs.declared.fault.BoardFault.{BoardFault}
 use Rattle.tup_ground.specs.declared.fault.BoardFault.TheVariants as fault_by
 use Rattle.tup_board.specs.declared.answers.Asked.{Asked}
-use Rattle.tup_board.specs.declared.answers.Asked.TheVariants.{Denied, Absent}
 use Rattle.tup_board.specs.Board.{BoardState, course_of, plan_of, state, with_history}
-use Rattle.tup_board.specs.Calls.{Asks, AsksFor, AsksForOwn, told_of}
+use Rattle.tup_board.specs.Calls.{Asks, AsksFor, AsksForOwn}
 use Rattle.tup_board.specs.Cause.{stops_by}
 use Rattle.tup_board.specs.Sound.{IsSound, IsTrueFault}
 use Rattle.tup_board.proofs.Asking.{failed_asks, read_asks, same_rule_at, same_running}
-use Rattle.tup_board.proofs.Kept.{KeepsBoard, board_at, course_is, to_course, sound_seen, kept_more, ask_kept, deny_kept, refused_kept, site_true, large_true, full_true}
+use Rattle.tup_board.proofs.Kept.{KeepsBoard, board_at, course_is, to_course, sound_seen, kept_more, refused_kept, site_true, large_true, full_true}
 use Rattle.tup_board.specs.Seat.{is_granted}
 use Rattle.tup_board.proofs.Seated.{runs_at}
 use Rattle.tup_board.proofs.WasRead.{sound_read}

@@ -1,29 +1,17 @@
 -- What an ask does once a file was looked at: it couldn't be read, or it was read and told.
-use Rattle.std.proofs.Common.{◌≡◌, ◌≢◌, ℕ, ◌≤◌, List, [], ◌∷◌, ◌++◌, length, Option, None, Some, Result, Ok, Err, refl, sym, ap, ◌∙◌, subst, arith}
+use Rattle.std.proofs.Common.{◌≡◌, ◌≢◌, ℕ, ◌≤◌, List, ◌++◌, length, None, Result, Ok, Err, refl, sym, ap, ◌∙◌, subst}
 use Rattle.std.specs.Prelude.{IsTrue, slice_get}
-use Rattle.std.specs.FinMap as finite
-use Rattle.std.specs.Option.{option_map}
-use Rattle.std.proofs.lemmas.Bool.{true≢false}
-use Rattle.std.proofs.lemmas.List.{append-nil}
 use Rattle.std.proofs.lemmas.Option.{same_Some}
-use Rattle.tup_path.specs.Name.{Names, Content}
-use Rattle.tup_path.specs.Tree.{Tree}
-use Rattle.tup_stamp.specs.Stamp.{stamp}
+use Rattle.tup_path.specs.Name.{Names}
 use Rattle.tup_rule.specs.declared.rule.Rule.{Rule}
-use Rattle.tup_rule.specs.Rule.{writes}
 use Rattle.tup_site.specs.Cause.{IsTooLarge}
 use Rattle.tup_site.specs.Crash.{GoesOn, NoStep}
 use Rattle.tup_site.specs.World.{World}
 use Rattle.tup_site.specs.declared.site.Site.{Ghosts as Site}
 use Rattle.tup_table.proofs.Going.{nothing_then}
-use Rattle.tup_stale.proofs.Going.{at_rest}
 use Rattle.tup_access.specs.Access.{access}
-use Rattle.tup_access.specs.declared.verdict.Access.TheVariants.{Yes, No}
-use Rattle.tup_access.specs.declared.verdict.Verdict.{Verdict}
-use Rattle.tup_core.specs.declared.event.CoreEvent.{CoreEvent}
-use Rattle.tup_core.specs.declared.event.CoreEvent.TheVariants.{Ask, Deny}
+use Rattle.tup_access.specs.declared.verdict.Access.TheVariants.{Yes}
 use Rattle.tup_core.specs.declared.running.Running.{Running}
-use Rattle.tup_core.specs.Step.{CanDeny}
 use Rattle.tup_course.specs.Course.{CourseState, RunsRule}
 use Rattle.tup_ground.specs.declared.fault.BoardFault.{BoardFault}
 use Rattle.tup_ground.specs.declared.fault.BoardFault.TheVariants.{Site as ByVisit, TooLarge, Full, Memory}
@@ -31,8 +19,8 @@ use Rattle.tup_ground.specs.Fault.{CountsFaults}
 use Rattle.tup_ground.specs.Ground.{OnlyLarge, NamesLength}
 use Rattle.tup_board.specs.declared.answers.Asked.{Asked}
 use Rattle.tup_board.specs.declared.answers.Asked.TheVariants.{Content as Told, Absent, Denied}
-use Rattle.tup_board.specs.Board.{BoardState, course_of, plan_of, state, with_history}
-use Rattle.tup_board.specs.Calls.{Asks, AsksFor, AsksForOwn, IsToldOf, HasAskedFor, ask_events, told_of}
+use Rattle.tup_board.specs.Board.{BoardState, course_of, plan_of, with_history}
+use Rattle.tup_board.specs.Calls.{Asks, AsksFor, IsToldOf, HasAskedFor, ask_events}
 use Rattle.tup_board.specs.Cause.{stops_by}
 
 -- a seat runs one rule

@@ -24,7 +24,7 @@ use Rattle.tup_core.specs.declared.event.CoreEvent.TheVariants.{Finish}
 use Rattle.tup_core.specs.declared.running.Running.{Running}
 use Rattle.tup_core.specs.Honest.{EndsHonestly}
 use Rattle.tup_core.specs.Step.{IsEnabled}
-use Rattle.tup_course.specs.Course.{CourseState, IsGoodEnd, RunsRule, with_events}
+use Rattle.tup_course.specs.Course.{CourseState, IsGoodEnd, with_events}
 use Rattle.tup_ground.specs.declared.fault.BoardFault.{BoardFault}
 use Rattle.tup_ground.specs.declared.fault.BoardFault.TheVariants as fault_by
 use Rattle.tup_ground.specs.declared.ground.Ground.{Ground}

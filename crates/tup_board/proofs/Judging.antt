@@ -1,5 +1,5 @@
 -- The end of a command: one that isn't Good, one for which there was no memory, and the record of one that is Good.
-use Rattle.std.proofs.Common.{◌≡◌, ◌≢◌, ℕ, List, [], ◌∷◌, ◌++◌, map, Option, None, Ok, Err, refl, sym, ap, ◌∙◌, subst, inl, arith}
+use Rattle.std.proofs.Common.{◌≡◌, ◌≢◌, ℕ, List, [], ◌∷◌, ◌++◌, map, Option, None, Err, refl, sym, ap, ◌∙◌, subst, inl, arith}
 use Rattle.std.specs.Prelude.{IsTrue}
 use Rattle.tup_path.specs.Name.{Names, Content}
 use Rattle.tup_stamp.specs.declared.Stamp.{Stamp}
@@ -28,7 +28,7 @@ use Rattle.tup_board.specs.Calls.{AreFilesAt, Ends, IsGoodAt, IsGoodEndAt, IsRep
 use Rattle.tup_board.specs.Ends.{AreNamed, AreRecorded}
 use Rattle.tup_board.specs.Sound.{IsSound}
 use Rattle.tup_board.proofs.Asking.{same_rule_at, same_running}
-use Rattle.tup_board.proofs.Ending.{bad_fits, bad_leaves, ends_badly}
+use Rattle.tup_board.proofs.Ending.{bad_fits, ends_badly}
 use Rattle.tup_board.proofs.Kept.{sound_bad}
 use Rattle.tup_board.proofs.Named.{asks_named, recorded}
 use Rattle.tup_board.proofs.Sounds.{IsHonestEvent}

@@ -1,9 +1,8 @@
 -- What the run of a command leaves that seat 0 of a board runs.
-use Rattle.std.proofs.Common.{◌≡◌, ◌≢◌, ◌⊎◌, ℕ, ◌<◌, Bool, true, false, List, [], ◌∷◌, ◌++◌, Option, None, Some, Result, Ok, Err, refl, sym, ap, ◌∙◌, subst, inl, inr, arith, ⊎_elim}
-use Rattle.std.specs.Prelude.{Contains, IfErr, IfOk, IsTrue, slice_get}
-use Rattle.std.proofs.lemmas.Bool.{false≢true, true≢false}
+use Rattle.std.proofs.Common.{◌≡◌, ◌≢◌, ◌⊎◌, ℕ, Bool, true, false, List, [], Option, None, Some, Result, Ok, Err, refl, sym, ap, ◌∙◌, subst, inl, inr, arith, ⊎_elim}
+use Rattle.std.specs.Prelude.{IfErr, IfOk, IsTrue, slice_get}
 use Rattle.std.proofs.lemmas.Option.{none-some, same_Some}
-use Rattle.tup_path.specs.Name.{Names, Content}
+use Rattle.tup_path.specs.Name.{Names}
 use Rattle.tup_stamp.specs.declared.Stamp.{Stamp}
 use Rattle.tup_rule.specs.declared.rule.Rule.{Rule}
 use Rattle.tup_site.specs.declared.site.Site.{Ghosts as Site}
@@ -18,15 +17,12 @@ use Rattle.tup_runner.specs.declared.fault.ViewFailed.TheVariants.{Denied}
 use Rattle.tup_runner.specs.declared.step.Step.{Step}
 use Rattle.tup_runner.specs.declared.step.Step.TheVariants.{Ask as AsksFor}
 use Rattle.tup_runner.specs.declared.runner.Runner.{Ghosts as Runner}
-use Rattle.tup_access.specs.declared.verdict.Verdict.{Verdict}
 use Rattle.tup_core.specs.declared.event.Cause.TheVariants as causes
 use Rattle.tup_core.specs.declared.plan.Plan.{Plan}
 use Rattle.tup_core.specs.declared.running.Running.{Running}
-use Rattle.tup_core.specs.Honest.{AreAnswered, StandsFor}
-use Rattle.tup_core.specs.Step.{Runs}
-use Rattle.tup_course.specs.Course.{GoesOn, RunsRule}
+use Rattle.tup_course.specs.Course.{RunsRule}
 use Rattle.tup_board.specs.Board.{BoardState, Opening, course_of, plan_of, state}
-use Rattle.tup_board.specs.Calls.{AreKnown, AreStamped, IsReportOf, MeansDenied, StartsAlone}
+use Rattle.tup_board.specs.Calls.{AreStamped, IsReportOf, MeansDenied, StartsAlone}
 use Rattle.tup_board.specs.Seat.{CameBy, HasAsked, IsDenial, KeepsSeat, Performs, has_failed}
 use Rattle.tup_board.proofs.Ending.{answered_of}
 

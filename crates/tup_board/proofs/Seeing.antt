@@ -1,6 +1,6 @@
 -- What one ask of a board comes to for the view of a seat.
-use Rattle.std.proofs.Common.{◌≡◌, ◌≢◌, ◌⊎◌, ℕ, Bool, true, false, List, [], ◌∷◌, ◌++◌, Option, None, Some, Result, Ok, Err, refl, sym, ap, ◌∙◌, subst, inl, inr, arith}
-use Rattle.std.specs.Prelude.{Contains, IfErr, IfOk, IsTrue, is_none, unwrap_or}
+use Rattle.std.proofs.Common.{◌≡◌, ◌≢◌, ℕ, true, List, [], ◌∷◌, ◌++◌, Option, None, Some, Result, Ok, Err, refl, sym, ap, ◌∙◌, subst, inl, inr}
+use Rattle.std.specs.Prelude.{Contains, IfErr, IfOk, IsTrue, unwrap_or}
 use Rattle.std.specs.FinMap as finite
 use Rattle.std.specs.Option.{option_map}
 use Rattle.std.proofs.lemmas.Bool.{false≢true, true≢false}
@@ -36,7 +36,7 @@ use Rattle.tup_board.specs.declared.answers.Asked.TheVariants as reply_by
 use Rattle.tup_board.specs.Calls.{AreKnown, Asks as AllAsked, IsStampOf}
 use Rattle.tup_board.specs.CameLaws.{no_place}
 use Rattle.tup_board.proofs.Known.{known_among}
-use Rattle.tup_board.specs.Seat.{CameBy, IsFromSeat, KeepsSeat, answer_by, has_failed, is_granted, refused_by, seat_of, told_by}
+use Rattle.tup_board.specs.Seat.{CameBy, IsFromSeat, KeepsSeat, answer_by, is_granted, refused_by, seat_of, told_by}
 
 -- what one seat runs changed
 pub apart_from : (seats : ℕ → Option Running) (seat : ℕ) (what : Option Running) (other : ℕ) → other ≢ seat → changed seats seat what other ≡ seats other

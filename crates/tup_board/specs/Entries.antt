@@ -1,7 +1,6 @@
 -- What the entries of one seat tell (own): the events of its number in a board's history, each once and in order.
-use Rattle.std.specs.Prelude.{◌≡◌, ◌⊎◌, ℕ, List, [], ◌∷◌, ◌++◌, Option, None, Some, Result, Ok, Err, map, option_map, slice_get}
+use Rattle.std.specs.Prelude.{◌≡◌, ◌⊎◌, ℕ, List, [], ◌∷◌, Option, None, Some, Result, Ok, Err, map, option_map, slice_get}
 use Rattle.tup_path.specs.Name.{Names}
-use Rattle.tup_stamp.specs.declared.Stamp.{Stamp}
 use Rattle.tup_rule.specs.declared.rule.Rule.{Rule}
 use Rattle.tup_runner.specs.Next.{Asks}
 use Rattle.tup_runner.specs.declared.step.Ended.{Ended}

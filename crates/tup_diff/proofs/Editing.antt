@@ -89,7 +89,7 @@ module _ {X : Type 0} where
 -- ---- filtered lists
 
 module _ {X : Type 0} (p : X → Bool) where
-  in_filter : (xs : List X) (x : X) → Contains xs x → p x ≡ true → Contains (filter p xs) x
+  pub in_filter : (xs : List X) (x : X) → Contains xs x → p x ≡ true → Contains (filter p xs) x
   in_filter [] x h passes = absurd (none_in x h)
   in_filter (first ∷ xs) x h passes = elim (front_or_behind first x xs h) [
     | inl same ↦ subst (λ (b : Bool). Contains (cond b (first ∷ filter p xs) (filter p xs)) x) (sym (ap p same ∙ passes)) (subst (Contains (first ∷ filter p xs)) same (in_front first (filter p xs)))
@@ -180,7 +180,7 @@ module _ (m : Stamps) (q : Names) where
       (step first files n (take_file n first) (take_agrees n first (each first (in_front first files))) meets)
 
 -- whether a file was seen with this stamp
-same_is : (seen : Option Stamp) (s : Stamp) → is_same seen s ≡ true → seen ≡ Some s
+pub same_is : (seen : Option Stamp) (s : Stamp) → is_same seen s ≡ true → seen ≡ Some s
 same_is None s e = absurd (true≢false (sym e))
 same_is (Some seen) s e = λ i. Some (record { 0 = (same_bytes-decides seen.0 s.0).0 e i })
 

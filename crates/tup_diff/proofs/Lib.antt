@@ -9,5 +9,6 @@ pub mod Staled
 pub mod Editing
 pub mod Noting
 pub mod Rooted
+pub mod Looking
 pub mod Founding
 pub mod Scanned

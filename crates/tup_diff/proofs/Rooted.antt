@@ -1,9 +1,9 @@
 -- Rules with which a scan begins.
-use Rattle.std.specs.Prelude.{◌≡◌, ◌≢◌, ◌⊎◌, ◌↔◌, ◌+◌, ◌<◌, ◌≤◌, ℕ, Bool, true, false, List, Option, Some, Contains, Decides, length, slice_get}
-use Rattle.std.proofs.Common.{refl, sym, ap, subst, ◌∙◌, inl, inr, take, take_all, get_or, arith}
+use Rattle.std.specs.Prelude.{◌≡◌, ◌≢◌, ◌↔◌, ◌<◌, ◌≤◌, ℕ, Bool, true, false, List, Option, Some, Contains, Decides, length, slice_get}
+use Rattle.std.proofs.Common.{refl, sym, ap, subst, ◌∙◌, inl, inr, take, take_all, get_or}
 use Rattle.std.specs.FinMap as finite
 use Rattle.std.specs.List.{HoldsAt}
-use Rattle.std.proofs.lemmas.Bool.{cases_eq, true≢false}
+use Rattle.std.proofs.lemmas.Bool.{true≢false}
 use Rattle.std.proofs.lemmas.List.{get_or_default}
 use Rattle.std.proofs.lemmas.Option.{slice_get_read}
 use Rattle.tup_path.specs.Name.{Names}
@@ -15,8 +15,6 @@ use Rattle.tup_record.specs.declared.run.RunRecord.{RunRecord}
 use Rattle.tup_graph.specs.Above.{IsAbove}
 use Rattle.tup_graph.specs.Graph.{GraphState}
 use Rattle.tup_graph.specs.Scan.{IsTouched}
-use Rattle.tup_above.specs.Grows.{Grows}
-use Rattle.tup_above.proofs.Growing.{grows_on, grows_as}
 use Rattle.tup_diff.specs.Present.{seeing}
 use Rattle.tup_diff.specs.Touched.{AsksOther, WroteOther, IsScanRoot}
 use Rattle.tup_diff.proofs.Noting.{above_as}
@@ -49,21 +47,6 @@ module _ (g : GraphState) (n : ℕ) (rule : Rule) (run : RunRecord) (here : slic
 -- the rule that stands at a place
 pub rule_at : (rules slice : List Rule) (n : ℕ) (rule : Rule) → slice ≡ rules → (n < length slice) × HoldsAt (λ (y : Rule). rule ≡ y) slice n → slice_get rules n ≡ Some rule
 rule_at rules slice n rule same at = ap (λ (l : List Rule). slice_get l n) (sym same) ∙ slice_get_read slice (length slice) n rule refl at.0 (at.1 rule)
-
--- ---- one rule more
-
-pub one_root_more : (g : GraphState) (i : ℕ) (A B : ℕ → Type 0) → Grows (λ n. (n < i) × IsScanRoot g n) (λ n. ⊥) A → Grows (λ n. (n ≡ i) × IsScanRoot g i) A B → Grows (λ n. (n < i + 1) × IsScanRoot g n) (λ n. ⊥) B
-one_root_more g i A B first one = grows_as to from (grows_on first one)
-  where
-    to : (n : ℕ) → ((n < i) × IsScanRoot g n) ⊎ ((n ≡ i) × IsScanRoot g i) → (n < i + 1) × IsScanRoot g n
-    to n (inl h) = let less = h.0 in (omega arith, h.1)
-    to n (inr h) = let same = h.0 in (omega arith, subst (IsScanRoot g) (sym h.0) h.1)
-
-    from : (n : ℕ) → (n < i + 1) × IsScanRoot g n → ((n < i) × IsScanRoot g n) ⊎ ((n ≡ i) × IsScanRoot g i)
-    from n h = elim (cases_eq n i) [
-      | inl same ↦ inr (same, subst (IsScanRoot g) same h.1)
-      | inr apart ↦ let less = h.0 in inl (omega arith, h.1)
-    ]
 
 -- ---- what lies above them, in the graph that sees other files
 

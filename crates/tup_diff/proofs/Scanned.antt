@@ -1,24 +1,20 @@
 -- The edits of a scan, of what was found.
-use Rattle.std.specs.Prelude.{◌≡◌, ◌↔◌, ℕ, List, ◌++◌, Ok, Err, Result, Option, Contains}
-use Rattle.std.proofs.Common.{subst, ◌∙◌, inl, inr}
+use Rattle.std.specs.Prelude.{◌≡◌, ◌↔◌, ℕ, List, ◌++◌, Option, Contains}
+use Rattle.std.proofs.Common.{subst, ◌∙◌}
 use Rattle.std.specs.BTreeSet.{BTreeSet, IsOrdered}
 use Rattle.std.specs.FinMap as finite
 use Rattle.std.specs.List.Sorted.{IsStrictlySortedBy}
 use Rattle.std.specs.Ordering.{nat_cmp}
-use Rattle.std.specs.Result.{IfOk}
-use Rattle.tup_path.specs.Gives.{GivesUnless}
 use Rattle.tup_path.specs.Name.{Names, Content}
 use Rattle.tup_path.specs.Order.{by_names}
 use Rattle.tup_path.proofs.Same.{by_names-decides}
 use Rattle.tup_stamp.specs.declared.Stamp.{Stamp}
 use Rattle.tup_graph.specs.declared.edit.Edit.{Edit}
-use Rattle.tup_graph.specs.declared.fault.GraphFault.{GraphFault}
-use Rattle.tup_graph.specs.declared.fault.GraphFault.TheVariants.{Memory}
 use Rattle.tup_graph.specs.Above.{IsAbove}
 use Rattle.tup_graph.specs.Graph.{GraphState}
 use Rattle.tup_graph.specs.Scan.{IsStale}
 use Rattle.tup_above.proofs.Members.{contained, in_set}
-use Rattle.tup_diff.specs.Edits.{AreScanEdits, news_edits, gone_edits, create_edits, modify_edits}
+use Rattle.tup_diff.specs.Edits.{AreScanEdits, seen_edits, create_edits, modify_edits}
 use Rattle.tup_diff.specs.Present.{graph_of, seeing}
 use Rattle.tup_diff.specs.Sets.{Has}
 use Rattle.tup_diff.specs.Touched.{IsScanRoot}
@@ -33,12 +29,12 @@ module _ (nodes : GraphState) (files : List (Names × Stamp)) (config : Option C
   here = λ i. seeing (same i) (stamps i)
 
   abbrev made : List Edit
-  made = news_edits present.nodes.now (finite.entries present.stamps) ++ gone_edits present.stamps (finite.entries present.nodes.now.seen) ++ create_edits present.nodes.now dirs.keys ++ modify_edits present.nodes.now numbers
+  made = seen_edits present.nodes.now present.stamps ++ create_edits present.nodes.now dirs.keys ++ modify_edits present.nodes.now numbers
 
   module _ (stale : (dir : Names) → Has by_names dirs dir ↔ IsStale (graph_of present) config dir) (once : IsOrdered by_names dirs)
       (above : (n : ℕ) → Contains numbers n ↔ IsAbove (graph_of present) (IsScanRoot (graph_of present)) n) (ascending : IsStrictlySortedBy nat_cmp numbers) where
-    are : (edits : List Edit) → edits ≡ made → AreScanEdits nodes files config edits
-    are edits is = record {
+    pub noted : (edits : List Edit) → edits ≡ made → AreScanEdits nodes files config edits
+    noted edits is = record {
       dirs = dirs.keys;
       numbers = numbers;
       stale = λ dir.
@@ -47,10 +43,5 @@ module _ (nodes : GraphState) (files : List (Names × Stamp)) (config : Option C
       dirs_once = once;
       above = λ n. subst (λ (h : GraphState). Contains numbers n ↔ IsAbove h (IsScanRoot h) n) here (above n);
       numbers_once = ascending;
-      all = is ∙ λ i. news_edits (same i) (finite.entries (stamps i)) ++ gone_edits (stamps i) (finite.entries (same i).seen) ++ create_edits (same i) dirs.keys ++ modify_edits (same i) numbers;
+      all = is ∙ λ i. seen_edits (same i) (stamps i) ++ create_edits (same i) dirs.keys ++ modify_edits (same i) numbers;
     }
-
-    pub noted : (result : Result (List Edit) GraphFault) → GivesUnless result Memory (Ok made) → IfOk result (AreScanEdits nodes files config)
-    noted (Ok edits) (inl e) = absurd (cc)
-    noted (Ok edits) (inr e) = let is : edits ≡ made = cc in are edits is
-    noted (Err fault) given = tt

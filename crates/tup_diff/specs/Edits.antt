@@ -33,20 +33,23 @@ is_gone stamps file = is_none (finite.get stamps file.0)
 abbrev pub not_seen : Names × Stamp → Edit
 not_seen file = Remove (records.Seen file.0 file.1)
 
--- files are seen with these stamps, and no others are
+-- those of some files that are new, or have another stamp, are seen with these
 abbrev pub news_edits : GraphState → List (Names × Stamp) → List Edit
 news_edits g files = map seen_so (filter (is_news g) files)
 
+-- those of some files that are gone are seen no longer
 abbrev pub gone_edits : finite.FinMap by_names Stamp → List (Names × Stamp) → List Edit
 gone_edits stamps files = map not_seen (filter (is_gone stamps) files)
 
+-- files are seen with these stamps, and no others are
 abbrev pub seen_edits : GraphState → finite.FinMap by_names Stamp → List Edit
 seen_edits g stamps = news_edits g (finite.entries stamps) ++ gone_edits stamps (finite.entries g.seen)
 
--- folders are to be read, those aside that are so already
+-- a folder is to be read
 abbrev pub to_read : Names → Edit
 to_read dir = Put (records.Create dir)
 
+-- folders are to be read, those aside that are so already
 abbrev pub create_edits : GraphState → List Names → List Edit
 create_edits g dirs = map to_read (filter (λ dir. not (is_created g dir)) dirs)
 

@@ -11,10 +11,11 @@ use Rattle.tup_above.specs.Lists.{IsListed}
 use Rattle.tup_diff.specs.Sets.{Has}
 use Rattle.tup_diff.specs.declared.index.Index.{Index}
 
--- a folder has a Tupfile in an index, and has a file below it
+-- a folder has a Tupfile in an index
 abbrev pub HasTupfile : Index → Names → Type 0
 HasTupfile index dir = Has by_names index.tupfiles dir
 
+-- a folder has a file below it there
 abbrev pub HasBelow : Index → Names → Type 0
 HasBelow index dir = Has by_names index.folders dir
 

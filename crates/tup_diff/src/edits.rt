@@ -1,9 +1,10 @@
 //! The edits of a scan.
-ghost use Rattle.std.specs.Prelude.{◌≡◌, ◌++◌, ◌∷◌, [], Ok, IfErr, OnOk};
+ghost use Rattle.std.specs.Prelude.{◌≡◌, ◌++◌, ◌∷◌, [], Ok, IfErr, IfOk, OnOk};
 ghost use Rattle.std.specs.FinMap as finite;
 ghost use Rattle.tup_path.specs.Gives.{GivesUnless};
 ghost use Rattle.tup_graph.specs.Transactions.{seen_so as seen_of};
-ghost use Rattle.tup_diff.specs.Edits.{news_edits, gone_edits, create_edits, modify_edits, is_same, not_seen as not_seen_of, to_read as to_read_of};
+ghost use Rattle.tup_diff.specs.Edits.{seen_edits, news_edits, gone_edits, create_edits, modify_edits};
+ghost use Rattle.tup_diff.specs.Edits.{is_same, not_seen as not_seen_of, to_read as to_read_of};
 
 use crate::present::Present;
 use std::alloc::Global;
@@ -14,25 +15,32 @@ use tup_record::Record;
 use tup_stamp::Stamp;
 
 impl Present<'_> {
-    /// The edits of a scan that found this, where these folders are to be read and these rules to be run.
-    pub(crate) fn edits(
-        &self,
-        alloc: Global,
-        dirs: &BTreeSet<Path>,
-        numbers: &[u32],
-    ) -> Result<Edits, GraphFault>
-        ensures { GivesUnless result GraphFault.Memory (Ok
-            (news_edits self.now.nodes.now (finite.entries self.now.stamps)
-            ++ gone_edits self.now.stamps (finite.entries self.now.nodes.now.seen)
-            ++ create_edits self.now.nodes.now dirs.now.keys
-            ++ modify_edits self.now.nodes.now numbers.now)) }
+    /// The edits by which files are seen as the scan found them.
+    pub(crate) fn seen_edits(&self, alloc: Global) -> Result<Edits, GraphFault>
+        ensures ok { IfOk result
+            (λ edits. edits ≡ seen_edits self.now.nodes.now self.now.stamps) }
+        ensures err { IfErr result (λ fault. fault ≡ GraphFault.Memory) }
     {
         let mut edits = Items::new(alloc);
         self.push_news(&mut edits)?;
         self.push_gone(&mut edits)?;
-        self.push_created(&mut edits, dirs)?;
-        self.push_flags(&mut edits, numbers)?;
         Ok(edits)
+    }
+
+    /// These folders are to be read and these rules to be run, those aside that are so already.
+    pub(crate) fn push_marks(
+        &self,
+        edits: &mut Edits,
+        dirs: &BTreeSet<Path>,
+        numbers: &[u32],
+    ) -> Result<(), GraphFault>
+        ensures ok { OnOk result (edits.new ≡ edits.old
+            ++ create_edits self.now.nodes.now dirs.now.keys
+            ++ modify_edits self.now.nodes.now numbers.now) }
+        ensures err { IfErr result (λ fault. fault ≡ GraphFault.Memory) }
+    {
+        self.push_created(edits, dirs)?;
+        self.push_flags(edits, numbers)
     }
 
     /// Files that are new, or have another stamp, are seen so.

@@ -11,6 +11,7 @@ mod index;
 mod laws;
 mod names;
 mod present;
+mod roots;
 mod scan;
 mod settings;
 mod stale;

@@ -15,7 +15,9 @@ use tup_scan::Seen;
 /// whose reading was told what isn't so any more. What tup.config sets is read in the one that the scan found, and where
 /// that has a fault each folder that asked it is to be read.
 ///
-/// Of each key there is one edit, and none that changes nothing.
+/// Of each key there is one edit, and none that changes nothing. It looks at the files, at the readings, at the rules that
+/// are flagged or whose records may not tell what was seen before, and at those that use a path which has another stamp
+/// now: a rule that is none of these isn't looked at.
 pub fn note_scan(alloc: Global, graph: &Indexed, seen: &Seen) -> Result<Edits, GraphFault>
     requires runs { AreRunsOfRules graph.now }
     ensures edits { IfOk result (AreScanEdits graph.now seen.now.files seen.now.config) }
@@ -23,6 +25,8 @@ pub fn note_scan(alloc: Global, graph: &Indexed, seen: &Seen) -> Result<Edits, G
 {
     let present = Present::new(alloc, graph.nodes(), seen)?;
     let dirs = present.stale(alloc)?;
-    let numbers = present.to_run(alloc, graph)?;
-    present.edits(alloc, &dirs, numbers.as_slice())
+    let mut edits = present.seen_edits(alloc)?;
+    let numbers = present.to_run(alloc, graph, edits.as_slice())?;
+    present.push_marks(&mut edits, &dirs, numbers.as_slice())?;
+    Ok(edits)
 }

@@ -15,10 +15,10 @@ use Rattle.tup_path.specs.Order.{by_names, by_names-antisymmetric, by_names-tota
 use Rattle.tup_rule.specs.declared.question.Question.{Question}
 use Rattle.tup_graph.specs.Above.{HasAsked}
 use Rattle.tup_graph.specs.Graph.{GraphState}
-use Rattle.tup_index.specs.Index.{AreAskers, AreReaders, HasQuestioned, askers_of}
+use Rattle.tup_index.specs.Index.{AreAskers, AreUsers, HasQuestioned, HasWritten, askers_of}
 use Rattle.tup_index.specs.Sets.{is_in}
 use Rattle.tup_index.specs.declared.askers.Askers.{Askers}
-use Rattle.tup_index.specs.declared.readers.Readers.{Readers}
+use Rattle.tup_index.specs.declared.users.Users.{Users}
 use Rattle.tup_index.proofs.Entries.{exact-decides, none_in}
 
 -- no values are in order
@@ -49,28 +49,41 @@ module _ {K : Type 0} (cmp : K → K → Ordering) (total : IsTotalOrder cmp) (e
   all_listed items found is x = subst (λ (l : List K). Contains l x ↔ (is_in cmp found x ≡ true)) (sym is) (among found x)
 
 -- the rules that asked a path are those in its set
-pub readers_in : (g : GraphState) (readers : Readers) (path : Names) (found : Option (BTreeSet ℕ)) → AreReaders g.runs readers → found ≡ get by_names readers.sets.map path
+pub readers_in : (g : GraphState) (users : Users) (path : Names) (found : Option (BTreeSet ℕ)) → AreUsers g.runs users → found ≡ get by_names users.readers.map path
     → (number : ℕ) → (is_in nat_cmp found number ≡ true) ↔ HasAsked g number path
-readers_in g readers path found are there number = (to, from)
+readers_in g users path found are there number = (to, from)
   where
     to : is_in nat_cmp found number ≡ true → HasAsked g number path
     to h =
-        let (run, here, (other, given), in_it, same) = (are (path, number)).0 (subst (λ (o : Option (BTreeSet ℕ)). is_in nat_cmp o number ≡ true) there h) in
+        let (run, here, (other, given), in_it, same) = (are.0 (path, number)).0 (subst (λ (o : Option (BTreeSet ℕ)). is_in nat_cmp o number ≡ true) there h) in
         (run, given, here, subst (λ (p : Names). Contains run.asks (p, given)) same in_it)
 
     from : HasAsked g number path → is_in nat_cmp found number ≡ true
-    from (run, given, here, in_it) = subst (λ (o : Option (BTreeSet ℕ)). is_in nat_cmp o number ≡ true) (sym there) ((are (path, number)).1 (run, here, (path, given), in_it, refl))
+    from (run, given, here, in_it) = subst (λ (o : Option (BTreeSet ℕ)). is_in nat_cmp o number ≡ true) (sym there) ((are.0 (path, number)).1 (run, here, (path, given), in_it, refl))
+
+-- and those that wrote it
+pub writers_in : (g : GraphState) (users : Users) (path : Names) (found : Option (BTreeSet ℕ)) → AreUsers g.runs users → found ≡ get by_names users.writers.map path
+    → (number : ℕ) → (is_in nat_cmp found number ≡ true) ↔ HasWritten g number path
+writers_in g users path found are there number = (to, from)
+  where
+    to : is_in nat_cmp found number ≡ true → HasWritten g number path
+    to h =
+        let (run, here, (other, given), in_it, same) = (are.1 (path, number)).0 (subst (λ (o : Option (BTreeSet ℕ)). is_in nat_cmp o number ≡ true) there h) in
+        (run, given, here, subst (λ (p : Names). Contains run.writes (p, given)) same in_it)
+
+    from : HasWritten g number path → is_in nat_cmp found number ≡ true
+    from (run, given, here, in_it) = subst (λ (o : Option (BTreeSet ℕ)). is_in nat_cmp o number ≡ true) (sym there) ((are.1 (path, number)).1 (run, here, (path, given), in_it, refl))
 
 -- those that are listed
-pub readers_listed : (g : GraphState) (readers : Readers) (path : Names) (items : List ℕ) (found : Option (BTreeSet ℕ)) → AreReaders g.runs readers → found ≡ get by_names readers.sets.map path
+pub readers_listed : (g : GraphState) (users : Users) (path : Names) (items : List ℕ) (found : Option (BTreeSet ℕ)) → AreUsers g.runs users → found ≡ get by_names users.readers.map path
     → items ≡ values_in nat_cmp nat_cmp_total nat_cmp-IsAntisymmetric found → (number : ℕ) → Contains items number ↔ HasAsked g number path
-readers_listed g readers path items found are there is number = (λ h. asked.0 (listed_so.0 h), λ h. listed_so.1 (asked.1 h))
+readers_listed g users path items found are there is number = (λ h. asked.0 (listed_so.0 h), λ h. listed_so.1 (asked.1 h))
   where
     listed_so : Contains items number ↔ (is_in nat_cmp found number ≡ true)
     listed_so = all_listed nat_cmp nat_cmp_total nat_cmp-IsAntisymmetric items found is number
 
     asked : (is_in nat_cmp found number ≡ true) ↔ HasAsked g number path
-    asked = readers_in g readers path found are there number
+    asked = readers_in g users path found are there number
 
 -- the folders that asked a question are those that are listed
 pub askers_listed : (g : GraphState) (askers : Askers) (question : Question) (items : List Names) (found : Option (BTreeSet Names)) → AreAskers g.readings askers → found ≡ askers_of askers question

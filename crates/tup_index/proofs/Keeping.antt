@@ -10,13 +10,13 @@ use Rattle.tup_index.specs.Changes.{Adds, Takes}
 use Rattle.tup_index.specs.Records.{AreAll, AreIn, AreOf}
 use Rattle.tup_index.proofs.Entries.{entry_found, exact-decides, found_entry}
 
-some_same : {X : Type 0} (x y : X) → Some x ≡ Some y → x ≡ y
+pub some_same : {X : Type 0} (x y : X) → Some x ≡ Some y → x ≡ y
 some_same x y e = cc
 
-none_some : {X : Type 0} (x : X) → None ≡ Some x → ⊥
+pub none_some : {X : Type 0} (x : X) → None ≡ Some x → ⊥
 none_some x e = let no : None ≡ Some x = e in cc
 
-true_false : true ≡ false → ⊥
+pub true_false : true ≡ false → ⊥
 true_false e = let no : true ≡ false = e in cc
 
 module _ {E A K X : Type 0} {R : K → K → Ordering} (total : IsTotalOrder R) (exact : IsAntisymmetric R) (about : E → A) (items : X → List E) where

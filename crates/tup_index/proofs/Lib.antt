@@ -3,3 +3,4 @@ pub mod Adding
 pub mod Keeping
 pub mod Asking
 pub mod Answering
+pub mod Suspecting

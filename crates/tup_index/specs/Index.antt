@@ -1,5 +1,5 @@
 -- Who asked what, by the records of a graph (own).
-use Rattle.std.specs.Prelude.{◌≡◌, ◌↔◌, ℕ, true, List, Option, Some, Contains}
+use Rattle.std.specs.Prelude.{◌≡◌, ◌⊎◌, ◌↔◌, ℕ, true, List, Option, Some, Contains}
 use Rattle.std.specs.BTreeMap.{get}
 use Rattle.std.specs.BTreeSet.{BTreeSet}
 use Rattle.std.specs.FinMap as finite
@@ -17,26 +17,47 @@ use Rattle.tup_index.specs.Records.{AreIn}
 use Rattle.tup_index.specs.Sets.{Has, is_in}
 use Rattle.tup_index.specs.declared.askers.Askers.{Askers}
 use Rattle.tup_index.specs.declared.index.Index.{Index}
-use Rattle.tup_index.specs.declared.readers.Readers.{Readers}
+use Rattle.tup_index.specs.declared.users.Users.{Users}
 
 -- the reading of a folder asked a question
 abbrev pub HasQuestioned : GraphState → Names → Question → Type 0
 HasQuestioned g dir question = (reading : Reading) × (told : Noted) × (finite.get g.readings dir ≡ Some reading) × Contains reading.asked (question, told)
 
--- what a run's record asks, and the path of an ask
+-- the record of a rule wrote a path
+abbrev pub HasWritten : GraphState → ℕ → Names → Type 0
+HasWritten g number path = (run : RunRecord) × (given : Stamp) × (finite.get g.runs number ≡ Some run) × Contains run.writes (path, given)
+
+-- what a run's record asks and what it wrote, and the path of either
 abbrev pub asks_of : RunRecord → List (Names × Option Stamp)
 asks_of run = run.asks
 
-abbrev pub path_of : Names × Option Stamp → Names
-path_of ask = ask.0
+abbrev pub writes_of : RunRecord → List (Names × Stamp)
+writes_of run = run.writes
 
--- a rule is among the readers of a path
-abbrev pub HasReader : Readers → Names × ℕ → Type 0
-HasReader readers = Has by_names nat_cmp readers.sets
+abbrev pub path_of : {T : Type 0} → Names × T → Names
+path_of told = told.0
+
+-- a rule is among the readers of a path, and among its writers
+abbrev pub HasReader : Users → Names × ℕ → Type 0
+HasReader users = Has by_names nat_cmp users.readers
+
+abbrev pub HasWriter : Users → Names × ℕ → Type 0
+HasWriter users = Has by_names nat_cmp users.writers
+
+-- among either
+abbrev pub IsUser : Users → Names → ℕ → Type 0
+IsUser users path number = HasReader users (path, number) ⊎ HasWriter users (path, number)
 
 -- just the rules whose records ask a path are its readers
-abbrev pub AreReaders : finite.FinMap nat_cmp RunRecord → Readers → Type 0
-AreReaders runs readers = (x : Names × ℕ) → HasReader readers x ↔ AreIn path_of asks_of runs x
+abbrev pub AreReaders : finite.FinMap nat_cmp RunRecord → Users → Type 0
+AreReaders runs users = (x : Names × ℕ) → HasReader users x ↔ AreIn path_of asks_of runs x
+
+-- just the rules whose records wrote it are its writers
+abbrev pub AreWriters : finite.FinMap nat_cmp RunRecord → Users → Type 0
+AreWriters runs users = (x : Names × ℕ) → HasWriter users x ↔ AreIn path_of writes_of runs x
+
+abbrev pub AreUsers : finite.FinMap nat_cmp RunRecord → Users → Type 0
+AreUsers runs users = AreReaders runs users × AreWriters runs users
 
 -- what a reading asked, and the question of what it was told
 abbrev pub asked_of : Reading → List (Question × Noted)
@@ -62,4 +83,4 @@ AreAskers readings askers = (x : Question × Names) → HasAsker askers x ↔ Ar
 
 -- an index of a graph: it has just those who asked, by the records of the graph
 abbrev pub IsIndexOf : GraphState → Index → Type 0
-IsIndexOf g index = AreReaders g.runs index.readers × AreAskers g.readings index.askers
+IsIndexOf g index = AreUsers g.runs index.users × AreAskers g.readings index.askers

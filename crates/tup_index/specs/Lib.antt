@@ -3,3 +3,4 @@ pub mod Changes
 pub mod Sets
 pub mod Records
 pub mod Index
+pub mod Suspects

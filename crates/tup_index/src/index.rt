@@ -6,7 +6,7 @@ ghost use Rattle.tup_graph.specs.Opening.{put as put_of};
 ghost use Rattle.tup_index.specs.Index.{IsIndexOf};
 
 use crate::askers::Askers;
-use crate::readers::Readers;
+use crate::users::Users;
 use std::alloc::{AllocError, Global};
 use tup_graph::{Edit, Nodes};
 use tup_record::Record;
@@ -14,7 +14,7 @@ use tup_record::Record;
 /// Who asked what, by the records of a graph.
 #[derive(Drop)]
 pub(crate) struct Index {
-    pub(crate) readers: Readers,
+    pub(crate) users: Users,
     pub(crate) askers: Askers,
 }
 
@@ -24,7 +24,7 @@ impl Index {
         ensures { IsIndexOf empty_graph result }
     {
         Index {
-            readers: Readers::new(alloc),
+            users: Users::new(alloc),
             askers: Askers::new(alloc),
         }
     }
@@ -34,7 +34,7 @@ impl Index {
         ensures { IfOk result (IsIndexOf nodes.now) }
     {
         Ok(Index {
-            readers: Readers::of_nodes(alloc, nodes)?,
+            users: Users::of_nodes(alloc, nodes)?,
             askers: Askers::of_nodes(alloc, nodes)?,
         })
     }
@@ -65,7 +65,7 @@ impl Index {
         ensures { OnOk result (IsIndexOf (put_of nodes.now found.now) self.new) }
     {
         match found {
-            Record::Run { number, run } => self.readers.put(alloc, nodes, *number, run),
+            Record::Run { number, run } => self.users.put(alloc, nodes, *number, run),
             Record::Reading { dir, reading } => self.askers.put(alloc, nodes, dir, reading),
             _ => Ok(()),
         }
@@ -77,7 +77,7 @@ impl Index {
         ensures { IsIndexOf (without nodes.now gone.now) self.new }
     {
         match gone {
-            Record::Run { number, .. } => self.readers.leave_out(nodes, *number),
+            Record::Run { number, .. } => self.users.leave_out(nodes, *number),
             Record::Reading { dir, .. } => self.askers.leave_out(nodes, dir),
             _ => {}
         }

@@ -6,12 +6,14 @@ ghost use Rattle.std.specs.Ordering.{nat_cmp};
 ghost use Rattle.tup_graph.specs.Above.{HasAsked};
 ghost use Rattle.tup_graph.specs.Edits.{edited, edited_by};
 ghost use Rattle.tup_graph.specs.Graph.{empty_graph};
-ghost use Rattle.tup_index.specs.Index.{HasQuestioned};
+ghost use Rattle.tup_index.specs.Index.{HasQuestioned, HasWritten};
 ghost use Rattle.tup_index.specs.Sets.{is_in};
+ghost use Rattle.tup_index.specs.Suspects.{HasAllOthers};
 ghost use Rattle.tup_path.specs.Name.{Names};
 ghost use Rattle.tup_path.specs.Order.{by_names};
 
 use crate::index::Index;
+use crate::suspects::Suspects;
 use std::alloc::{AllocError, Global};
 use std::collections::BTreeSet;
 use std::marker::Model;
@@ -20,18 +22,21 @@ use tup_graph::{Edit, Edits, GraphFault, Nodes};
 use tup_path::{Items, Path};
 use tup_rule::Question;
 
-/// The nodes of a graph with the maps from each path to the rules whose records ask it, and from each question to the
-/// folders whose readings asked it. Contracts see the nodes; the maps are always what their records give.
+/// The nodes of a graph with the maps from each path to the rules whose records ask or wrote it, and from each question to
+/// the folders whose readings asked it, and with the rules whose records may no longer tell what is seen. Contracts see the
+/// nodes; the rest is always what their records give.
 #[derive(Drop)]
 pub struct Indexed {
     nodes: Nodes,
     index: Index,
+    suspects: Suspects,
 }
 
 impl Model for Indexed {
     ghost use Rattle.tup_graph.specs.Graph.{GraphState};
     ghost use Rattle.tup_graph.specs.contracts.nodes.Nodes as of_nodes;
     ghost use Rattle.tup_index.specs.Index.{IsIndexOf};
+    ghost use Rattle.tup_index.specs.Suspects.{AreSuspects};
 
     ghost Value = { GraphState };
 
@@ -39,7 +44,8 @@ impl Model for Indexed {
 
     ghost view = { λ i. i.nodes };
 
-    ghost invariant = { λ i. IsIndexOf i.nodes i.index };
+    ghost invariant = { λ i. IsIndexOf i.nodes i.index
+        × AreSuspects i.nodes.seen i.nodes.runs i.suspects };
 }
 
 impl Indexed {
@@ -50,6 +56,7 @@ impl Indexed {
         Indexed {
             nodes: Nodes::empty(alloc),
             index: Index::new(alloc),
+            suspects: Suspects::new(alloc),
         }
     }
 
@@ -59,7 +66,12 @@ impl Indexed {
         ensures memory { IfErr result (λ fault. fault ≡ GraphFault.Memory) }
     {
         let index = Index::of_nodes(alloc, &nodes)?;
-        Ok(Indexed { nodes, index })
+        let suspects = Suspects::of_nodes(alloc, &nodes)?;
+        Ok(Indexed {
+            nodes,
+            index,
+            suspects,
+        })
     }
 
     /// The nodes.
@@ -74,7 +86,22 @@ impl Indexed {
         ensures { (number : ℕ) → (is_in nat_cmp (option_copied result) number ≡ true)
             ↔ HasAsked self.now number path.now }
     {
-        self.index.readers.of(path)
+        self.index.users.readers(path)
+    }
+
+    /// The rules whose records wrote a path, where there are some.
+    pub fn writers(&self, path: &Path) -> Option<&BTreeSet<u32>>
+        ensures { (number : ℕ) → (is_in nat_cmp (option_copied result) number ≡ true)
+            ↔ HasWritten self.now number path.now }
+    {
+        self.index.users.writers(path)
+    }
+
+    /// Rules whose records may tell other stamps than those that are seen; all that do are among them.
+    pub fn suspects(&self) -> &BTreeSet<u32>
+        ensures { HasAllOthers self.now.seen self.now.runs result.now }
+    {
+        &self.suspects.numbers
     }
 
     /// The rules whose records ask a path, in ascending order.
@@ -84,7 +111,7 @@ impl Indexed {
         ensures ascending { IfOk result (λ numbers. IsStrictlySortedBy nat_cmp numbers.items) }
         ensures memory { IfErr result (λ fault. fault ≡ GraphFault.Memory) }
     {
-        match self.index.readers.of(path) {
+        match self.index.users.readers(path) {
             Some(numbers) => Ok(listed_numbers(alloc, numbers)?),
             None => Ok(Vec::new(alloc)),
         }
@@ -134,12 +161,18 @@ impl Indexed {
         let Indexed {
             mut nodes,
             mut index,
+            mut suspects,
         } = self;
+        suspects.edit(&nodes, &index.users, &edit)?;
         index.edit(alloc, &nodes, &edit)?;
         let mut edits = Items::new(alloc);
         edits.push(edit)?;
         nodes.edit_all(alloc, edits)?;
-        Ok(Indexed { nodes, index })
+        Ok(Indexed {
+            nodes,
+            index,
+            suspects,
+        })
     }
 }
 

@@ -1,6 +1,7 @@
 //! The calls of `index.rows`.
 use crate::record::record_of;
 use std::alloc::Global;
+use std::collections::BTreeSet;
 use std::fmt::Display;
 use tup_graph::{Edit, Edits, GraphFault, Nodes};
 use tup_index::Indexed;
@@ -20,6 +21,8 @@ impl Answers for Indexes {
             "graph" => self.set(alloc, said),
             "edit" => self.edit(alloc, said),
             "readers" => self.readers(alloc, said),
+            "writers" => members(alloc, self.indexed.writers(&said.path_at(alloc, 0))),
+            "suspects" => members(alloc, Some(self.indexed.suspects())),
             _ => self.askers(alloc, call, said),
         })
     }
@@ -67,6 +70,18 @@ impl Indexes {
             None => Words::none(alloc, RowFault::NoSuchCall),
         }
     }
+}
+
+/// How many are in a set, if there is one, and each of them in its order.
+fn members(alloc: Global, set: Option<&BTreeSet<u32>>) -> Words {
+    let Some(set) = set else {
+        return Words::shown(alloc, &0);
+    };
+    let mut words = Words::shown(alloc, &set.len());
+    for one in set {
+        words.show(alloc, one);
+    }
+    words
 }
 
 /// The graph that edits of a new one leave, read for who asked what.

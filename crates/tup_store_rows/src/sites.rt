@@ -4,11 +4,12 @@ ghost use Rattle.tup_site.specs.Memory.{world_in, store_in, moment_of, left_sinc
 ghost use Rattle.tup_table.specs.Appending.{HasShortKey};
 ghost use Rattle.tup_table.specs.Table.{is_fresh, StandsFor};
 
-use crate::changes::{add_entries, changes_of, refused};
+use crate::changes::{add_entries, bytes, changes_of, refused};
 use crate::field::joined;
 use std::alloc::Global;
+use tup_path::Items;
 use tup_rows::{Answers, RowFault, Words};
-use tup_site::{MemSite, Site};
+use tup_site::{Choice, MemRefused, MemSite, Site};
 use tup_table::{Change, Table, TableFault, have_short_keys};
 
 /// Tables over sites in memory, whose store is set by a row.
@@ -27,6 +28,8 @@ impl Answers for Sites {
             "set" => self.set(alloc, said),
             "commit" => commit(alloc, said, &self.store, Vec::new(alloc), said.as_slice()),
             "failing" => self.failing(alloc, said),
+            "crash" => self.crash(alloc, said),
+            "unsynced" => unsynced(alloc, said, &self.store),
             _ => Words::none(alloc, RowFault::NoSuchCall),
         })
     }
@@ -83,6 +86,64 @@ impl Sites {
             None => Words::none(alloc, RowFault::TooFew),
         }
     }
+
+    /// Commits to a site whose call with the first argument's number fails, and then a crash leaves the second argument.
+    fn crash(&self, alloc: Global, said: &Words) -> Words {
+        let Some(words) = said.as_slice().get(2..) else {
+            return Words::none(alloc, RowFault::TooFew);
+        };
+        let fails = one(
+            alloc,
+            said,
+            said.number_at(0).saturating_add(BEFORE_A_COMMIT),
+        );
+        let changes = changes_of(alloc, said, words);
+        match site_with(alloc, &self.store, fails) {
+            Ok(mut site) => crash_in(alloc, &mut site, said.word_at(1), changes.as_slice()),
+            Err(fault) => Words::none(alloc, fault),
+        }
+    }
+}
+
+fn crash_in(alloc: Global, site: &mut MemSite, left: &[u8], changes: &[Change]) -> Words {
+    if !have_short_keys(changes) {
+        return Words::none(alloc, RowFault::OtherKind);
+    }
+    match Table::open(alloc, site) {
+        Ok(mut table) => {
+            let _ = table.commit(alloc, site, changes);
+            crashed(alloc, site, left)
+        }
+        Err(fault) => refused(alloc, fault),
+    }
+}
+
+/// What the opening of a store changes in it, and the entries, where a crash leaves these bytes; or why none can.
+fn crashed(alloc: Global, site: &mut MemSite, left: &[u8]) -> Words {
+    let Ok(db) = bytes(alloc, left) else {
+        return Words::none(alloc, RowFault::Memory);
+    };
+    let tree = Items::new(alloc);
+    match site.crash(alloc, Choice { db, tree }) {
+        Ok(()) => open_in(alloc, left, site),
+        Err(MemRefused::Memory) => Words::none(alloc, RowFault::Memory),
+        Err(refused) => Words::refusal(alloc, &refused),
+    }
+}
+
+/// A store that was written and never synced is opened where the first argument says so, and then a crash leaves the second
+/// argument.
+fn unsynced(alloc: Global, said: &Words, store: &[u8]) -> Words {
+    let Ok(mut site) = MemSite::new(alloc, Vec::new(alloc), Vec::new(alloc)) else {
+        return Words::none(alloc, RowFault::Memory);
+    };
+    if site.db_write(alloc, 0, store).is_err() {
+        return Words::none(alloc, RowFault::Memory);
+    }
+    if said.word_at(0) == b"open".as_slice() && Table::open(alloc, &mut site).is_err() {
+        return Words::none(alloc, RowFault::OtherKind);
+    }
+    crashed(alloc, &mut site, said.word_at(1))
 }
 
 fn one(alloc: Global, said: &Words, number: u64) -> Vec<u64> {

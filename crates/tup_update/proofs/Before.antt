@@ -1,5 +1,5 @@
 -- What is promised of a world behind the opening of its store is promised of the one before it.
-use Rattle.std.proofs.Common.{◌≡◌, ⊎_elim, inl, inr, ◌∙◌, Bool, IsSome, List, Option, None, Some, Result, Ok, Err, IfErr}
+use Rattle.std.proofs.Common.{◌≡◌, ⊎_elim, inl, inr, Bool, IsSome, List, Option, None, Some, Result, Ok, Err, IfErr}
 use Rattle.tup_path.specs.Name.{Names}
 use Rattle.tup_site.specs.World.{World}
 use Rattle.tup_site.specs.declared.fault.SiteFailed.TheVariants.{Fault, TooLarge, Memory}
@@ -14,7 +14,7 @@ use Rattle.tup_update.specs.Outcome.{AllIsMade, ClaimedListed, ExactlyTheFiles, 
 use Rattle.tup_update.specs.Parts.{StopsMaking}
 use Rattle.tup_update.specs.Sources.{IsAsked, outputs, sources}
 use Rattle.tup_update.specs.declared.stop.Stop.{Stop}
-use Rattle.tup_update.specs.declared.stop.Stop.TheVariants.{BadStore, Sources, Bad, Run, Full, Outside}
+use Rattle.tup_update.specs.declared.stop.Stop.TheVariants.{NoStore, BadStore, Sources, Bad, Run, Full, Outside}
 use Rattle.tup_update.specs.declared.update.Log.{Log}
 use Rattle.tup_update.proofs.Held.{held_before, holds_then, shown_before}
 
@@ -38,12 +38,13 @@ module _ (rules : List Rule) (old mid new : World) (on : HoldsOn old mid) where
     left_before : IsLeft tells next rules mid new → IsLeft tells next rules old new
     left_before left = (
       asked_before left.0,
-      ⊎_elim (λ listed. inl (claimed_before listed))
-          (λ rest. inr (⊎_elim (λ same. inl (same ∙ on.tree)) (λ made. inr (held_before old mid on (λ held. AllIsMade tells next rules held new) made)) rest)) left.1,
+      ⊎_elim (λ holds. inl (holds_then old mid new on holds))
+          (λ rest. inr (⊎_elim (λ listed. inl (claimed_before listed)) (λ made. inr (held_before old mid on (λ held. AllIsMade tells next rules held new) made)) rest)) left.1,
     )
 
     forgotten_before : (stopped : Option Stop) → MakesOn stopped → NothingForgotten tells next rules mid new stopped → NothingForgotten tells next rules old new stopped
     forgotten_before None makes kept = held_before old mid on (λ held. IsListed (ascending (outputs rules)) held new) kept
+    forgotten_before (Some NoStore) makes kept = absurd makes
     forgotten_before (Some (BadStore offset)) makes kept = absurd makes
     forgotten_before (Some (Sources fault)) makes kept = absurd makes
     forgotten_before (Some (Bad name verdict)) makes kept = claimed_before kept
@@ -51,12 +52,13 @@ module _ (rules : List Rule) (old mid new : World) (on : HoldsOn old mid) where
     forgotten_before (Some Full) makes kept = left_before kept
     forgotten_before (Some (Outside (TooLarge n))) makes kept = ⊎_elim (λ same. inl (holds_then old mid new on same)) (λ listed. inr (asked_before listed.0, claimed_before listed.1)) kept
     forgotten_before (Some (Outside Fault)) makes kept =
-        ⊎_elim (λ same. inl (holds_then old mid new on same)) (λ rest. inr (⊎_elim (λ none. inl (on.none none.0, none.1 ∙ on.tree)) (λ left. inr (left_before left)) rest)) kept
+        ⊎_elim (λ same. inl (holds_then old mid new on same)) (λ left. inr (left_before left)) kept
     forgotten_before (Some (Outside Memory)) makes kept =
-        ⊎_elim (λ same. inl (holds_then old mid new on same)) (λ rest. inr (⊎_elim (λ none. inl (on.none none.0, none.1 ∙ on.tree)) (λ left. inr (left_before left)) rest)) kept
+        ⊎_elim (λ same. inl (holds_then old mid new on same)) (λ left. inr (left_before left)) kept
 
   fit_before : (stopped : Option Stop) → MakesOn stopped → RulesFit mid rules stopped → RulesFit old rules stopped
   fit_before None makes fit = asked_before fit
+  fit_before (Some NoStore) makes fit = absurd makes
   fit_before (Some (BadStore offset)) makes fit = absurd makes
   fit_before (Some (Sources fault)) makes fit = absurd makes
   fit_before (Some (Bad name verdict)) makes fit = asked_before fit
@@ -81,6 +83,7 @@ module _ (rules : List Rule) (old mid new : World) (on : HoldsOn old mid) where
 
     bad_before : (stopped : Option Stop) → MakesOn stopped → MadeBeforeBad next rules mid new stopped → MadeBeforeBad next rules old new stopped
     bad_before None makes made = tt
+    bad_before (Some NoStore) makes made = absurd makes
     bad_before (Some (BadStore offset)) makes made = absurd makes
     bad_before (Some (Sources fault)) makes made = absurd makes
     bad_before (Some (Bad name verdict)) makes made = held_before old mid on (λ held. IsBehindBad next rules held new) made
@@ -90,6 +93,7 @@ module _ (rules : List Rule) (old mid new : World) (on : HoldsOn old mid) where
 
     cause_before : (stopped : Option Stop) → MakesOn stopped → HasCause next rules mid new stopped → HasCause next rules old new stopped
     cause_before None makes why = tt
+    cause_before (Some NoStore) makes why = absurd makes
     cause_before (Some (BadStore offset)) makes why = absurd makes
     cause_before (Some (Sources fault)) makes why = absurd makes
     cause_before (Some (Bad name verdict)) makes why = held_before old mid on (λ held. IsBadRule next rules held name verdict) why
@@ -104,6 +108,7 @@ module _ (rules : List Rule) (old mid new : World) (on : HoldsOn old mid) where
 
     log_before : (stopped : Option Stop) → MakesOn stopped → LogFits next rules mid log stopped → LogFits next rules old log stopped
     log_before None makes fits = held_before old mid on (λ held. log ≡ whole_log next rules held) fits
+    log_before (Some NoStore) makes fits = absurd makes
     log_before (Some (BadStore offset)) makes fits = absurd makes
     log_before (Some (Sources fault)) makes fits = absurd makes
     log_before (Some (Bad name verdict)) makes fits = held_before old mid on (λ held. log ≡ whole_log next rules held) fits

@@ -1,5 +1,5 @@
 -- The rules that are begun, one after another, and what their runner ran.
-use Rattle.std.proofs.Common.{◌≡◌, inl, inr, ℕ, List, [], ◌∷◌, ◌++◌, map, Option, None, Some, Result, Ok, Err, refl, sym, ◌∙◌, ap, subst, append_assoc, append-nil}
+use Rattle.std.proofs.Common.{◌≡◌, inl, inr, ℕ, List, [], ◌∷◌, ◌++◌, map, Option, None, Some, Result, Ok, Err, sym, ◌∙◌, ap, subst, append_assoc, append-nil}
 use Rattle.std.specs.Result.{IsErrAnd}
 use Rattle.std.proofs.lemmas.List.{map-append}
 use Rattle.tup_path.specs.Name.{Names}
@@ -7,14 +7,13 @@ use Rattle.tup_site.specs.declared.fault.SiteFailed.TheVariants.{Fault, TooLarge
 use Rattle.tup_rule.specs.declared.rule.RuleName.{RuleName}
 use Rattle.tup_access.specs.declared.verdict.Verdict.{Verdict}
 use Rattle.tup_update.specs.Outcome.{HasRunCause}
-use Rattle.tup_update.specs.Opened.{StopsOpening}
-use Rattle.tup_update.specs.Parts.{IsLate, StopsAt}
+use Rattle.tup_update.specs.Parts.{StopsAt}
 use Rattle.tup_update.specs.Ran.{command_of, RanAll, RunsThese, BeginsOne, stopped_by, comes_to}
 use Rattle.tup_update.specs.Stopped.{stop_of_halt}
 use Rattle.tup_update.specs.declared.stop.Halt.{Halt}
 use Rattle.tup_update.specs.declared.stop.Halt.TheVariants.{Run as RunHalted, Outside as Halted}
 use Rattle.tup_update.specs.declared.stop.Stop.{Stop}
-use Rattle.tup_update.specs.declared.stop.Stop.TheVariants.{BadStore, Sources, Bad, Run, Full, Outside}
+use Rattle.tup_update.specs.declared.stop.Stop.TheVariants.{NoStore, BadStore, Sources, Bad, Run, Full, Outside}
 
 -- nothing
 pub ran_none : (rules : List RuleName) (old : List (Names × List ℕ)) → rules ≡ [] → RanAll rules old old
@@ -31,6 +30,7 @@ ran_more rule front rules old between new before is one =
 -- all that was begun, however the update stopped
 pub ran_all_of : (rules : List RuleName) (old new : List (Names × List ℕ)) (stopped : Option Stop) → RanAll rules old new → RunsThese rules old new stopped
 ran_all_of rules old new None ran = ran
+ran_all_of rules old new (Some NoStore) ran = ran
 ran_all_of rules old new (Some (BadStore offset)) ran = ran
 ran_all_of rules old new (Some (Sources fault)) ran = ran
 ran_all_of rules old new (Some (Bad name verdict)) ran = ran
@@ -62,24 +62,3 @@ ran_to_halt (Halted Fault) rule front rules old between new before is one = ran_
 ran_to_halt (Halted (TooLarge n)) rule front rules old between new before is one = ran_more rule front rules old between new before is one
 ran_to_halt (Halted Memory) rule front rules old between new before is (inl none) = inr (front, rule, is, none ∙ before)
 ran_to_halt (Halted Memory) rule front rules old between new before is (inr one) = inl (ran_more rule front rules old between new before is one)
-
--- what stops an opening, or the writing of the store, is no runner
-pub opening_runs : (count : ℕ) (stop : Stop) → StopsOpening stop → HasRunCause count count (Some stop)
-opening_runs count (BadStore offset) stops = refl
-opening_runs count (Outside Fault) stops = refl
-opening_runs count (Outside Memory) stops = refl
-opening_runs count (Sources fault) stops = absurd stops
-opening_runs count (Bad rule verdict) stops = absurd stops
-opening_runs count Run stops = absurd stops
-opening_runs count Full stops = absurd stops
-opening_runs count (Outside (TooLarge n)) stops = absurd stops
-
-pub late_runs : (before now : ℕ) (stop : Stop) → IsLate stop → now ≡ before → HasRunCause before now (Some stop)
-late_runs before now Full late same = same
-late_runs before now (Outside Fault) late same = same
-late_runs before now (Outside Memory) late same = same
-late_runs before now (BadStore offset) late same = absurd late
-late_runs before now (Sources fault) late same = absurd late
-late_runs before now (Bad rule verdict) late same = absurd late
-late_runs before now Run late same = absurd late
-late_runs before now (Outside (TooLarge n)) late same = absurd late

@@ -32,14 +32,13 @@ use Rattle.tup_clean.proofs.Whole.{good_is}
 use Rattle.tup_clean.proofs.Turns.{all_are_good, is_the_good, succeeds_all}
 use Rattle.tup_update.proofs.Reading.{from_T}
 use Rattle.tup_update.specs.Compared.{AreCompared, HasCompared, HasBuilt, BuildsWell, BuildsAlike, IsGoodBuild, NoneIsBad, RunsBuildOf, RunsIt, RunsToCompare, compared_at, difference, first_of, same_file}
-use Rattle.tup_update.specs.Opened.{IsUnlisted, StopsOpening}
 use Rattle.tup_update.specs.Parts.{HasFileOf, IsUnread, NoDamage}
 use Rattle.tup_update.proofs.Held.{shown_before}
 use Rattle.tup_update.specs.Sources.{AsksFor, build, sources}
 use Rattle.tup_update.specs.Stopped.{stop_of}
 use Rattle.tup_update.specs.declared.compare.Compared.{Compared}
 use Rattle.tup_update.specs.declared.stop.Stop.{Stop}
-use Rattle.tup_update.specs.declared.stop.Stop.TheVariants.{BadStore, Sources, Bad, Run, Full, Outside}
+use Rattle.tup_update.specs.declared.stop.Stop.TheVariants.{NoStore, BadStore, Sources, Bad, Run, Full, Outside}
 use Rattle.tup_update.specs.declared.stop.Unread.{Unread}
 use Rattle.tup_update.specs.declared.stop.Unread.TheVariants.{Sources as NoRules, Outside as Unlucky}
 
@@ -241,11 +240,6 @@ module _ (next : Next) (rules : List Rule) (sources : Tree) (buildable : IsBuild
 pub all_is_front : (all old new : List (Names × List ℕ)) → new ≡ old ++ all → RunsFront all old new
 all_is_front all old new ran = (all, [], append-nil all, ran)
 
--- what stops the reading of the sources is no damage of the store
-pub unread_sound : (unread : Unread) → NoDamage (stop_of unread)
-unread_sound (NoRules fault) = tt
-unread_sound (Unlucky failed) = tt
-
 module _ (next : Next) (w : World) where
   -- where the sources can't be read, or ask for no rules
   pub unread_compared : (unread : Unread) → IsUnread w unread → HasCompared next w (Err (stop_of unread))
@@ -271,6 +265,7 @@ module _ (next : Next) (w : World) where
       by : (r : Result Entries Stop) → IsGoodBuild rules (clean next rules (sources held)) r → HasBuilt next w r
       by (Ok files) (good, are) = record { held = held; shows = shows; rules = rules; asked = asked; buildable = buildable; clean = good_succeeds next rules (sources held) buildable good; are = are }
       by (Err (Bad name verdict)) first = record { held = held; shows = shows; rules = rules; asked = asked; first = first }
+      by (Err NoStore) never = absurd never
       by (Err (BadStore offset)) never = absurd never
       by (Err (Sources fault)) never = absurd never
       by (Err Run) is = tt
@@ -288,6 +283,7 @@ module _ (next : Next) (w : World) where
       by : (r : Result Entries Stop) → IsGoodBuild rules (clean next rules sorted) r → RunsBuildOf (commands next rules (sources held)) old new (result_err r) → RunsToCompare next w old new (result_err r)
       by (Ok files) is ran = record { held = held; shows = shows; rules = rules; asked = asked; ran = ran }
       by (Err (Bad name verdict)) is ran = record { held = held; shows = shows; rules = rules; asked = asked; ran = ran }
+      by (Err NoStore) never ran = absurd never
       by (Err (BadStore offset)) never ran = absurd never
       by (Err (Sources fault)) never ran = absurd never
       by (Err Full) never ran = absurd never
@@ -312,6 +308,7 @@ module _ (next : Next) (w : World) where
 module _ (next : Next) (old mid : World) (on : HoldsOn old mid) where
   pub compared_before : (result : Result Compared Stop) → IfErr result NoDamage → HasCompared next mid result → HasCompared next old result
   compared_before (Ok compared) opened has = record { held = has.held; shows = shown_before old mid on has.held has.shows; rules = has.rules; asked = has.asked; clean = has.clean; alike = has.alike }
+  compared_before (Err NoStore) opened has = absurd opened
   compared_before (Err (BadStore offset)) opened has = absurd opened
   compared_before (Err (Sources fault)) opened has = (has.0, shown_before old mid on has.0 has.1, has.2)
   compared_before (Err (Bad name verdict)) opened has = record { held = has.held; shows = shown_before old mid on has.held has.shows; rules = has.rules; asked = has.asked; first = has.first }
@@ -327,29 +324,10 @@ module _ (next : Next) (old mid : World) (on : HoldsOn old mid) where
 
     pub runs_before : (stopped : Option Stop) → RunsToCompare next mid before now stopped → RunsToCompare next old before now stopped
     runs_before None runs = it_before None runs
+    runs_before (Some NoStore) runs = runs
     runs_before (Some (BadStore offset)) runs = runs
     runs_before (Some (Sources fault)) runs = runs
     runs_before (Some (Bad name verdict)) runs = it_before (Some (Bad name verdict)) runs
     runs_before (Some Run) runs = it_before (Some Run) runs
     runs_before (Some Full) runs = runs
     runs_before (Some (Outside failed)) runs = ⊎_elim inl (λ it. inr (it_before (Some (Outside failed)) it)) runs
-
--- where the store couldn't be opened, nothing was compared and nothing run
-module _ (next : Next) (old : World) where
-  pub unlisted_compared : (stop : Stop) → StopsOpening stop → IsUnlisted old stop → HasCompared next old (Err stop)
-  unlisted_compared (BadStore offset) stops why = why
-  unlisted_compared (Sources fault) stops why = absurd stops
-  unlisted_compared (Bad rule verdict) stops why = absurd stops
-  unlisted_compared Run stops why = absurd stops
-  unlisted_compared Full stops why = absurd stops
-  unlisted_compared (Outside Fault) stops why = tt
-  unlisted_compared (Outside (TooLarge n)) stops why = absurd stops
-  unlisted_compared (Outside Memory) stops why = tt
-
-  pub unlisted_runs : (ran : List (Names × List ℕ)) (stop : Stop) → StopsOpening stop → RunsToCompare next old ran ran (Some stop)
-  unlisted_runs ran (BadStore offset) stops = refl
-  unlisted_runs ran (Sources fault) stops = absurd stops
-  unlisted_runs ran (Bad rule verdict) stops = absurd stops
-  unlisted_runs ran Run stops = absurd stops
-  unlisted_runs ran Full stops = absurd stops
-  unlisted_runs ran (Outside failed) stops = inl refl

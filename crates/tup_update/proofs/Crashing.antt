@@ -10,20 +10,25 @@ use Rattle.tup_path.specs.Order.{same_path}
 use Rattle.tup_path.specs.Tree.{Tree}
 use Rattle.tup_path.proofs.Same.{same_path-decides}
 use Rattle.tup_site.specs.Cause.{SameBut}
-use Rattle.tup_site.specs.Crash.{GoesOn, NoStep, FileStep, PinsStore}
+use Rattle.tup_site.specs.Crash.{GoesOn, NoStep, FileStep, LeavesOnly, PinsStore}
 use Rattle.tup_site.specs.World.{World, TreeStays, StoreStays}
 use Rattle.tup_table.proofs.Going.{IsEarlier, as_step, nothing_then, then_on}
 use Rattle.tup_rule.specs.declared.rule.Rule.{Rule}
 use Rattle.tup_rule.specs.Rule.{among}
 use Rattle.tup_rule.proofs.Laws.{writes-at}
 use Rattle.tup_runner.specs.Next.{Next}
+use Rattle.tup_clean.specs.Buildable.{IsBuildable}
+use Rattle.tup_graph.specs.Graph.{GraphState}
+use Rattle.tup_kept.specs.Crash.{GraphStep, HasEither}
 use Rattle.tup_ledger.specs.Listing.{SettledStep}
+use Rattle.tup_ledger.specs.Owned.{owned_in}
+use Rattle.tup_ledger.proofs.Listing.{either_lists}
 use Rattle.tup_update.specs.Holding.{Holding, HoldsOn, Lists, Shows, holding}
-use Rattle.tup_update.specs.Images.{FilesStep, ListedStep, MakesStep, OpensStep, UpdateStep}
+use Rattle.tup_update.specs.Images.{FilesStep, GivenStep, ListedStep, MakesStep, UpdateStep}
 use Rattle.tup_update.specs.Outcome.{claimed, AllIsMade}
-use Rattle.tup_update.specs.Parts.{Changes, IsBuilt, IsProject, SameBeside, SameBesideOutputs}
+use Rattle.tup_update.specs.Parts.{Changes, IsProject, SameBeside, SameBesideOutputs}
 use Rattle.tup_update.specs.SeeingLaws.{rests}
-use Rattle.tup_update.specs.Sources.{outputs, vanished, files_beside, build, AsksFor}
+use Rattle.tup_update.specs.Sources.{vanished, sources, AsksFor}
 use Rattle.tup_update.specs.declared.project.Project.{Project}
 use Rattle.tup_update.proofs.Held.{shows_one, held_before, shown_before}
 use Rattle.tup_update.proofs.Preparing.{kept_beside}
@@ -122,14 +127,15 @@ module _ {S : Type 0} (moment : S → ℕ) (left_since : S → ℕ → World →
       by (inr none) path outside = ap (among path) none
 
   -- two calls with steps of their own
-  pub joined_on : (old mid new : S) (first last both : World → World → Type 0) → IsEarlier moment left_since mid → ((v w : World) → first v w → both v w) → ((v w : World) → last v w → both v w) →
-      ((u v w : World) → first u v → last v w → both u w) → GoesOn moment left_since old mid first → GoesOn moment left_since mid new last → GoesOn moment left_since old new both
+  pub joined_on : (old mid new : S) (first last both : World → World → Type 0) → IsEarlier moment left_since mid → ((v w : World) → first v w → both v w) →
+      ((v w : World) → left_since old (moment old) v → last v w → both v w) → ((u v w : World) → first u v → last v w → both u w) →
+      GoesOn moment left_since old mid first → GoesOn moment left_since mid new last → GoesOn moment left_since old new both
   joined_on old mid new first last both earlier one two joined before behind = record {
     later = omega (arith, before.later, behind.later);
     kept = λ t w le left. behind.kept t w (omega (arith, le, before.later)) (before.kept t w le left);
     since = λ t w le left.
         ⊎_elim (λ now. ⊎_elim inl (λ from. inr (from.0, from.1, one from.0 w from.2)) (before.since t w le now))
-        (λ from. inr (⊎_elim (λ there. (from.0, there, two from.0 w from.2)) (λ back. (back.0, back.1, joined back.0 from.0 w back.2 from.2))
+        (λ from. inr (⊎_elim (λ there. (from.0, there, two from.0 w there from.2)) (λ back. (back.0, back.1, joined back.0 from.0 w back.2 from.2))
         (before.since (moment old) from.0 (omega arith) (earlier (moment old) (moment mid) from.0 before.later from.1))))
         (behind.since t w (omega (arith, le, before.later)) left);
   }
@@ -144,73 +150,99 @@ module _ {S : Type 0} (moment : S → ℕ) (left_since : S → ℕ → World →
       (on.since (moment old) w (omega arith) (earlier (moment old) (moment new) w on.later left))
 
   -- a commit is made, and no file was touched yet
-  pub written_only : (old new : S) (vanishing paths : List Names) → GoesOn moment left_since old new TreeStays → GoesOn moment left_since old new (ListedStep (SameBeside vanishing) paths)
-  written_only old new vanishing paths on =
-      as_step moment left_since old new TreeStays (ListedStep (SameBeside vanishing) paths)
-      (λ v w left same. (let step : ListedStep (SameBeside vanishing) paths v w = record { files = λ path outside. ap (λ (t : Tree). finite.get t path) same; listed = inr same } in step)) on
+  written_step : (g h : GraphState) (vanishing paths : List Names) → owned_in h ≡ paths → (v w : World) → GraphStep g h v w → ListedStep (SameBeside vanishing) (owned_in g) paths v w
+  written_step g h vanishing paths is v w step = record {
+    files = λ path outside. ap (λ (t : Tree). finite.get t path) step.tree;
+    listed = ⊎_elim (λ still. inr (still, step.tree)) inl (either_lists g h paths is w step.store);
+  }
+
+  pub written_only : (old new : S) (g h : GraphState) (vanishing paths : List Names) → owned_in h ≡ paths → GoesOn moment left_since old new (GraphStep g h) →
+      GoesOn moment left_since old new (ListedStep (SameBeside vanishing) (owned_in g) paths)
+  written_only old new g h vanishing paths is on =
+      as_step moment left_since old new (GraphStep g h) (ListedStep (SameBeside vanishing) (owned_in g) paths) (λ v w left step. written_step g h vanishing paths is v w step) on
 
   -- a commit is made durably, and then files are removed
-  pub prepared : (old mid new : S) (vanishing slice : List Names) (now : World) (paths : List Names) → slice ≡ vanishing → IsEarlier moment left_since mid → GoesOn moment left_since old mid TreeStays →
-      PinsStore (left_since mid (moment mid)) now → Lists now.store paths → GoesOn moment left_since mid new (FilesStep (SameBeside slice)) → GoesOn moment left_since old new (ListedStep (SameBeside vanishing) paths)
-  prepared old mid new vanishing slice now paths is earlier written pinned stored removed =
-      joined_on old mid new TreeStays last (ListedStep (SameBeside vanishing) paths) earlier
-      (λ v w same. (let step : ListedStep (SameBeside vanishing) paths v w = record { files = λ path outside. ap (λ (t : Tree). finite.get t path) same; listed = inr same } in step))
-      (λ v w step. (let now : ListedStep (SameBeside vanishing) paths v w = record { files = step.0; listed = inl step.1 } in now))
-      (λ u v w same step. (let now : ListedStep (SameBeside vanishing) paths u w = record { files = λ path outside. step.0 path outside ∙ ap (λ (t : Tree). finite.get t path) same; listed = inl step.1 } in now))
+  pub prepared : (old mid new : S) (g h : GraphState) (vanishing slice : List Names) (now : World) (paths : List Names) → owned_in h ≡ paths → slice ≡ vanishing → IsEarlier moment left_since mid →
+      GoesOn moment left_since old mid (GraphStep g h) → PinsStore (left_since mid (moment mid)) now → Lists now.store paths → GoesOn moment left_since mid new (FilesStep (SameBeside slice)) →
+      GoesOn moment left_since old new (ListedStep (SameBeside vanishing) (owned_in g) paths)
+  prepared old mid new g h vanishing slice now paths commits is earlier written pinned stored removed =
+      joined_on old mid new (GraphStep g h) last both earlier (written_step g h vanishing paths commits)
+      (λ v w left step. (let now : both v w = record { files = step.0; listed = inl step.1 } in now))
+      (λ u v w commit step. (let now : both u w = record { files = λ path outside. step.0 path outside ∙ ap (λ (t : Tree). finite.get t path) commit.tree; listed = inl step.1 } in now))
       written (as_step moment left_since mid new (FilesStep (SameBeside slice)) last
       (λ v w left step. (λ path outside. step.files path (ap (among path) is ∙ outside), subst (λ (b : List ℕ). Lists b paths) (sym (step.store ∙ pinned v left)) stored)) removed)
     where
       last : World → World → Type 0
       last v w = SameBeside vanishing v.tree w.tree × Lists w.store paths
 
+      both : World → World → Type 0
+      both = ListedStep (SameBeside vanishing) (owned_in g) paths
+
+  -- the files are settled, and then paths are given up
+  pub given_so : (old new : S) (g h : GraphState) (paths : List Names) (now : World) → owned_in h ≡ paths → LeavesOnly moment left_since old new (HasEither g h) → GoesOn moment left_since old new (SettledStep now) →
+      GoesOn moment left_since old new (GivenStep (owned_in g) paths now)
+  given_so old new g h paths now is only settled = record {
+    later = settled.later;
+    kept = settled.kept;
+    since = λ t w le left.
+        ⊎_elim inl (λ from. ⊎_elim inl (λ either. inr (from.0, from.1, step from.0 w from.2 either)) (only.before t w le left)) (settled.since t w le left);
+  }
+    where
+      step : (v w : World) → SettledStep now v w → HasEither g h w → GivenStep (owned_in g) paths now v w
+      step v w same either = record { stays = same.0; files = same.1; listed = either_lists g h paths is w either }
+
+  -- what is listed now, whatever a crash leaves lists
+  pub still_lists : (site : S) (now : World) (paths : List Names) → PinsStore (left_since site (moment site)) now → Lists now.store paths → (v : World) → left_since site (moment site) v → Lists v.store paths
+  still_lists site now paths pinned lists v left = subst (λ (b : List ℕ). Lists b paths) (sym (pinned v left)) lists
+
   -- ---- a whole update: the store is written and vanished files are removed, rules are run, and the store is written again
-  module _ (tells : Bool) (next : Next) (rules : List Rule) (was : World) (start : Holding) (read : Shows was start) (asked : AsksFor start rules) where
+  module _ (tells : Bool) (next : Next) (rules : List Rule) (was : World) (start : Holding) (read : Shows was start) (asked : AsksFor start rules) (buildable : IsBuildable (sources start) rules)
+      (old : S) (lists : (v : World) → left_since old (moment old) v → Lists v.store start.owned) where
     abbrev makes : World → World → Type 0
     makes = MakesStep tells next rules was
 
     abbrev left_by : World → World → Holding → Type 0
-    left_by v w held = Lists w.store (claimed rules held) ⊎ TreeStays v w ⊎ AllIsMade tells next rules held w
+    left_by v w held = Lists w.store (claimed rules held) ⊎ (Lists w.store held.owned × TreeStays v w) ⊎ AllIsMade tells next rules held w
 
     -- what is so of what was held then is so of all that the world held
-    made_step : (v w : World) → Changes start.owned rules v.tree w.tree → left_by v w start → makes v w
-    made_step v w changes left = record {
+    made_step : (v w : World) → Lists v.store start.owned → Changes start.owned rules v.tree w.tree → left_by v w start → makes v w
+    made_step v w from changes left = record {
       asked = (start, read, asked);
+      buildable = λ held shows. subst (λ (h : Holding). IsBuildable (sources h) rules) (shows_one was start held read shows) buildable;
+      from = λ held shows. subst (λ (h : Holding). Lists v.store h.owned) (shows_one was start held read shows) from;
       files = λ held shows. subst (λ (h : Holding). Changes h.owned rules v.tree w.tree) (shows_one was start held read shows) changes;
       listed = λ held shows. subst (left_by v w) (shows_one was start held read shows) left;
     }
 
-    pub prepared_so : (old new : S) (vanishing claiming : List Names) → vanishing ≡ vanished rules start → claiming ≡ claimed rules start →
-        GoesOn moment left_since old new (ListedStep (SameBeside vanishing) claiming) → GoesOn moment left_since old new makes
-    prepared_so old new vanishing claiming is claims on =
-        as_step moment left_since old new (ListedStep (SameBeside vanishing) claiming) makes
+    pub prepared_so : (new : S) (vanishing before claiming : List Names) → vanishing ≡ vanished rules start → start.owned ≡ before → claiming ≡ claimed rules start →
+        GoesOn moment left_since old new (ListedStep (SameBeside vanishing) before claiming) → GoesOn moment left_since old new makes
+    prepared_so new vanishing before claiming is owned claims on =
+        as_step moment left_since old new (ListedStep (SameBeside vanishing) before claiming) makes
         (λ v w left step.
-        made_step v w (λ path unowned unmade. step.files path (ap (among path) is ∙ kept_beside start.owned (finite.keys start.tree) rules path unowned))
-        (⊎_elim (λ stored. inl (subst (Lists w.store) claims stored)) (λ same. inr (inl same)) step.listed)) on
+        made_step v w (lists v left) (λ path unowned unmade. step.files path (ap (among path) is ∙ kept_beside start.owned (finite.keys start.tree) rules path unowned))
+        (⊎_elim (λ stored. inl (subst (Lists w.store) claims stored)) (λ still. inr (inl (subst (Lists w.store) (sym owned) still.0, still.1))) step.listed)) on
 
-    pub ran_so : (old mid new : S) (now : World) → IsEarlier moment left_since mid → PinsStore (left_since mid (moment mid)) now → Lists now.store (claimed rules start) → GoesOn moment left_since old mid makes →
+    pub ran_so : (mid new : S) (now : World) → IsEarlier moment left_since mid → PinsStore (left_since mid (moment mid)) now → Lists now.store (claimed rules start) → GoesOn moment left_since old mid makes →
         GoesOn moment left_since mid new (FilesStep (SameBesideOutputs rules)) → GoesOn moment left_since old new makes
-    ran_so old mid new now earlier pinned reads before ran =
+    ran_so mid new now earlier pinned reads before ran =
         joined_on old mid new makes last makes earlier (λ v w step. step)
-        (λ v w step. made_step v w (λ path unowned unmade. step.0 path unmade) (inl step.1))
-        (λ u v w one two. made_step u w (λ path unowned unmade. two.0 path unmade ∙ one.files start read path unowned unmade) (inl two.1))
+        (λ v w left step. made_step v w (lists v left) (λ path unowned unmade. step.0 path unmade) (inl step.1))
+        (λ u v w one two. made_step u w (one.from start read) (λ path unowned unmade. two.0 path unmade ∙ one.files start read path unowned unmade) (inl two.1))
         before (as_step moment left_since mid new (FilesStep (SameBesideOutputs rules)) last (λ v w left step. (step.files, subst (λ (b : List ℕ). Lists b (claimed rules start)) (sym (step.store ∙ pinned v left)) reads)) ran)
       where
         last : World → World → Type 0
         last v w = SameBesideOutputs rules v.tree w.tree × Lists w.store (claimed rules start)
 
-    -- all is made in every world with these files
-    made_in : (now w : World) → AllIsMade tells next rules start now → TreeStays now w → AllIsMade tells next rules start w
-    made_in now w made same = record {
-      beside = ap (files_beside (outputs rules)) same ∙ made.beside;
-      built = λ means. subst (IsBuilt (build next rules start)) (sym same) (made.built means);
-    }
-
-    pub finished_so : (old mid new : S) (now : World) → IsEarlier moment left_since mid → AllIsMade tells next rules start now → GoesOn moment left_since old mid makes → GoesOn moment left_since mid new (SettledStep now) →
+    pub finished_so : (mid new : S) (claiming left : List Names) (now : World) → IsEarlier moment left_since mid → claiming ≡ claimed rules start →
+        ((w : World) → TreeStays now w → Lists w.store left → AllIsMade tells next rules start w) → GoesOn moment left_since old mid makes → GoesOn moment left_since mid new (GivenStep claiming left now) →
         GoesOn moment left_since old new makes
-    finished_so old mid new now earlier made before on =
-        joined_on old mid new makes (SettledStep now) makes earlier (λ v w step. step)
-        (λ v w step. made_step v w (λ path unowned unmade. ap (λ (t : Tree). finite.get t path) step.0) (inr (inr (made_in now w made step.1))))
-        (λ u v w one step. made_step u w (λ path unowned unmade. ap (λ (t : Tree). finite.get t path) step.0 ∙ one.files start read path unowned unmade) (inr (inr (made_in now w made step.1)))) before on
+    finished_so mid new claiming left now earlier claims made before on =
+        joined_on old mid new makes (GivenStep claiming left now) makes earlier (λ v w step. step)
+        (λ v w there step. made_step v w (lists v there) (λ path unowned unmade. ap (λ (t : Tree). finite.get t path) step.stays) (by v v w step))
+        (λ u v w one step. made_step u w (one.from start read) (λ path unowned unmade. ap (λ (t : Tree). finite.get t path) step.stays ∙ one.files start read path unowned unmade) (by u v w step)) before on
+      where
+        by : (u v w : World) → GivenStep claiming left now v w → left_by u w start
+        by u v w step = ⊎_elim (λ stored. inl (subst (Lists w.store) claims stored)) (λ given. inr (inr (made w step.files given))) step.listed
 
   -- ---- the store is opened first
 
@@ -218,32 +250,33 @@ module _ {S : Type 0} (moment : S → ℕ) (left_since : S → ℕ → World →
   made_before : (tells : Bool) (next : Next) (rules : List Rule) (was mid v w : World) → HoldsOn was mid → MakesStep tells next rules mid v w → MakesStep tells next rules was v w
   made_before tells next rules was mid v w on step = record {
     asked = (step.asked.0, shown_before was mid on step.asked.0 step.asked.1, step.asked.2);
+    buildable = held_before was mid on (λ old. IsBuildable (sources old) rules) step.buildable;
+    from = held_before was mid on (λ old. Lists v.store old.owned) step.from;
     files = held_before was mid on (λ old. Changes old.owned rules v.tree w.tree) step.files;
-    listed = held_before was mid on (λ old. Lists w.store (claimed rules old) ⊎ TreeStays v w ⊎ AllIsMade tells next rules old w) step.listed;
+    listed = held_before was mid on (λ old. Lists w.store (claimed rules old) ⊎ (Lists w.store old.owned × TreeStays v w) ⊎ AllIsMade tells next rules old w) step.listed;
   }
 
-  opened_tree : (was v w : World) → OpensStep was v w → TreeStays v w
-  opened_tree was v w step = ⊎_elim (λ same. same.tree) (λ none. none.1) step
-
   -- and so of what a crash left before it
-  pub opened_so : (tells : Bool) (next : Next) (rules : List Rule) (old mid new : S) (was now : World) → IsEarlier moment left_since mid → HoldsOn was now → GoesOn moment left_since old mid (OpensStep was) →
+  pub opened_so : (tells : Bool) (next : Next) (rules : List Rule) (old mid new : S) (was now : World) → IsEarlier moment left_since mid → HoldsOn was now → GoesOn moment left_since old mid HoldsOn →
       GoesOn moment left_since mid new (MakesStep tells next rules now) → GoesOn moment left_since old new (UpdateStep tells next rules was)
   opened_so tells next rules old mid new was now earlier on opened made =
-      joined_on old mid new (OpensStep was) (MakesStep tells next rules now) (UpdateStep tells next rules was) earlier (λ v w step. inl step) (λ v w step. inr (made_before tells next rules was now v w on step))
-      (λ u v w first step. inr (further u v w (opened_tree was u v first) (made_before tells next rules was now v w on step))) opened made
+      joined_on old mid new HoldsOn (MakesStep tells next rules now) (UpdateStep tells next rules was) earlier (λ v w step. inl step) (λ v w left step. inr (made_before tells next rules was now v w on step))
+      (λ u v w first step. inr (further u v w first (made_before tells next rules was now v w on step))) opened made
     where
-      further : (u v w : World) → TreeStays u v → MakesStep tells next rules was v w → MakesStep tells next rules was u w
-      further u v w same step = record {
+      further : (u v w : World) → HoldsOn u v → MakesStep tells next rules was v w → MakesStep tells next rules was u w
+      further u v w first step = record {
         asked = step.asked;
-        files = subst (λ (t : Tree). (held : Holding) → Shows was held → Changes held.owned rules t w.tree) same step.files;
-        listed = λ held shows. ⊎_elim inl (λ rest. inr (⊎_elim (λ stays. inl (stays ∙ same)) inr rest)) (step.listed held shows);
+        buildable = step.buildable;
+        from = λ held shows. first.back held.owned (step.from held shows);
+        files = subst (λ (t : Tree). (held : Holding) → Shows was held → Changes held.owned rules t w.tree) first.tree step.files;
+        listed = λ held shows. ⊎_elim inl (λ rest. inr (⊎_elim (λ still. inl (still.0, still.1 ∙ first.tree)) inr rest)) (step.listed held shows);
       }
 
-  pub as_opened : (tells : Bool) (next : Next) (rules : List Rule) (old new : S) (was : World) → GoesOn moment left_since old new (OpensStep was) → GoesOn moment left_since old new (UpdateStep tells next rules was)
-  as_opened tells next rules old new was on = as_step moment left_since old new (OpensStep was) (UpdateStep tells next rules was) (λ v w left step. inl step) on
+  pub as_opened : (tells : Bool) (next : Next) (rules : List Rule) (old new : S) (was : World) → GoesOn moment left_since old new HoldsOn → GoesOn moment left_since old new (UpdateStep tells next rules was)
+  as_opened tells next rules old new was on = as_step moment left_since old new HoldsOn (UpdateStep tells next rules was) (λ v w left step. inl step) on
 
   -- where nothing more is added
-  pub opened_only : (tells : Bool) (next : Next) (rules : List Rule) (old mid new : S) (was : World) → GoesOn moment left_since old mid (OpensStep was) → GoesOn moment left_since mid new NoStep →
+  pub opened_only : (tells : Bool) (next : Next) (rules : List Rule) (old mid new : S) (was : World) → GoesOn moment left_since old mid HoldsOn → GoesOn moment left_since mid new NoStep →
       GoesOn moment left_since old new (UpdateStep tells next rules was)
   opened_only tells next rules old mid new was opened quiet =
       then_quiet old mid new (UpdateStep tells next rules was) (as_opened tells next rules old mid was opened) quiet

@@ -1,10 +1,9 @@
 -- What a world holds is one thing alone, and what two worlds hold that list the same.
-use Rattle.std.proofs.Common.{◌≡◌, ◌⊎◌, ℕ, List, [], ◌∷◌, ◌++◌, ⊎_elim, Result, Ok, Err, inl, inr, refl, sym, ap, subst, ◌∙◌}
+use Rattle.std.proofs.Common.{◌≡◌, ◌⊎◌, ℕ, List, [], ◌++◌, ⊎_elim, Result, Ok, Err, inl, inr, refl, sym, ap, subst, ◌∙◌}
 use Rattle.tup_path.specs.Name.{Names}
 use Rattle.tup_site.specs.World.{World}
 use Rattle.tup_table.specs.Entries.{Standing}
 use Rattle.tup_table.specs.Reading.{opened_of}
-use Rattle.tup_table.specs.Store.{blocks, header}
 use Rattle.tup_table.specs.declared.fault.TableFault.{TableFault}
 use Rattle.tup_table.specs.declared.fault.TableFault.TheVariants as table
 use Rattle.tup_table.specs.declared.opened.Opened.{Opened}
@@ -12,23 +11,14 @@ use Rattle.tup_table.proofs.Stores.{reads_one}
 use Rattle.tup_graph.specs.Opening.{IsGraphOf}
 use Rattle.tup_graph.proofs.OneWay.{not_broken}
 use Rattle.tup_table.specs.Images.{Leaves, OpenStep}
-use Rattle.tup_ledger.specs.Listing.{Lists as ListsOwned}
+use Rattle.tup_table.specs.Store.{header, blocks}
+use Rattle.tup_ledger.proofs.Guarding.{entries_one}
 use Rattle.tup_ledger.proofs.Listing.{lists_one, nothing_lists, opened_still}
-use Rattle.tup_update.specs.Holding.{Holding, HoldsOn, IsDamaged, Lists, OfHeld, Shows, holding}
-
--- what is listed is one thing alone
-pub listed_one : (bytes : List ℕ) (one other : List Names) → Lists bytes one → Lists bytes other → one ≡ other
-listed_one [] one other first second = first ∙ sym second
-listed_one (byte ∷ bytes) one other first second = lists_one (byte ∷ bytes) one other first second
-
--- what the ledger lists is listed
-pub by_ledger : (bytes : List ℕ) (paths : List Names) → ListsOwned bytes paths → Lists bytes paths
-by_ledger [] paths lists = absurd (nothing_lists paths lists)
-by_ledger (byte ∷ bytes) paths lists = lists
+use Rattle.tup_update.specs.Holding.{HasSameEntries, Holding, HoldsOn, IsDamaged, Lists, OfHeld, Shows, holding}
 
 pub held_is : (w : World) (held : Holding) (paths : List Names) → Lists w.store paths → Shows w held → holding w paths ≡ held
 held_is w held paths lists shows =
-    let same = listed_one w.store paths held.owned lists shows.lists in
+    let same = lists_one w.store paths held.owned lists shows.lists in
     λ i. record { tree = sym shows.tree i; owned = same i }
 
 pub shows_one : (w : World) (one other : Holding) → Shows w one → Shows w other → one ≡ other
@@ -40,36 +30,41 @@ of_held w paths promise lists kept held shows = subst promise (held_is w held pa
 
 -- ---- worlds that hold the same
 pub holds_itself : (w : World) → HoldsOn w w
-holds_itself w = record { tree = refl; none = λ e. e; lists = λ paths lists. lists; back = λ paths lists. lists }
+holds_itself w = record { tree = refl; none = λ none. none; lists = λ paths lists. lists; back = λ paths lists. lists; unread = λ none. inl refl }
 
 pub holds_same : (v w : World) → w ≡ v → HoldsOn v w
 holds_same v w same = subst (HoldsOn v) (sym same) (holds_itself v)
 
+same_then : (first mid last : List ℕ) → (mid ≡ first) ⊎ HasSameEntries first mid → (last ≡ mid) ⊎ HasSameEntries mid last → (last ≡ first) ⊎ HasSameEntries first last
+same_then first mid last (inl same) (inl again) = inl (again ∙ same)
+same_then first mid last (inl same) (inr (entries, was, is)) = inr (entries, subst (Leaves entries) same was, is)
+same_then first mid last (inr (entries, was, is)) (inl again) = inr (entries, was, subst (Leaves entries) (sym again) is)
+same_then first mid last (inr (entries, was, is)) (inr (others, then, now)) = inr (entries, was, subst (λ (es : Standing). Leaves es last) (entries_one mid others entries then is) now)
+
 pub holds_then : (u v w : World) → HoldsOn u v → HoldsOn v w → HoldsOn u w
 holds_then u v w one two = record {
   tree = two.tree ∙ one.tree;
-  none = λ e. one.none (two.none e);
+  none = λ none. two.none (one.none none);
   lists = λ paths lists. two.lists paths (one.lists paths lists);
   back = λ paths lists. one.back paths (two.back paths lists);
+  unread = λ none. same_then u.store v.store w.store (one.unread none) (two.unread (λ paths lists. none paths (one.back paths lists)));
 }
 
--- a store with these entries isn't empty
-no_entries : (entries : Standing) → Leaves entries [] → ⊥
-no_entries entries leaves = let no : [] ≡ header ++ (blocks leaves.0 ++ leaves.1.0) = leaves.1.1.whole in cc
+-- where nothing stands, no store does
+not_store : (entries : Standing) → Leaves entries [] → ⊥
+not_store entries (commits, store, is) =
+    let no : [] ≡ header ++ (blocks commits ++ store.0) = store.1.whole in
+    cc
 
 -- as where a store was opened: it has the same entries
 pub opened_holds : (v w : World) → OpenStep v w → HoldsOn v w
 opened_holds v w step = record {
   tree = step.tree;
-  none = λ e. absurd (no_entries step.entries (subst (Leaves step.entries) e step.after));
-  lists = λ paths. across v.store w.store step.before step.after paths (opened_still v w step paths).0;
-  back = λ paths. across w.store v.store step.after step.before paths (opened_still v w step paths).1;
+  none = λ none. absurd (not_store step.entries (subst (Leaves step.entries) none step.before));
+  lists = λ paths. (opened_still v w step paths).0;
+  back = λ paths. (opened_still v w step paths).1;
+  unread = λ none. inr (step.entries, step.before, step.after);
 }
-  where
-    across : (one other : List ℕ) → Leaves step.entries one → Leaves step.entries other → (paths : List Names) → (ListsOwned one paths → ListsOwned other paths) → Lists one paths → Lists other paths
-    across [] other before after paths still lists = absurd (no_entries step.entries before)
-    across (byte ∷ one) [] before after paths still lists = absurd (no_entries step.entries after)
-    across (byte ∷ one) (first ∷ other) before after paths still lists = still lists
 
 pub kept_holds : (v w : World) → (w ≡ v) ⊎ OpenStep v w → HoldsOn v w
 kept_holds v w (inl same) = holds_same v w same
@@ -86,19 +81,28 @@ module _ (old mid : World) (on : HoldsOn old mid) where
   pub held_before : (promise : Holding → Type 0) → OfHeld mid promise → OfHeld old promise
   held_before promise kept held shows = kept held (shown_behind held shows)
 
--- ---- a store that lists something isn't damaged
+-- ---- a store that lists something is there, and isn't damaged
+pub there : (bytes : List ℕ) (paths : List Names) → Lists bytes paths → bytes ≡ [] → ⊥
+there bytes paths lists none = nothing_lists paths (subst (λ (b : List ℕ). Lists b paths) none lists)
+
+-- worlds with the same files hold the same where both stores list these paths
+pub holds_listed : (v w : World) (paths : List Names) → Lists v.store paths → Lists w.store paths → w.tree ≡ v.tree → HoldsOn v w
+holds_listed v w paths was is same = record {
+  tree = same;
+  none = λ none. absurd (there v.store paths was none);
+  lists = λ others lists. subst (Lists w.store) (lists_one v.store paths others was lists) is;
+  back = λ others lists. subst (Lists v.store) (lists_one w.store paths others is lists) was;
+  unread = λ none. absurd (none paths was);
+}
+
 pub undamaged : (bytes : List ℕ) (paths : List Names) (offset : ℕ) → Lists bytes paths → IsDamaged bytes offset → ⊥
-undamaged [] paths offset lists (left, opens) =
+undamaged bytes paths offset lists (left, opens) =
     ⊎_elim
-    (λ damaged. let one : ◌≡◌ {A = Result Opened TableFault} (Err table.NotThere) (Err (table.BadStore offset)) = reads_one [] (Err table.NotThere) (Err (table.BadStore offset)) refl damaged.0 in absurd (cc one))
-    (λ broken. let one : ◌≡◌ {A = Result Opened TableFault} (Err table.NotThere) (Ok broken.opened) = reads_one [] (Err table.NotThere) (Ok broken.opened) refl broken.reads in absurd (cc one)) opens
-undamaged (byte ∷ bytes) paths offset lists (left, opens) =
-    ⊎_elim
-    (λ damaged. let one : ◌≡◌ {A = Result Opened TableFault} (Ok (opened_of leaves.0)) (Err (table.BadStore offset)) = reads_one (byte ∷ bytes) (Ok (opened_of leaves.0)) (Err (table.BadStore offset)) (leaves.0, leaves.1, refl) damaged.0 in absurd (cc one))
+    (λ damaged. let one : ◌≡◌ {A = Result Opened TableFault} (Ok (opened_of leaves.0)) (Err (table.BadStore offset)) = reads_one bytes (Ok (opened_of leaves.0)) (Err (table.BadStore offset)) (leaves.0, leaves.1, refl) damaged.0 in absurd (cc one))
     (λ broken.
-    let one : ◌≡◌ {A = Result Opened TableFault} (Ok (opened_of leaves.0)) (Ok broken.opened) = reads_one (byte ∷ bytes) (Ok (opened_of leaves.0)) (Ok broken.opened) (leaves.0, leaves.1, refl) broken.reads in
+    let one : ◌≡◌ {A = Result Opened TableFault} (Ok (opened_of leaves.0)) (Ok broken.opened) = reads_one bytes (Ok (opened_of leaves.0)) (Ok broken.opened) (leaves.0, leaves.1, refl) broken.reads in
     let same : opened_of leaves.0 ≡ broken.opened = cc one in
     not_broken broken.opened.entries lists.graph offset (subst (λ (es : Standing). IsGraphOf es lists.graph) (leaves.2 ∙ ap (λ (o : Opened). o.entries) same) lists.store.stands) broken.broken) opens
   where
-    leaves : Leaves lists.store.entries (byte ∷ bytes)
+    leaves : Leaves lists.store.entries bytes
     leaves = lists.store.leaves

@@ -26,15 +26,15 @@ use Rattle.tup_update.specs.declared.project.Project.{Project}
 use Rattle.tup_update.specs.declared.stop.Halt.{Halt}
 use Rattle.tup_update.specs.declared.stop.Halt.TheVariants.{Run as RunHalted, Outside as Halted}
 use Rattle.tup_update.specs.declared.stop.Stop.{Stop}
-use Rattle.tup_update.specs.declared.stop.Stop.TheVariants.{BadStore, Sources as NoSources, Bad, Run, Full, Outside}
+use Rattle.tup_update.specs.declared.stop.Stop.TheVariants.{NoStore, BadStore, Sources as NoSources, Bad, Run, Full, Outside}
 use Rattle.tup_update.specs.declared.stop.Unread.{Unread}
 use Rattle.tup_update.specs.declared.stop.Unread.TheVariants.{Sources, Outside as Unlucky}
 use Rattle.tup_update.specs.declared.update.Log.{Log}
 use Rattle.tup_update.proofs.Beside.{left_is}
-use Rattle.tup_update.proofs.Held.{of_held, holds_itself, shown_before}
+use Rattle.tup_update.proofs.Held.{of_held, holds_itself, holds_listed, shown_before}
 use Rattle.tup_update.proofs.Behind.{none_made}
 use Rattle.tup_update.proofs.Ending.{sources_are_kept, no_front, whole_front, grown_from_nothing}
-use Rattle.tup_update.proofs.Known.{claimed_known, beside_outputs, beside_ascending}
+use Rattle.tup_update.proofs.Known.{claimed_known, beside_ascending}
 use Rattle.tup_update.proofs.Preparing.{same_sources, changes, gone_unmade, runnable}
 use Rattle.tup_update.proofs.Turning.{noted_part}
 
@@ -42,10 +42,6 @@ use Rattle.tup_update.proofs.Turning.{noted_part}
 pub err_is : {A E : Type 0} (result : Result A E) (stop : E) → IsErrAnd result (λ e. e ≡ stop) → result_err result ≡ Some stop
 err_is {A} {E} (Ok value) stop is = absurd is
 err_is {A} {E} (Err given) stop is = ap (λ (e : E). Some e) is
-
-pub err_back : {A E : Type 0} (result : Result A E) (stop : E) → result_err result ≡ Some stop → result ≡ Err stop
-err_back {A} {E} (Ok value) stop is = absurd (cc is)
-err_back {A} {E} (Err given) stop is = let same : given ≡ stop = cc is in ap (λ (e : E). Err e) same
 
 -- why a project has no rules
 pub refusal_unread : (w : World) (paths : List Names) (unread : Unread) → Lists w.store paths → IsRefusal (holding w paths) unread → IsUnread w unread
@@ -78,14 +74,6 @@ refusal_hands_on {T} before now (Err given) unread is same told = record {
   steady = λ other. same;
   too_large = λ n e. let it : given ≡ Unlucky (TooLarge n) = cc e in let never : TooLarge n ≡ Memory = subst IsOfRules (sym is ∙ it) told in absurd (cc never);
 }
-
--- the counts of what stops before it begins
-pub unread_counts : {T : Type 0} (before now : ℕ) (result : Result T Unread) (unread : Unread) → result ≡ Err unread → HandsOn Unlucky before now result → KnowsLimits unread →
-    HasCountedCause before now (Some (stop_of unread))
-unread_counts before now result (Sources fault) is hands limits = (hands.steady (λ e. cc (is, e)), limits)
-unread_counts before now result (Unlucky Fault) is hands limits = hands.fault is
-unread_counts before now result (Unlucky (TooLarge n)) is hands limits = (hands.steady (λ e. cc (is, e)), hands.too_large n is)
-unread_counts before now result (Unlucky Memory) is hands limits = hands.steady (λ e. cc (is, e))
 
 -- ---- an update that changed nothing
 
@@ -140,26 +128,17 @@ unread_keeps next rules old new log unread why empty = record {
     logged (Unlucky failed) = inl empty
 
 -- where the store couldn't be opened
-unopened_tree : (old new : World) (stop : Stop) → StopsOpening stop → IsUnopened old new stop → TreeStays old new
-unopened_tree old new (BadStore offset) stops why = why.1.tree
-unopened_tree old new (NoSources fault) stops why = absurd stops
-unopened_tree old new (Bad rule verdict) stops why = absurd stops
-unopened_tree old new Run stops why = absurd stops
-unopened_tree old new Full stops why = absurd stops
-unopened_tree old new (Outside (TooLarge n)) stops why = absurd stops
-unopened_tree old new (Outside Fault) stops why = ⊎_elim (λ on. on.tree) (λ none. none.1) why
-unopened_tree old new (Outside Memory) stops why = ⊎_elim (λ on. on.tree) (λ none. none.1) why
-
-pub unopened_stays : (tells : Bool) (next : Next) (rules : List Rule) (old new : World) (log : Log) (stop : Stop) → StopsOpening stop → IsUnopened old new stop → rules ≡ [] → IsEmptyLog log →
+pub unopened_stays : (tells : Bool) (next : Next) (rules : List Rule) (old new : World) (log : Log) (stop : Stop) → StopsOpening stop → HoldsOn old new → rules ≡ [] → IsEmptyLog log →
     Stays tells next rules old new log (Some stop)
-unopened_stays tells next rules old new log stop stops why none empty = record {
-  sources_stay = unchanged_sources old new (unopened_tree old new stop stops why);
+unopened_stays tells next rules old new log stop stops on none empty = record {
+  sources_stay = unchanged_sources old new on.tree;
   rules_fit = fit stop stops;
-  nothing_forgotten = forgotten stop stops why;
+  nothing_forgotten = forgotten stop stops;
   turns_fit = turns stop stops;
 }
   where
     fit : (stop : Stop) → StopsOpening stop → RulesFit old rules (Some stop)
+    fit NoStore stops = none
     fit (BadStore offset) stops = none
     fit (NoSources fault) stops = absurd stops
     fit (Bad rule verdict) stops = absurd stops
@@ -167,17 +146,19 @@ unopened_stays tells next rules old new log stop stops why none empty = record {
     fit Full stops = absurd stops
     fit (Outside failed) stops = inl none
 
-    forgotten : (stop : Stop) → StopsOpening stop → IsUnopened old new stop → NothingForgotten tells next rules old new (Some stop)
-    forgotten (BadStore offset) stops why = why.1
-    forgotten (NoSources fault) stops why = absurd stops
-    forgotten (Bad rule verdict) stops why = absurd stops
-    forgotten Run stops why = absurd stops
-    forgotten Full stops why = absurd stops
-    forgotten (Outside (TooLarge n)) stops why = absurd stops
-    forgotten (Outside Fault) stops why = ⊎_elim inl (λ unmade. inr (inl unmade)) why
-    forgotten (Outside Memory) stops why = ⊎_elim inl (λ unmade. inr (inl unmade)) why
+    forgotten : (stop : Stop) → StopsOpening stop → NothingForgotten tells next rules old new (Some stop)
+    forgotten NoStore stops = on
+    forgotten (BadStore offset) stops = on
+    forgotten (NoSources fault) stops = absurd stops
+    forgotten (Bad rule verdict) stops = absurd stops
+    forgotten Run stops = absurd stops
+    forgotten Full stops = absurd stops
+    forgotten (Outside (TooLarge n)) stops = absurd stops
+    forgotten (Outside Fault) stops = inl on
+    forgotten (Outside Memory) stops = inl on
 
     turns : (stop : Stop) → StopsOpening stop → TurnsFit rules log.ran log.ended (Some stop)
+    turns NoStore stops = (empty.2, empty.3)
     turns (BadStore offset) stops = (empty.2, empty.3)
     turns (NoSources fault) stops = absurd stops
     turns (Bad rule verdict) stops = absurd stops
@@ -185,7 +166,7 @@ unopened_stays tells next rules old new log stop stops why none empty = record {
     turns Full stops = absurd stops
     turns (Outside failed) stops = no_turns rules log.ran log.ended empty.2 empty.3
 
-pub unopened_keeps : (next : Next) (rules : List Rule) (old new : World) (log : Log) (stop : Stop) → StopsOpening stop → IsUnopened old new stop → IsEmptyLog log → Keeps next rules old new log (Some stop)
+pub unopened_keeps : (next : Next) (rules : List Rule) (old new : World) (log : Log) (stop : Stop) → StopsOpening stop → IsUnopened old stop → IsEmptyLog log → Keeps next rules old new log (Some stop)
 unopened_keeps next rules old new log stop stops why empty = record {
   exactly_the_files = tt;
   made_before_bad = before stop stops;
@@ -194,6 +175,7 @@ unopened_keeps next rules old new log stop stops why empty = record {
 }
   where
     before : (stop : Stop) → StopsOpening stop → MadeBeforeBad next rules old new (Some stop)
+    before NoStore stops = tt
     before (BadStore offset) stops = tt
     before (NoSources fault) stops = absurd stops
     before (Bad rule verdict) stops = absurd stops
@@ -201,8 +183,9 @@ unopened_keeps next rules old new log stop stops why empty = record {
     before Full stops = absurd stops
     before (Outside failed) stops = tt
 
-    caused : (stop : Stop) → StopsOpening stop → IsUnopened old new stop → HasCause next rules old new (Some stop)
-    caused (BadStore offset) stops why = why.0
+    caused : (stop : Stop) → StopsOpening stop → IsUnopened old stop → HasCause next rules old new (Some stop)
+    caused NoStore stops why = why
+    caused (BadStore offset) stops why = why
     caused (NoSources fault) stops why = absurd stops
     caused (Bad rule verdict) stops why = absurd stops
     caused Run stops why = absurd stops
@@ -212,6 +195,7 @@ unopened_keeps next rules old new log stop stops why empty = record {
     caused (Outside Memory) stops why = tt
 
     logged : (stop : Stop) → StopsOpening stop → LogFits next rules old log (Some stop)
+    logged NoStore stops = empty
     logged (BadStore offset) stops = empty
     logged (NoSources fault) stops = absurd stops
     logged (Bad rule verdict) stops = absurd stops
@@ -223,16 +207,18 @@ unopened_keeps next rules old new log stop stops why empty = record {
 
 -- what is left where the outside stops the making, or the store has no room
 left_forgets_nothing : (tells : Bool) (next : Next) (rules : List Rule) (old new : World) (stop : Stop) → IsLate stop → IsLeft tells next rules old new → NothingForgotten tells next rules old new (Some stop)
+left_forgets_nothing tells next rules old new NoStore late left = absurd late
 left_forgets_nothing tells next rules old new (BadStore offset) late left = absurd late
 left_forgets_nothing tells next rules old new (NoSources fault) late left = absurd late
 left_forgets_nothing tells next rules old new (Bad rule verdict) late left = absurd late
 left_forgets_nothing tells next rules old new Run late left = absurd late
 left_forgets_nothing tells next rules old new Full late left = left
-left_forgets_nothing tells next rules old new (Outside Fault) late left = inr (inr left)
+left_forgets_nothing tells next rules old new (Outside Fault) late left = inr left
 left_forgets_nothing tells next rules old new (Outside (TooLarge n)) late left = absurd late
-left_forgets_nothing tells next rules old new (Outside Memory) late left = inr (inr left)
+left_forgets_nothing tells next rules old new (Outside Memory) late left = inr left
 
 late_turns : (rules : List Rule) (ran : List RuleName) (ended : List Taken) (stop : Stop) → IsLate stop → AreInTurn rules ended × AreBegun rules ran ended → TurnsFit rules ran ended (Some stop)
+late_turns rules ran ended NoStore late turns = absurd late
 late_turns rules ran ended (BadStore offset) late turns = absurd late
 late_turns rules ran ended (NoSources fault) late turns = absurd late
 late_turns rules ran ended (Bad rule verdict) late turns = absurd late
@@ -266,6 +252,7 @@ module _ (project : Project) (old : World) (is : IsProject project old) where
   asks = (held, record { lists = is.owned; tree = refl }, is.asked)
 
   late_fit : (stop : Stop) → IsLate stop → RulesFit old project.rules (Some stop)
+  late_fit NoStore late = absurd late
   late_fit (BadStore offset) late = absurd late
   late_fit (NoSources fault) late = absurd late
   late_fit (Bad rule verdict) late = absurd late
@@ -291,6 +278,7 @@ module _ (project : Project) (old : World) (is : IsProject project old) where
   late_keeps next new log stop late room removed noted = record { exactly_the_files = tt; made_before_bad = before stop late; cause = caused stop late room; log_fits = fits stop late }
     where
       before : (stop : Stop) → IsLate stop → MadeBeforeBad next project.rules old new (Some stop)
+      before NoStore late = absurd late
       before (BadStore offset) late = absurd late
       before (NoSources fault) late = absurd late
       before (Bad rule verdict) late = absurd late
@@ -299,6 +287,7 @@ module _ (project : Project) (old : World) (is : IsProject project old) where
       before (Outside failed) late = tt
 
       caused : (stop : Stop) → IsLate stop → (stop ≡ Full → HasNoRoom project.rules held new) → HasCause next project.rules old new (Some stop)
+      caused NoStore late room = absurd late
       caused (BadStore offset) late room = absurd late
       caused (NoSources fault) late room = absurd late
       caused (Bad rule verdict) late room = absurd late
@@ -309,6 +298,7 @@ module _ (project : Project) (old : World) (is : IsProject project old) where
       caused (Outside Memory) late room = tt
 
       fits : (stop : Stop) → IsLate stop → LogFits next project.rules old (with_read project.read log) (Some stop)
+      fits NoStore late = absurd late
       fits (BadStore offset) late = absurd late
       fits (NoSources fault) late = absurd late
       fits (Bad rule verdict) late = absurd late
@@ -395,18 +385,18 @@ module _ (project : Project) (old mid : World) (vanishing claiming : List Names)
 
   -- ---- the outside stopped what comes before the rules
 
-  pub unprepared_stays : (tells : Bool) (next : Next) (log : Log) (stop : Stop) → Lists mid.store claiming ⊎ TreeStays old mid → IsLate stop →
+  pub unprepared_stays : (tells : Bool) (next : Next) (log : Log) (stop : Stop) (before : List Names) → project.owned ≡ before → Lists mid.store claiming ⊎ (Lists mid.store before × TreeStays old mid) → IsLate stop →
       log.ran ≡ [] → log.ended ≡ [] → Stays tells next project.rules old mid (with_read project.read log) (Some stop)
-  unprepared_stays tells next log stop left late nothing none = record {
+  unprepared_stays tells next log stop before owned left late nothing none = record {
     sources_stay = stay mid mid (λ path unmade. refl) refl;
     rules_fit = late_fit project old way.is stop late;
     nothing_forgotten = left_forgets_nothing tells next project.rules old mid stop late (asks_then, by left);
     turns_fit = late_turns project.rules log.ran log.ended stop late (no_turns project.rules log.ran log.ended nothing none);
   }
     where
-      by : Lists mid.store claiming ⊎ TreeStays old mid → ClaimedListed project.rules old mid ⊎ (mid.tree ≡ old.tree) ⊎ OfHeld old (λ held. AllIsMade tells next project.rules held mid)
-      by (inl stored) = inl (listed mid (λ path unmade. refl) stored)
-      by (inr same) = inr (inl same)
+      by : Lists mid.store claiming ⊎ (Lists mid.store before × TreeStays old mid) → HoldsOn old mid ⊎ ClaimedListed project.rules old mid ⊎ OfHeld old (λ held. AllIsMade tells next project.rules held mid)
+      by (inl stored) = inr (inl (listed mid (λ path unmade. refl) stored))
+      by (inr (still, same)) = inl (holds_listed old mid project.owned way.is.owned (subst (Lists mid.store) (sym owned) still) same)
 
   removed_whole : (before removed : List Names) → before ≡ [] → removed ≡ before ++ vanishing → removed ≡ vanished project.rules held_then
   removed_whole before removed none grown = grown ∙ ap (λ (l : List Names). l ++ vanishing) none ∙ way.vanishes
@@ -430,9 +420,9 @@ module _ (project : Project) (old mid : World) (vanishing claiming : List Names)
     where
       by : (halt : Halt) → NothingForgotten tells next project.rules old now (Some (stop_of_halt halt))
       by RunHalted = listed now behind stored
-      by (Halted Fault) = inr (inr (asks_then, inl (listed now behind stored)))
+      by (Halted Fault) = inr (asks_then, inr (inl (listed now behind stored)))
       by (Halted (TooLarge n)) = inr (asks_then, listed now behind stored)
-      by (Halted Memory) = inr (inr (asks_then, inl (listed now behind stored)))
+      by (Halted Memory) = inr (asks_then, inr (inl (listed now behind stored)))
 
   pub unrun_keeps : (next : Next) (now : World) (before : List Names) (log : Log) (halt : Halt) → ((n : ℕ) → halt ≡ Halted (TooLarge n) → HasFileOf n now.tree) → before ≡ [] →
       log.removed ≡ before ++ vanishing → ArePartNoted project.rules (up_to_bad (takes next project.rules (files_beside project.owned mid.tree))) log.ran log.ended →
@@ -510,24 +500,34 @@ module _ (project : Project) (old mid : World) (vanishing claiming : List Names)
   is_built next ran new built same =
       subst (λ (t : Tree). IsBuilt (clean next project.rules (sources held_then)) t) (sym same) (subst (λ (t : Tree). HasRun next project.rules t ran.tree None) same_run built)
 
-  -- all was made
+  -- just the outputs are listed, and all were made
+  outputs_known : (ran new : World) → IsCleared vanishing old.tree mid.tree → SameBesideOutputs project.rules mid.tree ran.tree → TreeStays ran new →
+      Lists new.store (ascending (outputs project.rules)) → IsListed (ascending (outputs project.rules)) held_then new
+  outputs_known ran new cleared behind same reads = record {
+    listed = reads;
+    same =
+        ap (files_beside (ascending (outputs project.rules))) same
+        ∙ beside_ascending project.owned project.rules old.tree mid.tree ran.tree way.is.buildable same_run (way_runnable cleared) behind;
+  }
+
   pub all_made : (tells : Bool) (next : Next) (ran new : World) → IsCleared vanishing old.tree mid.tree → SameBesideOutputs project.rules mid.tree ran.tree → TreeStays ran new →
-      (IsTrue tells → HasRun next project.rules (files_beside project.owned mid.tree) ran.tree None) → AllIsMade tells next project.rules held_then new
-  all_made tells next ran new cleared behind same built = record {
-    beside = ap (files_beside (outputs project.rules)) same ∙ beside_outputs project.owned project.rules old.tree mid.tree ran.tree way.is.buildable same_run (way_runnable cleared) behind;
+      Lists new.store (ascending (outputs project.rules)) → (IsTrue tells → HasRun next project.rules (files_beside project.owned mid.tree) ran.tree None) → AllIsMade tells next project.rules held_then new
+  all_made tells next ran new cleared behind same reads built = record {
+    known = outputs_known ran new cleared behind same reads;
     built = λ means. is_built next ran new (built means) same;
   }
 
   -- and the outside stopped what comes behind the rules
   pub unfinished_stays : (tells : Bool) (next : Next) (ran new : World) (log : Log) (stop : Stop) → IsCleared vanishing old.tree mid.tree → SameBesideOutputs project.rules mid.tree ran.tree → TreeStays ran new →
-      IsLate stop → (IsTrue tells → HasRun next project.rules (files_beside project.owned mid.tree) ran.tree None) → TurnsFit project.rules log.ran log.ended None →
+      Lists new.store claiming ⊎ Lists new.store (ascending (outputs project.rules)) → IsLate stop → (IsTrue tells → HasRun next project.rules (files_beside project.owned mid.tree) ran.tree None) → TurnsFit project.rules log.ran log.ended None →
       Stays tells next project.rules old new (with_read project.read log) (Some stop)
-  unfinished_stays tells next ran new log stop cleared behind same late built turns = record {
+  unfinished_stays tells next ran new log stop cleared behind same left late built turns = record {
     sources_stay = stay ran new behind same;
     rules_fit = late_fit project old way.is stop late;
     nothing_forgotten = left_forgets_nothing tells next project.rules old new stop late (
       asks_then,
-      inr (inr (kept_then (λ held. AllIsMade tells next project.rules held new) (all_made tells next ran new cleared behind same built))),
+      inr (⊎_elim (λ stored. inl (listed new (λ path unmade. ap (λ (t : Tree). finite.get t path) same ∙ behind path unmade) stored))
+          (λ reads. inr (kept_then (λ held. AllIsMade tells next project.rules held new) (all_made tells next ran new cleared behind same reads built))) left),
     );
     turns_fit = late_turns project.rules log.ran log.ended stop late (turns.0, inl turns.1);
   }
@@ -550,12 +550,7 @@ module _ (project : Project) (old mid : World) (vanishing claiming : List Names)
       record {
         sources_stay = stay ran new behind same;
         rules_fit = asks_then;
-        nothing_forgotten = kept_then (λ held. IsListed (ascending (outputs project.rules)) held new) (record {
-          listed = reads;
-          same =
-              ap (files_beside (ascending (outputs project.rules))) same
-              ∙ beside_ascending project.owned project.rules old.tree mid.tree ran.tree way.is.buildable same_run (way_runnable cleared) behind;
-        });
+        nothing_forgotten = kept_then (λ held. IsListed (ascending (outputs project.rules)) held new) (outputs_known ran new cleared behind same reads);
         turns_fit = turns;
       }
 

@@ -37,7 +37,7 @@ among_ascending paths path =
     (λ e. among-Contains path paths (ascending_has_only paths path (Contains-among path (ascending paths) e)))
     (λ e. among-Contains path (ascending paths) (ascending_has paths path (Contains-among path paths e)))
 
-among_claimed : (owned : List Names) (rules : List Rule) (path : Names) → among path (ascending (owned ++ outputs rules)) ≡ (among path owned || is_generated rules path)
+pub among_claimed : (owned : List Names) (rules : List Rule) (path : Names) → among path (ascending (owned ++ outputs rules)) ≡ (among path owned || is_generated rules path)
 among_claimed owned rules path =
     among_ascending (owned ++ outputs rules) path ∙ list_any-append (same_path path) owned (outputs rules)
     ∙ ap (λ (b : Bool). among path owned || b) (among_outputs rules path)
@@ -89,9 +89,6 @@ module _ (owned : List Names) (rules : List Rule) (old between new : Tree) (buil
       (λ path unmade.
       get_beside listed new path ∙ ap (λ (b : Bool). cond (not b) (finite.get new path) None) (is path ∙ unmade)
       ∙ behind path unmade ∙ beside_made owned rules between path runnable unmade ∙ ap (λ (t : Tree). finite.get t path) left)
-
-  pub beside_outputs : files_beside (outputs rules) new ≡ files_beside owned old
-  beside_outputs = beside_listed (outputs rules) (among_outputs rules)
 
   pub beside_ascending : files_beside (ascending (outputs rules)) new ≡ files_beside owned old
   beside_ascending = beside_listed (ascending (outputs rules)) (λ path. among_ascending (outputs rules) path ∙ among_outputs rules path)

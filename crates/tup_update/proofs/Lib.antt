@@ -18,4 +18,5 @@ pub mod Storing
 pub mod Behind
 pub mod Ending
 pub mod Keeping
+pub mod Safe
 pub mod Comparing

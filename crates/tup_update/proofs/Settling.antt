@@ -13,7 +13,7 @@ use Rattle.tup_update.specs.declared.stop.Halt.TheVariants.{Run as RunHalted, Ou
 use Rattle.tup_update.specs.declared.stop.Unread.{Unread}
 use Rattle.tup_update.specs.declared.stop.Unread.TheVariants.{Sources, Outside as Unlucky}
 use Rattle.tup_update.specs.declared.stop.Stop.{Stop}
-use Rattle.tup_update.specs.declared.stop.Stop.TheVariants.{BadStore, Sources as NoRules, Bad, Run, Full, Outside}
+use Rattle.tup_update.specs.declared.stop.Stop.TheVariants.{NoStore, BadStore, Sources as NoRules, Bad, Run, Full, Outside}
 
 -- ---- an update that was stopped before its end, and at no bad rule, promises nothing of a crash
 
@@ -29,6 +29,7 @@ pub late_unsettled : (left : World → Type 0) (now : World) (stop : Stop) → I
 late_unsettled left now Full late = tt
 late_unsettled left now (Outside Fault) late = tt
 late_unsettled left now (Outside Memory) late = tt
+late_unsettled left now NoStore late = absurd late
 late_unsettled left now (BadStore offset) late = absurd late
 late_unsettled left now (NoRules fault) late = absurd late
 late_unsettled left now (Bad rule verdict) late = absurd late
@@ -36,6 +37,7 @@ late_unsettled left now Run late = absurd late
 late_unsettled left now (Outside (TooLarge n)) late = absurd late
 
 pub opening_unsettled : (left : World → Type 0) (now : World) (stop : Stop) → StopsOpening stop → IsSettled left now (Some stop)
+opening_unsettled left now NoStore stops = tt
 opening_unsettled left now (BadStore offset) stops = tt
 opening_unsettled left now (Outside Fault) stops = tt
 opening_unsettled left now (Outside Memory) stops = tt
@@ -48,6 +50,7 @@ opening_unsettled left now (Outside (TooLarge n)) stops = absurd stops
 -- ---- and it stopped in the making of files
 
 pub late_makes : (stop : Stop) → IsLate stop → StopsMaking stop
+late_makes NoStore late = late
 late_makes (BadStore offset) late = late
 late_makes (NoRules fault) late = late
 late_makes (Bad rule verdict) late = tt

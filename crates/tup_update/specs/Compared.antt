@@ -20,7 +20,7 @@ use Rattle.tup_update.specs.Holding.{Holding, Shows, IsDamaged}
 use Rattle.tup_update.specs.declared.compare.Compared.{Compared}
 use Rattle.tup_update.specs.declared.compare.Compared.TheVariants.{Same, Differs}
 use Rattle.tup_update.specs.declared.stop.Stop.{Stop}
-use Rattle.tup_update.specs.declared.stop.Stop.TheVariants.{BadStore, Sources, Bad, Run, Full, Outside}
+use Rattle.tup_update.specs.declared.stop.Stop.TheVariants.{NoStore, BadStore, Sources, Bad, Run, Full, Outside}
 use Rattle.tup_update.specs.Parts.{HasFileOf}
 use Rattle.tup_update.specs.Sources.{AsksFor, IsRefused, build, sources}
 
@@ -65,6 +65,7 @@ pub record BuildsBadly (next : Next) (w : World) (name : RuleName) (verdict : Ve
 abbrev pub HasCompared : Next → World → Result Compared Stop → Type 0
 HasCompared next w (Ok compared) = BuildsAlike next w compared
 HasCompared next w (Err (Bad name verdict)) = BuildsBadly next w name verdict
+HasCompared next w (Err NoStore) = w.store ≡ []
 HasCompared next w (Err (BadStore offset)) = IsDamaged w.store offset
 HasCompared next w (Err (Sources fault)) = IsRefused w fault
 HasCompared next w (Err Run) = ⊤
@@ -73,7 +74,7 @@ HasCompared next w (Err (Outside (TooLarge n))) = HasFileOf n w.tree
 HasCompared next w (Err (Outside Fault)) = ⊤
 HasCompared next w (Err (Outside Memory)) = ⊤
 
--- a clean build that succeeds, with its files, or why there is none
+-- a clean build that succeeds, with its files
 pub record BuildsWell (next : Next) (w : World) (files : List (Names × Content)) : Type 0 where
   pub held : Holding
   pub shows : Shows w held
@@ -83,6 +84,7 @@ pub record BuildsWell (next : Next) (w : World) (files : List (Names × Content)
   pub clean : IsTrue (succeeds (build next rules held))
   pub are : files ≡ finite.entries (build next rules held).tree
 
+-- the files that it leaves, or why there are none
 abbrev pub HasBuilt : Next → World → Result (List (Names × Content)) Stop → Type 0
 HasBuilt next w (Ok files) = BuildsWell next w files
 HasBuilt next w (Err stop) = HasCompared next w (Err stop)
@@ -106,6 +108,7 @@ pub record RunsIt (next : Next) (w : World) (old new : List (Names × List ℕ))
 -- what was run for a comparison: nothing where there are no rules
 abbrev pub RunsToCompare : Next → World → List (Names × List ℕ) → List (Names × List ℕ) → Option Stop → Type 0
 RunsToCompare next w old new None = RunsIt next w old new None
+RunsToCompare next w old new (Some NoStore) = new ≡ old
 RunsToCompare next w old new (Some (BadStore offset)) = new ≡ old
 RunsToCompare next w old new (Some (Sources fault)) = new ≡ old
 RunsToCompare next w old new (Some (Bad name verdict)) = RunsIt next w old new (Some (Bad name verdict))

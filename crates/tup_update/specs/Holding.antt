@@ -1,20 +1,18 @@
 -- What a site holds, as an update sees it: the files of its tree, and the paths that its store lists as owned.
-use Rattle.std.specs.Prelude.{◌≡◌, ℕ, List, [], ◌∷◌, Err}
+use Rattle.std.specs.Prelude.{◌≡◌, ◌⊎◌, ℕ, List, [], Err}
 use Rattle.tup_path.specs.Name.{Names}
 use Rattle.tup_path.specs.Tree.{Tree}
 use Rattle.tup_site.specs.World.{World}
+use Rattle.tup_table.specs.Entries.{Standing}
+use Rattle.tup_table.specs.Images.{Leaves}
 use Rattle.tup_graph.specs.declared.fault.GraphFault.TheVariants.{BadStore}
 use Rattle.tup_kept.specs.Opening.{OpensAs}
-use Rattle.tup_ledger.specs.Listing.{Lists as ListsOwned}
+pub use Rattle.tup_ledger.specs.Listing.{Lists}
 
+-- the files of a site, and the paths that its store lists
 pub record Holding : Type 0 where
   pub tree : Tree
   pub owned : List Names
-
--- the bytes of a store list these paths as owned, and no others; a store that isn't there yet lists none
-abbrev pub Lists : List ℕ → List Names → Type 0
-Lists [] paths = paths ≡ []
-Lists (byte ∷ bytes) paths = ListsOwned (byte ∷ bytes) paths
 
 -- a world holds this: its store lists these paths. A world holds one thing alone, since bytes read in one way.
 pub record Shows (w : World) (held : Holding) : Type 0 where
@@ -29,16 +27,19 @@ holding w paths = record { tree = w.tree; owned = paths }
 abbrev pub OfHeld : World → (Holding → Type 0) → Type 0
 OfHeld w promise = (held : Holding) → Shows w held → promise held
 
--- a later world holds what an earlier one did: it has the same files, its store lists the same, and one that was there is there
+-- both are stores, of the same entries
+abbrev pub HasSameEntries : List ℕ → List ℕ → Type 0
+HasSameEntries before after = (entries : Standing) × Leaves entries before × Leaves entries after
+
+-- a later world holds what an earlier one did: it has the same files, its store lists the same, and one that isn't there still
+-- isn't
 pub record HoldsOn (old new : World) : Type 0 where
   pub tree : new.tree ≡ old.tree
-  pub none : new.store ≡ [] → old.store ≡ []
+  pub none : old.store ≡ [] → new.store ≡ []
   pub lists : (paths : List Names) → Lists old.store paths → Lists new.store paths
   pub back : (paths : List Names) → Lists new.store paths → Lists old.store paths
-
--- there was no store yet, and the making of one failed; no file was touched
-abbrev pub IsUnmade : World → World → Type 0
-IsUnmade old new = (old.store ≡ []) × (new.tree ≡ old.tree)
+  -- one that doesn't read is as it was, or keeps its entries
+  pub unread : ((paths : List Names) → ¬ Lists old.store paths) → (new.store ≡ old.store) ⊎ HasSameEntries old.store new.store
 
 -- the bytes are no store, or one of which a record can't be read, from this byte on
 abbrev pub IsDamaged : List ℕ → ℕ → Type 0

@@ -9,7 +9,7 @@ use Rattle.tup_update.specs.Sources.{IsAsked, ends, folders_read, vanished}
 use Rattle.tup_update.specs.Turns.{names_of}
 use Rattle.tup_update.specs.declared.update.Log.{Log}
 use Rattle.tup_update.specs.declared.stop.Stop.{Stop}
-use Rattle.tup_update.specs.declared.stop.Stop.TheVariants.{BadStore, Sources, Bad, Run, Full, Outside}
+use Rattle.tup_update.specs.declared.stop.Stop.TheVariants.{NoStore, BadStore, Sources, Bad, Run, Full, Outside}
 
 -- a list with which another begins
 abbrev pub IsFront : {A : Type 0} → List A → List A → Type 0
@@ -37,6 +37,7 @@ with_read folders log = record { read = folders; removed = log.removed; ran = lo
 abbrev pub RulesFit : World → List Rule → Option Stop → Type 0
 RulesFit old rules None = IsAsked old rules
 RulesFit old rules (Some (Bad name verdict)) = IsAsked old rules
+RulesFit old rules (Some NoStore) = rules ≡ []
 RulesFit old rules (Some (BadStore offset)) = rules ≡ []
 RulesFit old rules (Some (Sources fault)) = rules ≡ []
 RulesFit old rules (Some Run) = IsAsked old rules
@@ -69,6 +70,7 @@ pub record IsPartOf (log whole : Log) : Type 0 where
 abbrev pub LogFits : Next → List Rule → World → Log → Option Stop → Type 0
 LogFits next rules old log None = OfHeld old (λ held. log ≡ whole_log next rules held)
 LogFits next rules old log (Some (Bad name verdict)) = OfHeld old (λ held. log ≡ whole_log next rules held)
+LogFits next rules old log (Some NoStore) = IsEmptyLog log
 LogFits next rules old log (Some (BadStore offset)) = IsEmptyLog log
 LogFits next rules old log (Some (Sources fault)) = IsEmptyLog log
 LogFits next rules old log (Some Run) = OfHeld old (λ held. IsPartOf log (whole_log next rules held))

@@ -1,6 +1,6 @@
 -- What an update promises, each promise a word and a table: the site before, the site after, the rules that it found, and why
 -- it stopped before its end, if it did.
-use Rattle.std.specs.Prelude.{◌≡◌, ◌⊎◌, ◌++◌, ◌<◌, ⊤, ℕ, Bool, true, false, List, Option, None, Some, IsSome, IsTrue, Ok}
+use Rattle.std.specs.Prelude.{◌≡◌, ◌⊎◌, ◌++◌, ◌<◌, ⊤, ℕ, Bool, true, false, List, [], Option, None, Some, IsSome, IsTrue, Ok}
 use Rattle.std.specs.FinMap as finite
 use Rattle.tup_path.specs.Count.{Rose}
 use Rattle.tup_path.specs.Name.{Names}
@@ -21,13 +21,13 @@ use Rattle.tup_kept.specs.Held.{Held}
 use Rattle.tup_kept.specs.Opening.{opened_in}
 use Rattle.tup_kept.specs.Transaction.{IsFull}
 use Rattle.tup_ledger.specs.Owned.{own_edits}
-use Rattle.tup_update.specs.Holding.{Holding, HoldsOn, IsDamaged, IsUnmade, Lists, OfHeld, holding}
+use Rattle.tup_update.specs.Holding.{Holding, HoldsOn, IsDamaged, Lists, OfHeld, holding}
 use Rattle.tup_update.specs.declared.update.Log.{Log}
 use Rattle.tup_update.specs.declared.stop.Stop.{Stop}
-use Rattle.tup_update.specs.declared.stop.Stop.TheVariants.{BadStore, Sources, Bad, Run, Full, Outside}
+use Rattle.tup_update.specs.declared.stop.Stop.TheVariants.{NoStore, BadStore, Sources, Bad, Run, Full, Outside}
 use Rattle.tup_update.specs.Log.{LogFits, RulesFit}
 use Rattle.tup_update.specs.Parts.{HasFileOf, IsBuilt, IsFirstBad}
-use Rattle.tup_update.specs.Sources.{sources, files_beside, IsAsked, IsRefused, PassesLimit, build, ends, left_over, outputs, vanished, is_made_in_turn}
+use Rattle.tup_update.specs.Sources.{sources, IsAsked, IsRefused, PassesLimit, build, ends, left_over, outputs, vanished, is_made_in_turn}
 use Rattle.tup_update.specs.Turns.{TurnsFit}
 
 -- the files are those of the clean build, which succeeds, and the store lists just the outputs
@@ -75,6 +75,7 @@ HasNoRoom rules old new = LacksRoom (λ g. own_edits g (outputs rules)) new ⊎ 
 
 -- why an update stops, where the site tells
 abbrev pub HasCause : Next → List Rule → World → World → Option Stop → Type 0
+HasCause next rules old new (Some NoStore) = old.store ≡ []
 HasCause next rules old new (Some (BadStore offset)) = IsDamaged old.store offset
 HasCause next rules old new (Some (Sources fault)) = IsRefused old fault
 HasCause next rules old new (Some (Bad name verdict)) = OfHeld old (λ held. IsBadRule next rules held name verdict)
@@ -91,6 +92,7 @@ HasCountedCause before now (Some (Outside SiteFault)) = Rose before now
 HasCountedCause before now (Some (Outside (TooLarge n))) = (now ≡ before) × (16777216 < n)
 HasCountedCause before now (Some (Outside Memory)) = now ≡ before
 HasCountedCause before now (Some (Bad name verdict)) = (now ≡ before) × (is_good (Some verdict) ≡ false)
+HasCountedCause before now (Some NoStore) = now ≡ before
 HasCountedCause before now (Some (BadStore offset)) = now ≡ before
 HasCountedCause before now (Some (Sources fault)) = (now ≡ before) × PassesLimit fault
 HasCountedCause before now (Some Run) = now ≡ before
@@ -112,37 +114,38 @@ pub record IsListed (paths : List Names) (old : Holding) (new : World) : Type 0 
   pub listed : Lists new.store paths
   pub same : sources (holding new paths) ≡ sources old
 
--- the same of all that was claimed, and of the outputs alone
+-- the same of all that was claimed
 abbrev pub ClaimedListed : List Rule → World → World → Type 0
 ClaimedListed rules old new = OfHeld old (λ held. IsListed (claimed rules held) held new)
 
+-- and of the outputs alone
 abbrev pub OutputsListed : List Rule → World → World → Type 0
 OutputsListed rules old new = OfHeld old (λ held. IsListed (ascending (outputs rules)) held new)
 
--- all was made, whatever the store lists: beside the outputs the tree has the sources of before, and the outputs are those
--- of the clean build, where the runner tells
+-- all was made, and just the outputs are listed: they are those of the clean build, where the runner tells
 pub record AllIsMade (tells : Bool) (next : Next) (rules : List Rule) (old : Holding) (new : World) : Type 0 where
-  pub beside : files_beside (outputs rules) new.tree ≡ sources old
+  pub known : IsListed (ascending (outputs rules)) old new
   pub built : IsTrue tells → IsBuilt (build next rules old) new.tree
 
--- what is left where the outside stops an update whose rules were read: all that was claimed is listed. Only a writing of
--- the store that failed half way may leave a store that lists anything; then no file was touched yet, or all were made.
+-- what is left where the outside stops an update whose rules were read: the world holds what it held, or all that was claimed
+-- is listed, or all was made
 abbrev pub IsLeft : Bool → Next → List Rule → World → World → Type 0
 IsLeft tells next rules old new =
-    IsAsked old rules × (ClaimedListed rules old new ⊎ (new.tree ≡ old.tree) ⊎ OfHeld old (λ held. AllIsMade tells next rules held new))
+    IsAsked old rules × (HoldsOn old new ⊎ ClaimedListed rules old new ⊎ OfHeld old (λ held. AllIsMade tells next rules held new))
 
 -- nothing is forgotten, wherever an update stops: what wasn't a source before is owned by the next update too. Where the
 -- store or the sources couldn't be read, the world holds what it held.
 abbrev pub NothingForgotten : Bool → Next → List Rule → World → World → Option Stop → Type 0
 NothingForgotten tells next rules old new None = OutputsListed rules old new
+NothingForgotten tells next rules old new (Some NoStore) = HoldsOn old new
 NothingForgotten tells next rules old new (Some (BadStore offset)) = HoldsOn old new
 NothingForgotten tells next rules old new (Some (Sources fault)) = HoldsOn old new
 NothingForgotten tells next rules old new (Some (Bad name verdict)) = ClaimedListed rules old new
 NothingForgotten tells next rules old new (Some Run) = ClaimedListed rules old new
 NothingForgotten tells next rules old new (Some (Outside (TooLarge n))) = HoldsOn old new ⊎ (IsAsked old rules × ClaimedListed rules old new)
 NothingForgotten tells next rules old new (Some Full) = IsLeft tells next rules old new
-NothingForgotten tells next rules old new (Some (Outside SiteFault)) = HoldsOn old new ⊎ IsUnmade old new ⊎ IsLeft tells next rules old new
-NothingForgotten tells next rules old new (Some (Outside Memory)) = HoldsOn old new ⊎ IsUnmade old new ⊎ IsLeft tells next rules old new
+NothingForgotten tells next rules old new (Some (Outside SiteFault)) = HoldsOn old new ⊎ IsLeft tells next rules old new
+NothingForgotten tells next rules old new (Some (Outside Memory)) = HoldsOn old new ⊎ IsLeft tells next rules old new
 
 -- what an update promises where the site tells, whatever its runner does; with the rules that it found, and the log that it
 -- tells of itself

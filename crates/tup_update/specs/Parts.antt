@@ -26,7 +26,7 @@ use Rattle.tup_update.specs.declared.fault.SourcesFault.TheVariants.{TooManyFile
 use Rattle.tup_update.specs.declared.found.Found.{Found}
 use Rattle.tup_update.specs.declared.project.Project.{Project}
 use Rattle.tup_update.specs.declared.stop.Stop.{Stop}
-use Rattle.tup_update.specs.declared.stop.Stop.TheVariants.{BadStore, Sources as NoSources, Bad, Full, Outside as Stopped}
+use Rattle.tup_update.specs.declared.stop.Stop.TheVariants.{NoStore, BadStore, Sources as NoSources, Bad, Full, Outside as Stopped}
 use Rattle.tup_update.specs.declared.stop.Unread.{Unread}
 use Rattle.tup_update.specs.declared.stop.Unread.TheVariants.{Sources as NoRules, Outside}
 
@@ -162,14 +162,16 @@ pub record HasMade (next : Next) (rules : List Rule) (sources old new : Tree) : 
 abbrev pub StopsAt : RuleName → Verdict → Stop → Type 0
 StopsAt name verdict stop = (stop ≡ Bad name verdict) ⊎ ((failed : SiteFailed) × (stop ≡ Stopped failed) × ((n : ℕ) → failed ≢ TooLarge n))
 
--- what stops the making of files: no damage of the store, and no fault of the sources
+-- what stops the making of files: no want or damage of the store, and no fault of the sources
 abbrev pub StopsMaking : Stop → Type 0
+StopsMaking NoStore = ⊥
 StopsMaking (BadStore offset) = ⊥
 StopsMaking (NoSources fault) = ⊥
 StopsMaking stop = ⊤
 
--- no damage of the store stops it
+-- no want or damage of the store stops it
 abbrev pub NoDamage : Stop → Type 0
+NoDamage NoStore = ⊥
 NoDamage (BadStore offset) = ⊥
 NoDamage stop = ⊤
 

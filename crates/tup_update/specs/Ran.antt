@@ -44,6 +44,7 @@ abbrev pub BeginsOne : Halt → RuleName → List (Names × List ℕ) → List (
 BeginsOne (Halted Memory) rule old new = (new ≡ old) ⊎ RanAll (rule ∷ []) old new
 BeginsOne halt rule old new = RanAll (rule ∷ []) old new
 
+-- what a runner was given where one rule was run, by what that came to
 abbrev pub RunsOne : {T : Type 0} → RuleName → List (Names × List ℕ) → List (Names × List ℕ) → Result T Halt → Type 0
 RunsOne rule old new (Ok value) = RanAll (rule ∷ []) old new
 RunsOne rule old new (Err halt) = BeginsOne halt rule old new

@@ -75,11 +75,12 @@ build next rules held = clean next rules (sources held)
 abbrev pub ends : Next → List Rule → Holding → List Taken
 ends next rules held = up_to_bad (takes next rules (sources held))
 
--- whether a path is made by a rule that is Good by these verdicts
+-- whether a path's maker, if it has one, is Good by these verdicts
 abbrev pub is_good_maker : List (Option Verdict) → Option ℕ → Bool
 is_good_maker verdicts (Some at) = good_at verdicts at
 is_good_maker verdicts None = false
 
+-- whether a path is made by a rule that is Good by these verdicts
 abbrev pub is_made : List Rule → List (Option Verdict) → Names → Bool
 is_made rules verdicts path = is_good_maker verdicts (maker path rules)
 
@@ -109,9 +110,10 @@ folders_read held = folders_of (finite.keys (sources held))
 abbrev pub left_over : List Names → List Rule → List Names
 left_over paths rules = filter (λ path. not (among path (outputs rules))) paths
 
--- the files of vanished rules: files that are owned, and that no rule makes any more
+-- the files that are owned, and that no rule makes any more
 abbrev pub gone : List Names → List Names → List Rule → List Names
 gone owned files rules = left_over (filter (λ path. among path owned) files) rules
 
+-- the files of vanished rules
 abbrev pub vanished : List Rule → Holding → List Names
 vanished rules held = gone held.owned (finite.keys held.tree) rules

@@ -10,7 +10,7 @@ use Rattle.tup_graph.specs.declared.fault.GraphFault.TheVariants as graph
 use Rattle.tup_update.specs.declared.fault.SourcesFault.{SourcesFault}
 use Rattle.tup_update.specs.declared.fault.SourcesFault.TheVariants.{Parse, CircularDirs, TooManyCommands, NoSuchGroup, TooManyLinks, CircularCommands}
 use Rattle.tup_update.specs.declared.stop.Stop.{Stop}
-use Rattle.tup_update.specs.declared.stop.Stop.TheVariants.{BadStore, Sources as NoRules, Run, Full, Outside as Stopped}
+use Rattle.tup_update.specs.declared.stop.Stop.TheVariants.{NoStore, BadStore, Sources as NoRules, Run, Full, Outside as Stopped}
 use Rattle.tup_update.specs.declared.stop.Halt.{Halt}
 use Rattle.tup_update.specs.declared.stop.Halt.TheVariants.{Run as RunHalted, Outside as Halted}
 use Rattle.tup_update.specs.declared.stop.Unread.{Unread}
@@ -40,9 +40,9 @@ unread_of_project (project.CircularCommands rules) = Sources (CircularCommands r
 unread_of_project (project.TooMany what number) = Sources (too_many what number)
 unread_of_project project.Memory = Outside Memory
 
--- what a call of the ledger ends with; none of them tells an update of an empty store
+-- what a call of the ledger ends with
 abbrev pub stop_of_graph : GraphFault → Stop
-stop_of_graph graph.NotThere = BadStore 0
+stop_of_graph graph.NotThere = NoStore
 stop_of_graph (graph.BadStore offset) = BadStore offset
 stop_of_graph graph.Site = Stopped Fault
 stop_of_graph graph.Full = Full

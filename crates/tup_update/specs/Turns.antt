@@ -8,7 +8,7 @@ use Rattle.tup_access.specs.declared.verdict.Verdict.{Verdict}
 use Rattle.tup_clean.specs.Clean.{is_good, first_ready}
 use Rattle.tup_clean.specs.Taken.{Taken, rules_taken, verdicts_of, AreTaken, AllTaken, up_to_bad}
 use Rattle.tup_update.specs.declared.stop.Stop.{Stop}
-use Rattle.tup_update.specs.declared.stop.Stop.TheVariants.{BadStore, Sources, Bad, Run, Full, Outside}
+use Rattle.tup_update.specs.declared.stop.Stop.TheVariants.{NoStore, BadStore, Sources, Bad, Run, Full, Outside}
 
 -- the names of rules that were taken, in their order
 abbrev pub names_of : List Rule → List Taken → List RuleName
@@ -44,6 +44,7 @@ pub record EndsBadly (rules : List Rule) (ended : List Taken) (name : RuleName) 
 abbrev pub TurnsFit : List Rule → List RuleName → List Taken → Option Stop → Type 0
 TurnsFit rules ran ended None = AreInTurn rules ended × (ran ≡ names_of rules ended) × AllTaken rules ended
 TurnsFit rules ran ended (Some (Bad name verdict)) = AreInTurn rules ended × (ran ≡ names_of rules ended) × EndsBadly rules ended name verdict
+TurnsFit rules ran ended (Some NoStore) = (ran ≡ []) × (ended ≡ [])
 TurnsFit rules ran ended (Some (BadStore offset)) = (ran ≡ []) × (ended ≡ [])
 TurnsFit rules ran ended (Some (Sources fault)) = (ran ≡ []) × (ended ≡ [])
 TurnsFit rules ran ended (Some Run) = AreInTurn rules ended × AreBegun rules ran ended

@@ -1,7 +1,7 @@
 //! The making of a project's files.
 ghost use Rattle.std.specs.Prelude.{◌≡◌, ◌⊎◌, ◌++◌, false, filter, not, IsTrue, IfOk, IfErr, OnOk, Err, Some};
 ghost use Rattle.std.specs.Result.{result_err};
-ghost use Rattle.tup_site.specs.Crash.{GoesOn, NoStep, PinsStore, PinsTree};
+ghost use Rattle.tup_site.specs.Crash.{GoesOn, NoStep, PinsStore};
 ghost use Rattle.tup_site.specs.World.{TreeStays, StoreStays};
 ghost use Rattle.tup_site.specs.Cause.{CountsFaults, NeverTooLarge};
 ghost use Rattle.tup_access.specs.Generated.{IsGenerated};
@@ -9,12 +9,12 @@ ghost use Rattle.tup_clean.specs.Clean.{is_good};
 ghost use Rattle.tup_graph.specs.Transactions.{forget_edits};
 ghost use Rattle.tup_kept.specs.Held.{is_fresh, StandsFor};
 ghost use Rattle.tup_ledger.specs.Ascending.{ascending};
-ghost use Rattle.tup_ledger.specs.Listing.{SettledStep};
+ghost use Rattle.tup_ledger.specs.Listing.{ListsEither};
 ghost use Rattle.tup_ledger.specs.Owned.{own_edits, owned_in};
 ghost use Rattle.tup_ledger.specs.Sources.{HaveNoFiles};
 ghost use Rattle.tup_rule.specs.Rule.{among};
 ghost use Rattle.tup_update.specs.Holding.{Lists};
-ghost use Rattle.tup_update.specs.Images.{FilesStep, ListedStep, MakesStep};
+ghost use Rattle.tup_update.specs.Images.{FilesStep, GivenStep, ListedStep, MakesStep};
 ghost use Rattle.tup_update.specs.Opened.{IsOpened};
 ghost use Rattle.tup_update.specs.Log.{IsGrownByFront, IsUnused, with_read};
 ghost use Rattle.tup_update.specs.Outcome.{Keeps, Stays, HasCountedCause, HasRunCause, LacksRoom};
@@ -22,7 +22,6 @@ ghost use Rattle.tup_update.specs.Parts.{IsProject, IsCleared, IsLate, SameBesid
 ghost use Rattle.tup_update.specs.Ran.{RunsThese};
 ghost use Rattle.tup_update.specs.Settled.{IsDurable, IsSettled};
 ghost use Rattle.tup_update.specs.Sources.{outputs, left_over};
-ghost use Rattle.tup_site.specs.declared.fault.SiteFailed.TheVariants.{Memory};
 ghost use Rattle.tup_update.specs.declared.stop.Stop.TheVariants.{Full, Outside};
 
 use crate::project::{Project, parted, path_set};
@@ -163,13 +162,14 @@ fn prepare<S: Site>(
     ensures claimed { IsTrue S.tells
         → let claimed = ascending (owned_in graph.old.nodes ++ plan.now.outputs) in
         OnOk result (Lists (S.world site.new).store claimed) }
-    ensures unclaimed { IsTrue S.tells
-        → let claimed = ascending (owned_in graph.old.nodes ++ plan.now.outputs) in
-        Lists (S.world site.new).store claimed ⊎ TreeStays (S.world site.old) (S.world site.new) }
-    ensures crash { IsTrue S.tells
-        → let claimed = ascending (owned_in graph.old.nodes ++ plan.now.outputs) in
+    ensures unclaimed { IsTrue S.tells → let owned = owned_in graph.old.nodes in
+        let claimed = ascending (owned ++ plan.now.outputs) in
+        let old = S.world site.old in let new = S.world site.new in
+        Lists new.store claimed ⊎ (Lists new.store owned × TreeStays old new) }
+    ensures crash { IsTrue S.tells → let owned = owned_in graph.old.nodes in
+        let claimed = ascending (owned ++ plan.now.outputs) in
         GoesOn S.moment S.left_since site.old site.new
-        (ListedStep (SameBeside plan.now.vanished) claimed) }
+        (ListedStep (SameBeside plan.now.vanished) owned claimed) }
     ensures pinned { IsTrue S.tells → let left = S.left_since site.new (S.moment site.new) in
         OnOk result (PinsStore left (S.world site.new)) }
     ensures opened { OnOk result
@@ -245,9 +245,14 @@ fn finish<S: Site>(
     requires gone { IsTrue S.tells → HaveNoFiles (S.world site.old).tree left.now }
     ensures listed { IsTrue S.tells → OnOk result (Lists (S.world site.new).store
         (filter (λ path. not (among path left.now)) (owned_in graph.old.nodes))) }
+    // Whatever it answers, the store lists what it did, or what is left of that.
+    ensures left { IsTrue S.tells → let owned = owned_in graph.old.nodes in
+        let rest = filter (λ path. not (among path left.now)) owned in
+        ListsEither owned rest (S.world site.new).store }
     ensures tree { IsTrue S.tells → TreeStays (S.world site.old) (S.world site.new) }
-    ensures crash { IsTrue S.tells → GoesOn S.moment S.left_since site.old site.new
-        (SettledStep (S.world site.old)) }
+    ensures crash { IsTrue S.tells → let owned = owned_in graph.old.nodes in
+        let rest = filter (λ path. not (among path left.now)) owned in
+        GoesOn S.moment S.left_since site.old site.new (GivenStep owned rest (S.world site.old)) }
     ensures durable { IsTrue S.tells → OnOk result
         (IsDurable (S.left_since site.new (S.moment site.new)) (S.world site.new)) }
     ensures full { IsTrue S.tells → result ≡ Err Full

@@ -17,7 +17,7 @@ ghost use Rattle.tup_update.specs.Parts.{NamesALargeFile, NoDamage};
 use crate::found::{Found, contents};
 use crate::run::BadRule;
 use crate::stop::Stop;
-use crate::store::listed;
+use crate::store::opened;
 use std::alloc::{AllocError, Global};
 use tup_access::Verdict;
 use tup_clean::{CleanFault, Cleaned, clean_build};
@@ -56,7 +56,7 @@ pub fn compare_site<S: Site, R: Runner>(
     ensures run_cause { HasRunCause (R.faults runner.old) (R.faults runner.new)
         (result_err result) }
 {
-    let owned = listed(alloc, site)?;
+    let (_, owned) = opened(alloc, site)?;
     compare_beside(alloc, site, owned, runner)
 }
 

@@ -5,7 +5,7 @@ ghost use Rattle.tup_path.specs.Order.{by_names};
 ghost use Rattle.tup_path.specs.Tree.{Tree, IsTree};
 ghost use Rattle.tup_site.specs.Crash.{GoesOn, NoStep};
 ghost use Rattle.tup_site.specs.World.{World};
-ghost use Rattle.tup_site.specs.Cause.{CountsFaults, NeverTooLarge, OnlyLarge};
+ghost use Rattle.tup_site.specs.Cause.{CountsFaults, OnlyLarge};
 ghost use Rattle.tup_clean.specs.Buildable.{IsBuildable};
 ghost use Rattle.tup_update.specs.Holding.{Lists, holding};
 ghost use Rattle.tup_update.specs.Outside.{HandsOn};

@@ -15,6 +15,9 @@ use tup_whole::ProjectFault;
 /// Why an update stopped.
 #[derive(Debug, Drop, Error)]
 pub enum Stop {
+    /// There is no store: no project was begun here. No file was touched.
+    #[error("there is no store")]
+    NoStore,
     /// The store doesn't read from this byte on. No file was touched.
     #[error("the store is damaged at byte {0}")]
     BadStore(u64),
@@ -158,7 +161,7 @@ impl From<GraphFault> for Stop {
 
     fn from(fault: GraphFault) -> Stop {
         match fault {
-            GraphFault::NotThere => Stop::BadStore(0),
+            GraphFault::NotThere => Stop::NoStore,
             GraphFault::BadStore { offset } => Stop::BadStore(offset),
             GraphFault::Site => Stop::Outside(SiteFailed::Fault),
             GraphFault::Full => Stop::Full,

@@ -1,8 +1,10 @@
 //! One update, from the store and the sources to the files.
 ghost use Rattle.std.specs.Prelude.{◌≡◌, [], IsTrue};
 ghost use Rattle.std.specs.Result.{result_err};
-ghost use Rattle.tup_site.specs.Crash.{GoesOn};
-ghost use Rattle.tup_update.specs.Images.{UpdateStep};
+ghost use Rattle.tup_site.specs.Crash.{GoesOn, LeavesOnly};
+ghost use Rattle.tup_ledger.specs.Listing.{IsSafe};
+ghost use Rattle.tup_ledger.specs.Sources.{HasSources, Kept};
+ghost use Rattle.tup_update.specs.Images.{UpdateStep, with_outputs};
 ghost use Rattle.tup_update.specs.Log.{IsEmptyLog, LogFits, RulesFit};
 ghost use Rattle.tup_update.specs.Outcome.{Keeps, Stays, ExactlyTheFiles, MadeBeforeBad, SourcesStay, NothingForgotten, HasCause, HasCountedCause, HasRunCause};
 ghost use Rattle.tup_update.specs.Ran.{RunsThese};
@@ -69,6 +71,11 @@ pub fn update_site<S: Site, R: Runner>(alloc: Global, site: &mut S, runner: &mut
         result.rules (S.world site.old) (S.world site.new) result.stopped }
     ensures crash { IsTrue S.tells → GoesOn S.moment S.left_since site.old site.new
         (UpdateStep R.tells R.next result.rules (S.world site.old)) }
+    // Where each world that a crash may leave before has these sources, and owns no other path than
+    // may be, so has each that one may leave since it began: owned more are the outputs alone.
+    ensures images { IsTrue S.tells → (kept : Kept) → IsSafe S.moment S.left_since site.old kept
+        → LeavesOnly S.moment S.left_since site.old site.new
+        (HasSources (with_outputs result.rules kept)) }
     ensures settled { IsTrue S.tells → let left = S.left_since site.new (S.moment site.new) in
         IsSettled left (S.world site.new) result.stopped }
     ensures cause { IsTrue S.tells → IsTrue R.tells → HasCause R.next

@@ -1,8 +1,7 @@
-use Rattle.std.proofs.Common.{◌≡◌, Some, sym, ap, ◌∙◌, subst}
+use Rattle.std.proofs.Common.{◌≡◌, sym, ap, ◌∙◌}
 use Rattle.std.specs.Prelude.{slice_get}
 use Rattle.std.proofs.lemmas.Option.{same_Some}
 use Rattle.tup_core.specs.declared.plan.Plan.{Plan}
-use Rattle.tup_rule.specs.declared.rule.Rule.{Rule}
 use Rattle.tup_board.specs.Seat.{refusal_of}
 use Rattle.tup_board.proofs.Performed.{if_ok_so, performed_by, reported_by}
 use Rattle.tup_board.proofs.drain.performed_in.Goals as goal

@@ -1,14 +1,15 @@
 use Rattle.std.proofs.Common.{◌≡◌, ◌∙◌, sym, ap, subst, Some}
 use Rattle.std.specs.Result.{result_err}
 use Rattle.tup_graph.specs.Graph.{GraphState}
-use Rattle.tup_graph.specs.Transactions.{forget_edits}
+use Rattle.tup_graph.specs.Transactions.{forget_edits, with_forgotten}
+use Rattle.tup_ledger.proofs.Keys.{owned_without}
 use Rattle.tup_update.specs.Outcome.{HasCountedCause}
 use Rattle.tup_update.specs.Parts.{IsLate}
 use Rattle.tup_update.specs.Holding.{Lists}
 use Rattle.tup_update.specs.Stopped.{stop_of_graph}
 use Rattle.tup_update.specs.declared.stop.Stop.TheVariants.{Full}
+use Rattle.tup_update.proofs.Crashing.{given_so}
 use Rattle.tup_update.proofs.Handed.{err_if}
-use Rattle.tup_update.proofs.Held.{by_ledger}
 use Rattle.tup_update.proofs.Keeping.{err_is}
 use Rattle.tup_update.proofs.Storing.{given_late, given_full, graph_counts, no_room}
 use Rattle.tup_update.proofs.build.finish.Goals as goal
@@ -36,4 +37,18 @@ returns-in_err-give_up-clause-counted g c =
 
 pub returns-clause-listed : goal.returns-clause-listed
 returns-clause-listed g c = λ tells.
-    subst (Lists (g.S.Site.world c.give_up.new.site).store) c.in_ok-give_up.ensures.owned.1 (by_ledger _ _ (c.in_ok-give_up.ensures.lists tells))
+    subst (Lists (g.S.Site.world c.give_up.new.site).store) c.in_ok-give_up.ensures.owned.1 (c.in_ok-give_up.ensures.lists tells)
+
+pub returns-in_err-give_up-clause-crash : goal.returns-in_err-give_up-clause-crash
+returns-in_err-give_up-clause-crash g c = λ tells.
+    let nodes = c.args.graph.now.nodes in
+    let left = c.args.left.now in
+    given_so g.S.Site.moment g.S.Site.left_since c.args.site.now c.give_up.new.site nodes (with_forgotten nodes left) _ (g.S.Site.world c.args.site.now) (owned_without nodes left)
+    (c.give_up.ensures.crash tells).only (c.give_up.ensures.settled tells)
+
+pub returns-clause-crash : goal.returns-clause-crash
+returns-clause-crash g c = λ tells.
+    let nodes = c.args.graph.now.nodes in
+    let left = c.args.left.now in
+    given_so g.S.Site.moment g.S.Site.left_since c.args.site.now c.give_up.new.site nodes (with_forgotten nodes left) _ (g.S.Site.world c.args.site.now) (owned_without nodes left)
+    (c.give_up.ensures.crash tells).only (c.give_up.ensures.settled tells)

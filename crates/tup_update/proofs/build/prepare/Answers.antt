@@ -1,10 +1,7 @@
-use Rattle.std.proofs.Common.{◌≡◌, ◌∙◌, ◌++◌, ℕ, inl, sym, ap, subst, List, Some, Err}
+use Rattle.std.proofs.Common.{◌≡◌, ◌∙◌, ◌++◌, ℕ, ⊎_elim, inl, inr, sym, ap, subst, List, Some, Err}
 use Rattle.std.specs.Result.{result_err}
 use Rattle.tup_path.specs.Name.{Names}
-use Rattle.tup_site.specs.World.{TreeStays}
-use Rattle.tup_table.proofs.Going.{as_step}
 use Rattle.tup_graph.specs.Graph.{GraphState}
-use Rattle.tup_kept.specs.Crash.{GraphStep}
 use Rattle.tup_kept.specs.Transaction.{IsFull}
 use Rattle.tup_ledger.specs.Ascending.{ascending}
 use Rattle.tup_ledger.specs.Owned.{own_edits, owned_in, with_owned}
@@ -13,9 +10,9 @@ use Rattle.tup_update.specs.Outcome.{HasCountedCause}
 use Rattle.tup_update.specs.Parts.{IsLate, SameBeside}
 use Rattle.tup_update.specs.Stopped.{stop_of_graph}
 use Rattle.tup_update.specs.declared.stop.Stop.TheVariants.{Full, Outside}
+use Rattle.tup_ledger.proofs.Keys.{owned_with}
 use Rattle.tup_update.proofs.Crashing.{prepared, still_listed, written_only}
 use Rattle.tup_update.proofs.Handed.{err_if}
-use Rattle.tup_update.proofs.Held.{by_ledger}
 use Rattle.tup_update.proofs.Keeping.{err_is}
 use Rattle.tup_update.proofs.Storing.{committed_late, committed_full, graph_counts, site_late, site_counts, no_room, stands_on}
 use Rattle.tup_update.proofs.build.prepare.Goals as goal
@@ -25,9 +22,15 @@ use Rattle.tup_update.proofs.build.prepare.Goals as goal
 pub returns-in_err-own-clause-crash : goal.returns-in_err-own-clause-crash
 returns-in_err-own-clause-crash g c = λ tells.
     let plan = c.args.plan.now in
-    let held = c.args.graph.now in
-    let on = as_step g.S.Site.moment g.S.Site.left_since c.args.site.now c.own.new.site (GraphStep held.nodes (with_owned held.nodes c.as_slice.result.now)) TreeStays (λ v w left step. step.tree) (c.own.ensures.crash tells).on in
-    written_only g.S.Site.moment g.S.Site.left_since c.args.site.now c.own.new.site plan.vanished (ascending (owned_in held.nodes ++ plan.outputs)) on
+    let nodes = c.args.graph.now.nodes in
+    let paths = c.as_slice.result.now in
+    written_only g.S.Site.moment g.S.Site.left_since c.args.site.now c.own.new.site nodes (with_owned nodes paths) plan.vanished (ascending (owned_in nodes ++ plan.outputs))
+    (owned_with nodes paths ∙ ap (λ (paths : List Names). ascending (owned_in nodes ++ paths)) c.as_slice.ensures) (c.own.ensures.crash tells).on
+
+pub returns-in_err-own-clause-unclaimed : goal.returns-in_err-own-clause-unclaimed
+returns-in_err-own-clause-unclaimed g c = λ tells.
+    ⊎_elim (λ still. inr (still, c.own.ensures.tree tells))
+    (λ owned. inl (subst (λ (paths : List Names). Lists (g.S.Site.world c.own.new.site).store (ascending (owned_in c.args.graph.now.nodes ++ paths))) c.as_slice.ensures owned)) (c.own.ensures.keeps tells)
 
 pub returns-in_err-own-clause-late : goal.returns-in_err-own-clause-late
 returns-in_err-own-clause-late g c =
@@ -58,7 +61,7 @@ returns-in_err-clear-clause-unclaimed g c = λ tells.
     let new = g.S.Site.world c.clear.new.site in
     inl (subst (λ (b : List ℕ). Lists b (ascending (owned_in c.args.graph.now.nodes ++ c.args.plan.now.outputs))) (sym (c.clear.ensures.store tells))
     (subst (Lists (g.S.Site.world c.own.new.site).store) (c.in_ok-own.ensures.owned.1 ∙ ap (λ (paths : List Names). ascending (owned_in c.args.graph.now.nodes ++ paths)) c.as_slice.ensures)
-    (by_ledger _ _ (c.in_ok-own.ensures.lists tells))))
+    (c.in_ok-own.ensures.lists tells)))
 
 pub returns-in_err-clear-clause-crash : goal.returns-in_err-clear-clause-crash
 returns-in_err-clear-clause-crash g c = λ tells.
@@ -67,9 +70,12 @@ returns-in_err-clear-clause-crash g c = λ tells.
     let mid = c.own.new.site in
     let claiming = ascending (owned_in c.args.graph.now.nodes ++ plan.outputs) in
     let stands = c.own.ensures.stands tells c.in_ok-own.ensures.owned.0 in
-    prepared g.S.Site.moment g.S.Site.left_since c.args.site.now mid c.clear.new.site plan.vanished c.as_slice-2.result.now (g.S.Site.world mid) claiming c.as_slice-2.ensures (λ t u w le left. site_laws.earlier mid t u w tells le left)
-    (as_step g.S.Site.moment g.S.Site.left_since c.args.site.now mid (GraphStep c.args.graph.now.nodes (with_owned c.args.graph.now.nodes c.as_slice.result.now)) TreeStays (λ v w left step. step.tree) (c.own.ensures.crash tells).on) stands.rests.durable
-    (subst (Lists (g.S.Site.world mid).store) (c.in_ok-own.ensures.owned.1 ∙ ap (λ (paths : List Names). ascending (owned_in c.args.graph.now.nodes ++ paths)) c.as_slice.ensures) (by_ledger _ _ (c.in_ok-own.ensures.lists tells)))
+    let nodes = c.args.graph.now.nodes in
+    let paths = c.as_slice.result.now in
+    prepared g.S.Site.moment g.S.Site.left_since c.args.site.now mid c.clear.new.site nodes (with_owned nodes paths) plan.vanished c.as_slice-2.result.now (g.S.Site.world mid) claiming
+    (owned_with nodes paths ∙ ap (λ (paths : List Names). ascending (owned_in nodes ++ paths)) c.as_slice.ensures) c.as_slice-2.ensures (λ t u w le left. site_laws.earlier mid t u w tells le left)
+    (c.own.ensures.crash tells).on stands.rests.durable
+    (subst (Lists (g.S.Site.world mid).store) (c.in_ok-own.ensures.owned.1 ∙ ap (λ (paths : List Names). ascending (owned_in c.args.graph.now.nodes ++ paths)) c.as_slice.ensures) (c.in_ok-own.ensures.lists tells))
     (c.clear.ensures.crash tells)
 
 pub returns-in_err-clear-clause-full : goal.returns-in_err-clear-clause-full
@@ -102,9 +108,12 @@ returns-clause-crash g c = λ tells.
     let mid = c.own.new.site in
     let claiming = ascending (owned_in c.args.graph.now.nodes ++ plan.outputs) in
     let stands = c.own.ensures.stands tells c.in_ok-own.ensures.owned.0 in
-    prepared g.S.Site.moment g.S.Site.left_since c.args.site.now mid c.clear.new.site plan.vanished c.as_slice-2.result.now (g.S.Site.world mid) claiming c.as_slice-2.ensures (λ t u w le left. site_laws.earlier mid t u w tells le left)
-    (as_step g.S.Site.moment g.S.Site.left_since c.args.site.now mid (GraphStep c.args.graph.now.nodes (with_owned c.args.graph.now.nodes c.as_slice.result.now)) TreeStays (λ v w left step. step.tree) (c.own.ensures.crash tells).on) stands.rests.durable
-    (subst (Lists (g.S.Site.world mid).store) (c.in_ok-own.ensures.owned.1 ∙ ap (λ (paths : List Names). ascending (owned_in c.args.graph.now.nodes ++ paths)) c.as_slice.ensures) (by_ledger _ _ (c.in_ok-own.ensures.lists tells)))
+    let nodes = c.args.graph.now.nodes in
+    let paths = c.as_slice.result.now in
+    prepared g.S.Site.moment g.S.Site.left_since c.args.site.now mid c.clear.new.site nodes (with_owned nodes paths) plan.vanished c.as_slice-2.result.now (g.S.Site.world mid) claiming
+    (owned_with nodes paths ∙ ap (λ (paths : List Names). ascending (owned_in nodes ++ paths)) c.as_slice.ensures) c.as_slice-2.ensures (λ t u w le left. site_laws.earlier mid t u w tells le left)
+    (c.own.ensures.crash tells).on stands.rests.durable
+    (subst (Lists (g.S.Site.world mid).store) (c.in_ok-own.ensures.owned.1 ∙ ap (λ (paths : List Names). ascending (owned_in c.args.graph.now.nodes ++ paths)) c.as_slice.ensures) (c.in_ok-own.ensures.lists tells))
     (c.clear.ensures.crash tells)
 
 pub returns-clause-pinned : goal.returns-clause-pinned

@@ -7,18 +7,18 @@ use Rattle.tup_update.proofs.Crashing.{then_quiet}
 use Rattle.tup_update.proofs.compare.compare_site.Goals as goal
 
 pub returns-clause-holds : goal.returns-clause-holds
-returns-clause-holds g c = λ tells. subst (HoldsOn (g.S.Site.world c.args.site.now)) (sym (c.compare_beside.ensures.same tells)) (c.in_ok-owned.ensures.holds tells)
+returns-clause-holds g c = λ tells. subst (HoldsOn (g.S.Site.world c.args.site.now)) (sym (c.compare_beside.ensures.same tells)) (c.opened.ensures.holds tells)
 
 pub returns-clause-crash : goal.returns-clause-crash
-returns-clause-crash g c = λ tells. then_quiet g.S.Site.moment g.S.Site.left_since c.args.site.now c.listed.new.site c.compare_beside.new.site HoldsOn (c.listed.ensures.crash tells) (c.compare_beside.ensures.crash tells)
+returns-clause-crash g c = λ tells. then_quiet g.S.Site.moment g.S.Site.left_since c.args.site.now c.opened.new.site c.compare_beside.new.site HoldsOn (c.opened.ensures.crash tells) (c.compare_beside.ensures.crash tells)
 
 pub returns-clause-compared : goal.returns-clause-compared
 returns-clause-compared g c = λ tells means.
-    compared_before g.R.Runner.next (g.S.Site.world c.args.site.now) (g.S.Site.world c.listed.new.site) (c.in_ok-owned.ensures.holds tells) c.compare_beside.result c.compare_beside.ensures.sound (c.compare_beside.ensures.compared tells means)
+    compared_before g.R.Runner.next (g.S.Site.world c.args.site.now) (g.S.Site.world c.opened.new.site) (c.opened.ensures.holds tells) c.compare_beside.result c.compare_beside.ensures.sound (c.compare_beside.ensures.compared tells means)
 
 pub returns-clause-ran : goal.returns-clause-ran
 returns-clause-ran g c = λ tells means shows.
-    runs_before g.R.Runner.next (g.S.Site.world c.args.site.now) (g.S.Site.world c.listed.new.site) (c.in_ok-owned.ensures.holds tells) _ _ (result_err c.compare_beside.result) (c.compare_beside.ensures.ran tells means shows)
+    runs_before g.R.Runner.next (g.S.Site.world c.args.site.now) (g.S.Site.world c.opened.new.site) (c.opened.ensures.holds tells) _ _ (result_err c.compare_beside.result) (c.compare_beside.ensures.ran tells means shows)
 
 pub returns-clause-counted_cause : goal.returns-clause-counted_cause
 returns-clause-counted_cause g c =

@@ -3,7 +3,6 @@ use Rattle.std.specs.Result.{result_err}
 use Rattle.tup_path.specs.Tree.{Tree}
 use Rattle.tup_site.specs.World.{World}
 use Rattle.tup_update.specs.Holding.{HoldsOn}
-use Rattle.tup_update.specs.Images.{OpensStep}
 use Rattle.tup_update.specs.Outcome.{Stays, Keeps}
 use Rattle.tup_update.specs.Parts.{IsUnread}
 use Rattle.tup_update.specs.Settled.{IsSettled}
@@ -24,7 +23,7 @@ returns-in_err-graph-clause-stays g c = λ tells.
     let new = g.S.Site.world c.opened.new.site in
     let stop = c.in_err-graph.field-0.0 in
     subst (Stays g.R.Runner.tells g.R.Runner.next c.args.rules.now old new c.args.log.now) (sym (err_is c.from_residual.result stop c.from_residual.ensures.1))
-    (unopened_stays g.R.Runner.tells g.R.Runner.next c.args.rules.now old new c.args.log.now stop c.in_err-graph.ensures.stops (c.in_err-graph.ensures.cause tells) c.requires.rules c.requires.log)
+    (unopened_stays g.R.Runner.tells g.R.Runner.next c.args.rules.now old new c.args.log.now stop c.in_err-graph.ensures.stops (c.opened.ensures.holds tells) c.requires.rules c.requires.log)
 
 pub returns-in_err-graph-clause-kept : goal.returns-in_err-graph-clause-kept
 returns-in_err-graph-clause-kept g c = λ tells means.
@@ -55,7 +54,7 @@ returns-in_err-project-clause-stays g c = λ tells.
     let old = g.S.Site.world c.args.site.now in
     let new = g.S.Site.world c.read.new.site in
     let unread = c.in_err-project.field-0.0 in
-    let on = subst (HoldsOn old) (sym (c.read.ensures.same tells)) (c.in_ok-graph.ensures.holds tells) in
+    let on = subst (HoldsOn old) (sym (c.read.ensures.same tells)) (c.opened.ensures.holds tells) in
     subst (Stays g.R.Runner.tells g.R.Runner.next c.args.rules.now old new c.args.log.now) (sym (err_is c.from_residual-in_err-project.result (stop_of unread) c.from_residual-in_err-project.ensures.1))
     (unread_stays g.R.Runner.tells g.R.Runner.next c.args.rules.now old new c.args.log.now unread on c.requires.rules c.requires.log)
 
@@ -65,7 +64,7 @@ returns-in_err-project-clause-kept g c = λ tells means.
     let new = g.S.Site.world c.read.new.site in
     let unread = c.in_err-project.field-0.0 in
     let same = sym (c.read.ensures.same tells) in
-    let on = subst (HoldsOn old) same (c.in_ok-graph.ensures.holds tells) in
+    let on = subst (HoldsOn old) same (c.opened.ensures.holds tells) in
     subst (Keeps g.R.Runner.next c.args.rules.now old new c.args.log.now) (sym (err_is c.from_residual-in_err-project.result (stop_of unread) c.from_residual-in_err-project.ensures.1))
     (unread_keeps g.R.Runner.next c.args.rules.now old new c.args.log.now unread
     (unread_cause g.R.Runner.next c.args.rules.now old new unread on (subst (λ (w : World). IsUnread w unread) same (c.in_err-project.ensures.cause tells))) c.requires.log)
@@ -90,14 +89,14 @@ pub returns-clause-stays : goal.returns-clause-stays
 returns-clause-stays g c = λ tells.
     let old = g.S.Site.world c.args.site.now in
     let mid = g.S.Site.world c.read.new.site in
-    let on = subst (HoldsOn old) (sym (c.read.ensures.same tells)) (c.in_ok-graph.ensures.holds tells) in
+    let on = subst (HoldsOn old) (sym (c.read.ensures.same tells)) (c.opened.ensures.holds tells) in
     stays_before c.in_ok-project.project.rules old mid (g.S.Site.world c.build-built.new.site) on g.R.Runner.tells g.R.Runner.next _ (result_err c.build-built.result) (makes_on c.build-built.result c.build-built.ensures.makes) (c.build-built.ensures.stays tells)
 
 pub returns-clause-kept : goal.returns-clause-kept
 returns-clause-kept g c = λ tells means.
     let old = g.S.Site.world c.args.site.now in
     let mid = g.S.Site.world c.read.new.site in
-    let on = subst (HoldsOn old) (sym (c.read.ensures.same tells)) (c.in_ok-graph.ensures.holds tells) in
+    let on = subst (HoldsOn old) (sym (c.read.ensures.same tells)) (c.opened.ensures.holds tells) in
     keeps_before c.in_ok-project.project.rules old mid (g.S.Site.world c.build-built.new.site) on g.R.Runner.next _ (result_err c.build-built.result) (makes_on c.build-built.result c.build-built.ensures.makes) (c.build-built.ensures.kept tells means)
 
 pub returns-clause-crash : goal.returns-clause-crash
@@ -107,9 +106,9 @@ returns-clause-crash g c = λ tells.
     let mid = c.read.new.site in
     let new = c.build-built.new.site in
     let was = g.S.Site.world old in
-    let on = subst (HoldsOn was) (sym (c.read.ensures.same tells)) (c.in_ok-graph.ensures.holds tells) in
+    let on = subst (HoldsOn was) (sym (c.read.ensures.same tells)) (c.opened.ensures.holds tells) in
     opened_so g.S.Site.moment g.S.Site.left_since g.R.Runner.tells g.R.Runner.next c.in_ok-project.project.rules old mid new was (g.S.Site.world mid) (λ t u w le left. site_laws.earlier mid t u w tells le left) on
-    (then_quiet g.S.Site.moment g.S.Site.left_since old c.opened.new.site mid (OpensStep was) (c.opened.ensures.crash tells) (c.read.ensures.crash tells)) (c.build-built.ensures.crash tells)
+    (then_quiet g.S.Site.moment g.S.Site.left_since old c.opened.new.site mid HoldsOn (c.opened.ensures.crash tells) (c.read.ensures.crash tells)) (c.build-built.ensures.crash tells)
 
 pub build-built-requires-clause-stands : goal.build-built-requires-clause-stands
 build-built-requires-clause-stands g c κs within = λ tells.

@@ -1,11 +1,11 @@
-use Rattle.std.proofs.Common.{◌≡◌, sym, ap, ◌∙◌, subst}
+use Rattle.std.proofs.Common.{sym, ap, ◌∙◌, subst}
 use Rattle.std.specs.Prelude.{slice_get}
 use Rattle.tup_core.specs.declared.plan.Plan.{Plan}
 use Rattle.tup_core.specs.Sound.{IsAcyclic}
 use Rattle.tup_board.specs.declared.answers.Drained.{Drained}
 use Rattle.tup_board.specs.Board.{state}
 use Rattle.tup_board.specs.Calls.{Drains, RanAll}
-use Rattle.tup_board.proofs.Draining.{builds_clean, drained_none, drained_there, goes_further, is_smaller, never_waits, none_pending, over_there, plan_there, ran_as, run_cause, starts_there}
+use Rattle.tup_board.proofs.Draining.{builds_clean, drained_none, drained_there, goes_further, is_smaller, none_pending, over_there, plan_there, ran_as, run_cause, starts_there}
 use Rattle.tup_board.proofs.board.Board.drain.Goals as goal
 
 pub rules-init : goal.rules-init

@@ -1,4 +1,4 @@
-use Rattle.std.proofs.Common.{◌≡◌, false, true, sym, ap, ◌∙◌}
+use Rattle.std.proofs.Common.{sym, ◌∙◌}
 use Rattle.std.proofs.lemmas.Bool.{false≢true}
 use Rattle.tup_runner.specs.Report.{ended_of}
 use Rattle.tup_board.proofs.Draining.{end_left, memory_kept, memory_left}

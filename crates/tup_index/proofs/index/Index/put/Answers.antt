@@ -8,5 +8,5 @@ use Rattle.tup_index.proofs.index.Index.put.Goals as goal
 
 pub returns-in-Run : goal.returns-in-Run
 returns-in-Run c =
-    subst (λ (r : Record). OnOk c.put.result (IsIndexOf (put c.args.nodes.now r) (record { readers = c.put.new.self; askers = c.args.self.now.askers }))) (sym c.in-Run.is)
+    subst (λ (r : Record). OnOk c.put.result (IsIndexOf (put c.args.nodes.now r) (record { users = c.put.new.self; askers = c.args.self.now.askers }))) (sym c.in-Run.is)
     (on_ok_weaker c.put.result (λ are. (are, c.requires.1)) c.put.ensures)

@@ -1,4 +1,4 @@
-use Rattle.std.proofs.Common.{ℕ, List, ◌++◌, IfSome, Some, Ok, Err, inl, inr, refl, sym, ◌∙◌, ap, subst}
+use Rattle.std.proofs.Common.{ℕ, List, ◌++◌, IfSome, Some, Ok, Err, ⊎_elim, inl, inr, sym, ◌∙◌, ap, subst}
 use Rattle.tup_path.specs.Name.{Names}
 use Rattle.tup_graph.specs.Graph.{GraphState}
 use Rattle.tup_graph.specs.Transactions.{forget_edits}
@@ -31,7 +31,7 @@ use Rattle.tup_update.proofs.Settling.{late_makes, halt_makes, stopped_makes}
 use Rattle.tup_update.proofs.Keeping.{IsUnderWay, all_made, err_is, way_runnable, unplanned_stays, unplanned_keeps, unprepared_stays, unprepared_keeps, unrun_stays, unrun_keeps, stopped_stays, stopped_keeps, unfinished_stays, unfinished_keeps, finished_stays, finished_keeps}
 use Rattle.tup_update.proofs.Settling.{halted_unsettled, late_unsettled}
 use Rattle.tup_update.specs.Images.{MakesStep}
-use Rattle.tup_update.proofs.Crashing.{at_rest, then_quiet, store_reads, prepared_so, ran_so, finished_so}
+use Rattle.tup_update.proofs.Crashing.{at_rest, then_quiet, still_lists, store_reads, prepared_so, ran_so, finished_so}
 use Rattle.tup_update.proofs.project.Project.build.Goals as goal
 
 -- ---- what could not be planned
@@ -77,7 +77,7 @@ returns-in_err-prepare-clause-stays g c = λ tells.
     let log : Log = record { read = c.args.log.now.read; removed = c.prepare.new.removed; ran = c.args.log.now.ran; ended = c.args.log.now.ended } in
     let stop = c.in_err-prepare.field-0.0 in
     subst (Stays g.R.Runner.tells g.R.Runner.next project.rules old mid (with_read project.read log)) (sym (err_is c.from_residual-in_err-prepare.result stop c.from_residual-in_err-prepare.ensures.1))
-    (unprepared_stays project old mid plan.vanished claiming way g.R.Runner.tells g.R.Runner.next log stop (c.prepare.ensures.unclaimed tells)
+    (unprepared_stays project old mid plan.vanished claiming way g.R.Runner.tells g.R.Runner.next log stop (owned_in c.args.graph.now.nodes) c.requires.opened.owned (c.prepare.ensures.unclaimed tells)
     (c.in_err-prepare.ensures.late) c.requires.unused.1 c.requires.unused.2)
 
 pub returns-in_err-prepare-clause-kept : goal.returns-in_err-prepare-clause-kept
@@ -256,6 +256,8 @@ returns-in_err-finish-in-None-clause-stays g c = λ tells.
     let sources = files_beside project.owned mid.tree in
     subst (Stays g.R.Runner.tells g.R.Runner.next project.rules old new (with_read project.read log)) (sym (err_is c.from_residual-in_err-finish-in-None.result stop c.from_residual-in_err-finish-in-None.ensures.1))
     (unfinished_stays project old mid plan.vanished claiming way g.R.Runner.tells g.R.Runner.next ran new log stop (c.in_ok-prepare.ensures.cleared tells) (c.run.ensures.others tells) (c.finish.ensures.tree tells)
+    (⊎_elim (λ stored. inl (subst (Lists new.store) (sym c.in_ok-prepare.ensures.opened.owned) stored))
+    (λ given. inr (given_up project.owned project.rules (owned_in c.args.graph.now.nodes) plan.outputs plan.left _ (owned_in c.prepare.new.graph.nodes) new.store c.requires.opened.owned c.in_ok-plan.ensures.outputs c.in_ok-plan.ensures.left c.as_slice.ensures c.in_ok-prepare.ensures.opened.owned given)) (c.finish.ensures.left tells))
     c.in_err-finish-in-None.ensures.late
     (λ means. subst (HasRun g.R.Runner.next project.rules sources ran.tree) c.in-None.is (c.in_ok-bad.ensures.run tells means))
     (subst (TurnsFit project.rules log.ran log.ended) (ap comes_to (c.in_ok-bad.was ∙ ap (λ o. Ok o) c.in-None.is)) (c.run.ensures.in_turn tells)))
@@ -370,7 +372,9 @@ returns-in_err-prepare-clause-crash g c = λ tells.
     let plan = c.in_ok-plan.plan in
     let claiming = ascending (owned_in c.args.graph.now.nodes ++ plan.outputs) in
     let is = c.requires.project tells in
-    let prepared = prepared_so g.S.Site.moment g.S.Site.left_since g.R.Runner.tells g.R.Runner.next project.rules old (holding old project.owned) (store_reads project old is) is.asked site mid plan.vanished claiming (c.in_ok-plan.ensures.vanished ∙ vanished_are project old is) (λ i. ascending (sym c.requires.opened.owned i ++ c.in_ok-plan.ensures.outputs i)) (c.prepare.ensures.crash tells) in
+    let stands = c.requires.stands tells in
+    let lists = still_lists g.S.Site.moment g.S.Site.left_since site old project.owned stands.rests.durable is.owned in
+    let prepared = prepared_so g.S.Site.moment g.S.Site.left_since g.R.Runner.tells g.R.Runner.next project.rules old (holding old project.owned) (store_reads project old is) is.asked is.buildable site lists mid plan.vanished (owned_in c.args.graph.now.nodes) claiming (c.in_ok-plan.ensures.vanished ∙ vanished_are project old is) c.requires.opened.owned (λ i. ascending (sym c.requires.opened.owned i ++ c.in_ok-plan.ensures.outputs i)) (c.prepare.ensures.crash tells) in
     prepared
 
 pub returns-in_err-bad-clause-crash : goal.returns-in_err-bad-clause-crash
@@ -383,9 +387,11 @@ returns-in_err-bad-clause-crash g c = λ tells.
     let plan = c.in_ok-plan.plan in
     let claiming = ascending (owned_in c.args.graph.now.nodes ++ plan.outputs) in
     let is = c.requires.project tells in
-    let prepared = prepared_so g.S.Site.moment g.S.Site.left_since g.R.Runner.tells g.R.Runner.next project.rules old (holding old project.owned) (store_reads project old is) is.asked site mid plan.vanished claiming (c.in_ok-plan.ensures.vanished ∙ vanished_are project old is) (λ i. ascending (sym c.requires.opened.owned i ++ c.in_ok-plan.ensures.outputs i)) (c.prepare.ensures.crash tells) in
+    let stands = c.requires.stands tells in
+    let lists = still_lists g.S.Site.moment g.S.Site.left_since site old project.owned stands.rests.durable is.owned in
+    let prepared = prepared_so g.S.Site.moment g.S.Site.left_since g.R.Runner.tells g.R.Runner.next project.rules old (holding old project.owned) (store_reads project old is) is.asked is.buildable site lists mid plan.vanished (owned_in c.args.graph.now.nodes) claiming (c.in_ok-plan.ensures.vanished ∙ vanished_are project old is) c.requires.opened.owned (λ i. ascending (sym c.requires.opened.owned i ++ c.in_ok-plan.ensures.outputs i)) (c.prepare.ensures.crash tells) in
     let stored = subst (Lists (g.S.Site.world mid).store) (λ i. ascending (sym c.requires.opened.owned i ++ c.in_ok-plan.ensures.outputs i)) (c.in_ok-prepare.ensures.claimed tells) in
-    let ran = ran_so g.S.Site.moment g.S.Site.left_since g.R.Runner.tells g.R.Runner.next project.rules old (holding old project.owned) (store_reads project old is) is.asked site mid c.run.new.site (g.S.Site.world mid) (λ t u w le left. site_laws.earlier mid t u w tells le left) (c.in_ok-prepare.ensures.pinned tells) stored prepared (c.run.ensures.crash tells) in
+    let ran = ran_so g.S.Site.moment g.S.Site.left_since g.R.Runner.tells g.R.Runner.next project.rules old (holding old project.owned) (store_reads project old is) is.asked is.buildable site lists mid c.run.new.site (g.S.Site.world mid) (λ t u w le left. site_laws.earlier mid t u w tells le left) (c.in_ok-prepare.ensures.pinned tells) stored prepared (c.run.ensures.crash tells) in
     ran
 
 pub returns-in-Some-clause-crash : goal.returns-in-Some-clause-crash
@@ -398,9 +404,11 @@ returns-in-Some-clause-crash g c = λ tells.
     let plan = c.in_ok-plan.plan in
     let claiming = ascending (owned_in c.args.graph.now.nodes ++ plan.outputs) in
     let is = c.requires.project tells in
-    let prepared = prepared_so g.S.Site.moment g.S.Site.left_since g.R.Runner.tells g.R.Runner.next project.rules old (holding old project.owned) (store_reads project old is) is.asked site mid plan.vanished claiming (c.in_ok-plan.ensures.vanished ∙ vanished_are project old is) (λ i. ascending (sym c.requires.opened.owned i ++ c.in_ok-plan.ensures.outputs i)) (c.prepare.ensures.crash tells) in
+    let stands = c.requires.stands tells in
+    let lists = still_lists g.S.Site.moment g.S.Site.left_since site old project.owned stands.rests.durable is.owned in
+    let prepared = prepared_so g.S.Site.moment g.S.Site.left_since g.R.Runner.tells g.R.Runner.next project.rules old (holding old project.owned) (store_reads project old is) is.asked is.buildable site lists mid plan.vanished (owned_in c.args.graph.now.nodes) claiming (c.in_ok-plan.ensures.vanished ∙ vanished_are project old is) c.requires.opened.owned (λ i. ascending (sym c.requires.opened.owned i ++ c.in_ok-plan.ensures.outputs i)) (c.prepare.ensures.crash tells) in
     let stored = subst (Lists (g.S.Site.world mid).store) (λ i. ascending (sym c.requires.opened.owned i ++ c.in_ok-plan.ensures.outputs i)) (c.in_ok-prepare.ensures.claimed tells) in
-    let ran = ran_so g.S.Site.moment g.S.Site.left_since g.R.Runner.tells g.R.Runner.next project.rules old (holding old project.owned) (store_reads project old is) is.asked site mid c.run.new.site (g.S.Site.world mid) (λ t u w le left. site_laws.earlier mid t u w tells le left) (c.in_ok-prepare.ensures.pinned tells) stored prepared (c.run.ensures.crash tells) in
+    let ran = ran_so g.S.Site.moment g.S.Site.left_since g.R.Runner.tells g.R.Runner.next project.rules old (holding old project.owned) (store_reads project old is) is.asked is.buildable site lists mid c.run.new.site (g.S.Site.world mid) (λ t u w le left. site_laws.earlier mid t u w tells le left) (c.in_ok-prepare.ensures.pinned tells) stored prepared (c.run.ensures.crash tells) in
     then_quiet g.S.Site.moment g.S.Site.left_since site c.run.new.site c.stop_at.new.site (MakesStep g.R.Runner.tells g.R.Runner.next project.rules old) ran (c.stop_at.ensures.crash tells)
 
 pub returns-in_err-finish-in-None-clause-crash : goal.returns-in_err-finish-in-None-clause-crash
@@ -413,9 +421,11 @@ returns-in_err-finish-in-None-clause-crash g c = λ tells.
     let plan = c.in_ok-plan.plan in
     let claiming = ascending (owned_in c.args.graph.now.nodes ++ plan.outputs) in
     let is = c.requires.project tells in
-    let prepared = prepared_so g.S.Site.moment g.S.Site.left_since g.R.Runner.tells g.R.Runner.next project.rules old (holding old project.owned) (store_reads project old is) is.asked site mid plan.vanished claiming (c.in_ok-plan.ensures.vanished ∙ vanished_are project old is) (λ i. ascending (sym c.requires.opened.owned i ++ c.in_ok-plan.ensures.outputs i)) (c.prepare.ensures.crash tells) in
+    let stands = c.requires.stands tells in
+    let lists = still_lists g.S.Site.moment g.S.Site.left_since site old project.owned stands.rests.durable is.owned in
+    let prepared = prepared_so g.S.Site.moment g.S.Site.left_since g.R.Runner.tells g.R.Runner.next project.rules old (holding old project.owned) (store_reads project old is) is.asked is.buildable site lists mid plan.vanished (owned_in c.args.graph.now.nodes) claiming (c.in_ok-plan.ensures.vanished ∙ vanished_are project old is) c.requires.opened.owned (λ i. ascending (sym c.requires.opened.owned i ++ c.in_ok-plan.ensures.outputs i)) (c.prepare.ensures.crash tells) in
     let stored = subst (Lists (g.S.Site.world mid).store) (λ i. ascending (sym c.requires.opened.owned i ++ c.in_ok-plan.ensures.outputs i)) (c.in_ok-prepare.ensures.claimed tells) in
-    let ran = ran_so g.S.Site.moment g.S.Site.left_since g.R.Runner.tells g.R.Runner.next project.rules old (holding old project.owned) (store_reads project old is) is.asked site mid c.run.new.site (g.S.Site.world mid) (λ t u w le left. site_laws.earlier mid t u w tells le left) (c.in_ok-prepare.ensures.pinned tells) stored prepared (c.run.ensures.crash tells) in
+    let ran = ran_so g.S.Site.moment g.S.Site.left_since g.R.Runner.tells g.R.Runner.next project.rules old (holding old project.owned) (store_reads project old is) is.asked is.buildable site lists mid c.run.new.site (g.S.Site.world mid) (λ t u w le left. site_laws.earlier mid t u w tells le left) (c.in_ok-prepare.ensures.pinned tells) stored prepared (c.run.ensures.crash tells) in
     let way : IsUnderWay project old (g.S.Site.world mid) plan.vanished claiming = record {
       is = is;
       vanishes = c.in_ok-plan.ensures.vanished ∙ vanished_are project old is;
@@ -424,9 +434,12 @@ returns-in_err-finish-in-None-clause-crash g c = λ tells.
     } in
     let now = g.S.Site.world c.run.new.site in
     let sources = files_beside project.owned (g.S.Site.world mid).tree in
-    let made = all_made project old (g.S.Site.world mid) plan.vanished claiming way g.R.Runner.tells g.R.Runner.next now now (c.in_ok-prepare.ensures.cleared tells) (c.run.ensures.others tells) refl
-    (λ means. subst (HasRun g.R.Runner.next project.rules sources now.tree) c.in-None.is (c.in_ok-bad.ensures.run tells means)) in
-    finished_so g.S.Site.moment g.S.Site.left_since g.R.Runner.tells g.R.Runner.next project.rules old (holding old project.owned) (store_reads project old is) is.asked site c.run.new.site c.finish.new.site now (λ t u w le left. site_laws.earlier c.run.new.site t u w tells le left) made ran (c.finish.ensures.crash tells)
+    finished_so g.S.Site.moment g.S.Site.left_since g.R.Runner.tells g.R.Runner.next project.rules old (holding old project.owned) (store_reads project old is) is.asked is.buildable site lists c.run.new.site c.finish.new.site (owned_in c.prepare.new.graph.nodes) _ now (λ t u w le left. site_laws.earlier c.run.new.site t u w tells le left)
+    (sym c.in_ok-prepare.ensures.opened.owned ∙ (λ i. ascending (sym c.requires.opened.owned i ++ c.in_ok-plan.ensures.outputs i)))
+    (λ w same given.
+    all_made project old (g.S.Site.world mid) plan.vanished claiming way g.R.Runner.tells g.R.Runner.next now w (c.in_ok-prepare.ensures.cleared tells) (c.run.ensures.others tells) same
+    (given_up project.owned project.rules (owned_in c.args.graph.now.nodes) plan.outputs plan.left _ (owned_in c.prepare.new.graph.nodes) w.store c.requires.opened.owned c.in_ok-plan.ensures.outputs c.in_ok-plan.ensures.left c.as_slice.ensures c.in_ok-prepare.ensures.opened.owned given)
+    (λ means. subst (HasRun g.R.Runner.next project.rules sources now.tree) c.in-None.is (c.in_ok-bad.ensures.run tells means))) ran (c.finish.ensures.crash tells)
 
 pub returns-clause-crash : goal.returns-clause-crash
 returns-clause-crash g c = λ tells.
@@ -438,9 +451,11 @@ returns-clause-crash g c = λ tells.
     let plan = c.in_ok-plan.plan in
     let claiming = ascending (owned_in c.args.graph.now.nodes ++ plan.outputs) in
     let is = c.requires.project tells in
-    let prepared = prepared_so g.S.Site.moment g.S.Site.left_since g.R.Runner.tells g.R.Runner.next project.rules old (holding old project.owned) (store_reads project old is) is.asked site mid plan.vanished claiming (c.in_ok-plan.ensures.vanished ∙ vanished_are project old is) (λ i. ascending (sym c.requires.opened.owned i ++ c.in_ok-plan.ensures.outputs i)) (c.prepare.ensures.crash tells) in
+    let stands = c.requires.stands tells in
+    let lists = still_lists g.S.Site.moment g.S.Site.left_since site old project.owned stands.rests.durable is.owned in
+    let prepared = prepared_so g.S.Site.moment g.S.Site.left_since g.R.Runner.tells g.R.Runner.next project.rules old (holding old project.owned) (store_reads project old is) is.asked is.buildable site lists mid plan.vanished (owned_in c.args.graph.now.nodes) claiming (c.in_ok-plan.ensures.vanished ∙ vanished_are project old is) c.requires.opened.owned (λ i. ascending (sym c.requires.opened.owned i ++ c.in_ok-plan.ensures.outputs i)) (c.prepare.ensures.crash tells) in
     let stored = subst (Lists (g.S.Site.world mid).store) (λ i. ascending (sym c.requires.opened.owned i ++ c.in_ok-plan.ensures.outputs i)) (c.in_ok-prepare.ensures.claimed tells) in
-    let ran = ran_so g.S.Site.moment g.S.Site.left_since g.R.Runner.tells g.R.Runner.next project.rules old (holding old project.owned) (store_reads project old is) is.asked site mid c.run.new.site (g.S.Site.world mid) (λ t u w le left. site_laws.earlier mid t u w tells le left) (c.in_ok-prepare.ensures.pinned tells) stored prepared (c.run.ensures.crash tells) in
+    let ran = ran_so g.S.Site.moment g.S.Site.left_since g.R.Runner.tells g.R.Runner.next project.rules old (holding old project.owned) (store_reads project old is) is.asked is.buildable site lists mid c.run.new.site (g.S.Site.world mid) (λ t u w le left. site_laws.earlier mid t u w tells le left) (c.in_ok-prepare.ensures.pinned tells) stored prepared (c.run.ensures.crash tells) in
     let way : IsUnderWay project old (g.S.Site.world mid) plan.vanished claiming = record {
       is = is;
       vanishes = c.in_ok-plan.ensures.vanished ∙ vanished_are project old is;
@@ -449,9 +464,12 @@ returns-clause-crash g c = λ tells.
     } in
     let now = g.S.Site.world c.run.new.site in
     let sources = files_beside project.owned (g.S.Site.world mid).tree in
-    let made = all_made project old (g.S.Site.world mid) plan.vanished claiming way g.R.Runner.tells g.R.Runner.next now now (c.in_ok-prepare.ensures.cleared tells) (c.run.ensures.others tells) refl
-    (λ means. subst (HasRun g.R.Runner.next project.rules sources now.tree) c.in-None.is (c.in_ok-bad.ensures.run tells means)) in
-    finished_so g.S.Site.moment g.S.Site.left_since g.R.Runner.tells g.R.Runner.next project.rules old (holding old project.owned) (store_reads project old is) is.asked site c.run.new.site c.finish.new.site now (λ t u w le left. site_laws.earlier c.run.new.site t u w tells le left) made ran (c.finish.ensures.crash tells)
+    finished_so g.S.Site.moment g.S.Site.left_since g.R.Runner.tells g.R.Runner.next project.rules old (holding old project.owned) (store_reads project old is) is.asked is.buildable site lists c.run.new.site c.finish.new.site (owned_in c.prepare.new.graph.nodes) _ now (λ t u w le left. site_laws.earlier c.run.new.site t u w tells le left)
+    (sym c.in_ok-prepare.ensures.opened.owned ∙ (λ i. ascending (sym c.requires.opened.owned i ++ c.in_ok-plan.ensures.outputs i)))
+    (λ w same given.
+    all_made project old (g.S.Site.world mid) plan.vanished claiming way g.R.Runner.tells g.R.Runner.next now w (c.in_ok-prepare.ensures.cleared tells) (c.run.ensures.others tells) same
+    (given_up project.owned project.rules (owned_in c.args.graph.now.nodes) plan.outputs plan.left _ (owned_in c.prepare.new.graph.nodes) w.store c.requires.opened.owned c.in_ok-plan.ensures.outputs c.in_ok-plan.ensures.left c.as_slice.ensures c.in_ok-prepare.ensures.opened.owned given)
+    (λ means. subst (HasRun g.R.Runner.next project.rules sources now.tree) c.in-None.is (c.in_ok-bad.ensures.run tells means))) ran (c.finish.ensures.crash tells)
 
 pub returns-in_err-plan-clause-makes : goal.returns-in_err-plan-clause-makes
 returns-in_err-plan-clause-makes g c = err_if c.from_residual.result (Outside Memory) StopsMaking c.from_residual.ensures.1 tt

@@ -1,9 +1,0 @@
-use Rattle.std.proofs.Common.{◌≡◌, ◌∙◌, true, false, sym}
-use Rattle.std.specs.Cmp.{nat_cmp_total}
-use Rattle.std.specs.FinMap.{nat_cmp-IsAntisymmetric}
-use Rattle.tup_index.specs.Index.{HasReader, asks_of, path_of}
-use Rattle.tup_index.proofs.Keeping.{none_yet}
-use Rattle.tup_index.proofs.readers.Readers.new.Goals as goal
-
-pub returns : goal.returns
-returns c = none_yet nat_cmp_total nat_cmp-IsAntisymmetric path_of asks_of (HasReader (record { sets = c.new.result })) (λ x now. let no : false ≡ true = sym (c.new.ensures x.0 x.1) ∙ now in cc)

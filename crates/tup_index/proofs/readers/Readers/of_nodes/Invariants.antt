@@ -1,9 +1,0 @@
-use Rattle.std.proofs.Common.{map}
-use Rattle.std.specs.Map.Iter.{deref_pair}
-use Rattle.tup_index.specs.Changes.{Adds}
-use Rattle.tup_index.specs.Index.{HasReader, asks_of, path_of}
-use Rattle.tup_index.specs.Records.{AreAll}
-use Rattle.tup_index.proofs.readers.Readers.of_nodes.Given as goal
-
-abbrev pub invariant-loop-number : goal.invariant-loop-number
-invariant-loop-number l = Adds (AreAll path_of asks_of (map deref_pair l.yielded)) (λ x. ⊥) (HasReader l.readers)
