@@ -9,12 +9,14 @@ cp -r "$(dirname "$0")"/hello "$(dirname "$0")"/tree "$(dirname "$0")"/c "$folde
 cd "$folder/tree" || exit 1
 
 say() { printf '\n-- %s\n' "$*"; }
+begin() { say "it begins"; "$tup" init; }
 update() { "$tup" upd "$@"; printf '   exit %s\n' "$?"; }
 
 say "a project of three folders"
 find . -type f | sort
 cat Tuprules.tup lib/Tupfile Tupfile
 
+begin
 say "its first update"
 update
 cat app app.stamp
@@ -30,6 +32,7 @@ cd ../hello || exit 1
 say "a project of one folder"
 ls
 cat Tupfile
+begin
 
 say "the first update"
 update
@@ -65,6 +68,7 @@ cd ../c || exit 1
 say "a library and a program in C, with shell commands: tup upd --proc tup_sh"
 find . -type f | sort
 cat lib/Tupfile src/Tupfile
+begin
 if ! command -v cc > /dev/null || ! command -v ar > /dev/null; then
     echo "   passed over: there is no C compiler (cc and ar)"
     exit 0

@@ -60,7 +60,7 @@ told() {
 
 all='done: 2 read, 6 run, 0 removed'
 compile='cc -Wall -I../lib -c main.c -o main.o'
-cp -r "$example" "$work/project" && cd "$work/project" || exit 1
+cp -r "$example" "$work/project" && cd "$work/project" && "$tup" init > /dev/null || exit 1
 update 'as it is' 0 "$all"
 greets 'Hello from version 1.2'
 
@@ -109,7 +109,7 @@ cmp -s lib/hello.c "$example/lib/hello.c" || wrong 'hello.c was changed'
 
 # command STEP STATUS LAST TEXT: a project of two sources whose one rule has this command and the output `made`.
 command() {
-    rm -rf "$work/commands" && mkdir -p "$work/commands/src/sub" && cd "$work/commands" || exit 1
+    rm -rf "$work/commands" && mkdir -p "$work/commands/src/sub" && cd "$work/commands" && "$tup" init > /dev/null || exit 1
     echo a > src/a && echo b > src/b && echo s > src/sub/s && echo o > source && echo h > .hidden && chmod 600 src/b && ln -s a src/ln
     printf 'int main(void) { return 0 }\n' > src/wrong.c
     printf ': a |> %s |> made\n' "$4" > src/Tupfile

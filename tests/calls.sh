@@ -17,6 +17,7 @@ count() {
     rm -rf "$work/project" && mkdir -p "$work/project/$1" && cd "$work/project/$1" || exit 1
     make_files
     cd "$work/project" || exit 1
+    "$tup" init > /dev/null || exit 1
     strace -f -o "$work/trace" "$tup" > "$work/told" || exit 1
     printf '%s, in %s\n' "$(tail -1 "$work/told")" "$1"
     tell || exit 1

@@ -21,6 +21,7 @@ project() {
     mkdir "$work/$count" && cd "$work/$count" || exit 1
     printf 'hi\n' > a
     printf '%s\n' "$@" > Tupfile
+    "$tup" init > /dev/null || exit 1
 }
 
 same() {
@@ -189,7 +190,7 @@ project "$copy"
 flock . strace -o "$work/trace" -e trace=%file,%desc "$tup" > "$work/told" 2> "$work/said"
 same "a second update" "$?: $(cat "$work/told") $(cat "$work/said")" '7: fault: the file tree or the store failed tup: .: another tup is at work here'
 same "it looks at nothing" "$(grep -c '"\./' "$work/trace")" 0
-same "it makes nothing" "$(ls -A | tr '\n' ' ')" 'Tupfile a '
+same "it makes nothing" "$(ls -A | tr '\n' ' ')" '.tup Tupfile a '
 
 # Closed streams, and few open files.
 project "$copy"

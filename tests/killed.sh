@@ -1,5 +1,5 @@
 #!/bin/sh
-# Each system call of an update over real files is failed and killed in turn, by strace: whatever stops the program, no
+# Each system call of an update over real files, and of the beginning of a project, is failed and killed in turn, by strace: whatever stops the program, no
 # source may be lost, and the next update has to end with `done` and leave just the files of a clean build. A call that
 # failed is told with its error; only where nothing is lost by it may the update go on. Before, the order of its syncs is
 # looked at: which calls of the system make a file durable no clause says. Words: the program, and the projects to try (none: all). It ends with 1
@@ -23,14 +23,17 @@ wrong() {
     printf 'wrong: %s: %s\n' "$what" "$1"
 }
 
-# The projects: each makes itself in an empty working folder, up to the update that is to be stopped. A user's files have
-# names that aren't outputs of any rule that ever stood there.
+# The projects: each makes itself in a working folder where a project has begun, up to the update that is to be stopped. A
+# user's files have names that aren't outputs of any rule that ever stood there.
 
 three_rules() {
     printf 'head\n' > head
     printf 'body\n' > body
     printf '%s\n' ': head |> cp head top |> top' ': top body |> cat top body > page |> page' ': page |> cp page index |> index' > Tupfile
 }
+
+# A folder without a project, whose beginning is stopped.
+beginning() { three_rules; }
 
 # One rule has vanished, one command and a source have changed, and a user has written over an output and deleted another.
 after_changes() {
@@ -100,13 +103,28 @@ may_go_on() {
     esac
 }
 
-made_all() { [ "$(files)" = "$wanted_files" ] || wrong "exit $exit, and the files aren't those of a clean build"; }
+made_all() {
+    case $order in
+        init) [ -s .tup/db ] || wrong "exit $exit, and there is no store" ;;
+        *) [ "$(files)" = "$wanted_files" ] || wrong "exit $exit, and the files aren't those of a clean build" ;;
+    esac
+}
 
-# Stops the update of a project at one call, and looks at what is left. Words: the project, the call, its number, what is done to it.
+# A project that may have begun begins, or says that it has.
+begin_again() {
+    again=$("$tup" init 2>&1)
+    case "$? $again" in
+        '0 initialized' | '3 fault: already a tup project') ;;
+        *) wrong "the next beginning: $again" ;;
+    esac
+}
+
+# Stops the update of a project, or its beginning, at one call, and looks at what is left. Words: the project, the call, its
+# number, what is done to it.
 stop() {
     rm -rf "$work/now" && cp -a "$work/project" "$work/now" && cd "$work/now" || exit 1
     what="$1, $2 number $3, $4"
-    strace -o /dev/null -e trace="$2" -e inject="$2:$4:when=$3" "$tup" > "$work/told" 2> "$work/said"
+    strace -o /dev/null -e trace="$2" -e inject="$2:$4:when=$3" "$tup" "$order" > "$work/told" 2> "$work/said"
     exit=$?
     all=$((all + 1))
     case $4 in error*) what_was_done=failed ;; *) what_was_done=killed ;; esac
@@ -119,6 +137,7 @@ stop() {
         'write error='*' 9') made_all ;;
         *) wrong "exit $exit: $(tail -1 "$work/told")" ;;
     esac
+    if [ "$order" = init ]; then begin_again; fi
     next=$("$tup" 2>&1)
     case "$? $next" in
         '0 '*'done: '*) ;;
@@ -170,24 +189,25 @@ unsynced() {
         }' "$work/trace"
 }
 
-# How often a project's update puts the store into its place: the first one makes it and owns what it makes, the others give
-# paths up.
-stores_of() { case $1 in three_rules) echo 3 ;; *) echo 2 ;; esac; }
-
-# All calls of the update of a project, from the first that names its folder on.
+# All calls of the update of a project, or of its beginning, from the first that names its folder on. A beginning puts the
+# store into its place once; each of the updates commits once: it owns what it makes, or gives paths up.
 try() {
     rm -rf "$work/project" "$work/clean" && mkdir "$work/project" "$work/clean" && cd "$work/project" || exit 1
+    case $1 in
+        beginning) order=init stores=1 ;;
+        *) order=upd stores=2 && "$tup" init > /dev/null ;;
+    esac
     "$1"
     wanted_sources=$(sources)
     names_of_sources | xargs -d '\n' cp --parents -t "$work/clean"
-    cd "$work/clean" && "$tup" > /dev/null || echo "the clean build of $1 isn't done"
+    cd "$work/clean" && "$tup" init > /dev/null && "$tup" > /dev/null || echo "the clean build of $1 isn't done"
     wanted_files=$(files)
     rm -rf "$work/now" && cp -a "$work/project" "$work/now" && cd "$work/now" || exit 1
-    strace -y -o "$work/trace" -e trace="$calls" "$tup" > /dev/null
+    strace -y -o "$work/trace" -e trace="$calls" "$tup" "$order" > /dev/null
     awk '{ name = $0; sub(/\(.*/, "", name); count[name]++ } /"\.["\/]/ { begun = 1 } begun && name ~ /^[a-z]/ && name !~ /^mmap/ { print name, count[name] }' "$work/trace" > "$work/list"
     what=$1
     [ -s "$work/list" ] || wrong "no call of the update was found"
-    late=$(unsynced "$(stores_of "$1")")
+    late=$(unsynced "$stores")
     [ -z "$late" ] || wrong "$late"
     : > "$work/exits"
     while read -r call number; do
@@ -202,17 +222,18 @@ try() {
 behind_a_bad_rule() {
     rm -rf "$work/now" && mkdir -p "$work/now/sub" && cd "$work/now" || exit 1
     what="behind a bad rule"
+    "$tup" init > /dev/null
     printf 'head\n' > sub/head
     printf '%s\n' ': head |> cp head top |> top' ': head |> fail 3 |> page' > sub/Tupfile
     strace -y -o "$work/trace" -e trace="$calls" "$tup" > /dev/null
     exit=$?
     [ $exit = 1 ] || wrong "exit $exit, not 1"
-    late=$(unsynced 3)
+    late=$(unsynced 2)
     [ -z "$late" ] || wrong "$late"
 }
 
 behind_a_bad_rule
-for project in ${*:-three_rules after_changes fewer_paths after_a_kill folders_below}; do try "$project"; done
+for project in ${*:-beginning three_rules after_changes fewer_paths after_a_kill folders_below}; do try "$project"; done
 
 if [ "$failures" -gt 0 ]; then
     echo "$failures of $all updates that were stopped went wrong"

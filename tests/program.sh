@@ -12,12 +12,18 @@ trap 'cd /; umount "$work/small" 2>/dev/null; rm -rf "$work"' EXIT
 failures=0
 count=0
 
-# Begins a project whose file `a` holds `hi`, with a Tupfile of the lines that are given.
-project() {
+# Makes a folder whose file `a` holds `hi`, with a Tupfile of the lines that are given.
+folder() {
     count=$((count + 1))
     mkdir "$work/$count" && cd "$work/$count" || exit 1
     printf 'hi\n' > a
     if [ $# -gt 0 ]; then printf '%s\n' "$@" > Tupfile; fi
+}
+
+# Begins a project in such a folder.
+project() {
+    folder "$@"
+    "$tup" init > /dev/null || exit 1
 }
 
 # Compares two texts, and says which row differs.
@@ -28,13 +34,17 @@ same() {
 }
 
 # Runs the program with words: the row's name, its exit number, its lines with a semicolon behind each, the words. Only
-# where a call of the system, or what runs the commands, failed it says something on standard error.
+# where a call of the system, or what runs the commands, failed, or no project was begun, it says something on standard error.
 row() {
     name=$1 status=$2 lines=$3
     shift 3
     found=$("$tup" "$@" 2> "$work/said"; printf 'exit %s' "$?")
     same "$name" "$(printf '%s' "$found" | tr '\n' ';')" "${lines}exit $status"
-    if [ "$status" != 7 ] && [ "$status" != 8 ]; then same "$name, standard error" "$(cat "$work/said")" ""; fi
+    case "$status $lines" in
+        7* | 8*) ;;
+        *'no tup project here;') said '`tup init` begins a project here' ;;
+        *) same "$name, standard error" "$(cat "$work/said")" "" ;;
+    esac
 }
 
 # What the last row said on standard error: the place, and the system's words.
@@ -45,6 +55,22 @@ gone() { same "$1" "$(ls "$2" 2>/dev/null)" ""; }
 
 copy=': a |> cp a b |> b'
 done_copy='read .;run .: cp a b;done: 1 read, 1 run, 0 removed;'
+
+folder "$copy"
+row "a folder without a project" 3 'fault: no tup project here;' upd
+row "no words" 3 'fault: no tup project here;'
+row "nor is there anything to compare" 3 'fault: no tup project here;' verify
+same "nothing was made" "$(ls -A | tr '\n' ' ')" 'Tupfile a '
+row "a project begins" 0 'initialized;' init
+same "its store" "$(od -An -tx1 .tup/db)" ' 74 75 70 2d 64 62 0a 01 00'
+same "nothing else was made" "$(ls -A . .tup | tr '\n' ' ')" '.: .tup Tupfile a  .tup: db '
+row "it begins once" 3 'fault: already a tup project;' init
+row "its first update" 0 "$done_copy" upd
+row "it has begun" 3 'fault: already a tup project;' init
+row "nothing of it is lost" 0 'same;' verify
+: > Tupfile
+row "it knows what it made" 0 'read .;remove b;done: 1 read, 0 run, 1 removed;' upd
+row "a word behind init" 2 'fault: usage, word 2;' init now
 
 project "$copy"
 row "one rule" 0 "$done_copy" upd
@@ -285,7 +311,7 @@ row "a write of more than a file may hold" 1 'read .;run .: cat half half > b;ba
 same "one of just so much" "$(wc -c < b)" 16777216
 
 # Several folders.
-example() { count=$((count + 1)); cp -r "$(dirname "$script")/../examples/$1" "$work/$count" && cd "$work/$count" || exit 1; }
+example() { count=$((count + 1)); cp -r "$(dirname "$script")/../examples/$1" "$work/$count" && cd "$work/$count" && "$tup" init > /dev/null || exit 1; }
 example tree
 tree='read .;read lib;read src;run lib: CC list.c;run lib: CC text.c;run src: CC main.c;run .: cat lib/list.o lib/text.o src/main.o > app;'
 row "three folders" 0 "${tree}run .: echo app release > app.stamp;done: 3 read, 5 run, 0 removed;" upd
@@ -452,10 +478,11 @@ else
 fi
 
 damaged() {
-    project "$copy"
+    folder "$copy"
     mkdir .tup && printf "$3" > .tup/db
     row "$1" 4 "fault: the store is damaged at byte $2;" upd
     gone "$1, nothing was made" b
+    row "$1, no project begins" 4 "fault: the store is damaged at byte $2;" init
     same "$1, the store" "$(cat .tup/db | od -c)" "$(printf "$3" | od -c)"
 }
 damaged "the list of an old version" 0 'b\nc\n'
@@ -491,12 +518,12 @@ echo "$copy" > elsewhere && ln -s elsewhere Tupfile
 row "a link named Tupfile" 7 'fault: the file tree or the store failed;' upd
 said './Tupfile: a link or a special file stands here'
 gone "nothing was made" b
-project "$copy"
+folder "$copy"
 echo mine > .tup
 row "a file named .tup" 7 'fault: the file tree or the store failed;' upd
 said './.tup: a link or a special file stands here'
 file "it stays" .tup mine
-project "$copy"
+folder "$copy"
 mkdir -p .tup/db
 row "a folder at the store" 7 'fault: the file tree or the store failed;' upd
 said './.tup/db: a link or a special file stands here'
@@ -521,9 +548,9 @@ for i in 1 2 3 4 5 6 7 8 9 10 11 12 13 14 15 16; do mkdir w && mv "$wide" w && m
 row "a file whose place is too long for the system" 7 'fault: the file tree or the store failed;' upd
 same "it is named" "$(sed "s/$wide/N/g" "$work/said")" "tup: ./N/N/N/N/N/N/N/N/N/N/N/N/N/N/N/N: File name too long (os error 36)"
 gone "nothing was made" b
-project "$copy"
+folder "$copy"
 mkdir gone && cd gone && rmdir ../gone
-row "a folder that was removed" 7 'fault: the file tree or the store failed;' upd
+row "a folder that was removed" 7 'fault: the file tree or the store failed;' init
 said './.tup: No such file or directory (os error 2)'
 
 # What a hurried user does wrong.
@@ -568,7 +595,9 @@ row "an output that was renamed is a source" 0 "$done_copy" upd
 file "its content" c hi
 file "the output" b ho
 rm -r .tup
-row "the store is deleted, and what was made is a source" 5 'fault: Tupfile:1: output is a source file, read for .;' upd
+row "the store is deleted" 3 'fault: no tup project here;' upd
+row "the project begins anew" 0 'initialized;' init
+row "what was made is a source" 5 'fault: Tupfile:1: output is a source file, read for .;' upd
 file "it stays" b ho
 rm b
 row "without it" 0 "$done_copy" upd
@@ -582,13 +611,13 @@ row "a word behind --version" 2 'fault: usage, word 1;' --version upd
 
 project ': big |> cp big b |> b'
 truncate -s 16777217 big
-row "a file that is too large" 11 'fault: limit FileSize, 16777217;' upd
+row "a file that is too large" 11 'fault: limit FileSize, 16777216;' upd
 project
 truncate -s 16777217 Tupfile
-row "a Tupfile that is too large" 11 'fault: limit FileSize, 16777217;' upd
+row "a Tupfile that is too large" 11 'fault: limit FileSize, 16777216;' upd
 project "$copy"
 truncate -s 16777217 big
-row "a large file that nobody asks for" 11 'fault: limit FileSize, 16777217;' upd
+row "a large file that nobody asks for" 11 'fault: limit FileSize, 16777216;' upd
 
 rules=$(awk 'BEGIN { p = "a"; for (i = 1; i <= 200; i++) { printf ": %s |> cp %s f%d |> f%d\n", p, p, i, i; p = "f" i } }')
 project "$rules"
@@ -604,6 +633,7 @@ if [ "$(id -u)" = 0 ] && mkdir "$work/small" && mount -t tmpfs -o size=64k none 
     cd "$work/small" || exit 1
     head -c 24576 /dev/zero > a
     printf '%s\n' "$copy" ': b |> cp b c |> c' > Tupfile
+    "$tup" init > /dev/null
     row "a full disk" 7 'read .;run .: cp a b;fault: the file tree or the store failed;' upd
     said './c: No space left on device (os error 28)'
     same "a full disk, the source" "$(wc -c < a)" 24576
@@ -614,9 +644,10 @@ if [ "$(id -u)" = 0 ] && mkdir "$work/small" && mount -t tmpfs -o size=64k none 
     row "a disk that may only be read" 7 'fault: the file tree or the store failed;' upd
     said './.tup/new: Read-only file system (os error 30)'
     same "what was made stands" "$(wc -c < c)" 24576
-    project "$copy"
+    folder "$copy"
     umount "$work/small"
     mkdir .tup && mount -t tmpfs -o size=64k none .tup
+    "$tup" init > /dev/null
     row "the program's folder on another disk" 0 "$done_copy" upd
     file "what was made" b hi
     same "nothing else was" "$(ls -A | tr '\n' ' ')" '.tup Tupfile a b '
@@ -628,33 +659,40 @@ fi
 if [ "$(id -u)" = 0 ] && command -v setpriv > /dev/null; then
     chmod 755 "$work"
     cp "$tup" "$work/tup" && chmod 755 "$work/tup" && tup=$work/tup
-    # Runs a row as nobody.
+    as_nobody() { setpriv --reuid 65534 --regid 65534 --clear-groups "$tup" "$@"; }
+    # Runs a row as nobody: its name, its lines, the words.
     nobody() {
-        name=$1
-        found=$(setpriv --reuid 65534 --regid 65534 --clear-groups "$tup" upd 2> "$work/said"; printf 'exit %s' "$?")
-        same "$name" "$(printf '%s' "$found" | tr '\n' ';')" "$2exit 7"
+        name=$1 lines=$2
+        shift 2
+        found=$(as_nobody "$@" 2> "$work/said"; printf 'exit %s' "$?")
+        same "$name" "$(printf '%s' "$found" | tr '\n' ';')" "${lines}exit 7"
     }
-    project "$copy"
+    # Begins a project of nobody's in a folder that anybody may write into.
+    open_project() {
+        folder "$copy"
+        chmod 777 . && as_nobody init > /dev/null || exit 1
+    }
+    folder "$copy"
     chmod 755 .
-    nobody "a folder without permission" 'fault: the file tree or the store failed;'
+    nobody "a folder without permission" 'fault: the file tree or the store failed;' init
     said './.tup: Permission denied (os error 13)'
     file "its source" a hi
-    project "$copy"
-    chmod 777 . && chmod 600 a
-    nobody "a source without permission" 'fault: the file tree or the store failed;'
+    open_project
+    chmod 600 a
+    nobody "a source without permission" 'fault: the file tree or the store failed;' upd
     said './a: Permission denied (os error 13)'
-    project "$copy"
-    chmod 777 . && mkdir -m 700 sub
-    nobody "a folder that nobody may look into" 'fault: the file tree or the store failed;'
+    open_project
+    mkdir -m 700 sub
+    nobody "a folder that nobody may look into" 'fault: the file tree or the store failed;' upd
     said './sub: Permission denied (os error 13)'
     project "$copy"
     chmod 777 . && "$tup" > /dev/null
-    nobody "a store that the superuser made" 'read .;fault: the file tree or the store failed;'
+    nobody "a store that the superuser made" 'read .;fault: the file tree or the store failed;' upd
     said './.tup/new: Permission denied (os error 13)'
     file "what was made stands" b hi
-    project "$copy"
-    chmod 777 . && chmod 600 Tupfile
-    nobody "a Tupfile without permission" 'fault: the file tree or the store failed;'
+    open_project
+    chmod 600 Tupfile
+    nobody "a Tupfile without permission" 'fault: the file tree or the store failed;' upd
     said './Tupfile: Permission denied (os error 13)'
 else
     echo "passed over: files without permission"

@@ -35,6 +35,7 @@ while [ "$turn" -lt "$times" ]; do
     mkdir "$work/$turn" && cd "$work/$turn" || exit 1
     printf 'hi\n' > a
     awk 'BEGIN { p = "a"; for (i = 1; i <= 200; i++) { printf ": %s |> cp %s f%d |> f%d\n", p, p, i, i; p = "f" i } }' > Tupfile
+    "$tup" init > /dev/null || exit 1
     "$tup" > "$work/one" 2> "$work/one.said" &
     one=$!
     "$tup" > "$work/two" 2> "$work/two.said" &

@@ -22,6 +22,7 @@ use words::words;
 const HELP: &str = "\
 tup makes the files that the Tupfiles of this folder and of those below it ask for.
 
+  tup init        begin a project in this folder, once
   tup, tup upd    update: remove the files of vanished rules, run every rule behind those that it waits for
   tup verify      compare the files with a clean build, and change nothing
   tup demo        show an update of a small project in memory
@@ -29,9 +30,9 @@ tup makes the files that the Tupfiles of this folder and of those below it ask f
   tup --help      print this
   tup --version   print the version
 
-Exit numbers: 0 done, 1 a command's fault, 2 usage, 4 damaged store, 5 fault of the Tupfiles,
-7 the file tree or the store failed, 8 the runner failed, 9 the output failed, 11 over a limit, 12 no memory,
-13 the files differ from a clean build.
+Exit numbers: 0 done, 1 a command's fault, 2 usage, 3 no project here, or one already, 4 damaged store,
+5 fault of the Tupfiles, 7 the file tree or the store failed, 8 the runner failed, 9 the output failed,
+11 over a limit, 12 no memory, 13 the files differ from a clean build.
 ";
 
 /// Where a program that runs commands finds and leaves its files.
@@ -81,7 +82,16 @@ fn run<R: Runner>(rt: HostRuntime, alloc: Global, words: &[Word], runner: R) -> 
         // Words that can't be printed change nothing: the exit number tells as much.
         drop(eprintln!(rt; "tup: {failure}"));
     }
+    hint(rt, &ran.status);
     (ran.status.exit(), ran.crew.pop())
+}
+
+/// Says what to do where no project was begun.
+fn hint(rt: HostRuntime, status: &Status) {
+    if let Status::NotInit = status {
+        // Words that can't be printed change nothing: the exit number tells as much.
+        drop(eprintln!(rt; "tup: `tup init` begins a project here"));
+    }
 }
 
 /// The same with the runner that starts this program for each command.

@@ -1,5 +1,5 @@
 -- A crew whose first runner did all: what one runner counts and ran is what the crew does.
-use Rattle.std.proofs.Common.{◌≡◌, ℕ, zero, suc, ◌<◌, List, [], ◌∷◌, length, map, get_or, Option, None, Some, Result, Err, IfSome, inl, refl, ap, subst, arith}
+use Rattle.std.proofs.Common.{◌≡◌, ℕ, zero, suc, ◌<◌, List, [], ◌∷◌, length, map, get_or, Option, Some, Result, Err, inl, refl, ap, subst, arith}
 use Rattle.std.specs.Prelude.{slice_get, slice_set}
 use Rattle.std.specs.Result.{result_err}
 use Rattle.tup_path.specs.Name.{Names}
@@ -15,8 +15,10 @@ use Rattle.tup_update.specs.declared.stop.Stop.TheVariants.{Outside}
 use Rattle.tup_top.specs.Crew.{OneRose, CrewRuns, CrewCompares}
 use Rattle.tup_top.specs.Promise.{Counts, AreSteady, HasCountedCause, HasComparedCause}
 use Rattle.tup_top.specs.declared.status.Status.{Status}
-use Rattle.tup_top.specs.declared.status.Status.TheVariants.{Done, Command, IllegalRead, IllegalWrite, Unwritten, TooManyReads, Usage, BadStore, Parse, CircularDirs, CircularCommands, NoSuchGroup, SiteFault, RunFault, SinkFault, Limit, Memory, Differs}
-use Rattle.tup_top.proofs.Causes.{of_one}
+use Rattle.tup_top.specs.declared.status.Status.TheVariants.{Done, Command, IllegalRead, IllegalWrite, Unwritten, TooManyReads, Usage, NotInit, AlreadyInit, BadStore, Parse, CircularDirs, CircularCommands, NoSuchGroup, SiteFault, RunFault, SinkFault, Limit, Memory, Differs}
+use Rattle.tup_top.specs.Status.{IfCame, IfCompared}
+use Rattle.tup_top.proofs.Causes.{of_one, came_on}
+use Rattle.tup_top.proofs.Verified.{compared_on}
 
 -- a count of one runner that rose is one of the crew's
 one_of_more : (before now : ℕ) (others : List ℕ) → OneRose (before ∷ []) (now ∷ []) → OneRose (before ∷ others) (now ∷ others)
@@ -48,6 +50,8 @@ module _ (site_before site_now run_before run_now sink_before sink_now : ℕ) (o
   causes_of_crew (Unwritten rule path) cause = steady cause
   causes_of_crew (TooManyReads rule) cause = steady cause
   causes_of_crew (Usage place) cause = cause
+  causes_of_crew NotInit cause = steady cause
+  causes_of_crew AlreadyInit cause = cause
   causes_of_crew (BadStore offset) cause = steady cause
   causes_of_crew (Parse fault) cause = steady cause
   causes_of_crew (CircularDirs cycle) cause = steady cause
@@ -70,6 +74,8 @@ module _ (site_before site_now run_before run_now sink_before sink_now : ℕ) (o
   compared_of_crew (Unwritten rule path) cause = causes_of_crew (Unwritten rule path) cause
   compared_of_crew (TooManyReads rule) cause = causes_of_crew (TooManyReads rule) cause
   compared_of_crew (Usage place) cause = causes_of_crew (Usage place) cause
+  compared_of_crew NotInit cause = causes_of_crew NotInit cause
+  compared_of_crew AlreadyInit cause = causes_of_crew AlreadyInit cause
   compared_of_crew (BadStore offset) cause = causes_of_crew (BadStore offset) cause
   compared_of_crew (Parse fault) cause = causes_of_crew (Parse fault) cause
   compared_of_crew (CircularDirs cycle) cause = causes_of_crew (CircularDirs cycle) cause
@@ -107,20 +113,29 @@ crew_compared {R} count crew old now site_before site_now sink_before sink_now s
     (λ run_before run_now others. compared_of_crew site_before site_now run_before run_now sink_before sink_now others status) crew old now some first cause
 
 -- and what it ran is what the crew ran
-pub crew_runs : {R : Type 0} (ran_by : R → List (Names × List ℕ)) (crew : List R) (old now : R) (ran : List RuleName) (came : Option (Option Stop)) → 0 < length crew → old ≡ get_or crew 0 old →
-    IfSome came (RunsThese ran (ran_by old) (ran_by now)) → IfSome came (CrewRuns ran (map ran_by crew) (map ran_by (slice_set crew 0 now)))
-crew_runs {R} ran_by crew old now ran None some first runs = tt
-crew_runs {R} ran_by [] old now ran (Some stopped) some first runs = absurd (omega (arith, some))
-crew_runs {R} ran_by (one ∷ others) old now ran (Some stopped) some first runs =
-    subst (λ (r : R). RunsThese ran (ran_by r) (ran_by now) stopped × (map ran_by others ≡ map ran_by others)) first (runs, refl)
+module _ {R : Type 0} (ran_by : R → List (Names × List ℕ)) (crew : List R) (old now : R) (some : 0 < length crew) (first : old ≡ get_or crew 0 old) where
+  runs_of_first : (ran : List RuleName) (stopped : Option Stop) → RunsThese ran (ran_by old) (ran_by now) stopped → CrewRuns ran (map ran_by crew) (map ran_by (slice_set crew 0 now)) stopped
+  runs_of_first ran stopped runs = by crew some first
+    where
+      by : (crew : List R) → 0 < length crew → old ≡ get_or crew 0 old → CrewRuns ran (map ran_by crew) (map ran_by (slice_set crew 0 now)) stopped
+      by [] some first = absurd (omega (arith, some))
+      by (one ∷ others) some first = subst (λ (r : R). RunsThese ran (ran_by r) (ran_by now) stopped × (map ran_by others ≡ map ran_by others)) first (runs, refl)
 
--- the same of what it ran for a comparison
-pub crew_compares : {R : Type 0} (ran_by : R → List (Names × List ℕ)) (next : Next) (w : World) (crew : List R) (old now : R) (came : Option (Result Compared Stop)) → 0 < length crew → old ≡ get_or crew 0 old →
-    IfSome came (λ compared. RunsToCompare next w (ran_by old) (ran_by now) (result_err compared)) → IfSome came (CrewCompares next w (map ran_by crew) (map ran_by (slice_set crew 0 now)))
-crew_compares {R} ran_by next w crew old now None some first runs = tt
-crew_compares {R} ran_by next w [] old now (Some compared) some first runs = absurd (omega (arith, some))
-crew_compares {R} ran_by next w (one ∷ others) old now (Some compared) some first runs =
-    subst (λ (r : R). RunsToCompare next w (ran_by r) (ran_by now) (result_err compared) × (map ran_by others ≡ map ran_by others)) first (runs, refl)
+  pub crew_runs : (ran : List RuleName) (status : Status) → IfCame status (RunsThese ran (ran_by old) (ran_by now)) → IfCame status (CrewRuns ran (map ran_by crew) (map ran_by (slice_set crew 0 now)))
+  crew_runs ran status runs = came_on (RunsThese ran (ran_by old) (ran_by now)) (CrewRuns ran (map ran_by crew) (map ran_by (slice_set crew 0 now))) (runs_of_first ran) status runs
+
+  -- the same of what it ran for a comparison
+  compares_of_first : (next : Next) (w : World) (compared : Result Compared Stop) → RunsToCompare next w (ran_by old) (ran_by now) (result_err compared) → CrewCompares next w (map ran_by crew) (map ran_by (slice_set crew 0 now)) compared
+  compares_of_first next w compared runs = by crew some first
+    where
+      by : (crew : List R) → 0 < length crew → old ≡ get_or crew 0 old → CrewCompares next w (map ran_by crew) (map ran_by (slice_set crew 0 now)) compared
+      by [] some first = absurd (omega (arith, some))
+      by (one ∷ others) some first = subst (λ (r : R). RunsToCompare next w (ran_by r) (ran_by now) (result_err compared) × (map ran_by others ≡ map ran_by others)) first (runs, refl)
+
+  pub crew_compares : (next : Next) (w : World) (status : Status) → IfCompared status (λ compared. RunsToCompare next w (ran_by old) (ran_by now) (result_err compared))
+      → IfCompared status (CrewCompares next w (map ran_by crew) (map ran_by (slice_set crew 0 now)))
+  crew_compares next w status runs =
+      compared_on (λ compared. RunsToCompare next w (ran_by old) (ran_by now) (result_err compared)) (CrewCompares next w (map ran_by crew) (map ran_by (slice_set crew 0 now))) (compares_of_first next w) status runs
 
 -- where there was no memory to begin it
 pub no_crew_ran : {R : Type 0} (ran_by : R → List (Names × List ℕ)) (next : Next) (w : World) (crew : List R) → 0 < length crew → CrewCompares next w (map ran_by crew) (map ran_by crew) (Err (Outside NoMemory))

@@ -1,6 +1,8 @@
 pub mod Told
 pub mod Causes
-pub mod Crewed
 pub mod Idle
 pub mod Success
 pub mod Verified
+pub mod Crewed
+pub mod Begun
+pub mod Shown

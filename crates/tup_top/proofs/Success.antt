@@ -1,32 +1,33 @@
 -- Where nothing stands in the way of an update, it is done, but for want of memory: every other cause is excluded.
-use Rattle.std.proofs.Common.{◌≡◌, inl, inr, ℕ, ◌-◌, ◌^◌, ◌<◌, Bool, true, false, List, Some, IfSome, sym, subst, ap, ◌∙◌, arith}
+use Rattle.std.proofs.Common.{◌≡◌, ◌⊎◌, inl, inr, ℕ, ◌-◌, ◌^◌, ◌<◌, Bool, true, false, List, [], Some, sym, subst, ap, ◌∙◌, arith}
 use Rattle.std.specs.List.{list_all, slice_get}
 use Rattle.std.proofs.lemmas.List.Sums.{AllPass-from_list_all}
 use Rattle.std.proofs.lemmas.Option.{slice_get_within, get_or_from_slice_get}
 use Rattle.std.specs.FinMap as finite
 use Rattle.tup_path.specs.Tree.{Tree}
 use Rattle.tup_site.specs.World.{World}
+use Rattle.tup_rule.specs.declared.rule.Rule.{Rule}
 use Rattle.tup_rule.specs.declared.rule.RuleName.{RuleName}
 use Rattle.tup_runner.specs.Next.{Next}
 use Rattle.tup_access.specs.declared.verdict.Verdict.{Verdict}
 use Rattle.tup_access.specs.declared.verdict.Verdict.TheVariants.{Failed, IllegalRead as ReadsIllegally, IllegalWrite as WritesIllegally, Unwritten as LeavesUnwritten, TooManyReads as ReadsTooOften}
 use Rattle.tup_clean.specs.Clean.{is_good}
 use Rattle.tup_path.specs.Count.{Rose}
-use Rattle.tup_update.proofs.Held.{undamaged}
+use Rattle.tup_update.proofs.Held.{undamaged, there}
 use Rattle.tup_update.specs.Log.{OfRules}
 use Rattle.tup_update.specs.Outcome.{SourcesStay, HasCause}
 use Rattle.tup_update.specs.Parts.{HasFileOf}
-use Rattle.tup_update.specs.Sources.{build}
+use Rattle.tup_update.specs.Sources.{IsAsked, build}
 use Rattle.tup_update.specs.Compared.{HasCompared}
 use Rattle.tup_update.specs.declared.fault.SourcesFault.TheVariants as sources
 use Rattle.tup_update.specs.declared.stop.Stop.TheVariants.{Bad}
 use Rattle.tup_update.proofs.Beside.{left_is}
-use Rattle.tup_top.specs.Status.{came_to, compared_to}
+use Rattle.tup_top.specs.Status.{IfCame, IfCompared}
 use Rattle.tup_top.specs.Crew.{OneRose}
 use Rattle.tup_top.specs.Promise.{HasCountedCause, HasComparedCause, Counts, NothingFailed, IsClear, IsDoneOrMemory, CanBeCompared, IsComparisonOrMemory}
 use Rattle.tup_top.specs.declared.status.What.TheVariants.{Files, FileSize, Commands, Links, StoreSize}
 use Rattle.tup_top.specs.declared.status.Status.{Status}
-use Rattle.tup_top.specs.declared.status.Status.TheVariants.{Done, Command, IllegalRead, IllegalWrite, Unwritten, TooManyReads, Usage, BadStore, Parse, CircularDirs, CircularCommands, NoSuchGroup, SiteFault, RunFault, SinkFault, Limit, Memory, Differs}
+use Rattle.tup_top.specs.declared.status.Status.TheVariants.{Done, Command, IllegalRead, IllegalWrite, Unwritten, TooManyReads, Usage, NotInit, AlreadyInit, BadStore, Parse, CircularDirs, CircularCommands, NoSuchGroup, SiteFault, RunFault, SinkFault, Limit, Memory, Differs}
 
 list_all_at : {X : Type 0} (p : X → Bool) (xs : List X) (at : ℕ) (x : X) → list_all p xs ≡ true → slice_get xs at ≡ Some x → p x ≡ true
 list_all_at p xs at x all stands =
@@ -40,13 +41,13 @@ no_bad_rule next old new name verdict clear (rules, asks, bad) =
     let first = bad clear.held clear.store_reads in
     true_is_not_false (is_good (Some verdict)) (list_all_at is_good (build next rules clear.held).verdicts first.ending.at (Some verdict) (clear.clean rules asks) first.given) first.ending.bad
 
-not_rose : (before now : ℕ) → now ≡ before → now < 2 ^ 64 - 1 → Rose before now → ⊥
+pub not_rose : (before now : ℕ) → now ≡ before → now < 2 ^ 64 - 1 → Rose before now → ⊥
 not_rose before now same counts (inl more) = omega (arith, same, more)
 not_rose before now same counts (inr end) = omega (arith, counts, end)
 
-no_large_file : (next : Next) (old new : World) (number : ℕ) → IsClear next old new → HasFileOf number new.tree → 16777216 < number → ⊥
-no_large_file next old new number clear file large =
-    let small = clear.small file.0 file.1.content file.1.found in
+no_large_file : (next : Next) (old new : World) (rules : List Rule) (number : ℕ) (clear : IsClear next old new) → (rules ≡ []) ⊎ IsAsked old rules → HasFileOf number (build next rules clear.held).tree → 16777216 < number → ⊥
+no_large_file next old new rules number clear fits file large =
+    let small = clear.small rules fits file.0 file.1.content file.1.found in
     let bytes = file.1.bytes in
     omega (arith, small, bytes, large)
 
@@ -57,7 +58,7 @@ no_runner_rose before now fine one =
     let same : Some one.is ≡ Some one.was = sym one.stands ∙ there in
     not_rose one.was one.is (cc same) (fine.runners_count one.at one.is one.stands) one.rose
 
-pub succeeds_so : (next : Next) (old new : World) (before now : Counts) (status : Status) → IfSome (came_to status) (OfRules old (λ rules. HasCause next rules old new)) → HasCountedCause before now status → IsClear next old new → NothingFailed before now → IsDoneOrMemory status
+pub succeeds_so : (next : Next) (old new : World) (before now : Counts) (status : Status) → IfCame status (OfRules old (λ rules. HasCause next rules old new)) → HasCountedCause before now status → IsClear next old new → NothingFailed before now → IsDoneOrMemory status
 succeeds_so next old new before now (Done read ran removed) cause counted clear fine = tt
 succeeds_so next old new before now (Command rule status) cause counted clear fine = no_bad_rule next old new rule (Failed status) clear cause
 succeeds_so next old new before now (IllegalRead rule text) cause counted clear fine = no_bad_rule next old new rule (ReadsIllegally text) clear cause
@@ -65,6 +66,8 @@ succeeds_so next old new before now (IllegalWrite rule text) cause counted clear
 succeeds_so next old new before now (Unwritten rule path) cause counted clear fine = no_bad_rule next old new rule (LeavesUnwritten path) clear cause
 succeeds_so next old new before now (TooManyReads rule) cause counted clear fine = no_bad_rule next old new rule ReadsTooOften clear cause
 succeeds_so next old new before now (Usage place) cause counted clear fine = absurd counted
+succeeds_so next old new before now NotInit (rules, fits, none) counted clear fine = absurd (there old.store clear.held.owned clear.store_reads.lists none)
+succeeds_so next old new before now AlreadyInit cause counted clear fine = absurd counted
 succeeds_so next old new before now (BadStore offset) (rules, fits, damaged) counted clear fine = absurd (undamaged old.store clear.held.owned offset clear.store_reads.lists damaged)
 succeeds_so next old new before now (Parse fault) (rules, fits, refused) counted clear fine = absurd (clear.sources_read (sources.Parse fault) refused)
 succeeds_so next old new before now (CircularDirs cycle) (rules, fits, refused) counted clear fine = absurd (clear.sources_read (sources.CircularDirs cycle) refused)
@@ -73,10 +76,10 @@ succeeds_so next old new before now (NoSuchGroup group) (rules, fits, refused) c
 succeeds_so next old new before now SiteFault cause counted clear fine = not_rose before.site now.site fine.site fine.site_counts counted.0
 succeeds_so next old new before now RunFault cause counted clear fine = no_runner_rose before now fine counted.1
 succeeds_so next old new before now SinkFault cause counted clear fine = not_rose before.sink now.sink fine.sink fine.sink_counts counted.1
-succeeds_so next old new before now (Limit FileSize number) (rules, fits, large) counted clear fine = no_large_file next old new number clear large counted.1
-succeeds_so next old new before now (Limit Files number) (rules, fits, refused) counted clear fine = absurd (clear.sources_read (sources.TooManyFiles number) refused)
-succeeds_so next old new before now (Limit Commands number) (rules, fits, refused) counted clear fine = absurd (clear.sources_read (sources.TooManyCommands number) refused)
-succeeds_so next old new before now (Limit Links number) (rules, fits, refused) counted clear fine = absurd (clear.sources_read (sources.TooManyLinks number) refused)
+succeeds_so next old new before now (Limit FileSize number) (count, passed, (rules, fits, large)) counted clear fine = no_large_file next old new rules count clear fits (large clear.held clear.store_reads) passed
+succeeds_so next old new before now (Limit Files number) (count, passed, (rules, fits, refused)) counted clear fine = absurd (clear.sources_read (sources.TooManyFiles count) refused)
+succeeds_so next old new before now (Limit Commands number) (count, passed, (rules, fits, refused)) counted clear fine = absurd (clear.sources_read (sources.TooManyCommands count) refused)
+succeeds_so next old new before now (Limit Links number) (count, passed, (rules, fits, refused)) counted clear fine = absurd (clear.sources_read (sources.TooManyLinks count) refused)
 succeeds_so next old new before now (Limit StoreSize number) (rules, fits, full) counted clear fine = absurd (clear.room rules fits (full clear.held clear.store_reads))
 succeeds_so next old new before now (Differs path) cause counted clear fine = absurd counted
 succeeds_so next old new before now Memory cause counted clear fine = tt
@@ -88,7 +91,7 @@ no_large w number can file large =
     let bytes = file.1.bytes in
     omega (arith, small, bytes, large)
 
-pub compares_so : (next : Next) (w : World) (before now : Counts) (status : Status) → IfSome (compared_to status) (HasCompared next w) → HasComparedCause before now status → CanBeCompared w → NothingFailed before now → IsComparisonOrMemory status
+pub compares_so : (next : Next) (w : World) (before now : Counts) (status : Status) → IfCompared status (HasCompared next w) → HasComparedCause before now status → CanBeCompared w → NothingFailed before now → IsComparisonOrMemory status
 compares_so next w before now (Done read ran removed) cause counted can fine = tt
 compares_so next w before now (Command rule status) cause counted can fine = tt
 compares_so next w before now (IllegalRead rule text) cause counted can fine = tt
@@ -96,6 +99,8 @@ compares_so next w before now (IllegalWrite rule text) cause counted can fine = 
 compares_so next w before now (Unwritten rule path) cause counted can fine = tt
 compares_so next w before now (TooManyReads rule) cause counted can fine = tt
 compares_so next w before now (Usage place) cause counted can fine = absurd counted
+compares_so next w before now NotInit cause counted can fine = absurd (there w.store can.held.owned can.store_reads.lists cause)
+compares_so next w before now AlreadyInit cause counted can fine = absurd counted
 compares_so next w before now (BadStore offset) cause counted can fine = absurd (undamaged w.store can.held.owned offset can.store_reads.lists cause)
 compares_so next w before now (Parse fault) cause counted can fine = absurd (can.sources_read (sources.Parse fault) cause)
 compares_so next w before now (CircularDirs cycle) cause counted can fine = absurd (can.sources_read (sources.CircularDirs cycle) cause)
@@ -104,10 +109,10 @@ compares_so next w before now (NoSuchGroup group) cause counted can fine = absur
 compares_so next w before now SiteFault cause counted can fine = not_rose before.site now.site fine.site fine.site_counts counted.0
 compares_so next w before now RunFault cause counted can fine = no_runner_rose before now fine counted.1
 compares_so next w before now SinkFault cause counted can fine = not_rose before.sink now.sink fine.sink fine.sink_counts counted.1
-compares_so next w before now (Limit FileSize number) cause counted can fine = no_large w number can cause counted.1
-compares_so next w before now (Limit Files number) cause counted can fine = absurd (can.sources_read (sources.TooManyFiles number) cause)
-compares_so next w before now (Limit Commands number) cause counted can fine = absurd (can.sources_read (sources.TooManyCommands number) cause)
-compares_so next w before now (Limit Links number) cause counted can fine = absurd (can.sources_read (sources.TooManyLinks number) cause)
+compares_so next w before now (Limit FileSize number) (count, passed, large) counted can fine = no_large w count can large passed
+compares_so next w before now (Limit Files number) (count, passed, refused) counted can fine = absurd (can.sources_read (sources.TooManyFiles count) refused)
+compares_so next w before now (Limit Commands number) (count, passed, refused) counted can fine = absurd (can.sources_read (sources.TooManyCommands count) refused)
+compares_so next w before now (Limit Links number) (count, passed, refused) counted can fine = absurd (can.sources_read (sources.TooManyLinks count) refused)
 compares_so next w before now (Limit StoreSize number) cause counted can fine = absurd cause
 compares_so next w before now Memory cause counted can fine = tt
 compares_so next w before now (Differs path) cause counted can fine = tt

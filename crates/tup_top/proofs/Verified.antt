@@ -1,5 +1,5 @@
 -- How a comparison ends that came out so: what is promised of it holds of the status that tells of it.
-use Rattle.std.proofs.Common.{◌≡◌, inl, inr, ℕ, List, [], Option, None, Some, option_map, Result, Ok, Err, IfSome, refl, sym, ap, subst, ◌∙◌}
+use Rattle.std.proofs.Common.{◌≡◌, inl, inr, ℕ, List, [], Option, None, Some, Result, Ok, Err, refl, sym, subst, ◌∙◌}
 use Rattle.std.specs.Result.{result_err}
 use Rattle.tup_path.specs.Name.{Names}
 use Rattle.tup_site.specs.World.{World}
@@ -10,52 +10,72 @@ use Rattle.tup_update.specs.Outcome.{HasRunCause, HasCountedCause as StopHasCoun
 use Rattle.tup_update.specs.declared.compare.Compared.{Compared}
 use Rattle.tup_update.specs.declared.compare.Compared.TheVariants as compared
 use Rattle.tup_update.specs.declared.stop.Stop.{Stop}
-use Rattle.tup_update.specs.declared.stop.Stop.TheVariants.{BadStore as StoreDamaged, Sources, Bad, Run, Full, Outside}
+use Rattle.tup_update.specs.declared.stop.Stop.TheVariants.{NoStore, BadStore as StoreDamaged, Sources, Bad, Run, Full, Outside}
 use Rattle.tup_update.specs.declared.update.Log.{Log}
 use Rattle.tup_update.proofs.Comparing.{all_is_front}
 use Rattle.tup_top.specs.Lines.{compared_line}
 use Rattle.tup_top.specs.Printed.{IsDone, Ends, Prints, PrintsComparison}
 use Rattle.tup_top.specs.Promise.{Counts, HasCountedCause, HasComparedCause}
-use Rattle.tup_top.specs.Status.{status_of_stop, status_of_compared, came_to, compared_to, of_stop}
+use Rattle.tup_top.specs.Status.{status_of_stop, status_of_compared, IfCame, IfCompared, of_stop}
 use Rattle.tup_top.specs.declared.status.Status.{Status}
-use Rattle.tup_top.specs.declared.status.Status.TheVariants.{Done, Command, IllegalRead, IllegalWrite, Unwritten, TooManyReads, Usage, BadStore, Parse, CircularDirs, CircularCommands, NoSuchGroup, SiteFault, RunFault, SinkFault, Limit, Memory, Differs}
-use Rattle.tup_top.specs.declared.status.What.TheVariants.{Files, FileSize, Commands, Links, StoreSize}
-use Rattle.tup_top.proofs.Causes.{came_to-status_of, done_is_none, of_one, steady, counted_of_stop, prints_nothing}
+use Rattle.tup_top.specs.declared.status.Status.TheVariants.{Done, Command, IllegalRead, IllegalWrite, Unwritten, TooManyReads, Usage, NotInit, AlreadyInit, BadStore, Parse, CircularDirs, CircularCommands, NoSuchGroup, SiteFault, RunFault, SinkFault, Limit, Memory, Differs}
+use Rattle.tup_top.proofs.Causes.{came, came_on, done_is_none, of_one, steady, counted_of_stop}
 
 -- the log of nothing
 no_log : Log
 no_log = record { read = []; removed = []; ran = []; ended = [] }
 
 -- what came of an update that is answered so came of a comparison
-same_came : (status : Status) (came : Option Stop) → came_to status ≡ Some came → compared_to status ≡ Some (of_stop came)
-same_came (Done read ran removed) came is = ap (option_map of_stop) is
-same_came (Command rule status) came is = ap (option_map of_stop) is
-same_came (IllegalRead rule text) came is = ap (option_map of_stop) is
-same_came (IllegalWrite rule text) came is = ap (option_map of_stop) is
-same_came (Unwritten rule path) came is = ap (option_map of_stop) is
-same_came (TooManyReads rule) came is = ap (option_map of_stop) is
-same_came (Usage place) came is = ap (option_map of_stop) is
-same_came (BadStore offset) came is = ap (option_map of_stop) is
-same_came (Parse fault) came is = ap (option_map of_stop) is
-same_came (CircularDirs cycle) came is = ap (option_map of_stop) is
-same_came (CircularCommands cycle) came is = ap (option_map of_stop) is
-same_came (NoSuchGroup group) came is = ap (option_map of_stop) is
-same_came SiteFault came is = ap (option_map of_stop) is
-same_came RunFault came is = ap (option_map of_stop) is
-same_came SinkFault came is = ap (option_map of_stop) is
-same_came (Limit Files number) came is = ap (option_map of_stop) is
-same_came (Limit FileSize number) came is = ap (option_map of_stop) is
-same_came (Limit Commands number) came is = ap (option_map of_stop) is
-same_came (Limit Links number) came is = ap (option_map of_stop) is
-same_came (Limit StoreSize number) came is = ap (option_map of_stop) is
-same_came Memory came is = ap (option_map of_stop) is
-same_came (Differs path) came is = absurd (cc is)
+same_came : (P : Result Compared Stop → Type 0) (status : Status) → IfCame status (λ stopped. P (of_stop stopped)) → IfCompared status P
+same_came P (Done read ran removed) p = p
+same_came P (Command rule status) p = p
+same_came P (IllegalRead rule text) p = p
+same_came P (IllegalWrite rule text) p = p
+same_came P (Unwritten rule path) p = p
+same_came P (TooManyReads rule) p = p
+same_came P (Usage place) p = p
+same_came P NotInit p = p
+same_came P AlreadyInit p = p
+same_came P (BadStore offset) p = p
+same_came P (Parse fault) p = p
+same_came P (CircularDirs cycle) p = p
+same_came P (CircularCommands cycle) p = p
+same_came P (NoSuchGroup group) p = p
+same_came P SiteFault p = p
+same_came P RunFault p = p
+same_came P SinkFault p = p
+same_came P (Limit what number) p = p
+same_came P Memory p = p
+same_came P (Differs path) p = absurd p
+
+-- a promise of what a comparison came to grows to a larger one
+pub compared_on : (P Q : Result Compared Stop → Type 0) → ((result : Result Compared Stop) → P result → Q result) → (status : Status) → IfCompared status P → IfCompared status Q
+compared_on P Q on (Differs path) p = on (Ok (compared.Differs path)) p
+compared_on P Q on (Done read ran removed) p = on (Ok compared.Same) p
+compared_on P Q on (Command rule status) p = came_on (λ stopped. P (of_stop stopped)) (λ stopped. Q (of_stop stopped)) (λ stopped. on (of_stop stopped)) (Command rule status) p
+compared_on P Q on (IllegalRead rule text) p = came_on (λ stopped. P (of_stop stopped)) (λ stopped. Q (of_stop stopped)) (λ stopped. on (of_stop stopped)) (IllegalRead rule text) p
+compared_on P Q on (IllegalWrite rule text) p = came_on (λ stopped. P (of_stop stopped)) (λ stopped. Q (of_stop stopped)) (λ stopped. on (of_stop stopped)) (IllegalWrite rule text) p
+compared_on P Q on (Unwritten rule path) p = came_on (λ stopped. P (of_stop stopped)) (λ stopped. Q (of_stop stopped)) (λ stopped. on (of_stop stopped)) (Unwritten rule path) p
+compared_on P Q on (TooManyReads rule) p = came_on (λ stopped. P (of_stop stopped)) (λ stopped. Q (of_stop stopped)) (λ stopped. on (of_stop stopped)) (TooManyReads rule) p
+compared_on P Q on (Usage place) p = came_on (λ stopped. P (of_stop stopped)) (λ stopped. Q (of_stop stopped)) (λ stopped. on (of_stop stopped)) (Usage place) p
+compared_on P Q on NotInit p = came_on (λ stopped. P (of_stop stopped)) (λ stopped. Q (of_stop stopped)) (λ stopped. on (of_stop stopped)) NotInit p
+compared_on P Q on AlreadyInit p = came_on (λ stopped. P (of_stop stopped)) (λ stopped. Q (of_stop stopped)) (λ stopped. on (of_stop stopped)) AlreadyInit p
+compared_on P Q on (BadStore offset) p = came_on (λ stopped. P (of_stop stopped)) (λ stopped. Q (of_stop stopped)) (λ stopped. on (of_stop stopped)) (BadStore offset) p
+compared_on P Q on (Parse fault) p = came_on (λ stopped. P (of_stop stopped)) (λ stopped. Q (of_stop stopped)) (λ stopped. on (of_stop stopped)) (Parse fault) p
+compared_on P Q on (CircularDirs cycle) p = came_on (λ stopped. P (of_stop stopped)) (λ stopped. Q (of_stop stopped)) (λ stopped. on (of_stop stopped)) (CircularDirs cycle) p
+compared_on P Q on (CircularCommands cycle) p = came_on (λ stopped. P (of_stop stopped)) (λ stopped. Q (of_stop stopped)) (λ stopped. on (of_stop stopped)) (CircularCommands cycle) p
+compared_on P Q on (NoSuchGroup group) p = came_on (λ stopped. P (of_stop stopped)) (λ stopped. Q (of_stop stopped)) (λ stopped. on (of_stop stopped)) (NoSuchGroup group) p
+compared_on P Q on SiteFault p = came_on (λ stopped. P (of_stop stopped)) (λ stopped. Q (of_stop stopped)) (λ stopped. on (of_stop stopped)) SiteFault p
+compared_on P Q on RunFault p = came_on (λ stopped. P (of_stop stopped)) (λ stopped. Q (of_stop stopped)) (λ stopped. on (of_stop stopped)) RunFault p
+compared_on P Q on SinkFault p = came_on (λ stopped. P (of_stop stopped)) (λ stopped. Q (of_stop stopped)) (λ stopped. on (of_stop stopped)) SinkFault p
+compared_on P Q on (Limit what number) p = came_on (λ stopped. P (of_stop stopped)) (λ stopped. Q (of_stop stopped)) (λ stopped. on (of_stop stopped)) (Limit what number) p
+compared_on P Q on Memory p = came_on (λ stopped. P (of_stop stopped)) (λ stopped. Q (of_stop stopped)) (λ stopped. on (of_stop stopped)) Memory p
 
 -- the status of a comparison tells what it came to
-told_compared : (before now : ℕ) (result : Result Compared Stop) → StopHasCountedCause before now (result_err result) → compared_to (status_of_compared result) ≡ Some result
-told_compared before now (Ok compared.Same) cause = refl
-told_compared before now (Ok (compared.Differs path)) cause = refl
-told_compared before now (Err stop) cause = same_came (status_of_stop stop) (Some stop) (came_to-status_of before now no_log (Some stop) cause)
+told_compared : (P : Result Compared Stop → Type 0) (before now : ℕ) (result : Result Compared Stop) → StopHasCountedCause before now (result_err result) → P result → IfCompared (status_of_compared result) P
+told_compared P before now (Ok compared.Same) cause p = p
+told_compared P before now (Ok (compared.Differs path)) cause p = p
+told_compared P before now (Err stop) cause p = same_came P (status_of_stop stop) (came (λ stopped. P (of_stop stopped)) before now no_log (Some stop) cause p)
 
 done_is_same : (result : Result Compared Stop) → IsDone (status_of_compared result) → result ≡ Ok compared.Same
 done_is_same (Ok compared.Same) done = refl
@@ -64,19 +84,20 @@ done_is_same (Err stop) done = absurd (cc (done_is_none no_log (Some stop) done)
 
 -- a promise of what a comparison came to is one of what is answered for it, where want of memory keeps it too
 pub compared_answered : (P : Result Compared Stop → Type 0) (before now old new : ℕ) (result : Result Compared Stop) (status answer : Status) → status ≡ status_of_compared result → Ends before now status answer →
-    StopHasCountedCause old new (result_err result) → P result → P (Err (Outside NoMemory)) → IfSome (compared_to answer) P
+    StopHasCountedCause old new (result_err result) → P result → P (Err (Outside NoMemory)) → IfCompared answer P
 compared_answered P before now old new result status answer is (inl e) cause p memory =
-    subst (λ (o : Option (Result Compared Stop)). IfSome o P) (sym (ap compared_to (e ∙ is) ∙ told_compared old new result cause)) p
+    subst (λ (s : Status). IfCompared s P) (sym (e ∙ is)) (told_compared P old new result cause p)
 compared_answered P before now old new result status answer is (inr (inl e)) cause p memory =
-    subst (λ (s : Status). IfSome (compared_to s) P) (sym e) memory
+    subst (λ (s : Status). IfCompared s P) (sym e) memory
 compared_answered P before now old new result status answer is (inr (inr (e, done, rose))) cause p memory =
-    subst (λ (s : Status). IfSome (compared_to s) P) (sym e) (subst P (done_is_same result (subst IsDone is done)) p)
+    subst (λ (s : Status). IfCompared s P) (sym e) (subst P (done_is_same result (subst IsDone is done)) p)
 
 -- ---- what was run
 
 -- whatever it came to, a front of the commands of the clean build was run, or nothing
 pub untold_compared : (next : Next) (w : World) (old new : List (Names × List ℕ)) (stopped : Option Stop) → RunsToCompare next w old new stopped → RunsToCompare next w old new (Some (Outside NoMemory))
 untold_compared next w old new None runs = inr (record { held = runs.held; shows = runs.shows; rules = runs.rules; asked = runs.asked; ran = all_is_front _ old new runs.ran })
+untold_compared next w old new (Some NoStore) same = inl same
 untold_compared next w old new (Some (StoreDamaged offset)) same = inl same
 untold_compared next w old new (Some (Sources fault)) same = inl same
 untold_compared next w old new (Some (Bad name verdict)) runs = inr (record { held = runs.held; shows = runs.shows; rules = runs.rules; asked = runs.asked; ran = all_is_front _ old new runs.ran })
@@ -96,6 +117,8 @@ cause_of_compared before now (IllegalWrite rule text) cause = cause
 cause_of_compared before now (Unwritten rule path) cause = cause
 cause_of_compared before now (TooManyReads rule) cause = cause
 cause_of_compared before now (Usage place) cause = cause
+cause_of_compared before now NotInit cause = cause
+cause_of_compared before now AlreadyInit cause = cause
 cause_of_compared before now (BadStore offset) cause = cause
 cause_of_compared before now (Parse fault) cause = cause
 cause_of_compared before now (CircularDirs cycle) cause = cause
@@ -145,13 +168,4 @@ prints_compared next w before now held grown result status text answer has is re
   has = has;
   ends = subst (λ (s : Status). Ends before now s answer) is ends;
   prints = subst (λ (s : Status). Prints s (compared_line s) before now held grown answer) is (subst (λ (t : List ℕ). Prints status t before now held grown answer) reads prints);
-}
-
--- nothing, for want of memory
-pub prints_no_comparison : (next : Next) (w : World) (before now : ℕ) (held : List ℕ) (result : Result Compared Stop) → HasCompared next w result → PrintsComparison next w before now held held Memory
-prints_no_comparison next w before now held result has = record {
-  compared = result;
-  has = has;
-  ends = inr (inl refl);
-  prints = prints_nothing (status_of_compared result) (compared_line (status_of_compared result)) before now held;
 }

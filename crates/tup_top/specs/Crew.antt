@@ -16,7 +16,7 @@ use Rattle.tup_update.specs.Turns.{names_of, TurnsFit}
 use Rattle.tup_update.specs.Compared.{RunsToCompare}
 use Rattle.tup_update.specs.declared.compare.Compared.{Compared}
 use Rattle.tup_update.specs.declared.stop.Stop.{Stop}
-use Rattle.tup_update.specs.declared.stop.Stop.TheVariants.{BadStore, Sources, Bad, Run, Full, Outside}
+use Rattle.tup_update.specs.declared.stop.Stop.TheVariants.{NoStore, BadStore, Sources, Bad, Run, Full, Outside}
 use Rattle.tup_top.specs.Order.{Wanted, IsUpdate, HasCommandsRun}
 
 -- a crew has a runner, and at most 16
@@ -37,6 +37,7 @@ pub record OneRose (before now : List ℕ) : Type 0 where
 abbrev pub RanFits : Next → List Rule → World → List RuleName → Option Stop → Type 0
 RanFits next rules old ran None = OfHeld old (λ held. ran ≡ names_of rules (ends next rules held))
 RanFits next rules old ran (Some (Bad name verdict)) = OfHeld old (λ held. ran ≡ names_of rules (ends next rules held))
+RanFits next rules old ran (Some NoStore) = ran ≡ []
 RanFits next rules old ran (Some (BadStore offset)) = ran ≡ []
 RanFits next rules old ran (Some (Sources fault)) = ran ≡ []
 RanFits next rules old ran (Some Run) = OfHeld old (λ held. IsFront ran (names_of rules (ends next rules held)))

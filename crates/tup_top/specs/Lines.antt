@@ -16,7 +16,7 @@ use Rattle.tup_ask.specs.declared.fault.ParseFault.{ParseFault}
 use Rattle.tup_update.specs.Compared.{first_of}
 use Rattle.tup_update.specs.declared.update.Log.{Log}
 use Rattle.tup_top.specs.declared.status.Status.{Status}
-use Rattle.tup_top.specs.declared.status.Status.TheVariants.{Done, Command, IllegalRead, IllegalWrite, Unwritten, TooManyReads, Usage, BadStore, Parse, CircularDirs, CircularCommands, NoSuchGroup, SiteFault, RunFault, SinkFault, Limit, Memory, Differs}
+use Rattle.tup_top.specs.declared.status.Status.TheVariants.{Done, Command, IllegalRead, IllegalWrite, Unwritten, TooManyReads, Usage, NotInit, AlreadyInit, BadStore, Parse, CircularDirs, CircularCommands, NoSuchGroup, SiteFault, RunFault, SinkFault, Limit, Memory, Differs}
 use Rattle.tup_top.specs.declared.status.What.{What}
 use Rattle.tup_top.specs.declared.status.What.TheVariants.{Files, FileSize, Commands, Links, StoreSize}
 
@@ -54,10 +54,11 @@ abbrev pub parse_fault : ParseFault → List ℕ
 parse_fault fault =
     codes "fault: " ++ (show fault.file ++ (codes ":" ++ (decimal fault.line ++ (codes ": " ++ (kind_text fault.kind ++ (codes ", read for " ++ show fault.dir))))))
 
--- a folder, and a rule, with an arrow behind it
+-- a folder with an arrow behind it
 abbrev pub folder_arrow : Names → List ℕ
 folder_arrow dir = show dir ++ codes " -> "
 
+-- the same of a rule
 abbrev pub rule_arrow : RuleName → List ℕ
 rule_arrow rule = show rule.dir ++ (codes ": " ++ (rule.text ++ codes " -> "))
 
@@ -101,6 +102,8 @@ status_text (IllegalWrite rule text) = rule_fault rule (codes ": writes " ++ tex
 status_text (Unwritten rule path) = rule_fault rule (codes ": doesn't write " ++ show path)
 status_text (TooManyReads rule) = rule_fault rule (codes ": reads too often")
 status_text (Usage place) = codes "fault: usage, word " ++ decimal place
+status_text NotInit = codes "fault: no tup project here"
+status_text AlreadyInit = codes "fault: already a tup project"
 status_text (BadStore offset) = codes "fault: the store is damaged at byte " ++ decimal offset
 status_text (Parse fault) = parse_fault fault
 status_text (CircularDirs cycle) = codes "fault: directories wait for each other: " ++ folders_circle cycle
@@ -116,6 +119,11 @@ status_text (Differs path) = codes "differs: " ++ show path
 -- the last line
 abbrev pub last_line : Status → List ℕ
 last_line status = status_text status ++ 10 ∷ []
+
+-- the line of a beginning
+abbrev pub begun_line : Status → List ℕ
+begun_line (Done read ran removed) = codes "initialized" ++ 10 ∷ []
+begun_line other = last_line other
 
 -- the line of a comparison
 abbrev pub compared_line : Status → List ℕ

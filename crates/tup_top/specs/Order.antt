@@ -2,7 +2,7 @@
 use Rattle.std.specs.Prelude.{◌≡◌, ◌+◌, ◌==◌, ℕ, ⊤, Bool, false, if◌then◌else◌, List, [], ◌∷◌, None, Some, Result, Ok, Err, codes, bytes_eq}
 use Rattle.tup_top.specs.declared.order.Word.{Word}
 use Rattle.tup_top.specs.declared.order.Order.{Order}
-use Rattle.tup_top.specs.declared.order.Order.TheVariants.{Upd, Verify, Demo}
+use Rattle.tup_top.specs.declared.order.Order.TheVariants.{Init, Upd, Verify, Demo}
 use Rattle.tup_top.specs.declared.order.OrderFault.{OrderFault}
 use Rattle.tup_top.specs.declared.order.OrderFault.TheVariants.{Usage, Memory}
 
@@ -14,6 +14,7 @@ Wanted = Result Order ℕ
 -- the words ask for an update
 abbrev pub IsUpdate : Wanted → Type 0
 IsUpdate (Ok (Upd program)) = ⊤
+IsUpdate (Ok Init) = ⊥
 IsUpdate (Ok Verify) = ⊥
 IsUpdate (Ok Demo) = ⊥
 IsUpdate (Err place) = ⊥
@@ -21,13 +22,23 @@ IsUpdate (Err place) = ⊥
 -- the words ask for a comparison
 abbrev pub IsVerify : Wanted → Type 0
 IsVerify (Ok (Upd program)) = ⊥
+IsVerify (Ok Init) = ⊥
 IsVerify (Ok Verify) = ⊤
 IsVerify (Ok Demo) = ⊥
 IsVerify (Err place) = ⊥
 
+-- the words ask that a project begins
+abbrev pub IsInit : Wanted → Type 0
+IsInit (Ok (Upd program)) = ⊥
+IsInit (Ok Init) = ⊤
+IsInit (Ok Verify) = ⊥
+IsInit (Ok Demo) = ⊥
+IsInit (Err place) = ⊥
+
 -- the words ask for an update or a comparison, which have commands run
 abbrev pub HasCommandsRun : Wanted → Type 0
 HasCommandsRun (Ok (Upd program)) = ⊤
+HasCommandsRun (Ok Init) = ⊥
 HasCommandsRun (Ok Verify) = ⊤
 HasCommandsRun (Ok Demo) = ⊥
 HasCommandsRun (Err place) = ⊥
@@ -61,6 +72,7 @@ order [] = Ok (Upd None)
 order (word ∷ words) =
     if is_option word then options 1 (word ∷ words)
     else if says (codes "upd") word then options 2 words
+    else if says (codes "init") word then alone 2 Init words
     else if says (codes "verify") word then alone 2 Verify words
     else if says (codes "demo") word then alone 2 Demo words
     else Err 1

@@ -8,15 +8,18 @@ use Rattle.tup_rule.specs.declared.rule.Rule.{Rule}
 use Rattle.tup_runner.specs.Next.{Next}
 use Rattle.tup_mini.specs.Means.{mini_next}
 use Rattle.tup_tell.specs.Sink.{GrownByPart}
+use Rattle.tup_table.specs.Store.{header}
+use Rattle.tup_graph.specs.declared.fault.GraphFault.{GraphFault}
+use Rattle.tup_ledger.specs.declared.beginning.Begun.{Begun}
 use Rattle.tup_update.specs.Compared.{HasCompared}
 use Rattle.tup_update.specs.Log.{LogFits, RulesFit}
 use Rattle.tup_update.specs.declared.compare.Compared.{Compared}
 use Rattle.tup_update.specs.declared.update.Log.{Log}
 use Rattle.tup_update.specs.declared.stop.Stop.{Stop}
-use Rattle.tup_top.specs.Lines.{lines, last_line, compared_line}
+use Rattle.tup_top.specs.Lines.{lines, last_line, begun_line, compared_line}
 use Rattle.tup_top.specs.Order.{Wanted}
-use Rattle.tup_top.specs.Status.{status_of, status_of_compared}
-use Rattle.tup_top.specs.declared.order.Order.TheVariants.{Upd, Verify, Demo}
+use Rattle.tup_top.specs.Status.{status_of, status_of_begun, status_of_compared}
+use Rattle.tup_top.specs.declared.order.Order.TheVariants.{Init, Upd, Verify, Demo}
 use Rattle.tup_top.specs.declared.status.Status.{Status}
 use Rattle.tup_top.specs.declared.status.Status.TheVariants.{Done, Usage, SinkFault, Memory}
 
@@ -59,24 +62,34 @@ pub record PrintsComparison (next : Next) (world : World) (before now : ℕ) (ol
   pub ends : Ends before now (status_of_compared compared) answer
   pub prints : Prints (status_of_compared compared) (compared_line (status_of_compared compared)) before now old new answer
 
+-- the line of a beginning
+pub record PrintsBegun (before now : ℕ) (old new : List ℕ) (answer : Status) : Type 0 where
+  pub begun : Result Begun GraphFault
+  pub ends : Ends before now (status_of_begun begun) answer
+  pub prints : Prints (status_of_begun begun) (begun_line (status_of_begun begun)) before now old new answer
+
 -- the small project that is shown
 abbrev pub demo_files : List (Names × Content)
 demo_files = (codes "Tupfile" ∷ [], codes ": a |> cp a b |> b" ++ 10 ∷ []) ∷ (codes "a" ∷ [], codes "hi" ++ 10 ∷ []) ∷ []
 
--- the site that holds it
+-- the site that holds it, once it began
 abbrev pub demo_world : World
-demo_world = record { tree = tree_of_files demo_files; store = [] }
+demo_world = record { tree = tree_of_files demo_files; store = header ++ 0 ∷ [] }
 
--- the lines of what was asked for: of the update, of the comparison, of the demo's update, or the line of the refusal
+-- the lines of what was asked for: of the update, of the beginning, of the comparison, of the demo's update, or the line of the
+-- refusal
 abbrev pub Printed : Wanted → Next → World → ℕ → ℕ → List ℕ → List ℕ → Status → Type 0
 Printed (Ok (Upd program)) next world before now old new answer = PrintsUpdate next world before now old new answer
+Printed (Ok Init) next world before now old new answer = PrintsBegun before now old new answer
 Printed (Ok Verify) next world before now old new answer = PrintsComparison next world before now old new answer
 Printed (Ok Demo) next world before now old new answer = PrintsUpdate mini_next demo_world before now old new answer
 Printed (Err place) next world before now old new answer = Prints (Usage place) (last_line (Usage place)) before now old new answer
 
--- The same of what no site and no runner has part in, and that is so over each: the demo's lines, or the line of the refusal.
+-- The same of what is so over every site and with every runner: the line of the beginning, the demo's lines, or the line of the
+-- refusal.
 abbrev pub PrintedAlone : Wanted → ℕ → ℕ → List ℕ → List ℕ → Status → Type 0
 PrintedAlone (Ok (Upd program)) before now old new answer = ⊤
+PrintedAlone (Ok Init) before now old new answer = PrintsBegun before now old new answer
 PrintedAlone (Ok Verify) before now old new answer = ⊤
 PrintedAlone (Ok Demo) before now old new answer = PrintsUpdate mini_next demo_world before now old new answer
 PrintedAlone (Err place) before now old new answer = Prints (Usage place) (last_line (Usage place)) before now old new answer

@@ -1,13 +1,17 @@
 -- What the program promises of one call, each promise a word. What it says of an update is what tup_update says, of what
 -- the status tells that the update came to.
-use Rattle.std.specs.Prelude.{◌≡◌, ◌<◌, ◌≤◌, ⊤, ℕ, ◌-◌, ◌^◌, List, length, map, slice_get, Option, None, Some, IsTrue, IfSome, Result, Ok, Err}
+use Rattle.std.specs.Prelude.{◌≡◌, ◌⊎◌, ◌<◌, ◌≤◌, ⊤, ℕ, ◌-◌, ◌^◌, List, [], length, map, slice_get, Option, None, Some, IsTrue, OnOk, Result, Ok, Err}
 use Rattle.std.specs.FinMap as finite
 use Rattle.tup_path.specs.Count.{Rose}
 use Rattle.tup_path.specs.Name.{Names, Content}
+use Rattle.tup_site.specs.Crash.{PinsStore}
 use Rattle.tup_site.specs.World.{World}
 use Rattle.tup_rule.specs.declared.rule.Rule.{Rule}
 use Rattle.tup_runner.specs.Next.{Next}
 use Rattle.tup_clean.specs.Clean.{succeeds}
+use Rattle.tup_graph.specs.declared.fault.GraphFault.{GraphFault}
+use Rattle.tup_ledger.specs.Begin.{BeginStep}
+use Rattle.tup_ledger.specs.declared.beginning.Begun.{Begun}
 use Rattle.tup_update.specs.Holding.{Holding, HoldsOn, OfHeld, Shows}
 use Rattle.tup_mini.specs.Means.{mini_next}
 use Rattle.tup_update.specs.Log.{OfRules, whole_log}
@@ -16,19 +20,18 @@ use Rattle.tup_update.specs.Sources.{IsAsked, IsRefused, build}
 use Rattle.tup_update.specs.declared.compare.Compared.{Compared}
 use Rattle.tup_update.specs.declared.fault.SourcesFault.{SourcesFault}
 use Rattle.tup_update.specs.declared.stop.Stop.{Stop}
-use Rattle.tup_top.specs.Status.{status_of, came_to, compared_to}
-use Rattle.tup_top.specs.Order.{Wanted, IsUpdate, IsVerify}
+use Rattle.tup_top.specs.Status.{status_of, most, IfCame, IfCompared, IfBegan}
+use Rattle.tup_top.specs.Order.{Wanted, IsUpdate, IsVerify, IsInit}
 use Rattle.tup_top.specs.Crew.{OneRose}
 use Rattle.tup_top.specs.Printed.{demo_world}
-use Rattle.tup_top.specs.declared.order.Order.TheVariants.{Upd, Verify, Demo}
+use Rattle.tup_top.specs.declared.order.Order.TheVariants.{Init, Upd, Verify, Demo}
 use Rattle.tup_top.specs.declared.status.Status.{Status}
-use Rattle.tup_top.specs.declared.status.Status.TheVariants.{Done, Command, IllegalRead, IllegalWrite, Unwritten, TooManyReads, Usage, SiteFault, RunFault, SinkFault, Limit, Memory, Differs}
-use Rattle.tup_top.specs.declared.status.What.{What}
-use Rattle.tup_top.specs.declared.status.What.TheVariants.{Files, FileSize, Commands, Links, StoreSize}
+use Rattle.tup_top.specs.declared.status.Status.TheVariants.{Done, Command, IllegalRead, IllegalWrite, Unwritten, TooManyReads, Usage, AlreadyInit, BadStore, SiteFault, RunFault, SinkFault, Limit, Memory, Differs}
 
 -- a promise of an update, of what the update came to
 abbrev pub ForUpdate : Wanted → Status → (Option Stop → Type 0) → Type 0
-ForUpdate (Ok (Upd program)) status promise = IfSome (came_to status) promise
+ForUpdate (Ok (Upd program)) status promise = IfCame status promise
+ForUpdate (Ok Init) status promise = ⊤
 ForUpdate (Ok Verify) status promise = ⊤
 ForUpdate (Ok Demo) status promise = ⊤
 ForUpdate (Err place) status promise = ⊤
@@ -36,32 +39,50 @@ ForUpdate (Err place) status promise = ⊤
 -- a promise of a comparison, of what it came to
 abbrev pub ForVerify : Wanted → Status → (Result Compared Stop → Type 0) → Type 0
 ForVerify (Ok (Upd program)) status promise = ⊤
-ForVerify (Ok Verify) status promise = IfSome (compared_to status) promise
+ForVerify (Ok Init) status promise = ⊤
+ForVerify (Ok Verify) status promise = IfCompared status promise
 ForVerify (Ok Demo) status promise = ⊤
 ForVerify (Err place) status promise = ⊤
 
 -- a promise of a demo, of what its update came to
 abbrev pub ForDemo : Wanted → Status → (Option Stop → Type 0) → Type 0
 ForDemo (Ok (Upd program)) status promise = ⊤
+ForDemo (Ok Init) status promise = ⊤
 ForDemo (Ok Verify) status promise = ⊤
-ForDemo (Ok Demo) status promise = IfSome (came_to status) promise
+ForDemo (Ok Demo) status promise = IfCame status promise
 ForDemo (Err place) status promise = ⊤
+
+-- a promise of a beginning, of how the project began
+abbrev pub ForInit : Wanted → Status → (Result Begun GraphFault → Type 0) → Type 0
+ForInit (Ok (Upd program)) status promise = ⊤
+ForInit (Ok Init) status promise = IfBegan status promise
+ForInit (Ok Verify) status promise = ⊤
+ForInit (Ok Demo) status promise = ⊤
+ForInit (Err place) status promise = ⊤
+
+-- a store that was made, or stood there, is left by a crash from now on
+abbrev pub Lasts : (World → Type 0) → World → Result Begun GraphFault → Type 0
+Lasts left now begun = OnOk begun (PinsStore left now)
 
 -- why the update of the small project stopped that a demo shows, as of every update
 abbrev pub StopsDemo : Option Stop → Type 0
 StopsDemo stopped = (new : World) × OfRules demo_world (λ rules. HasCause mini_next rules demo_world new) stopped
 
--- only an update does anything: a comparison leaves a world that holds the same, and any other call the world as it was
+-- Only an update does more than this: a beginning leaves the world as it was, or with a store of the same entries, or makes one
+-- where there was none; a comparison leaves a world that holds the same; and any other call the world as it was. None touches
+-- a file.
 abbrev pub NothingDone : Wanted → World → World → Type 0
 NothingDone (Ok (Upd program)) old new = ⊤
+NothingDone (Ok Init) old new = (new ≡ old) ⊎ BeginStep old old new
 NothingDone (Ok Verify) old new = HoldsOn old new
 NothingDone (Ok Demo) old new = new ≡ old
 NothingDone (Err place) old new = new ≡ old
 
 -- and so of all that it adds to what a crash may leave
-abbrev pub QuietStep : Wanted → World → World → Type 0
-QuietStep (Ok Verify) v w = HoldsOn v w
-QuietStep other v w = ⊥
+abbrev pub QuietStep : Wanted → World → World → World → Type 0
+QuietStep (Ok Init) was v w = BeginStep was v w
+QuietStep (Ok Verify) was v w = HoldsOn v w
+QuietStep other was v w = ⊥
 
 -- what is counted as done is all that there was to do
 abbrev pub CountsAll : Next → List Rule → World → Status → Type 0
@@ -82,14 +103,6 @@ counts of_site of_runner of_sink site crew sink = record { site = of_site site; 
 abbrev pub AreSteady : Counts → Counts → Type 0
 AreSteady before now = (now.site ≡ before.site) × (now.runners ≡ before.runners)
 
--- how many of these there may be: a limit is told only where it is passed
-abbrev pub most : What → ℕ
-most Files = 65536
-most FileSize = 16777216
-most Commands = 65536
-most Links = 4194304
-most StoreSize = 1073741824
-
 -- the causes that every site, runner and sink shows: no count rises unseen, and a count that is blamed rose. Want of memory
 -- while lines are printed is answered in the place of all else.
 abbrev pub HasCountedCause : Counts → Counts → Status → Type 0
@@ -97,8 +110,9 @@ HasCountedCause before now (Done read ran removed) = AreSteady before now × (no
 HasCountedCause before now SinkFault = AreSteady before now × Rose before.sink now.sink
 HasCountedCause before now SiteFault = Rose before.site now.site × (now.runners ≡ before.runners)
 HasCountedCause before now RunFault = (now.site ≡ before.site) × OneRose before.runners now.runners
-HasCountedCause before now (Limit what number) = AreSteady before now × (most what < number)
+HasCountedCause before now (Limit what number) = AreSteady before now × (number ≡ most what)
 HasCountedCause before now (Usage place) = ⊥
+HasCountedCause before now AlreadyInit = ⊥
 HasCountedCause before now (Differs path) = ⊥
 HasCountedCause before now Memory = ⊤
 HasCountedCause before now other = AreSteady before now
@@ -112,11 +126,22 @@ HasComparedCause before now other = HasCountedCause before now other
 abbrev pub HasDemoCause : ℕ → ℕ → Status → Type 0
 HasDemoCause before now (Done read ran removed) = now ≡ before
 HasDemoCause before now SinkFault = Rose before now
-HasDemoCause before now (Limit what number) = most what < number
+HasDemoCause before now (Limit what number) = number ≡ most what
 HasDemoCause before now (Usage place) = ⊥
+HasDemoCause before now AlreadyInit = ⊥
 HasDemoCause before now (Differs path) = ⊥
 HasDemoCause before now RunFault = ⊥
 HasDemoCause before now other = ⊤
+
+-- the same of a beginning, by what its site and its sink count
+abbrev pub HasBegunCause : ℕ → ℕ → ℕ → ℕ → Status → Type 0
+HasBegunCause before now heard hears (Done read ran removed) = (now ≡ before) × (hears ≡ heard)
+HasBegunCause before now heard hears SinkFault = (now ≡ before) × Rose heard hears
+HasBegunCause before now heard hears AlreadyInit = now ≡ before
+HasBegunCause before now heard hears (BadStore offset) = now ≡ before
+HasBegunCause before now heard hears SiteFault = Rose before now
+HasBegunCause before now heard hears Memory = ⊤
+HasBegunCause before now heard hears other = ⊥
 
 -- where a word can't stand, only its place is answered
 abbrev pub IsRefusal : ℕ → Status → Type 0
@@ -127,6 +152,7 @@ IsRefusal wrong other = ⊥
 -- the causes of every order
 abbrev pub HasPlainCause : Wanted → Counts → Counts → Status → Type 0
 HasPlainCause (Ok (Upd program)) before now status = HasCountedCause before now status
+HasPlainCause (Ok Init) before now status = (now.runners ≡ before.runners) × HasBegunCause before.site now.site before.sink now.sink status
 HasPlainCause (Ok Verify) before now status = HasComparedCause before now status
 HasPlainCause (Ok Demo) before now status = AreSteady before now × HasDemoCause before.sink now.sink status
 HasPlainCause (Err place) before now status = AreSteady before now × IsRefusal place status
@@ -140,14 +166,14 @@ pub record NothingFailed (before now : Counts) : Type 0 where
   pub sink : now.sink ≡ before.sink
   pub sink_counts : now.sink < 2 ^ 64 - 1
 
--- nothing stands in the way of an update: the store reads and has room, the sources ask for rules, and their clean build
--- succeeds
+-- Nothing stands in the way of an update: the store reads and has room, the sources ask for rules, and their clean build
+-- succeeds. No source is too large, and no file of that build.
 pub record IsClear (next : Next) (old new : World) : Type 0 where
   pub held : Holding
   pub store_reads : Shows old held
   pub sources_read : (fault : SourcesFault) → IsRefused old fault → ⊥
   pub clean : (rules : List Rule) → IsAsked old rules → IsTrue (succeeds (build next rules held))
-  pub small : (path : Names) (content : Content) → finite.get new.tree path ≡ Some content → length content ≤ 16777216
+  pub small : (rules : List Rule) → (rules ≡ []) ⊎ IsAsked old rules → (path : Names) (content : Content) → finite.get (build next rules held).tree path ≡ Some content → length content ≤ 16777216
   pub room : (rules : List Rule) → IsAsked old rules → HasNoRoom rules held new → ⊥
 
 -- an answer that is free, or says that all was done
@@ -159,6 +185,10 @@ IsDoneOrMemory other = ⊥
 -- an update that nothing stands in the way of is done, but for want of memory
 abbrev pub Succeeds : Wanted → Next → World → World → Counts → Counts → Status → Type 0
 Succeeds wanted next old new before now status = IsUpdate wanted → IsClear next old new → NothingFailed before now → IsDoneOrMemory status
+
+-- a project begins where there is no store and nothing failed, but for want of memory
+abbrev pub Initializes : Wanted → World → Counts → Counts → Status → Type 0
+Initializes wanted old before now status = IsInit wanted → old.store ≡ [] → NothingFailed before now → IsDoneOrMemory status
 
 -- nothing stands in the way of a comparison
 pub record CanBeCompared (w : World) : Type 0 where

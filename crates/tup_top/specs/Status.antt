@@ -1,19 +1,24 @@
 -- How an order ended: the exit numbers (own), what stops an update as a status, and what a status says of an update.
-use Rattle.std.specs.Prelude.{ℕ, ◌-◌, ◌^◌, length, min, Option, None, Some, option_map, Result, Ok, Err}
+use Rattle.std.specs.Prelude.{ℕ, ◌-◌, ◌^◌, ◌<◌, length, min, Option, None, Some, Result, Ok, Err}
 use Rattle.tup_site.specs.declared.fault.SiteFailed.{SiteFailed}
 use Rattle.tup_site.specs.declared.fault.SiteFailed.TheVariants.{Fault, TooLarge, Memory as NoMemory}
 use Rattle.tup_rule.specs.declared.rule.RuleName.{RuleName}
 use Rattle.tup_access.specs.declared.verdict.Verdict.{Verdict}
 use Rattle.tup_access.specs.declared.verdict.Verdict.TheVariants.{Good, Failed, IllegalRead as ReadsIllegally, IllegalWrite as WritesIllegally, Unwritten as LeavesUnwritten, TooManyReads as ReadsTooOften}
+use Rattle.tup_graph.specs.declared.fault.GraphFault.{GraphFault}
+use Rattle.tup_graph.specs.declared.fault.GraphFault.TheVariants as graph
+use Rattle.tup_ledger.specs.declared.beginning.Begun.{Begun}
+use Rattle.tup_ledger.specs.declared.beginning.Begun.TheVariants.{Made, WasThere}
 use Rattle.tup_update.specs.declared.compare.Compared.{Compared}
 use Rattle.tup_update.specs.declared.compare.Compared.TheVariants as compared
 use Rattle.tup_update.specs.declared.fault.SourcesFault.{SourcesFault}
 use Rattle.tup_update.specs.declared.fault.SourcesFault.TheVariants as sources
 use Rattle.tup_update.specs.declared.update.Log.{Log}
 use Rattle.tup_update.specs.declared.stop.Stop.{Stop}
-use Rattle.tup_update.specs.declared.stop.Stop.TheVariants.{BadStore as StoreDamaged, Sources, Bad, Run, Full, Outside}
+use Rattle.tup_update.specs.declared.stop.Stop.TheVariants.{NoStore, BadStore as StoreDamaged, Sources, Bad, Run, Full, Outside}
 use Rattle.tup_top.specs.declared.status.Status.{Status}
-use Rattle.tup_top.specs.declared.status.Status.TheVariants.{Done, Command, IllegalRead, IllegalWrite, Unwritten, TooManyReads, Usage, BadStore, Parse, CircularDirs, CircularCommands, NoSuchGroup, SiteFault, RunFault, SinkFault, Limit, Memory, Differs}
+use Rattle.tup_top.specs.declared.status.Status.TheVariants.{Done, Command, IllegalRead, IllegalWrite, Unwritten, TooManyReads, Usage, NotInit, AlreadyInit, BadStore, Parse, CircularDirs, CircularCommands, NoSuchGroup, SiteFault, RunFault, SinkFault, Limit, Memory, Differs}
+use Rattle.tup_top.specs.declared.status.What.{What}
 use Rattle.tup_top.specs.declared.status.What.TheVariants.{Files, FileSize, Commands, Links, StoreSize}
 
 -- the exit number of the program
@@ -25,6 +30,8 @@ exit_of (IllegalWrite rule text) = 1
 exit_of (Unwritten rule path) = 1
 exit_of (TooManyReads rule) = 1
 exit_of (Usage place) = 2
+exit_of NotInit = 3
+exit_of AlreadyInit = 3
 exit_of (BadStore offset) = 4
 exit_of (Parse fault) = 5
 exit_of (CircularDirs cycle) = 5
@@ -41,6 +48,14 @@ exit_of (Differs path) = 13
 abbrev pub capped : ℕ → ℕ
 capped count = min count (2 ^ 32 - 1)
 
+-- how many of these there may be
+abbrev pub most : What → ℕ
+most Files = 65536
+most FileSize = 16777216
+most Commands = 65536
+most Links = 4194304
+most StoreSize = 1073741824
+
 -- the status of a rule that isn't Good
 abbrev pub status_of_bad : RuleName → Verdict → Status
 status_of_bad rule Good = Memory
@@ -52,27 +67,28 @@ status_of_bad rule ReadsTooOften = TooManyReads rule
 
 -- the status of sources that ask for no rules
 abbrev pub status_of_sources : SourcesFault → Status
-status_of_sources (sources.TooManyFiles number) = Limit Files number
+status_of_sources (sources.TooManyFiles count) = Limit Files (most Files)
 status_of_sources (sources.Parse fault) = Parse fault
 status_of_sources (sources.CircularDirs cycle) = CircularDirs cycle
-status_of_sources (sources.TooManyCommands number) = Limit Commands number
+status_of_sources (sources.TooManyCommands count) = Limit Commands (most Commands)
 status_of_sources (sources.NoSuchGroup group) = NoSuchGroup group
-status_of_sources (sources.TooManyLinks number) = Limit Links number
+status_of_sources (sources.TooManyLinks count) = Limit Links (most Links)
 status_of_sources (sources.CircularCommands cycle) = CircularCommands cycle
 
 -- the status of an order that the outside stops
 abbrev pub status_of_outside : SiteFailed → Status
 status_of_outside Fault = SiteFault
-status_of_outside (TooLarge number) = Limit FileSize number
+status_of_outside (TooLarge bytes) = Limit FileSize (most FileSize)
 status_of_outside NoMemory = Memory
 
 -- the status of an order that was stopped
 abbrev pub status_of_stop : Stop → Status
+status_of_stop NoStore = NotInit
 status_of_stop (StoreDamaged offset) = BadStore offset
 status_of_stop (Sources fault) = status_of_sources fault
 status_of_stop (Bad rule verdict) = status_of_bad rule verdict
 status_of_stop Run = RunFault
-status_of_stop Full = Limit StoreSize 1073741825
+status_of_stop Full = Limit StoreSize (most StoreSize)
 status_of_stop (Outside failed) = status_of_outside failed
 
 -- the status of an update with this log that stopped for this reason, or came to its end
@@ -86,40 +102,66 @@ status_of_compared (Ok compared.Same) = Done 0 0 0
 status_of_compared (Ok (compared.Differs path)) = Differs path
 status_of_compared (Err stop) = status_of_stop stop
 
--- what an update came to that is answered so: its end, or the reason for which it stopped. A word that can't stand is no
--- answer of an update, nor is a difference.
-abbrev pub came_to : Status → Option (Option Stop)
-came_to (Done read ran removed) = Some None
-came_to SinkFault = Some None
-came_to (Command rule status) = Some (Some (Bad rule (Failed status)))
-came_to (IllegalRead rule text) = Some (Some (Bad rule (ReadsIllegally text)))
-came_to (IllegalWrite rule text) = Some (Some (Bad rule (WritesIllegally text)))
-came_to (Unwritten rule path) = Some (Some (Bad rule (LeavesUnwritten path)))
-came_to (TooManyReads rule) = Some (Some (Bad rule ReadsTooOften))
-came_to (BadStore offset) = Some (Some (StoreDamaged offset))
-came_to (Parse fault) = Some (Some (Sources (sources.Parse fault)))
-came_to (CircularDirs cycle) = Some (Some (Sources (sources.CircularDirs cycle)))
-came_to (CircularCommands cycle) = Some (Some (Sources (sources.CircularCommands cycle)))
-came_to (NoSuchGroup group) = Some (Some (Sources (sources.NoSuchGroup group)))
-came_to SiteFault = Some (Some (Outside Fault))
-came_to RunFault = Some (Some Run)
-came_to (Limit Files number) = Some (Some (Sources (sources.TooManyFiles number)))
-came_to (Limit FileSize number) = Some (Some (Outside (TooLarge number)))
-came_to (Limit Commands number) = Some (Some (Sources (sources.TooManyCommands number)))
-came_to (Limit Links number) = Some (Some (Sources (sources.TooManyLinks number)))
-came_to (Limit StoreSize number) = Some (Some Full)
-came_to Memory = Some (Some (Outside NoMemory))
-came_to (Usage place) = None
-came_to (Differs path) = None
+-- A promise of an update that stopped because so many of these are too many. Its status tells the limit, and not the count.
+abbrev pub Passed : What → (ℕ → Stop) → (Option Stop → Type 0) → Type 0
+Passed what stop promise = (count : ℕ) × (most what < count) × promise (Some (stop count))
 
--- the same of a comparison that is answered so
+-- A promise of what an update came to that is answered so: its end, or the reason for which it stopped. A word that can't
+-- stand is no answer of an update, nor is a difference, nor that a project was begun before.
+abbrev pub IfCame : Status → (Option Stop → Type 0) → Type 0
+IfCame (Done read ran removed) promise = promise None
+IfCame SinkFault promise = promise None
+IfCame (Command rule status) promise = promise (Some (Bad rule (Failed status)))
+IfCame (IllegalRead rule text) promise = promise (Some (Bad rule (ReadsIllegally text)))
+IfCame (IllegalWrite rule text) promise = promise (Some (Bad rule (WritesIllegally text)))
+IfCame (Unwritten rule path) promise = promise (Some (Bad rule (LeavesUnwritten path)))
+IfCame (TooManyReads rule) promise = promise (Some (Bad rule ReadsTooOften))
+IfCame NotInit promise = promise (Some NoStore)
+IfCame (BadStore offset) promise = promise (Some (StoreDamaged offset))
+IfCame (Parse fault) promise = promise (Some (Sources (sources.Parse fault)))
+IfCame (CircularDirs cycle) promise = promise (Some (Sources (sources.CircularDirs cycle)))
+IfCame (CircularCommands cycle) promise = promise (Some (Sources (sources.CircularCommands cycle)))
+IfCame (NoSuchGroup group) promise = promise (Some (Sources (sources.NoSuchGroup group)))
+IfCame SiteFault promise = promise (Some (Outside Fault))
+IfCame RunFault promise = promise (Some Run)
+IfCame (Limit Files number) promise = Passed Files (λ count. Sources (sources.TooManyFiles count)) promise
+IfCame (Limit FileSize number) promise = Passed FileSize (λ count. Outside (TooLarge count)) promise
+IfCame (Limit Commands number) promise = Passed Commands (λ count. Sources (sources.TooManyCommands count)) promise
+IfCame (Limit Links number) promise = Passed Links (λ count. Sources (sources.TooManyLinks count)) promise
+IfCame (Limit StoreSize number) promise = promise (Some Full)
+IfCame Memory promise = promise (Some (Outside NoMemory))
+IfCame (Usage place) promise = ⊥
+IfCame AlreadyInit promise = ⊥
+IfCame (Differs path) promise = ⊥
+
+-- what came of an update as what came of a comparison
 abbrev pub of_stop : Option Stop → Result Compared Stop
 of_stop None = Ok compared.Same
 of_stop (Some stop) = Err stop
 
-abbrev pub compared_to : Status → Option (Result Compared Stop)
-compared_to (Differs path) = Some (Ok (compared.Differs path))
-compared_to other = option_map of_stop (came_to other)
+-- a promise of what a comparison came to, which may tell a difference
+abbrev pub IfCompared : Status → (Result Compared Stop → Type 0) → Type 0
+IfCompared (Differs path) promise = promise (Ok (compared.Differs path))
+IfCompared other promise = IfCame other (λ came. promise (of_stop came))
+
+-- the status of a project that began so; a beginning answers no other refusal
+abbrev pub status_of_begun : Result Begun GraphFault → Status
+status_of_begun (Ok Made) = Done 0 0 0
+status_of_begun (Ok WasThere) = AlreadyInit
+status_of_begun (Err (graph.BadStore offset)) = BadStore offset
+status_of_begun (Err graph.Site) = SiteFault
+status_of_begun (Err graph.Memory) = Memory
+status_of_begun (Err other) = Memory
+
+-- a promise of how a project began that is answered so; no other status is answered
+abbrev pub IfBegan : Status → (Result Begun GraphFault → Type 0) → Type 0
+IfBegan (Done read ran removed) promise = promise (Ok Made)
+IfBegan SinkFault promise = promise (Ok Made)
+IfBegan AlreadyInit promise = promise (Ok WasThere)
+IfBegan (BadStore offset) promise = promise (Err (graph.BadStore offset))
+IfBegan SiteFault promise = promise (Err graph.Site)
+IfBegan Memory promise = promise (Err graph.Memory)
+IfBegan other promise = ⊥
 
 -- the status of an order whose lines couldn't be written: the sink's failure is answered where all else went well
 abbrev pub after_sink_fault : Status → Status

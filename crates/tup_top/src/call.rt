@@ -1,8 +1,11 @@
 //! The top call.
-ghost use Rattle.std.specs.Prelude.{IsTrue, map};
-ghost use Rattle.tup_site.specs.Crash.{GoesOn};
+ghost use Rattle.std.specs.Prelude.{◌≡◌, IsTrue, length, map};
+ghost use Rattle.tup_site.specs.Crash.{GoesOn, LeavesOnly};
+ghost use Rattle.tup_ledger.specs.Begin.{Begins};
 ghost use Rattle.tup_update.specs.Compared.{HasCompared};
-ghost use Rattle.tup_update.specs.Images.{UpdateStep};
+ghost use Rattle.tup_ledger.specs.Listing.{IsSafe};
+ghost use Rattle.tup_ledger.specs.Sources.{HasSources, Kept};
+ghost use Rattle.tup_update.specs.Images.{UpdateStep, with_outputs};
 ghost use Rattle.tup_update.specs.Log.{OfRules};
 ghost use Rattle.tup_update.specs.Settled.{IsSettled};
 ghost use Rattle.tup_update.specs.Outcome.{ExactlyTheFiles, MadeBeforeBad, SourcesStay, NothingForgotten, HasCause};
@@ -10,12 +13,13 @@ ghost use Rattle.tup_top.specs.Order.{IsUpdate, order};
 ghost use Rattle.tup_top.specs.Crew.{IsCrew, CrewRuns, CrewCompares, RanFits, RanInTurn, NothingRun};
 ghost use Rattle.tup_top.specs.Lines.{last_line as line_of};
 ghost use Rattle.tup_top.specs.Printed.{Printed, PrintedAlone, Prints};
-ghost use Rattle.tup_top.specs.Promise.{ForUpdate, ForVerify, ForDemo, StopsDemo, NothingDone, QuietStep, CountsAll};
-ghost use Rattle.tup_top.specs.Promise.{HasPlainCause, IsRefusal, Succeeds, Compares, counts};
+ghost use Rattle.tup_top.specs.Promise.{ForUpdate, ForInit, ForVerify, ForDemo, StopsDemo, Lasts, NothingDone, QuietStep, CountsAll};
+ghost use Rattle.tup_top.specs.Promise.{HasPlainCause, IsRefusal, Succeeds, Initializes, Compares, counts};
 ghost use Rattle.tup_top.specs.declared.status.Status.TheVariants.{Usage};
 
+use crate::init::init;
 use crate::order::{Order, OrderFault, Word, order_of};
-use crate::print::{last_line, print};
+use crate::print::tell;
 use crate::status::Status;
 use crate::update::{Updated, demo, update};
 use crate::verify::verify;
@@ -39,10 +43,11 @@ pub struct Ran<S, R> {
 
 /// Carries out what the words ask for, and prints its lines to `out` in one write.
 ///
-/// No words, or `upd`, update the files of the site; the first runner of the crew runs the
-/// commands. `verify` has it run those of a clean build beside them, and touches no file. `demo`
-/// shows an update of a small project in memory, and leaves site and crew alone. Other words are
-/// refused by the place of the first that can't stand there. A crew has 1 to 16 runners.
+/// `init` makes the store of a project where there is none. No words, or `upd`, update the files of
+/// the site; the first runner of the crew runs the commands. `verify` has it run those of a clean
+/// build beside them, and touches no file. `demo` shows an update of a small project in memory, and
+/// leaves site and crew alone. Other words are refused by the place of the first that can't stand
+/// there. A crew has 1 to 16 runners.
 pub fn tup<S: Site, R: Runner, K: Sink>(
     alloc: Global,
     words: &[Word],
@@ -65,14 +70,21 @@ pub fn tup<S: Site, R: Runner, K: Sink>(
     ensures crash { IsTrue S.tells → let old = S.world site in
         ForUpdate (order words.now) result.status (OfRules old (λ rules _.
         GoesOn S.moment S.left_since site result.site (UpdateStep R.tells R.next rules old))) }
-    // Any other order adds no more than a comparison's opening of the store.
+    // Where each world that a crash may leave before has these sources, and owns no other path than
+    // may be, so has each that one may leave since: an update owns its outputs too, and none else.
+    ensures images { IsTrue S.tells → (kept : Kept) → IsSafe S.moment S.left_since site kept
+        → ForUpdate (order words.now) result.status (OfRules (S.world site) (λ rules _.
+        LeavesOnly S.moment S.left_since site result.site (HasSources (with_outputs rules kept)))) }
+    // Any other order adds no more than a beginning, or a comparison's opening of the store.
     ensures quiet { IsTrue S.tells → (IsUpdate (order words.now) → ⊥)
-        → GoesOn S.moment S.left_since site result.site (QuietStep (order words.now)) }
+        → let step = QuietStep (order words.now) (S.world site) in
+        GoesOn S.moment S.left_since site result.site step }
     ensures settled { IsTrue S.tells
         → let left = S.left_since result.site (S.moment result.site) in
         ForUpdate (order words.now) result.status (IsSettled left (S.world result.site)) }
     ensures nothing_done { IsTrue S.tells
         → NothingDone (order words.now) (S.world site) (S.world result.site) }
+    ensures crew { length result.crew.items ≡ length crew.items }
     ensures nothing_run { NothingRun (order words.now) crew.items result.crew.items result.ran }
     ensures begun { IsTrue S.tells → IsTrue R.tells → let old = S.world site in
         ForUpdate (order words.now) result.status
@@ -94,6 +106,15 @@ pub fn tup<S: Site, R: Runner, K: Sink>(
         let now = counts S.faults R.faults K.faults result.site result.crew.items out.new in
         let new = S.world result.site in
         Succeeds (order words.now) R.next (S.world site) new before now result.status }
+    // A project begins where there is no store; one that is there stays, with all that it owns.
+    ensures begins { IsTrue S.tells → let old = S.world site in
+        ForInit (order words.now) result.status (Begins old (S.world result.site)) }
+    ensures lasts { IsTrue S.tells → let left = S.left_since result.site (S.moment result.site) in
+        ForInit (order words.now) result.status (Lasts left (S.world result.site)) }
+    ensures initializes { IsTrue S.tells
+        → let before = counts S.faults R.faults K.faults site crew.items out.old in
+        let now = counts S.faults R.faults K.faults result.site result.crew.items out.new in
+        Initializes (order words.now) (S.world site) before now result.status }
     ensures compared { IsTrue S.tells → IsTrue R.tells
         → ForVerify (order words.now) result.status (HasCompared R.next (S.world site)) }
     ensures compared_ran { IsTrue S.tells → IsTrue R.tells → IsTrue R.tells_ran
@@ -111,7 +132,7 @@ pub fn tup<S: Site, R: Runner, K: Sink>(
         let new = K.held out.new in
         Printed (order words.now) R.next (S.world site) before now (K.held out.old) new
         result.status }
-    // What the demo and a refusal print is told over every site and by every runner.
+    // What a beginning, the demo and a refusal print is told over every site and by every runner.
     ensures printed_alone { IsTrue K.tells
         → let before = K.faults out.old in let now = K.faults out.new in
         PrintedAlone (order words.now) before now (K.held out.old) (K.held out.new) result.status }
@@ -126,6 +147,16 @@ pub fn tup<S: Site, R: Runner, K: Sink>(
                 site,
                 crew,
                 ran,
+            }
+        }
+        Ok(Order::Init) => {
+            let mut site = site;
+            let status = init(alloc, &mut site, out);
+            Ran {
+                status,
+                site,
+                crew,
+                ran: Items::new(alloc),
             }
         }
         Ok(Order::Verify) => {
@@ -168,9 +199,5 @@ fn refuse<K: Sink>(alloc: Global, place: u32, out: &mut K) -> Status
         Prints (Usage place) (line_of (Usage place)) before now (K.held out.old) (K.held out.new)
         result }
 {
-    let status = Status::Usage { place };
-    let Ok(line) = last_line(alloc, &status) else {
-        return Status::Memory;
-    };
-    print(alloc, &line, status, out)
+    tell(alloc, Status::Usage { place }, out)
 }

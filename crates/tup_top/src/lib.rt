@@ -7,6 +7,7 @@
 
 mod call;
 mod circle;
+mod init;
 mod order;
 mod print;
 mod status;

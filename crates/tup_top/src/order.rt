@@ -14,6 +14,8 @@ pub struct Word(pub Text);
 /// What the words ask for.
 #[derive(Drop)]
 pub enum Order {
+    /// Begin a project: make its store.
+    Init,
     /// Update the files; commands are run by the runner that comes with the program, or through
     /// this program.
     Upd { program: Option<Text> },
@@ -58,6 +60,7 @@ pub fn order_of(words: &[Word]) -> Result<Order, OrderFault>
     }
     match first.0.as_str() {
         "upd" => options(rest, 2),
+        "init" => alone(Order::Init, rest, 2),
         "verify" => alone(Order::Verify, rest, 2),
         "demo" => alone(Order::Demo, rest, 2),
         _ => Err(OrderFault::Usage { place: 1 }),

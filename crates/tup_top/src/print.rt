@@ -38,6 +38,16 @@ pub(crate) fn last_line(alloc: Global, status: &Status) -> Result<Bytes, AllocEr
     Ok(Bytes::new(text.into_bytes()))
 }
 
+/// The line of a beginning that ends with a status.
+pub(crate) fn begun_line(alloc: Global, status: &Status) -> Result<Bytes, AllocError>
+    ensures { IfOk result (λ text. text ≡ specs.begun_line status.now) }
+{
+    match status {
+        Status::Done { .. } => Ok(Bytes::new(Vec::from_slice(alloc, b"initialized\n")?)),
+        other => last_line(alloc, other),
+    }
+}
+
 /// The line of a comparison that ends with a status.
 pub(crate) fn compared_line(alloc: Global, status: &Status) -> Result<Bytes, AllocError>
     ensures { IfOk result (λ text. text ≡ specs.compared_line status.now) }
@@ -112,6 +122,18 @@ fn add_verdict(text: &mut String, rule: &Rule, verdict: &Verdict) -> Result<(), 
     };
     let label = rule.display.as_ref().unwrap_or(&rule.text);
     writeln!(text, "{what} {}: {label}", rule.dir)
+}
+
+/// Writes the line of a status alone, and says how an order that ends with it ends then.
+pub(crate) fn tell<K: Sink>(alloc: Global, status: Status, out: &mut K) -> Status
+    ensures ends { Ends (K.faults out.old) (K.faults out.new) status result }
+    ensures prints { IsTrue K.tells → let before = K.faults out.old in let now = K.faults out.new in
+        Prints status (specs.last_line status) before now (K.held out.old) (K.held out.new) result }
+{
+    match last_line(alloc, &status) {
+        Ok(line) => print(alloc, &line, status, out),
+        Err(_) => Status::Memory,
+    }
 }
 
 /// Writes the text of an order that ends with this status, all of it at once, and says how the

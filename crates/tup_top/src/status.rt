@@ -8,6 +8,8 @@ use crate::circle::{Commands, Folders, Group};
 use std::fmt;
 use tup_access::Verdict;
 use tup_ask::ParseFault;
+use tup_graph::GraphFault;
+use tup_ledger::Begun;
 use tup_link::RuleNames;
 use tup_path::{Path, Paths, Text};
 use tup_rule::{GroupRef, RuleName};
@@ -29,8 +31,19 @@ pub enum What {
     StoreSize,
 }
 
-/// The most bytes that a store may have.
-const MAX_STORE: u64 = 1 << 30;
+impl What {
+    /// How many of these there may be.
+    fn most(self) -> u64
+        ensures { result ≡ specs.most self }
+    {
+        match self {
+            What::Files | What::Commands => 1 << 16,
+            What::FileSize => 1 << 24,
+            What::Links => 1 << 22,
+            What::StoreSize => 1 << 30,
+        }
+    }
+}
 
 /// How an order ended.
 #[derive(Drop)]
@@ -49,6 +62,10 @@ pub enum Status {
     TooManyReads { rule: RuleName },
     /// The word at this place, counted from 1, can't stand there. Nothing was done.
     Usage { place: u32 },
+    /// No project was begun here: there is no store. Nothing was done.
+    NotInit,
+    /// A project was begun here before. It is as it was.
+    AlreadyInit,
     /// The store doesn't read from this byte on. No file was touched.
     BadStore { offset: u64 },
     /// A file that says what to build has this fault. Nothing was done.
@@ -67,7 +84,7 @@ pub enum Status {
     RunFault,
     /// The order was carried out, and its lines couldn't be written.
     SinkFault,
-    /// So many of these would be too many.
+    /// There would be more of these than this number.
     Limit { what: What, number: u64 },
     /// There was no memory.
     Memory,
@@ -88,6 +105,7 @@ impl Status {
             | Status::Unwritten { .. }
             | Status::TooManyReads { .. } => 1,
             Status::Usage { .. } => 2,
+            Status::NotInit | Status::AlreadyInit => 3,
             Status::BadStore { .. } => 4,
             Status::Parse { .. }
             | Status::CircularDirs { .. }
@@ -132,16 +150,35 @@ pub(crate) fn status_of_compared(compared: Result<Compared, Stop>) -> Status
     }
 }
 
+/// The status of a project that began so.
+pub(crate) fn status_of_begun(begun: Result<Begun, GraphFault>) -> Status
+    ensures { result ≡ specs.status_of_begun begun }
+{
+    match begun {
+        Ok(Begun::Made) => Status::Done {
+            read: 0,
+            ran: 0,
+            removed: 0,
+        },
+        Ok(Begun::WasThere) => Status::AlreadyInit,
+        Err(GraphFault::BadStore { offset }) => Status::BadStore { offset },
+        Err(GraphFault::Site) => Status::SiteFault,
+        // No beginning answers the first two.
+        Err(GraphFault::NotThere | GraphFault::Full | GraphFault::Memory) => Status::Memory,
+    }
+}
+
 /// Why an order is stopped.
 fn status_of_stop(stop: Stop) -> Status
     ensures { result ≡ specs.status_of_stop stop }
 {
     match stop {
+        Stop::NoStore => Status::NotInit,
         Stop::BadStore(offset) => Status::BadStore { offset },
         Stop::Sources(fault) => status_of_sources(fault),
         Stop::Bad(rule, verdict) => status_of_bad(rule, verdict),
         Stop::Run => Status::RunFault,
-        Stop::Full => over(What::StoreSize, MAX_STORE + 1),
+        Stop::Full => over(What::StoreSize),
         Stop::Outside(failed) => status_of_outside(failed),
     }
 }
@@ -151,21 +188,24 @@ fn status_of_sources(fault: SourcesFault) -> Status
     ensures { result ≡ specs.status_of_sources fault }
 {
     match fault {
-        SourcesFault::TooManyFiles(number) => over(What::Files, number),
+        SourcesFault::TooManyFiles(_) => over(What::Files),
         SourcesFault::Parse(fault) => Status::Parse { fault },
         SourcesFault::CircularDirs(cycle) => Status::CircularDirs { cycle },
-        SourcesFault::TooManyCommands(number) => over(What::Commands, number),
+        SourcesFault::TooManyCommands(_) => over(What::Commands),
         SourcesFault::NoSuchGroup(group) => Status::NoSuchGroup { group },
-        SourcesFault::TooManyLinks(number) => over(What::Links, number),
+        SourcesFault::TooManyLinks(_) => over(What::Links),
         SourcesFault::CircularCommands(cycle) => Status::CircularCommands { cycle },
     }
 }
 
-/// So many of these are too many.
-fn over(what: What, number: u64) -> Status
-    ensures { result ≡ Limit what number }
+/// There are too many of these: the limit is told, and not by how much it is passed.
+fn over(what: What) -> Status
+    ensures { result ≡ Limit what (specs.most what) }
 {
-    Status::Limit { what, number }
+    Status::Limit {
+        what,
+        number: what.most(),
+    }
 }
 
 /// An update stops at no Good verdict.
@@ -188,7 +228,7 @@ fn status_of_outside(failed: SiteFailed) -> Status
 {
     match failed {
         SiteFailed::Fault => Status::SiteFault,
-        SiteFailed::TooLarge(number) => over(What::FileSize, number),
+        SiteFailed::TooLarge(_) => over(What::FileSize),
         SiteFailed::Memory => Status::Memory,
     }
 }
@@ -250,6 +290,8 @@ impl fmt::Display for Status {
                 rule.dir, rule.text
             ),
             Status::Usage { place } => write!(f, "fault: usage, word {place}"),
+            Status::NotInit => f.write_str("fault: no tup project here"),
+            Status::AlreadyInit => f.write_str("fault: already a tup project"),
             Status::BadStore { offset } => write!(
                 f,
                 "fault: the store is damaged at byte {offset}"

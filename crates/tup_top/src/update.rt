@@ -1,27 +1,34 @@
 //! An update, and what is told of it.
-ghost use Rattle.std.specs.Prelude.{◌≡◌, [], ◌∷◌, IsTrue, IfSome, Ok};
+ghost use Rattle.std.specs.Prelude.{◌≡◌, [], ◌∷◌, ◌++◌, IsTrue, IfOk, IfSome, Ok};
 ghost use Rattle.tup_path.specs.Resolve.{resolve};
-ghost use Rattle.tup_site.specs.Crash.{GoesOn};
-ghost use Rattle.tup_site.specs.Memory.{world_in};
+ghost use Rattle.tup_site.specs.Crash.{GoesOn, LeavesOnly};
+ghost use Rattle.tup_site.specs.Memory.{world_in, tree_in, store_in};
 ghost use Rattle.tup_mini.specs.Means.{mini_next};
-ghost use Rattle.tup_update.specs.Images.{UpdateStep};
+ghost use Rattle.tup_table.specs.Store.{header};
+ghost use Rattle.tup_kept.specs.Cause.{OnlyOutside};
+ghost use Rattle.tup_ledger.specs.Listing.{IsSafe};
+ghost use Rattle.tup_ledger.specs.Sources.{HasSources, Kept};
+ghost use Rattle.tup_update.specs.Images.{UpdateStep, with_outputs};
 ghost use Rattle.tup_update.specs.Log.{OfRules};
 ghost use Rattle.tup_update.specs.Ran.{RunsThese};
 ghost use Rattle.tup_update.specs.Settled.{IsSettled};
 ghost use Rattle.tup_update.specs.Outcome.{ExactlyTheFiles, MadeBeforeBad, SourcesStay, NothingForgotten, HasCause};
 ghost use Rattle.tup_top.specs.Crew.{RanFits, RanInTurn};
+ghost use Rattle.tup_top.specs.Printed as specs;
 ghost use Rattle.tup_top.specs.Printed.{PrintsUpdate, demo_world};
 ghost use Rattle.tup_top.specs.Promise.{CountsAll, HasCountedCause, HasDemoCause, StopsDemo, counts};
-ghost use Rattle.tup_top.specs.Status.{came_to};
+ghost use Rattle.tup_top.specs.Status.{IfCame};
 
-use crate::print::{lines, print};
-use crate::status::{Status, status_of};
+use crate::print::{lines, print, tell};
+use crate::status::{Status, status_of, status_of_begun};
 use std::alloc::Global;
+use tup_graph::GraphFault;
+use tup_ledger::begin;
 use tup_mini::Mini;
 use tup_path::{Bytes, Items, Path};
 use tup_rule::RuleName;
 use tup_runner::Runner;
-use tup_site::{MemSite, Site};
+use tup_site::{MemRefused, MemSite, Site};
 use tup_tell::Sink;
 use tup_update::{Update, update_site};
 
@@ -40,36 +47,40 @@ pub(crate) fn update<S: Site, R: Runner, K: Sink>(
     out: &mut K,
 ) -> Updated
     ensures exactly_the_files { IsTrue S.tells → IsTrue R.tells → let old = S.world site.old in
-        IfSome (came_to result.status)
+        IfCame result.status
         (OfRules old (λ rules. ExactlyTheFiles R.next rules old (S.world site.new))) }
     ensures made_before_bad { IsTrue S.tells → IsTrue R.tells → let old = S.world site.old in
-        IfSome (came_to result.status)
+        IfCame result.status
         (OfRules old (λ rules. MadeBeforeBad R.next rules old (S.world site.new))) }
     ensures sources_stay { IsTrue S.tells → SourcesStay (S.world site.old) (S.world site.new) }
     ensures nothing_forgotten { IsTrue S.tells → let old = S.world site.old in
-        IfSome (came_to result.status)
+        IfCame result.status
         (OfRules old (λ rules. NothingForgotten R.tells R.next rules old (S.world site.new))) }
     ensures crash { IsTrue S.tells → let old = S.world site.old in
-        IfSome (came_to result.status) (OfRules old (λ rules _.
+        IfCame result.status (OfRules old (λ rules _.
         GoesOn S.moment S.left_since site.old site.new (UpdateStep R.tells R.next rules old))) }
+    ensures images { IsTrue S.tells → (kept : Kept) → IsSafe S.moment S.left_since site.old kept
+        → IfCame result.status (OfRules (S.world site.old) (λ rules _.
+        LeavesOnly S.moment S.left_since site.old site.new
+        (HasSources (with_outputs rules kept)))) }
     ensures settled { IsTrue S.tells → let left = S.left_since site.new (S.moment site.new) in
-        IfSome (came_to result.status) (IsSettled left (S.world site.new)) }
+        IfCame result.status (IsSettled left (S.world site.new)) }
     ensures cause { IsTrue S.tells → IsTrue R.tells → let old = S.world site.old in
-        IfSome (came_to result.status)
+        IfCame result.status
         (OfRules old (λ rules. HasCause R.next rules old (S.world site.new))) }
     ensures counted_cause { let counted = counts S.faults R.faults K.faults in
         let before = counted site.old (runner.old ∷ []) out.old in
         let now = counted site.new (runner.new ∷ []) out.new in
         HasCountedCause before now result.status }
     ensures begun { IsTrue S.tells → IsTrue R.tells → let old = S.world site.old in
-        IfSome (came_to result.status)
+        IfCame result.status
         (OfRules old (λ rules. RanFits R.next rules old result.ran)) }
     ensures in_turn { IsTrue S.tells → let old = S.world site.old in
-        IfSome (came_to result.status) (OfRules old (λ rules. RanInTurn rules result.ran)) }
-    ensures ran { IsTrue R.tells_ran → IfSome (came_to result.status)
+        IfCame result.status (OfRules old (λ rules. RanInTurn rules result.ran)) }
+    ensures ran { IsTrue R.tells_ran → IfCame result.status
         (RunsThese result.ran (R.ran runner.old) (R.ran runner.new)) }
     ensures told { IsTrue S.tells → IsTrue R.tells → let old = S.world site.old in
-        IfSome (came_to result.status)
+        IfCame result.status
         (OfRules old (λ rules _. CountsAll R.next rules old result.status)) }
     ensures printed { IsTrue S.tells → IsTrue R.tells → IsTrue K.tells
         → let before = K.faults out.old in let now = K.faults out.new in
@@ -95,30 +106,57 @@ pub(crate) fn update<S: Site, R: Runner, K: Sink>(
     }
 }
 
-/// Updates a small project in memory and prints the lines of this update.
+/// Begins a small project in memory, updates it, and prints the lines of this update.
 pub(crate) fn demo<K: Sink>(alloc: Global, out: &mut K) -> Status
     ensures cause { HasDemoCause (K.faults out.old) (K.faults out.new) result }
-    ensures stops { IfSome (came_to result) StopsDemo }
+    ensures stops { IfCame result StopsDemo }
     ensures printed { IsTrue K.tells
         → let before = K.faults out.old in let now = K.faults out.new in
         PrintsUpdate mini_next demo_world before now (K.held out.old) (K.held out.new) result }
 {
     match demo_site(alloc) {
-        Some(mut site) => update(alloc, &mut site, &mut Mini::new(alloc), out).status,
-        None => Status::Memory,
+        Ok(mut site) => update(alloc, &mut site, &mut Mini::new(alloc), out).status,
+        Err(fault) => tell(alloc, status_of_begun(Err(fault)), out),
     }
 }
 
-/// The small project, or nothing where there is no memory.
-fn demo_site(alloc: Global) -> Option<MemSite>
-    ensures { IfSome result (λ site. world_in site ≡ demo_world) }
+/// The small project, begun.
+fn demo_site(alloc: Global) -> Result<MemSite, GraphFault>
+    ensures holds { IfOk result (λ site. world_in site ≡ demo_world) }
+    ensures outside { OnlyOutside result }
 {
-    let files = vec![in alloc;
+    let Some(files) = demo_files(alloc) else {
+        return Err(GraphFault::Memory);
+    };
+    match MemSite::new(alloc, files, Vec::new(alloc)) {
+        Ok(site) => begun(alloc, site),
+        Err(MemRefused::Memory) => Err(GraphFault::Memory),
+        // Two contents have one stamp, so that the site can't tell them apart.
+        Err(_) => Err(GraphFault::Site),
+    }
+}
+
+/// A project that begins where there is no store.
+fn begun(alloc: Global, site: MemSite) -> Result<MemSite, GraphFault>
+    requires { store_in site ≡ [] }
+    ensures files { IfOk result (λ begun. tree_in begun ≡ tree_in site) }
+    ensures store { IfOk result (λ begun. store_in begun ≡ header ++ 0 ∷ []) }
+    ensures outside { OnlyOutside result }
+{
+    let mut site = site;
+    begin(alloc, &mut site)?;
+    Ok(site)
+}
+
+/// The files of the small project.
+fn demo_files(alloc: Global) -> Option<Vec<(Path, Bytes)>>
+    ensures { IfSome result (λ files. files.items ≡ specs.demo_files) }
+{
+    vec![in alloc;
         file(alloc, "Tupfile", b": a |> cp a b |> b\n")?,
         file(alloc, "a", b"hi\n")?,
     ]
-    .ok()?;
-    MemSite::new(alloc, files, Vec::new(alloc)).ok()
+    .ok()
 }
 
 /// A file at a path below the top.

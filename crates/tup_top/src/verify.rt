@@ -1,12 +1,12 @@
 //! A comparison of the files of a site with a clean build of its sources, and what is told of it.
-ghost use Rattle.std.specs.Prelude.{[], ◌∷◌, IsTrue, IfSome};
+ghost use Rattle.std.specs.Prelude.{[], ◌∷◌, IsTrue};
 ghost use Rattle.std.specs.Result.{result_err};
 ghost use Rattle.tup_site.specs.Crash.{GoesOn};
 ghost use Rattle.tup_update.specs.Compared.{HasCompared, RunsToCompare};
 ghost use Rattle.tup_update.specs.Holding.{HoldsOn};
 ghost use Rattle.tup_top.specs.Printed.{PrintsComparison};
 ghost use Rattle.tup_top.specs.Promise.{HasComparedCause, counts};
-ghost use Rattle.tup_top.specs.Status.{compared_to};
+ghost use Rattle.tup_top.specs.Status.{IfCompared};
 
 use crate::print::{compared_line, print};
 use crate::status::{Status, status_of_compared};
@@ -25,11 +25,11 @@ pub(crate) fn verify<S: Site, R: Runner, K: Sink>(
     out: &mut K,
 ) -> Status
     ensures compared { IsTrue S.tells → IsTrue R.tells
-        → IfSome (compared_to result) (HasCompared R.next (S.world site.old)) }
+        → IfCompared result (HasCompared R.next (S.world site.old)) }
     ensures holds { IsTrue S.tells → HoldsOn (S.world site.old) (S.world site.new) }
     ensures crash { IsTrue S.tells → GoesOn S.moment S.left_since site.old site.new HoldsOn }
     ensures ran { IsTrue S.tells → IsTrue R.tells → IsTrue R.tells_ran
-        → let old = S.world site.old in IfSome (compared_to result) (λ compared.
+        → let old = S.world site.old in IfCompared result (λ compared.
         RunsToCompare R.next old (R.ran runner.old) (R.ran runner.new) (result_err compared)) }
     ensures counted_cause { let counted = counts S.faults R.faults K.faults in
         let before = counted site.old (runner.old ∷ []) out.old in

@@ -12,14 +12,15 @@ use tup_rows::try_file_by;
 
 /// Tries the rows.
 fn main(rt: HostRuntime) -> io::Result<()> {
+    try_rows(&rt, rt.alloc(), "init.rows")?;
     try_rows(&rt, rt.alloc(), "tup.rows")?;
     try_rows(&rt, rt.alloc(), "folders.rows")?;
     try_rows(&rt, rt.alloc(), "verify.rows")
 }
 
-/// Tries the rows of a file, from an empty project on.
+/// Tries the rows of a file, from a folder without a project on.
 fn try_rows<R: Files + Print>(rt: &R, alloc: Global, name: &str) -> io::Result<()> {
-    match Session::new(alloc, 0, 0) {
+    match Session::new(alloc) {
         Ok(session) => try_file_by(rt, alloc, name, session),
         Err(fault) => println!(rt; "{name}: {fault}"),
     }

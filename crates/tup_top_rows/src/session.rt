@@ -3,7 +3,7 @@ use crate::failing::Failing;
 use std::alloc::Global;
 use tup_graph::GraphFault;
 use tup_kept::Graph;
-use tup_ledger::{open, owned_paths};
+use tup_ledger::{begin, open, owned_paths};
 use tup_path::{Bytes, Items, Path, Paths};
 use tup_rows::{Answers, RowFault, Words};
 use tup_rule::RuleName;
@@ -29,9 +29,11 @@ pub(crate) struct Session {
 impl Answers for Session {
     fn answer(&mut self, alloc: Global, call: &str, said: &Words) -> Result<Words, RowFault> {
         Ok(match call {
-            "project" => self.begin(alloc, 0, 0),
-            "failing" => self.begin(alloc, said.number_at(0), 0),
-            "failing_run" => self.begin(alloc, 0, said.number_at(0)),
+            "folder" => self.begin(alloc, folder(alloc, 0), 0),
+            "failing_folder" => self.begin(alloc, folder(alloc, said.number_at(0)), 0),
+            "project" => self.begin(alloc, started(alloc, 0), 0),
+            "failing" => self.begin(alloc, started(alloc, said.number_at(0)), 0),
+            "failing_run" => self.begin(alloc, started(alloc, 0), said.number_at(0)),
             "tup" => self.call(alloc, said, 0),
             "tup_unheard" => self.call(alloc, said, 1),
             _ => match &mut self.project {
@@ -43,26 +45,27 @@ impl Answers for Session {
 }
 
 impl Session {
-    /// An empty project whose site fails at the call of the one number, counted from 1, and whose runner
-    /// fails at the run of the other.
-    pub(crate) fn new(alloc: Global, fails: u64, run_fails: u64) -> Result<Session, RowFault> {
-        match MemSite::new(alloc, Vec::new(alloc), vec![in alloc; fails]?) {
-            Ok(site) => Ok(Session {
-                project: Some(Project {
-                    site,
-                    runner: Failing::new(alloc, run_fails),
-                    begun: Items::new(alloc),
-                }),
+    /// From a folder without a project on.
+    pub(crate) fn new(alloc: Global) -> Result<Session, RowFault> {
+        Ok(Session::over(alloc, folder(alloc, 0)?, 0))
+    }
+
+    /// Over a site, with a runner that fails at the run of this number, counted from 1.
+    fn over(alloc: Global, site: MemSite, run_fails: u64) -> Session {
+        Session {
+            project: Some(Project {
+                site,
+                runner: Failing::new(alloc, run_fails),
+                begun: Items::new(alloc),
             }),
-            Err(_) => Err(RowFault::Memory),
         }
     }
 
-    /// Begins an empty project whose site and runner fail so.
-    fn begin(&mut self, alloc: Global, fails: u64, run_fails: u64) -> Words {
-        match Session::new(alloc, fails, run_fails) {
-            Ok(session) => {
-                *self = session;
+    /// Goes on with another site and another runner.
+    fn begin(&mut self, alloc: Global, site: Result<MemSite, RowFault>, run_fails: u64) -> Words {
+        match site {
+            Ok(site) => {
+                *self = Session::over(alloc, site, run_fails);
                 Words::done(alloc)
             }
             Err(fault) => Words::none(alloc, fault),
@@ -108,6 +111,32 @@ impl Session {
         let mut answer = Words::shown(alloc, &status.exit());
         answer.put(alloc, out.bytes().as_slice());
         answer
+    }
+}
+
+/// A folder without files and without a project, whose call of this number fails, counted from 1.
+fn folder(alloc: Global, fails: u64) -> Result<MemSite, RowFault> {
+    match MemSite::new(alloc, Vec::new(alloc), vec![in alloc; fails]?) {
+        Ok(site) => Ok(site),
+        Err(_) => Err(RowFault::Memory),
+    }
+}
+
+/// A project without files, of which the call of this number fails behind its beginning.
+fn started(alloc: Global, fails: u64) -> Result<MemSite, RowFault> {
+    let begun = begun_over(alloc, folder(alloc, 0)?)?;
+    if fails == 0 {
+        return Ok(begun);
+    }
+    begun_over(alloc, folder(alloc, begun.calls().saturating_add(fails))?)
+}
+
+/// A folder in which a project begins.
+fn begun_over(alloc: Global, site: MemSite) -> Result<MemSite, RowFault> {
+    let mut site = site;
+    match begin(alloc, &mut site) {
+        Ok(_) => Ok(site),
+        Err(_) => Err(RowFault::Memory),
     }
 }
 

@@ -11,8 +11,8 @@ use Rattle.std.specs.Result.{result_err}
 use Rattle.tup_update.specs.Holding.{Holding, HoldsOn}
 use Rattle.tup_update.specs.Log.{IsPartOf, LogFits, RulesFit, whole_log}
 use Rattle.tup_update.specs.Outcome.{AllIsMade, ClaimedListed, ExactlyTheFiles, HasCause, HasNoRoom, IsBadRule, IsBehindBad, IsLeft, IsListed, IsMade, Keeps, MadeBeforeBad, NothingForgotten, Stays, claimed}
-use Rattle.tup_update.specs.Parts.{StopsMaking}
-use Rattle.tup_update.specs.Sources.{IsAsked, outputs, sources}
+use Rattle.tup_update.specs.Parts.{HasFileOf, StopsMaking}
+use Rattle.tup_update.specs.Sources.{IsAsked, build, outputs, sources}
 use Rattle.tup_update.specs.declared.stop.Stop.{Stop}
 use Rattle.tup_update.specs.declared.stop.Stop.TheVariants.{NoStore, BadStore, Sources, Bad, Run, Full, Outside}
 use Rattle.tup_update.specs.declared.update.Log.{Log}
@@ -100,7 +100,7 @@ module _ (rules : List Rule) (old mid new : World) (on : HoldsOn old mid) where
     cause_before (Some Run) makes why = tt
     cause_before (Some Full) makes why = held_before old mid on (λ held. HasNoRoom rules held new) why
     cause_before (Some (Outside Fault)) makes why = tt
-    cause_before (Some (Outside (TooLarge n))) makes why = why
+    cause_before (Some (Outside (TooLarge n))) makes why = held_before old mid on (λ held. HasFileOf n (build next rules held).tree) why
     cause_before (Some (Outside Memory)) makes why = tt
 
     abbrev tells_part : Holding → Type 0

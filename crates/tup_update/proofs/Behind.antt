@@ -7,25 +7,27 @@ use Rattle.std.specs.List.{slice_get, slice_set}
 use Rattle.tup_path.specs.Name.{Names}
 use Rattle.tup_path.specs.Tree.{Tree}
 use Rattle.tup_rule.specs.declared.rule.Rule.{Rule}
-use Rattle.tup_rule.specs.Rule.{writes, maker, is_generated}
-use Rattle.tup_rule.proofs.Laws.{maker-Some, is_generated-at}
+use Rattle.tup_rule.specs.Rule.{declares, writes, maker, is_generated}
+use Rattle.tup_rule.proofs.Laws.{maker-Some, is_generated-at, writes-at}
 use Rattle.tup_runner.specs.Next.{Next}
+use Rattle.tup_access.specs.Access.{may_read}
 use Rattle.tup_access.specs.declared.verdict.Verdict.{Verdict}
 use Rattle.tup_access.specs.declared.verdict.Verdict.TheVariants.{Good}
 use Rattle.tup_access.specs.Verdict.{verdict}
 use Rattle.tup_clean.specs.AnyOrder.{MakeApart}
 use Rattle.tup_clean.specs.Clean.{Build, is_good, good_at, first_ready, given, builds_on, start, clean, with_files}
 use Rattle.tup_clean.specs.Taken.{Taken, verdicts_of, takes, up_to_bad}
-use Rattle.tup_clean.proofs.Agreeing.{IsMadeByGood}
+use Rattle.tup_clean.proofs.Agreeing.{IsMadeByGood, ready_behind}
 use Rattle.tup_clean.proofs.Among.{is_generated-maker}
 use Rattle.tup_clean.proofs.Building.{step-some, step-none, built_clean}
 use Rattle.tup_clean.proofs.Growing.{stays_good, was_good}
 use Rattle.tup_clean.proofs.Places.{set_here, set_apart}
-use Rattle.tup_clean.proofs.Putting.{get-put_apart}
+use Rattle.tup_clean.proofs.Putting.{declared_since, get-put_apart}
 use Rattle.tup_clean.proofs.Standing.{ready_untaken, ready_stands}
 use Rattle.tup_clean.proofs.VerdictLaws.{verdict-leaves}
 use Rattle.tup_clean.proofs.Whole.{good_is, is_good_at}
-use Rattle.tup_update.specs.Parts.{HasMade, Leaves, SameBeside, SameUnmade}
+use Rattle.tup_update.specs.Outside.{HasReadableOf}
+use Rattle.tup_update.specs.Parts.{HasFileOf, HasMade, Leaves, SameBeside, SameUnmade}
 use Rattle.tup_update.specs.Sources.{is_good_maker, is_made}
 use Rattle.tup_update.proofs.Turning.{IsBuilding, verdicts_of_more}
 
@@ -140,6 +142,22 @@ module _ (rules : List Rule) where
           by at rule here other true own = absurd (other (apart place at mine rule path stands here makes own))
           by at rule here other false is = is
 
+    -- ---- a file that no rule makes stays too
+
+    module _ (next : Next) (path : Names) (none : is_generated rules path ≡ false) where
+      unmade_stays : (steps : ℕ) (build : Build) → finite.get (builds_on steps next rules build).tree path ≡ finite.get build.tree path
+      unmade_stays zero build = refl
+      unmade_stays (suc steps) build =
+          let Stays : Type 0 = finite.get (builds_on (suc steps) next rules build).tree path ≡ finite.get build.tree path in
+          elim (first_ready rules build.verdicts) as (λ f. first_ready rules build.verdicts ≡ f → Stays) [
+            | None ↦ λ still. ap (λ (b : Build). finite.get b.tree path) (step-none next rules (suc steps) build still)
+            | Some at ↦ λ ready.
+                let found = ready_stands rules build.verdicts at ready in
+                ap (λ (b : Build). finite.get b.tree path) (step-some next rules steps build at found.0 ready found.1)
+                ∙ unmade_stays steps (given next rules build at found.0)
+                ∙ get-put_apart next rules found.0 build.tree build.tree path (writes-at rules path at found.0 none found.1)
+          ] refl
+
     -- ---- behind a bad rule
 
     module _ (next : Next) (sources : Tree) (count : ℕ) (ended : List Taken) (tree : Tree) (is : IsBuilding next rules sources count ended tree) where
@@ -154,6 +172,33 @@ module _ (rules : List Rule) where
           is.agrees.at_path path (made_by_good is.now.verdicts path (record { at = maker.at; makes = maker.makes; good = good }))
           ∙ sym (file_stays next path maker.at found.rule found.here found.writes_it (length rules - count) is.now (good_is is.now.verdicts maker.at good))
           ∙ ap (λ (b : Build). finite.get b.tree path) whole
+
+      -- what a rule that is ready may read there, and doesn't write, stands as the clean build gives it
+      read_is : (at : ℕ) (rule : Rule) → first_ready rules (verdicts_of rules ended) ≡ Some at → slice_get rules at ≡ Some rule → (path : Names) → may_read rules rule path ≡ true → writes rule path ≡ false →
+          finite.get tree path ≡ finite.get (clean next rules sources).tree path
+      read_is at rule ready here path readable foreign = by (is_generated rules path) refl
+        where
+          by : (b : Bool) → is_generated rules path ≡ b → finite.get tree path ≡ finite.get (clean next rules sources).tree path
+          by true generated =
+              let maker = is_generated-maker rules path generated in
+              let declared : declares rule path ≡ true = declared_since _ _ _ readable generated foreign in
+              made_is path (record { at = maker.0; makes = maker.1; good = ready_behind rules (verdicts_of rules ended) at rule ready here maker.0 (0, (path, declared, maker.1)) })
+          by false none =
+              is.agrees.at_path path (λ other another there own. absurd (false≢true (sym none ∙ is_generated-at rules path other another there own)))
+              ∙ sym (unmade_stays next path none (length rules - count) is.now)
+              ∙ ap (λ (b : Build). finite.get b.tree path) whole
+
+      -- so what is too large for it is so there
+      pub large_is : (at : ℕ) (rule : Rule) → first_ready rules (verdicts_of rules ended) ≡ Some at → slice_get rules at ≡ Some rule → (after : Tree) → SameBeside rule.outputs tree after → (n : ℕ) →
+          HasReadableOf n rules rule after → HasFileOf n (clean next rules sources).tree
+      large_is at rule ready here after beside n has = (
+        has.path,
+        record {
+          content = has.large.content;
+          found = sym (beside has.path has.foreign ∙ read_is at rule ready here has.path has.readable has.foreign) ∙ has.large.found;
+          bytes = has.large.bytes;
+        },
+      )
 
       module _ (at : ℕ) (rule : Rule) (ready : first_ready rules (verdicts_of rules ended) ≡ Some at) (here : slice_get rules at ≡ Some rule) (after : Tree) (came : Verdict)
           (left : Leaves (verdict next rules rule tree) tree after came) (bad : is_good (Some came) ≡ false) where

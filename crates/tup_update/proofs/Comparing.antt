@@ -30,7 +30,7 @@ use Rattle.tup_clean.proofs.Places.{some_place}
 use Rattle.tup_clean.proofs.Standing.{ready_stands}
 use Rattle.tup_clean.proofs.Whole.{good_is}
 use Rattle.tup_clean.proofs.Turns.{all_are_good, is_the_good, succeeds_all}
-use Rattle.tup_update.proofs.Reading.{from_T}
+use Rattle.tup_update.proofs.Reading.{from_T, source_is}
 use Rattle.tup_update.specs.Compared.{AreCompared, HasCompared, HasBuilt, BuildsWell, BuildsAlike, IsGoodBuild, NoneIsBad, RunsBuildOf, RunsIt, RunsToCompare, compared_at, difference, first_of, same_file}
 use Rattle.tup_update.specs.Parts.{HasFileOf, IsUnread, NoDamage}
 use Rattle.tup_update.proofs.Held.{shown_before}
@@ -245,7 +245,7 @@ module _ (next : Next) (w : World) where
   pub unread_compared : (unread : Unread) → IsUnread w unread → HasCompared next w (Err (stop_of unread))
   unread_compared (NoRules fault) why = why
   unread_compared (Unlucky Fault) why = tt
-  unread_compared (Unlucky (TooLarge n)) why = why
+  unread_compared (Unlucky (TooLarge n)) (held, shows, (path, large)) = (path, source_is held w shows path n large)
   unread_compared (Unlucky Memory) why = tt
 
   -- where the outside stops it behind the build, all of it was run

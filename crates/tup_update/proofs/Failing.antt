@@ -1,5 +1,5 @@
 -- Why a site gave no file, as its refusal tells it, and what becomes of a command then.
-use Rattle.std.proofs.Common.{◌≡◌, ℕ, Bool, IsTrue, IsSome, IfOk, List, [], Result, Err, Option, None, Some, refl, sym, ◌∙◌, ap, subst}
+use Rattle.std.proofs.Common.{◌≡◌, ℕ, Bool, true, false, IsTrue, IsSome, IfOk, List, [], Result, Err, Option, None, Some, refl, sym, ◌∙◌, ap, subst}
 use Rattle.std.proofs.lemmas.Bool.{false≢true}
 use Rattle.std.proofs.lemmas.Option.{same_Some}
 use Rattle.tup_path.specs.Name.{Names, Content}
@@ -9,6 +9,7 @@ use Rattle.tup_site.specs.Cause.{CountsFaults, OnlyLarge, NamesLength, IsTooLarg
 use Rattle.tup_site.specs.declared.fault.SiteFailed.{SiteFailed}
 use Rattle.tup_site.specs.declared.fault.SiteFailed.TheVariants.{Fault, TooLarge}
 use Rattle.tup_rule.specs.declared.rule.Rule.{Rule}
+use Rattle.tup_rule.specs.Rule.{writes}
 use Rattle.tup_runner.specs.Next.{Next, Asks}
 use Rattle.tup_runner.specs.Refusal.{Refusal}
 use Rattle.tup_runner.specs.Run.{RunsAs, WasRefused}
@@ -16,7 +17,7 @@ use Rattle.tup_runner.specs.declared.fault.RunFailed.{RunFailed}
 use Rattle.tup_runner.specs.declared.fault.RunFailed.TheVariants.{Denied as RunDenied, View as RunView, Fault as RunFault, Memory as RunMemory}
 use Rattle.tup_runner.specs.declared.fault.ViewFailed.{ViewFailed}
 use Rattle.tup_runner.specs.declared.fault.ViewFailed.TheVariants.{Denied as ViewDenied, Fault as ViewFault}
-use Rattle.tup_access.specs.Access.{access}
+use Rattle.tup_access.specs.Access.{access, may_read}
 use Rattle.tup_access.specs.Answered.{HasSeen}
 use Rattle.tup_access.specs.Judge.{IsJudged}
 use Rattle.tup_access.specs.Verdict.{verdict}
@@ -28,16 +29,16 @@ use Rattle.tup_update.specs.declared.view.Refused.{Refused}
 use Rattle.tup_update.specs.declared.view.Refused.TheVariants.{Denied, Failed}
 use Rattle.tup_update.specs.Seeing.{IsCause, ComesTo, refusal_of}
 
-pub cause_of : {T : Type 0} (tells : Bool) (old new : World) (path : Names) (before now : ℕ) (result : Result T SiteFailed) (failed : SiteFailed) → result ≡ Err failed → CountsFaults before now result → OnlyLarge result →
-    (IsTrue tells → NamesLength old.tree path result) → (IsTrue tells → new ≡ old) → IsCause tells new before now failed
-cause_of tells old new path before now result failed is counts only names same = record {
+pub cause_of : {T : Type 0} (tells : Bool) (rules : List Rule) (rule : Rule) (old new : World) (path : Names) (before now : ℕ) (result : Result T SiteFailed) (failed : SiteFailed) → may_read rules rule path ≡ true → writes rule path ≡ false →
+    result ≡ Err failed → CountsFaults before now result → OnlyLarge result → (IsTrue tells → NamesLength old.tree path result) → (IsTrue tells → new ≡ old) → IsCause tells rules rule new before now failed
+cause_of tells rules rule old new path before now result failed readable foreign is counts only names same = record {
   counted = record {
     later = counts.later;
     fault = λ e. let f : failed ≡ Fault = cc in counts.fault (is ∙ ap Err f);
     steady = λ other. counts.steady (λ e. let f : failed ≡ Fault = cc in other (ap Err f));
   };
   only = λ n e. let f : failed ≡ TooLarge n = cc in only n (is ∙ ap Err f);
-  named = λ t n e. let f : failed ≡ TooLarge n = cc in (path, subst (λ (w : World). IsTooLarge w.tree path n) (sym (same t)) (names t n (is ∙ ap Err f)));
+  named = λ t n e. record { path = path; readable = readable; foreign = foreign; large = subst (λ (w : World). IsTooLarge w.tree path n) (sym (same t)) (names t n (is ∙ ap Err e)) };
 }
 
 -- where nothing was refused nothing is kept

@@ -19,7 +19,7 @@ use Rattle.tup_update.specs.Outcome.{Stays, Keeps, MadeBeforeBad, IsBehindBad, H
 use Rattle.tup_update.specs.Opened.{IsUnopened, StopsOpening}
 use Rattle.tup_update.specs.Outside.{HandsOn}
 use Rattle.tup_update.specs.Parts.{IsLate, IsOfRules, IsRefusal, IsUnread, KnowsLimits, Changes, SameBeside, SameBesideOutputs, IsCleared, IsRunnable, HasFileOf, HasRun, AreNoted, ArePartNoted, IsBuilt, IsProject, HasMade, StopsAt}
-use Rattle.tup_update.specs.Sources.{IsAsked, sources, files_beside, ends, outputs, vanished}
+use Rattle.tup_update.specs.Sources.{IsAsked, build, sources, files_beside, ends, outputs, vanished}
 use Rattle.tup_update.specs.Stopped.{stop_of, stop_of_halt}
 use Rattle.tup_update.specs.Turns.{names_of, AreInTurn, AreBegun, TurnsFit}
 use Rattle.tup_update.specs.declared.project.Project.{Project}
@@ -31,7 +31,7 @@ use Rattle.tup_update.specs.declared.stop.Unread.{Unread}
 use Rattle.tup_update.specs.declared.stop.Unread.TheVariants.{Sources, Outside as Unlucky}
 use Rattle.tup_update.specs.declared.update.Log.{Log}
 use Rattle.tup_update.proofs.Beside.{left_is}
-use Rattle.tup_update.proofs.Held.{of_held, holds_itself, holds_listed, shown_before}
+use Rattle.tup_update.proofs.Held.{of_held, holds_itself, holds_listed, shown_before, shows_one}
 use Rattle.tup_update.proofs.Behind.{none_made}
 use Rattle.tup_update.proofs.Ending.{sources_are_kept, no_front, whole_front, grown_from_nothing}
 use Rattle.tup_update.proofs.Known.{claimed_known, beside_ascending}
@@ -50,11 +50,14 @@ refusal_unread w paths (Unlucky Fault) lists refused = tt
 refusal_unread w paths (Unlucky (TooLarge n)) lists refused = absurd (cc refused)
 refusal_unread w paths (Unlucky Memory) lists refused = tt
 
-pub unread_cause : (next : Next) (rules : List Rule) (old new : World) (unread : Unread) → HoldsOn old new → IsUnread new unread → HasCause next rules old new (Some (stop_of unread))
-unread_cause next rules old new (Sources fault) on why = (why.0, shown_before old new on why.0 why.1, why.2)
-unread_cause next rules old new (Unlucky Fault) on why = tt
-unread_cause next rules old new (Unlucky (TooLarge n)) on why = why
-unread_cause next rules old new (Unlucky Memory) on why = tt
+pub unread_cause : (next : Next) (rules : List Rule) (old new : World) (unread : Unread) → rules ≡ [] → HoldsOn old new → IsUnread new unread → HasCause next rules old new (Some (stop_of unread))
+unfolding clean
+unread_cause next rules old new (Sources fault) none on why = (why.0, shown_before old new on why.0 why.1, why.2)
+unread_cause next rules old new (Unlucky Fault) none on why = tt
+unread_cause next rules old new (Unlucky (TooLarge n)) none on why =
+    subst (λ (rules : List Rule). OfHeld old (λ held. HasFileOf n (build next rules held).tree)) (sym none)
+    (λ held shows. subst (λ (h : Holding). HasFileOf n (sources h)) (shows_one old why.0 held (shown_before old new on why.0 why.1) shows) why.2)
+unread_cause next rules old new (Unlucky Memory) none on why = tt
 
 -- what is told of the rules tells of no failure of the site
 pub refusal_knows : (unread : Unread) → IsOfRules unread → KnowsLimits unread
@@ -226,7 +229,7 @@ late_turns rules ran ended Run late turns = absurd late
 late_turns rules ran ended Full late turns = turns
 late_turns rules ran ended (Outside failed) late turns = turns
 
-large_cause : (next : Next) (rules : List Rule) (old new : World) (halt : Halt) → ((n : ℕ) → halt ≡ Halted (TooLarge n) → HasFileOf n new.tree) → HasCause next rules old new (Some (stop_of_halt halt))
+large_cause : (next : Next) (rules : List Rule) (old new : World) (halt : Halt) → ((n : ℕ) → halt ≡ Halted (TooLarge n) → OfHeld old (λ held. HasFileOf n (build next rules held).tree)) → HasCause next rules old new (Some (stop_of_halt halt))
 large_cause next rules old new RunHalted large = tt
 large_cause next rules old new (Halted Fault) large = tt
 large_cause next rules old new (Halted (TooLarge n)) large = large n refl
@@ -424,11 +427,12 @@ module _ (project : Project) (old mid : World) (vanishing claiming : List Names)
       by (Halted (TooLarge n)) = inr (asks_then, listed now behind stored)
       by (Halted Memory) = inr (asks_then, inr (inl (listed now behind stored)))
 
-  pub unrun_keeps : (next : Next) (now : World) (before : List Names) (log : Log) (halt : Halt) → ((n : ℕ) → halt ≡ Halted (TooLarge n) → HasFileOf n now.tree) → before ≡ [] →
+  pub unrun_keeps : (next : Next) (now : World) (before : List Names) (log : Log) (halt : Halt) → ((n : ℕ) → halt ≡ Halted (TooLarge n) → HasFileOf n (clean next project.rules (files_beside project.owned mid.tree)).tree) → before ≡ [] →
       log.removed ≡ before ++ vanishing → ArePartNoted project.rules (up_to_bad (takes next project.rules (files_beside project.owned mid.tree))) log.ran log.ended →
       Keeps next project.rules old now (with_read project.read log) (Some (stop_of_halt halt))
   unrun_keeps next now before log halt large none removed noted =
-      halted_keeps project old way.is next now log halt (large_cause next project.rules old now halt large)
+      halted_keeps project old way.is next now log halt (large_cause next project.rules old now halt
+      (λ n e. kept_then (λ held. HasFileOf n (build next project.rules held).tree) (subst (λ (t : Tree). HasFileOf n (clean next project.rules t).tree) same_run (large n e))))
       (whole_front log.removed (vanished project.rules held_then) (removed_whole before log.removed none removed))
       (subst (λ (l : List Taken). ArePartNoted project.rules l log.ran log.ended) (same_ends next) noted)
 

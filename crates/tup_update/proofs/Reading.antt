@@ -24,12 +24,16 @@ use Rattle.tup_link.specs.declared.fault.What.TheVariants.{Commands, Links}
 use Rattle.tup_whole.specs.Project.{ComeTo}
 use Rattle.tup_whole.specs.declared.fault.ProjectFault.{ProjectFault}
 use Rattle.tup_whole.specs.declared.fault.ProjectFault.TheVariants as project
-use Rattle.tup_update.specs.Holding.{Lists, holding}
+use Rattle.tup_site.specs.Cause.{IsTooLarge}
+use Rattle.tup_site.specs.declared.fault.SiteFailed.{SiteFailed}
+use Rattle.tup_site.specs.declared.fault.SiteFailed.TheVariants.{Fault, TooLarge, Memory}
+use Rattle.tup_update.specs.Holding.{Holding, Lists, Shows, holding}
 use Rattle.tup_update.specs.Parts.{AddsFile, AgreesOnItsFiles, IsFolderOf, IsFound, IsRefusal, IsTooMany, IsUnread}
 use Rattle.tup_update.specs.Sources.{files_beside, folder_of_tupfile, sources, ReadAs}
 use Rattle.tup_update.specs.Stopped.{unread_of_project}
 use Rattle.tup_update.specs.declared.found.Found.{Found}
 use Rattle.tup_update.specs.declared.stop.Unread.{Unread}
+use Rattle.tup_update.specs.declared.stop.Unread.TheVariants.{Outside as Unlucky}
 use Rattle.tup_update.proofs.Beside.{get_beside, left_is}
 
 keys-where_key : (p : Names → Bool) (entries : List (Names × Content)) →
@@ -226,3 +230,27 @@ folders_more sources at file within here =
 pub from_T : (b : Bool) → T b → b ≡ true
 from_T true h = refl
 from_T false h = absurd h
+
+-- a file of the sources is the tree's
+pub source_is : (held : Holding) (w : World) → Shows w held → (path : Names) (n : ℕ) → IsTooLarge (sources held) path n → IsTooLarge w.tree path n
+source_is held w shows path n large = record {
+  content = large.content;
+  found =
+      ap (λ (t : Tree). finite.get t path) (sym shows.tree)
+      ∙ sym (left_is held.owned held.tree path (subst (λ (found : Option Content). IsSome found) (sym large.found) refl)).1 ∙ large.found;
+  bytes = large.bytes;
+}
+
+-- one of the sources is too large
+pub large_unread : (w : World) (owned paths : List Names) (failed : SiteFailed) → Lists w.store owned → finite.keys (files_beside owned w.tree) ≡ paths →
+    ((n : ℕ) → failed ≡ TooLarge n → (path : Names) × (among path paths ≡ true) × IsTooLarge w.tree path n) → IsUnread w (Unlucky failed)
+large_unread w owned paths Fault lists keys named = tt
+large_unread w owned paths Memory lists keys named = tt
+large_unread w owned paths (TooLarge n) lists keys named =
+    let found = named n refl in
+    let path = found.0 in
+    let there : IsSome (finite.get (files_beside owned w.tree) path) = sym (among_their_keys (files_beside owned w.tree) path) ∙ ap (among path) keys ∙ found.1 in (
+      holding w owned,
+      record { lists = lists; tree = refl },
+      (path, record { content = found.2.content; found = (left_is owned w.tree path there).1 ∙ found.2.found; bytes = found.2.bytes }),
+    )

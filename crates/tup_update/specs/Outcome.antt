@@ -73,7 +73,7 @@ pub record LacksRoom (edits : GraphState → List Edit) (w : World) : Type 0 whe
 abbrev pub HasNoRoom : List Rule → Holding → World → Type 0
 HasNoRoom rules old new = LacksRoom (λ g. own_edits g (outputs rules)) new ⊎ LacksRoom (λ g. forget_edits g (left_over old.owned rules)) new
 
--- why an update stops, where the site tells
+-- Why an update stops, where the site tells. What is too large is a file of the clean build: where no rules were read, a source.
 abbrev pub HasCause : Next → List Rule → World → World → Option Stop → Type 0
 HasCause next rules old new (Some NoStore) = old.store ≡ []
 HasCause next rules old new (Some (BadStore offset)) = IsDamaged old.store offset
@@ -81,7 +81,7 @@ HasCause next rules old new (Some (Sources fault)) = IsRefused old fault
 HasCause next rules old new (Some (Bad name verdict)) = OfHeld old (λ held. IsBadRule next rules held name verdict)
 HasCause next rules old new (Some Run) = ⊤
 HasCause next rules old new (Some Full) = OfHeld old (λ held. HasNoRoom rules held new)
-HasCause next rules old new (Some (Outside (TooLarge n))) = HasFileOf n new.tree
+HasCause next rules old new (Some (Outside (TooLarge n))) = OfHeld old (λ held. HasFileOf n (build next rules held).tree)
 HasCause next rules old new (Some (Outside SiteFault)) = ⊤
 HasCause next rules old new (Some (Outside Memory)) = ⊤
 HasCause next rules old new None = ⊤

@@ -18,7 +18,7 @@ use Rattle.tup_runner.specs.Next.{Next}
 use Rattle.tup_clean.specs.Buildable.{IsBuildable}
 use Rattle.tup_clean.specs.Clean.{Build, clean, is_good, succeeds, with_files}
 use Rattle.tup_clean.specs.Taken.{Taken, takes, up_to_bad, verdicts_of}
-use Rattle.tup_update.specs.Holding.{Holding, Lists, holding}
+use Rattle.tup_update.specs.Holding.{Holding, Lists, Shows, holding}
 use Rattle.tup_update.specs.Log.{IsFront}
 use Rattle.tup_update.specs.Sources.{AsksFor, IsRefused, Refuses, PassesLimit, sources, files_beside, folder_of_tupfile, folders_read, is_made, is_made_in_turn}
 use Rattle.tup_update.specs.Turns.{names_of, EndsBadly}
@@ -50,10 +50,14 @@ IsRefusal held (Outside failed) = failed ≡ Memory
 abbrev pub HasFileOf : ℕ → Tree → Type 0
 HasFileOf n tree = (path : Names) × IsTooLarge tree path n
 
--- why a project couldn't be read: the sources ask for no rules, or a file is too large
+-- some source has so many bytes
+abbrev pub HasSourceOf : ℕ → World → Type 0
+HasSourceOf n w = (held : Holding) × Shows w held × HasFileOf n (sources held)
+
+-- why a project couldn't be read: the sources ask for no rules, or one of them is too large
 abbrev pub IsUnread : World → Unread → Type 0
 IsUnread w (NoRules fault) = IsRefused w fault
-IsUnread w (Outside (TooLarge n)) = HasFileOf n w.tree
+IsUnread w (Outside (TooLarge n)) = HasSourceOf n w
 IsUnread w (Outside Fault) = ⊤
 IsUnread w (Outside Memory) = ⊤
 
@@ -111,6 +115,10 @@ SameUnmade rules verdicts old new = (path : Names) → is_made rules verdicts pa
 -- nothing changes but owned files and outputs
 abbrev pub Changes : List Names → List Rule → Tree → Tree → Type 0
 Changes owned rules old new = (path : Names) → among path owned ≡ false → is_generated rules path ≡ false → finite.get new path ≡ finite.get old path
+
+-- what is too large is the file at one of these paths, of the length that the answer names
+abbrev pub NamesOneOf : {T : Type 0} → List Names → Tree → Result T SiteFailed → Type 0
+NamesOneOf paths tree result = (n : ℕ) → result ≡ Err (TooLarge n) → (path : Names) × (among path paths ≡ true) × IsTooLarge tree path n
 
 -- what is too large is a file of this tree, of the length that the answer names
 abbrev pub NamesALargeFile : {T : Type 0} → Tree → Result T SiteFailed → Type 0

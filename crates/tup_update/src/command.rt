@@ -5,7 +5,7 @@ ghost use Rattle.tup_access.specs.Judge.{IsJudged};
 ghost use Rattle.tup_access.specs.Verdict as specs;
 ghost use Rattle.tup_rule.specs.Rule.{name_of};
 ghost use Rattle.tup_site.specs.Crash.{GoesOn, NoStep};
-ghost use Rattle.tup_update.specs.Outside.{HandsOn, HandsOnLarge};
+ghost use Rattle.tup_update.specs.Outside.{HandsOn, HandsOnReadable};
 ghost use Rattle.tup_update.specs.Put.{AreOwn};
 ghost use Rattle.tup_update.specs.Ran.{RunsOne, CountsRuns};
 ghost use Rattle.tup_update.specs.Seeing.{ComesTo, IsDeclared};
@@ -38,7 +38,8 @@ pub(crate) fn run<S: Site, R: Runner>(
     ensures own { IfOk result (λ judged. AreOwn rule.now judged.1) }
     ensures same { IsTrue S.tells → S.world site.new ≡ S.world site.old }
     ensures crash { IsTrue S.tells → GoesOn S.moment S.left_since site.old site.new NoStep }
-    ensures large { IsTrue S.tells → HandsOnLarge Outside (S.world site.new).tree result }
+    ensures large { IsTrue S.tells
+        → HandsOnReadable Outside rules.now rule.now (S.world site.new).tree result }
     ensures ran { IsTrue R.tells_ran
         → RunsOne (name_of rule.now) (R.ran runner.old) (R.ran runner.new) result }
     ensures cause { HandsOn Outside (S.faults site.old) (S.faults site.new) result }
@@ -70,7 +71,8 @@ fn run_seeing<S: Site, R: Runner>(
     ensures own { IfOk result (λ judged. AreOwn sight.entry.rule.now judged.1) }
     ensures same { IsTrue S.tells → S.world site.new ≡ S.world site.old }
     ensures crash { IsTrue S.tells → GoesOn S.moment S.left_since site.old site.new NoStep }
-    ensures large { IsTrue S.tells → HandsOnLarge Outside (S.world site.new).tree result }
+    ensures large { IsTrue S.tells → let sight = sight.entry in let tree = (S.world site.new).tree in
+        HandsOnReadable Outside sight.rules.now sight.rule.now tree result }
     ensures ran { IsTrue R.tells_ran
         → RunsOne (name_of sight.entry.rule.now) (R.ran runner.old) (R.ran runner.new) result }
     ensures cause { HandsOn Outside (S.faults site.old) (S.faults site.new) result }

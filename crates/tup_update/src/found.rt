@@ -5,13 +5,13 @@ ghost use Rattle.tup_path.specs.Order.{by_names};
 ghost use Rattle.tup_path.specs.Tree.{Tree, IsTree};
 ghost use Rattle.tup_site.specs.Crash.{GoesOn, NoStep};
 ghost use Rattle.tup_site.specs.World.{World};
-ghost use Rattle.tup_site.specs.Cause.{CountsFaults, OnlyLarge};
+ghost use Rattle.tup_site.specs.Cause.{CountsFaults, NamesLength, OnlyLarge};
 ghost use Rattle.tup_clean.specs.Buildable.{IsBuildable};
 ghost use Rattle.tup_update.specs.Holding.{Lists, holding};
 ghost use Rattle.tup_update.specs.Outside.{HandsOn};
 ghost use Rattle.tup_update.specs.Parts.{IsFound, IsOfRules, IsRefusal, IsTooMany};
 ghost use Rattle.tup_update.specs.Parts.{KnowsLimits, IsUnread};
-ghost use Rattle.tup_update.specs.Parts.{AddsFile, AgreesOnItsFiles, NamesALargeFile};
+ghost use Rattle.tup_update.specs.Parts.{AddsFile, AgreesOnItsFiles, NamesOneOf};
 ghost use Rattle.tup_update.specs.Sources as specs;
 ghost use Rattle.tup_update.specs.Sources.{AsksFor};
 ghost use Rattle.tup_update.specs.declared.stop.Unread.TheVariants.{Outside};
@@ -104,7 +104,7 @@ pub(crate) fn contents<S: Site>(
     ensures sorted { IfOk result (λ files. IsTrue (finite.is_sorted by_names files)) }
     ensures same { IsTrue S.tells → S.world site.new ≡ S.world site.old }
     ensures crash { IsTrue S.tells → GoesOn S.moment S.left_since site.old site.new NoStep }
-    ensures large { IsTrue S.tells → NamesALargeFile (S.world site.new).tree result }
+    ensures large { IsTrue S.tells → NamesOneOf paths.now (S.world site.new).tree result }
     ensures only_large { OnlyLarge result }
     ensures counted { CountsFaults (S.faults site.old) (S.faults site.new) result }
 {
@@ -126,7 +126,7 @@ fn add<S: Site>(
         OnOk result (AddsFile path.now found files.old files.new) }
     ensures same { IsTrue S.tells → S.world site.new ≡ S.world site.old }
     ensures crash { IsTrue S.tells → GoesOn S.moment S.left_since site.old site.new NoStep }
-    ensures large { IsTrue S.tells → NamesALargeFile (S.world site.new).tree result }
+    ensures large { IsTrue S.tells → NamesLength (S.world site.new).tree path.now result }
     ensures only_large { OnlyLarge result }
     ensures counted { CountsFaults (S.faults site.old) (S.faults site.new) result }
 {

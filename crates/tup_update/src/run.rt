@@ -7,11 +7,11 @@ ghost use Rattle.tup_site.specs.Cause.{CountsFaults, NeverTooLarge};
 ghost use Rattle.tup_rule.specs.Rule.{name_of};
 ghost use Rattle.tup_access.specs.Generated.{IsGenerated};
 ghost use Rattle.tup_access.specs.Verdict as specs;
-ghost use Rattle.tup_clean.specs.Clean.{is_good, with_files};
+ghost use Rattle.tup_clean.specs.Clean.{clean, is_good, with_files};
 ghost use Rattle.tup_clean.specs.Taken.{takes, up_to_bad};
 ghost use Rattle.tup_update.specs.Sources.{files_beside};
 ghost use Rattle.tup_update.specs.Images.{FilesStep};
-ghost use Rattle.tup_update.specs.Outside.{HandsOn, HandsOnLarge};
+ghost use Rattle.tup_update.specs.Outside.{HandsOn, HandsOnLarge, HandsOnReadable};
 ghost use Rattle.tup_update.specs.Put.{HasRoom};
 ghost use Rattle.tup_update.specs.Parts.{HasRun, HasMade, AreNoted, ArePartNoted, Ends, BeginsIt, Leaves, SameBeside, SameBesideOutputs, IsRunnable, bad_of};
 ghost use Rattle.tup_update.specs.Ran.{RanAll, RunsOne, RunsThese, CountsRuns, stopped_by, comes_to};
@@ -81,7 +81,10 @@ impl Project {
         ensures ran { IsTrue R.tells_ran
             → RunsThese ran.new (R.ran runner.old) (R.ran runner.new) (stopped_by result) }
 
-        ensures large { IsTrue S.tells → HandsOnLarge Outside (S.world site.new).tree result }
+        // What is too large is a file of the clean build.
+        ensures large { IsTrue S.tells → IsTrue R.tells
+            → let sources = files_beside self.now.owned (S.world site.old).tree in
+            HandsOnLarge Outside (clean R.next self.now.rules sources).tree result }
         ensures cause { HandsOn Outside (S.faults site.old) (S.faults site.new) result }
         ensures run_cause { CountsRuns (R.faults runner.old) (R.faults runner.new) result }
     {
@@ -131,7 +134,8 @@ impl Project {
         ensures ran { IsTrue R.tells_ran → (first : List (Names × List ℕ))
             → RanAll ran.old first (R.ran runner.old)
             → RunsThese ran.new first (R.ran runner.new) (stopped_by result) }
-        ensures large { IsTrue S.tells → HandsOnLarge Outside (S.world site.new).tree result }
+        ensures large { IsTrue S.tells → let tree = (S.world site.new).tree in
+            HandsOnReadable Outside self.now.rules rule.now tree result }
         ensures cause { HandsOn Outside (S.faults site.old) (S.faults site.new) result }
         ensures run_cause { CountsRuns (R.faults runner.old) (R.faults runner.new) result }
     {
@@ -159,7 +163,8 @@ impl Project {
         ensures store { IsTrue S.tells → StoreStays (S.world site.old) (S.world site.new) }
         ensures crash { IsTrue S.tells → GoesOn S.moment S.left_since site.old site.new
             (FilesStep (SameBeside rule.now.outputs)) }
-        ensures large { IsTrue S.tells → HandsOnLarge Outside (S.world site.new).tree result }
+        ensures large { IsTrue S.tells → let tree = (S.world site.new).tree in
+            HandsOnReadable Outside self.now.rules rule.now tree result }
         ensures ran { IsTrue R.tells_ran
             → RunsOne (name_of rule.now) (R.ran runner.old) (R.ran runner.new) result }
         ensures cause { HandsOn Outside (S.faults site.old) (S.faults site.new) result }

@@ -111,8 +111,8 @@ impl<S: Site> View for SiteView<'_, '_, '_, S> {
         × (last.site.ghost_name ≡ first.site.ghost_name)
         × (last.refused.ghost_name ≡ first.refused.ghost_name)
         × (IsTrue S.tells → S.world last.site.now ≡ S.world first.site.now)
-        × KeepsCount S.tells (S.world last.site.now) (S.faults first.site.now)
-        (S.faults last.site.now) first.refused.now last.refused.now
+        × KeepsCount S.tells first.sight.rules.now first.sight.rule.now (S.world last.site.now)
+        (S.faults first.site.now) (S.faults last.site.now) first.refused.now last.refused.now
         × (IsTrue S.tells
         → GoesOn S.moment S.left_since first.site.now last.site.now NoStep) };
 
@@ -163,7 +163,7 @@ impl<S: Site> View for SiteView<'_, '_, '_, S> {
       refl,
       refl,
       (λ tells. refl),
-      keeps_itself S.tells _ _ view.refused.now,
+      keeps_itself S.tells view.sight _ _ view.refused.now,
       (λ tells. rests S.moment S.left_since view.site.now),
     ) };
 
@@ -173,9 +173,10 @@ impl<S: Site> View for SiteView<'_, '_, '_, S> {
       two.2 ∙ one.2,
       (λ tells. two.3 tells ∙ one.3 tells),
       keeps_on
-          S.tells (S.world next.site.now) (S.world last.site.now) (λ tells. two.3 tells)
+          S.tells first.sight next.sight (S.world next.site.now) (S.world last.site.now)
           (S.faults first.site.now) (S.faults next.site.now) (S.faults last.site.now)
-          first.refused.now next.refused.now last.refused.now one.4 two.4,
+          first.refused.now next.refused.now last.refused.now
+          one.0 (λ tells. two.3 tells) one.4 two.4,
       (λ tells. rests_on
           S.moment S.left_since first.site.now next.site.now last.site.now
           (one.5 tells) (two.5 tells)),

@@ -1,8 +1,10 @@
 use Rattle.std.proofs.Common.{[], map, inl, refl, sym, subst}
 use Rattle.std.specs.Prelude.{slice_set}
-use Rattle.tup_site.specs.Crash.{GoesOn}
+use Rattle.tup_site.specs.Crash.{GoesOn, LeavesOnly}
+use Rattle.tup_ledger.specs.Sources.{HasSources}
 use Rattle.tup_update.specs.Compared.{HasCompared}
-use Rattle.tup_update.specs.Images.{UpdateStep}
+use Rattle.tup_update.specs.Images.{UpdateStep, with_outputs}
+use Rattle.tup_update.specs.Log.{OfRules}
 use Rattle.tup_update.specs.Outcome.{ExactlyTheFiles, MadeBeforeBad, NothingForgotten, HasCause}
 use Rattle.tup_update.specs.Settled.{IsSettled}
 use Rattle.tup_update.specs.Sources.{ends}
@@ -13,11 +15,12 @@ use Rattle.tup_update.proofs.Held.{holds_itself}
 use Rattle.tup_update.proofs.Keeping.{no_turns, unchanged_sources}
 use Rattle.tup_top.specs.Crew.{RanFits, RanInTurn, CrewRuns, CrewCompares}
 use Rattle.tup_top.specs.Order.{Wanted, order}
-use Rattle.tup_top.specs.Promise.{ForUpdate, ForVerify, NothingDone, QuietStep, StopsDemo, CountsAll, HasPlainCause, counts}
-use Rattle.tup_top.specs.Status.{came_to, compared_to}
+use Rattle.tup_top.specs.Promise.{ForUpdate, ForVerify, Lasts, NothingDone, QuietStep, StopsDemo, CountsAll, HasPlainCause, counts}
 use Rattle.tup_top.specs.declared.status.Status.TheVariants.{Memory}
+use Rattle.tup_ledger.specs.Begin.{Begins}
+use Rattle.tup_top.proofs.Begun.{initializes_so}
 use Rattle.tup_top.proofs.Crewed.{crew_cause, crew_compared, crew_runs, crew_compares, no_crew_ran}
-use Rattle.tup_top.proofs.Idle.{idle, memory_of, memory_for_update, memory_for_verify, memory_for_demo, memory_prints, memory_prints_alone}
+use Rattle.tup_top.proofs.Idle.{idle, memory_of, memory_for_update, memory_for_init, memory_for_verify, memory_for_demo, memory_prints, memory_prints_alone, rest_images}
 use Rattle.tup_top.proofs.Success.{succeeds_so, compares_so, sources_stay_so}
 use Rattle.tup_top.proofs.call.tup.Goals as goal
 
@@ -45,8 +48,17 @@ returns-in-Ok-Upd-clause-ran g c = λ tells.
     let crew = slice_set c.args.crew.items 0 c.update-status.new.runner in
     let runs = CrewRuns c.update-status.result.ran (map g.R.Runner.ran c.args.crew.items) (map g.R.Runner.ran crew) in
     subst (λ (w : Wanted). ForUpdate w c.update-status.result.status runs) (sym is)
-    (crew_runs g.R.Runner.ran c.args.crew.items c.index_mut.result.now c.update-status.new.runner c.update-status.result.ran (came_to c.update-status.result.status) c.requires.crew.0 c.index_mut.ensures.value
-    (c.update-status.ensures.ran tells))
+    (crew_runs g.R.Runner.ran c.args.crew.items c.index_mut.result.now c.update-status.new.runner c.requires.crew.0 c.index_mut.ensures.value c.update-status.result.ran
+    c.update-status.result.status (c.update-status.ensures.ran tells))
+
+pub returns-in-Ok-Upd-clause-images : goal.returns-in-Ok-Upd-clause-images
+returns-in-Ok-Upd-clause-images g c = λ tells kept safe.
+    let wanted = rw c.in-Ok-Upd.is at c.order_of.ensures in
+    let is = rw c.in-Ok-Upd.field-0-is at wanted in
+    let site = c.args.site in
+    let new = c.update-status.new.site in
+    let promise = OfRules (g.S.Site.world site) (λ rules _. LeavesOnly g.S.Site.moment g.S.Site.left_since site new (HasSources (with_outputs rules kept))) in
+    subst (λ (w : Wanted). ForUpdate w c.update-status.result.status promise) (sym is) (c.update-status.ensures.images tells kept safe)
 
 -- a comparison
 
@@ -73,8 +85,8 @@ returns-in-Ok-Verify-clause-compared_ran g c = λ tells means shows.
     let crew = slice_set c.args.crew.items 0 c.verify-status.new.runner in
     let compares = CrewCompares g.R.Runner.next world (map g.R.Runner.ran c.args.crew.items) (map g.R.Runner.ran crew) in
     subst (λ (w : Wanted). ForVerify w c.verify-status.result compares) (sym is)
-    (crew_compares g.R.Runner.ran g.R.Runner.next world c.args.crew.items c.index_mut-in-Ok-Verify.result.now c.verify-status.new.runner (compared_to c.verify-status.result) c.requires.crew.0 c.index_mut-in-Ok-Verify.ensures.value
-    (c.verify-status.ensures.ran tells means shows))
+    (crew_compares g.R.Runner.ran c.args.crew.items c.index_mut-in-Ok-Verify.result.now c.verify-status.new.runner c.requires.crew.0 c.index_mut-in-Ok-Verify.ensures.value g.R.Runner.next world
+    c.verify-status.result (c.verify-status.ensures.ran tells means shows))
 
 pub returns-in-Ok-Verify-clause-compares : goal.returns-in-Ok-Verify-clause-compares
 returns-in-Ok-Verify-clause-compares g c = λ tells means _ can fine.
@@ -159,13 +171,13 @@ returns-clause-crash g c = λ _.
     (at_rest g.S.Site.moment g.S.Site.left_since site (UpdateStep g.R.Runner.tells g.R.Runner.next [] world))
 
 pub returns-in-Ok-Demo-clause-quiet : goal.returns-in-Ok-Demo-clause-quiet
-returns-in-Ok-Demo-clause-quiet g c = λ _ _. at_rest g.S.Site.moment g.S.Site.left_since c.args.site (QuietStep (order c.args.words.now))
+returns-in-Ok-Demo-clause-quiet g c = λ _ _. at_rest g.S.Site.moment g.S.Site.left_since c.args.site (QuietStep (order c.args.words.now) (g.S.Site.world c.args.site))
 
 pub returns-in-Err-Usage-clause-quiet : goal.returns-in-Err-Usage-clause-quiet
-returns-in-Err-Usage-clause-quiet g c = λ _ _. at_rest g.S.Site.moment g.S.Site.left_since c.args.site (QuietStep (order c.args.words.now))
+returns-in-Err-Usage-clause-quiet g c = λ _ _. at_rest g.S.Site.moment g.S.Site.left_since c.args.site (QuietStep (order c.args.words.now) (g.S.Site.world c.args.site))
 
 pub returns-clause-quiet : goal.returns-clause-quiet
-returns-clause-quiet g c = λ _ _. at_rest g.S.Site.moment g.S.Site.left_since c.args.site (QuietStep (order c.args.words.now))
+returns-clause-quiet g c = λ _ _. at_rest g.S.Site.moment g.S.Site.left_since c.args.site (QuietStep (order c.args.words.now) (g.S.Site.world c.args.site))
 
 pub returns-in-Ok-Verify-clause-quiet : goal.returns-in-Ok-Verify-clause-quiet
 returns-in-Ok-Verify-clause-quiet g c = λ tells _.
@@ -173,7 +185,7 @@ returns-in-Ok-Verify-clause-quiet g c = λ tells _.
     let is = rw c.in-Ok-Verify.field-0-is at wanted in
     let site = c.args.site in
     let new = c.verify-status.new.site in
-    subst (λ (w : Wanted). GoesOn g.S.Site.moment g.S.Site.left_since site new (QuietStep w)) (sym is) (c.verify-status.ensures.crash tells)
+    subst (λ (w : Wanted). GoesOn g.S.Site.moment g.S.Site.left_since site new (QuietStep w (g.S.Site.world site))) (sym is) (c.verify-status.ensures.crash tells)
 
 pub returns-in-Ok-Verify-clause-nothing_done : goal.returns-in-Ok-Verify-clause-nothing_done
 returns-in-Ok-Verify-clause-nothing_done g c = λ tells.
@@ -183,3 +195,43 @@ returns-in-Ok-Verify-clause-nothing_done g c = λ tells.
 
 pub returns-clause-nothing_done : goal.returns-clause-nothing_done
 returns-clause-nothing_done g c = λ _. idle (order c.args.words.now) (g.S.Site.world c.args.site)
+
+-- a beginning
+
+pub returns-clause-begins : goal.returns-clause-begins
+returns-clause-begins g c = λ _.
+    let world = g.S.Site.world c.args.site in
+    memory_for_init (order c.args.words.now) (Begins world world) tt
+
+pub returns-clause-lasts : goal.returns-clause-lasts
+returns-clause-lasts g c = λ _.
+    let site = c.args.site in
+    memory_for_init (order c.args.words.now) (Lasts (g.S.Site.left_since site (g.S.Site.moment site)) (g.S.Site.world site)) tt
+
+pub returns-in-Ok-Init-clause-sources_stay : goal.returns-in-Ok-Init-clause-sources_stay
+returns-in-Ok-Init-clause-sources_stay g c = λ tells.
+    unchanged_sources (g.S.Site.world c.args.site) (g.S.Site.world c.init-status.new.site) (c.init-status.ensures.tree tells)
+
+pub returns-in-Ok-Init-clause-initializes : goal.returns-in-Ok-Init-clause-initializes
+returns-in-Ok-Init-clause-initializes g c = λ tells _ empty fine.
+    initializes_so (g.S.Site.world c.args.site) (g.S.Site.world c.init-status.new.site) _ _ c.init-status.result (c.init-status.ensures.begins tells) c.init-status.ensures.counted_cause empty fine
+
+pub returns-in-Ok-Init-clause-quiet : goal.returns-in-Ok-Init-clause-quiet
+returns-in-Ok-Init-clause-quiet g c = λ tells _.
+    let wanted = rw c.in-Ok-Init.is at c.order_of.ensures in
+    let is = rw c.in-Ok-Init.field-0-is at wanted in
+    let site = c.args.site in
+    let new = c.init-status.new.site in
+    subst (λ (w : Wanted). GoesOn g.S.Site.moment g.S.Site.left_since site new (QuietStep w (g.S.Site.world site))) (sym is) (c.init-status.ensures.crash tells)
+
+pub returns-in-Ok-Init-clause-nothing_done : goal.returns-in-Ok-Init-clause-nothing_done
+returns-in-Ok-Init-clause-nothing_done g c = λ tells.
+    let wanted = rw c.in-Ok-Init.is at c.order_of.ensures in
+    let is = rw c.in-Ok-Init.field-0-is at wanted in
+    subst (λ (w : Wanted). NothingDone w (g.S.Site.world c.args.site) (g.S.Site.world c.init-status.new.site)) (sym is) (c.init-status.ensures.keeps tells)
+
+pub returns-clause-images : goal.returns-clause-images
+returns-clause-images g c = λ _ kept safe.
+    let site = c.args.site in
+    memory_of (order c.args.words.now) (g.S.Site.world site) (λ rules _. LeavesOnly g.S.Site.moment g.S.Site.left_since site site (HasSources (with_outputs rules kept)))
+    (rest_images g.S.Site.moment g.S.Site.left_since site kept safe)

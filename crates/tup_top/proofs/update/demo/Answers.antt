@@ -1,25 +1,30 @@
-use Rattle.std.proofs.Common.{IfSome, [], inl, refl, subst}
+use Rattle.std.proofs.Common.{refl, subst}
 use Rattle.tup_site.specs.Memory.{faults_of, world_in}
 use Rattle.tup_site.specs.World.{World}
 use Rattle.tup_update.specs.Log.{OfRules}
 use Rattle.tup_update.specs.Outcome.{HasCause}
-use Rattle.tup_top.specs.Status.{came_to}
+use Rattle.tup_top.specs.Status.{IfCame}
 use Rattle.tup_mini.specs.Means.{mini_next}
-use Rattle.tup_top.specs.Printed.{PrintsUpdate, demo_world}
-use Rattle.tup_top.proofs.Causes.{demo_cause, prints_no_update, with_new}
+use Rattle.tup_top.specs.Printed.{PrintsUpdate}
+use Rattle.tup_top.proofs.Causes.{demo_cause, with_new}
+use Rattle.tup_top.proofs.Shown.{unshown_cause, unshown_stops, unshown_prints}
 use Rattle.tup_top.proofs.update.demo.Goals as goal
 
-pub returns-in-Some : goal.returns-in-Some
-returns-in-Some g c = record {
-  cause = demo_cause (faults_of c.in-Some.site) (faults_of c.update.new.site) (g.K.Sink.faults c.args.out.now) (g.K.Sink.faults c.update.new.out) c.update.result.status c.update.ensures.counted_cause;
-  stops = subst (λ (w : World). IfSome (came_to c.update.result.status) (λ stopped. (new : World) × OfRules w (λ rules. HasCause mini_next rules w new) stopped)) c.in-Some.ensures
-      (with_new (came_to c.update.result.status) (world_in c.in-Some.site) (world_in c.update.new.site) (c.update.ensures.cause refl refl));
-  printed = λ shows. subst (λ w. PrintsUpdate mini_next w (g.K.Sink.faults c.args.out.now) (g.K.Sink.faults c.update.new.out) (g.K.Sink.held c.args.out.now) (g.K.Sink.held c.update.new.out) c.update.result.status) c.in-Some.ensures (c.update.ensures.printed refl refl shows);
+pub returns-in-Ok : goal.returns-in-Ok
+returns-in-Ok g c = record {
+  cause = demo_cause (faults_of c.in-Ok.site) (faults_of c.update.new.site) (g.K.Sink.faults c.args.out.now) (g.K.Sink.faults c.update.new.out) c.update.result.status c.update.ensures.counted_cause;
+  stops = subst (λ (w : World). IfCame c.update.result.status (λ stopped. (new : World) × OfRules w (λ rules. HasCause mini_next rules w new) stopped)) c.in-Ok.ensures.holds
+      (with_new c.update.result.status (world_in c.in-Ok.site) (world_in c.update.new.site) (c.update.ensures.cause refl refl));
+  printed = λ shows. subst (λ w. PrintsUpdate mini_next w (g.K.Sink.faults c.args.out.now) (g.K.Sink.faults c.update.new.out) (g.K.Sink.held c.args.out.now) (g.K.Sink.held c.update.new.out) c.update.result.status) c.in-Ok.ensures.holds (c.update.ensures.printed refl refl shows);
 }
 
-pub returns-in-None : goal.returns-in-None
-returns-in-None g c = record {
-  cause = tt;
-  stops = (demo_world, ([], inl refl, tt));
-  printed = λ _. prints_no_update mini_next demo_world (g.K.Sink.faults c.args.out.now) (g.K.Sink.faults c.args.out.now) (g.K.Sink.held c.args.out.now);
-}
+pub returns-in-Err : goal.returns-in-Err
+returns-in-Err g c =
+    let before = g.K.Sink.faults c.args.out.now in
+    let now = g.K.Sink.faults c.tell.new.out in
+    let fault = c.in-Err.fault in
+    record {
+      cause = unshown_cause before now fault _ c.tell.result c.in-Err.ensures.outside c.status_of_begun.ensures c.tell.ensures.ends;
+      stops = unshown_stops before now fault _ c.tell.result c.in-Err.ensures.outside c.status_of_begun.ensures c.tell.ensures.ends;
+      printed = λ shows. unshown_prints before now _ _ fault _ c.tell.result c.in-Err.ensures.outside c.status_of_begun.ensures c.tell.ensures.ends (c.tell.ensures.prints shows);
+    }

@@ -1,13 +1,13 @@
 use Rattle.std.proofs.Common.{rules, inl, inr, refl}
-use Rattle.tup_site.specs.Crash.{GoesOn}
-use Rattle.tup_update.specs.Images.{UpdateStep}
+use Rattle.tup_site.specs.Crash.{GoesOn, LeavesOnly}
+use Rattle.tup_ledger.specs.Sources.{HasSources}
+use Rattle.tup_update.specs.Images.{UpdateStep, with_outputs}
 use Rattle.tup_update.specs.Log.{RulesFit}
 use Rattle.tup_update.specs.Outcome.{ExactlyTheFiles, MadeBeforeBad, NothingForgotten, HasCause}
 use Rattle.tup_update.specs.Ran.{RunsThese}
 use Rattle.tup_update.specs.Settled.{IsSettled}
 use Rattle.tup_top.specs.Crew.{RanFits, RanInTurn}
 use Rattle.tup_top.specs.Promise.{CountsAll}
-use Rattle.tup_top.specs.Status.{came_to}
 use Rattle.tup_top.proofs.Causes.{answered, answered_of, told_of, untold_rules, untold_left, untold_ran, untold_turns, untold_runs, ran_fits, counts_all, counted_cause, prints_nothing, prints_update}
 use Rattle.tup_top.proofs.update.update.Goals as goal
 
@@ -137,7 +137,7 @@ returns-clause-told g c = λ tells means.
     let old = g.S.Site.world c.args.site.now in
     let rules = update.result.rules in
     let fits = update.ensures.rules tells in
-    told_of old rules (λ found. CountsAll g.R.Runner.next found old c.print-status.result) (came_to c.print-status.result)
+    told_of old rules (λ found. CountsAll g.R.Runner.next found old c.print-status.result) c.print-status.result
     (answered (RulesFit old rules) _ _ _ _ update.result.log update.result.stopped _ _ c.status_of-status.ensures c.print-status.ensures.ends update.ensures.counted_cause fits (untold_rules old rules update.result.stopped fits))
     (counts_all g.R.Runner.next rules old _ _ update.result.log update.result.stopped _ _ c.status_of-status.ensures c.print-status.ensures.ends (update.ensures.logged tells means))
 
@@ -171,6 +171,21 @@ returns-clause-crash g c = λ tells.
     let old = g.S.Site.world c.args.site.now in
     let rules = update.result.rules in
     let fits = update.ensures.rules tells in
-    told_of old rules (λ found. GoesOn g.S.Site.moment g.S.Site.left_since c.args.site.now update.new.site (UpdateStep g.R.Runner.tells g.R.Runner.next found old)) (came_to c.print-status.result)
+    told_of old rules (λ found. GoesOn g.S.Site.moment g.S.Site.left_since c.args.site.now update.new.site (UpdateStep g.R.Runner.tells g.R.Runner.next found old)) c.print-status.result
     (answered (RulesFit old rules) _ _ _ _ update.result.log update.result.stopped _ _ c.status_of-status.ensures c.print-status.ensures.ends update.ensures.counted_cause fits (untold_rules old rules update.result.stopped fits))
     (update.ensures.crash tells)
+
+pub returns-in_default-clause-images : goal.returns-in_default-clause-images
+returns-in_default-clause-images g c = λ tells kept safe.
+    let update = c.update_site-rules in
+    (update.result.rules, untold_rules (g.S.Site.world c.args.site.now) update.result.rules update.result.stopped (update.ensures.rules tells), update.ensures.images tells kept safe)
+
+pub returns-clause-images : goal.returns-clause-images
+returns-clause-images g c = λ tells kept safe.
+    let update = c.update_site-rules in
+    let old = g.S.Site.world c.args.site.now in
+    let rules = update.result.rules in
+    let fits = update.ensures.rules tells in
+    told_of old rules (λ found. LeavesOnly g.S.Site.moment g.S.Site.left_since c.args.site.now update.new.site (HasSources (with_outputs found kept))) c.print-status.result
+    (answered (RulesFit old rules) _ _ _ _ update.result.log update.result.stopped _ _ c.status_of-status.ensures c.print-status.ensures.ends update.ensures.counted_cause fits (untold_rules old rules update.result.stopped fits))
+    (update.ensures.images tells kept safe)

@@ -7,6 +7,5 @@ use Rattle.tup_update.proofs.found.add.Goals as goal
 
 pub returns-in_err-content-clause-large : goal.returns-in_err-content-clause-large
 returns-in_err-content-clause-large g c = λ tells n is.
-    let path = c.args.path.now in
     let was = handed_on c.get.result c.from_residual.result c.in_err-content.field-0.0 (TooLarge n) c.in_err-content.was c.from_residual.ensures.1 is in
-    (path, subst (λ (w : World). IsTooLarge w.tree path n) (sym (c.get.ensures.same tells)) (c.get.ensures.length tells n was))
+    subst (λ (w : World). IsTooLarge w.tree c.args.path.now n) (sym (c.get.ensures.same tells)) (c.get.ensures.length tells n was)

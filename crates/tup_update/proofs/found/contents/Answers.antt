@@ -5,7 +5,10 @@ use Rattle.tup_path.specs.Name.{Names, Content}
 use Rattle.tup_path.specs.Order.{by_names}
 use Rattle.tup_path.specs.Tree.{Tree}
 use Rattle.tup_site.specs.World.{World}
+use Rattle.tup_site.specs.declared.fault.SiteFailed.TheVariants.{TooLarge}
 use Rattle.tup_update.specs.Parts.{AddsFile}
+use Rattle.tup_update.proofs.Crashing.{among_here}
+use Rattle.tup_update.proofs.Handed.{handed_on}
 use Rattle.tup_update.proofs.Reading.{HasFilesAt, from_T, none_found, next_looked_for, all_found}
 use Rattle.tup_update.specs.SeeingLaws.{rests, rests_on}
 use Rattle.tup_update.proofs.found.contents.Goals as goal
@@ -41,3 +44,10 @@ returns-clause-sorted g c = subst (λ (l : List (Names × Content)). IsTrue (fin
 
 pub returns-in_err-add-clause-crash : goal.returns-in_err-add-clause-crash
 returns-in_err-add-clause-crash g c = λ tells. rests_on g.S.Site.moment g.S.Site.left_since c.args.site.now c.loop-path.site c.add.new.site (c.loop-path.invariant.crash tells) (c.add.ensures.crash tells)
+
+pub returns-in_err-add-clause-large : goal.returns-in_err-add-clause-large
+returns-in_err-add-clause-large g c = λ tells n e. (
+  c.path-item.result,
+  among_here c.args.paths.now c.loop-path.path-index c.path-item.result (omega arith) (sym c.path-item.is),
+  c.add.ensures.large tells n (handed_on c.add.result c.from_residual.result c.in_err-add.field-0.0 (TooLarge n) c.in_err-add.was c.from_residual.ensures.1 e),
+)

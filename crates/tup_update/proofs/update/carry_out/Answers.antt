@@ -67,7 +67,7 @@ returns-in_err-project-clause-kept g c = λ tells means.
     let on = subst (HoldsOn old) same (c.opened.ensures.holds tells) in
     subst (Keeps g.R.Runner.next c.args.rules.now old new c.args.log.now) (sym (err_is c.from_residual-in_err-project.result (stop_of unread) c.from_residual-in_err-project.ensures.1))
     (unread_keeps g.R.Runner.next c.args.rules.now old new c.args.log.now unread
-    (unread_cause g.R.Runner.next c.args.rules.now old new unread on (subst (λ (w : World). IsUnread w unread) same (c.in_err-project.ensures.cause tells))) c.requires.log)
+    (unread_cause g.R.Runner.next c.args.rules.now old new unread c.requires.rules on (subst (λ (w : World). IsUnread w unread) same (c.in_err-project.ensures.cause tells))) c.requires.log)
 
 pub returns-in_err-project-clause-settled : goal.returns-in_err-project-clause-settled
 returns-in_err-project-clause-settled g c = λ tells.

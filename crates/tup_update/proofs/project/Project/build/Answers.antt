@@ -152,7 +152,7 @@ returns-in_err-bad-clause-kept g c = λ tells means.
     let halt = c.in_err-bad.field-0.0 in
     subst (Keeps g.R.Runner.next project.rules old ran (with_read project.read log)) (sym (err_is c.from_residual-in_err-bad.result (stop_of_halt halt) c.from_residual-in_err-bad.ensures.1))
     (unrun_keeps project old mid plan.vanished claiming way g.R.Runner.next ran c.args.log.now.removed log halt
-    (λ n e. c.run.ensures.large tells n (c.in_err-bad.was ∙ ap (λ (h : Halt). Err h) e)) c.requires.unused.0 c.in_ok-prepare.ensures.removed
+    (λ n e. c.run.ensures.large tells means n (c.in_err-bad.was ∙ ap (λ (h : Halt). Err h) e)) c.requires.unused.0 c.in_ok-prepare.ensures.removed
     (c.run.ensures.part tells means))
 
 pub returns-in_err-bad-clause-ran : goal.returns-in_err-bad-clause-ran

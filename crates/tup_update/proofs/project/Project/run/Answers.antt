@@ -14,11 +14,12 @@ use Rattle.tup_update.specs.Parts.{HasRun, HasMade, ArePartNoted, SameBesideOutp
 use Rattle.tup_update.specs.Ran.{RunsThese, stopped_by, comes_to}
 use Rattle.tup_update.specs.Turns.{TurnsFit}
 use Rattle.tup_clean.proofs.Standing.{ready_untaken}
-use Rattle.tup_update.proofs.Behind.{same_more, has_made}
+use Rattle.tup_update.proofs.Behind.{same_more, has_made, large_is}
+use Rattle.tup_update.proofs.Handed.{handed_on}
 use Rattle.tup_update.proofs.Crashing.{at_rest, ran_on}
 use Rattle.tup_update.proofs.Begun.{ran_none, ran_all_of, stopped_err, comes_err}
 use Rattle.tup_update.proofs.Running.{room_for, beside_made, beside_all, named_bad, unnamed_good}
-use Rattle.tup_site.specs.declared.fault.SiteFailed.TheVariants.{Memory}
+use Rattle.tup_site.specs.declared.fault.SiteFailed.TheVariants.{Memory, TooLarge}
 use Rattle.tup_update.specs.declared.stop.Halt.TheVariants.{Outside as Halted}
 use Rattle.tup_update.proofs.Turning.{rule_here, notes_of, verdicts_of_more, none_at_end, taken_none, turned_halted, turned_all, begun_next, taken_next, turned_bad, building_none, ended_front, begun_front, building_next, noted_bad, first_bad, noted_all, built_all, noted_part}
 use Rattle.tup_update.proofs.project.Project.run.Goals as goal
@@ -140,6 +141,21 @@ returns-in_err-bad-clause-part g c = λ tells means.
     let within = subst (λ (l : List Rule). c.loop.counter < length l) c.as_slice-rules.ensures c.loop-test.true in
     subst (ArePartNoted all (up_to_bad (takes g.R.Runner.next all (files_beside c.args.self.now.owned (g.S.Site.world c.args.site.now).tree))) c.take.new.ran) (sym c.in_err-bad.ensures.unended)
     (begun_front g.R.Runner.next all (files_beside c.args.self.now.owned (g.S.Site.world c.args.site.now).tree) c.loop.counter c.loop.ended (g.S.Site.world c.loop.site).tree (c.loop.invariant.builds tells means) at rule within ready here c.loop.invariant.has.good c.loop.ran c.take.new.ran c.loop.invariant.has.begun c.take.ensures.begins_it)
+
+pub returns-in_err-bad-clause-large : goal.returns-in_err-bad-clause-large
+returns-in_err-bad-clause-large g c = λ tells means n e.
+    let all = c.args.self.now.rules in
+    let verdicts = verdicts_of all c.loop.ended in
+    let at = c.in-Some.at in
+    let next = c.in-Some.ensures all (is_left verdicts) (good_at verdicts) c.loop.invariant.queued.waiting in
+    let taken = taken_at all verdicts at _ next in
+    let ready = ready_is all verdicts at _ next c.loop.queue c.loop.invariant.queued in
+    let rule = c.index-rules-at.result in
+    let here = rule_here all c.as_slice-rules.result.now at rule c.as_slice-rules.ensures taken.rule taken.here c.index-rules-at.is in
+    let sources = files_beside c.args.self.now.owned (g.S.Site.world c.args.site.now).tree in
+    large_is all (make_apart _ all (c.requires.runnable tells).buildable) g.R.Runner.next sources c.loop.counter c.loop.ended (g.S.Site.world c.loop.site).tree (c.loop.invariant.builds tells means) at rule ready here
+    (g.S.Site.world c.take.new.site).tree (c.take.ensures.others tells) n
+    (c.take.ensures.large tells n (handed_on c.take.result c.from_residual-in_err-bad.result c.in_err-bad.field-0.0 (Halted (TooLarge n)) c.in_err-bad.was c.from_residual-in_err-bad.ensures.1 e))
 
 pub returns-in_err-bad-clause-ran : goal.returns-in_err-bad-clause-ran
 returns-in_err-bad-clause-ran g c = λ tells.
