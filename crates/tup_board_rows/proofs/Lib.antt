@@ -1,0 +1,5 @@
+pub mod Going
+pub mod Openings
+pub mod Placed
+pub mod Putting
+pub mod Told

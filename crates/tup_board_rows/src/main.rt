@@ -1,0 +1,31 @@
+//! The rows of a board: seats that are driven by hand, and updates that are stopped and done again.
+//!
+//! The file of `data/` has rows, a call with the answer that is wanted each. Its head says what the calls and their
+//! arguments mean. A board stands over a site in memory that tells contracts nothing but its failures (`Quiet`); what a
+//! call of the board asks of its caller is tested before it (`apart`, `seat`).
+#![tactic(auto)]
+
+mod apart;
+mod clean;
+mod crash;
+mod desk;
+mod opening;
+mod order;
+mod project;
+mod quiet;
+mod replies;
+mod rows;
+mod script;
+mod seat;
+mod shown;
+mod store;
+mod sweep;
+
+use project::Project;
+use std::io;
+use tup_rows::try_file_by;
+
+fn main(rt: HostRuntime) -> io::Result<()> {
+    let alloc = rt.alloc();
+    try_file_by(&rt, alloc, "board.rows", Project::new(alloc))
+}
