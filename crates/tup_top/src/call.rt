@@ -100,7 +100,8 @@ pub fn tup<S: Site, R: Runner, K: Sink>(
     ensures demo_cause { ForDemo (order words.now) result.status StopsDemo }
     // Its answer is that of an update of a site of its own: counted, and done where nothing stands
     // in the way.
-    ensures demonstrates { Demonstrates (order words.now) (K.faults out.old) (K.faults out.new) result.status }
+    ensures demonstrates { let before = K.faults out.old in let now = K.faults out.new in
+        Demonstrates (order words.now) before now result.status }
     ensures plain_cause { let before = counts S.faults R.faults K.faults site crew.items out.old in
         let now = counts S.faults R.faults K.faults result.site result.crew.items out.new in
         HasPlainCause (order words.now) before now result.status }
