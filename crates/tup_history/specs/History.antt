@@ -1,0 +1,117 @@
+-- A history of a project: edits, crashes and runs of the program, one after another. Own.
+use Rattle.std.specs.Prelude.{◌≡◌, ◌⊎◌, Bool, ℕ, List, [], ◌∷◌, length, take, map, Option, None, Some, slice_get}
+use Rattle.tup_site.specs.Memory.{world_in, moment_of, faults_of, left_of}
+use Rattle.tup_site.specs.declared.choice.Deed.{Deed as ADeed}
+use Rattle.tup_site.specs.declared.memory.MemSite.{MemSite}
+use Rattle.tup_site.specs.declared.refused.MemRefused.{MemRefused}
+use Rattle.tup_site.specs.declared.refused.MemRefused.TheVariants.{Memory}
+use Rattle.tup_runner.specs.Next.{Next}
+use Rattle.tup_top.specs.Order.{IsUpdate, order}
+use Rattle.tup_top.specs.Promise.{Counts}
+use Rattle.tup_top.specs.declared.order.Word.{Word}
+use Rattle.tup_top.specs.declared.status.Status.{Status}
+use Rattle.tup_history.specs.Chain.{Leads}
+use Rattle.tup_history.specs.Deed.{IsCarriedOut, IsUntouched, Refuses}
+use Rattle.tup_history.specs.Run.{SaysDone, Keeps, Leaves, Lets, left_then, left_behind}
+use Rattle.tup_history.specs.declared.turn.Turn.{Turn}
+use Rattle.tup_history.specs.declared.turn.Turn.TheVariants.{Deed, Run}
+use Rattle.tup_history.specs.declared.turn.End.{End}
+
+-- how a project stands between two turns: its site, and how often each runner and the sink have failed so far
+pub record Standing : Type 0 where
+  pub site : MemSite
+  pub runners : List ℕ
+  pub sink : ℕ
+
+-- that of a site, a crew and a sink
+abbrev pub standing : {R K : Type 0} → (R → ℕ) → (K → ℕ) → MemSite → List R → K → Standing
+standing of_runner of_sink site crew sink = record { site = site; runners = map of_runner crew; sink = of_sink sink }
+
+-- the failures counted so far, of a site with these runners and this sink
+abbrev pub counted : MemSite → Standing → Counts
+counted site stands = record { site = faults_of site; runners = stands.runners; sink = stands.sink }
+
+-- a deed was done, and its end tells the moment then
+pub record EndsDeed (deed : ADeed) (end : End) (old new : MemSite) : Type 0 where
+  pub done : IsCarriedOut deed old new
+  pub moment : end.moment ≡ moment_of new
+  pub status : end.status ≡ None
+  pub ran : end.ran ≡ []
+
+-- a turn that is a deed: nobody but the site has part in it
+pub record TakesDeed (deed : ADeed) (end : End) (from to : Standing) : Type 0 where
+  pub ends : EndsDeed deed end from.site to.site
+  pub runners : to.runners ≡ from.runners
+  pub sink : to.sink ≡ from.sink
+
+-- A turn that is a run: it began once so many calls were let pass, and left what the program promises of a run with these
+-- words; then all calls pass again.
+pub record TakesRun (tells : Bool) (next : Next) (words : List Word) (stop_after : Option ℕ) (end : End) (from to : Standing) : Type 0 where
+  pub begun : MemSite
+  pub ended : MemSite
+  pub status : Status
+  pub begins : Lets (left_then stop_after (left_of from.site)) from.site begun
+  pub keeps : Keeps tells next (order words) (world_in begun) (world_in ended) (counted begun from) (counted ended to) status end.ran
+  pub leaves : Leaves tells next (order words) begun ended status
+  pub goes_on : Lets (left_behind stop_after (left_of ended)) ended to.site
+  pub moment : end.moment ≡ moment_of to.site
+  pub answered : end.status ≡ Some status
+
+-- a turn leads from one standing to the next
+abbrev pub Takes : Bool → Next → Turn → End → Standing → Standing → Type 0
+Takes tells next (Deed deed) end from to = TakesDeed deed end from to
+Takes tells next (Run words stop_after) end from to = TakesRun tells next words stop_after end from to
+
+-- These turns with these ends are a history: each leads from where the one before it led.
+abbrev pub IsHistory : Bool → Next → List Turn → List End → Standing → Standing → Type 0
+IsHistory tells next turns ends from to = Leads (Takes tells next) turns ends from to
+
+-- why a turn is refused: a deed as the site says, and a run never is
+abbrev pub RefusesTurn : Turn → MemSite → MemRefused → Type 0
+RefusesTurn (Deed deed) site why = Refuses deed site why
+RefusesTurn (Run words stop_after) site why = ⊥
+
+-- The turn at this place is refused for this reason; or it is the first, and there was no room to note the ends.
+pub record IsRefusedAt (turns : List Turn) (at : ℕ) (site : MemSite) (why : MemRefused) : Type 0 where
+  pub turn : Turn
+  pub stands : slice_get turns at ≡ Some turn
+  pub reason : RefusesTurn turn site why ⊎ ((at ≡ 0) × (why ≡ Memory))
+
+-- all turns were carried out, or all up to one that was refused
+abbrev pub StopsThere : List Turn → List End → MemSite → Option (ℕ × MemRefused) → Type 0
+StopsThere turns ends site None = length ends ≡ length turns
+StopsThere turns ends site (Some (at, why)) = (at ≡ length ends) × IsRefusedAt turns at site why
+
+-- nothing happened, and nothing failed
+pub record StandsAs (old new : Standing) : Type 0 where
+  pub site : IsUntouched old.site new.site
+  pub runners : new.runners ≡ old.runners
+  pub sink : new.sink ≡ old.sink
+
+-- What became of these turns: those that have an end are a history. A turn that was refused changed nothing, and those behind
+-- it weren't carried out.
+pub record AreLived (tells : Bool) (next : Next) (turns : List Turn) (ends : List End) (refused : Option (ℕ × MemRefused)) (from to : Standing) : Type 0 where
+  pub last : Standing
+  pub history : IsHistory tells next (take (length ends) turns) ends from last
+  pub stops : StopsThere turns ends last.site refused
+  pub stands : StandsAs last to
+
+-- ---- the headline
+
+-- a run answered that all was done
+abbrev pub AnswersDone : Option Status → Type 0
+AnswersDone None = ⊥
+AnswersDone (Some status) = SaysDone status
+
+-- the turn is an update of which all was done
+abbrev pub IsDoneUpdate : Turn → End → Type 0
+IsDoneUpdate (Deed deed) end = ⊥
+IsDoneUpdate (Run words stop_after) end = IsUpdate (order words) × AnswersDone end.status
+
+-- so is the last of these turns, each of which was carried out
+abbrev pub EndsDone : List Turn → List End → Type 0
+EndsDone [] ends = ⊥
+EndsDone (turn ∷ turns) [] = ⊥
+EndsDone (turn ∷ []) (end ∷ []) = IsDoneUpdate turn end
+EndsDone (turn ∷ []) (end ∷ other ∷ ends) = ⊥
+EndsDone (turn ∷ next ∷ turns) (end ∷ ends) = EndsDone (next ∷ turns) ends

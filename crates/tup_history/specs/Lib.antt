@@ -1,0 +1,4 @@
+pub mod Deed
+pub mod Chain
+pub mod Run
+pub mod History

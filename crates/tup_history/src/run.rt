@@ -1,0 +1,50 @@
+//! A run of the program as a turn.
+ghost use Rattle.tup_site.specs.Memory.{world_in, faults_of, left_of};
+ghost use Rattle.tup_top.specs.Crew.{IsCrew};
+ghost use Rattle.tup_top.specs.Order.{order};
+ghost use Rattle.tup_top.specs.Promise.{counts};
+ghost use Rattle.tup_history.specs.Run.{Keeps, Leaves, Lets, left_then, left_behind};
+
+use std::alloc::Global;
+use tup_runner::Runner;
+use tup_site::MemSite;
+use tup_tell::Sink;
+use tup_top::{Ran, Word, tup};
+
+/// Runs the program over a site that lets its calls pass or not.
+pub(crate) fn run<R: Runner, K: Sink>(
+    alloc: Global,
+    words: &[Word],
+    site: MemSite,
+    crew: Vec<R>,
+    out: &mut K,
+) -> Ran<MemSite, R>
+    requires crew { IsCrew crew.items }
+    ensures keeps { let counted = counts faults_of R.faults K.faults in
+        let before = counted site crew.items out.old in
+        let now = counted result.site result.crew.items out.new in
+        Keeps R.tells R.next (order words.now) (world_in site) (world_in result.site) before now
+        result.status result.ran }
+    ensures leaves { Leaves R.tells R.next (order words.now) site result.site result.status }
+    ensures crew { IsCrew result.crew.items }
+{
+    tup(alloc, words, site, crew, out)
+}
+
+/// Lets only so many more calls of the site pass, where that is said.
+pub(crate) fn begin(site: &mut MemSite, stop_after: Option<u64>)
+    ensures { Lets (left_then stop_after (left_of site.old)) site.old site.new }
+{
+    if let Some(calls) = stop_after {
+        site.stop_after(calls);
+    }
+}
+
+/// Lets all calls of the site pass again, where they didn't.
+pub(crate) fn go_on(site: &mut MemSite, stop_after: Option<u64>)
+    ensures { Lets (left_behind stop_after (left_of site.old)) site.old site.new }
+{
+    if stop_after.is_some() {
+        site.run_on();
+    }
+}
