@@ -1,5 +1,5 @@
 -- What a demo answers whose small project couldn't begin.
-use Rattle.std.proofs.Common.{◌≡◌, ◌⊎◌, inl, inr, ℕ, List, [], Err, refl, sym, ap, subst, ◌∙◌}
+use Rattle.std.proofs.Common.{◌≡◌, ◌⊎◌, inl, inr, ℕ, List, [], Err, refl, sym, ap, subst, ◌∙◌, arith}
 use Rattle.tup_site.specs.declared.fault.SiteFailed.{SiteFailed}
 use Rattle.tup_site.specs.declared.fault.SiteFailed.TheVariants.{Fault, Memory as NoMemory}
 use Rattle.tup_graph.specs.declared.fault.GraphFault.{GraphFault}
@@ -7,11 +7,15 @@ use Rattle.tup_graph.specs.declared.fault.GraphFault.TheVariants as graph
 use Rattle.tup_mini.specs.Means.{mini_next}
 use Rattle.tup_top.specs.Lines.{last_line}
 use Rattle.tup_top.specs.Printed.{IsDone, Ends, Prints, PrintsUpdate, demo_world}
-use Rattle.tup_top.specs.Promise.{HasDemoCause, StopsDemo}
+use Rattle.tup_top.specs.Promise.{HasCountedCause, HasDemoCause, OwnUpdate, StopsDemo, unfailed}
 use Rattle.tup_top.specs.Status.{status_of_begun, status_of_outside, IfCame}
 use Rattle.tup_top.specs.declared.status.Status.{Status}
 use Rattle.tup_top.specs.declared.status.Status.TheVariants.{SiteFault, Memory}
-use Rattle.tup_top.proofs.Causes.{told_nothing}
+use Rattle.tup_site.specs.World.{World}
+use Rattle.tup_update.specs.Log.{OfRules}
+use Rattle.tup_update.specs.Outcome.{HasCause}
+use Rattle.tup_top.proofs.Causes.{of_one, told_nothing}
+use Rattle.tup_top.proofs.Success.{succeeds_so}
 
 -- the outside stopped it, or there was no memory
 abbrev IsUnshown : Status → Type 0
@@ -61,3 +65,48 @@ unshown_prints before now held grown fault status answer (inl site) is ends prin
     line_of before now held grown Fault status answer (is ∙ ap (λ (f : GraphFault). status_of_begun (Err f)) site) ends prints
 unshown_prints before now held grown fault status answer (inr memory) is ends prints =
     line_of before now held grown NoMemory status answer (is ∙ ap (λ (f : GraphFault). status_of_begun (Err f)) memory) ends prints
+
+-- ---- an update of its own
+
+pub own_memory : (heard hears : ℕ) → OwnUpdate heard hears Memory
+own_memory heard hears = record {
+  new = demo_world;
+  counted = of_one 0 0 hears;
+  sink = refl;
+  cause = ([], inl refl, tt);
+  plain_cause = tt;
+  success = λ clear fine. tt;
+}
+
+-- a failure of its site, which counts it
+own_fault : (heard hears : ℕ) → OwnUpdate heard hears SiteFault
+own_fault heard hears = record {
+  new = demo_world;
+  counted = of_one 1 0 hears;
+  sink = refl;
+  cause = ([], inl refl, tt);
+  plain_cause = (inl (omega arith), refl);
+  success = λ clear fine. absurd (cc fine.site);
+}
+
+pub unshown_own : (heard hears : ℕ) (fault : GraphFault) (status answer : Status) → (fault ≡ graph.Site) ⊎ (fault ≡ graph.Memory) → status ≡ status_of_begun (Err fault) → Ends heard hears status answer → OwnUpdate heard hears answer
+unshown_own heard hears fault status answer outside is ends = by (answer_of heard hears fault status answer outside is ends)
+  where
+    by : IsUnshown answer → OwnUpdate heard hears answer
+    by (inl e) = subst (OwnUpdate heard hears) (sym e) (own_fault heard hears)
+    by (inr e) = subst (OwnUpdate heard hears) (sym e) (own_memory heard hears)
+
+-- the update of a site that holds the small project, and failed at nothing so far
+pub own_update : (old new : World) (before now heard hears : ℕ) (status : Status) → old ≡ demo_world → before ≡ 0 → IfCame status (OfRules old (λ rules. HasCause mini_next rules old new)) →
+    HasCountedCause (of_one before 0 heard) (of_one now 0 hears) status → OwnUpdate heard hears status
+own_update old new before now heard hears status same none cause counts =
+    let why = subst (λ (w : World). IfCame status (OfRules w (λ rules. HasCause mini_next rules w new))) same cause in
+    let counted = subst (λ (n : ℕ). HasCountedCause (of_one n 0 heard) (of_one now 0 hears) status) none counts in
+    record {
+      new = new;
+      counted = of_one now 0 hears;
+      sink = refl;
+      cause = why;
+      plain_cause = counted;
+      success = λ clear fine. succeeds_so mini_next demo_world new (unfailed heard) (of_one now 0 hears) status why counted clear fine;
+    }

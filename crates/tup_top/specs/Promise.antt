@@ -1,6 +1,6 @@
 -- What the program promises of one call, each promise a word. What it says of an update is what tup_update says, of what
 -- the status tells that the update came to.
-use Rattle.std.specs.Prelude.{◌≡◌, ◌⊎◌, ◌<◌, ◌≤◌, ⊤, ℕ, ◌-◌, ◌^◌, List, [], length, map, slice_get, Option, None, Some, IsTrue, OnOk, Result, Ok, Err}
+use Rattle.std.specs.Prelude.{◌≡◌, ◌⊎◌, ◌<◌, ◌≤◌, ⊤, ℕ, ◌-◌, ◌^◌, List, [], ◌∷◌, length, map, slice_get, Option, None, Some, IsTrue, OnOk, Result, Ok, Err}
 use Rattle.std.specs.FinMap as finite
 use Rattle.tup_path.specs.Count.{Rose}
 use Rattle.tup_path.specs.Name.{Names, Content}
@@ -185,6 +185,27 @@ IsDoneOrMemory other = ⊥
 -- an update that nothing stands in the way of is done, but for want of memory
 abbrev pub Succeeds : Wanted → Next → World → World → Counts → Counts → Status → Type 0
 Succeeds wanted next old new before now status = IsUpdate wanted → IsClear next old new → NothingFailed before now → IsDoneOrMemory status
+
+-- a site of its own, and its runner, that failed at nothing so far, beside a sink with this count
+abbrev pub unfailed : ℕ → Counts
+unfailed heard = record { site = 0; runners = 0 ∷ []; sink = heard }
+
+-- What a demo answers is the answer of an update: one of the small project, in a site of its own where it has begun. It has the
+-- causes of an update, and where nothing stands in its way and nothing failed it is done, but for want of memory.
+pub record OwnUpdate (heard hears : ℕ) (status : Status) : Type 0 where
+  pub new : World
+  pub counted : Counts
+  pub sink : counted.sink ≡ hears
+  pub cause : IfCame status (OfRules demo_world (λ rules. HasCause mini_next rules demo_world new))
+  pub plain_cause : HasCountedCause (unfailed heard) counted status
+  pub success : IsClear mini_next demo_world new → NothingFailed (unfailed heard) counted → IsDoneOrMemory status
+
+abbrev pub Demonstrates : Wanted → ℕ → ℕ → Status → Type 0
+Demonstrates (Ok (Upd program)) heard hears status = ⊤
+Demonstrates (Ok Init) heard hears status = ⊤
+Demonstrates (Ok Verify) heard hears status = ⊤
+Demonstrates (Ok Demo) heard hears status = OwnUpdate heard hears status
+Demonstrates (Err place) heard hears status = ⊤
 
 -- a project begins where there is no store and nothing failed, but for want of memory
 abbrev pub Initializes : Wanted → World → Counts → Counts → Status → Type 0

@@ -2,7 +2,7 @@
 ghost use Rattle.std.specs.Prelude.{◌≡◌, [], ◌∷◌, ◌++◌, IsTrue, IfOk, IfSome, Ok};
 ghost use Rattle.tup_path.specs.Resolve.{resolve};
 ghost use Rattle.tup_site.specs.Crash.{GoesOn, LeavesOnly};
-ghost use Rattle.tup_site.specs.Memory.{world_in, tree_in, store_in};
+ghost use Rattle.tup_site.specs.Memory.{world_in, tree_in, store_in, faults_of};
 ghost use Rattle.tup_mini.specs.Means.{mini_next};
 ghost use Rattle.tup_table.specs.Store.{header};
 ghost use Rattle.tup_kept.specs.Cause.{OnlyOutside};
@@ -16,7 +16,7 @@ ghost use Rattle.tup_update.specs.Outcome.{ExactlyTheFiles, MadeBeforeBad, Sourc
 ghost use Rattle.tup_top.specs.Crew.{RanFits, RanInTurn};
 ghost use Rattle.tup_top.specs.Printed as specs;
 ghost use Rattle.tup_top.specs.Printed.{PrintsUpdate, demo_world};
-ghost use Rattle.tup_top.specs.Promise.{CountsAll, HasCountedCause, HasDemoCause, StopsDemo, counts};
+ghost use Rattle.tup_top.specs.Promise.{CountsAll, HasCountedCause, HasDemoCause, OwnUpdate, StopsDemo, counts};
 ghost use Rattle.tup_top.specs.Status.{IfCame};
 
 use crate::print::{lines, print, tell};
@@ -110,6 +110,7 @@ pub(crate) fn update<S: Site, R: Runner, K: Sink>(
 pub(crate) fn demo<K: Sink>(alloc: Global, out: &mut K) -> Status
     ensures cause { HasDemoCause (K.faults out.old) (K.faults out.new) result }
     ensures stops { IfCame result StopsDemo }
+    ensures own { OwnUpdate (K.faults out.old) (K.faults out.new) result }
     ensures printed { IsTrue K.tells
         → let before = K.faults out.old in let now = K.faults out.new in
         PrintsUpdate mini_next demo_world before now (K.held out.old) (K.held out.new) result }
@@ -123,6 +124,7 @@ pub(crate) fn demo<K: Sink>(alloc: Global, out: &mut K) -> Status
 /// The small project, begun.
 fn demo_site(alloc: Global) -> Result<MemSite, GraphFault>
     ensures holds { IfOk result (λ site. world_in site ≡ demo_world) }
+    ensures faults { IfOk result (λ site. faults_of site ≡ 0) }
     ensures outside { OnlyOutside result }
 {
     let Some(files) = demo_files(alloc) else {
@@ -141,6 +143,7 @@ fn begun(alloc: Global, site: MemSite) -> Result<MemSite, GraphFault>
     requires { store_in site ≡ [] }
     ensures files { IfOk result (λ begun. tree_in begun ≡ tree_in site) }
     ensures store { IfOk result (λ begun. store_in begun ≡ header ++ 0 ∷ []) }
+    ensures faults { IfOk result (λ begun. faults_of begun ≡ faults_of site) }
     ensures outside { OnlyOutside result }
 {
     let mut site = site;

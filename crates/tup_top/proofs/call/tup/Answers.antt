@@ -20,7 +20,7 @@ use Rattle.tup_top.specs.declared.status.Status.TheVariants.{Memory}
 use Rattle.tup_ledger.specs.Begin.{Begins}
 use Rattle.tup_top.proofs.Begun.{initializes_so}
 use Rattle.tup_top.proofs.Crewed.{crew_cause, crew_compared, crew_runs, crew_compares, no_crew_ran}
-use Rattle.tup_top.proofs.Idle.{idle, memory_of, memory_for_update, memory_for_init, memory_for_verify, memory_for_demo, memory_prints, memory_prints_alone, rest_images}
+use Rattle.tup_top.proofs.Idle.{idle, memory_of, memory_for_update, memory_for_init, memory_for_verify, memory_for_demo, memory_prints, memory_prints_alone, memory_demonstrates, rest_images}
 use Rattle.tup_top.proofs.Success.{succeeds_so, compares_so, sources_stay_so}
 use Rattle.tup_top.proofs.call.tup.Goals as goal
 
@@ -235,3 +235,6 @@ returns-clause-images g c = λ _ kept safe.
     let site = c.args.site in
     memory_of (order c.args.words.now) (g.S.Site.world site) (λ rules _. LeavesOnly g.S.Site.moment g.S.Site.left_since site site (HasSources (with_outputs rules kept)))
     (rest_images g.S.Site.moment g.S.Site.left_since site kept safe)
+
+pub returns-clause-demonstrates : goal.returns-clause-demonstrates
+returns-clause-demonstrates g c = memory_demonstrates (order c.args.words.now) (g.K.Sink.faults c.args.out.now)
