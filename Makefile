@@ -6,7 +6,7 @@ SHIM = crates/tup_shim/out/tup_shim
 MAN = $(DESTDIR)$(PREFIX)/share/man/man1/tup.1
 VERSION = $(shell sed -n 's/^const VERSION: &str = "\(.*\)";/\1/p' crates/tup/src/main.rt)
 
-.PHONY: help build runners demo test edits try shell killed fmt times install uninstall clean
+.PHONY: help build runners demo test edits try shell killed figures fmt times install uninstall clean
 
 help:
 	@echo 'make build      proves and builds the program, and has it print its version'
@@ -16,6 +16,7 @@ help:
 	@echo 'make try        the last part of the gate alone: the program over small projects, full disks, damaged stores'
 	@echo 'make shell      runs shell commands under tup_sh, builds examples/c and runs hostile commands (passed over where there is no strace)'
 	@echo 'make killed     fails and kills each system call of an update in turn, and what else only strace can show (ten minutes)'
+	@echo 'make figures    tells what opening a graph, noting a scan and ending a run cost, over graphs of up to 65,536 rules'
 	@echo 'make install    builds it and puts it at $(PREFIX)/bin/tup, tup_sh and tup_shim beside it, its page where `man tup` finds it'
 	@echo 'make uninstall  takes them away'
 	@echo 'make fmt        lays out every crate'
@@ -52,6 +53,10 @@ killed: build
 	sh tests/calls.sh $(TUP)
 	sh tests/together.sh $(TUP)
 	sh tests/killed.sh $(TUP)
+
+# In microseconds of a processor, over a store in memory.
+figures:
+	sh tests/figures.sh
 
 fmt:
 	for crate in crates/*; do (cd $$crate && rt fmt) || exit 1; done
