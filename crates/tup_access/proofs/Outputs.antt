@@ -1,22 +1,13 @@
 -- What a judged command leaves: all outputs of its rule in their order where it is Good, and else nothing.
-use Rattle.std.specs.Prelude.{◌≡◌, ◌≢◌, ℕ, zero, suc, ◌==◌, Bool, true, false, not, if◌then◌else◌, List, [], ◌∷◌, ◌++◌, length, map, unwrap_or, Option, None, Some}
-use Rattle.std.proofs.Common.{refl, sym, ap, subst}
+use Rattle.std.specs.Prelude.{◌≡◌, ◌≢◌, ℕ, ◌==◌, Bool, true, false, not, if◌then◌else◌, List, [], ◌∷◌, ◌++◌, map, unwrap_or, Option, None, Some}
+use Rattle.std.proofs.Common.{refl, ap}
 use Rattle.tup_path.specs.Name.{Names, Content}
-use Rattle.tup_path.specs.Tree.{Tree}
 use Rattle.tup_rule.specs.declared.rule.Rule.{Rule}
-use Rattle.tup_runner.specs.Next.{Next, Asks}
 use Rattle.tup_runner.specs.declared.step.Ended.{Ended}
-use Rattle.tup_runner.specs.declared.step.Step.{Step}
-use Rattle.tup_runner.specs.declared.step.Step.TheVariants.{Ask, End}
 use Rattle.tup_access.specs.declared.verdict.Verdict.{Verdict}
-use Rattle.tup_access.specs.declared.verdict.Verdict.TheVariants.{Good, Failed, IllegalWrite, Unwritten, TooManyReads}
-use Rattle.tup_access.specs.declared.verdict.Access.{Access}
-use Rattle.tup_access.specs.declared.verdict.Access.TheVariants.{Yes, No}
-use Rattle.tup_access.specs.Access.{access}
+use Rattle.tup_access.specs.declared.verdict.Verdict.TheVariants.{Good, Failed, IllegalWrite, Unwritten}
 use Rattle.tup_access.specs.Judge.{Judged, bad, good, judge, foreign_write, unwritten, last_written, files_of}
-use Rattle.tup_access.specs.Verdict.{answer, follow, verdict}
-use Rattle.tup_access.proofs.Permitted.{access-No}
-use Rattle.tup_access.proofs.Steps.{follow-End, follow-No, follow-Yes}
+use Rattle.tup_access.specs.Verdict.{verdict}
 
 -- a Good command leaves the outputs of its rule in their order, any other nothing
 pub record LeavesOutputs (rule : Rule) (judged : Judged) : Type 0 where
@@ -44,20 +35,3 @@ judge-LeavesOutputs rule ended = by_status (ended.status == 0)
     by_status : (b : Bool) → LeavesOutputs rule (if not b then bad (Failed ended.status) else elim (foreign_write rule ended.writes) [ Some w ↦ bad (IllegalWrite w.0) | None ↦ elim (unwritten rule ended.writes) [ Some path ↦ bad (Unwritten path) | None ↦ good (files_of rule ended.writes) ] ])
     by_status true = by_foreign (foreign_write rule ended.writes)
     by_status false = bad-LeavesOutputs rule (Failed ended.status) (λ e. cc)
-
-follow-LeavesOutputs : (next : Next) (rules : List Rule) (rule : Rule) (tree : Tree) (steps : ℕ) (asked : Asks) → LeavesOutputs rule (follow next rules rule tree steps asked)
-unfolding follow
-follow-LeavesOutputs next rules rule tree zero asked = bad-LeavesOutputs rule TooManyReads (λ e. cc)
-follow-LeavesOutputs next rules rule tree (suc steps) asked = by_step (follow-LeavesOutputs next rules rule tree steps) (next rule.dir rule.text asked) refl
-  where
-    by_access : ((later : Asks) → LeavesOutputs rule (follow next rules rule tree steps later)) → (text : List ℕ) (a : Access) → next rule.dir rule.text asked ≡ Ask text → access rules rule (length asked) text ≡ a → LeavesOutputs rule (follow next rules rule tree (suc steps) asked)
-    by_access after text (No refusal) e a = subst (LeavesOutputs rule) (sym (follow-No next rules rule tree steps asked text refusal e a)) (bad-LeavesOutputs rule refusal (access-No rules rule (length asked) text refusal a))
-    by_access after text (Yes path) e a = subst (LeavesOutputs rule) (sym (follow-Yes next rules rule tree steps asked text path e a)) (after (asked ++ (text, answer rule tree path) ∷ []))
-
-    by_step : ((later : Asks) → LeavesOutputs rule (follow next rules rule tree steps later)) → (s : Step) → next rule.dir rule.text asked ≡ s → LeavesOutputs rule (follow next rules rule tree (suc steps) asked)
-    by_step after (End ended) e = subst (LeavesOutputs rule) (sym (follow-End next rules rule tree steps asked ended e)) (judge-LeavesOutputs rule ended)
-    by_step after (Ask text) e = by_access after text (access rules rule (length asked) text) e refl
-
-pub verdict-LeavesOutputs : (next : Next) (rules : List Rule) (rule : Rule) (tree : Tree) → LeavesOutputs rule (verdict next rules rule tree)
-unfolding verdict
-verdict-LeavesOutputs next rules rule tree = follow-LeavesOutputs next rules rule tree 4096 []

@@ -142,11 +142,6 @@ gives_err reads next (Fault fault) first = ap (λ r. and_then r next) first
 gives_err reads next Stopped first = first
 gives_err reads next Memory first = tt
 
--- a value that is known needs no call
-pub given_then : {A B : Type 0} (value : A) (next : A → Reads ParseFault B) → and_then (gives value) next ≡ next value
-unfolding and_then
-given_then value next = refl
-
 -- the same process under another name
 pub gives_along : {A : Type 0} (one other : Reads ParseFault A) (end : Result A ReadEnd) → one ≡ other → Gives other end → Gives one end
 gives_along one other end same is = subst (λ r. Gives r end) (sym same) is

@@ -1,5 +1,5 @@
 -- Words that name folders, and files in folders.
-use Rattle.std.proofs.Common.{◌≡◌, inl, inr, ℕ, ◌+◌, ◌-◌, ◌<◌, Bool, true, false, cond, eqb, leb, ltb, not, if◌then◌else◌, List, [], ◌∷◌, ◌++◌, length, take, drop, Option, Some, None, Result, Ok, Err, slice_get, get_or, MatchOption, IfSome, refl, sym, ap, ◌∙◌, arith, eq-eqb, length-drop}
+use Rattle.std.proofs.Common.{◌≡◌, inl, inr, ℕ, ◌+◌, ◌-◌, ◌<◌, Bool, true, false, cond, eqb, leb, ltb, not, if◌then◌else◌, List, [], ◌∷◌, ◌++◌, length, take, drop, Option, Some, None, Result, Ok, Err, slice_get, get_or, MatchOption, IfSome, refl, sym, ap, ◌∙◌, arith, length-drop}
 use Rattle.std.specs.List.{IsLastAndRest}
 use Rattle.std.proofs.lemmas.List.{take_all, take_at, nil_from_length}
 use Rattle.std.proofs.lemmas.Bool.{ne_eqb}
@@ -30,11 +30,6 @@ pub last_slash_at : (word : List ℕ) (found : Option ℕ) → MatchOption found
     → IfSome found (λ slash. (slash < length word) × (get_or word slash 0 ≡ 47))
 last_slash_at word None h = tt
 last_slash_at word (Some slash) h = let there : eqb (get_or word slash 0) 47 ≡ true = h.1 in (h.0.high, grind (arith, nat_tests))
-
-pub front_none : (word : List ℕ) → last_name word ≡ word → front_of word ≡ None
-front_none word e =
-    let same : eqb (length (last_name word)) (length word) ≡ true = eq-eqb (length (last_name word)) (length word) (ap length e) in
-    ap (λ b. cond b None (Some (take (length word - (length (last_name word) + 1)) word))) same
 
 pub front_some : (word : List ℕ) (slash : ℕ) → slash < length word → last_name word ≡ drop (slash + 1) word → front_of word ≡ Some (take slash word)
 front_some word slash within e =

@@ -1,8 +1,7 @@
 -- The files that a glob gives.
-use Rattle.std.proofs.Common.{◌≡◌, ℕ, ◌+◌, ◌<◌, ◌≤◌, true, false, if◌then◌else◌, List, [], ◌∷◌, ◌++◌, length, get_or, drop, fold, map, filter_map, Option, None, option_map, IsUtf8, refl, sym, ap, ◌∙◌, subst, arith, length-append, append_assoc}
+use Rattle.std.proofs.Common.{◌≡◌, ℕ, ◌+◌, ◌<◌, ◌≤◌, true, if◌then◌else◌, List, [], ◌∷◌, ◌++◌, length, get_or, drop, fold, map, filter_map, Option, IsUtf8, refl, sym, ap, ◌∙◌, subst, arith, length-append, append_assoc}
 use lib.Utf8.{scalar, scalars}
 use Rattle.std.specs.BTreeSet.{insert_key}
-use Rattle.std.specs.Result.{result_ok}
 use Rattle.std.specs.Str.{IsCharBoundary, chars, encode_utf8_all}
 use Rattle.std.proofs.lemmas.Bool.{and_parts}
 use Rattle.std.proofs.lemmas.List.{at_drop_more, at_drop_all, map-append}
@@ -11,14 +10,12 @@ use Rattle.std.proofs.lemmas.List.Sums.{fold-append}
 use Rattle.std.proofs.lemmas.Str.{IsCharBoundary-at_seam, encodes-append, encodes-chars, scalars-chars}
 use Rattle.tup_path.specs.Name.{Names}
 use Rattle.tup_path.specs.Order.{by_bytes}
-use Rattle.tup_path.specs.Resolve.{below}
 use Rattle.tup_lex.specs.Word.{last_name}
 use Rattle.tup_lex.specs.declared.kind.ParseKind.TheVariants.{MissingInput}
 use Rattle.tup_lex.specs.declared.span.Span.{Span}
 use Rattle.tup_rule.specs.declared.draft.Draft.{Draft}
 use Rattle.tup_glob.specs.declared.symbol.Symbol.{Symbol}
 use Rattle.tup_glob.specs.Cut.{IsMatchedPart}
-use Rattle.tup_glob.specs.Match.{matches}
 use Rattle.tup_ask.specs.declared.fault.ParseFault.{ParseFault}
 use Rattle.tup_draft.specs.declared.found.Input.{Input}
 use Rattle.tup_draft.specs.declared.found.Found.{Found}
@@ -29,7 +26,7 @@ use Rattle.tup_ask.specs.Spot.{Spot}
 use Rattle.tup_draft.specs.State.{made_by}
 use Rattle.tup_draft.specs.Folder.{name_in, led_to_folder}
 use Rattle.tup_draft.specs.Found.{inputs_alone}
-use Rattle.tup_draft.specs.Glob.{names_among, in_order, names_of_files, matched_input, matching, glob_of, matched_in, globbed}
+use Rattle.tup_draft.specs.Glob.{names_among, in_order, names_of_files, matching, glob_of, matched_in, globbed}
 
 -- ---- what an operator matched
 scalars-behind : (front back : List ℕ) → scalars (front ++ back) ≡ true → scalars back ≡ true
@@ -105,13 +102,6 @@ behind_glob at drafts word symbols = and_then (led_to_folder at MissingInput wor
 pub globbed_by : (at : Spot) (drafts : List Draft) (word : List ℕ) → globbed at drafts word ≡ and_then (glob_of at (last_name word)) (behind_glob at drafts word)
 unfolding globbed
 globbed_by at drafts word = refl
-
--- a name that doesn't match, and one that does
-pub matching-none : (dir : Names) (symbols : List Symbol) (name : List ℕ) → matches symbols (chars name) ≡ false → matching dir symbols name ≡ None
-matching-none dir symbols name e = ap (λ b. if b then option_map (matched_input symbols name) (result_ok (below dir name)) else None) e
-
-pub matching-some : (dir : Names) (symbols : List Symbol) (name : List ℕ) → matches symbols (chars name) ≡ true → matching dir symbols name ≡ option_map (matched_input symbols name) (result_ok (below dir name))
-matching-some dir symbols name e = ap (λ b. if b then option_map (matched_input symbols name) (result_ok (below dir name)) else None) e
 
 -- the files that match among more names
 pub matches_more : {A : Type 0} (value : A → List ℕ) (h : List ℕ → Option Input) (seen : List A) (one : A) → filter_map h (map value (seen ++ one ∷ [])) ≡ filter_map h (map value seen) ++ filter_map h (value one ∷ [])

@@ -85,7 +85,3 @@ behind_pieces at parts command pieces = and_then (shown at parts command.display
 
 abbrev pub behind_command : Spot → FlagParts → Command → Reads ParseFault Spoken
 behind_command at parts command = and_then (flagged at parts command.text) (behind_pieces at parts command)
-
-pub spoken_by : (at : Spot) (parts : FlagParts) (text : List ℕ) → spoken at parts text ≡ and_then (with_carets at text) (behind_command at parts)
-unfolding spoken
-spoken_by at parts text = refl

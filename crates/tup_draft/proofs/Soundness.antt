@@ -147,10 +147,6 @@ made_last drafts draft path e =
 all_among : (paths : List Names) → All (λ path. among path paths ≡ true) paths
 all_among paths k d within = list_any_at (same_path (get_or paths k d)) paths k d within ((same_path-decides (get_or paths k d) (get_or paths k d)).1 refl)
 
--- the outputs of some rules are made by them
-among_append_left : (path : Names) (some more : List Names) → among path some ≡ true → among path (some ++ more) ≡ true
-among_append_left path some more e = list_any-append (same_path path) some more ∙ or_true (among path some) (among path more) e
-
 pub made_all : (drafts : List Draft) → All (λ path. is_made drafts path ≡ true) (made_by drafts)
 made_all [] = All-nil (λ path. is_made [] path ≡ true)
 made_all (draft ∷ more) =

@@ -309,12 +309,6 @@ fewer_begun old new next begins =
     let n : length new.under_way.items ≡ length old.under_way.items + 1 = ap length begins.under_way ∙ length-append old.under_way.items (next ∷ []) in
     omega (arith, fewer, n)
 
-pub fewer_noted : (old new : Work) (dir : Names) (left : Reading) → Notes dir left old new → steps_left new < steps_left old
-fewer_noted old new dir left notes =
-    let w : length new.waiting.keys ≡ length old.waiting.keys = ap length notes.waiting in
-    let n : length old.under_way.items ≡ length new.under_way.items + 1 = ap length notes.under_way ∙ length-append new.under_way.items (dir ∷ []) in
-    omega (arith, w, n)
-
 pub no_more : (old new : Work) → BeginsFirst old new → steps_left new ≤ steps_left old
 no_more old new (inl same) = let e : steps_left new ≡ steps_left old = ap steps_left same.0 in omega (arith, e)
 no_more old new (inr begins) = let less = fewer_begun old new begins.1.0 begins.1.1 in omega (arith, less)

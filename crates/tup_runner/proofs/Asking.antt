@@ -1,14 +1,10 @@
 -- One more ask of a command.
-use Rattle.std.proofs.Common.{◌≡◌, ℕ, zero, suc, ◌<◌, ◌≤◌, List, [], ◌∷◌, ◌++◌, length, take, Some, Result, Ok, Err, refl, sym, ap, ◌∙◌, inl, inr, arith}
+use Rattle.std.proofs.Common.{◌≡◌, ℕ, zero, suc, ◌<◌, ◌≤◌, List, [], ◌∷◌, ◌++◌, length, take, Some, refl, sym, ap, ◌∙◌, inl, inr, arith}
 use Rattle.std.proofs.lemmas.Bool.{cases_lt}
 use Rattle.std.proofs.lemmas.Option.{same_Some, none-some}
 use Rattle.std.specs.List.{slice_get}
-use Rattle.tup_path.specs.Name.{Names}
 use Rattle.tup_runner.specs.Next.{Asks}
 use Rattle.tup_runner.specs.Honest.{AsksJust}
-use Rattle.tup_runner.specs.Run.{Appends, CountsFaults, NeverFaults}
-use Rattle.tup_runner.specs.declared.fault.RunFailed.{RunFailed}
-use Rattle.tup_runner.specs.declared.fault.RunFailed.TheVariants.{Denied, View, Fault, Memory}
 use Rattle.tup_runner.specs.declared.step.Answer.{Answer}
 use Rattle.tup_runner.specs.declared.step.Step.{Step}
 use Rattle.tup_runner.specs.declared.step.Step.TheVariants.{Ask}
@@ -59,21 +55,3 @@ just_next does before asks ask just =
     behind_take : (xs ys : Asks) → take (length xs) (xs ++ ys) ≡ xs
     behind_take [] ys = refl
     behind_take (x ∷ xs) ys = ap (λ more. x ∷ more) (behind_take xs ys)
-
--- ---- runs
-
--- what a runner ran grew, whatever came of it
-pub appends_all : {A : Type 0} (started : Names × List ℕ) (old new : List (Names × List ℕ)) (result : Result A RunFailed) → new ≡ old ++ started ∷ [] → Appends started old new result
-appends_all started old new (Ok value) grown = grown
-appends_all started old new (Err Denied) grown = grown
-appends_all started old new (Err View) grown = grown
-appends_all started old new (Err Fault) grown = grown
-appends_all started old new (Err Memory) grown = inr grown
-
--- a count that stays is that of a runner that never fails
-pub counts_none : {A : Type 0} (count : ℕ) (result : Result A RunFailed) → NeverFaults result → CountsFaults count count result
-counts_none count (Ok value) never = refl
-counts_none count (Err Denied) never = refl
-counts_none count (Err View) never = refl
-counts_none count (Err Fault) never = absurd (never refl)
-counts_none count (Err Memory) never = refl

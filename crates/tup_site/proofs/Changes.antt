@@ -1,9 +1,8 @@
 -- A call of the site in memory: whether it has to fail, and what one file more or less makes of its tree.
-use Rattle.std.proofs.Common.{◌≡◌, ℕ, Bool, true, false, nat_eq, List, Option, None, Some, Result, Ok, Err, OnOk, OnErr, is_some, [], ◌∷◌, if◌then◌else◌, cond, inl, inr, refl, sym, ap, subst, ◌∙◌}
-use Rattle.std.specs.List.{list_any}
+use Rattle.std.proofs.Common.{◌≡◌, ℕ, Bool, true, false, Option, None, Some, Result, Ok, Err, OnOk, OnErr, is_some, [], ◌∷◌, if◌then◌else◌, cond, inl, inr, refl, sym, ap, subst, ◌∙◌}
 use Rattle.std.specs.BTreeMap.{BTreeMap, Updates, UpdatesBy, get}
 use Rattle.std.specs.FinMap as finite
-use Rattle.tup_path.specs.Name.{Names, Content, IsPath}
+use Rattle.tup_path.specs.Name.{Names, Content}
 use Rattle.tup_path.specs.Order.{same_path, by_names, by_names-total, by_names-antisymmetric}
 use Rattle.std.proofs.lemmas.Bool.{cases_Bool, both_ways}
 use Rattle.tup_path.proofs.Same.{by_names-decides, same_path-decides, same_tree, get_inserted_elsewhere, get_removed_elsewhere}
@@ -11,15 +10,9 @@ use Rattle.tup_path.specs.Tree.{Tree, IsTree, tree_of_files}
 use Rattle.tup_site.specs.Cause.{IsPlace, SameBut}
 use Rattle.tup_site.specs.Edit.{MayAdd}
 use Rattle.std.specs.Result.{is_err}
-use Rattle.tup_site.specs.Memory.{calls_of, fails_of, one_more, removal}
+use Rattle.tup_site.specs.Memory.{removal}
 use Rattle.tup_site.specs.declared.change.Change.TheVariants.{Removed}
-use Rattle.tup_site.proofs.Trees.{get-of_entries, from_entries-set, from_entries-unset, put_tree, removed_tree}
-use Rattle.tup_site.specs.declared.memory.MemSite.{MemSite}
-
--- whether a number is listed
-pub listed_number : (site : MemSite) (n : ℕ) (listed : List ℕ) (found : Bool) → n ≡ one_more (calls_of site) → listed ≡ fails_of site → found ≡ list_any (λ y. nat_eq y n) listed → found ≡ list_any (λ y. nat_eq y (one_more (calls_of site))) (fails_of site)
-listed_number site n listed found number list is =
-    is ∙ ap (list_any (λ y. nat_eq y n)) list ∙ ap (λ k. list_any (λ y. nat_eq y k) (fails_of site)) number
+use Rattle.tup_site.proofs.Trees.{get-of_entries, from_entries-set, from_entries-unset, removed_tree}
 
 -- what is found is what the tree has
 pub found_in_tree : (m : BTreeMap Names Content) (path : Names) (found : Option Content) → found ≡ get by_names m path → found ≡ finite.get (tree_of_files m.entries) path
@@ -30,10 +23,6 @@ set_in_tree m n path content updates = from_entries-set by_names-total by_names-
 
 pub unset_in_tree : (m n : BTreeMap Names Content) (path : Names) → UpdatesBy by_names (by_names path) m n None → tree_of_files n.entries ≡ finite.remove (tree_of_files m.entries) path
 unset_in_tree m n path updates = from_entries-unset by_names-total by_names-antisymmetric m.entries n.entries path updates.0
-
-pub stays_a_tree : {E : Type 0} (m n : BTreeMap Names Content) (path : Names) (content : Content) (result : Result (Option Content) E) → IsTree (tree_of_files m.entries) → IsPath path → IsPlace (tree_of_files m.entries) path → OnOk result (Updates by_names m n path (Some content)) → OnErr result (n.entries ≡ m.entries) → IsTree (tree_of_files n.entries)
-stays_a_tree m n path content (Ok old) is p place set kept = subst IsTree (sym (set_in_tree m n path content set)) (put_tree _ path content is p place)
-stays_a_tree m n path content (Err e) is p place set kept = subst (λ es. IsTree (tree_of_files es)) (sym kept) is
 
 pub stays_without : (m n : BTreeMap Names Content) (path : Names) → IsTree (tree_of_files m.entries) → UpdatesBy by_names (by_names path) m n None → IsTree (tree_of_files n.entries)
 stays_without m n path is updates = subst IsTree (sym (unset_in_tree m n path updates)) (removed_tree _ path is)

@@ -37,16 +37,6 @@ at_itself a b e = subst (λ (c : Stamp). is_at (by_stamp a) c ≡ true) e (ap is
 
 -- ---- what is held
 
-pub held_none : (entries : List (Stamp × Content)) → entries ≡ [] → IsHeld entries []
-held_none entries e = record {
-  held = λ content k. absurd (both_ways false refl k);
-  only = λ key content found. absurd (nothing key content (subst (λ (l : List (Stamp × Content)). under l key ≡ Some content) e found));
-  tied = λ key content found. absurd (nothing key content (subst (λ (l : List (Stamp × Content)). under l key ≡ Some content) e found));
-}
-  where
-    nothing : (key : Stamp) (content : Content) → under [] key ≡ Some content → ⊥
-    nothing key content found = cc
-
 -- the same found, and the same known
 pub held_same : (entries entries' : List (Stamp × Content)) (contents contents' : List Content) → ((key : Stamp) → under entries' key ≡ under entries key) → ((content : Content) → knows contents' content ≡ knows contents content) → IsHeld entries contents → IsHeld entries' contents'
 held_same entries entries' contents contents' same known is = record {
