@@ -16,7 +16,7 @@ use Rattle.tup_above.specs.Walk.{IsReached, IsWaiting, GoesTo, IsDone, IsWalk}
 use Rattle.tup_above.specs.declared.walk.Walk.{Walk}
 use Rattle.tup_above.proofs.Growing.{grows_on, grows_as, grows_nothing}
 use Rattle.tup_above.proofs.Members.{contained, in_set, in_empty, few_below, number-decides}
-use Rattle.tup_above.proofs.Asked.{asked_more, asked_of_none}
+use Rattle.tup_above.proofs.Asked.{asked_more}
 
 -- ---- one way behind another
 
@@ -67,12 +67,6 @@ goes_nowhere a none = record {
 
 none_listed : {X : Type 0} (x : X) → Contains [] x → ⊥
 none_listed x h = let less = h.1 in omega arith
-
-pub goes_to_none : (a : Walk) → GoesTo (Contains []) a a
-goes_to_none a = goes_nowhere a none_listed
-
-pub goes_to_no_path : (a : Walk) (g : GraphState) → GoesTo (HasAskedOneOf g []) a a
-goes_to_no_path a g = goes_nowhere a (asked_of_none g)
 
 -- ---- one more number, and one more path
 

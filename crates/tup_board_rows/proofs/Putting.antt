@@ -3,22 +3,19 @@ use Rattle.std.proofs.Common.{◌≡◌, ℕ, ◌+◌, ◌<◌, Bool, true, cond
 use Rattle.std.specs.Prelude.{◌⊎◌, All, Contains, IsSome, is_some, slice_get}
 use Rattle.std.specs.FinMap as finite
 use Rattle.std.proofs.lemmas.Bool.{cases_lt}
-use Rattle.std.proofs.lemmas.List.Elements.{All-contains, All-nil, All-push}
+use Rattle.std.proofs.lemmas.List.Elements.{All-contains, All-push}
 use Rattle.std.proofs.lemmas.Option.{get_or_from_slice_get}
 use Rattle.tup_path.specs.Name.{Names}
-use Rattle.tup_path.specs.Order.{by_names, by_names-total}
+use Rattle.tup_path.specs.Order.{by_names-total}
 use Rattle.tup_path.proofs.Same.{by_names-decides}
 use Rattle.tup_path.specs.Tree.{Tree}
 use Rattle.tup_rule.specs.declared.rule.Rule.{Rule}
 use Rattle.tup_site.proofs.Trees.{inserted_keeps}
-use Rattle.tup_board_rows.specs.Apart.{HasFile, HasOutputs, PutsAll, PutsNew, StandTogether}
+use Rattle.tup_board_rows.specs.Apart.{HasFile, HasOutputs, PutsAll, PutsNew}
 
 -- what a tree has at these paths, one that keeps it has
 all_kept : (old new : Tree) (paths : List Names) → ((path : Names) → HasFile old path → HasFile new path) → All (HasFile old) paths → All (HasFile new) paths
 all_kept old new paths kept all i d within = kept _ (all i d within)
-
-pub puts_none : (tree : Tree) → PutsAll [] tree tree
-puts_none tree = record { kept = λ path here. here; put = All-nil (HasFile tree) }
 
 -- one file more
 pub puts_more : (paths : List Names) (path : Names) (old tree new : Tree) → PutsAll paths old tree → new ≡ finite.insert tree path [] → PutsAll (paths ++ path ∷ []) old new
@@ -34,16 +31,6 @@ puts_more paths path old tree new before is = record {
     inserted =
         ap is_some (finite.get-insert by_names-total tree path [] path
         ∙ ap (λ (b : Bool). cond b (Some []) (finite.get tree path)) ((by_names-decides path path).1 refl))
-
--- no outputs yet
-pub no_outputs : (rules : List Rule) (tree : Tree) → HasOutputs rules 0 tree
-no_outputs rules tree = record {
-  files = λ at rule less here. absurd (none at less);
-  once = λ at other rule another path before less here there made also. absurd (none other less);
-}
-  where
-    none : (n : ℕ) → n < 0 → ⊥
-    none n less = omega (arith, less)
 
 -- the outputs of one rule more, none of which was there
 pub outputs_more : (rules : List Rule) (count : ℕ) (rule : Rule) (old new : Tree) → rule ≡ get_or rules count rule → HasOutputs rules count old → PutsNew rule.outputs old new

@@ -77,14 +77,6 @@ room_same path q value before after has is = ap is_some is ∙ either (eq_by_cmp
     either true same = sym (has (sym ((same_path-decides q path).0 (sym (same_key path q) ∙ same))))
     either false apart = refl
 
--- one more path in a set
-pub one_added : (paths : List Names) (i : ℕ) (item copy path : Names) (first before after : Bool) → i < length paths → item ≡ get_or paths i item → copy ≡ item →
-    before ≡ (first || among path (take i paths)) → after ≡ cond (eq_by_cmp by_names copy path) true before → after ≡ (first || among path (take (i + 1) paths))
-one_added paths i item copy path first before after within is copied was now =
-    let here : eq_by_cmp by_names copy path ≡ same_path path (get_or paths i item) = ap (λ p. eq_by_cmp by_names p path) (copied ∙ is) ∙ same_key (get_or paths i item) path in
-    now ∙ (λ k. cond (here k) true (was k)) ∙ one_more first (among path (take i paths)) (same_path path (get_or paths i item))
-    ∙ ap (λ more. first || more) (sym (list_any_more (same_path path) paths i item within))
-
 -- ---- files in a list
 
 -- a listed file's path is among the paths

@@ -48,8 +48,3 @@ pub flag_none : (count at : ℕ) → flag (replicate count false) at ≡ false
 flag_none zero at = refl
 flag_none (suc count) zero = refl
 flag_none (suc count) (suc at) = flag_none count at
-
-pub number_none : (count at : ℕ) → number (replicate count 0) at ≡ 0
-number_none zero at = refl
-number_none (suc count) zero = refl
-number_none (suc count) (suc at) = number_none count at

@@ -1,12 +1,12 @@
 -- How a core answers each event.
-use Rattle.std.proofs.Common.{◌≡◌, ◌↔◌, ℕ, ◌<◌, ◌≤◌, ◌==◌, nat_lt, min, Bool, true, false, List, [], length, get_or, map, Vec, Option, None, Some, Ok, Err, refl, sym, ap, ◌∙◌, subst, inl, inr, arith}
+use Rattle.std.proofs.Common.{◌≡◌, ◌↔◌, ℕ, ◌<◌, ◌≤◌, ◌==◌, nat_lt, Bool, true, false, List, [], length, get_or, map, Vec, Option, None, Some, Ok, Err, refl, sym, ap, ◌∙◌, subst, inl, inr, arith}
 use Rattle.std.specs.Prelude.{Result, if◌then◌else◌, slice_get, slice_set, unwrap_or, IsTrue}
 use Rattle.std.specs.Option.{option_map}
 use Rattle.std.specs.Result.{IsErrAnd, OnErr}
 use Rattle.std.specs.Vec.{with_items}
-use Rattle.std.proofs.lemmas.Bool.{true≢false, cases_eq, cases_lt, le-leb, eqb-true, eq-eqb, ltb-true}
+use Rattle.std.proofs.lemmas.Bool.{true≢false, cases_eq, eqb-true, eq-eqb, ltb-true}
 use Rattle.std.proofs.lemmas.Option.{same_Some, none-some, slice_get_within, unwrap_or-slice_get, slice_get-get_or, slice_get_read}
-use Rattle.std.proofs.lemmas.List.{length-set, set-get_or, nil_from_length, with_items_is}
+use Rattle.std.proofs.lemmas.List.{length-set, nil_from_length, with_items_is}
 use Rattle.tup_path.specs.Name.{Names}
 use Rattle.tup_stamp.specs.declared.Stamp.{Stamp}
 use Rattle.tup_rule.specs.declared.rule.Rule.{Rule}
@@ -25,7 +25,7 @@ use Rattle.tup_core.specs.declared.fault.CoreFault.TheVariants.{NotEnabled, Memo
 use Rattle.tup_core.specs.declared.plan.Plan.{Plan}
 use Rattle.tup_core.specs.declared.running.Running.{Running}
 use Rattle.tup_core.specs.declared.machine.Core.{Core}
-use Rattle.tup_core.specs.Step.{State, changed, with_stamps, is_reached, IsEnabled, IsReady, Runs, CanAsk, CanDeny, CanFinish, FitsEnd, Step, asked, refused, emptied, ended, stopped_by, told}
+use Rattle.tup_core.specs.Step.{State, changed, with_stamps, is_reached, IsReady, Runs, CanAsk, CanDeny, CanFinish, FitsEnd, Step, asked, refused, emptied, ended, stopped_by, told}
 use Rattle.tup_core.specs.Waiting.{flag, number, IsWaiting, CanRelease, Releases}
 use Rattle.tup_core.specs.Files.{stamp_in, has_room}
 use Rattle.tup_core.specs.Ending.{IsUnrefused}
@@ -40,21 +40,8 @@ use Rattle.tup_core.proofs.MachineLaws.{ready_settled}
 not_both : {T : Type 0} (fault : CoreFault) (done : T) → Err fault ≡ Ok done → ⊥
 not_both fault done e = cc
 
-not_memory : {T : Type 0} → (let r : Result T CoreFault = Err NotEnabled in r ≡ Err Memory) → ⊥
-not_memory e = cc
-
 not_refusal : {T : Type 0} → (let r : Result T CoreFault = Err Memory in r ≡ Err NotEnabled) → ⊥
 not_refusal e = cc
-
--- an event that isn't enabled
-pub answer_refused : {T : Type 0} (plan : Plan) (old : Core) (event : CoreEvent) → IsCore plan old → (IsEnabled plan (state_of old) event → ⊥) → Answers {T = T} plan old event (Err NotEnabled) old
-answer_refused plan old event is disabled = record {
-  core = is;
-  ok = λ done e. absurd (not_both NotEnabled done e);
-  not_enabled = λ e. disabled;
-  memory = λ e. absurd (not_memory e);
-  unchanged = λ fault e. refl;
-}
 
 -- an event that is taken
 pub answer_ok : {T : Type 0} (plan : Plan) (old new : Core) (event : CoreEvent) (done : T) → IsCore plan new → Step plan (state_of old) event (state_of new) → Answers plan old event (Ok done) new
@@ -154,10 +141,6 @@ claim_taken plan old from seat at done is free ready claimed seats =
       },
     )
 
-pub claim_refused : {T : Type 0} (plan : Plan) (old : Core) (seat at : ℕ) → IsCore plan old → (slice_get old.seats.items seat ≡ Some None → IsReady plan (state_of old) at → ⊥) → Answers {T = T} plan old (Claim seat at) (Err NotEnabled) old
-claim_refused plan old seat at is neither =
-    answer_refused plan old (Claim seat at) is (λ enabled. neither (seat_in old.seats.items seat None (sits plan old seat is enabled.0) enabled.1) enabled.2)
-
 -- ---- an ask
 
 -- one seat's command asked, or was refused
@@ -240,10 +223,6 @@ rule_within plan core seat running is here = (is.running seat running (seat_here
 pub same_running : (plan : Plan) (core : Core) (seat : ℕ) (one other : Running) (rule : Rule) → slice_get core.seats.items seat ≡ Some (Some one) → Runs plan (state_of core) seat other rule → one ≡ other
 same_running plan core seat one other rule here runs = same_Some one other (sym (seat_here core.seats.items seat (Some one) here) ∙ runs.here)
 
-pub none_asks : (plan : Plan) (core : Core) (seat : ℕ) → IsCore plan core → ((running : Running) → slice_get core.seats.items seat ≡ Some (Some running) → running.denied ≡ None → ⊥) →
-    (running : Running) (rule : Rule) → Runs plan (state_of core) seat running rule → running.denied ≡ None → ⊥
-none_asks plan core seat is none running rule runs going = none running (seat_in core.seats.items seat (Some running) (sits plan core seat is runs.within) runs.here) going
-
 -- its command is judged by its rule and the number of its asks
 same_access : (plan : Plan) (core : Core) (seat : ℕ) (one other : Running) (rule another : Rule) (text : List ℕ) → IsAsking plan core seat one rule → Runs plan (state_of core) seat other another →
     access plan.rules rule (length one.asks) text ≡ access plan.rules another (length other.asks) text
@@ -290,16 +269,6 @@ pub deny_yes : (plan : Plan) (core : Core) (seat : ℕ) (running : Running) (rul
     CanDeny plan (state_of core) seat text verdict → ⊥
 deny_yes plan core seat running rule path verdict text asking granted can = yes_no path verdict (sym granted ∙ same_access plan core seat running can.0 rule can.1 text asking can.2 ∙ can.4)
 
--- whoever asked 4,096 times or more is judged alike
-pub access_least : (rules : List Rule) (rule : Rule) (asked : ℕ) (text : List ℕ) → access rules rule (min asked 4096) text ≡ access rules rule asked text
-access_least rules rule asked text = elim (cases_lt asked 4096) [
-  | inl below ↦ ap (λ (n : ℕ). access rules rule n text) (omega (arith, below))
-  | inr above ↦ late (min asked 4096) (omega (arith, above)) ∙ sym (late asked (omega (arith, above)))
-]
-  where
-    late : (n : ℕ) → 4095 ≤ n → access rules rule n text ≡ No TooManyReads
-    late n many = rw (le-leb 4095 n many) refl
-
 -- ---- an end
 
 -- what a Good end writes, there is room for
@@ -317,15 +286,6 @@ ends_within plan old seat verdict writes at is ends = subst (IsSettled plan old)
 -- the seat's rule can be completed
 pub ends_release : (plan : Plan) (old : Core) (at : ℕ) → IsCore plan old → at < length plan.rules → flag old.pending.items at ≡ true → CanRelease at old.waiting
 ends_release plan old at is within up = can_release plan.rules (is_reached plan) old.pending.items old.waiting at is.waiting within up
-
--- what is written down was completed
-pub completed_same : (at : ℕ) (old : Core) → flag old.pending.items at ≡ false → at < length old.pending.items → Completes at old old
-completed_same at old down within = record {
-  pending = sym (ap (slice_set old.pending.items at) (sym down ∙ unwrap_or-slice_get old.pending.items at false) ∙ set-get_or old.pending.items at false);
-  waiting = λ rules reached is. is;
-  fewer = λ other. omega arith;
-  rest = refl;
-}
 
 pub completed_new : (at : ℕ) (old from : Core) → flag old.pending.items at ≡ true → from.pending.items ≡ slice_set old.pending.items at false → Releases at old.waiting from.waiting →
     Completes at old (record old { pending = from.pending; waiting = from.waiting })
@@ -459,10 +419,6 @@ finished_bad plan old from seat at verdict written done is bad ends seats bads s
           ∙ sym (ended_bad plan (emptied (state_of old) seat) ends.running.rule verdict written bad)
           ∙ sym (finished_is plan (state_of old) seat ends.running verdict written ends.runs.here),
     )
-
--- nothing may end where nothing runs, or not so
-pub none_ends : (plan : Plan) (core : Core) (seat : ℕ) (verdict : Verdict) (written : List (Names × Stamp)) → IsCore plan core → ((running : Running) → slice_get core.seats.items seat ≡ Some (Some running) → ⊥) → CanFinish plan (state_of core) seat verdict written → ⊥
-none_ends plan core seat verdict written is none can = none can.0 (seat_in core.seats.items seat (Some can.0) (sits plan core seat is can.2.within) can.2.here)
 
 pub not_so : (plan : Plan) (core : Core) (seat : ℕ) (verdict : Verdict) (written : List (Names × Stamp)) (running : Running) (rule : Rule) → slice_get core.seats.items seat ≡ Some (Some running) → slice_get plan.rules running.rule ≡ Some rule →
     (FitsEnd rule running.denied verdict written → ⊥) → CanFinish plan (state_of core) seat verdict written → ⊥

@@ -93,11 +93,6 @@ reader_there rules readers other at are some = by (slice_get rules at) refl
     by (Some rule) is = (rule, is)
     by None is = absurd (let none = are.within at other (unwrap_or (slice_get readers other) []) is (there readers other at some) in omega (arith, none, some))
 
-pub readers_within : (rules : List Rule) (readers : List (List ℕ)) → AreReaders rules readers → AreWithin readers
-readers_within rules readers are = λ other at some.
-    let found = reader_there rules readers other at are some in
-    subst (λ (n : ℕ). at < n) (sym are.many) (slice_get_within rules at found.0 found.1)
-
 -- what a rule leads to is a rule
 led_there : (rules : List Rule) (readers : List (List ℕ)) (between from at : ℕ) → AreReaders rules readers → Leads between readers from at → (rule : Rule) × (slice_get rules at ≡ Some rule)
 led_there rules readers zero from at are some = reader_there rules readers from at are some
@@ -379,12 +374,6 @@ pub record AreFilled (readers : List (List ℕ)) (pending : List Bool) (count : 
   pub many : length lists ≡ count
   pub down : AreDown seen
   pub each : (from : ℕ) → from < count → AreWaiters readers pending from (unwrap_or (slice_get lists from) [])
-
-pub filled_none : (readers : List (List ℕ)) (pending seen : List Bool) → length seen ≡ length readers → AreDown seen → AreFilled readers pending 0 seen []
-filled_none readers pending seen long down = record { long = long; many = refl; down = down; each = λ from below. absurd (none from below) }
-  where
-    none : (from : ℕ) → from < 0 → ⊥
-    none from below = omega arith
 
 pub filled_more : (readers : List (List ℕ)) (pending : List Bool) (count : ℕ) (seen new : List Bool) (lists : List (List ℕ)) (list : List ℕ) → AreFilled readers pending count seen lists → length new ≡ length seen → AreDown new →
     AreWaiters readers pending count list → AreFilled readers pending (count + 1) new (lists ++ list ∷ [])

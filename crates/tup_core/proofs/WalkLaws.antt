@@ -8,7 +8,7 @@ use Rattle.std.proofs.lemmas.List.Sums.{sum_by-set}
 use Rattle.tup_clean.specs.Queue.{count_of}
 use Rattle.tup_clean.proofs.Counting.{one_if-same, one_if-other, count_of-push, count_of-here}
 use Rattle.tup_core.specs.Waiting.{flag, number, times, AreDown, AreWithin, AreWaiters}
-use Rattle.tup_core.specs.Walk.{downs, AreFlagged, Notes, follows, IsWalked}
+use Rattle.tup_core.specs.Walk.{AreFlagged, Notes, follows, IsWalked}
 use Rattle.tup_core.proofs.ItemLaws.{set_same, set_other, flag_within, number_front}
 
 -- ---- counts
@@ -86,19 +86,6 @@ pub notes_step : (places : List ℕ) (i place : ℕ) (seen : List Bool) (found :
 notes_step places i place seen found middle between new now less here done next =
     subst (λ (l : List ℕ). Notes l seen found new now) (sym (take_more places i 0 less ∙ ap (λ (p : ℕ). take i places ++ p ∷ []) (sym here)))
     (notes_more (take i places) place seen found middle between new now done next)
-
--- a place that was seen
-pub notes_known : (place : ℕ) (seen : List Bool) (found : List ℕ) → flag seen place ≡ true → Notes (place ∷ []) seen found seen found
-notes_known place seen found up = record {
-  many = refl;
-  flagged = λ all. all;
-  kept = λ at still. still;
-  noted = λ at some. subst (λ (n : ℕ). flag seen n ≡ true) (counted_one place at some) up;
-  others = λ at still. inl still;
-  longer = omega arith;
-  front = λ i below. refl;
-  measure = refl;
-}
 
 -- and one that wasn't
 pub notes_new : (place : ℕ) (seen : List Bool) (found : List ℕ) → place < length seen → flag seen place ≡ false → Notes (place ∷ []) seen found (slice_set seen place true) (found ++ place ∷ [])
@@ -222,11 +209,6 @@ walked_more readers pending from found next seen at new now walked less is notes
     nearer : (n m : ℕ) → (n ≡ m → ⊥) → n < m + 1 → n < m
     nearer n m apart below = omega arith
 
--- there is less to do
-pub walk_falls : (found now : List ℕ) (seen new : List Bool) (next : ℕ) → next < length found → downs new + length now ≡ downs seen + length found → length found ≤ length now →
-    downs new + (length now - (next + 1)) < downs seen + (length found - next)
-walk_falls found now seen new next less measure longer = omega (arith, less, measure, longer)
-
 -- at the end all waiters were found
 pub walked_waiters : (readers : List (List ℕ)) (pending : List Bool) (from : ℕ) (found : List ℕ) (seen : List Bool) → flag pending from ≡ true → IsWalked readers pending from found (length found) seen → AreWaiters readers pending from found
 walked_waiters readers pending from found seen up walked = record {
@@ -243,19 +225,6 @@ walked_waiters readers pending from found seen up walked = record {
     small : (b : Bool) → (if b then 1 else 0) ≤ 1
     small true = omega arith
     small false = omega arith
-
--- nothing waits for a rule that isn't pending
-pub no_waiters : (readers : List (List ℕ)) (pending : List Bool) (from : ℕ) → flag pending from ≡ false → AreWaiters readers pending from []
-no_waiters readers pending from down = record {
-  none = λ still. refl;
-  first = λ up. absurd (true≢false (sym up ∙ down));
-  onward = λ next at some. absurd (none some);
-  led = λ at some. absurd (none some);
-  once = λ at. omega arith;
-}
-  where
-    none : 0 < 0 → ⊥
-    none some = omega arith
 
 -- ---- flags that are taken down
 

@@ -2,7 +2,6 @@
 use Rattle.std.proofs.Common.{◌≡◌, ℕ, zero, suc, ◌+◌, ◌*◌, ◌<◌, ◌≤◌, ◌==◌, Bool, true, false, ◌||◌, List, [], ◌∷◌, length, Option, None, Some, refl, sym, ap, ◌∙◌, subst, inl, inr, arith}
 use Rattle.std.specs.Prelude.{if◌then◌else◌, is_none}
 use Rattle.std.specs.List.{list_any}
-use Rattle.std.specs.Option.{option_map}
 use Rattle.std.proofs.lemmas.Bool.{true≢false, eqb-true}
 use Rattle.tup_path.specs.Name.{Names}
 use Rattle.tup_stamp.specs.declared.Stamp.{Stamp}
@@ -10,10 +9,10 @@ use Rattle.tup_access.specs.declared.verdict.Verdict.{Verdict}
 use Rattle.tup_access.specs.declared.verdict.Verdict.TheVariants.{Good, Failed, IllegalRead, IllegalWrite, Unwritten, TooManyReads}
 use Rattle.tup_core.specs.declared.event.Cause.{Cause}
 use Rattle.tup_core.specs.declared.event.Cause.TheVariants.{Bad}
-use Rattle.tup_core.specs.declared.event.CoreEvent.TheVariants.{Claim, Ask, Deny, Finish, Stop}
+use Rattle.tup_core.specs.declared.event.CoreEvent.TheVariants.{Claim, Finish, Stop}
 use Rattle.tup_core.specs.declared.plan.Plan.{Plan}
 use Rattle.tup_core.specs.declared.running.Running.{Running}
-use Rattle.tup_core.specs.Step.{State, IsEnabled, after, changed, emptied, ended, asked, refused, is_reached, opening, stopped_by}
+use Rattle.tup_core.specs.Step.{State, IsEnabled, after, changed, emptied, ended, is_reached, opening, stopped_by}
 use Rattle.tup_core.proofs.Changed.{changed_cases}
 use Rattle.tup_core.proofs.Orderly.{claimed_ended, seats_ended, finished_is}
 use Rattle.tup_course.specs.Room.{unclaimed, runs_one, busy, to_come}
@@ -113,31 +112,6 @@ claim_costs plan state seat rule enabled reached =
     let more = busy_changed state.seats seat (Some (record { rule = rule; asks = []; denied = None })) 16 enabled.0 in
     let free = ap runs_one enabled.1 in
     omega (arith, fewer, more, free)
-
--- an event at a seat whose command goes on leaves all
-pub ask_costs : (plan : Plan) (state : State) (seat : ℕ) (text : List ℕ) (answer : Option Stamp) → IsEnabled plan state (Ask seat text answer)
-    → to_come plan (after plan state (Ask seat text answer)) ≤ to_come plan state
-ask_costs plan state seat text answer enabled =
-    let runs = enabled.3 in
-    let same = busy_changed state.seats seat (option_map (asked text answer) (state.seats seat)) 16 runs.within in
-    let one = still (state.seats seat) enabled.0 (asked text answer) runs.here in
-    omega (arith, same, one)
-  where
-    still : (here : Option Running) (running : Running) (change : Running → Running) → here ≡ Some running → runs_one (option_map change here) ≡ runs_one here
-    still None running change is = refl
-    still (Some other) running change is = refl
-
-pub deny_costs : (plan : Plan) (state : State) (seat : ℕ) (text : List ℕ) (verdict : Verdict) → IsEnabled plan state (Deny seat text verdict)
-    → to_come plan (after plan state (Deny seat text verdict)) ≤ to_come plan state
-deny_costs plan state seat text verdict enabled =
-    let runs = enabled.2 in
-    let same = busy_changed state.seats seat (option_map (refused text verdict) (state.seats seat)) 16 runs.within in
-    let one = still (state.seats seat) (refused text verdict) in
-    omega (arith, same, one)
-  where
-    still : (here : Option Running) (change : Running → Running) → runs_one (option_map change here) ≡ runs_one here
-    still None change = refl
-    still (Some other) change = refl
 
 -- the end of a command takes one away
 bad_goes : (state : State) (keep_going : Bool) → (if is_none (if keep_going then state.stopped else stopped_by state Bad) then 1 else 0) ≤ going state

@@ -37,9 +37,6 @@ stable_not unrefuted p = unrefuted (λ none. none p)
 pub stable_both : {P Q : Type 0} → Stable P → Stable Q → Stable (P × Q)
 stable_both p q unrefuted = (p (λ none. unrefuted (λ both. none both.0)), q (λ none. unrefuted (λ both. none both.1)))
 
-pub stable_if : {P Q : Type 0} → Stable Q → Stable (P → Q)
-stable_if q unrefuted p = q (λ none. unrefuted (λ follows. none (follows p)))
-
 pub stable_either : {P Q : Type 0} → Settled P → Stable Q → Stable (P ⊎ Q)
 stable_either (inl p) q unrefuted = inl p
 stable_either {P} {Q} (inr no_p) q unrefuted = inr (q (λ no_q. unrefuted (neither no_q)))

@@ -1,7 +1,6 @@
 -- Giving up paths, by how the settling and the commit ended.
 use Rattle.std.proofs.Common.{◌≡◌, ◌⊎◌, ◌&&◌, Bool, true, false, List, [], ◌∷◌, IsTrue, Result, Ok, Err, inl, inr, ⊎_elim, refl, sym, ap, subst, ◌∙◌}
 use Rattle.std.specs.Result.{OnOk}
-use Rattle.tup_path.specs.Gives.{GivesUnless}
 use Rattle.tup_path.specs.Name.{Names}
 use Rattle.tup_site.specs.World.{World}
 use Rattle.tup_table.specs.Table.{is_fresh as is_fresh_table}
@@ -14,7 +13,7 @@ use Rattle.tup_graph.specs.declared.fault.GraphFault.{GraphFault}
 use Rattle.tup_graph.specs.declared.fault.GraphFault.TheVariants.{NotThere, BadStore, Site, Full, Memory}
 use Rattle.tup_kept.specs.Held.{Held, is_fresh}
 use Rattle.tup_kept.specs.Transaction.{Leaves, to_write, with_changes}
-use Rattle.tup_ledger.specs.Given.{GivesUp, IsRefused}
+use Rattle.tup_ledger.specs.Given.{GivesUp}
 
 module _ (tells : Bool) (paths : List Names) (old : Held) (v w : World) (same : IsTrue tells → w ≡ v) where
   -- the settling failed
@@ -51,8 +50,3 @@ module _ (edits : List Edit) (nodes : GraphState) (old new : Held) (fresh : IsTr
       then (subst (λ (h : Held). IsTrue (is_fresh h)) (sym leaves.0) (changed_is_fresh old.table (to_write old edits) (second old.whole (is_fresh_table old.table) fresh)))
       (ap (λ (h : Held). h.nodes) leaves.0)
   ok_after before now (Err fault) leaves then = tt
-
--- what is told where the store has no room
-pub told_full : (result : Result (Unit {0}) GraphFault) → GivesUnless result Memory (Err Full) → IsRefused result
-told_full result gives =
-    ⊎_elim (λ is. subst IsRefused (sym is) (inr (inr refl))) (λ is. subst IsRefused (sym is) (inl refl)) gives

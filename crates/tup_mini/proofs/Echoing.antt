@@ -1,6 +1,6 @@
 -- The line of `echo`, word by word.
 use Rattle.std.proofs.Common.{◌≡◌, ℕ, zero, suc, ◌+◌, ◌<◌, ◌≤◌, List, [], ◌∷◌, ◌++◌, length, get_or, drop, append_assoc, refl, sym, ap, ◌∙◌, arith}
-use Rattle.std.proofs.lemmas.List.{at_drop_more, drop_all}
+use Rattle.std.proofs.lemmas.List.{at_drop_more}
 use Rattle.tup_path.specs.Name.{Content}
 use Rattle.tup_mini.specs.Steps.{echoed}
 
@@ -37,11 +37,3 @@ next_word words (suc at) word line less here later so_far =
     more_at : (w : List ℕ) (n : ℕ) → 0 < n → (ws : List (List ℕ)) → echoed (w ∷ ws) ≡ w ++ behind n ws
     more_at w zero some ws = absurd (omega arith)
     more_at w (suc n) some ws = more w n ws
-
--- the end
-pub no_word : (words : List (List ℕ)) (at : ℕ) (line : List ℕ) → length words ≤ at → line ++ behind at (drop at words) ≡ echoed words → line ++ 10 ∷ [] ≡ echoed words
-no_word words at line all so_far = ap (λ t. line ++ t) (sym (ap (behind at) (drop_all at words all) ∙ end at)) ∙ so_far
-  where
-    end : (n : ℕ) → behind n [] ≡ 10 ∷ []
-    end zero = refl
-    end (suc n) = refl

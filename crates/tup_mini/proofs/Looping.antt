@@ -1,10 +1,10 @@
 -- One more turn of each loop, as the definitions have it.
 use Rattle.std.proofs.Common.{◌≡◌, ℕ, zero, suc, ◌+◌, ◌-◌, ◌<◌, ◌≤◌, arith, List, ◌∷◌, ◌++◌, length, get_or, drop, Option, None, Some, refl, sym, ap, ◌∙◌}
-use Rattle.std.proofs.lemmas.List.{at_drop_more, drop_all}
+use Rattle.std.proofs.lemmas.List.{at_drop_more}
 use Rattle.tup_path.specs.Name.{Content}
 use Rattle.tup_mini.specs.declared.step.MiniStep.{MiniStep}
 use Rattle.tup_mini.specs.Kept.{Kept}
-use Rattle.tup_mini.specs.Part.{Part, ◌>>=◌, gives}
+use Rattle.tup_mini.specs.Part.{Part, ◌>>=◌}
 use Rattle.tup_mini.specs.Kept.{own_content}
 use Rattle.tup_mini.specs.Part.{ask_for}
 use Rattle.tup_mini.specs.Files.{reads_own, reads, needs, gathers}
@@ -25,16 +25,10 @@ pub gathers-more : (whole : Content) (from : List (List ℕ)) (at : ℕ) (text :
     → gathers whole (drop at from) ≡ (needs text >>= λ content. gathers (whole ++ content) (drop (at + 1) from))
 gathers-more whole from at text less here = at_drop_more (gathers whole) from at text less ∙ ap (λ (t : List ℕ). gathers whole (t ∷ drop (at + 1) from)) (sym here)
 
-pub gathers-all : (whole : Content) (from : List (List ℕ)) (at : ℕ) → length from ≤ at → gathers whole (drop at from) ≡ gives whole
-gathers-all whole from at all = ap (gathers whole) (drop_all at from all)
-
 -- ---- steps
 
 pub runs-more : (steps : List MiniStep) (at : ℕ) (step : MiniStep) → at < length steps → step ≡ get_or steps at step → runs (drop at steps) ≡ (does step >>= λ done. runs (drop (at + 1) steps))
 runs-more steps at step less here = at_drop_more runs steps at step less ∙ ap (λ (s : MiniStep). runs (s ∷ drop (at + 1) steps)) (sym here)
-
-pub runs-all : (steps : List MiniStep) (at : ℕ) → length steps ≤ at → runs (drop at steps) ≡ gives tt
-runs-all steps at all = ap runs (drop_all at steps all)
 
 -- ---- lines
 
@@ -44,11 +38,6 @@ line_part include text whole line lines found = elim found [
   | None ↦ expands include text (whole ++ line) lines
   | Some name ↦ include (folder_part text ++ name) whole >>= λ grown. expands include text grown lines
 ]
-
-pub line-plain : (include : List ℕ → Content → Part Content) (text : List ℕ) (whole : Content) (rest line more : List ℕ) → lines_of rest ≡ line ∷ lines_of more → None ≡ included (unended line)
-    → expands include text whole (lines_of rest) ≡ expands include text (whole ++ line) (lines_of more)
-line-plain include text whole rest line more cut none =
-    ap (expands include text whole) cut ∙ ap (line_part include text whole line (lines_of more)) (sym none)
 
 pub line-include : (include : List ℕ → Content → Part Content) (text : List ℕ) (whole : Content) (rest line more name beside : List ℕ) → lines_of rest ≡ line ∷ lines_of more → Some name ≡ included (unended line)
     → beside ≡ folder_part text ++ name → expands include text whole (lines_of rest) ≡ (include beside whole >>= λ grown. expands include text grown (lines_of more))

@@ -59,9 +59,6 @@ place_within dir (write ∷ writes) path at here = by (names dir write.0 path) (
 
 -- ---- what is looked up
 
-pub own-none : (dir : Names) (writes : Writes) (text : List ℕ) → None ≡ path_of dir text → None ≡ own_content dir writes text
-own-none dir writes text none = ap (λ (o : Option Names). elim o [ Some path ↦ content_of dir writes path | None ↦ None ]) none
-
 own-path : (dir : Names) (writes : Writes) (text : List ℕ) (path : Names) → Some path ≡ path_of dir text → content_of dir writes path ≡ own_content dir writes text
 own-path dir writes text path some = ap (λ (o : Option Names). elim o [ Some found ↦ content_of dir writes found | None ↦ None ]) some
 
@@ -117,10 +114,6 @@ placed-unnamed dir writes places text content none has = record {
     none_or : (o : Option ℕ) → option_or o None ≡ o
     none_or (Some at) = refl
     none_or None = refl
-
-pub with-unnamed : (dir : Names) (writes : Writes) (text : List ℕ) (content : Content) → None ≡ path_of dir text → writes ++ (text, content) ∷ [] ≡ with_write dir writes text content
-with-unnamed dir writes text content none =
-    ap (λ (o : Option Names). elim o [ Some path ↦ rewritten dir writes path text content | None ↦ writes ++ (text, content) ∷ [] ]) none
 
 with-named : (dir : Names) (writes : Writes) (text : List ℕ) (path : Names) (content : Content) → Some path ≡ path_of dir text → set_at writes (place_of dir writes path) text content ≡ with_write dir writes text content
 with-named dir writes text path content some =

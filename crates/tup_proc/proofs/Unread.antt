@@ -21,12 +21,6 @@ no_read said none (Absent text) is e = absurd (other_first 82 65 _ _ refl e)
 no_read said none (Wrote file text) is e = absurd (other_first 82 87 _ _ refl e)
 no_read said none (End status) is e = absurd (other_first 82 69 _ _ refl e)
 
-pub no_absent : (said : List ℕ) → (IsLineText said → ⊥) → IsNoLine (65 ∷ 32 ∷ said)
-no_absent said none (Read stamp text) is e = absurd (other_first 65 82 _ _ refl e)
-no_absent said none (Absent text) is e = let same : text ≡ said = cc in none (subst IsLineText same is)
-no_absent said none (Wrote file text) is e = absurd (other_first 65 87 _ _ refl e)
-no_absent said none (End status) is e = absurd (other_first 65 69 _ _ refl e)
-
 no_wrote : (said : List ℕ) → ((file : ℕ) (text : List ℕ) → file < 4294967296 → IsLineText text → said ≢ decimal file ++ 32 ∷ text) → IsNoLine (87 ∷ 32 ∷ said)
 no_wrote said none (Read stamp text) is e = absurd (other_first 87 82 _ _ refl e)
 no_wrote said none (Absent text) is e = absurd (other_first 87 65 _ _ refl e)

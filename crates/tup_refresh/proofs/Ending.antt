@@ -26,7 +26,7 @@ use Rattle.tup_graph.specs.Swap.{reading_now}
 use Rattle.tup_refresh.specs.declared.refreshed.Refreshed.{Refreshed}
 use Rattle.tup_refresh.specs.declared.walk.Walk.{Walk}
 use Rattle.tup_refresh.specs.Part.{HasPaths}
-use Rattle.tup_refresh.specs.Refresh.{kept_reading, IsDue, gone_among, AreTrue, AreRefreshed, IsRefresh, IsRefreshWith, IsRefreshOver, readings_of}
+use Rattle.tup_refresh.specs.Refresh.{kept_reading, IsDue, gone_among, AreRefreshed, IsRefresh, IsRefreshWith, readings_of}
 use Rattle.tup_refresh.specs.Standing.{Stands, AllStand}
 use Rattle.tup_refresh.specs.Walk.{IsWalk}
 use Rattle.tup_refresh.proofs.Outlined.{tupfile_alike}
@@ -230,12 +230,6 @@ refreshed_read g sources result is = by (settings_of sources) result is
     by (Err fault) (Ok given) (inr e) = cc
     by (Err fault) (Err end) (inl e) = inl (ap readings_of e)
     by (Err fault) (Err end) (inr e) = inr (ap readings_of e)
-
-pub refresh_ok : (g : GraphState) (tree sources : Tree) (settings : Entries) (result : Result Refreshed FoldersFault) → sources ≡ tree → settings_of sources ≡ Ok settings → (AreTrue sources g → IsRefreshOver g sources settings result)
-    → AreTrue tree g → IsRefresh g tree result
-refresh_ok g tree sources settings result is set read true_ones =
-    subst (λ (t : Tree). IsRefresh g t result) is
-    (subst (λ (found : Result Entries ConfigFault). IsRefreshWith g sources found result) (sym set) (read (subst (λ (t : Tree). AreTrue t g) (sym is) true_ones)))
 
 pub refresh_memory : (g : GraphState) (tree : Tree) → IsRefresh g tree (Err Memory)
 refresh_memory g tree = by (settings_of tree)

@@ -104,14 +104,6 @@ pub made_there : (v w : World) (begun : Begun) → v.store ≡ [] → Begins v w
 made_there v w Made empty begins = begins.1
 made_there v w WasThere empty begins = absurd (no_store v.store begins.0 empty begins.1)
 
--- or the outside refused
-pub outside_alone : (v w : World) (fault : GraphFault) → v.store ≡ [] → Begins v w (Err fault) → (fault ≡ graph.Site) ⊎ (fault ≡ graph.Memory)
-outside_alone v w graph.NotThere empty begins = absurd begins
-outside_alone v w (graph.BadStore offset) empty begins = absurd (no_damage v.store w.store offset empty begins)
-outside_alone v w graph.Site empty begins = inl refl
-outside_alone v w graph.Full empty begins = absurd begins
-outside_alone v w graph.Memory empty begins = inr refl
-
 -- and where nothing failed it is done, but for want of memory
 pub initializes_so : (old new : World) (before now : Counts) (status : Status) → IfBegan status (Begins old new) → HasBegunCause before.site now.site before.sink now.sink status → old.store ≡ [] → NothingFailed before now → IsDoneOrMemory status
 initializes_so old new before now (Done read ran removed) begins counted empty fine = tt

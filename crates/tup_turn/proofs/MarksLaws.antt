@@ -1,11 +1,11 @@
 -- Marks in a tree of truths: one is set from its place up, and the first is found from the root down.
-use Rattle.std.proofs.Common.{◌≡◌, ℕ, zero, suc, ◌+◌, ◌-◌, ◌*◌, ◌/◌, ◌^◌, ◌<◌, ◌≤◌, ◌⊎◌, ◌==◌, Bool, true, false, ◌||◌, List, [], ◌∷◌, length, replicate, get_or, refl, sym, ap, ap₂, ◌∙◌, subst, inl, inr, arith}
+use Rattle.std.proofs.Common.{◌≡◌, ℕ, zero, suc, ◌+◌, ◌-◌, ◌*◌, ◌/◌, ◌^◌, ◌<◌, ◌≤◌, ◌⊎◌, ◌==◌, Bool, true, false, ◌||◌, List, [], ◌∷◌, length, replicate, get_or, refl, sym, ap, ap₂, ◌∙◌, inl, inr, arith}
 use Rattle.std.specs.Prelude.{if◌then◌else◌}
 use Rattle.std.specs.Vec.{with_item}
 use Rattle.std.proofs.Math.Nat.{mul-le-mul_left, mul_comm, mul_assoc, pow-succ'}
-use Rattle.std.proofs.lemmas.Bool.{true≢false, eq-eqb, eqb-true, cases_eq, cases_lt}
+use Rattle.std.proofs.lemmas.Bool.{true≢false, cases_eq, cases_lt}
 use Rattle.std.proofs.lemmas.Nat.{pow_pos}
-use Rattle.std.proofs.lemmas.List.{length-set, length-replicate, get_or_read}
+use Rattle.std.proofs.lemmas.List.{length-replicate, get_or_read}
 use Rattle.std.proofs.lemmas.Option.{unwrap_or-slice_get}
 use Rattle.tup_turn.specs.declared.marks.Marks.{Marks}
 use Rattle.tup_turn.specs.Marks.{IsMarks, IsPower, IsJoint, IsFirstMark, is_marked}
@@ -39,93 +39,6 @@ pub record IsRaised (old new : Marks) (place : ℕ) (up : Bool) (node : ℕ) : T
   pub below : node < 2 * new.places
   pub joints : (m : ℕ) → 0 < m → m < new.places → (node ≡ 2 * m → ⊥) → (node ≡ 2 * m + 1 → ⊥) → IsJoint new m
   pub leaves : (at : ℕ) → is_marked new at ≡ (if at == place then up else is_marked old at)
-
-pub raised_first : (old : Marks) (place : ℕ) (up : Bool) → IsMarks old → place < old.places → IsRaised old (with_node old (old.places + place) up) place up (old.places + place)
-raised_first old place up is within = record {
-  places = refl;
-  many = length-set old.nodes.items (old.places + place) up ∙ is.many;
-  some = omega (arith, within);
-  below = omega (arith, within);
-  joints = λ m some less left right. joint m some less left right;
-  leaves = λ at. leaf at (place_cases at);
-}
-  where
-    inside : old.places + place < length old.nodes.items
-    inside = let many = is.many in omega (arith, within, many)
-
-    joint : (m : ℕ) → 0 < m → m < old.places → (old.places + place ≡ 2 * m → ⊥) → (old.places + place ≡ 2 * m + 1 → ⊥) → IsJoint (with_node old (old.places + place) up) m
-    joint m some less left right =
-        there old (old.places + place) m up (λ e. absurd (omega (arith, less, e)))
-        ∙ is.joints m some less
-        ∙ ap₂ ◌||◌ (sym (there old (old.places + place) (2 * m) up (λ e. left (sym e)))) (sym (there old (old.places + place) (2 * m + 1) up (λ e. right (sym e))))
-
-    place_cases : (at : ℕ) → ((at ≡ place) × ((at == place) ≡ true)) ⊎ ((at ≡ place → ⊥) × ((at == place) ≡ false))
-    place_cases at = split (at == place) refl
-      where
-        split : (b : Bool) → (at == place) ≡ b → ((at ≡ place) × ((at == place) ≡ true)) ⊎ ((at ≡ place → ⊥) × ((at == place) ≡ false))
-        split true e = inl (eqb-true at place e, e)
-        split false e = inr ((λ same. true≢false (sym (eq-eqb at place same) ∙ e)), e)
-
-    leaf : (at : ℕ) → ((at ≡ place) × ((at == place) ≡ true)) ⊎ ((at ≡ place → ⊥) × ((at == place) ≡ false)) →
-        is_marked (with_node old (old.places + place) up) at ≡ (if at == place then up else is_marked old at)
-    leaf at (inl same) =
-        ap (λ (n : ℕ). flag (with_node old (old.places + place) up).nodes.items (old.places + n)) same.0 ∙ here old (old.places + place) up inside
-        ∙ sym (ap (λ (b : Bool). if b then up else is_marked old at) same.1)
-    leaf at (inr apart) =
-        there old (old.places + place) (old.places + at) up (λ e. apart.0 (omega (arith, e)))
-        ∙ sym (ap (λ (b : Bool). if b then up else is_marked old at) apart.1)
-
-pub raised_more : (old mid : Marks) (place : ℕ) (up value : Bool) (node : ℕ) → IsRaised old mid place up node → 1 < node
-    → value ≡ (flag mid.nodes.items (2 * (node / 2)) || flag mid.nodes.items (2 * (node / 2) + 1)) → IsRaised old (with_node mid (node / 2) value) place up (node / 2)
-raised_more old mid place up value node is more value_is = record {
-  places = is.places;
-  many = length-set mid.nodes.items half value ∙ is.many;
-  some = some;
-  below = omega (arith, less);
-  joints = λ m positive within left right. joint m positive within left right (halves m);
-  leaves = λ at. there mid half (mid.places + at) value (λ e. absurd (omega (arith, e, less))) ∙ is.leaves at;
-}
-  where
-    half : ℕ
-    half = node / 2
-
-    some : 0 < half
-    some = omega (arith, more)
-
-    less : half < mid.places
-    less = let below = is.below in omega (arith, below)
-
-    inside : half < length mid.nodes.items
-    inside = let many = is.many in omega (arith, less, many)
-
-    halves : (m : ℕ) → (m ≡ half) ⊎ ((m ≡ half → ⊥) × (node ≡ 2 * m → ⊥) × (node ≡ 2 * m + 1 → ⊥))
-    halves m = split (m == half) refl
-      where
-        split : (b : Bool) → (m == half) ≡ b → (m ≡ half) ⊎ ((m ≡ half → ⊥) × (node ≡ 2 * m → ⊥) × (node ≡ 2 * m + 1 → ⊥))
-        split true e = inl (eqb-true m half e)
-        split false e =
-            let apart : m ≡ half → ⊥ = λ same. true≢false (sym (eq-eqb m half same) ∙ e) in
-            inr (apart, (λ left. apart (omega (arith, left))), (λ right. apart (omega (arith, right))))
-
-    joint : (m : ℕ) → 0 < m → m < mid.places → (half ≡ 2 * m → ⊥) → (half ≡ 2 * m + 1 → ⊥)
-        → (m ≡ half) ⊎ ((m ≡ half → ⊥) × (node ≡ 2 * m → ⊥) × (node ≡ 2 * m + 1 → ⊥)) → IsJoint (with_node mid half value) m
-    joint m positive within left right (inl same) =
-        subst (λ (n : ℕ). IsJoint (with_node mid half value) n) (sym same)
-        (here mid half value inside ∙ value_is
-        ∙ ap₂ ◌||◌ (sym (there mid half (2 * half) value (λ e. absurd (omega (arith, some, e))))) (sym (there mid half (2 * half + 1) value (λ e. absurd (omega (arith, e))))))
-    joint m positive within left right (inr other) =
-        there mid half m value other.0
-        ∙ is.joints m positive within other.1 other.2
-        ∙ ap₂ ◌||◌ (sym (there mid half (2 * m) value (λ e. left (sym e)))) (sym (there mid half (2 * m + 1) value (λ e. right (sym e))))
-
--- at the root all is as it has to be
-pub raised_last : (old new : Marks) (place : ℕ) (up : Bool) (node : ℕ) → IsMarks old → IsRaised old new place up node → node ≤ 1 → IsMarks new
-raised_last old new place up node is raised last = record {
-  power = subst IsPower (sym raised.places) is.power;
-  few = subst (λ (n : ℕ). n ≤ 2 ^ 33) (sym raised.places) is.few;
-  many = raised.many;
-  joints = λ m some less. raised.joints m some less (λ e. absurd (omega (arith, some, last, e))) (λ e. absurd (omega (arith, some, last, e)));
-}
 
 -- ---- the first mark is found: from the root on the left node below is taken where it is up
 

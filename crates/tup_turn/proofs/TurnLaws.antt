@@ -43,9 +43,6 @@ test_by_open plan core at is opened =
     let unclaimed : not (flag core.claimed.items at) ≡ true = ap not opened.unclaimed in
     and_from _ _ (and_from _ _ opened.pending unclaimed) (eq-eqb (number core.waiting.waits.items at) 0 none)
 
-pub open_tells : (plan : Plan) (core : Core) (at : ℕ) → IsCore plan core → IsTrue (open_test core at) ↔ IsOpen plan (state_of core) at
-open_tells plan core at is = (open_by_test plan core at is, test_by_open plan core at is)
-
 -- a rule that is open is one of the plan
 pub open_within : (plan : Plan) (state : State) (at : ℕ) → IsOpen plan state at → at < length plan.rules
 open_within plan state at opened = slice_get_within plan.rules at opened.clear.0 opened.clear.1
@@ -228,12 +225,6 @@ first_of plan state turn at is going first =
 
 pub none_of : (plan : Plan) (state : State) (turn : Turn) → IsTurn plan state turn → ((at : ℕ) → is_marked turn.marks at ≡ false) → (at : ℕ) → IsReady plan state at → ⊥
 none_of plan state turn is none at ready = true≢false (sym ((is.each at).1 (record { pending = ready.pending; unclaimed = ready.unclaimed; clear = ready.clear })) ∙ none at)
-
-pub first_within : (plan : Plan) (state : State) (turn : Turn) (at : ℕ) → IsTurn plan state turn → IsFirstMark turn.marks at → at < 2 ^ 32
-first_within plan state turn at is first =
-    let few = is.few in
-    let within = open_within plan state at ((is.each at).0 first.marked) in
-    omega (arith, few, within)
 
 -- none is ready where all is stopped
 pub stopped_none : (plan : Plan) (state : State) (found : Option Cause) → found ≡ state.stopped → is_some found ≡ true → (at : ℕ) → IsReady plan state at → ⊥
