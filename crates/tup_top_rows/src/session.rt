@@ -5,7 +5,7 @@ use tup_graph::GraphFault;
 use tup_kept::Graph;
 use tup_ledger::{begin, open, owned_paths};
 use tup_path::{Bytes, Items, Path, Paths};
-use tup_rows::{Answers, RowFault, Words};
+use tup_rows::{Answers, RowFault, Words, set};
 use tup_rule::RuleName;
 use tup_site::{MemSite, Site};
 use tup_tell::{MemSink, Sink};
@@ -65,7 +65,7 @@ impl Session {
     fn begin(&mut self, alloc: Global, site: Result<MemSite, RowFault>, run_fails: u64) -> Words {
         match site {
             Ok(site) => {
-                *self = Session::over(alloc, site, run_fails);
+                set(self, Session::over(alloc, site, run_fails));
                 Words::done(alloc)
             }
             Err(fault) => Words::none(alloc, fault),
@@ -179,7 +179,7 @@ fn edit(alloc: Global, site: &mut MemSite, said: &Words, content: Option<Bytes>)
 }
 
 /// What a file holds.
-fn file(alloc: Global, site: &MemSite, said: &Words) -> Words {
+pub(crate) fn file(alloc: Global, site: &MemSite, said: &Words) -> Words {
     match site.file(&said.path_at(alloc, 0)) {
         Some(content) => holds(alloc, content),
         None => Words::word(alloc, b"none"),
@@ -196,7 +196,7 @@ fn holds(alloc: Global, content: &Bytes) -> Words {
 /// The paths that the store lists.
 fn listed(alloc: Global, site: &MemSite) -> Words {
     match owned(alloc, site.store()) {
-        Ok(paths) => shown(alloc, paths.as_slice()),
+        Ok(paths) => Words::all(alloc, paths.as_slice()),
         Err(fault) => Words::refusal(alloc, &fault),
     }
 }
@@ -219,15 +219,6 @@ fn owned(alloc: Global, bytes: &[u8]) -> Result<Paths, GraphFault> {
 /// The paths that a graph owns.
 fn owned_by(alloc: Global, graph: &Graph) -> Result<Paths, GraphFault> {
     Ok(owned_paths(alloc, graph.nodes())?)
-}
-
-/// Paths, each as it is written.
-fn shown(alloc: Global, paths: &[Path]) -> Words {
-    let mut words = Words::new(alloc);
-    for path in paths {
-        words.show(alloc, path);
-    }
-    words
 }
 
 /// Writes bytes over the store from its first on.
