@@ -55,7 +55,9 @@ fn depth(alloc: Global, found: &Result<Path, PathFault>) -> Words {
 
 fn resolve(alloc: Global, said: &Words) -> Words {
     let folder = said.path_at(alloc, 0);
-    Words::given(alloc, &Path::resolve(alloc, &folder, &said.text_at(alloc, 1)),
+    Words::given(
+        alloc,
+        &Path::resolve(alloc, &folder, &said.text_at(alloc, 1)),
     )
 }
 

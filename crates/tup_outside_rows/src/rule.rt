@@ -46,7 +46,10 @@ impl RuleRows {
     fn change(&mut self, alloc: Global, call: &str, said: &Words) -> Words {
         let rule = &mut self.rule;
         match call {
-            "rule" => set(rule, bare(alloc, said.path_at(alloc, 0), said.text_at(alloc, 1))),
+            "rule" => set(
+                rule,
+                bare(alloc, said.path_at(alloc, 0), said.text_at(alloc, 1)),
+            ),
             "dir" => set(&mut rule.dir, said.path_at(alloc, 0)),
             "command" => set(&mut rule.text, said.text_at(alloc, 0)),
             "display" => set(&mut rule.display, Some(said.text_at(alloc, 0))),
@@ -103,7 +106,11 @@ impl RuleRows {
 
 /// The rule of the top that runs nothing, and declares and makes nothing.
 fn empty(alloc: Global) -> Rule {
-    bare(alloc, Path::top(alloc), Text::from_string(String::new(alloc)))
+    bare(
+        alloc,
+        Path::top(alloc),
+        Text::from_string(String::new(alloc)),
+    )
 }
 
 /// A rule that declares and makes nothing.

@@ -58,7 +58,10 @@ impl Sites {
     /// Opens the store with another byte at a place.
     fn set(&self, alloc: Global, said: &Words) -> Words {
         let at = said.number_at(0) as usize;
-        open(alloc, &with_byte(alloc, said, &self.store, at, said.word_at(1)))
+        open(
+            alloc,
+            &with_byte(alloc, said, &self.store, at, said.word_at(1)),
+        )
     }
 
     /// Commits to a site whose call with the first argument's number fails, counted from where the commit begins.

@@ -40,7 +40,10 @@ impl Sweeps {
     fn each(&self, alloc: Global, said: &Words) -> Words {
         let mut ends = Ends::new(alloc, &self.store);
         for at in 0..self.store.len() {
-            ends.read(alloc, &with_byte(alloc, said, &self.store, at, said.word_at(0)));
+            ends.read(
+                alloc,
+                &with_byte(alloc, said, &self.store, at, said.word_at(0)),
+            );
         }
         ends.told(alloc)
     }
