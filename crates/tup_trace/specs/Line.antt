@@ -23,7 +23,7 @@ line_begun = record { tokens = []; kind = kind.Gap; part = nothing_read }
 abbrev pub of_kind : Reading → Kind → Reading
 of_kind reading kind = record { tokens = reading.tokens; kind = kind; part = reading.part }
 
--- the same reading, with more of its part read
+-- the same reading, with this read of its part
 abbrev pub of_part : Reading → Unquoting → Reading
 of_part reading part = record { tokens = reading.tokens; kind = reading.kind; part = part }
 

@@ -61,11 +61,11 @@ letter_byte letter =
 abbrev pub octal_1 : ℕ → ℕ
 octal_1 first = first % 8
 
--- two digits
+-- what two digits spell
 abbrev pub octal_2 : ℕ → ℕ → ℕ
 octal_2 first second = first % 8 * 8 + second % 8
 
--- three digits
+-- what three digits spell
 abbrev pub octal_3 : ℕ → ℕ → ℕ → ℕ
 octal_3 first second third = first % 8 * 64 + second % 8 * 8 + third % 8
 
