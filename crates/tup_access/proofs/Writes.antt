@@ -92,9 +92,6 @@ first_more outputs i output copy old new first less here copied updates = record
       | inr other ↦ other
     ]
 
-pub first_all : (rule : Rule) (last : LastWrites) → HasFirst rule.outputs last → HasLast rule [] last
-first_all rule last first = record { outputs = record { each = first.outputs }; contents = λ path own. first.contents path }
-
 -- one more write to an output
 pub last_more : (rule : Rule) (written : List (List ℕ × Content)) (w : List ℕ × Content) (path : Names) (content : Bor Content) (old new : LastWrites) → HasLast rule written old → IsOutputOf rule w.0 path
     → content.now ≡ w.1 → ((q : Names) → get by_names new q ≡ cond (is_at (by_names path) q) (Some (Some content)) (get by_names old q)) → HasLast rule (written ++ w ∷ []) new

@@ -2,8 +2,7 @@
 use Rattle.std.proofs.Common.{◌≡◌, ℕ, ◌+◌, ◌<◌, ◌≤◌, ◌||◌, true, false, if◌then◌else◌, List, [], ◌∷◌, ◌++◌, length, get_or, drop, sym, ap, ◌∙◌}
 use Rattle.std.proofs.lemmas.List.{at_drop_more, at_drop_all}
 use Rattle.tup_path.specs.Name.{Names}
-use Rattle.tup_lex.specs.declared.kind.ParseKind.TheVariants.{ForeignOutput, DuplicateOutput, OutputIsSource, OutputIsDir}
-use Rattle.tup_rule.specs.Rule.{among}
+use Rattle.tup_lex.specs.declared.kind.ParseKind.TheVariants.{ForeignOutput, OutputIsSource, OutputIsDir}
 use Rattle.tup_rule.specs.declared.draft.Draft.{Draft}
 use Rattle.tup_rule.specs.declared.question.Kind.{Kind}
 use Rattle.tup_rule.specs.declared.question.Kind.TheVariants.{Nothing, File, Dir}
@@ -12,7 +11,6 @@ use Rattle.tup_ask.specs.declared.fault.ParseFault.{ParseFault}
 use Rattle.tup_ask.specs.Reads.{Reads, gives, and_then}
 use Rattle.tup_ask.specs.Ask.{kind_at}
 use Rattle.tup_ask.specs.Spot.{Spot, refused}
-use Rattle.tup_draft.specs.State.{is_made}
 use Rattle.tup_draft.specs.Output.{may_make, new_output, known_output, from_output, from_outputs}
 
 pub outputs_more : (at : Spot) (parts : FlagParts) (drafts : List Draft) (outputs : List Names) (words : List (List ℕ)) (index : ℕ) (word : List ℕ) → index < length words → word ≡ get_or words index word
@@ -36,9 +34,3 @@ known-own at drafts outputs path e = ap (λ b. if b then and_then (kind_at path)
 
 abbrev pub by_kind : Spot → Names → Kind → Reads ParseFault Names
 by_kind at path kind = elim kind [ File ↦ refused at OutputIsSource | Dir ↦ refused at OutputIsDir | Nothing ↦ gives path ]
-
-pub new-taken : (at : Spot) (drafts : List Draft) (outputs : List Names) (path : Names) (kind : Kind) → (is_made drafts path || among path outputs) ≡ true → new_output at drafts outputs path kind ≡ refused at DuplicateOutput
-new-taken at drafts outputs path kind e = ap (λ b. if b then refused at DuplicateOutput else by_kind at path kind) e
-
-pub new-free : (at : Spot) (drafts : List Draft) (outputs : List Names) (path : Names) (kind : Kind) → (is_made drafts path || among path outputs) ≡ false → new_output at drafts outputs path kind ≡ by_kind at path kind
-new-free at drafts outputs path kind e = ap (λ b. if b then refused at DuplicateOutput else by_kind at path kind) e
