@@ -22,7 +22,7 @@ enum Tear {
 
 /// What becomes of the project of a row.
 #[derive(Drop)]
-struct Left {
+struct Outcome {
     store: Vec<u8>,
     /// Whether no turn was refused.
     carried_out: bool,
@@ -181,7 +181,7 @@ fn may_leave(alloc: Global, said: &Words, stop: u64, crash: Turn) -> bool {
 }
 
 /// What becomes of the project if its first update is stopped so, and then crashed and updated again.
-fn left(alloc: Global, said: &Words, stop: u64, crash: Option<Turn>) -> Left {
+fn left(alloc: Global, said: &Words, stop: u64, crash: Option<Turn>) -> Outcome {
     let mut turns = turns_to(alloc, said, stop);
     if let Some(crash) = crash {
         said.list(&mut turns, crash);
@@ -212,8 +212,8 @@ fn lived(alloc: Global, turns: Vec<Turn>) -> Option<Lived<Mini>> {
     }
 }
 
-fn left_by(alloc: Global, said: &Words, lived: &Lived<Mini>) -> Left {
-    Left {
+fn left_by(alloc: Global, said: &Words, lived: &Lived<Mini>) -> Outcome {
+    Outcome {
         store: said.copy_of(alloc, lived.site.store()),
         carried_out: lived.refused.is_none(),
         done: is_done(lived),
@@ -222,9 +222,9 @@ fn left_by(alloc: Global, said: &Words, lived: &Lived<Mini>) -> Left {
 }
 
 /// Nothing, as there was no memory.
-fn nothing(alloc: Global, said: &Words) -> Left {
+fn nothing(alloc: Global, said: &Words) -> Outcome {
     said.fail(RowFault::Memory);
-    Left {
+    Outcome {
         store: Vec::new(alloc),
         carried_out: false,
         done: false,
