@@ -1,10 +1,10 @@
 -- What one rule of a drain leaves, and what an update that is over came to.
 use Rattle.std.proofs.Common.{◌≡◌, ◌≢◌, ◌⊎◌, ℕ, ◌<◌, ◌+◌, ◌-◌, Bool, true, false, List, [], ◌∷◌, ◌++◌, length, Option, None, Some, Result, Ok, Err, refl, sym, ap, ◌∙◌, subst, inl, inr, ⊎_elim, append_assoc, arith}
-use Rattle.std.specs.Prelude.{◌==◌, IsSome, IsTrue, if◌then◌else◌, unwrap_or, slice_get, take, filter_map, option_map}
+use Rattle.std.specs.Prelude.{◌==◌, All, IsSome, IsTrue, if◌then◌else◌, unwrap_or, slice_get, take, filter_map, option_map}
 use Rattle.std.specs.List.{cons_option}
 use Rattle.std.proofs.lemmas.Bool.{false≢true, true≢false, eq-eqb, eqb-true}
 use Rattle.std.proofs.lemmas.List.{append-nil, append_cancel_left, length-append}
-use Rattle.std.proofs.lemmas.List.Elements.{All-nil, filter_map-append}
+use Rattle.std.proofs.lemmas.List.Elements.{All-nil, All-cons, All-append, filter_map-append}
 use Rattle.std.proofs.lemmas.Option.{none-some, same_Some}
 use Rattle.tup_path.specs.Count.{Rose}
 use Rattle.tup_path.specs.Name.{Names}
@@ -40,7 +40,7 @@ use Rattle.tup_ground.specs.declared.fault.BoardFault.{BoardFault}
 use Rattle.tup_ground.specs.declared.fault.BoardFault.TheVariants as fault_by
 use Rattle.tup_board.specs.declared.answers.Drained.{Drained}
 use Rattle.tup_board.specs.declared.answers.Drained.TheVariants.{Done, Left}
-use Rattle.tup_board.specs.Board.{BoardState, Opening, course_of, plan_of, start, state, with_history}
+use Rattle.tup_board.specs.Board.{BoardState, Opening, course_of, plan_of, seat_of, start, state, with_history}
 use Rattle.tup_board.specs.Calls.{BuildsClean, Drains, Finishes, HasFailed, HasRun, HasRunCause, IsOver, RanAll, RunsOne, StartsAlone, command_of, commands}
 use Rattle.tup_board.specs.CameLaws.{claims_both, from_both}
 use Rattle.tup_board.specs.Seat.{IsFromSeat, IsLeft}
@@ -201,6 +201,7 @@ ran_one old new number starts from ends = record {
   opening = from.opening;
   events = from.events;
   adds = from.adds;
+  own = from.own;
   none_claimed = from.none_claimed;
   none_runs = λ seat. by seat (seat == 0) refl;
 }
@@ -295,6 +296,7 @@ pub record HasDrained {S : Type 0} (tells_ran : Bool) (old now : BoardState S) (
   pub opening : now.opening ≡ old.opening
   pub events : List CoreEvent
   pub adds : now.history ≡ old.history ++ events
+  pub own : All (λ event. seat_of event ≡ 0) events
   pub none_runs : NoneRuns (course_of now)
   pub ran_all : IsTrue tells_ran → Ran (plan_of old) events was ran (state now).stopped
   pub run : (state now).stopped ≡ Some causes.Run → ((state old).stopped ≡ Some causes.Run) ⊎ Rose before faults
@@ -305,6 +307,7 @@ drained_none tells_ran old was before none = record {
   opening = refl;
   events = [];
   adds = sym (append-nil old.history);
+  own = All-nil _;
   none_runs = none;
   ran_all = λ tells. inl (sym (append-nil was));
   run = λ is. inl is;
@@ -351,6 +354,7 @@ module _ {S : Type 0} (tells_ran : Bool) (old now mid new : BoardState S) (was r
     events = more;
     adds = one.adds ∙ ap (λ (h : List CoreEvent). h ++ one.events) (adds ∙ ap (λ (h : List CoreEvent). h ++ Claim 0 number ∷ []) has.adds)
         ∙ append_assoc (old.history ++ has.events) (Claim 0 number ∷ []) one.events ∙ append_assoc old.history has.events (Claim 0 number ∷ one.events);
+    own = All-append (λ event. seat_of event ≡ 0) has.events (Claim 0 number ∷ one.events) has.own (All-cons (λ event. seat_of event ≡ 0) (Claim 0 number) one.events refl one.own);
     none_runs = one.none_runs;
     ran_all = ran_then;
     run = λ is. inr (subst (λ (n : ℕ). Rose n last) steady_now (failed.run is));

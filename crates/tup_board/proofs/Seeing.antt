@@ -30,13 +30,13 @@ use Rattle.tup_core.proofs.Changed.{changed_cases, changed_here}
 use Rattle.tup_course.proofs.Courses.{end_more}
 use Rattle.tup_ground.specs.declared.fault.BoardFault.{BoardFault}
 use Rattle.tup_ground.specs.declared.fault.BoardFault.TheVariants as fault_by
-use Rattle.tup_board.specs.Board.{BoardState, Opening, plan_of, start, state}
+use Rattle.tup_board.specs.Board.{BoardState, Opening, plan_of, seat_of, start, state}
 use Rattle.tup_board.specs.declared.answers.Asked.{Asked}
 use Rattle.tup_board.specs.declared.answers.Asked.TheVariants as reply_by
 use Rattle.tup_board.specs.Calls.{AreKnown, Asks as AllAsked, IsStampOf}
 use Rattle.tup_board.specs.CameLaws.{no_place}
 use Rattle.tup_board.proofs.Known.{known_among}
-use Rattle.tup_board.specs.Seat.{CameBy, IsFromSeat, KeepsSeat, answer_by, is_granted, refused_by, seat_of, told_by}
+use Rattle.tup_board.specs.Seat.{CameBy, IsFromSeat, KeepsSeat, answer_by, is_granted, refused_by, told_by}
 
 -- what one seat runs changed
 pub apart_from : (seats : ℕ → Option Running) (seat : ℕ) (what : Option Running) (other : ℕ) → other ≢ seat → changed seats seat what other ≡ seats other

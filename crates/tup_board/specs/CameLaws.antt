@@ -14,9 +14,9 @@ use Rattle.tup_core.specs.declared.event.CoreEvent.{CoreEvent}
 use Rattle.tup_core.specs.declared.event.CoreEvent.TheVariants.{Claim, Ask, Deny, Finish, Stop}
 use Rattle.tup_core.specs.declared.running.Running.{Running}
 use Rattle.tup_core.specs.Run.{claims}
-use Rattle.tup_board.specs.Board.{BoardState, state}
+use Rattle.tup_board.specs.Board.{BoardState, seat_of, state}
 use Rattle.tup_board.specs.Calls.{AreKnown, AreStamped}
-use Rattle.tup_board.specs.Seat.{CameBy, HasAsked, IsDenial, IsFromSeat, KeepsSeat, has_failed, seat_of}
+use Rattle.tup_board.specs.Seat.{CameBy, HasAsked, IsDenial, IsFromSeat, KeepsSeat, has_failed}
 
 pub claims_both : (some more : List CoreEvent) → claims (some ++ more) ≡ claims some ++ claims more
 claims_both [] more = refl

@@ -17,21 +17,12 @@ use Rattle.tup_board.specs.declared.answers.Asked.TheVariants as reply_by
 use Rattle.tup_board.specs.declared.seat.Refused.{Refused}
 use Rattle.tup_core.specs.declared.event.Cause.TheVariants.{Run}
 use Rattle.tup_core.specs.declared.event.CoreEvent.{CoreEvent}
-use Rattle.tup_core.specs.declared.event.CoreEvent.TheVariants.{Claim, Ask, Deny, Finish, Stop}
 use Rattle.tup_core.specs.declared.running.Running.{Running}
 use Rattle.tup_core.specs.Run.{claims}
 use Rattle.tup_ground.specs.declared.fault.BoardFault.{BoardFault}
 use Rattle.tup_ground.specs.declared.fault.BoardFault.TheVariants as fault_by
-use Rattle.tup_board.specs.Board.{BoardState, state}
+use Rattle.tup_board.specs.Board.{BoardState, seat_of, state}
 use Rattle.tup_board.specs.Calls.{AreStamped, AreKnown, MeansDenied}
-
--- the seat at which an event happened
-abbrev pub seat_of : CoreEvent → ℕ
-seat_of (Claim seat rule) = seat
-seat_of (Ask seat text answer) = seat
-seat_of (Deny seat text verdict) = seat
-seat_of (Finish seat given files) = seat
-seat_of (Stop seat cause) = seat
 
 -- whether a seat runs a rule whose command was denied nothing
 abbrev pub is_granted : Option Running → Bool

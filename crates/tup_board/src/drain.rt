@@ -1,5 +1,5 @@
 //! A whole update on one thread.
-ghost use Rattle.std.specs.Prelude.{◌≡◌, ◌++◌, ◌↔◌, ℕ, List, None, Some, Err, true, false, slice_get, IfOk, IsTrue};
+ghost use Rattle.std.specs.Prelude.{◌≡◌, ◌++◌, ◌↔◌, ℕ, List, None, Some, Err, true, false, slice_get, All, IfOk, IsTrue};
 ghost use Rattle.std.specs.FinMap as finite;
 ghost use Rattle.std.specs.Option.{option_map};
 ghost use Rattle.tup_path.specs.Name.{Names};
@@ -11,7 +11,7 @@ ghost use Rattle.tup_runner.specs.Run.{Appends, CountsFaults as RunnerCounts};
 ghost use Rattle.tup_core.specs.Kept.{Kept};
 ghost use Rattle.tup_core.specs.Sound.{IsAcyclic};
 ghost use Rattle.tup_core.specs.declared.event.CoreEvent.{CoreEvent as CoreEventValue};
-ghost use Rattle.tup_board.specs.Board.{course_of, plan_of, state};
+ghost use Rattle.tup_board.specs.Board.{course_of, plan_of, seat_of, state};
 ghost use Rattle.tup_board.specs.Calls.{command_of, IsReportOf, StartsAlone};
 ghost use Rattle.tup_board.specs.Seat.{IsLeft, Performs, refusal_of};
 
@@ -52,7 +52,8 @@ impl<S: Site, R: Runner> Board<S, R> {
             → IsTrue R.tells_ran
             → RanAll plan.now events (R.ran runner.old) (R.ran runner.new) result }
         ensures history { (events : List CoreEventValue)
-            × (self.new.history ≡ self.old.history ++ events) }
+            × (self.new.history ≡ self.old.history ++ events)
+            × All (λ event. seat_of event ≡ 0) events }
         ensures cause { HasRunCause (state self.old).stopped
             (R.faults runner.old) (R.faults runner.new) result }
     {

@@ -58,4 +58,4 @@ pub returns-in-Over-clause-opening : goal.returns-in-Over-clause-opening
 returns-in-Over-clause-opening g c = (drained_there g.S.Site g.R.Runner g.R.Runner.tells_ran c.args.self.now c.rules.self c.claim.new.self (g.R.Runner.ran c.args.runner.now) (g.R.Runner.ran c.rules.runner) (g.R.Runner.faults c.args.runner.now) (g.R.Runner.faults c.rules.runner) c.rules.invariant c.claim.result c.claim.ensures.claims c.claim.ensures.rest c.in-Over.is).opening
 
 pub returns-in-Over-clause-history : goal.returns-in-Over-clause-history
-returns-in-Over-clause-history g c = let it = drained_there g.S.Site g.R.Runner g.R.Runner.tells_ran c.args.self.now c.rules.self c.claim.new.self (g.R.Runner.ran c.args.runner.now) (g.R.Runner.ran c.rules.runner) (g.R.Runner.faults c.args.runner.now) (g.R.Runner.faults c.rules.runner) c.rules.invariant c.claim.result c.claim.ensures.claims c.claim.ensures.rest c.in-Over.is in (it.events, it.adds)
+returns-in-Over-clause-history g c = let it = drained_there g.S.Site g.R.Runner g.R.Runner.tells_ran c.args.self.now c.rules.self c.claim.new.self (g.R.Runner.ran c.args.runner.now) (g.R.Runner.ran c.rules.runner) (g.R.Runner.faults c.args.runner.now) (g.R.Runner.faults c.rules.runner) c.rules.invariant c.claim.result c.claim.ensures.claims c.claim.ensures.rest c.in-Over.is in (it.events, it.adds, it.own)
