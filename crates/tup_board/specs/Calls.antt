@@ -50,7 +50,8 @@ use Rattle.tup_ground.specs.Fault.{CountsFaults, lost_fault}
 use Rattle.tup_ground.specs.Ground.{LacksRoomFor, Loses, MakeStep, WasTried}
 use Rattle.tup_ground.specs.Lost.{Lost}
 
--- ---- new: nothing happened yet
+-- ---- new
+-- a board of these on which nothing happened yet
 abbrev pub opened_as : {S : Type 0} → Plan → Held → S → BoardState S
 opened_as plan graph site = record { opening = record { plan = plan; graph = graph; site = site }; history = []; site = site; graph = graph; lost = None }
 
