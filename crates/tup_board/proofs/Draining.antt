@@ -36,14 +36,15 @@ use Rattle.tup_course.specs.declared.claimed.Claimed.{Claimed}
 use Rattle.tup_course.specs.declared.claimed.Claimed.TheVariants.{Rule as Gives, Wait, Over}
 use Rattle.tup_course.specs.Room.{unclaimed}
 use Rattle.tup_course.proofs.Rooms.{unclaimed_fewer}
+use Rattle.tup_ground.specs.Fault.{CountsFaults}
 use Rattle.tup_ground.specs.declared.fault.BoardFault.{BoardFault}
 use Rattle.tup_ground.specs.declared.fault.BoardFault.TheVariants as fault_by
 use Rattle.tup_board.specs.declared.answers.Drained.{Drained}
 use Rattle.tup_board.specs.declared.answers.Drained.TheVariants.{Done, Left}
 use Rattle.tup_board.specs.Board.{BoardState, Opening, course_of, plan_of, seat_of, start, state, with_history}
-use Rattle.tup_board.specs.Calls.{BuildsClean, Drains, Finishes, HasFailed, HasRun, HasRunCause, IsOver, RanAll, RunsOne, StartsAlone, command_of, commands}
+use Rattle.tup_board.specs.Calls.{BuildsClean, Drains, Finishes, HasFailed, HasRun, HasRunCause, IsOver, KeepsCount, RanAll, RunsOne, StartsAlone, command_of, commands}
 use Rattle.tup_board.specs.CameLaws.{claims_both, from_both}
-use Rattle.tup_board.specs.Seat.{IsFromSeat, IsLeft}
+use Rattle.tup_board.specs.Seat.{IsFromSeat, IsLeft, IsSteady}
 use Rattle.tup_board.specs.Sound.{IsSound}
 use Rattle.tup_board.proofs.Seated.{orderly}
 use Rattle.tup_board.proofs.Seeing.{apart_from, from_one, state_more}
@@ -184,6 +185,36 @@ end_left seat old new running ended result here same other fin = left_so seat ol
 
 pub memory_kept : {S : Type 0} (seat : ℕ) (old new : BoardState S) (ended : Ended) (result : Result Verdict BoardFault) → result ≡ Err fault_by.Memory → Finishes seat ended old result new → new.history ≡ old.history
 memory_kept seat old new ended result is fin = subst (λ (r : Result Verdict BoardFault). Finishes seat ended old r new) is fin
+
+-- ---- what became of the site's count
+module _ {S : Type 0} (site : Site S) where
+  -- a call that leaves the site
+  pub steady_rest : (old new : BoardState S) → new ≡ with_history old new.history → IsSteady site old new
+  steady_rest old new rest none other = ap (λ (b : BoardState S). site.faults b.site) rest
+
+  pub steady_both : (old mid new : BoardState S) → IsSteady site old mid → (state mid).stopped ≡ None → IsSteady site mid new → IsSteady site old new
+  steady_both old mid new one going two none other = two going other ∙ one none (λ is. none-some causes.Site (sym going ∙ is))
+
+  -- the end of a command
+  pub steady_end : (seat : ℕ) (old new : BoardState S) (ended : Ended) (result : Result Verdict BoardFault) → new.opening ≡ old.opening → Finishes seat ended old result new
+      → CountsFaults (site.faults old.site) (site.faults new.site) old.lost result → IsSteady site old new
+  steady_end seat old new ended result same fin counts none other =
+      counts.steady (λ is. other (stop_is seat old new same causes.Site none (subst (λ (r : Result Verdict BoardFault). Finishes seat ended old r new) is fin).0))
+
+  -- it had no memory, and was stopped
+  pub steady_memory : (old mid new : BoardState S) (result : Result Verdict BoardFault) → result ≡ Err fault_by.Memory → CountsFaults (site.faults old.site) (site.faults mid.site) old.lost result
+      → new ≡ with_history mid new.history → IsSteady site old new
+  steady_memory old mid new result is counts rest none other = ap (λ (b : BoardState S). site.faults b.site) rest ∙ counts.steady (λ failed. let clash = sym is ∙ failed in cc)
+
+  -- an update under way
+  abbrev pub StaysSteady : BoardState S → BoardState S → Type 0
+  StaysSteady old now = (state now).stopped ≢ Some causes.Site → site.faults now.site ≡ site.faults old.site
+
+  pub stays_steady : (old now mid new : BoardState S) (number : ℕ) (result : Claimed) → StaysSteady old now → Claims 0 (course_of now) result (course_of mid) → result ≡ Gives number → mid ≡ with_history now mid.history
+      → StartsAlone mid number → IsSteady site mid new → StaysSteady old new
+  stays_steady old now mid new number result stays claimed is rest starts steady other =
+      let gives = subst (λ (r : Claimed). Claims 0 (course_of now) r (course_of mid)) is claimed in
+      steady starts.going other ∙ ap (λ (b : BoardState S). site.faults b.site) rest ∙ stays (λ failed. none-some causes.Site (sym gives.0.ready.going ∙ failed))
 
 -- ---- what a command was run to, by the runner's count
 pub never_failed : (was now : ℕ) (stopped : Option Cause) → now ≡ was → stopped ≢ Some causes.Run → HasFailed was now stopped
@@ -413,6 +444,9 @@ module _ {S R : Type 0} (site : Site S) (runner : Runner R) (tells_ran : Bool) (
     pub drained_there : HasDrained tells_ran old mid was ran before faults
     drained_there = subst (λ (b : BoardState S). HasDrained tells_ran old b was ran before faults) (sym nothing_more) has
 
+    pub steady_there : StaysSteady site old now → StaysSteady site old mid
+    steady_there stays = subst (λ (b : BoardState S). StaysSteady site old b) (sym nothing_more) stays
+
 -- ---- an update that is over
 module _ {S : Type 0} (tells_ran : Bool) (old now : BoardState S) (was ran : List (Names × List ℕ)) (before faults : ℕ) (has : HasDrained tells_ran old now was ran before faults) (result : Drained) (drains : Drains (state now) result) where
   -- it is left for a cause just where it was stopped for that, unless a verdict is bad
@@ -427,6 +461,9 @@ module _ {S : Type 0} (tells_ran : Bool) (old now : BoardState S) (was ran : Lis
   stopped_for : (cause : Cause) → cause ≢ causes.Bad → result ≡ Left cause → (state now).stopped ≡ Some cause
   stopped_for cause other is =
       ⊎_elim (λ stopped. stopped) (λ bad. absurd (other bad.1)) (subst (Drains (state now)) is drains)
+
+  pub kept_count : (site : Site S) → StaysSteady site old now → KeepsCount (site.faults old.site) (site.faults now.site) result
+  kept_count site stays other = stays (λ is. other (left_by causes.Site is))
 
   pub run_cause : HasRunCause (state old).stopped before faults result
   run_cause = record {
