@@ -10,7 +10,6 @@ mod lines;
 mod log;
 mod made;
 mod mini;
-mod script;
 mod steps;
 mod values;
 

@@ -118,7 +118,7 @@ impl Update {
 
     /// A command asks, and is answered, or ends by that.
     fn ask(&mut self, alloc: Global, seat: u32, job: &mut Job, text: Text) -> bool {
-        match allowed(alloc, &job.rule, &self.made, &text, job.replies.len()) {
+        match allowed(alloc, &job.rule, &self.made, &text, job.asked()) {
             Ok(Access::Yes(path)) => self.answer(seat, job, text, &path),
             Ok(Access::No(verdict)) => self.deny(alloc, seat, &text, verdict),
             Err(_) => self.fails(RowFault::Memory),
@@ -129,7 +129,7 @@ impl Update {
     fn answer(&mut self, seat: u32, job: &mut Job, text: Text, path: &Path) -> bool {
         let content = told(&job.rule, &self.files, path);
         let event = asking(seat, &text, content);
-        let added = job.replies.add(text, content);
+        let added = job.reply(text, content);
         self.happens(event);
         self.note(added);
         true
