@@ -2,7 +2,7 @@
 use crate::answer::show_events;
 use crate::desk::Desk;
 use crate::orders::obey;
-use crate::project::reach_at;
+use crate::opening::reach_at;
 use std::alloc::Global;
 use tup_core::{Plan, Stamps};
 use tup_path::Items;

@@ -2,7 +2,7 @@
 use std::alloc::{AllocError, Global};
 use tup_mini::Mini;
 use tup_path::{Bytes, Items, Text};
-use tup_replies::Replies;
+use tup_given::Replies;
 use tup_rows::RowFault;
 use tup_rule::Rule;
 use tup_runner::{Answer, RunFailed, Runner, Step};

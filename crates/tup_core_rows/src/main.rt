@@ -8,8 +8,8 @@ mod drive;
 mod event;
 mod job;
 mod machine;
+mod opening;
 mod orders;
-mod project;
 mod rows;
 mod run;
 mod sources;
@@ -17,12 +17,14 @@ mod told;
 mod update;
 
 use course::Courses;
-use project::Project;
+use rows::Core;
 use std::io;
+use tup_given::Project;
 use tup_rows::try_file;
 
 fn main(rt: HostRuntime) -> io::Result<()> {
     let alloc = rt.alloc();
-    try_file(&rt, alloc, "core.rows", &mut Project::new(alloc))?;
+    let project = Project::new(alloc);
+    try_file(&rt, alloc, "core.rows", &mut Core { project })?;
     try_file(&rt, alloc, "course.rows", &mut Courses::new(alloc))
 }

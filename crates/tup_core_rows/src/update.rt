@@ -1,6 +1,6 @@
 //! An update whose seats take turns: what each runs, and what happens then.
 use crate::job::Job;
-use crate::project::{Project, stamps_of};
+use crate::opening::stamps_of;
 use crate::sources::{Contents, are_those_of, contents, put};
 use std::alloc::{AllocError, Global};
 use std::collections::BTreeSet;
@@ -8,6 +8,7 @@ use std::mem;
 use tup_access::{Access, Verdict, allowed, judge};
 use tup_clean::generated;
 use tup_core::CoreEvent;
+use tup_given::Project;
 use tup_path::{Bytes, Files, Items, Path, Text};
 use tup_rows::RowFault;
 use tup_rule::{Rule, Rules};

@@ -80,7 +80,7 @@ impl View for Replies {
     ghost use Rattle.std.proofs.Common.{◌∙◌, ap, sym, append_assoc};
     ghost use Rattle.std.proofs.lemmas.List.{append-nil};
     ghost use Rattle.tup_runner.specs.Next.{Asks};
-    ghost use Rattle.tup_replies.specs.Replies.{answered, ComesOn, refusal_of};
+    ghost use Rattle.tup_given.specs.Replies.{answered, ComesOn, refusal_of};
 
     ghost tells = { true };
 

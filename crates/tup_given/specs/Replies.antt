@@ -3,7 +3,7 @@ use Rattle.std.specs.Prelude.{◌≡◌, ◌++◌, List, ℕ, Option, option_map
 use Rattle.tup_runner.specs.Next.{Asks}
 use Rattle.tup_runner.specs.Refusal.{Refusal}
 use Rattle.tup_runner.specs.declared.fault.ViewFailed.TheVariants.{Denied}
-use Rattle.tup_replies.specs.declared.replies.Replies.{Replies}
+use Rattle.tup_given.specs.declared.replies.Replies.{Replies}
 
 -- the asks that it answered: the first of its list
 abbrev pub answered : Replies → Asks
