@@ -1,8 +1,8 @@
 //! A small command, run one ask at a time.
 use std::alloc::{AllocError, Global};
+use tup_given::Replies;
 use tup_mini::Mini;
 use tup_path::{Bytes, Items, Text};
-use tup_given::Replies;
 use tup_rows::RowFault;
 use tup_rule::Rule;
 use tup_runner::{Answer, RunFailed, Runner, Step};

@@ -1,5 +1,5 @@
 -- What a view that answers from a list has answered and refused.
-use Rattle.std.specs.Prelude.{◌≡◌, ◌++◌, List, ℕ, Option, option_map, take}
+use Rattle.std.specs.Prelude.{◌≡◌, ◌++◌, Option, option_map, take}
 use Rattle.tup_runner.specs.Next.{Asks}
 use Rattle.tup_runner.specs.Refusal.{Refusal}
 use Rattle.tup_runner.specs.declared.fault.ViewFailed.TheVariants.{Denied}

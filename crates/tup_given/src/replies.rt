@@ -2,7 +2,7 @@
 ghost use Rattle.std.specs.Prelude.{◌≡◌, ◌∷◌, ◌++◌, [], length, None, OnOk, OnErr};
 
 use std::alloc::{AllocFailed, Global};
-use tup_path::{Items, Path, Text};
+use tup_path::{Path, Text};
 use tup_runner::{Answer, Asks, View, ViewFailed};
 
 /// A view that gives the answers of a list in their order, each to the text that stands with it, and
@@ -66,7 +66,7 @@ impl Replies {
 
     /// The text that was denied, if one was; then nothing is.
     pub fn take_denied(&mut self) -> Option<Text>
-        ensures { result ≡ self.old.denied }
+        ensures gives { result ≡ self.old.denied }
         ensures given { self.new.given ≡ self.old.given }
         ensures asked { self.new.asked ≡ self.old.asked }
         ensures denied { self.new.denied ≡ None }
@@ -115,8 +115,8 @@ impl View for Replies {
     ghost stays = { λ replies. (refl, sym (append-nil (answered replies))) };
 
     ghost goes_on = { λ first next last some more one two. (
-        two.0 ∙ one.0,
-        two.1 ∙ ap (λ (l : Asks). l ++ more) one.1 ∙ append_assoc (answered first) some more,
+      two.0 ∙ one.0,
+      two.1 ∙ ap (λ (l : Asks). l ++ more) one.1 ∙ append_assoc (answered first) some more,
     ) };
 
     ghost same_itself = { λ _. refl };

@@ -4,9 +4,9 @@ use crate::values::text;
 use std::alloc::Global;
 use std::fs::Files;
 use std::io;
+use tup_given::Replies;
 use tup_mini::Mini;
 use tup_path::{Bytes, Items, Path, Text};
-use tup_given::Replies;
 use tup_rows::{Answers, RowFault, Words, try_file};
 use tup_runner::{Answer, Asks, Ended, RunFailed, Runner};
 
