@@ -1,5 +1,6 @@
 //! Where the machine of an update begins.
-ghost use Rattle.std.specs.Prelude.{IfOk};
+ghost use Rattle.std.specs.Prelude.{◌≡◌, true, IfOk};
+ghost use Rattle.tup_core.specs.Sound.{IsInRange};
 ghost use Rattle.tup_core_rows.specs.Machine.{IsOfPlan};
 
 use crate::machine::Machine;
@@ -27,6 +28,18 @@ pub(crate) fn opening(
         keep_going,
     };
     Machine::new(alloc, plan, stamps)
+}
+
+/// Whether the numbers of the reach are places of rules.
+pub(crate) fn is_in_range(plan: &Plan) -> bool
+    ensures { result ≡ true → IsInRange plan.now }
+{
+    for number in plan.reach.as_slice() {
+        if *number as usize >= plan.rules.len() {
+            return false;
+        }
+    }
+    true
 }
 
 /// Files with their stamps.
