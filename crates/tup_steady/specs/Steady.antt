@@ -1,5 +1,5 @@
 -- A steady site: what it holds, and what a crash may leave of it, as the site in memory that it owns has it. It never fails.
-use Rattle.std.specs.Prelude.{ℕ, List}
+use Rattle.std.specs.Prelude.{ℕ, ◌≤◌, List, length}
 use Rattle.tup_path.specs.Name.{Content}
 use Rattle.tup_path.specs.Tree.{Tree}
 use Rattle.tup_site.specs.World.{World}
@@ -33,3 +33,7 @@ left_since steady t w = memory.left_since steady.site t w
 -- how often it failed
 abbrev pub faults_of : SteadySite → ℕ
 faults_of steady = 0
+
+-- its store stays small
+pub small_store : (steady : SteadySite) → length (store_in steady) ≤ 65536
+small_store steady = steady.is_small

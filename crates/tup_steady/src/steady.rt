@@ -6,19 +6,23 @@ ghost use Rattle.tup_site.specs.History.{contents_of};
 ghost use Rattle.tup_site.specs.Known.{IsKnown, Keeps};
 ghost use Rattle.tup_site.specs.Memory.{known_in};
 ghost use Rattle.tup_site.specs.declared.refused.MemRefused.TheVariants.{NotATree, SameStamp, NotAnImage};
-ghost use Rattle.tup_steady.specs.Calm.{IsCalm, IsCalm-prop, Keeps-prop};
+ghost use Rattle.tup_steady.specs.Calm.{IsCalm, IsCalm-prop, HasSmallStore, HasSmallStore-prop, Keeps-prop};
 
 use std::alloc::{AllocError, Global};
 use tup_path::{Bytes, Path};
 use tup_site::{MemRefused, MemSite};
 
-/// A tree of files and a store in memory, none of whose calls fails.
+/// How many bytes of a store it has room for.
+pub(crate) const MAX_STORE_BYTES: u64 = 65_536;
+
+/// A tree of files and a small store in memory, none of whose calls fails.
 #[derive(Drop)]
 pub struct SteadySite {
     pub(crate) site: MemSite,
     /// The contents that it has room for, each of which it knows.
     pub(crate) contents: Vec<Bytes>,
     ghost is_calm: { IsCalm site } by { IsCalm-prop site },
+    ghost is_small: { HasSmallStore site } by { HasSmallStore-prop site },
     ghost knows: { Keeps contents.items (known_in site) } by { Keeps-prop contents.items (known_in site) },
 }
 

@@ -1,5 +1,5 @@
 //! The calls of the steady site: each is a call of the site that it owns.
-use crate::steady::SteadySite;
+use crate::steady::{MAX_STORE_BYTES, SteadySite};
 use std::alloc::Global;
 use tup_path::{Bytes, Path, Paths};
 use tup_site::{Site, SiteFailed};
@@ -67,7 +67,11 @@ impl Site for SteadySite {
         self.site.db_read(alloc, at, into)
     }
 
+    // There is no memory for a longer store.
     fn db_write(&mut self, alloc: Global, at: u64, bytes: &[u8]) -> Result<(), SiteFailed> {
+        if bytes.len() as u64 > MAX_STORE_BYTES - at {
+            return Err(SiteFailed::Memory);
+        }
         self.site.db_write(alloc, at, bytes)
     }
 

@@ -1,0 +1,80 @@
+-- The files of the project are a tree.
+use Rattle.std.proofs.Common.{◌≡◌, ◌≢◌, ℕ, zero, suc, ◌+◌, ◌<◌, ◌≤◌, List, [], ◌∷◌, ◌++◌, length, All, codes, None, IsSome, slice_index_or, refl, sym, ap, subst, ◌∙◌, arith}
+use Rattle.std.proofs.lemmas.List.Elements.{All-nil, All-cons}
+use Rattle.std.specs.FinMap as finite
+use Rattle.std.specs.List.{AllPairs}
+use Rattle.std.specs.Map.{keys_of}
+use Rattle.tup_path.specs.Name.{Names, Content, IsNameByte, IsVisibleName, IsPath}
+use Rattle.tup_path.specs.Order.{by_names, by_names-total}
+use Rattle.tup_path.specs.Tree.{Tree, IsTree, IsBelow}
+use Rattle.tup_site.specs.Edit.{AreATree}
+use Rattle.tup_demo.specs.Project.{demo_files, demo_tree}
+use Rattle.tup_demo.proofs.Files.{content_there, demo_entries, of_each}
+
+once : AllPairs (λ a b. a ≢ b) (keys_of demo_files)
+once i zero d before within = absurd (omega (arith, before))
+once zero (suc zero) d before within = λ e. cc
+once (suc i) (suc zero) d before within = absurd (omega (arith, before))
+once i (suc (suc j)) d before within = absurd (omega (arith, within))
+
+a_is_visible : IsVisibleName (codes "a")
+a_is_visible = record {
+  text = (codes "a", (refl, refl));
+  not_empty = omega arith;
+  not_long = omega arith;
+  not_hidden = λ e. cc;
+  bytes = All-cons 97 [] (omega arith, ((λ e. cc), λ e. cc)) All-nil;
+}
+
+letter : (b : ℕ) (bytes : List ℕ) → IsNameByte b → All IsNameByte bytes → All IsNameByte (b ∷ bytes)
+letter b bytes here behind = All-cons b bytes here behind
+
+tupfile_is_visible : IsVisibleName (codes "Tupfile")
+tupfile_is_visible = record {
+  text = (codes "Tupfile", (refl, refl));
+  not_empty = omega arith;
+  not_long = omega arith;
+  not_hidden = λ e. cc;
+  bytes =
+      letter 84 _ (omega arith, ((λ e. cc), λ e. cc)) (letter 117 _ (omega arith, ((λ e. cc), λ e. cc)) (letter 112 _ (omega arith, ((λ e. cc), λ e. cc)) (letter 102 _ (omega arith, ((λ e. cc), λ e. cc))
+      (letter 105 _ (omega arith, ((λ e. cc), λ e. cc)) (letter 108 _ (omega arith, ((λ e. cc), λ e. cc)) (letter 101 [] (omega arith, ((λ e. cc), λ e. cc)) All-nil))))));
+}
+
+one_name : (name : List ℕ) → IsVisibleName name → IsPath (name ∷ [])
+one_name name visible = record { names = All-cons name [] visible All-nil; depth = omega arith }
+
+paths : All IsPath (finite.keys demo_tree)
+paths =
+    subst (λ (files : List (Names × Content)). All IsPath (keys_of files)) (sym demo_entries)
+    (All-cons (codes "Tupfile" ∷ []) ((codes "a" ∷ []) ∷ []) (one_name (codes "Tupfile") tupfile_is_visible) (All-cons (codes "a" ∷ []) [] (one_name (codes "a") a_is_visible) All-nil))
+
+-- each file is one name below the top
+flat : (path : Names) → IsSome (finite.get demo_tree path) → length path ≡ 1
+flat path some =
+    let found = content_there (finite.get demo_tree path) some in
+    of_each (λ (p : Names) (c : Content). length p ≡ 1) demo_tree demo_files path found.0 demo_entries (refl, (refl, tt)) found.1
+
+no_rest : (rest : Names) → length rest ≡ 0 → rest ≡ []
+no_rest [] e = refl
+no_rest (name ∷ rest) e = absurd (omega (arith, e))
+
+length_both : (a b : Names) → length (a ++ b) ≡ length a + length b
+length_both [] b = refl
+length_both (name ∷ a) b = let more = length_both a b in omega (arith, more)
+
+alone : (folder path : Names) → IsSome (finite.get demo_tree folder) → IsSome (finite.get demo_tree path) → IsBelow folder path → ⊥
+alone folder path above below (rest, more, is) =
+    let one = flat folder above in
+    let other = flat path below in
+    let both = ap length is ∙ length_both folder rest in
+    more (no_rest rest (omega (arith, one, other, both)))
+
+pub are_a_tree : AreATree demo_files
+are_a_tree = record {
+  once = once;
+  tree = record {
+    paths = paths;
+    no_top = finite.get-from_entries by_names-total demo_files [];
+    no_file_above = alone;
+  };
+}
