@@ -1,6 +1,6 @@
 -- The files of the project are a tree.
 use Rattle.std.proofs.Common.{◌≡◌, ◌≢◌, ℕ, zero, suc, ◌+◌, ◌<◌, ◌≤◌, List, [], ◌∷◌, ◌++◌, length, All, codes, None, IsSome, slice_index_or, refl, sym, ap, subst, ◌∙◌, arith}
-use Rattle.std.proofs.lemmas.List.Elements.{All-nil, All-cons}
+use Rattle.std.proofs.lemmas.List.Elements.{All-from_recursion}
 use Rattle.std.specs.FinMap as finite
 use Rattle.std.specs.List.{AllPairs}
 use Rattle.std.specs.Map.{keys_of}
@@ -17,17 +17,18 @@ once zero (suc zero) d before within = λ e. cc
 once (suc i) (suc zero) d before within = absurd (omega (arith, before))
 once i (suc (suc j)) d before within = absurd (omega (arith, within))
 
+-- a byte between the exclamation mark and the tilde, and no slash
+letter : (b : ℕ) → 33 ≤ b → b ≤ 126 → b ≢ 47 → IsNameByte b
+letter b more less slash = (more, ((λ e. absurd (omega (arith, less, e))), slash))
+
 a_is_visible : IsVisibleName (codes "a")
 a_is_visible = record {
   text = (codes "a", (refl, refl));
   not_empty = omega arith;
   not_long = omega arith;
   not_hidden = λ e. cc;
-  bytes = All-cons 97 [] (omega arith, ((λ e. cc), λ e. cc)) All-nil;
+  bytes = All-from_recursion IsNameByte (codes "a") (letter 97 (omega arith) (omega arith) (λ e. cc), tt);
 }
-
-letter : (b : ℕ) (bytes : List ℕ) → IsNameByte b → All IsNameByte bytes → All IsNameByte (b ∷ bytes)
-letter b bytes here behind = All-cons b bytes here behind
 
 tupfile_is_visible : IsVisibleName (codes "Tupfile")
 tupfile_is_visible = record {
@@ -36,17 +37,18 @@ tupfile_is_visible = record {
   not_long = omega arith;
   not_hidden = λ e. cc;
   bytes =
-      letter 84 _ (omega arith, ((λ e. cc), λ e. cc)) (letter 117 _ (omega arith, ((λ e. cc), λ e. cc)) (letter 112 _ (omega arith, ((λ e. cc), λ e. cc)) (letter 102 _ (omega arith, ((λ e. cc), λ e. cc))
-      (letter 105 _ (omega arith, ((λ e. cc), λ e. cc)) (letter 108 _ (omega arith, ((λ e. cc), λ e. cc)) (letter 101 [] (omega arith, ((λ e. cc), λ e. cc)) All-nil))))));
+      All-from_recursion IsNameByte (codes "Tupfile")
+      (letter 84 (omega arith) (omega arith) (λ e. cc), (letter 117 (omega arith) (omega arith) (λ e. cc), (letter 112 (omega arith) (omega arith) (λ e. cc), (letter 102 (omega arith) (omega arith) (λ e. cc),
+      (letter 105 (omega arith) (omega arith) (λ e. cc), (letter 108 (omega arith) (omega arith) (λ e. cc), (letter 101 (omega arith) (omega arith) (λ e. cc), tt)))))));
 }
 
 one_name : (name : List ℕ) → IsVisibleName name → IsPath (name ∷ [])
-one_name name visible = record { names = All-cons name [] visible All-nil; depth = omega arith }
+one_name name visible = record { names = All-from_recursion IsVisibleName (name ∷ []) (visible, tt); depth = omega arith }
 
 paths : All IsPath (finite.keys demo_tree)
 paths =
     subst (λ (files : List (Names × Content)). All IsPath (keys_of files)) (sym demo_entries)
-    (All-cons (codes "Tupfile" ∷ []) ((codes "a" ∷ []) ∷ []) (one_name (codes "Tupfile") tupfile_is_visible) (All-cons (codes "a" ∷ []) [] (one_name (codes "a") a_is_visible) All-nil))
+    (All-from_recursion IsPath (keys_of demo_files) (one_name (codes "Tupfile") tupfile_is_visible, (one_name (codes "a") a_is_visible, tt)))
 
 -- each file is one name below the top
 flat : (path : Names) → IsSome (finite.get demo_tree path) → length path ≡ 1

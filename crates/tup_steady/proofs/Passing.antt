@@ -1,18 +1,19 @@
 -- A call of a site that is calm, and is put no content of another's stamp, doesn't fail, and leaves it calm.
-use Rattle.std.proofs.Common.{◌≡◌, ◌⊎◌, inl, inr, List, true, false, ◌||◌, IsTrue, Result, Err, sym, ap, ◌∙◌, refl, arith}
+use Rattle.std.proofs.Common.{◌≡◌, ◌⊎◌, inl, inr, ℕ, ◌+◌, ◌≤◌, List, ◌++◌, length, take, drop, Bool, true, false, ◌||◌, IsTrue, Result, Ok, Err, OnOk, OnErr, sym, ap, ◌∙◌, refl, arith, length-append, length-take, length-drop}
 use Rattle.std.specs.List.{list_any}
-use Rattle.std.specs.Prelude.{nat_eq, ℕ, bytes_eq}
+use Rattle.std.specs.Prelude.{nat_eq, bytes_eq}
 use Rattle.std.proofs.lemmas.Bool.Decides.{same_from_decides}
 use Rattle.std.proofs.lemmas.Slice.Eq.{bytes_eq-Decides}
 use Rattle.tup_path.specs.Name.{Content}
 use Rattle.tup_site.specs.Cause.{CountsFaults}
 use Rattle.tup_site.specs.Known.{knows, MayJoin}
 use Rattle.tup_site.specs.Laws.{is_known_law}
-use Rattle.tup_site.specs.Memory.{left_of, known_in, fails_next, is_used_up, one_less, one_more, calls_of, IsCounted}
+use Rattle.tup_site.specs.Store.{Holds}
+use Rattle.tup_site.specs.Memory.{left_of, known_in, fails_next, is_used_up, one_less, one_more, calls_of, IsCounted, store_in}
 use Rattle.tup_site.specs.declared.fault.SiteFailed.{SiteFailed}
 use Rattle.tup_site.specs.declared.fault.SiteFailed.TheVariants.{Fault}
 use Rattle.tup_site.specs.declared.memory.MemSite.{MemSite}
-use Rattle.tup_steady.specs.Calm.{IsCalm}
+use Rattle.tup_steady.specs.Calm.{HasSmallStore, IsCalm}
 
 -- the call that comes next doesn't fail
 passes_next : (site : MemSite) → IsCalm site → IsTrue (fails_next site) → ⊥
@@ -53,3 +54,19 @@ swap x y = same_from_decides (bytes_eq x y) (bytes_eq y x) (bytes_eq-Decides x y
 pub is_among : (listed contents : List Content) (content : Content) → listed ≡ contents → list_any (λ other. bytes_eq other content) listed ≡ true → IsTrue (knows contents content)
 is_among listed contents content are found =
     sym (ap (λ (l : List Content). list_any (λ other. bytes_eq other content) l) are ∙ (λ i. list_any (λ other. swap other content i) contents)) ∙ found
+
+-- a store that was cut is no longer
+pub cut_small : {T : Type 0} (old new : MemSite) (len : ℕ) (result : Result T SiteFailed) → HasSmallStore old → OnOk result (store_in new ≡ take len (store_in old)) → OnErr result (store_in new ≡ store_in old) → HasSmallStore new
+cut_small old new len (Ok done) small cut unchanged =
+    let is = ap length cut in
+    omega (arith, small, is, length-take len (store_in old))
+cut_small old new len (Err failed) small cut unchanged = let is = ap length unchanged in omega (arith, small, is)
+
+-- nor is one into which bytes were written, where these end within it or within the room
+pub written_small : {T : Type 0} (old new : MemSite) (at : ℕ) (bytes : List ℕ) (result : Result T SiteFailed) → HasSmallStore old → at ≤ length (store_in old) → at + length bytes ≤ 65536
+    → OnOk result (Holds (store_in old) at bytes (store_in new)) → OnErr result (store_in new ≡ store_in old) → HasSmallStore new
+written_small old new at bytes (Ok done) small within fits written unchanged =
+    let is = ap length written in
+    let store = store_in old in
+    omega (arith, small, within, fits, is, length-append (take at store) (bytes ++ drop (at + length bytes) store), length-append bytes (drop (at + length bytes) store), length-take at store, length-drop (at + length bytes) store)
+written_small old new at bytes (Err failed) small within fits written unchanged = let is = ap length unchanged in omega (arith, small, is)

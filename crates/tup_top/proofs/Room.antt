@@ -1,9 +1,9 @@
 -- A small store has room for the commits of the update of a small project.
 use Rattle.std.proofs.Common.{◌≡◌, ◌≢◌, ℕ, ◌+◌, ◌<◌, ◌≤◌, ◌⊎◌, inl, inr, Bool, true, false, cond, List, [], ◌∷◌, ◌++◌, length, map, filter, codes, Option, None, Some, Ok, refl, sym, ap, subst, ◌∙◌, arith}
-use Rattle.std.proofs.lemmas.List.Elements.{All-nil, All-cons}
+use Rattle.std.proofs.lemmas.List.Elements.{All-from_recursion}
 use Rattle.std.specs.FinMap as finite
 use Rattle.std.specs.FinMap.{put as put_entry}
-use Rattle.tup_path.specs.Name.{Names, IsPath}
+use Rattle.tup_path.specs.Name.{Names, IsNameByte, IsPath, IsVisibleName}
 use Rattle.std.specs.Cmp.Lexicographic.{nat_list_cmp_total}
 use Rattle.tup_path.specs.Order.{by_bytes}
 use Rattle.tup_field.specs.Parts.{number, OptionFits}
@@ -45,7 +45,7 @@ pub room_for_nothing : (w : World) → LacksRoom (λ g. forget_edits g []) w →
 room_for_nothing w lacks = by lacks.full
   where
     by : IsFull lacks.graph [] → ⊥
-    by (inl unspelled) = unspelled All-nil
+    by (inl unspelled) = unspelled (All-from_recursion HasSpelling [] tt)
     by (inr (some, over)) = some (nothing_needed lacks.graph)
 
 -- ---- one path is owned
@@ -54,17 +54,17 @@ room_for_nothing w lacks = by lacks.full
 abbrev output : Names
 output = codes "b" ∷ []
 
-output_is_path : IsPath output
-output_is_path = record {
-  names = All-cons (codes "b") [] (record {
-    text = (codes "b", (refl, refl));
-    not_empty = omega arith;
-    not_long = omega arith;
-    not_hidden = λ e. cc;
-    bytes = All-cons 98 [] (omega arith, ((λ e. cc), λ e. cc)) All-nil;
-  }) All-nil;
-  depth = omega arith;
+name_is_visible : IsVisibleName (codes "b")
+name_is_visible = record {
+  text = (codes "b", (refl, refl));
+  not_empty = omega arith;
+  not_long = omega arith;
+  not_hidden = λ e. cc;
+  bytes = All-from_recursion IsNameByte (codes "b") ((omega arith, ((λ e. cc), λ e. cc)), tt);
 }
+
+output_is_path : IsPath output
+output_is_path = record { names = All-from_recursion IsVisibleName output (name_is_visible, tt); depth = omega arith }
 
 -- what owning it writes where it has this maker
 abbrev edit : Option ℕ → Edit
@@ -109,7 +109,7 @@ room_for_one w small lacks = by lacks.full
     maker = maker_in lacks.graph.nodes output
 
     by : IsFull lacks.graph (edit maker ∷ []) → ⊥
-    by (inl unspelled) = unspelled (All-cons (edit maker) [] (output_is_path, (maker_fits (entries_in lacks.graph.table) lacks.graph.nodes output lacks.stands, tt)) All-nil)
+    by (inl unspelled) = unspelled (All-from_recursion HasSpelling (edit maker ∷ []) ((output_is_path, (maker_fits (entries_in lacks.graph.table) lacks.graph.nodes output lacks.stands, tt)), tt))
     by (inr (some, over)) =
         let gate = gate_within w lacks.graph lacks.reads in
         let length_is = subst (λ (changes : List Change). length (appending changes) ≤ 22) (sym (one_needed lacks.graph maker)) (few (changes_it (entries_in lacks.graph.table)) (change_of (edit maker)) (short maker)) in
