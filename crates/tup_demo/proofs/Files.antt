@@ -16,14 +16,14 @@ module _ (P : Names → Content → Type 0) where
 
   found_in : (files : List (Names × Content)) (path : Names) (content : Content) → AllFiles files → find by_names path files ≡ Some content → P path content
   found_in [] path content all e = absurd (let wrong : None ≡ Some content = e in cc)
-  found_in (file ∷ files) path content all e = by (eq_by_cmp by_names path file.0) refl e
+  found_in (file ∷ files) path content all e = by (eq_by_cmp by_names path file.0) refl (found_in files path content all.1) e
     where
-      by : (b : Bool) → eq_by_cmp by_names path file.0 ≡ b → cond b (Some file.1) (find by_names path files) ≡ Some content → P path content
-      by true same is =
+      by : (b : Bool) → eq_by_cmp by_names path file.0 ≡ b → (find by_names path files ≡ Some content → P path content) → cond b (Some file.1) (find by_names path files) ≡ Some content → P path content
+      by true same behind is =
           let value : file.1 ≡ content = cc in
           let here : path ≡ file.0 = (same_path-decides path file.0).0 (same_path-by_names path file.0 ∙ same) in
           subst (λ (p : Names). P p content) (sym here) (subst (P file.0) value all.0)
-      by false other is = found_in files path content all.1 is
+      by false other behind is = behind is
 
   pub of_each : (tree : Tree) (files : List (Names × Content)) (path : Names) (content : Content) → finite.entries tree ≡ files → AllFiles files → finite.get tree path ≡ Some content → P path content
   of_each tree files path content are all found =
@@ -40,10 +40,13 @@ no_length : {A : Type 0} (items : List A) → length items ≡ 0 → items ≡ [
 no_length [] e = refl
 no_length (item ∷ items) e = absurd (omega (arith, e))
 
-none_there : finite.entries {R = by_names} {X = Content} finite.empty ≡ []
-none_there = no_length (finite.entries finite.empty) (sym (finite.len-entries finite.empty) ∙ finite.len-empty by_names Content)
+abbrev no_files : Tree
+no_files = finite.empty
+
+none_there : finite.entries no_files ≡ []
+none_there = no_length (finite.entries no_files) (sym (finite.len-entries no_files) ∙ finite.len-empty by_names Content)
 
 pub demo_entries : finite.entries demo_tree ≡ demo_files
 demo_entries =
-    finite.entries-insert by_names-total (finite.insert finite.empty (codes "a" ∷ []) demo_source) (codes "Tupfile" ∷ []) demo_tupfile
-    ∙ ap (put by_names (codes "Tupfile" ∷ []) demo_tupfile) (finite.entries-insert by_names-total finite.empty (codes "a" ∷ []) demo_source ∙ ap (put by_names (codes "a" ∷ []) demo_source) none_there)
+    finite.entries-insert by_names-total (finite.insert no_files (codes "a" ∷ []) demo_source) (codes "Tupfile" ∷ []) demo_tupfile
+    ∙ ap (put by_names (codes "Tupfile" ∷ []) demo_tupfile) (finite.entries-insert by_names-total no_files (codes "a" ∷ []) demo_source ∙ ap (put by_names (codes "a" ∷ []) demo_source) none_there)

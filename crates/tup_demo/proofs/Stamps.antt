@@ -1,5 +1,5 @@
 -- The two contents of the project have two stamps, as their digests begin with different bytes.
-use Rattle.std.proofs.Common.{◌≡◌, ◌⊎◌, inl, inr, ◌||◌, Bool, true, false, List, [], ◌∷◌, IsTrue, bytes_eq, refl, sym, ap, ◌∙◌}
+use Rattle.std.proofs.Common.{◌≡◌, ◌⊎◌, inl, inr, ℕ, ◌||◌, Bool, true, false, List, [], ◌∷◌, IsTrue, bytes_eq, refl, sym, ap, ◌∙◌, arith}
 use Rattle.std.proofs.lemmas.Slice.Eq.{bytes_eq-Decides}
 use Rattle.std.specs.Prelude.{slice_index}
 use Rattle.sha2.specs.Sha256.{sha256, digest_bytes, hash_after, compress, rounds, schedule, first_words}
@@ -21,8 +21,8 @@ tupfile_begins = refl
 apart : stamp demo_source ≡ stamp demo_tupfile → ⊥
 apart same =
     let bytes : slice_index (sha256 demo_source) 0 ≡ slice_index (sha256 demo_tupfile) 0 = ap (λ (s : Stamp). slice_index s.0 0) same in
-    let wrong : 0x98 ≡ 0x02 = sym source_begins ∙ bytes ∙ tupfile_begins in
-    cc
+    let wrong : ◌≡◌ {A = ℕ} 0x98 0x02 = sym source_begins ∙ bytes ∙ tupfile_begins in
+    omega (arith, wrong)
 
 which : (content : Content) → IsTrue (knows (contents_of demo_files) content) → (content ≡ demo_tupfile) ⊎ (content ≡ demo_source)
 which content = by (bytes_eq content demo_tupfile) (bytes_eq content demo_source) refl refl

@@ -1,5 +1,5 @@
 -- The files of the project are a tree.
-use Rattle.std.proofs.Common.{◌≡◌, ◌≢◌, ℕ, zero, suc, ◌+◌, ◌<◌, ◌≤◌, List, [], ◌∷◌, ◌++◌, length, All, codes, None, IsSome, slice_index_or, refl, sym, ap, subst, ◌∙◌, arith}
+use Rattle.std.proofs.Common.{◌≡◌, ◌≢◌, ℕ, zero, suc, ◌+◌, ◌<◌, ◌≤◌, List, [], ◌∷◌, ◌++◌, length, All, codes, None, IsSome, Result, Ok, Err, IfErr, refl, sym, ap, subst, ◌∙◌, arith, length-append}
 use Rattle.std.proofs.lemmas.List.Elements.{All-from_recursion}
 use Rattle.std.specs.FinMap as finite
 use Rattle.std.specs.List.{AllPairs}
@@ -8,8 +8,13 @@ use Rattle.tup_path.specs.Name.{Names, Content, IsNameByte, IsVisibleName, IsPat
 use Rattle.tup_path.specs.Order.{by_names, by_names-total}
 use Rattle.tup_path.specs.Tree.{Tree, IsTree, IsBelow}
 use Rattle.tup_site.specs.Edit.{AreATree}
+use Rattle.tup_site.specs.History.{contents_of}
+use Rattle.tup_site.specs.Known.{IsKnown}
+use Rattle.tup_site.specs.declared.refused.MemRefused.{MemRefused}
+use Rattle.tup_site.specs.declared.refused.MemRefused.TheVariants.{NotATree, SameStamp, NotAnImage, Memory}
 use Rattle.tup_demo.specs.Project.{demo_files, demo_tree}
 use Rattle.tup_demo.proofs.Files.{content_there, demo_entries, of_each}
+use Rattle.tup_demo.proofs.Stamps.{known}
 
 once : AllPairs (λ a b. a ≢ b) (keys_of demo_files)
 once i zero d before within = absurd (omega (arith, before))
@@ -19,9 +24,10 @@ once i (suc (suc j)) d before within = absurd (omega (arith, within))
 
 -- a byte between the exclamation mark and the tilde, and no slash
 letter : (b : ℕ) → 33 ≤ b → b ≤ 126 → b ≢ 47 → IsNameByte b
-letter b more less slash = (more, ((λ e. absurd (omega (arith, less, e))), slash))
+letter b more less slash = (more, (λ e. absurd (omega (arith, less, e))), slash)
 
 a_is_visible : IsVisibleName (codes "a")
+unfolding lib.Utf8.encode
 a_is_visible = record {
   text = (codes "a", (refl, refl));
   not_empty = omega arith;
@@ -31,6 +37,7 @@ a_is_visible = record {
 }
 
 tupfile_is_visible : IsVisibleName (codes "Tupfile")
+unfolding lib.Utf8.encode
 tupfile_is_visible = record {
   text = (codes "Tupfile", (refl, refl));
   not_empty = omega arith;
@@ -60,15 +67,11 @@ no_rest : (rest : Names) → length rest ≡ 0 → rest ≡ []
 no_rest [] e = refl
 no_rest (name ∷ rest) e = absurd (omega (arith, e))
 
-length_both : (a b : Names) → length (a ++ b) ≡ length a + length b
-length_both [] b = refl
-length_both (name ∷ a) b = let more = length_both a b in omega (arith, more)
-
 alone : (folder path : Names) → IsSome (finite.get demo_tree folder) → IsSome (finite.get demo_tree path) → IsBelow folder path → ⊥
 alone folder path above below (rest, more, is) =
     let one = flat folder above in
     let other = flat path below in
-    let both = ap length is ∙ length_both folder rest in
+    let both = ap length is ∙ length-append folder rest in
     more (no_rest rest (omega (arith, one, other, both)))
 
 pub are_a_tree : AreATree demo_files
@@ -80,3 +83,12 @@ are_a_tree = record {
     no_file_above = alone;
   };
 }
+
+-- so a site is refused them for want of memory alone
+pub only_memory : {T : Type 0} (files : List (Names × Content)) (result : Result T MemRefused) → files ≡ demo_files → (result ≡ Err NotATree → ¬ AreATree files) → (result ≡ Err SameStamp → AreATree files × (¬ IsKnown (contents_of files)))
+    → result ≢ Err NotAnImage → IfErr result (λ refused. refused ≡ Memory)
+only_memory files (Ok site) are tree stamps image = tt
+only_memory files (Err NotATree) are tree stamps image = absurd (tree refl (subst AreATree (sym are) are_a_tree))
+only_memory files (Err SameStamp) are tree stamps image = absurd ((stamps refl).1 (subst (λ (fs : List (Names × Content)). IsKnown (contents_of fs)) (sym are) known))
+only_memory files (Err NotAnImage) are tree stamps image = absurd (image refl)
+only_memory files (Err Memory) are tree stamps image = refl

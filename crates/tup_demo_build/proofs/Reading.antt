@@ -74,7 +74,7 @@ demo_log = (query.Content (codes "Tupfile" ∷ []), told.Content (Some demo_tupf
 
 demo_ran : Ran [] (reading []) demo_log (Ok (demo_draft ∷ []))
 unfolding asks settings_of and_then taken expanded flagged_text names_of_files glob_of matched_in globbed literal from_bin from_group from_files from_other from_word from_words with_carets shown spoken with_text with_extra with_outputs drafted with_job with_jobs only_body named_body body_in one_more with_body defined known_output from_output from_outputs given_to plan_of planned with_words words_in ruled cut with_named with_macro words_of compared compares looked_up held_at held_in named_file included_file lines_of ended at_levels opening opened included ruled_by ruled_below ruled_down complained stated plain_line with_kind with_lines with_file with_room opener_of drafts_in reading with_value value_of assigned
-demo_ran = (told.Content (Some demo_tupfile), (refl, (told.Kind File, (refl, (refl, refl)))))
+demo_ran = (told.Content (Some demo_tupfile), refl, (told.Kind File, refl, (refl, refl)))
 
 -- ---- what it is told is so
 
@@ -86,13 +86,13 @@ module _ (P : Question → Told → Type 0) where
 
   told_in : (log : Log) (question : Question) (answered : Told) → AllTold log → told_before log question ≡ Some answered → P question answered
   told_in [] question answered all e = absurd (let wrong : None ≡ Some answered = e in cc)
-  told_in (entry ∷ log) question answered all e = by (same_question question entry.0) refl e
+  told_in (entry ∷ log) question answered all e = by (same_question question entry.0) refl (told_in log question answered all.1) e
     where
-      by : (b : Bool) → same_question question entry.0 ≡ b → cond b (Some entry.1) (told_before log question) ≡ Some answered → P question answered
-      by true same is =
+      by : (b : Bool) → same_question question entry.0 ≡ b → (told_before log question ≡ Some answered → P question answered) → cond b (Some entry.1) (told_before log question) ≡ Some answered → P question answered
+      by true same behind is =
           let value : entry.1 ≡ answered = cc in
           subst (λ (q : Question). P q answered) (sym (same_question-true question entry.0 same)) (subst (P entry.0) value all.0)
-      by false other is = told_in log question answered all.1 is
+      by false other behind is = behind is
 
 abbrev no_readings : Readings
 no_readings = finite.empty
@@ -145,10 +145,7 @@ top_has : IsTrue (has_tupfile demo_tree [])
 top_has = ap is_some tupfile_there
 
 are_readings : AreReadings demo_tree [] ([] ∷ []) demo_readings
-are_readings = (
-  no_readings,
-  (demo_reading, (refl, (top_has, (finite.get-empty by_names [], (record { log = demo_log; answered = demo_answered; ran = demo_ran; noted = refl }, refl))))),
-)
+are_readings = (no_readings, demo_reading, refl, top_has, finite.get-empty by_names [], record { log = demo_log; answered = demo_answered; ran = demo_ran; noted = refl }, refl)
 
 -- the list has just that reading
 list_is : demo_readings ≡ finite.from_sorted demo_list
@@ -192,7 +189,7 @@ makes_none at (path, declares, makes) =
 
 no_producer : (between at : ℕ) → ProducerOver between demo_rules demo_rule at → ⊥
 no_producer zero at makes = makes_none at makes
-no_producer (suc between) at (next, other, makes, more) = makes_none next makes
+no_producer (suc between) at (next, other, makes, stands, more) = makes_none next makes
 
 the_rule : (at : ℕ) (rule : Rule) → slice_get demo_rules at ≡ Some rule → demo_rule ≡ rule
 the_rule zero rule e = cc
@@ -202,4 +199,4 @@ no_circle : NoneWaitsForItself demo_rules
 no_circle at rule stands (between, over) = no_producer between at (subst (λ (r : Rule). ProducerOver between demo_rules r at) (sym (the_rule at rule stands)) over)
 
 pub come_to : ComeTo demo_tree (Ok demo_rules)
-come_to = (demo_list, (outcome, record { are = linked; early = no_early; order = no_circle }))
+come_to = (demo_list, outcome, record { are = linked; early = no_early; order = no_circle })

@@ -57,7 +57,7 @@ owns_nothing = ap (map (λ (entry : Names × Owned). entry.0)) (no_length (finit
 lists_nothing : Lists demo_world.store []
 lists_nothing = record {
   graph = empty_graph;
-  store = record { entries = []; leaves = ([], ((0 ∷ [], (record { fits = tt; whole = refl }, inl (λ e. cc))), refl)); stands = refl };
+  store = record { entries = []; leaves = ([], (0 ∷ [], record { fits = tt; whole = refl }, inl (λ e. absurd (omega (arith, e)))), refl); stands = refl };
   owned = sym owns_nothing;
 }
 
@@ -203,7 +203,7 @@ module _ (new : World) (small : length new.store ≤ 65536) where
       let read_is : read ≡ 1 = cc same in
       let ran_is : ran ≡ 1 = cc same in
       let removed_is : removed ≡ 0 = cc same in
-      (read_is, (ran_is, (removed_is, counts.1)))
+      (read_is, ran_is, removed_is, counts.1)
   demo_cause before now (Command rule status) cause counts told = excluded (Command rule status) cause (refl, refl)
   demo_cause before now (IllegalRead rule text) cause counts told = excluded (IllegalRead rule text) cause (refl, refl)
   demo_cause before now (IllegalWrite rule text) cause counts told = excluded (IllegalWrite rule text) cause (refl, refl)

@@ -1,5 +1,5 @@
 -- A small store has room for the commits of the update of a small project.
-use Rattle.std.proofs.Common.{◌≡◌, ◌≢◌, ℕ, ◌+◌, ◌<◌, ◌≤◌, ◌⊎◌, inl, inr, Bool, true, false, cond, List, [], ◌∷◌, ◌++◌, length, map, filter, codes, Option, None, Some, Ok, refl, sym, ap, subst, ◌∙◌, arith}
+use Rattle.std.proofs.Common.{◌≡◌, ◌≢◌, ℕ, ◌+◌, ◌<◌, ◌≤◌, ◌⊎◌, inl, inr, Bool, true, false, cond, List, [], ◌∷◌, ◌++◌, length, map, filter, codes, Option, None, Some, Ok, refl, sym, ap, subst, ◌∙◌, arith, length-append}
 use Rattle.std.proofs.lemmas.List.Elements.{All-from_recursion}
 use Rattle.std.specs.FinMap as finite
 use Rattle.std.specs.FinMap.{put as put_entry}
@@ -55,12 +55,13 @@ abbrev output : Names
 output = codes "b" ∷ []
 
 name_is_visible : IsVisibleName (codes "b")
+unfolding lib.Utf8.encode
 name_is_visible = record {
   text = (codes "b", (refl, refl));
   not_empty = omega arith;
   not_long = omega arith;
   not_hidden = λ e. cc;
-  bytes = All-from_recursion IsNameByte (codes "b") ((omega arith, ((λ e. cc), λ e. cc)), tt);
+  bytes = All-from_recursion IsNameByte (codes "b") ((omega arith, (λ e. absurd (omega (arith, e))), (λ e. absurd (omega (arith, e)))), tt);
 }
 
 output_is_path : IsPath output
@@ -89,17 +90,13 @@ one_needed graph maker =
     (finite.entries-insert nat_list_cmp_total finite.empty (key_of (records.Owned output maker Unsure)) change ∙ ap (put_entry by_bytes (key_of (records.Owned output maker Unsure)) change) none_there)
 
 -- the gate stands in the store
-length_both : (a b : List ℕ) → length (a ++ b) ≡ length a + length b
-length_both [] b = refl
-length_both (x ∷ a) b = let more = length_both a b in omega (arith, more)
-
 gate_within : (w : World) (graph : Held) → ReadsAs w.store (Ok (opened_in graph)) → gate_of graph.table ≤ length w.store
 gate_within w graph (commits, (rest, follows, end), is) =
     let gate : gate_of graph.table ≡ length (header ++ blocks commits) = ap (λ (o : Opened). o.gate) is in
-    let front = length_both header (blocks commits) in
+    let front = length-append header (blocks commits) in
     let whole = ap length follows.whole in
-    let behind = length_both header (blocks commits ++ rest) in
-    let both = length_both (blocks commits) rest in
+    let behind = length-append header (blocks commits ++ rest) in
+    let both = length-append (blocks commits) rest in
     omega (arith, gate, front, whole, behind, both)
 
 pub room_for_one : (w : World) → length w.store ≤ 65536 → LacksRoom (λ g. own_edits g (output ∷ [])) w → ⊥
