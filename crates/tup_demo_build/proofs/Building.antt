@@ -1,5 +1,5 @@
 -- The clean build of the project: its rule copies `a`, and is Good.
-use Rattle.std.proofs.Common.{◌≡◌, ℕ, List, [], ◌∷◌, codes, Option, None, Some, slice_set, refl, ap, ◌∙◌}
+use Rattle.std.proofs.Common.{◌≡◌, [], ◌∷◌, codes, Option, None, Some, refl, ap, ◌∙◌}
 use Rattle.std.specs.FinMap as finite
 use Rattle.tup_path.specs.Name.{Content}
 use Rattle.tup_path.specs.Order.{by_names-total}
@@ -10,7 +10,7 @@ use Rattle.tup_access.specs.declared.verdict.Verdict.TheVariants.{Good}
 use Rattle.tup_access.specs.Judge.{Judged, good}
 use Rattle.tup_access.specs.Verdict.{follow, verdict}
 use Rattle.tup_clean.specs.Clean.{Build, clean, with_files}
-use Rattle.tup_clean.specs.Taken.{Taken, takes}
+use Rattle.tup_clean.specs.Taken.{takes}
 use Rattle.tup_demo.specs.Project.{demo_files, demo_source, demo_tree}
 use Rattle.tup_demo_build.specs.Build.{demo_build, demo_rule, demo_rules}
 

@@ -1,5 +1,5 @@
 -- The reading of the project: its Tupfile is read, and comes to one rule.
-use Rattle.std.proofs.Common.{◌≡◌, ℕ, zero, suc, ◌||◌, Bool, true, false, cond, List, [], ◌∷◌, ◌++◌, codes, is_some, unwrap_or, Option, None, Some, option_and_then, IsTrue, IsSome, Result, Ok, Err, slice_get, refl, sym, ap, subst, ◌∙◌}
+use Rattle.std.proofs.Common.{◌≡◌, ℕ, zero, suc, ◌||◌, Bool, true, false, cond, List, [], ◌∷◌, ◌++◌, codes, is_some, unwrap_or, Option, None, Some, option_and_then, IsTrue, IsSome, Result, Ok, slice_get, refl, sym, ap, subst, ◌∙◌}
 use Rattle.std.specs.FinMap as finite
 use Rattle.std.specs.Ordering.{eq_by_cmp}
 use Rattle.std.specs.Result.{result_ok}
@@ -32,7 +32,7 @@ use Rattle.tup_link.specs.Faults.{early_fault}
 use Rattle.tup_link.specs.Groups.{members}
 use Rattle.tup_link.specs.Linked.{rules_of}
 use Rattle.tup_whole.specs.Project.{ComeTo}
-use Rattle.tup_demo.specs.Project.{demo_files, demo_source, demo_tree, demo_tupfile}
+use Rattle.tup_demo.specs.Project.{demo_files, demo_tree, demo_tupfile}
 use Rattle.tup_demo.proofs.Files.{content_there, demo_entries, of_each}
 use Rattle.tup_demo_build.specs.Build.{demo_rule, demo_rules}
 use Rattle.tup_demo_build.proofs.Building.{source_there}

@@ -14,8 +14,7 @@ use Rattle.tup_access.specs.declared.verdict.Verdict.TheVariants.{Good, Failed, 
 use Rattle.tup_clean.specs.Taken.{Taken}
 use Rattle.tup_update.specs.Log.{LogFits, RulesFit, OfRules}
 use Rattle.tup_update.specs.Ran.{RunsThese}
-use Rattle.tup_mini.specs.Means.{mini_next}
-use Rattle.tup_update.specs.Outcome.{ExactlyTheFiles, HasCause, NothingForgotten, HasRunCause, HasCountedCause as StopHasCountedCause}
+use Rattle.tup_update.specs.Outcome.{ExactlyTheFiles, NothingForgotten, HasRunCause, HasCountedCause as StopHasCountedCause}
 use Rattle.tup_update.specs.Sources.{ends, PassesLimit}
 use Rattle.tup_update.specs.Turns.{names_of, TurnsFit}
 use Rattle.tup_update.proofs.Ending.{no_front, whole_front}
@@ -27,7 +26,7 @@ use Rattle.tup_update.specs.declared.stop.Stop.{Stop}
 use Rattle.tup_update.specs.declared.stop.Stop.TheVariants.{NoStore, BadStore as StoreDamaged, Sources, Bad, Run, Full, Outside}
 use Rattle.tup_top.specs.Lines.{lines}
 use Rattle.tup_top.specs.Crew.{OneRose, RanFits}
-use Rattle.tup_top.specs.Promise.{CountsAll, Counts, AreSteady, HasCountedCause, HasDemoCause}
+use Rattle.tup_top.specs.Promise.{CountsAll, Counts, AreSteady, HasCountedCause}
 use Rattle.tup_top.specs.Printed.{IsDone, Ends, Prints, Told, PrintsUpdate}
 use Rattle.tup_top.specs.Status.{status_of, status_of_sources, IfCame, after_sink_fault}
 use Rattle.tup_top.specs.declared.status.Status.{Status}

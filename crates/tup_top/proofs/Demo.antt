@@ -1,5 +1,5 @@
 -- Nothing stands in the way of the update that a demo shows.
-use Rattle.std.proofs.Common.{◌≡◌, ℕ, zero, suc, ◌-◌, ◌^◌, ◌≤◌, ◌<◌, ◌⊎◌, inl, inr, List, [], ◌∷◌, ◌++◌, length, map, codes, Option, None, Some, IsTrue, Result, Ok, Err, refl, sym, ap, subst, ◌∙◌, arith}
+use Rattle.std.proofs.Common.{◌≡◌, ℕ, zero, suc, ◌-◌, ◌^◌, ◌≤◌, ◌<◌, ◌⊎◌, inl, inr, List, [], ◌∷◌, length, map, codes, None, Some, IsTrue, Result, Ok, Err, refl, sym, ap, subst, ◌∙◌, arith}
 use Rattle.std.specs.FinMap as finite
 use Rattle.std.specs.FinMap.{put}
 use Rattle.std.specs.List.{slice_get}
@@ -14,7 +14,6 @@ use Rattle.tup_clean.specs.Clean.{Build, clean, start, succeeds}
 use Rattle.tup_access.specs.declared.verdict.Verdict.TheVariants.{Good}
 use Rattle.tup_clean.specs.Taken.{takes, up_to_bad}
 use Rattle.tup_link.specs.declared.fault.What.TheVariants.{Commands, Links}
-use Rattle.tup_table.specs.Store.{header}
 use Rattle.tup_graph.specs.Graph.{empty_graph}
 use Rattle.tup_graph.specs.declared.owned.Owned.{Owned}
 use Rattle.tup_ledger.specs.Listing.{Lists}
@@ -23,8 +22,8 @@ use Rattle.tup_whole.specs.Project.{ComeTo}
 use Rattle.tup_whole.specs.declared.fault.ProjectFault.{ProjectFault}
 use Rattle.tup_whole.specs.declared.fault.ProjectFault.TheVariants as project
 use Rattle.tup_whole.proofs.Alike.{projects_alike}
-use Rattle.tup_demo.specs.Project.{demo_files, demo_source, demo_tree, demo_tupfile}
-use Rattle.tup_demo.proofs.Files.{AllFiles, demo_entries, of_each}
+use Rattle.tup_demo.specs.Project.{demo_files, demo_source, demo_tree}
+use Rattle.tup_demo.proofs.Files.{demo_entries, of_each}
 use Rattle.tup_demo_build.specs.Build.{demo_build, demo_built, demo_rules}
 use Rattle.tup_demo_build.proofs.Building.{builds, taken}
 use Rattle.tup_demo_build.proofs.Reading.{come_to}

@@ -1,24 +1,22 @@
 -- A small store has room for the commits of the update of a small project.
-use Rattle.std.proofs.Common.{◌≡◌, ◌≢◌, ℕ, ◌+◌, ◌<◌, ◌≤◌, ◌⊎◌, inl, inr, Bool, true, false, cond, List, [], ◌∷◌, ◌++◌, length, map, filter, codes, Option, None, Some, Ok, refl, sym, ap, subst, ◌∙◌, arith, length-append}
+use Rattle.std.proofs.Common.{◌≡◌, ℕ, ◌+◌, ◌≤◌, inl, inr, Bool, true, false, cond, List, [], ◌∷◌, ◌++◌, length, map, filter, codes, Option, None, Some, Ok, refl, sym, ap, subst, ◌∙◌, arith, length-append}
 use Rattle.std.proofs.lemmas.List.Elements.{All-from_recursion}
 use Rattle.std.specs.FinMap as finite
 use Rattle.std.specs.FinMap.{put as put_entry}
 use Rattle.tup_path.specs.Name.{Names, IsNameByte, IsPath, IsVisibleName}
 use Rattle.std.specs.Cmp.Lexicographic.{nat_list_cmp_total}
 use Rattle.tup_path.specs.Order.{by_bytes}
-use Rattle.tup_field.specs.Parts.{number, OptionFits}
 use Rattle.tup_record.specs.declared.owned.OwnedState.TheVariants.{Unsure}
 use Rattle.tup_record.specs.declared.record.Record.TheVariants as records
-use Rattle.tup_record.specs.Spelling.{key_of, value_of}
+use Rattle.tup_record.specs.Spelling.{key_of}
 use Rattle.tup_table.specs.declared.change.Change.{Change}
 use Rattle.tup_table.specs.Appending.{appending}
 use Rattle.tup_table.specs.Reading.{ReadsAs}
 use Rattle.tup_table.specs.Store.{header, blocks}
 use Rattle.tup_table.specs.declared.opened.Opened.{Opened}
 use Rattle.tup_table.specs.Table.{entries_in, gate_of}
-use Rattle.tup_graph.specs.Changes.{changes_it, last_changes, needed}
+use Rattle.tup_graph.specs.Changes.{changes_it}
 use Rattle.tup_graph.specs.Edits.{change_of, HasSpelling}
-use Rattle.tup_graph.specs.Graph.{GraphState}
 use Rattle.tup_graph.specs.Transactions.{forget_edits}
 use Rattle.tup_graph.specs.declared.edit.Edit.{Edit}
 use Rattle.tup_graph.specs.declared.edit.Edit.TheVariants.{Put}

@@ -1,6 +1,6 @@
 -- What the program promises of one call, each promise a word. What it says of an update is what tup_update says, of what
 -- the status tells that the update came to.
-use Rattle.std.specs.Prelude.{◌≡◌, ◌⊎◌, ◌<◌, ◌≤◌, ⊤, ℕ, ◌-◌, ◌^◌, List, [], ◌∷◌, length, map, slice_get, Option, None, Some, IsTrue, OnOk, Result, Ok, Err}
+use Rattle.std.specs.Prelude.{◌≡◌, ◌⊎◌, ◌<◌, ◌≤◌, ⊤, ℕ, ◌-◌, ◌^◌, List, [], length, map, slice_get, Option, None, Some, IsTrue, OnOk, Result, Ok, Err}
 use Rattle.std.specs.FinMap as finite
 use Rattle.tup_path.specs.Count.{Rose}
 use Rattle.tup_path.specs.Name.{Names, Content}
@@ -13,9 +13,8 @@ use Rattle.tup_graph.specs.declared.fault.GraphFault.{GraphFault}
 use Rattle.tup_ledger.specs.Begin.{BeginStep}
 use Rattle.tup_ledger.specs.declared.beginning.Begun.{Begun}
 use Rattle.tup_update.specs.Holding.{Holding, HoldsOn, OfHeld, Shows}
-use Rattle.tup_mini.specs.Means.{mini_next}
-use Rattle.tup_update.specs.Log.{OfRules, whole_log}
-use Rattle.tup_update.specs.Outcome.{HasCause, HasNoRoom}
+use Rattle.tup_update.specs.Log.{whole_log}
+use Rattle.tup_update.specs.Outcome.{HasNoRoom}
 use Rattle.tup_update.specs.Sources.{IsAsked, IsRefused, build}
 use Rattle.tup_update.specs.declared.compare.Compared.{Compared}
 use Rattle.tup_update.specs.declared.fault.SourcesFault.{SourcesFault}
@@ -23,7 +22,6 @@ use Rattle.tup_update.specs.declared.stop.Stop.{Stop}
 use Rattle.tup_top.specs.Status.{status_of, most, IfCame, IfCompared, IfBegan}
 use Rattle.tup_top.specs.Order.{Wanted, IsUpdate, IsVerify, IsInit}
 use Rattle.tup_top.specs.Crew.{OneRose}
-use Rattle.tup_top.specs.Printed.{demo_world}
 use Rattle.tup_top.specs.declared.order.Order.TheVariants.{Init, Upd, Verify, Demo}
 use Rattle.tup_top.specs.declared.status.Status.{Status}
 use Rattle.tup_top.specs.declared.status.Status.TheVariants.{Done, Command, IllegalRead, IllegalWrite, Unwritten, TooManyReads, Usage, AlreadyInit, BadStore, SiteFault, RunFault, SinkFault, Limit, Memory, Differs}
