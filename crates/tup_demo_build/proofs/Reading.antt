@@ -1,5 +1,5 @@
 -- The reading of the project: its Tupfile is read, and comes to one rule.
-use Rattle.std.proofs.Common.{◌≡◌, ℕ, zero, suc, ◌||◌, Bool, true, false, cond, List, [], ◌∷◌, ◌++◌, codes, is_some, unwrap_or, Option, None, Some, option_and_then, IsTrue, IsSome, Result, Ok, slice_get, refl, sym, ap, subst, ◌∙◌}
+use Rattle.std.proofs.Common.{◌≡◌, ℕ, zero, suc, ◌||◌, Bool, true, false, cond, List, [], ◌∷◌, ◌++◌, codes, map, is_some, unwrap_or, Option, None, Some, option_and_then, IsTrue, IsSome, Result, Ok, slice_get, refl, sym, ap, subst, ◌∙◌}
 use Rattle.std.specs.FinMap as finite
 use Rattle.std.specs.Ordering.{eq_by_cmp}
 use Rattle.std.specs.Result.{result_ok}
@@ -68,13 +68,15 @@ demo_draft = record {
   gives = None;
 }
 
--- what the reading asks: what the Tupfile holds, and what stands at `a`
+-- what the reading asks: what the Tupfile holds, and what stands at `a` and at `b`
 abbrev demo_log : Log
-demo_log = (query.Content (codes "Tupfile" ∷ []), told.Content (Some demo_tupfile)) ∷ (query.Kind (codes "a" ∷ []), told.Kind File) ∷ []
+demo_log =
+    (query.Content (codes "Tupfile" ∷ []), told.Content (Some demo_tupfile)) ∷ (query.Kind (codes "a" ∷ []), told.Kind File)
+    ∷ (query.Kind (codes "b" ∷ []), told.Kind Nothing) ∷ []
 
 demo_ran : Ran [] (reading []) demo_log (Ok (demo_draft ∷ []))
 unfolding asks settings_of and_then taken expanded flagged_text names_of_files glob_of matched_in globbed literal from_bin from_group from_files from_other from_word from_words with_carets shown spoken with_text with_extra with_outputs drafted with_job with_jobs only_body named_body body_in one_more with_body defined known_output from_output from_outputs given_to plan_of planned with_words words_in ruled cut with_named with_macro words_of compared compares looked_up held_at held_in named_file included_file lines_of ended at_levels opening opened included ruled_by ruled_below ruled_down complained stated plain_line with_kind with_lines with_file with_room opener_of drafts_in reading with_value value_of assigned
-demo_ran = (told.Content (Some demo_tupfile), refl, (told.Kind File, refl, (refl, refl)))
+demo_ran = (told.Content (Some demo_tupfile), refl, (told.Kind File, refl, (told.Kind Nothing, refl, (refl, refl))))
 
 -- ---- what it is told is so
 
@@ -100,20 +102,42 @@ no_readings = finite.empty
 tupfile_there : finite.get demo_tree (codes "Tupfile" ∷ []) ≡ Some demo_tupfile
 tupfile_there = finite.get-from_entries by_names-total demo_files (codes "Tupfile" ∷ [])
 
--- what is told of `a` where this was found there
-abbrev awaited_by : Option Content → Option Names
-awaited_by found = option_and_then (unread demo_tree no_readings []) (if is_some found || has_below (finite.keys demo_tree) (codes "a" ∷ []) then None else result_ok (above (codes "a" ∷ [])))
+nothing_there : finite.get demo_tree (codes "b" ∷ []) ≡ None
+nothing_there = finite.get-from_entries by_names-total demo_files (codes "b" ∷ [])
 
-abbrev kind_by : Option Content → Told
-kind_by found =
+-- what is told of a path where this was found there, in a tree with these files
+abbrev awaited_by : Names → Option Content → List Names → Option Names
+awaited_by path found files = option_and_then (unread demo_tree no_readings []) (if is_some found || has_below files path then None else result_ok (above path))
+
+abbrev kind_by : Names → Option Content → List Names → Told
+kind_by path found files =
     told.Kind (if is_some found then File
-    else if has_below (finite.keys demo_tree) (codes "a" ∷ []) then Dir
-    else elim (result_ok (above (codes "a" ∷ []))) as (λ _. Kind) [ Some dir ↦ made_kind no_readings [] dir (codes "a" ∷ []) | None ↦ Nothing ])
+    else if has_below files path then Dir
+    else elim (result_ok (above path)) as (λ _. Kind) [ Some dir ↦ made_kind no_readings [] dir path | None ↦ Nothing ])
+
+files_are : finite.keys demo_tree ≡ (codes "Tupfile" ∷ []) ∷ (codes "a" ∷ []) ∷ []
+files_are = ap (λ (files : List (Names × Content)). map (λ (file : Names × Content). file.0) files) demo_entries
+
+a_is_ready : awaited demo_tree no_readings [] (query.Kind (codes "a" ∷ [])) ≡ None
+a_is_ready = ap (λ (found : Option Content). awaited_by (codes "a" ∷ []) found (finite.keys demo_tree)) source_there
+
+a_is_file : told.Kind File ≡ answer demo_tree [] no_readings [] (query.Kind (codes "a" ∷ []))
+a_is_file = sym (ap (λ (found : Option Content). kind_by (codes "a" ∷ []) found (finite.keys demo_tree)) source_there)
+
+b_is_ready : awaited demo_tree no_readings [] (query.Kind (codes "b" ∷ [])) ≡ None
+b_is_ready =
+    ap (λ (found : Option Content). awaited_by (codes "b" ∷ []) found (finite.keys demo_tree)) nothing_there
+    ∙ ap (λ (files : List Names). awaited_by (codes "b" ∷ []) None files) files_are
+
+b_is_nothing : told.Kind Nothing ≡ answer demo_tree [] no_readings [] (query.Kind (codes "b" ∷ []))
+b_is_nothing =
+    sym (ap (λ (found : Option Content). kind_by (codes "b" ∷ []) found (finite.keys demo_tree)) nothing_there
+    ∙ ap (λ (files : List Names). kind_by (codes "b" ∷ []) None files) files_are)
 
 demo_answered : IsAnswered demo_tree [] no_readings [] demo_log
 demo_answered question answered e =
     told_in (λ q a. (awaited demo_tree no_readings [] q ≡ None) × (a ≡ answer demo_tree [] no_readings [] q)) demo_log question answered
-    ((refl, ap told.Content (sym tupfile_there)), ((ap awaited_by source_there, sym (ap kind_by source_there)), tt)) e
+    ((refl, ap told.Content (sym tupfile_there)), ((a_is_ready, a_is_file), ((b_is_ready, b_is_nothing), tt))) e
 
 -- ---- the one reading
 
