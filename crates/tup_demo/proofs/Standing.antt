@@ -44,9 +44,19 @@ tupfile_is_visible = record {
   not_long = omega arith;
   not_hidden = λ e. cc;
   bytes =
-      All-from_recursion IsNameByte (codes "Tupfile")
-      (letter 84 (omega arith) (omega arith) (λ e. cc), (letter 117 (omega arith) (omega arith) (λ e. cc), (letter 112 (omega arith) (omega arith) (λ e. cc), (letter 102 (omega arith) (omega arith) (λ e. cc),
-      (letter 105 (omega arith) (omega arith) (λ e. cc), (letter 108 (omega arith) (omega arith) (λ e. cc), (letter 101 (omega arith) (omega arith) (λ e. cc), tt)))))));
+      All-from_recursion IsNameByte (codes "Tupfile") (
+        letter 84 (omega arith) (omega arith) (λ e. cc),
+        (
+          letter 117 (omega arith) (omega arith) (λ e. cc),
+          (
+            letter 112 (omega arith) (omega arith) (λ e. cc),
+            (
+              letter 102 (omega arith) (omega arith) (λ e. cc),
+              (letter 105 (omega arith) (omega arith) (λ e. cc), (letter 108 (omega arith) (omega arith) (λ e. cc), (letter 101 (omega arith) (omega arith) (λ e. cc), tt))),
+            ),
+          ),
+        ),
+      );
 }
 
 one_name : (name : List ℕ) → IsVisibleName name → IsPath (name ∷ [])
