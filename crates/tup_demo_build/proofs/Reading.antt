@@ -1,5 +1,5 @@
 -- The reading of the project: its Tupfile is read, and comes to one rule.
-use Rattle.std.proofs.Common.{◌≡◌, ℕ, zero, suc, ◌||◌, Bool, true, false, cond, List, [], ◌∷◌, ◌++◌, codes, map, is_some, unwrap_or, Option, None, Some, option_and_then, IsTrue, IsSome, Result, Ok, slice_get, refl, sym, ap, subst, ◌∙◌}
+use Rattle.std.proofs.Common.{◌≡◌, ℕ, zero, suc, ◌||◌, Bool, true, false, cond, List, [], ◌∷◌, ◌++◌, codes, map, is_some, unwrap_or, if◌then◌else◌, Option, None, Some, option_and_then, IsTrue, IsSome, Result, Ok, slice_get, refl, sym, ap, subst, ◌∙◌}
 use Rattle.std.specs.FinMap as finite
 use Rattle.std.specs.Ordering.{eq_by_cmp}
 use Rattle.std.specs.Result.{result_ok}
@@ -19,7 +19,24 @@ use Rattle.tup_rule.specs.declared.question.Told.TheVariants as told
 use Rattle.tup_rule.specs.declared.rule.Rule.{Rule}
 use Rattle.tup_rule.specs.Producer.{MakesFor, ProducerOver}
 use Rattle.tup_rule.specs.Rule.{declares, maker}
-use Rattle.tup_vars.specs.Config.{config_of}
+use Rattle.std.specs.Str.{is_utf8}
+use Rattle.std.specs.Str.Lines.{lines as cut_lines}
+use Rattle.std.proofs.lemmas.Str.{is_utf8-from_IsUtf8}
+use Rattle.memchr.specs.Find.{matches_from}
+use Rattle.tup_lex.specs.Line.{joined_lines, lines, said, wrong_line}
+use Rattle.tup_lex.specs.declared.fault.LexFault.{LexFault}
+use Rattle.tup_lex.specs.declared.fault.LexFault.TheVariants.{NotUtf8}
+use Rattle.tup_lex.specs.declared.line.Line.{Line}
+use Rattle.tup_lex.specs.declared.kind.ParseKind.TheVariants.{NotUtf8 as ConfigNotUtf8}
+use Rattle.tup_vars.specs.declared.fault.ConfigFault.TheVariants.{At}
+use Rattle.tup_vars.specs.Config.{config_of, settings, wrong_line as wrong_config}
+use Rattle.tup_ask.specs.declared.fault.ParseFault.{ParseFault}
+use Rattle.tup_ask.specs.Reads.{Reads, gives}
+use Rattle.tup_ask.specs.Spot.{refused, spot}
+use Rattle.tup_draft.specs.State.{fresh}
+use Rattle.tup_draft.specs.Words.{lex_kind}
+use Rattle.tup_reader.specs.File.{fault_line}
+use Rattle.tup_reader.specs.Opening.{along}
 use Rattle.tup_vars.specs.declared.fault.ConfigFault.{ConfigFault}
 use Rattle.tup_vars.specs.Table.{Entries}
 use Rattle.tup_ask.specs.Key.{same_question-true}
@@ -74,9 +91,40 @@ demo_log =
     (query.Content (codes "Tupfile" ∷ []), told.Content (Some demo_tupfile)) ∷ (query.Kind (codes "a" ∷ []), told.Kind File)
     ∷ (query.Kind (codes "b" ∷ []), told.Kind Nothing) ∷ []
 
+-- its Tupfile is a text, and so is what isn't there
+tupfile_is_text : is_utf8 demo_tupfile ≡ true
+unfolding lib.Utf8.encode
+tupfile_is_text = is_utf8-from_IsUtf8 demo_tupfile (demo_tupfile, (refl, refl))
+
+nothing_is_text : is_utf8 [] ≡ true
+nothing_is_text = is_utf8-from_IsUtf8 [] ([], (refl, refl))
+
+tupfile_lines : lines demo_tupfile ≡ said (joined_lines demo_tupfile)
+tupfile_lines = ap (λ (is : Bool). if is then said (joined_lines demo_tupfile) else Err (NotUtf8 (wrong_line demo_tupfile))) tupfile_is_text
+
+-- the reading once it was told what the Tupfile holds, by the lines of that
+abbrev in_lines : Result (List Line) LexFault → Reads ParseFault (List Line)
+in_lines cut =
+    elim cut as (λ _. Reads ParseFault (List Line)) [
+      | Ok all ↦ gives all
+      | Err fault ↦ refused (spot [] (codes "Tupfile" ∷ []) (fault_line fault)) (lex_kind fault)
+    ]
+
+abbrev goes_on : Result (List Line) LexFault → Reads ParseFault (List Draft)
+goes_on cut =
+    and_then (and_then (in_lines cut) (λ all. with_lines (Some (with_room 62 [])) [] (codes "Tupfile" ∷ []) (along [] fresh) all))
+    (λ state. gives state.drafts)
+
+abbrev first_told : Log
+first_told = (query.Content (codes "Tupfile" ∷ []), told.Content (Some demo_tupfile)) ∷ []
+
+ran_on : Ran first_told (goes_on (said (joined_lines demo_tupfile))) demo_log (Ok (demo_draft ∷ []))
+unfolding matches_from asks settings_of and_then taken expanded flagged_text names_of_files glob_of matched_in globbed literal from_bin from_group from_files from_other from_word from_words with_carets shown spoken with_text with_extra with_outputs drafted with_job with_jobs only_body named_body body_in one_more with_body defined known_output from_output from_outputs given_to plan_of planned with_words words_in ruled cut with_named with_macro words_of compared compares looked_up held_at held_in named_file included_file lines_of ended at_levels opening opened included ruled_by ruled_below ruled_down complained stated plain_line with_kind with_lines with_file with_room opener_of drafts_in reading with_value value_of assigned
+ran_on = (told.Kind File, refl, (told.Kind Nothing, refl, (refl, refl)))
+
 demo_ran : Ran [] (reading []) demo_log (Ok (demo_draft ∷ []))
 unfolding asks settings_of and_then taken expanded flagged_text names_of_files glob_of matched_in globbed literal from_bin from_group from_files from_other from_word from_words with_carets shown spoken with_text with_extra with_outputs drafted with_job with_jobs only_body named_body body_in one_more with_body defined known_output from_output from_outputs given_to plan_of planned with_words words_in ruled cut with_named with_macro words_of compared compares looked_up held_at held_in named_file included_file lines_of ended at_levels opening opened included ruled_by ruled_below ruled_down complained stated plain_line with_kind with_lines with_file with_room opener_of drafts_in reading with_value value_of assigned
-demo_ran = (told.Content (Some demo_tupfile), refl, (told.Kind File, refl, (told.Kind Nothing, refl, (refl, refl))))
+demo_ran = (told.Content (Some demo_tupfile), refl, subst (λ (cut : Result (List Line) LexFault). Ran first_told (goes_on cut) demo_log (Ok (demo_draft ∷ []))) (sym tupfile_lines) ran_on)
 
 -- ---- what it is told is so
 
@@ -183,7 +231,9 @@ all_read = subst (AreAllReadings demo_tree []) list_is (record {
 
 -- tup.config isn't there, and sets nothing
 no_config : config_in demo_tree ≡ Ok []
-no_config = ap (λ (found : Option Content). config_of (unwrap_or found [])) (finite.get-from_entries by_names-total demo_files (codes "tup.config" ∷ []))
+no_config =
+    ap (λ (found : Option Content). config_of (unwrap_or found [])) (finite.get-from_entries by_names-total demo_files (codes "tup.config" ∷ []))
+    ∙ ap (λ (is : Bool). if is then settings (cut_lines []) else Err (At (wrong_config []) ConfigNotUtf8)) nothing_is_text
 
 outcome : IsOutcome demo_tree (Ok demo_list)
 outcome = subst (λ (config : Result Entries ConfigFault). AreReadWith demo_tree config (Ok demo_list)) (sym no_config) (refl, all_read)

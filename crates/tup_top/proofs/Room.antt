@@ -71,8 +71,8 @@ edit maker = Put (records.Owned output maker Unsure)
 
 -- no commit of it is long
 short : (maker : Option ℕ) → length (appending (change_of (edit maker) ∷ [])) ≤ 22
-short None = omega arith
-short (Some n) = omega arith
+short None = let is : length (appending (change_of (edit None) ∷ [])) ≡ 18 = refl in omega (arith, is)
+short (Some n) = let is : length (appending (change_of (edit (Some n)) ∷ [])) ≡ 22 = refl in omega (arith, is)
 
 few : (p : Change → Bool) (change : Change) → length (appending (change ∷ [])) ≤ 22 → length (appending (filter p (change ∷ []))) ≤ 22
 few p change fits = by (p change) refl
