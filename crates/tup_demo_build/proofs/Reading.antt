@@ -29,7 +29,7 @@ use Rattle.tup_lex.specs.declared.fault.LexFault.TheVariants.{NotUtf8}
 use Rattle.tup_lex.specs.declared.line.Line.{Line}
 use Rattle.tup_lex.specs.declared.kind.ParseKind.TheVariants.{NotUtf8 as ConfigNotUtf8}
 use Rattle.tup_vars.specs.declared.fault.ConfigFault.TheVariants.{At}
-use Rattle.tup_vars.specs.Config.{config_of, settings, wrong_line as wrong_config}
+use Rattle.tup_vars.specs.Config.{config_of, settings}
 use Rattle.tup_ask.specs.declared.fault.ParseFault.{ParseFault}
 use Rattle.tup_ask.specs.Reads.{Reads, gives}
 use Rattle.tup_ask.specs.Spot.{refused, spot}
@@ -233,7 +233,7 @@ all_read = subst (AreAllReadings demo_tree []) list_is (record {
 no_config : config_in demo_tree ≡ Ok []
 no_config =
     ap (λ (found : Option Content). config_of (unwrap_or found [])) (finite.get-from_entries by_names-total demo_files (codes "tup.config" ∷ []))
-    ∙ ap (λ (is : Bool). if is then settings (cut_lines []) else Err (At (wrong_config []) ConfigNotUtf8)) nothing_is_text
+    ∙ ap (λ (is : Bool). if is then settings (cut_lines []) else Err (At (wrong_line []) ConfigNotUtf8)) nothing_is_text
 
 outcome : IsOutcome demo_tree (Ok demo_list)
 outcome = subst (λ (config : Result Entries ConfigFault). AreReadWith demo_tree config (Ok demo_list)) (sym no_config) (refl, all_read)
