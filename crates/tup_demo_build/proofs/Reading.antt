@@ -1,5 +1,5 @@
 -- The reading of the project: its Tupfile is read, and comes to one rule.
-use Rattle.std.proofs.Common.{◌≡◌, ℕ, zero, suc, ◌||◌, Bool, true, false, cond, List, [], ◌∷◌, ◌++◌, codes, map, is_some, unwrap_or, if◌then◌else◌, Option, None, Some, option_and_then, IsTrue, IsSome, Result, Ok, slice_get, refl, sym, ap, subst, ◌∙◌}
+use Rattle.std.proofs.Common.{◌≡◌, ℕ, zero, suc, ◌||◌, Bool, true, false, cond, List, [], ◌∷◌, ◌++◌, codes, map, is_some, unwrap_or, if◌then◌else◌, Option, None, Some, option_and_then, IsTrue, IsSome, Result, Ok, Err, slice_get, refl, sym, ap, subst, ◌∙◌}
 use Rattle.std.specs.FinMap as finite
 use Rattle.std.specs.Ordering.{eq_by_cmp}
 use Rattle.std.specs.Result.{result_ok}
