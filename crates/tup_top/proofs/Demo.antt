@@ -173,7 +173,7 @@ all_done rules read ran removed asked all =
 
 -- ---- its cause
 
-nothing : Counts
+abbrev nothing : Counts
 nothing = of_one 0 0 0
 
 fine : NothingFailed nothing nothing

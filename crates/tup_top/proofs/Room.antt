@@ -33,8 +33,11 @@ no_length : {A : Type 0} (items : List A) → length items ≡ 0 → items ≡ [
 no_length [] e = refl
 no_length (item ∷ items) e = absurd (omega (arith, e))
 
-none_there : finite.entries {R = by_bytes} {X = Change} finite.empty ≡ []
-none_there = no_length (finite.entries finite.empty) (sym (finite.len-entries finite.empty) ∙ finite.len-empty by_bytes Change)
+abbrev no_changes : finite.FinMap by_bytes Change
+no_changes = finite.empty
+
+none_there : finite.entries no_changes ≡ []
+none_there = no_length (finite.entries no_changes) (sym (finite.len-entries no_changes) ∙ finite.len-empty by_bytes Change)
 
 nothing_needed : (graph : Held) → to_write graph [] ≡ []
 nothing_needed graph = ap (λ (entries : List (List ℕ × Change)). filter (changes_it (entries_in graph.table)) (map (λ (entry : List ℕ × Change). entry.1) entries)) none_there
@@ -85,7 +88,7 @@ one_needed : (graph : Held) (maker : Option ℕ) → to_write graph (edit maker 
 one_needed graph maker =
     let change = change_of (edit maker) in
     ap (λ (entries : List (List ℕ × Change)). filter (changes_it (entries_in graph.table)) (map (λ (entry : List ℕ × Change). entry.1) entries))
-    (finite.entries-insert nat_list_cmp_total finite.empty (key_of (records.Owned output maker Unsure)) change ∙ ap (put_entry by_bytes (key_of (records.Owned output maker Unsure)) change) none_there)
+    (finite.entries-insert nat_list_cmp_total no_changes (key_of (records.Owned output maker Unsure)) change ∙ ap (put_entry by_bytes (key_of (records.Owned output maker Unsure)) change) none_there)
 
 -- the gate stands in the store
 gate_within : (w : World) (graph : Held) → ReadsAs w.store (Ok (opened_in graph)) → gate_of graph.table ≤ length w.store
