@@ -77,12 +77,15 @@ short : (maker : Option ℕ) → length (appending (change_of (edit maker) ∷ [
 short None = let is : length (appending (change_of (edit None) ∷ [])) ≡ 18 = refl in omega (arith, is)
 short (Some n) = let is : length (appending (change_of (edit (Some n)) ∷ [])) ≡ 22 = refl in omega (arith, is)
 
+none_short : length (appending []) ≤ 22
+none_short = let is : length (appending []) ≡ 5 = refl in omega (arith, is)
+
 few : (p : Change → Bool) (change : Change) → length (appending (change ∷ [])) ≤ 22 → length (appending (filter p (change ∷ []))) ≤ 22
 few p change fits = by (p change) refl
   where
     by : (b : Bool) → p change ≡ b → length (appending (filter p (change ∷ []))) ≤ 22
     by true is = subst (λ (changes : List Change). length (appending changes) ≤ 22) (sym (ap (λ (b : Bool). cond b (change ∷ []) []) is)) fits
-    by false is = subst (λ (changes : List Change). length (appending changes) ≤ 22) (sym (ap (λ (b : Bool). cond b (change ∷ []) []) is)) (omega arith)
+    by false is = subst (λ (changes : List Change). length (appending changes) ≤ 22) (sym (ap (λ (b : Bool). cond b (change ∷ []) []) is)) none_short
 
 one_needed : (graph : Held) (maker : Option ℕ) → to_write graph (edit maker ∷ []) ≡ filter (changes_it (entries_in graph.table)) (change_of (edit maker) ∷ [])
 one_needed graph maker =
@@ -103,12 +106,9 @@ gate_within w graph (commits, (rest, follows, end), is) =
 pub room_for_one : (w : World) → length w.store ≤ 65536 → LacksRoom (λ g. own_edits g (output ∷ [])) w → ⊥
 room_for_one w small lacks = by lacks.full
   where
-    maker : Option ℕ
-    maker = maker_in lacks.graph.nodes output
-
-    by : IsFull lacks.graph (edit maker ∷ []) → ⊥
-    by (inl unspelled) = unspelled (All-from_recursion HasSpelling (edit maker ∷ []) ((output_is_path, (maker_fits (entries_in lacks.graph.table) lacks.graph.nodes output lacks.stands, tt)), tt))
+    by : IsFull lacks.graph (edit (maker_in lacks.graph.nodes output) ∷ []) → ⊥
+    by (inl unspelled) = unspelled (All-from_recursion HasSpelling (edit (maker_in lacks.graph.nodes output) ∷ []) ((output_is_path, (maker_fits (entries_in lacks.graph.table) lacks.graph.nodes output lacks.stands, tt)), tt))
     by (inr (some, over)) =
         let gate = gate_within w lacks.graph lacks.reads in
-        let length_is = subst (λ (changes : List Change). length (appending changes) ≤ 22) (sym (one_needed lacks.graph maker)) (few (changes_it (entries_in lacks.graph.table)) (change_of (edit maker)) (short maker)) in
+        let length_is = subst (λ (changes : List Change). length (appending changes) ≤ 22) (sym (one_needed lacks.graph (maker_in lacks.graph.nodes output))) (few (changes_it (entries_in lacks.graph.table)) (change_of (edit (maker_in lacks.graph.nodes output))) (short (maker_in lacks.graph.nodes output))) in
         omega (arith, over, gate, length_is, small)
