@@ -9,6 +9,8 @@ use tup_rule::{Rule, Rules};
 pub(crate) struct Project {
     pub(crate) sources: Files,
     pub(crate) rules: Rules,
+    /// What sources become once they were scanned.
+    pub(crate) grown: Files,
 }
 
 impl Project {
@@ -17,6 +19,7 @@ impl Project {
         Project {
             sources: Items::new(alloc),
             rules: Items::new(alloc),
+            grown: Items::new(alloc),
         }
     }
 
@@ -24,6 +27,7 @@ impl Project {
     pub(crate) fn begin_anew(&mut self, alloc: Global) -> Words {
         self.sources = Items::new(alloc);
         self.rules = Items::new(alloc);
+        self.grown = Items::new(alloc);
         Words::new(alloc)
     }
 
@@ -35,30 +39,30 @@ impl Project {
         Words::new(alloc)
     }
 
-    /// Adds a source of so many bytes.
+    /// Adds a source of one byte, which has so many once it was scanned.
     pub(crate) fn add_large(&mut self, alloc: Global, said: &Words) -> Words {
-        let path = said.path_at(alloc, 0);
+        said.list(&mut self.sources, source(alloc, said.str_at(0)));
         match vec![in alloc; b'x'; said.number_at(1) as usize] {
-            Ok(bytes) => said.list(&mut self.sources, (path, Bytes::new(bytes))),
+            Ok(bytes) => said.list(&mut self.grown, (said.path_at(alloc, 0), Bytes::new(bytes))),
             Err(_) => said.fail(RowFault::Memory),
         }
         Words::new(alloc)
     }
 
-    /// Adds so many rules, each of which copies what the one before it made.
+    /// Adds so many rules, each of which copies what the one before it made; the last file isn't there yet.
     pub(crate) fn add_chain(&mut self, alloc: Global, said: &Words) -> Words {
         let count = said.number_at(0);
-        self.add_sources(alloc, said, count.saturating_add(1));
+        self.add_sources(alloc, said, count);
         for at in 0..count {
             self.add_link(alloc, said, at, at.saturating_add(1));
         }
         Words::new(alloc)
     }
 
-    /// Adds so many rules, each of which copies one source.
+    /// Adds so many rules, each of which copies one source; the last file isn't there yet.
     pub(crate) fn add_fan(&mut self, alloc: Global, said: &Words) -> Words {
         let count = said.number_at(0);
-        self.add_sources(alloc, said, count.saturating_add(1));
+        self.add_sources(alloc, said, count);
         for at in 0..count {
             self.add_link(alloc, said, 0, at.saturating_add(1));
         }

@@ -42,6 +42,11 @@ impl Quiet {
         self.site
     }
 
+    /// The same, to be looked at.
+    pub(crate) fn beneath(&mut self) -> &mut MemSite {
+        &mut self.site
+    }
+
     /// Begins a call, which fails where no more pass.
     fn begin(&mut self) -> Result<(), SiteFailed>
         ensures cause { CountsFaults self.old.faults self.new.faults result }

@@ -44,13 +44,36 @@ fn played(
     requires { IsOfBoard opened }
 {
     let mut answers = Words::new(alloc);
-    obey_all(alloc, &mut opened, orders, &mut answers)?;
-    let parts = opened.board.into_parts();
+    let done = obey_all(alloc, &mut opened, orders, &mut answers);
+    let mut parts = opened.board.into_parts();
+    shown(alloc, call, &mut parts, answers, done)
+}
+
+/// What a call shows of the parts of a board, if all orders were understood.
+fn shown(
+    alloc: Global,
+    call: &str,
+    parts: &mut BoardParts<Quiet>,
+    answers: Words,
+    done: Result<(), RowFault>,
+) -> Result<Words, RowFault> {
+    match done {
+        Ok(()) => looked_at(alloc, call, parts, answers),
+        Err(fault) => Err(fault),
+    }
+}
+
+fn looked_at(
+    alloc: Global,
+    call: &str,
+    parts: &mut BoardParts<Quiet>,
+    answers: Words,
+) -> Result<Words, RowFault> {
     match call {
         "run" => Ok(answers),
         "events" => Ok(events(alloc, parts.history.as_slice())),
-        "flags" => Ok(flags(alloc, &parts)),
-        "files" => files(alloc, &mut parts.site.into_site()),
+        "flags" => Ok(flags(alloc, parts)),
+        "files" => files(alloc, parts.site.beneath()),
         _ => Err(RowFault::NoSuchCall),
     }
 }
@@ -66,7 +89,7 @@ pub(crate) fn board_of(
 {
     let reach = reach_of(alloc, project, said.str_at(0))?;
     let site = site_of(alloc, project, reach.as_slice())?;
-    open(alloc, site, said.str_at(1) == "keep", calls)
+    open(alloc, site, said.str_at(1) == "keep", calls, &project.grown)
 }
 
 /// A board obeys the orders of a row, each behind a `;`.

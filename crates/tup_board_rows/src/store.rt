@@ -55,16 +55,26 @@ fn store_of(alloc: Global, rules: &[Rule], flagged: &[u32]) -> Result<Vec<u8>, R
     Ok(store)
 }
 
-/// The records of some rules.
+/// The records of some rules, of which these are flagged.
 fn changes_of(alloc: Global, rules: &[Rule], flagged: &[u32]) -> Result<Items<Change>, RowFault> {
     let mut changes = Items::new(alloc);
-    for (rule, number) in rules.iter().zip(0..u32::MAX) {
-        add_rule(alloc, &mut changes, number, rule)?;
-    }
-    for number in flagged {
-        add(alloc, &mut changes, &Record::Modify { number: *number })?;
-    }
+    add_rules(alloc, &mut changes, rules)?;
+    add_flags(alloc, &mut changes, flagged)?;
     Ok(changes)
+}
+
+fn add_rules(alloc: Global, changes: &mut Items<Change>, rules: &[Rule]) -> Result<(), RowFault> {
+    for (rule, number) in rules.iter().zip(0..u32::MAX) {
+        add_rule(alloc, changes, number, rule)?;
+    }
+    Ok(())
+}
+
+fn add_flags(alloc: Global, changes: &mut Items<Change>, flagged: &[u32]) -> Result<(), RowFault> {
+    for number in flagged {
+        add(alloc, changes, Record::Modify { number: *number })?;
+    }
+    Ok(())
 }
 
 /// The records of a rule: itself, and that its outputs are owned.
@@ -74,35 +84,53 @@ fn add_rule(
     number: u32,
     rule: &Rule,
 ) -> Result<(), RowFault> {
-    let record = Record::Rule {
-        number,
-        place: number,
-        rule: rule.clone()?,
-    };
-    add(alloc, changes, &record)?;
+    add_itself(alloc, changes, number, rule.clone()?)?;
     for path in rule.outputs.as_slice() {
-        add_owned(alloc, changes, number, path)?;
+        add_owned(alloc, changes, number, path.clone()?)?;
     }
     Ok(())
+}
+
+fn add_itself(
+    alloc: Global,
+    changes: &mut Items<Change>,
+    number: u32,
+    rule: Rule,
+) -> Result<(), RowFault> {
+    let place = number;
+    add(
+        alloc,
+        changes,
+        Record::Rule {
+            number,
+            place,
+            rule,
+        },
+    )
 }
 
 fn add_owned(
     alloc: Global,
     changes: &mut Items<Change>,
     number: u32,
-    path: &Path,
+    path: Path,
 ) -> Result<(), RowFault> {
     let record = Record::Owned {
-        path: path.clone()?,
+        path,
         maker: Some(number),
         state: OwnedState::Never,
     };
-    add(alloc, changes, &record)
+    add(alloc, changes, record)
 }
 
-fn add(alloc: Global, changes: &mut Items<Change>, record: &Record) -> Result<(), RowFault> {
-    match encode(alloc, record) {
-        Ok((key, value)) => Ok(changes.push(Change::Put { key, value })?),
+fn add(alloc: Global, changes: &mut Items<Change>, record: Record) -> Result<(), RowFault> {
+    let change = encoded(alloc, record)?;
+    Ok(changes.push(change)?)
+}
+
+fn encoded(alloc: Global, record: Record) -> Result<Change, RowFault> {
+    match encode(alloc, &record) {
+        Ok((key, value)) => Ok(Change::Put { key, value }),
         Err(_) => Err(RowFault::OtherKind),
     }
 }

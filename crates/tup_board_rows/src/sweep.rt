@@ -14,7 +14,7 @@ use std::alloc::Global;
 use tup_board::BoardParts;
 use tup_core::{Cause, Plan};
 use tup_mini::Mini;
-use tup_path::{Bytes, Files};
+use tup_path::{Bytes, Files, Items};
 use tup_rows::{RowFault, Words};
 use tup_rule::Rule;
 use tup_site::MemSite;
@@ -79,71 +79,118 @@ fn stopped(
     choice: u32,
     tree: &Files,
 ) -> Result<Outcome, RowFault> {
-    let parts = driven(alloc, board_of(alloc, project, said, calls)?)?;
-    match parts.cause {
+    let ran = first_run(alloc, project, said, calls)?;
+    came_of(alloc, ran, project.rules.as_slice(), choice, tree)
+}
+
+/// What an update left of its site, why it stopped, and what it ran.
+#[derive(Drop)]
+struct Ran {
+    site: MemSite,
+    cause: Option<Cause>,
+    claims: Words,
+}
+
+/// The update of a reach, whose site lets so many calls pass.
+fn first_run(alloc: Global, project: &Project, said: &Words, calls: u64) -> Result<Ran, RowFault> {
+    let opened = board_of(alloc, project, said, calls)?;
+    Ok(run_all(alloc, opened))
+}
+
+/// The next update of a site.
+fn next_run(alloc: Global, site: MemSite) -> Result<Ran, RowFault> {
+    let opened = open(alloc, site, false, u64::MAX, &Items::new(alloc))?;
+    Ok(run_all(alloc, opened))
+}
+
+/// A board runs all that can be run.
+fn run_all(alloc: Global, mut opened: Opened) -> Ran
+    requires { IsOfBoard opened }
+{
+    drain(alloc, &mut opened.board, &opened.plan);
+    left(alloc, opened.board.into_parts())
+}
+
+/// A board at which nothing happened yet is drained.
+fn drain(alloc: Global, board: &mut MemBoard, plan: &Plan)
+    requires plan { plan.now ≡ plan_of board.old }
+{
+    if board.history().is_empty() {
+        board.drain(alloc, plan, &mut Mini::new(alloc));
+    }
+}
+
+fn left(alloc: Global, parts: BoardParts<Quiet>) -> Ran {
+    let mut claims = Words::new(alloc);
+    show_claims(alloc, &mut claims, parts.history.as_slice());
+    Ran {
+        site: parts.site.into_site(),
+        cause: parts.cause,
+        claims,
+    }
+}
+
+/// What came of an update: where the site had stopped it, of the one after a crash.
+fn came_of(
+    alloc: Global,
+    ran: Ran,
+    rules: &[Rule],
+    choice: u32,
+    tree: &Files,
+) -> Result<Outcome, RowFault> {
+    match ran.cause {
         None => Ok(Outcome::Done),
-        Some(Cause::Site) => {
-            let rules = project.rules.as_slice();
-            again(alloc, parts.site.into_site(), rules, choice, tree)
-        }
+        Some(Cause::Site) => crashed(alloc, ran.site, rules, choice, tree),
         Some(_) => Ok(Outcome::Other),
     }
 }
 
 /// What came of the update after a crash.
-fn again(
+fn crashed(
     alloc: Global,
     mut site: MemSite,
     rules: &[Rule],
     choice: u32,
     tree: &Files,
 ) -> Result<Outcome, RowFault> {
-    crash(alloc, &mut site, rules, choice)?;
-    let parts = driven(alloc, open(alloc, site, false, u64::MAX)?)?;
-    if parts.cause.is_some() {
-        return Ok(Outcome::Other);
+    match crash(alloc, &mut site, rules, choice) {
+        Ok(()) => again(alloc, site, tree),
+        Err(fault) => Err(fault),
     }
-    is_mended(alloc, &mut parts.site.into_site(), tree)
 }
 
-fn is_mended(alloc: Global, site: &mut MemSite, tree: &Files) -> Result<Outcome, RowFault> {
-    Ok(if has_files(alloc, site, tree)? {
+fn again(alloc: Global, site: MemSite, tree: &Files) -> Result<Outcome, RowFault> {
+    let mut ran = next_run(alloc, site)?;
+    is_mended(alloc, &mut ran, tree)
+}
+
+fn is_mended(alloc: Global, ran: &mut Ran, tree: &Files) -> Result<Outcome, RowFault> {
+    Ok(if has_files(alloc, &mut ran.site, tree)? && ran.cause.is_none() {
         Outcome::Mended
     } else {
         Outcome::Other
     })
 }
 
-/// The parts of a board once it ran all that could be run.
-fn driven(alloc: Global, mut opened: Opened) -> Result<BoardParts<Quiet>, RowFault>
-    requires { IsOfBoard opened }
-{
-    drain(alloc, &mut opened.board, &opened.plan)?;
-    Ok(opened.board.into_parts())
-}
-
-fn drain(alloc: Global, board: &mut MemBoard, plan: &Plan) -> Result<(), RowFault>
-    requires plan { plan.now ≡ plan_of board.old }
-{
-    if !board.history().is_empty() {
-        return Err(RowFault::OtherKind);
-    }
-    board.drain(alloc, plan, &mut Mini::new(alloc));
-    Ok(())
-}
-
 /// An update of a reach; then somebody changes a file. The answer is what the next update runs, and `same` if it leaves the
 /// clean build.
 pub(crate) fn edited(alloc: Global, project: &Project, said: &Words) -> Result<Words, RowFault> {
-    let parts = driven(alloc, board_of(alloc, project, said, u64::MAX)?)?;
-    let mut site = parts.site.into_site();
-    edit(alloc, &mut site, said)?;
-    let rules = project.rules.as_slice();
-    let tree = clean_tree(alloc, rules, &sources_in(alloc, &mut site, rules)?)?;
-    shown_again(alloc, site, &tree)
+    let mut ran = first_run(alloc, project, said, u64::MAX)?;
+    let tree = tree_after(alloc, project.rules.as_slice(), said, &mut ran.site);
+    run_again(alloc, ran.site, tree)
 }
 
-/// Somebody changes the file that a row names.
+/// Somebody changes the file that a row names: the files that the clean build leaves now.
+fn tree_after(
+    alloc: Global,
+    rules: &[Rule],
+    said: &Words,
+    site: &mut MemSite,
+) -> Result<Files, RowFault> {
+    edit(alloc, site, said)?;
+    clean_tree(alloc, rules, &sources_in(alloc, site, rules)?)
+}
+
 fn edit(alloc: Global, site: &mut MemSite, said: &Words) -> Result<(), RowFault> {
     let content = Bytes::new(said.bytes_at(alloc, 3));
     match site.edit(alloc, said.path_at(alloc, 2), Some(content)) {
@@ -153,11 +200,29 @@ fn edit(alloc: Global, site: &mut MemSite, said: &Words) -> Result<(), RowFault>
 }
 
 /// The rules that an update runs, and whether it leaves these files.
+fn run_again(
+    alloc: Global,
+    site: MemSite,
+    tree: Result<Files, RowFault>,
+) -> Result<Words, RowFault> {
+    match tree {
+        Ok(tree) => shown_again(alloc, site, &tree),
+        Err(fault) => Err(fault),
+    }
+}
+
 fn shown_again(alloc: Global, site: MemSite, tree: &Files) -> Result<Words, RowFault> {
-    let parts = driven(alloc, open(alloc, site, false, u64::MAX)?)?;
-    let mut words = Words::new(alloc);
-    show_claims(alloc, &mut words, parts.history.as_slice());
-    let is_same = has_files(alloc, &mut parts.site.into_site(), tree)?;
-    words.put(alloc, if is_same { b"same" } else { b"other" });
+    let mut ran = next_run(alloc, site)?;
+    let is_same = has_files(alloc, &mut ran.site, tree);
+    compared(alloc, ran.claims, is_same)
+}
+
+/// Words, and `same` or `other`.
+fn compared(
+    alloc: Global,
+    mut words: Words,
+    is_same: Result<bool, RowFault>,
+) -> Result<Words, RowFault> {
+    words.put(alloc, if is_same? { b"same" } else { b"other" });
     Ok(words)
 }
