@@ -1,4 +1,4 @@
-//! The clean build of a project.
+//! Whether a site is the clean build of its sources.
 ghost use Rattle.std.specs.Prelude.{◌≡◌, true, IfOk, IsTrue, OnOk};
 ghost use Rattle.std.specs.FinMap as finite;
 ghost use Rattle.tup_path.specs.Order.{by_names};
@@ -12,87 +12,72 @@ use tup_rows::RowFault;
 use tup_rule::Rule;
 use tup_site::{MemSite, Site};
 
-/// The files that the clean build of some rules leaves over these sources.
-pub(crate) fn clean_tree(
-    alloc: Global,
-    rules: &[Rule],
-    sources: &Files,
-) -> Result<Files, RowFault> {
-    let sources = sorted(alloc, sources)?;
-    match clean_build(alloc, rules, &sources, &mut Mini::new(alloc)) {
-        Ok(clean) => Ok(clean.tree),
-        Err(_) => Err(RowFault::Memory),
-    }
-}
-
-/// Whether a site has just these files.
-pub(crate) fn has_files(
+/// Whether a site has just the files that the clean build of some rules leaves over its sources.
+pub(crate) fn is_clean(
     alloc: Global,
     site: &mut MemSite,
-    files: &Files,
+    rules: &[Rule],
 ) -> Result<bool, RowFault> {
-    Ok(files_in(alloc, site)? == *files)
-}
-
-/// The files of a site that none of these rules makes.
-pub(crate) fn sources_in(
-    alloc: Global,
-    site: &mut MemSite,
-    rules: &[Rule],
-) -> Result<Files, RowFault> {
-    let mut sources = Items::new(alloc);
-    for (path, content) in files_in(alloc, site)?.as_slice() {
-        if !is_made(rules, path) {
-            sources.push((path.clone()?, content.clone()?))?;
-        }
-    }
-    Ok(sources)
-}
-
-fn is_made(rules: &[Rule], path: &Path) -> bool {
-    rules.iter().any(|rule| rule.writes(path))
+    let files = files_in(alloc, site)?;
+    let sources = sources_of(alloc, &files, rules)?;
+    Ok(clean_tree(alloc, rules, &sources)? == files)
 }
 
 /// The files of a site.
 pub(crate) fn files_in(alloc: Global, site: &mut MemSite) -> Result<Files, RowFault> {
-    let mut files = Items::new(alloc);
     match site.list(alloc) {
-        Ok(paths) => add_files(&mut files, site, paths.as_slice())?,
-        Err(_) => return Err(RowFault::Memory),
+        Ok(paths) => Ok(files_at(alloc, site, paths.as_slice())?),
+        Err(_) => Err(RowFault::Memory),
     }
-    Ok(files)
 }
 
-/// Adds the files of a site at these paths.
-fn add_files(files: &mut Files, site: &MemSite, paths: &[Path]) -> Result<(), AllocError> {
+/// The files of a site at these paths.
+fn files_at(alloc: Global, site: &MemSite, paths: &[Path]) -> Result<Files, AllocError> {
+    let mut files = Items::new(alloc);
     for path in paths {
         if let Some(content) = site.file(path) {
             files.push((path.clone()?, content.clone()?))?;
         }
     }
-    Ok(())
+    Ok(files)
 }
 
-/// These files in the order of their paths.
-fn sorted(alloc: Global, files: &Files) -> Result<Files, AllocError>
-    ensures { IfOk result (λ sorted. IsTrue (finite.is_sorted by_names sorted)) }
+/// The files that the clean build of some rules leaves over these sources.
+fn clean_tree(alloc: Global, rules: &[Rule], sources: &Files) -> Result<Files, RowFault>
+    requires { IsTrue (finite.is_sorted by_names sources.now) }
 {
-    let contents = contents(alloc, files)?;
-    Ok(Items::from_vec(contents.into_iter().collect(alloc)?))
+    match clean_build(alloc, rules, sources, &mut Mini::new(alloc)) {
+        Ok(clean) => Ok(clean.tree),
+        Err(_) => Err(RowFault::Memory),
+    }
+}
+
+/// Those of some files that none of these rules makes, in the order of their paths.
+fn sources_of(alloc: Global, files: &Files, rules: &[Rule]) -> Result<Files, AllocError>
+    ensures { IfOk result (λ sources. IsTrue (finite.is_sorted by_names sources)) }
+{
+    let sources = unmade(alloc, files, rules)?;
+    Ok(Items::from_vec(sources.into_iter().collect(alloc)?))
 }
 
 /// Files by their paths.
 type Contents = BTreeMap<Path, Bytes>;
 
-/// These files by their paths.
-fn contents(alloc: Global, files: &Files) -> Result<Contents, AllocError>
+/// The same by their paths.
+fn unmade(alloc: Global, files: &Files, rules: &[Rule]) -> Result<Contents, AllocError>
     ensures { IfOk result (λ contents. finite.is_sorted by_names contents.entries ≡ true) }
 {
     let mut contents = BTreeMap::new(alloc);
     for (path, content) in files.as_slice() {
-        put(&mut contents, path.clone()?, content.clone()?)?;
+        if !is_made(rules, path) {
+            put(&mut contents, path.clone()?, content.clone()?)?;
+        }
     }
     Ok(contents)
+}
+
+fn is_made(rules: &[Rule], path: &Path) -> bool {
+    rules.iter().any(|rule| rule.writes(path))
 }
 
 /// Puts a file in the place of what stands there.

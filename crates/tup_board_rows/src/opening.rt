@@ -3,84 +3,119 @@ ghost use Rattle.std.specs.Prelude.{◌≡◌, ◌↔◌, true, All, IfOk, IsTru
 ghost use Rattle.tup_graph.specs.Graph.{is_flagged};
 ghost use Rattle.tup_kept.specs.Held.{is_fresh};
 ghost use Rattle.tup_board.specs.Outputs.{AreApart, IsPlanOf};
-ghost use Rattle.tup_board_rows.specs.Desk.{IsOfBoard};
 
 use crate::apart::are_apart;
+use crate::desk::{Desk, seated};
+use crate::project::{Project, reach_at};
 use crate::quiet::Quiet;
+use crate::store::site_of;
 use std::alloc::Global;
 use tup_above::runs_are_of_rules;
-use tup_board::Board;
-use tup_core::{Numbers, Plan};
+use tup_core::Plan;
 use tup_graph::Nodes;
 use tup_kept::Graph;
-use tup_mini::Mini;
 use tup_note::note_scan;
 use tup_partial::{flags_are_of_rules, plan_of};
-use tup_path::Files;
-use tup_rows::RowFault;
+use tup_path::Path;
+use tup_rows::{RowFault, Words};
 use tup_scan::{Still, scan};
 use tup_site::MemSite;
 
-/// A board over a site in memory, at which small commands run.
-pub(crate) type MemBoard = Board<Quiet, Mini>;
-
-/// A board with its plan.
-#[derive(Drop)]
-pub(crate) struct Opened {
-    pub(crate) board: MemBoard,
-    pub(crate) plan: Plan,
+/// The board of a row at its opening, whose site lets so many calls pass. `OtherKind` where no board may be made.
+pub(crate) fn board_of(
+    alloc: Global,
+    project: &Project,
+    said: &Words,
+    calls: u64,
+) -> Result<Desk, RowFault> {
+    let reach = reach_at(alloc, said, 0);
+    let keep_going = said.str_at(1) == "keep";
+    match site_of(alloc, project, reach.as_slice()) {
+        Ok(site) => open(alloc, site, keep_going, calls, &project.large),
+        Err(fault) => Err(fault),
+    }
 }
 
-/// A board over a site whose store has a graph, once its tree was scanned; then these files change, and from then on the
-/// site lets so many calls pass. `OtherKind` where no board may be made of these.
-pub(crate) fn open(
+/// The board of the next update of a site, all of whose calls pass.
+pub(crate) fn next_board(alloc: Global, site: MemSite) -> Result<Desk, RowFault> {
+    open(alloc, Quiet::new(site), false, u64::MAX, &None)
+}
+
+/// A board over a site whose store has a graph, once its tree was scanned; then a file grows, and from then on the site lets
+/// so many calls pass.
+fn open(
     alloc: Global,
-    site: MemSite,
+    mut site: Quiet,
     keep_going: bool,
     calls: u64,
-    grown: &Files,
-) -> Result<Opened, RowFault>
-    ensures { IfOk result IsOfBoard }
-{
-    let mut site = Quiet::new(site);
-    let graph = scanned(alloc, &mut site)?;
-    grow(alloc, site.beneath(), grown)?;
-    site.stop_after(calls);
-    made(alloc, site, graph, keep_going)
-}
-
-/// Somebody changes these files.
-fn grow(alloc: Global, site: &mut MemSite, grown: &Files) -> Result<(), RowFault> {
-    for (path, content) in grown.as_slice() {
-        if site
-            .edit(alloc, path.clone()?, Some(content.clone()?))
-            .is_err()
-        {
-            return Err(RowFault::OtherKind);
+    large: &Option<(Path, u64)>,
+) -> Result<Desk, RowFault> {
+    match scanned(alloc, &mut site, calls, large) {
+        Ok(graph) => planned(alloc, site, graph, keep_going),
+        Err(fault) => {
+            drop(site);
+            Err(fault)
         }
     }
-    Ok(())
 }
 
-/// A board over a site and its graph.
-fn made(alloc: Global, site: Quiet, graph: Graph, keep_going: bool) -> Result<Opened, RowFault>
+/// A board over a site and its graph, if one may be made.
+fn planned(alloc: Global, site: Quiet, graph: Graph, keep_going: bool) -> Result<Desk, RowFault>
     requires { IsTrue (is_fresh graph) }
-    ensures { IfOk result IsOfBoard }
 {
-    let plan = tested(alloc, &graph, keep_going)?;
-    begun(alloc, site, graph, plan)
+    match tested(alloc, &graph, keep_going) {
+        Ok(plan) => seated(alloc, site, graph, plan),
+        Err(fault) => {
+            drop(site);
+            drop(graph);
+            Err(fault)
+        }
+    }
 }
 
-/// A board at its opening, which is tested.
-fn begun(alloc: Global, site: Quiet, graph: Graph, plan: Plan) -> Result<Opened, RowFault>
-    requires fresh { IsTrue (is_fresh graph) }
-    requires plan { IsPlanOf graph.nodes plan }
-    requires apart { AreApart plan graph.nodes }
-    ensures { IfOk result IsOfBoard }
+/// The graph of a site's store, which has seen the files of its tree; then the site may fail.
+fn scanned(
+    alloc: Global,
+    site: &mut Quiet,
+    calls: u64,
+    large: &Option<(Path, u64)>,
+) -> Result<Graph, RowFault>
+    ensures { IfOk result (λ graph. IsTrue (is_fresh graph)) }
 {
-    match Board::new(alloc, site, graph, &plan) {
-        Ok(board) => Ok(Opened { board, plan }),
-        Err(_) => Err(RowFault::Memory),
+    let graph = noted(alloc, site)?;
+    site.stop_after(calls);
+    site.set_large(large)?;
+    Ok(graph)
+}
+
+fn noted(alloc: Global, site: &mut Quiet) -> Result<Graph, RowFault>
+    ensures { IfOk result (λ graph. IsTrue (is_fresh graph)) }
+{
+    match Graph::open(alloc, site) {
+        Ok(graph) => note(alloc, site, graph),
+        Err(_) => Err(RowFault::OtherKind),
+    }
+}
+
+/// A graph takes note of the files of a site.
+fn note(alloc: Global, site: &mut Quiet, mut graph: Graph) -> Result<Graph, RowFault>
+    requires { IsTrue (is_fresh graph) }
+    ensures { IfOk result (λ graph. IsTrue (is_fresh graph)) }
+{
+    if is_noted(alloc, site, &mut graph) && graph.fresh() {
+        Ok(graph)
+    } else {
+        drop(graph);
+        Err(RowFault::OtherKind)
+    }
+}
+
+fn is_noted(alloc: Global, site: &mut Quiet, graph: &mut Graph) -> bool
+    requires { IsTrue (is_fresh graph.old) }
+{
+    match scan(alloc, site, 1, &Still) {
+        Ok(seen) => note_scan(alloc, graph, site, &seen).is_ok(),
+        Err(_) => false,
     }
 }
 
@@ -90,31 +125,15 @@ fn tested(alloc: Global, graph: &Graph, keep_going: bool) -> Result<Plan, RowFau
     ensures plan { IfOk result (IsPlanOf graph.now.nodes) }
     ensures apart { IfOk result (λ plan. AreApart plan graph.now.nodes) }
 {
-    let plan = planned(alloc, graph, keep_going)?;
+    let plan = plan_in(alloc, graph, keep_going)?;
     if !are_apart(alloc, &plan, graph.nodes())? {
         return Err(RowFault::OtherKind);
     }
     Ok(plan)
 }
 
-/// The graph of a site's store, which has seen the files of its tree.
-fn scanned(alloc: Global, site: &mut Quiet) -> Result<Graph, RowFault>
-    ensures { IfOk result (λ graph. IsTrue (is_fresh graph)) }
-{
-    let Ok(mut graph) = Graph::open(alloc, site) else {
-        return Err(RowFault::OtherKind);
-    };
-    let Ok(seen) = scan(alloc, site, 1, &Still) else {
-        return Err(RowFault::OtherKind);
-    };
-    if note_scan(alloc, &mut graph, site, &seen).is_err() || !graph.fresh() {
-        return Err(RowFault::OtherKind);
-    }
-    Ok(graph)
-}
-
 /// The plan that runs the flagged rules of a graph.
-fn planned(alloc: Global, graph: &Graph, keep_going: bool) -> Result<Plan, RowFault>
+fn plan_in(alloc: Global, graph: &Graph, keep_going: bool) -> Result<Plan, RowFault>
     requires { IsTrue (is_fresh graph.now) }
     ensures { IfOk result (IsPlanOf graph.now.nodes) }
 {

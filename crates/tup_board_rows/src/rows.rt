@@ -9,11 +9,8 @@ impl Answers for Project {
     fn answer(&mut self, alloc: Global, call: &str, said: &Words) -> Result<Words, RowFault> {
         match call {
             "source" => Ok(self.add_source(alloc, said)),
-            "large" => Ok(self.add_large(alloc, said)),
+            "large" => Ok(self.set_large(alloc, said)),
             "rule" => Ok(self.add_rule(alloc, said)),
-            "chain" => Ok(self.add_chain(alloc, said)),
-            "fan" => Ok(self.add_fan(alloc, said)),
-            "wide" => Ok(self.add_wide(alloc, said)),
             "anew" => Ok(self.begin_anew(alloc)),
             "sweep" => sweep(alloc, self, said),
             "edited" => edited(alloc, self, said),

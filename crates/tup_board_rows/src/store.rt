@@ -1,36 +1,26 @@
 //! A site in memory with the files and the store of a project.
 use crate::project::Project;
+use crate::quiet::Quiet;
 use std::alloc::{AllocError, Global};
 use tup_path::{Bytes, Items, Path};
 use tup_record::{OwnedState, Record, encode};
 use tup_rows::RowFault;
 use tup_rule::Rule;
-use tup_site::{MemSite, Site};
-use tup_table::{Change, appended, have_short_keys};
+use tup_site::MemSite;
+use tup_table::{Change, Table, have_short_keys};
 
-/// How a store begins, and the open gate of its first commit.
-const BEGIN: [u8; 9] = *b"tup-db\n\x01\x01";
-
-/// A site with the sources of a project, and a store that has its rules, of which these are flagged, and that owns their
+/// A site with the sources of a project, whose store has the project's rules, of which these are flagged, and owns their
 /// outputs.
 pub(crate) fn site_of(
     alloc: Global,
     project: &Project,
     flagged: &[u32],
-) -> Result<MemSite, RowFault> {
-    let store = store_of(alloc, project.rules.as_slice(), flagged)?;
+) -> Result<Quiet, RowFault> {
+    let changes = changes_of(alloc, project.rules.as_slice(), flagged)?;
     match MemSite::new(alloc, copies(alloc, project)?, Vec::new(alloc)) {
-        Ok(site) => with_store(alloc, site, &store),
+        Ok(site) => with_store(alloc, Quiet::new(site), changes.as_slice()),
         Err(_) => Err(RowFault::OtherKind),
     }
-}
-
-/// A site with these bytes as its store.
-fn with_store(alloc: Global, mut site: MemSite, store: &[u8]) -> Result<MemSite, RowFault> {
-    if site.db_write(alloc, 0, store).is_err() || site.db_sync(alloc).is_err() {
-        return Err(RowFault::Memory);
-    }
-    Ok(site)
 }
 
 fn copies(alloc: Global, project: &Project) -> Result<Vec<(Path, Bytes)>, AllocError> {
@@ -41,75 +31,72 @@ fn copies(alloc: Global, project: &Project) -> Result<Vec<(Path, Bytes)>, AllocE
     Ok(files)
 }
 
-/// A store of these rules.
-fn store_of(alloc: Global, rules: &[Rule], flagged: &[u32]) -> Result<Vec<u8>, RowFault> {
-    let changes = changes_of(alloc, rules, flagged)?;
-    if !have_short_keys(changes.as_slice()) {
+/// A site with a store of these changes.
+fn with_store(alloc: Global, mut site: Quiet, changes: &[Change]) -> Result<Quiet, RowFault> {
+    match write_store(alloc, &mut site, changes) {
+        Ok(()) => Ok(site),
+        Err(fault) => {
+            drop(site);
+            Err(fault)
+        }
+    }
+}
+
+fn write_store(alloc: Global, site: &mut Quiet, changes: &[Change]) -> Result<(), RowFault> {
+    let Ok(mut table) = Table::make(alloc, site) else {
+        return Err(RowFault::Memory);
+    };
+    if !have_short_keys(changes) || table.commit(alloc, site, changes).is_err() {
         return Err(RowFault::OtherKind);
     }
-    let mut store = Vec::from_slice(alloc, &BEGIN)?;
-    match appended(alloc, 8, changes.as_slice()) {
-        Ok(more) => store.extend_from_slice(more.as_slice())?,
-        Err(_) => return Err(RowFault::Memory),
-    }
-    Ok(store)
+    Ok(())
 }
 
 /// The records of some rules, of which these are flagged.
 fn changes_of(alloc: Global, rules: &[Rule], flagged: &[u32]) -> Result<Items<Change>, RowFault> {
     let mut changes = Items::new(alloc);
-    add_rules(alloc, &mut changes, rules)?;
-    add_flags(alloc, &mut changes, flagged)?;
+    put_rules(alloc, &mut changes, rules)?;
+    put_flags(alloc, &mut changes, flagged)?;
     Ok(changes)
 }
 
-fn add_rules(alloc: Global, changes: &mut Items<Change>, rules: &[Rule]) -> Result<(), RowFault> {
+fn put_rules(alloc: Global, changes: &mut Items<Change>, rules: &[Rule]) -> Result<(), RowFault> {
     for (rule, number) in rules.iter().zip(0..u32::MAX) {
-        add_rule(alloc, changes, number, rule)?;
+        put_rule(alloc, changes, number, rule.clone()?)?;
+        put_outputs(alloc, changes, number, rule.outputs.as_slice())?;
     }
     Ok(())
 }
 
-fn add_flags(alloc: Global, changes: &mut Items<Change>, flagged: &[u32]) -> Result<(), RowFault> {
-    for number in flagged {
-        add(alloc, changes, Record::Modify { number: *number })?;
-    }
-    Ok(())
-}
-
-/// The records of a rule: itself, and that its outputs are owned.
-fn add_rule(
-    alloc: Global,
-    changes: &mut Items<Change>,
-    number: u32,
-    rule: &Rule,
-) -> Result<(), RowFault> {
-    add_itself(alloc, changes, number, rule.clone()?)?;
-    for path in rule.outputs.as_slice() {
-        add_owned(alloc, changes, number, path.clone()?)?;
-    }
-    Ok(())
-}
-
-fn add_itself(
+fn put_rule(
     alloc: Global,
     changes: &mut Items<Change>,
     number: u32,
     rule: Rule,
 ) -> Result<(), RowFault> {
     let place = number;
-    add(
-        alloc,
-        changes,
-        Record::Rule {
-            number,
-            place,
-            rule,
-        },
-    )
+    let record = Record::Rule {
+        number,
+        place,
+        rule,
+    };
+    put(alloc, changes, record)
 }
 
-fn add_owned(
+/// The outputs of a rule are owned.
+fn put_outputs(
+    alloc: Global,
+    changes: &mut Items<Change>,
+    number: u32,
+    paths: &[Path],
+) -> Result<(), RowFault> {
+    for path in paths {
+        put_owned(alloc, changes, number, path.clone()?)?;
+    }
+    Ok(())
+}
+
+fn put_owned(
     alloc: Global,
     changes: &mut Items<Change>,
     number: u32,
@@ -120,17 +107,19 @@ fn add_owned(
         maker: Some(number),
         state: OwnedState::Never,
     };
-    add(alloc, changes, record)
+    put(alloc, changes, record)
 }
 
-fn add(alloc: Global, changes: &mut Items<Change>, record: Record) -> Result<(), RowFault> {
-    let change = encoded(alloc, record)?;
-    Ok(changes.push(change)?)
+fn put_flags(alloc: Global, changes: &mut Items<Change>, flagged: &[u32]) -> Result<(), RowFault> {
+    for number in flagged {
+        put(alloc, changes, Record::Modify { number: *number })?;
+    }
+    Ok(())
 }
 
-fn encoded(alloc: Global, record: Record) -> Result<Change, RowFault> {
+fn put(alloc: Global, changes: &mut Items<Change>, record: Record) -> Result<(), RowFault> {
     match encode(alloc, &record) {
-        Ok((key, value)) => Ok(Change::Put { key, value }),
+        Ok((key, value)) => Ok(changes.push(Change::Put { key, value })?),
         Err(_) => Err(RowFault::OtherKind),
     }
 }

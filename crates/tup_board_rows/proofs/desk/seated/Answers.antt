@@ -1,5 +1,5 @@
 use Rattle.std.proofs.lemmas.Bool.{false≢true}
-use Rattle.tup_board_rows.proofs.opening.begun.Goals as goal
+use Rattle.tup_board_rows.proofs.desk.seated.Goals as goal
 
 pub new-requires-after_bounds : goal.new-requires-after_bounds
 new-requires-after_bounds c κs = record {
