@@ -16,7 +16,7 @@ use tup_core::{Cause, Plan};
 use tup_kept::Graph;
 use tup_mini::Mini;
 use tup_path::Text;
-use tup_rows::{RowFault, Words};
+use tup_rows::{RowFault, Words, set};
 use tup_runner::{Report, RunFailed};
 
 /// How often a command may ask.
@@ -67,7 +67,15 @@ impl Desk {
 
     /// Takes the board apart.
     pub(crate) fn into_parts(self) -> BoardParts<Quiet> {
-        self.board.into_parts()
+        let Desk {
+            board,
+            plan,
+            told,
+            ..
+        } = self;
+        drop(plan);
+        drop(told);
+        board.into_parts()
     }
 
     /// Does what an order says: what came of it. `OtherKind` where the seat can't.
@@ -93,7 +101,7 @@ impl Desk {
             return Err(RowFault::OtherKind);
         }
         if let Some(told) = self.told.get_mut(seat as usize) {
-            *told = Replies::new(alloc);
+            set(told, Replies::new(alloc));
         }
         Ok(self.board.claim(&self.plan, seat))
     }
@@ -131,7 +139,7 @@ impl Desk {
             if !self.goes_on(seat) {
                 break;
             }
-            last = self.step(alloc, seat);
+            set(&mut last, self.step(alloc, seat));
         }
         last
     }
@@ -211,7 +219,7 @@ impl Desk {
             if !self.goes_on(seat) {
                 return Err(RowFault::OtherKind);
             }
-            last = self.ask(alloc, seat, text);
+            set(&mut last, self.ask(alloc, seat, text));
         }
         last
     }

@@ -2,7 +2,7 @@
 //!
 //! The file of `data/` has rows, a call with the answer that is wanted each. Its head says what the calls and their
 //! arguments mean. A board stands over a site in memory that tells contracts nothing but its failures (`Quiet`); what a
-//! call of the board asks of its caller is tested before it (`apart`, `seat`).
+//! call of the board asks of its caller is tested before it (`apart`, `desk`).
 #![tactic(auto)]
 
 mod apart;
@@ -11,6 +11,7 @@ mod crash;
 mod desk;
 mod opening;
 mod order;
+mod place;
 mod project;
 mod quiet;
 mod replies;

@@ -1,5 +1,4 @@
 //! Orders, as rows spell them.
-use crate::project::number_of;
 use std::alloc::Global;
 use tup_path::Text;
 use tup_rows::Words;
@@ -27,7 +26,7 @@ impl<'w> Order<'w> {
 
     /// The number at a place of it.
     pub(crate) fn number(&self, at: usize) -> u32 {
-        number_of(self.said, self.word(at))
+        self.said.small_at(self.at.saturating_add(at))
     }
 
     /// The text that it names.

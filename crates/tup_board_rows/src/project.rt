@@ -1,8 +1,7 @@
 //! The sources and the rules that rows give.
 use std::alloc::Global;
-use tup_core::Numbers;
 use tup_path::{Bytes, Files, Items, Path};
-use tup_rows::{RowFault, Words};
+use tup_rows::{RowFault, Words, set};
 use tup_rule::{Rule, Rules};
 
 /// What the rows so far gave.
@@ -26,7 +25,7 @@ impl Project {
 
     /// Forgets what the rows gave.
     pub(crate) fn begin_anew(&mut self, alloc: Global) -> Words {
-        *self = Project::new(alloc);
+        set(self, Project::new(alloc));
         Words::new(alloc)
     }
 
@@ -40,7 +39,8 @@ impl Project {
 
     /// Has a source grow to so many bytes once it was scanned.
     pub(crate) fn set_large(&mut self, alloc: Global, said: &Words) -> Words {
-        self.large = Some((said.path_at(alloc, 0), said.number_at(1)));
+        let large = (said.path_at(alloc, 0), said.number_at(1));
+        set(&mut self.large, Some(large));
         Words::new(alloc)
     }
 
@@ -65,7 +65,7 @@ fn rule(alloc: Global, said: &Words) -> Rule {
 }
 
 /// The numbers of rules that a word of a row is, parted by blanks.
-pub(crate) fn reach_at(alloc: Global, said: &Words, at: usize) -> Numbers {
+pub(crate) fn reach_at(alloc: Global, said: &Words, at: usize) -> Items<u32> {
     let mut numbers = Items::new(alloc);
     for word in said.str_at(at).split_ascii_whitespace() {
         said.list(&mut numbers, number_of(said, word));
@@ -73,8 +73,8 @@ pub(crate) fn reach_at(alloc: Global, said: &Words, at: usize) -> Numbers {
     numbers
 }
 
-/// The number that a word of a row is. Where it is none the row differs, and this is 0.
-pub(crate) fn number_of(said: &Words, word: &str) -> u32 {
+/// The number that a word is. Where it is none the row differs, and this is 0.
+fn number_of(said: &Words, word: &str) -> u32 {
     match word.parse() {
         Ok(number) => number,
         Err(_) => {

@@ -8,9 +8,10 @@ ghost use Rattle.tup_site.specs.Memory.{store_in, tree_in};
 ghost use Rattle.tup_site.specs.declared.fault.SiteFailed.TheVariants.{Fault};
 ghost use Rattle.tup_board_rows.specs.Apart.{MayStand};
 
-use crate::apart::may_stand;
+use crate::place::may_stand;
 use std::alloc::{AllocError, Global};
 use tup_path::{Bytes, Path, Paths};
+use tup_rows::set;
 use tup_site::{MemSite, Site, SiteFailed};
 
 /// A site in memory of which contracts know nothing but how often it failed: they ask nothing of what it holds.
@@ -37,7 +38,7 @@ impl Quiet {
 
     /// Has a file grow to so many bytes.
     pub(crate) fn set_large(&mut self, large: &Option<(Path, u64)>) -> Result<(), AllocError> {
-        self.large = large.clone()?;
+        set(&mut self.large, large.clone()?);
         Ok(())
     }
 

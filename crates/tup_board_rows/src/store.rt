@@ -1,4 +1,7 @@
 //! A site in memory with the files and the store of a project.
+ghost use Rattle.std.specs.Prelude.{IsTrue};
+ghost use Rattle.tup_table.specs.Table.{is_fresh};
+
 use crate::project::Project;
 use crate::quiet::Quiet;
 use std::alloc::{AllocError, Global};
@@ -16,9 +19,8 @@ pub(crate) fn site_of(
     project: &Project,
     flagged: &[u32],
 ) -> Result<Quiet, RowFault> {
-    let changes = changes_of(alloc, project.rules.as_slice(), flagged)?;
     match MemSite::new(alloc, copies(alloc, project)?, Vec::new(alloc)) {
-        Ok(site) => with_store(alloc, Quiet::new(site), changes.as_slice()),
+        Ok(site) => with_store(alloc, Quiet::new(site), project.rules.as_slice(), flagged),
         Err(_) => Err(RowFault::OtherKind),
     }
 }
@@ -31,9 +33,14 @@ fn copies(alloc: Global, project: &Project) -> Result<Vec<(Path, Bytes)>, AllocE
     Ok(files)
 }
 
-/// A site with a store of these changes.
-fn with_store(alloc: Global, mut site: Quiet, changes: &[Change]) -> Result<Quiet, RowFault> {
-    match write_store(alloc, &mut site, changes) {
+/// A site with a store of these rules.
+fn with_store(
+    alloc: Global,
+    mut site: Quiet,
+    rules: &[Rule],
+    flagged: &[u32],
+) -> Result<Quiet, RowFault> {
+    match write_store(alloc, &mut site, rules, flagged) {
         Ok(()) => Ok(site),
         Err(fault) => {
             drop(site);
@@ -42,22 +49,57 @@ fn with_store(alloc: Global, mut site: Quiet, changes: &[Change]) -> Result<Quie
     }
 }
 
-fn write_store(alloc: Global, site: &mut Quiet, changes: &[Change]) -> Result<(), RowFault> {
-    let Ok(mut table) = Table::make(alloc, site) else {
-        return Err(RowFault::Memory);
-    };
-    if !have_short_keys(changes) || table.commit(alloc, site, changes).is_err() {
-        return Err(RowFault::OtherKind);
+fn write_store(
+    alloc: Global,
+    site: &mut Quiet,
+    rules: &[Rule],
+    flagged: &[u32],
+) -> Result<(), RowFault> {
+    let changes = changes_of(alloc, rules, flagged)?;
+    match Table::make(alloc, site) {
+        Ok(table) => commit(alloc, site, table, changes.as_slice()),
+        Err(_) => Err(RowFault::OtherKind),
     }
-    Ok(())
+}
+
+/// Commits the first changes of a store.
+fn commit(
+    alloc: Global,
+    site: &mut Quiet,
+    mut table: Table,
+    changes: &[Change],
+) -> Result<(), RowFault>
+    requires { IsTrue (is_fresh table) }
+{
+    let is_made = have_short_keys(changes) && table.commit(alloc, site, changes).is_ok();
+    drop(table);
+    if is_made {
+        Ok(())
+    } else {
+        Err(RowFault::OtherKind)
+    }
 }
 
 /// The records of some rules, of which these are flagged.
 fn changes_of(alloc: Global, rules: &[Rule], flagged: &[u32]) -> Result<Items<Change>, RowFault> {
     let mut changes = Items::new(alloc);
-    put_rules(alloc, &mut changes, rules)?;
-    put_flags(alloc, &mut changes, flagged)?;
-    Ok(changes)
+    match put_all(alloc, &mut changes, rules, flagged) {
+        Ok(()) => Ok(changes),
+        Err(fault) => {
+            drop(changes);
+            Err(fault)
+        }
+    }
+}
+
+fn put_all(
+    alloc: Global,
+    changes: &mut Items<Change>,
+    rules: &[Rule],
+    flagged: &[u32],
+) -> Result<(), RowFault> {
+    put_rules(alloc, changes, rules)?;
+    put_flags(alloc, changes, flagged)
 }
 
 fn put_rules(alloc: Global, changes: &mut Items<Change>, rules: &[Rule]) -> Result<(), RowFault> {

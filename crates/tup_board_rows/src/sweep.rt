@@ -100,7 +100,15 @@ fn came_of(
 }
 
 fn site_in(parts: BoardParts<Quiet>) -> MemSite {
-    parts.site.into_site()
+    let BoardParts {
+        site,
+        graph,
+        history,
+        ..
+    } = parts;
+    drop(graph);
+    drop(history);
+    site.into_site()
 }
 
 /// What came of the update after a crash.
