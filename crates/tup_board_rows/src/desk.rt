@@ -7,17 +7,17 @@ ghost use Rattle.tup_course.specs.Course.{GoesOn, RunsRule, WasDenied};
 
 use crate::order::Order;
 use crate::quiet::Quiet;
-use crate::replies::Replies;
 use crate::seat::{is_over_asks, may_run, performed, rule_of};
 use crate::shown::{asked_words, claimed_words, drained_words, fault_words, verdict_words};
 use std::alloc::{AllocError, Global};
 use tup_board::{Asked, Board, BoardParts, Claimed, Drained};
 use tup_core::{Cause, Plan};
+use tup_given::Replies;
 use tup_kept::Graph;
 use tup_mini::Mini;
-use tup_path::Text;
+use tup_path::{Items, Text};
 use tup_rows::{RowFault, Words, set};
-use tup_runner::{Report, RunFailed};
+use tup_runner::{Answer, Report, RunFailed};
 
 /// How often a command may ask.
 const STEPS: u32 = 5_000;
@@ -101,7 +101,7 @@ impl Desk {
             return Err(RowFault::OtherKind);
         }
         if let Some(told) = self.told.get_mut(seat as usize) {
-            set(told, Replies::new(alloc));
+            set(told, Replies::new(Items::new(alloc)));
         }
         Ok(self.board.claim(&self.plan, seat))
     }
@@ -203,7 +203,7 @@ impl Desk {
     fn refused(&mut self, seat: u32) -> Option<Text>
         ensures { self.new.board ≡ self.old.board }
     {
-        self.told.get_mut(seat as usize)?.take_refused()
+        self.told.get_mut(seat as usize)?.take_denied()
     }
 
     /// The command of a seat asks for a text so often: the last answer.
@@ -243,7 +243,7 @@ impl Desk {
         asked: &Asked,
     ) -> Result<Words, RowFault> {
         if let Some(told) = self.told.get_mut(seat as usize) {
-            told.add(text, asked)?;
+            note(told, text, asked)?;
         }
         Ok(asked_words(alloc, asked))
     }
@@ -307,7 +307,21 @@ impl Desk {
 fn untold(alloc: Global) -> Result<Vec<Replies>, AllocError> {
     let mut told = Vec::new(alloc);
     for _ in 0..16 {
-        told.push(Replies::new(alloc))?;
+        told.push(Replies::new(Items::new(alloc)))?;
     }
     Ok(told)
+}
+
+/// A command is to be told this again, if it was told anything.
+fn note(told: &mut Replies, text: &Text, asked: &Asked) -> Result<(), AllocError> {
+    match asked {
+        Asked::Content(content) => add(told, text, Answer::Content(content.clone()?)),
+        Asked::Absent => add(told, text, Answer::Absent),
+        Asked::Denied(_) => Ok(()),
+    }
+}
+
+fn add(told: &mut Replies, text: &Text, answer: Answer) -> Result<(), AllocError> {
+    told.add(text.clone()?, answer)?;
+    Ok(())
 }

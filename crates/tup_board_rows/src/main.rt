@@ -14,7 +14,6 @@ mod order;
 mod place;
 mod project;
 mod quiet;
-mod replies;
 mod rows;
 mod script;
 mod seat;
@@ -22,11 +21,11 @@ mod shown;
 mod store;
 mod sweep;
 
-use project::Project;
+use project::Given;
 use std::io;
 use tup_rows::try_file_by;
 
 fn main(rt: HostRuntime) -> io::Result<()> {
     let alloc = rt.alloc();
-    try_file_by(&rt, alloc, "board.rows", Project::new(alloc))
+    try_file_by(&rt, alloc, "board.rows", Given::new(alloc))
 }

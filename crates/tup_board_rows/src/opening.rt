@@ -6,7 +6,7 @@ ghost use Rattle.tup_board.specs.Outputs.{AreApart, IsPlanOf};
 
 use crate::apart::are_apart;
 use crate::desk::{Desk, seated};
-use crate::project::{Project, reach_at};
+use crate::project::{Given, reach_at};
 use crate::quiet::Quiet;
 use crate::store::site_of;
 use std::alloc::Global;
@@ -24,14 +24,14 @@ use tup_site::MemSite;
 /// The board of a row at its opening, whose site lets so many calls pass. `OtherKind` where no board may be made.
 pub(crate) fn board_of(
     alloc: Global,
-    project: &Project,
+    given: &Given,
     said: &Words,
     calls: u64,
 ) -> Result<Desk, RowFault> {
     let reach = reach_at(alloc, said, 0);
     let keep_going = said.str_at(1) == "keep";
-    match site_of(alloc, project, reach.as_slice()) {
-        Ok(site) => open(alloc, site, keep_going, calls, &project.large),
+    match site_of(alloc, &given.project, reach.as_slice()) {
+        Ok(site) => open(alloc, site, keep_going, calls, &given.large),
         Err(fault) => Err(fault),
     }
 }

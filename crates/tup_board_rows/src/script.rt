@@ -3,7 +3,7 @@ use crate::clean::files_in;
 use crate::desk::Desk;
 use crate::opening::board_of;
 use crate::order::Order;
-use crate::project::Project;
+use crate::project::Given;
 use crate::quiet::Quiet;
 use crate::shown::{show_cause, show_event};
 use std::alloc::Global;
@@ -16,11 +16,11 @@ use tup_site::MemSite;
 /// What a call shows of the board of a row, once it has obeyed the orders; `none` where no board may be made.
 pub(crate) fn script(
     alloc: Global,
-    project: &Project,
+    given: &Given,
     call: &str,
     said: &Words,
 ) -> Result<Words, RowFault> {
-    match board_of(alloc, project, said, calls_of(said)) {
+    match board_of(alloc, given, said, calls_of(said)) {
         Ok(desk) => played(alloc, desk, call, said),
         Err(RowFault::OtherKind) => Ok(none(alloc, said)),
         Err(fault) => Err(fault),

@@ -9,9 +9,9 @@ ghost use Rattle.tup_board_rows.specs.Desk.{MayRun};
 ghost use Rattle.tup_runner.specs.Report.{asks_of};
 
 use crate::desk::MemBoard;
-use crate::replies::Replies;
 use std::alloc::{AllocError, Global};
 use tup_core::{Plan, Running, StampAsks};
+use tup_given::Replies;
 use tup_mini::Mini;
 use tup_path::{Items, Text};
 use tup_rule::Rule;

@@ -2,9 +2,9 @@
 ghost use Rattle.std.specs.Prelude.{IsTrue};
 ghost use Rattle.tup_table.specs.Table.{is_fresh};
 
-use crate::project::Project;
 use crate::quiet::Quiet;
 use std::alloc::{AllocError, Global};
+use tup_given::Project;
 use tup_path::{Bytes, Items, Path};
 use tup_record::{OwnedState, Record, encode};
 use tup_rows::RowFault;

@@ -3,7 +3,7 @@ use crate::clean::is_clean;
 use crate::crash::crash;
 use crate::desk::Desk;
 use crate::opening::{board_of, next_board};
-use crate::project::Project;
+use crate::project::Given;
 use crate::quiet::Quiet;
 use std::alloc::Global;
 use tup_board::BoardParts;
@@ -29,9 +29,9 @@ enum Outcome {
 
 /// Stops an update of a reach after each call of its site, crashes then into each of three choices, and updates again.
 /// The answer is how many calls the update makes, and `same` if each second update is done and leaves the clean build.
-pub(crate) fn sweep(alloc: Global, project: &Project, said: &Words) -> Result<Words, RowFault> {
+pub(crate) fn sweep(alloc: Global, given: &Given, said: &Words) -> Result<Words, RowFault> {
     for calls in 0..CALLS {
-        match swept(alloc, project, said, calls)? {
+        match swept(alloc, given, said, calls)? {
             Outcome::Mended => {}
             Outcome::Done => return Ok(counted(alloc, calls, true)),
             Outcome::Other => return Ok(counted(alloc, calls, false)),
@@ -51,9 +51,9 @@ fn sameness(is_same: bool) -> &'static [u8] {
 }
 
 /// The same with each choice: the first that isn't mended.
-fn swept(alloc: Global, project: &Project, said: &Words, calls: u64) -> Result<Outcome, RowFault> {
+fn swept(alloc: Global, given: &Given, said: &Words, calls: u64) -> Result<Outcome, RowFault> {
     for choice in 0..3 {
-        let outcome = stopped(alloc, project, said, calls, choice)?;
+        let outcome = stopped(alloc, given, said, calls, choice)?;
         if outcome != Outcome::Mended {
             return Ok(outcome);
         }
@@ -64,13 +64,13 @@ fn swept(alloc: Global, project: &Project, said: &Words, calls: u64) -> Result<O
 /// Stops an update after so many calls of its site, crashes into a choice, and updates again.
 fn stopped(
     alloc: Global,
-    project: &Project,
+    given: &Given,
     said: &Words,
     calls: u64,
     choice: u32,
 ) -> Result<Outcome, RowFault> {
-    let parts = drained(alloc, board_of(alloc, project, said, calls)?);
-    came_of(alloc, parts, project.rules.as_slice(), choice)
+    let parts = drained(alloc, board_of(alloc, given, said, calls)?);
+    came_of(alloc, parts, given.project.rules.as_slice(), choice)
 }
 
 /// What a board is made of once all that can be run was run.
@@ -181,9 +181,9 @@ fn claims(alloc: Global, events: &[CoreEvent]) -> Words {
 
 /// An update of a reach; then somebody changes a file. The answer is what the next update runs, and `same` if it leaves the
 /// clean build.
-pub(crate) fn edited(alloc: Global, project: &Project, said: &Words) -> Result<Words, RowFault> {
-    let parts = drained(alloc, board_of(alloc, project, said, u64::MAX)?);
-    changed(alloc, site_in(parts), project.rules.as_slice(), said)
+pub(crate) fn edited(alloc: Global, given: &Given, said: &Words) -> Result<Words, RowFault> {
+    let parts = drained(alloc, board_of(alloc, given, said, u64::MAX)?);
+    changed(alloc, site_in(parts), given.project.rules.as_slice(), said)
 }
 
 /// Somebody changes the file that a row names: what the next update runs.
