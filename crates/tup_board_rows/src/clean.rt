@@ -19,8 +19,18 @@ pub(crate) fn is_clean(
     rules: &[Rule],
 ) -> Result<bool, RowFault> {
     let files = files_in(alloc, site)?;
-    let sources = sources_of(alloc, &files, rules)?;
-    Ok(clean_tree(alloc, rules, &sources)? == files)
+    are_clean(alloc, &files, rules)
+}
+
+fn are_clean(alloc: Global, files: &Files, rules: &[Rule]) -> Result<bool, RowFault> {
+    let sources = sources_of(alloc, files, rules)?;
+    are_left(alloc, files, &sources, rules)
+}
+
+fn are_left(alloc: Global, files: &Files, sources: &Files, rules: &[Rule]) -> Result<bool, RowFault>
+    requires { IsTrue (finite.is_sorted by_names sources.now) }
+{
+    Ok(clean_tree(alloc, rules, sources)? == *files)
 }
 
 /// The files of a site.
@@ -36,10 +46,14 @@ fn files_at(alloc: Global, site: &MemSite, paths: &[Path]) -> Result<Files, Allo
     let mut files = Items::new(alloc);
     for path in paths {
         if let Some(content) = site.file(path) {
-            files.push((path.clone()?, content.clone()?))?;
+            files.push(file_of(path, content)?)?;
         }
     }
     Ok(files)
+}
+
+fn file_of(path: &Path, content: &Bytes) -> Result<(Path, Bytes), AllocError> {
+    Ok((path.clone()?, content.clone()?))
 }
 
 /// The files that the clean build of some rules leaves over these sources.
@@ -70,7 +84,7 @@ fn unmade(alloc: Global, files: &Files, rules: &[Rule]) -> Result<Contents, Allo
     let mut contents = BTreeMap::new(alloc);
     for (path, content) in files.as_slice() {
         if !is_made(rules, path) {
-            put(&mut contents, path.clone()?, content.clone()?)?;
+            put(&mut contents, path, content)?;
         }
     }
     Ok(contents)
@@ -81,7 +95,14 @@ fn is_made(rules: &[Rule], path: &Path) -> bool {
 }
 
 /// Puts a file in the place of what stands there.
-fn put(contents: &mut Contents, path: Path, content: Bytes) -> Result<(), AllocError>
+fn put(contents: &mut Contents, path: &Path, content: &Bytes) -> Result<(), AllocError>
+    ensures { OnOk result (finite.is_sorted by_names contents.old.entries ≡ true
+        → finite.is_sorted by_names contents.new.entries ≡ true) }
+{
+    insert(contents, path.clone()?, content.clone()?)
+}
+
+fn insert(contents: &mut Contents, path: Path, content: Bytes) -> Result<(), AllocError>
     ensures { OnOk result (finite.is_sorted by_names contents.old.entries ≡ true
         → finite.is_sorted by_names contents.new.entries ≡ true) }
 {

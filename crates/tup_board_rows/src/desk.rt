@@ -41,7 +41,7 @@ pub(crate) fn seated(alloc: Global, site: Quiet, graph: Graph, plan: Plan) -> Re
     requires apart { AreApart plan graph.nodes }
 {
     match Board::new(alloc, site, graph, &plan) {
-        Ok(board) => Desk::new(alloc, board, plan),
+        Ok(board) => Desk::of(alloc, board, plan),
         Err(back) => {
             drop(back);
             drop(plan);
@@ -52,7 +52,7 @@ pub(crate) fn seated(alloc: Global, site: Quiet, graph: Graph, plan: Plan) -> Re
 
 impl Desk {
     /// Nobody was told anything yet.
-    fn new(alloc: Global, board: MemBoard, plan: Plan) -> Result<Desk, RowFault>
+    fn of(alloc: Global, board: MemBoard, plan: Plan) -> Result<Desk, RowFault>
         requires { plan ≡ plan_of board }
     {
         match untold(alloc) {

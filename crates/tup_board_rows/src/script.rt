@@ -10,6 +10,7 @@ use std::alloc::Global;
 use tup_board::BoardParts;
 use tup_core::CoreEvent;
 use tup_graph::Nodes;
+use tup_path::{Bytes, Path};
 use tup_rows::{RowFault, Words};
 use tup_site::MemSite;
 
@@ -144,10 +145,15 @@ fn add_flags(alloc: Global, words: &mut Words, nodes: &Nodes) {
 
 /// The files of a site, each with its content.
 fn files(alloc: Global, site: &mut MemSite) -> Result<Words, RowFault> {
+    let files = files_in(alloc, site)?;
+    Ok(shown_files(alloc, files.as_slice()))
+}
+
+fn shown_files(alloc: Global, files: &[(Path, Bytes)]) -> Words {
     let mut words = Words::new(alloc);
-    for (path, content) in files_in(alloc, site)?.as_slice() {
+    for (path, content) in files {
         words.show(alloc, path);
         words.put(alloc, content.as_slice());
     }
-    Ok(words)
+    words
 }

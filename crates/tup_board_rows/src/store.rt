@@ -3,9 +3,9 @@ ghost use Rattle.std.specs.Prelude.{IsTrue};
 ghost use Rattle.tup_table.specs.Table.{is_fresh};
 
 use crate::quiet::Quiet;
-use std::alloc::{AllocError, Global};
+use std::alloc::Global;
 use tup_given::Project;
-use tup_path::{Bytes, Items, Path};
+use tup_path::{Items, Path};
 use tup_record::{OwnedState, Record, encode};
 use tup_rows::RowFault;
 use tup_rule::Rule;
@@ -19,18 +19,10 @@ pub(crate) fn site_of(
     project: &Project,
     flagged: &[u32],
 ) -> Result<Quiet, RowFault> {
-    match MemSite::new(alloc, copies(alloc, project)?, Vec::new(alloc)) {
+    match MemSite::new(alloc, project.sources.clone()?.into_vec(), Vec::new(alloc)) {
         Ok(site) => with_store(alloc, Quiet::new(site), project.rules.as_slice(), flagged),
         Err(_) => Err(RowFault::OtherKind),
     }
-}
-
-fn copies(alloc: Global, project: &Project) -> Result<Vec<(Path, Bytes)>, AllocError> {
-    let mut files = Vec::new(alloc);
-    for (path, content) in project.sources.as_slice() {
-        files.push((path.clone()?, content.clone()?))?;
-    }
-    Ok(files)
 }
 
 /// A site with a store of these rules.
@@ -55,9 +47,19 @@ fn write_store(
     rules: &[Rule],
     flagged: &[u32],
 ) -> Result<(), RowFault> {
-    let changes = changes_of(alloc, rules, flagged)?;
+    match changes_of(alloc, rules, flagged) {
+        Ok(changes) => {
+            let done = make_store(alloc, site, changes.as_slice());
+            drop(changes);
+            done
+        }
+        Err(fault) => Err(fault),
+    }
+}
+
+fn make_store(alloc: Global, site: &mut Quiet, changes: &[Change]) -> Result<(), RowFault> {
     match Table::make(alloc, site) {
-        Ok(table) => commit(alloc, site, table, changes.as_slice()),
+        Ok(table) => commit(alloc, site, table, changes),
         Err(_) => Err(RowFault::OtherKind),
     }
 }
@@ -160,7 +162,9 @@ fn put_flags(alloc: Global, changes: &mut Items<Change>, flagged: &[u32]) -> Res
 }
 
 fn put(alloc: Global, changes: &mut Items<Change>, record: Record) -> Result<(), RowFault> {
-    match encode(alloc, &record) {
+    let spelled = encode(alloc, &record);
+    drop(record);
+    match spelled {
         Ok((key, value)) => Ok(changes.push(Change::Put { key, value })?),
         Err(_) => Err(RowFault::OtherKind),
     }
