@@ -8,7 +8,9 @@ ghost use Rattle.tup_course.specs.Course.{GoesOn, RunsRule, WasDenied};
 use crate::order::Order;
 use crate::quiet::Quiet;
 use crate::seat::{is_over_asks, may_run, performed, rule_of};
-use crate::shown::{asked_words, claimed_words, drained_words, fault_words, verdict_words};
+use crate::shown::{
+    asked_words, claimed_words, drained_words, ended_words, fault_words, verdict_words,
+};
 use std::alloc::{AllocError, Global};
 use tup_board::{Asked, Board, BoardParts, Claimed, Drained};
 use tup_core::{Cause, Plan};
@@ -87,8 +89,8 @@ impl Desk {
             "work" => self.work(alloc, seat, STEPS),
             "all" => self.all(alloc, seat),
             "drain" => self.show_drain(alloc),
-            "ask" => self.ask_often(alloc, seat, &order.text(alloc), 1),
-            "asks" => self.ask_often(alloc, seat, &order.text(alloc), order.number(3)),
+            "ask" => self.ask_for(alloc, seat, order, 1),
+            "asks" => self.ask_for(alloc, seat, order, order.number(3)),
             "denied" => self.end_denied(alloc, seat),
             "stop" => self.stop(alloc, seat, order.word(2)),
             _ => Err(RowFault::NoSuchCall),
@@ -149,7 +151,11 @@ impl Desk {
         requires { GoesOn (course_of self.old.board) seat }
     {
         match self.report(alloc, seat) {
-            Ok(report) => self.finish(alloc, seat, &report),
+            Ok(report) => {
+                let done = self.finish(alloc, seat, &report);
+                drop(report);
+                done
+            }
             Err(RunFailed::Denied) => self.ask_next(alloc, seat),
             Err(_) => Err(RowFault::Memory),
         }
@@ -184,10 +190,10 @@ impl Desk {
         if !is_over_asks(alloc, &self.board, seat, report)? {
             return Err(RowFault::OtherKind);
         }
-        Ok(match self.board.finish(alloc, &self.plan, seat, report) {
-            Ok(verdict) => verdict_words(alloc, &verdict),
-            Err(fault) => fault_words(alloc, fault),
-        })
+        let ended = self.board.finish(alloc, &self.plan, seat, report);
+        let words = ended_words(alloc, &ended);
+        drop(ended);
+        Ok(words)
     }
 
     /// The command of a seat asks for the text that its view has refused.
@@ -195,7 +201,11 @@ impl Desk {
         requires { GoesOn (course_of self.old.board) seat }
     {
         match self.refused(seat) {
-            Some(text) => self.ask(alloc, seat, &text),
+            Some(text) => {
+                let told = self.ask(alloc, seat, &text);
+                drop(text);
+                told
+            }
             None => Err(RowFault::OtherKind),
         }
     }
@@ -206,7 +216,20 @@ impl Desk {
         self.told.get_mut(seat as usize)?.take_denied()
     }
 
-    /// The command of a seat asks for a text so often: the last answer.
+    /// The command of a seat asks for the text of an order so often: the last answer.
+    fn ask_for(
+        &mut self,
+        alloc: Global,
+        seat: u32,
+        order: &Order<'_>,
+        times: u32,
+    ) -> Result<Words, RowFault> {
+        let text = order.text(alloc);
+        let last = self.ask_often(alloc, seat, &text, times);
+        drop(text);
+        last
+    }
+
     fn ask_often(
         &mut self,
         alloc: Global,
@@ -229,7 +252,7 @@ impl Desk {
         requires { GoesOn (course_of self.old.board) seat }
     {
         match self.board.ask(alloc, &self.plan, seat, text) {
-            Ok(asked) => self.tell(alloc, seat, text, &asked),
+            Ok(asked) => self.tell(alloc, seat, text, asked),
             Err(fault) => Ok(fault_words(alloc, fault)),
         }
     }
@@ -240,12 +263,23 @@ impl Desk {
         alloc: Global,
         seat: u32,
         text: &Text,
-        asked: &Asked,
+        asked: Asked,
     ) -> Result<Words, RowFault> {
-        if let Some(told) = self.told.get_mut(seat as usize) {
-            note(told, text, asked)?;
+        let noted = self.note(seat, text, &asked);
+        let words = asked_words(alloc, &asked);
+        drop(asked);
+        match noted {
+            Ok(()) => Ok(words),
+            Err(_) => Err(RowFault::Memory),
         }
-        Ok(asked_words(alloc, asked))
+    }
+
+    /// It is to be told that again when it begins anew.
+    fn note(&mut self, seat: u32, text: &Text, asked: &Asked) -> Result<(), AllocError> {
+        match self.told.get_mut(seat as usize) {
+            Some(told) => note(told, text, asked),
+            None => Ok(()),
+        }
     }
 
     /// Ends the command of a seat that was denied an ask.
@@ -312,7 +346,7 @@ fn untold(alloc: Global) -> Result<Vec<Replies>, AllocError> {
     Ok(told)
 }
 
-/// A command is to be told this again, if it was told anything.
+/// Notes what a text was answered, if it was.
 fn note(told: &mut Replies, text: &Text, asked: &Asked) -> Result<(), AllocError> {
     match asked {
         Asked::Content(content) => add(told, text, Answer::Content(content.clone()?)),

@@ -29,6 +29,14 @@ pub(crate) fn verdict_words(alloc: Global, verdict: &Verdict) -> Words {
     words
 }
 
+/// What came of the end of a command.
+pub(crate) fn ended_words(alloc: Global, ended: &Result<Verdict, BoardFault>) -> Words {
+    match ended {
+        Ok(verdict) => verdict_words(alloc, verdict),
+        Err(fault) => fault_words(alloc, *fault),
+    }
+}
+
 /// How an update ended: `done`, or why not.
 pub(crate) fn drained_words(alloc: Global, drained: Drained) -> Words {
     match drained {
