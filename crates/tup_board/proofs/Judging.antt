@@ -1,5 +1,5 @@
 -- The end of a command: one that isn't Good, one for which there was no memory, and the record of one that is Good.
-use Rattle.std.proofs.Common.{◌≡◌, ◌≢◌, ℕ, List, [], ◌∷◌, ◌++◌, map, Option, None, Err, refl, sym, ap, ◌∙◌, subst, inl, arith}
+use Rattle.std.proofs.Common.{◌≡◌, ◌≢◌, ℕ, List, [], ◌∷◌, ◌++◌, map, Option, None, Err, refl, sym, ap, ◌∙◌, subst, inl, inr, arith}
 use Rattle.std.specs.Prelude.{IsTrue}
 use Rattle.tup_path.specs.Name.{Names, Content}
 use Rattle.tup_stamp.specs.declared.Stamp.{Stamp}
@@ -85,6 +85,7 @@ module _ {S R : Type 0} (site : Site S) (runner : Runner R) (b : BoardState S) (
             now = inl (inl refl, refl);
             crash = at_rest site.moment site.left_since b.site _;
           };
+      idle = λ commit some is. (refl, inr refl);
     };
     known = λ told content had. had;
     cause = record { later = omega arith; site = λ e. cc; steady = λ _. refl };
