@@ -18,7 +18,7 @@ struct PathRows;
 impl Answers for PathRows {
     fn answer(&mut self, alloc: Global, call: &str, said: &Words) -> Result<Words, RowFault> {
         Ok(match call {
-            "from_top" => place(alloc, &Path::from_top(alloc, said.str_at(0))),
+            "from_top" => Words::given(alloc, &Path::from_top(alloc, said.str_at(0))),
             "resolve" => resolve(alloc, said),
             "join" => join(alloc, said),
             "long" => long(alloc, said),
@@ -45,14 +45,6 @@ fn more(alloc: Global, call: &str, said: &Words) -> Words {
     }
 }
 
-/// A path that was found, as it is written, or why it wasn't.
-fn place(alloc: Global, found: &Result<Path, PathFault>) -> Words {
-    match found {
-        Ok(path) => Words::shown(alloc, path),
-        Err(fault) => Words::refusal(alloc, fault),
-    }
-}
-
 /// How many names a path has that was found.
 fn depth(alloc: Global, found: &Result<Path, PathFault>) -> Words {
     match found {
@@ -61,17 +53,9 @@ fn depth(alloc: Global, found: &Result<Path, PathFault>) -> Words {
     }
 }
 
-/// How a path is written, or why it isn't.
-fn way(alloc: Global, text: &Result<Text, PathFault>) -> Words {
-    match text {
-        Ok(text) => Words::shown(alloc, text),
-        Err(fault) => Words::refusal(alloc, fault),
-    }
-}
-
 fn resolve(alloc: Global, said: &Words) -> Words {
     let folder = said.path_at(alloc, 0);
-    place(
+    Words::given(
         alloc,
         &Path::resolve(alloc, &folder, &said.text_at(alloc, 1)),
     )
@@ -79,7 +63,7 @@ fn resolve(alloc: Global, said: &Words) -> Words {
 
 fn join(alloc: Global, said: &Words) -> Words {
     let folder = said.path_at(alloc, 0);
-    place(alloc, &folder.join(alloc, &said.text_at(alloc, 1)))
+    Words::given(alloc, &folder.join(alloc, &said.text_at(alloc, 1)))
 }
 
 fn long(alloc: Global, said: &Words) -> Words {
@@ -97,12 +81,12 @@ fn join_long(alloc: Global, said: &Words) -> Words {
 }
 
 fn show(alloc: Global, said: &Words) -> Words {
-    way(alloc, &said.path_at(alloc, 0).show(alloc))
+    Words::given(alloc, &said.path_at(alloc, 0).show(alloc))
 }
 
 fn show_from(alloc: Global, said: &Words) -> Words {
     let folder = said.path_at(alloc, 0);
-    way(alloc, &said.path_at(alloc, 1).show_from(alloc, &folder))
+    Words::given(alloc, &said.path_at(alloc, 1).show_from(alloc, &folder))
 }
 
 fn parent(alloc: Global, said: &Words) -> Words {
@@ -129,7 +113,7 @@ fn names(alloc: Global, said: &Words) -> Words {
 }
 
 fn copy(alloc: Global, said: &Words) -> Words {
-    place(alloc, &said.path_at(alloc, 0).copy(alloc))
+    Words::given(alloc, &said.path_at(alloc, 0).copy(alloc))
 }
 
 fn compare(alloc: Global, said: &Words) -> Words {
@@ -162,11 +146,7 @@ fn same_paths(alloc: Global, paths: &Paths, copy: &Paths) -> Words {
     if copy != paths || copy.len() != paths.len() {
         return Words::word(alloc, b"differs");
     }
-    let mut words = Words::new(alloc);
-    for path in copy.as_slice() {
-        words.show(alloc, path);
-    }
-    words
+    Words::all(alloc, copy.as_slice())
 }
 
 fn text(alloc: Global, said: &Words) -> Words {

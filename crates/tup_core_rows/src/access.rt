@@ -1,4 +1,5 @@
 //! The calls of `access.rows`.
+use crate::answer::verdict_word;
 use crate::values::{path, paths, text};
 use std::alloc::Global;
 use std::collections::BTreeSet;
@@ -139,7 +140,7 @@ fn status(said: &Words) -> u8 {
 
 /// A verdict as its name and what it speaks of.
 fn told(alloc: Global, verdict: &Verdict) -> Words {
-    let mut words = Words::word(alloc, name(verdict).as_bytes());
+    let mut words = Words::word(alloc, verdict_word(verdict));
     match verdict {
         Verdict::Good | Verdict::TooManyReads => {}
         Verdict::Failed(status) => words.show(alloc, status),
@@ -147,16 +148,4 @@ fn told(alloc: Global, verdict: &Verdict) -> Words {
         Verdict::Unwritten(path) => words.show(alloc, path),
     }
     words
-}
-
-/// What a verdict is called.
-pub(crate) fn name(verdict: &Verdict) -> &'static str {
-    match verdict {
-        Verdict::Good => "good",
-        Verdict::Failed(_) => "failed",
-        Verdict::IllegalRead(_) => "read",
-        Verdict::IllegalWrite(_) => "write",
-        Verdict::Unwritten(_) => "unwritten",
-        Verdict::TooManyReads => "asks",
-    }
 }

@@ -3,7 +3,8 @@ ghost use Rattle.std.specs.Prelude.{◌<◌, ◌+◌, ◌^◌, IsTrue, IfOk};
 ghost use Rattle.std.specs.FinMap as finite;
 ghost use Rattle.tup_path.specs.Order.{by_names};
 
-use crate::access::{add_files, name};
+use crate::access::add_files;
+use crate::answer::verdict_word;
 use crate::broken::Broken;
 use crate::values::{content, path};
 use std::alloc::Global;
@@ -94,7 +95,7 @@ fn left(alloc: Global, cleaned: &Cleaned) -> Words {
         words.put(
             alloc,
             match verdict {
-                Some(verdict) => name(verdict).as_bytes(),
+                Some(verdict) => verdict_word(verdict),
                 None => b"-",
             },
         );

@@ -1,7 +1,7 @@
 //! The calls of `rule.rows` on readings: what is kept of an answer, and the copy of what a reading left.
 use std::alloc::Global;
-use tup_path::{Bytes, Items, Path, Text};
-use tup_rows::{RowFault, Words};
+use tup_path::{Bytes, Items, Path};
+use tup_rows::{RowFault, Words, set};
 use tup_rule::{Draft, GroupRef, Kind, Noted, Piece, Question, Reading, Told};
 use tup_stamp::hex;
 
@@ -73,19 +73,11 @@ fn note(alloc: Global, noted: &Noted) -> Words {
         Noted::Content(Some(stamp)) => Words::word(alloc, &hex(stamp)),
         Noted::Config(Some(value)) => Words::shown(alloc, value),
         Noted::Content(None) | Noted::Config(None) => Words::word(alloc, b"none"),
-        Noted::Names(names) => listed(alloc, names),
+        Noted::Names(names) => Words::all(alloc, names.as_slice()),
         Noted::Kind(Kind::Nothing) => Words::word(alloc, b"nothing"),
         Noted::Kind(Kind::File) => Words::word(alloc, b"file"),
         Noted::Kind(Kind::Dir) => Words::word(alloc, b"dir"),
     }
-}
-
-fn listed(alloc: Global, texts: &Items<Text>) -> Words {
-    let mut words = Words::new(alloc);
-    for text in texts.as_slice() {
-        words.show(alloc, text);
-    }
-    words
 }
 
 /// A copy of the reading that left a draft with these pieces, and asked whether its file stands.
@@ -124,7 +116,7 @@ fn same_reading(alloc: Global, reading: &Reading, copy: &Reading) -> Words {
 /// A draft of a file, at a line, whose command is a text and then the members of a group.
 fn draft(alloc: Global, said: &Words) -> Draft {
     let mut draft = empty(alloc, said.path_at(alloc, 0));
-    draft.line = line(said);
+    draft.line = said.small_at(1);
     said.list(&mut draft.pieces, Piece::Text(said.text_at(alloc, 2)));
     said.list(&mut draft.pieces, Piece::Group(0));
     give(alloc, &mut draft, said);
@@ -146,24 +138,14 @@ fn empty(alloc: Global, file: Path) -> Draft {
     }
 }
 
-fn line(said: &Words) -> u32 {
-    match u32::try_from(said.number_at(1)) {
-        Ok(line) => line,
-        Err(_) => {
-            said.fail(RowFault::OtherKind);
-            0
-        }
-    }
-}
-
 /// Has a draft show what it runs, take from a group and give to it.
 fn give(alloc: Global, draft: &mut Draft, said: &Words) {
     match draft.pieces.clone() {
-        Ok(pieces) => draft.display = Some(pieces),
+        Ok(pieces) => set(&mut draft.display, Some(pieces)),
         Err(_) => said.fail(RowFault::Memory),
     }
     said.list(&mut draft.groups, group(alloc, said));
-    draft.gives = Some(group(alloc, said));
+    set(&mut draft.gives, Some(group(alloc, said)));
 }
 
 fn group(alloc: Global, said: &Words) -> GroupRef {

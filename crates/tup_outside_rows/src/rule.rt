@@ -4,11 +4,11 @@ use std::alloc::Global;
 use std::fs::Files;
 use std::io;
 use tup_path::{Items, Path, Text};
-use tup_rows::{Answers, RowFault, Words, try_file};
+use tup_rows::{Answers, RowFault, Words, set, try_file_by};
 use tup_rule::Rule;
 
 pub(crate) fn try_rows<R: Files + Print>(rt: &R, alloc: Global) -> io::Result<()> {
-    try_file(rt, alloc, "rule.rows", &mut RuleRows::new(alloc))
+    try_file_by(rt, alloc, "rule.rows", RuleRows::new(alloc))
 }
 
 /// What the rows above have left.
@@ -29,11 +29,7 @@ impl Answers for RuleRows {
             "label" => self.label(alloc),
             "keep" => self.keep(alloc),
             "same" => Words::yes_or_no(alloc, self.rule.same(&self.other)),
-            "rule" | "dir" | "command" | "display" | "compare" | "input" | "order" | "output" => {
-                self.change(alloc, call, said);
-                Words::done(alloc)
-            }
-            _ => reading::answer(alloc, call, said),
+            _ => self.change(alloc, call, said),
         })
     }
 }
@@ -46,23 +42,33 @@ impl RuleRows {
         }
     }
 
-    fn change(&mut self, alloc: Global, call: &str, said: &Words) {
+    /// Changes the rule, which has no words for an answer but `ok`.
+    fn change(&mut self, alloc: Global, call: &str, said: &Words) -> Words {
+        let rule = &mut self.rule;
         match call {
-            "rule" => self.begin(alloc, said),
-            "dir" => self.rule.dir = said.path_at(alloc, 0),
-            "command" => self.rule.text = said.text_at(alloc, 0),
-            "display" => self.rule.display = Some(said.text_at(alloc, 0)),
-            "compare" => self.rule.compare = true,
-            "input" => said.list(&mut self.rule.inputs, said.path_at(alloc, 0)),
-            "order" => said.list(&mut self.rule.order, said.path_at(alloc, 0)),
-            _ => said.list(&mut self.rule.outputs, said.path_at(alloc, 0)),
+            "rule" => set(
+                rule,
+                bare(alloc, said.path_at(alloc, 0), said.text_at(alloc, 1)),
+            ),
+            "dir" => set(&mut rule.dir, said.path_at(alloc, 0)),
+            "command" => set(&mut rule.text, said.text_at(alloc, 0)),
+            "display" => set(&mut rule.display, Some(said.text_at(alloc, 0))),
+            "compare" => rule.compare = true,
+            _ => return self.list(alloc, call, said),
         }
+        Words::done(alloc)
     }
 
-    fn begin(&mut self, alloc: Global, said: &Words) {
-        self.rule = empty(alloc);
-        self.rule.dir = said.path_at(alloc, 0);
-        self.rule.text = said.text_at(alloc, 1);
+    /// Adds a path to one of the rule's lists.
+    fn list(&mut self, alloc: Global, call: &str, said: &Words) -> Words {
+        let rule = &mut self.rule;
+        match call {
+            "input" => said.list(&mut rule.inputs, said.path_at(alloc, 0)),
+            "order" => said.list(&mut rule.order, said.path_at(alloc, 0)),
+            "output" => said.list(&mut rule.outputs, said.path_at(alloc, 0)),
+            _ => return reading::answer(alloc, call, said),
+        }
+        Words::done(alloc)
     }
 
     fn declares(&self, alloc: Global, said: &Words) -> Words {
@@ -76,7 +82,7 @@ impl RuleRows {
     fn keep(&mut self, alloc: Global) -> Words {
         match self.rule.clone() {
             Ok(rule) => {
-                self.other = rule;
+                set(&mut self.other, rule);
                 Words::done(alloc)
             }
             Err(_) => Words::none(alloc, RowFault::Memory),
@@ -100,9 +106,18 @@ impl RuleRows {
 
 /// The rule of the top that runs nothing, and declares and makes nothing.
 fn empty(alloc: Global) -> Rule {
+    bare(
+        alloc,
+        Path::top(alloc),
+        Text::from_string(String::new(alloc)),
+    )
+}
+
+/// A rule that declares and makes nothing.
+fn bare(alloc: Global, dir: Path, text: Text) -> Rule {
     Rule {
-        dir: Path::top(alloc),
-        text: Text::from_string(String::new(alloc)),
+        dir,
+        text,
         display: None,
         compare: false,
         inputs: Items::new(alloc),

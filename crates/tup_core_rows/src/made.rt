@@ -1,10 +1,10 @@
 //! Commands that are made of a number, and what they are answered.
-use crate::mini::{Replies, counted};
+use crate::mini::counted;
 use crate::values::{content, text};
 use std::alloc::Global;
 use tup_path::{Items, Text};
 use tup_rows::{RowFault, Words};
-use tup_runner::Answer;
+use tup_runner::{Answer, Asks};
 
 /// `cat` of so many files.
 pub(crate) fn asks(alloc: Global, said: &Words) -> Words {
@@ -48,7 +48,7 @@ pub(crate) fn itself(alloc: Global, said: &Words) -> Words {
     inclusion(alloc, said, alike(alloc, said, "#include \"a\"\n"))
 }
 
-fn inclusion(alloc: Global, said: &Words, replies: Replies) -> Words {
+fn inclusion(alloc: Global, said: &Words, replies: Asks) -> Words {
     let mut command = String::new(alloc);
     add(said, &mut command, "incl a b", 1);
     counted(alloc, &Text::from_string(command), replies)
@@ -81,7 +81,7 @@ fn add(said: &Words, command: &mut String, text: &str, count: u64) {
 }
 
 /// So many replies with the first file, which has this content.
-fn alike(alloc: Global, said: &Words, content: &str) -> Replies {
+fn alike(alloc: Global, said: &Words, content: &str) -> Asks {
     let mut replies = Items::new(alloc);
     for _ in 0..said.number_at(0) {
         reply(alloc, said, &mut replies, (0, content));
@@ -90,7 +90,7 @@ fn alike(alloc: Global, said: &Words, content: &str) -> Replies {
 }
 
 /// Adds the reply with the content of the file at a depth.
-fn reply(alloc: Global, said: &Words, replies: &mut Replies, (depth, line): (u64, &str)) {
+fn reply(alloc: Global, said: &Words, replies: &mut Asks, (depth, line): (u64, &str)) {
     match (file(alloc, depth), content(alloc, line.as_bytes())) {
         (Ok(name), Ok(content)) => said.list(replies, (name, Answer::Content(content))),
         _ => said.fail(RowFault::Memory),

@@ -1,17 +1,14 @@
 //! The calls of `mini.rows`.
 use crate::made::{asks, itself, nested, own, writes};
-use crate::script::Script;
 use crate::values::text;
 use std::alloc::Global;
 use std::fs::Files;
 use std::io;
+use tup_given::Replies;
 use tup_mini::Mini;
 use tup_path::{Bytes, Items, Path, Text};
 use tup_rows::{Answers, RowFault, Words, try_file};
-use tup_runner::{Answer, Ended, RunFailed, Runner};
-
-/// Texts and how each is answered.
-pub(crate) type Replies = Items<(Text, Answer)>;
+use tup_runner::{Answer, Asks, Ended, RunFailed, Runner};
 
 pub(crate) fn try_rows<R: Files + Print>(rt: &R, alloc: Global) -> io::Result<()> {
     try_file(rt, alloc, "mini.rows", &mut Commands)
@@ -40,10 +37,10 @@ impl Answers for Commands {
 /// A command in a folder, and then a text and its answer for each ask.
 fn run(alloc: Global, said: &Words) -> Words {
     let dir = said.path_at(alloc, 0);
-    ran(alloc, &dir, &said.text_at(alloc, 1), replies(alloc, said))
+    ran(alloc, &dir, &said.text_at(alloc, 1), asks_of(alloc, said))
 }
 
-fn replies(alloc: Global, said: &Words) -> Replies {
+fn asks_of(alloc: Global, said: &Words) -> Asks {
     let mut replies = Items::new(alloc);
     for pair in 1..said.len() / 2 {
         let asked = said.text_at(alloc, 2 * pair);
@@ -60,29 +57,25 @@ fn answer_at(alloc: Global, said: &Words, at: usize) -> Answer {
 }
 
 /// `asks` and the text that was denied, or `ends`, the status and what was written; and `unasked` where replies are left.
-fn ran(alloc: Global, dir: &Path, command: &Text, replies: Replies) -> Words {
-    let mut script = Script {
-        answers: replies.into_vec(),
-        asked: 0,
-        denied: None,
-    };
-    let mut words = match Mini::new(alloc).run(alloc, dir, command, &mut script) {
+fn ran(alloc: Global, dir: &Path, command: &Text, asks: Asks) -> Words {
+    let mut replies = Replies::new(asks);
+    let mut words = match Mini::new(alloc).run(alloc, dir, command, &mut replies) {
         Ok(ended) => end(alloc, &ended),
-        Err(fault) => denied(alloc, fault, &script),
+        Err(fault) => denied(alloc, fault, &mut replies),
     };
-    if script.asked < script.answers.len() {
+    if replies.asked() < replies.len() {
         words.put(alloc, b"unasked");
     }
     words
 }
 
-fn denied(alloc: Global, fault: RunFailed, script: &Script) -> Words {
+fn denied(alloc: Global, fault: RunFailed, replies: &mut Replies) -> Words {
     if matches!(&fault, RunFailed::Memory) {
         return Words::none(alloc, RowFault::Memory);
     }
     let mut words = Words::word(alloc, b"asks");
-    if let Some(denied) = &script.denied {
-        words.show(alloc, denied);
+    if let Some(denied) = replies.take_denied() {
+        words.show(alloc, &denied);
     }
     words
 }
@@ -127,15 +120,11 @@ fn sized(alloc: Global, said: &Words) -> Words {
 }
 
 /// The status of a command at the top, how often it asked and how much it wrote.
-pub(crate) fn counted(alloc: Global, command: &Text, replies: Replies) -> Words {
-    let mut script = Script {
-        answers: replies.into_vec(),
-        asked: 0,
-        denied: None,
-    };
-    match Mini::new(alloc).run(alloc, &Path::top(alloc), command, &mut script) {
-        Ok(ended) => counts(alloc, &ended, script.asked),
-        Err(fault) => denied(alloc, fault, &script),
+pub(crate) fn counted(alloc: Global, command: &Text, asks: Asks) -> Words {
+    let mut replies = Replies::new(asks);
+    match Mini::new(alloc).run(alloc, &Path::top(alloc), command, &mut replies) {
+        Ok(ended) => counts(alloc, &ended, replies.asked()),
+        Err(fault) => denied(alloc, fault, &mut replies),
     }
 }
 
