@@ -126,17 +126,10 @@ fn tested(alloc: Global, graph: &Graph, keep_going: bool) -> Result<Plan, RowFau
     ensures apart { IfOk result (λ plan. AreApart plan graph.now.nodes) }
 {
     let plan = plan_in(alloc, graph, keep_going)?;
-    match are_apart(alloc, &plan, graph.nodes()) {
-        Ok(true) => Ok(plan),
-        Ok(false) => {
-            drop(plan);
-            Err(RowFault::OtherKind)
-        }
-        Err(_) => {
-            drop(plan);
-            Err(RowFault::Memory)
-        }
+    if !are_apart(alloc, &plan, graph.nodes())? {
+        return Err(RowFault::OtherKind);
     }
+    Ok(plan)
 }
 
 /// The plan that runs the flagged rules of a graph.
