@@ -3,7 +3,7 @@ use Rattle.std.specs.Prelude.{◌↔◌, All, Contains}
 use Rattle.tup_graph.specs.Graph.{GraphState, is_flagged}
 use Rattle.tup_partial.specs.Plan.{IsToRun}
 use Rattle.tup_board_rows.proofs.Openings.{plan_is}
-use Rattle.tup_board_rows.proofs.opening.planned.Goals as goal
+use Rattle.tup_board_rows.proofs.opening.plan_in.Goals as goal
 
 pub returns-in-Ok : goal.returns-in-Ok
 returns-in-Ok c =

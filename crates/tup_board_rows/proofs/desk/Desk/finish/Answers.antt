@@ -1,5 +1,5 @@
 use Rattle.std.proofs.lemmas.Bool.{false≢true}
-use Rattle.tup_board_rows.proofs.seat.finish.Goals as goal
+use Rattle.tup_board_rows.proofs.desk.Desk.finish.Goals as goal
 
 pub finish-requires-clause-report : goal.finish-requires-clause-report
 finish-requires-clause-report c κs = record {
