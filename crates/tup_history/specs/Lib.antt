@@ -2,3 +2,4 @@ pub mod Deed
 pub mod Chain
 pub mod Run
 pub mod History
+pub mod Stays
