@@ -12,6 +12,7 @@ use Rattle.tup_above.specs.declared.walk.Walk.{Walk}
 abbrev pub IsReached : Walk → ℕ → Type 0
 IsReached walk number = contains nat_cmp walk.reached number ≡ true
 
+-- a walk has yet to look who reads what a rule makes
 abbrev pub IsWaiting : Walk → ℕ → Type 0
 IsWaiting walk number = Contains walk.waiting.items number
 

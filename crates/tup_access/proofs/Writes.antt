@@ -1,7 +1,7 @@
 -- The loops over writes and outputs: one more write, and the first element that passes a test.
 use Rattle.std.proofs.Common.{◌≡◌, ℕ, zero, suc, ◌+◌, ◌<◌, Bool, true, false, cond, not, ◌||◌, if◌then◌else◌, List, [], ◌∷◌, ◌++◌, length, take, get_or, map, Option, None, Some, Result, Ok, Err, Bor, ◌⊎◌, inl, inr, refl, sym, ap, ◌∙◌, arith}
 use Rattle.std.specs.List.{find}
-use Rattle.std.specs.Option.{is_some, unwrap_or}
+use Rattle.std.specs.Option.{is_none, is_some, unwrap_or}
 use Rattle.std.specs.Result.{result_ok}
 use Rattle.std.specs.BTreeMap.{get, is_at}
 use Rattle.std.proofs.lemmas.Bool.{cases_Bool, or_left, or_right, true≢false}
@@ -15,9 +15,11 @@ use Rattle.tup_path.specs.Resolve.{resolve}
 use Rattle.tup_rule.specs.declared.rule.Rule.{Rule}
 use Rattle.tup_rule.specs.Rule.{among, writes}
 use Rattle.tup_access.specs.declared.refusal.Refusal.{Refusal}
-use Rattle.tup_access.specs.Judge.{last_written, names_path, names_output, foreign_write}
+use Rattle.tup_access.specs.declared.refusal.Refusal.TheVariants.{Bad, Memory}
+use Rattle.tup_access.specs.declared.verdict.Verdict.TheVariants.{Unwritten}
+use Rattle.tup_access.specs.Judge.{last_written, names_path, names_output, foreign_write, unwritten}
 use Rattle.tup_access.specs.Written.{LastWrites, content_in, HasOutputs, HasLast, AreAllOwn, IsOutputOf}
-use Rattle.tup_access.specs.Refusal.{RefusesWrite, RefusesText}
+use Rattle.tup_access.specs.Refusal.{RefusesWrite, RefusesText, RefusesOutput}
 
 -- ---- the first that passes a test
 
@@ -156,6 +158,16 @@ content_at rule written last i path has less here = has.contents path (one_of ru
     one_of [] i path less here = absurd (omega arith)
     one_of (p ∷ paths) zero path less here = or_left _ _ ((same_path-decides path p).1 here)
     one_of (p ∷ paths) (suc i) path less here = or_right _ _ (one_of paths i path (omega arith) here)
+
+pub output_refused : (rule : Rule) (written : List (List ℕ × Content)) (i : ℕ) (path : Names) (refusal : Refusal) (last : Option Content) → last ≡ last_written rule path written → find (λ (p : Names). is_none (last_written rule p written)) (take i rule.outputs) ≡ None → i < length rule.outputs → path ≡ get_or rule.outputs i path
+    → (refusal ≡ Memory) ⊎ ((last ≡ None) × (refusal ≡ Bad (Unwritten path))) → RefusesOutput (unwritten rule written) refusal
+output_refused rule written i path refusal last is none less here (inl memory) = rw memory tt
+output_refused rule written i path refusal last is none less here (inr missing) =
+    rw missing.1 (path, find-first (λ (p : Names). is_none (last_written rule p written)) rule.outputs i path none less here (ap is_none (sym is ∙ missing.0)), refl)
+
+pub output_there : (rule : Rule) (written : List (List ℕ × Content)) (i : ℕ) (path : Names) (content : Content) → last_written rule path written ≡ Some content → find (λ (p : Names). is_none (last_written rule p written)) (take i rule.outputs) ≡ None
+    → i < length rule.outputs → path ≡ get_or rule.outputs i path → find (λ (p : Names). is_none (last_written rule p written)) (take (i + 1) rule.outputs) ≡ None
+output_there rule written i path content is none less here = find_more (λ (p : Names). is_none (last_written rule p written)) rule.outputs i path none less here (rw is refl)
 
 pub files_more : (rule : Rule) (written : List (List ℕ × Content)) (i : ℕ) (path : Names) (file : Names × Content) → file.0 ≡ path → last_written rule path written ≡ Some file.1 → i < length rule.outputs → path ≡ get_or rule.outputs i path
     → map (λ (p : Names). (p, unwrap_or (last_written rule p written) [])) (take i rule.outputs) ++ file ∷ [] ≡ map (λ (p : Names). (p, unwrap_or (last_written rule p written) [])) (take (i + 1) rule.outputs)

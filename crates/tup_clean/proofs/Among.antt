@@ -6,7 +6,7 @@ use Rattle.tup_path.specs.Name.{Names}
 use Rattle.tup_path.specs.Order.{same_path}
 use Rattle.tup_rule.specs.declared.rule.Rule.{Rule}
 use Rattle.tup_path.proofs.Same.{same_path-decides}
-use Rattle.tup_rule.proofs.Laws.{among-decides, is_generated-at, maker-Some}
+use Rattle.tup_rule.proofs.Laws.{among-decides, maker-Some}
 use Rattle.tup_rule.specs.Rule.{among, writes, maker, is_generated}
 use Rattle.tup_clean.specs.Buildable.{IsOutputAt}
 use Rattle.tup_clean.proofs.Places.{position_any}
@@ -36,12 +36,6 @@ all_among test (path ∷ paths) each =
 
 pub IsOutputAt-writes : (rules : List Rule) (at : ℕ) (rule : Rule) (path : Names) → slice_get rules at ≡ Some rule → writes rule path ≡ true → IsOutputAt rules at path
 IsOutputAt-writes rules at rule path here made = (rule, here, Contains-among path rule.outputs made)
-
-pub writes-IsOutputAt : (rules : List Rule) (at : ℕ) (path : Names) (output : IsOutputAt rules at path) → writes output.0 path ≡ true
-writes-IsOutputAt rules at path output = among-Contains path output.0.outputs output.2
-
-pub is_generated-IsOutputAt : (rules : List Rule) (at : ℕ) (path : Names) → IsOutputAt rules at path → is_generated rules path ≡ true
-is_generated-IsOutputAt rules at path output = is_generated-at rules path at output.0 output.1 (writes-IsOutputAt rules at path output)
 
 pub maker-IsOutputAt : (rules : List Rule) (at : ℕ) (path : Names) → maker path rules ≡ Some at → IsOutputAt rules at path
 maker-IsOutputAt rules at path made =

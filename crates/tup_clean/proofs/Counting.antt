@@ -56,10 +56,6 @@ pub waits_for-none : (list : List ℕ) → waits_for (λ at. false) list ≡ len
 waits_for-none [] = refl
 waits_for-none (at ∷ list) = let rest = waits_for-none list in omega (arith, rest)
 
-pub waits_for-same : (good other : ℕ → Bool) → ((at : ℕ) → good at ≡ other at) → (list : List ℕ) → waits_for good list ≡ waits_for other list
-waits_for-same good other same [] = refl
-waits_for-same good other same (at ∷ list) = λ k. (if same at k then 0 else 1) + waits_for-same good other same list k
-
 -- once one more is Good, they are less by as many as it stands for
 pub waits_for-good : (good : ℕ → Bool) (at : ℕ) (list : List ℕ) → good at ≡ false → waits_for good list ≡ waits_for (λ k. good k || k == at) list + count_of at list
 waits_for-good good at [] bad = refl

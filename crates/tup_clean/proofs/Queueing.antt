@@ -1,6 +1,6 @@
 -- How a queue of rules goes on: it is filled, the first ready rule is taken, and the readers of a Good one are released.
 use Rattle.std.proofs.Common.{◌≡◌, ℕ, zero, suc, ◌+◌, ◌-◌, ◌<◌, ◌≤◌, ◌==◌, nat_lt, Bool, true, false, ◌&&◌, ◌||◌, cond, if◌then◌else◌, List, [], ◌∷◌, ◌++◌, length, take, get_or, Option, None, Some, refl, sym, ap, ◌∙◌, subst, inl, inr, ◌⊎◌, arith}
-use Rattle.std.proofs.lemmas.Bool.{cases_Bool, cases_eq, eq-eqb, ne_eqb, eqb-true, le-ltb, lt-ltb, and_parts, and_from, and_left, or_right, false_from_ne_true, true≢false, false≢true}
+use Rattle.std.proofs.lemmas.Bool.{cases_eq, eq-eqb, ne_eqb, le-ltb, lt-ltb, and_from, and_left, or_right, false≢true}
 use Rattle.std.proofs.lemmas.Option.{same_Some, none-some, slice_get_within, slice_get_past, get_or_from_slice_get}
 use Rattle.std.specs.List.{slice_get, slice_set}
 use Rattle.std.specs.BTreeMap.{is_at}
@@ -8,9 +8,10 @@ use Rattle.std.specs.BTreeSet.{BTreeSet, contains}
 use Rattle.std.specs.Ordering.{nat_cmp}
 use Rattle.tup_rule.specs.declared.rule.Rule.{Rule}
 use Rattle.tup_clean.specs.declared.queue.Queue.{Queue}
-use Rattle.tup_clean.specs.Makers.{MakerMap, HasMakers, producers, producers_in}
-use Rattle.tup_clean.specs.Queue.{count_of, waits_for, waits_for_none, IsQueue, is_ready, IsNext, AreWaiting, CanRelease, IsReleased, IsFilled, AreBelow, IsNoted}
-use Rattle.tup_clean.proofs.Making.{producers_in-is, producers-below}
+use Rattle.tup_makers.specs.Makers.{MakerMap, HasMakers, producers, producers_in}
+use Rattle.tup_clean.specs.Queue.{count_of, waits_for, waits_for_none, IsQueue, is_ready, AreWaiting, CanRelease, IsReleased, IsFilled, AreBelow, IsNoted}
+use Rattle.tup_makers.proofs.Making.{producers_in-is}
+use Rattle.tup_clean.proofs.Making.{producers-below}
 use Rattle.tup_clean.proofs.Places.{set_here, set_apart}
 use Rattle.tup_clean.proofs.Counting.{at_number, one_if-same, one_if-other, count_of-push, count_of-take, count_of-take-le, waits_for-none, waits_for-good, waits_for-count}
 
@@ -35,16 +36,6 @@ none_past : (waits : List ℕ) (at : ℕ) → slice_get waits at ≡ None → wa
 none_past waits at past = rw (past, waits_for_none) refl
 
 -- ---- release
-
-pub released_start : (waits : List ℕ) (ready : BTreeSet ℕ) → IsReleased [] waits waits ready ready
-released_start waits ready = record {
-  waits = λ at n here. here ∙ ap Some (same n);
-  beyond = λ at past. past;
-  ready = λ at. sym (or_none _);
-}
-  where
-    same : (n : ℕ) → n ≡ n - 0
-    same n = omega arith
 
 -- the next reader waits for some
 pub record IsStill (waits : List ℕ) (r : ℕ) : Type 0 where
@@ -224,50 +215,7 @@ ready_is rules left good queue is at =
       | inr past ↦ is.ready at ∙ ap (λ b. left at && b) (none_past queue.waits.items at (is.beyond at past)) ∙ and_none (left at) ∙ sym (rw (past, is_ready) refl)
     ]
 
-pub next_none : (rules : List Rule) (left good : ℕ → Bool) (queue after : Queue) → IsQueue rules left good queue → ((at : ℕ) → contains nat_cmp queue.ready at ≡ false) → IsNext rules left good None after
-next_none rules left good queue after is empty = λ at. sym (ready_is rules left good queue is at) ∙ empty at
-
-pub next_some : (rules : List Rule) (left good : ℕ → Bool) (queue after : Queue) (at : ℕ) → IsQueue rules left good queue → contains nat_cmp queue.ready at ≡ true →
-    ((other : ℕ) → contains nat_cmp queue.ready other ≡ true → at ≤ other) → after.waits ≡ queue.waits → after.readers ≡ queue.readers →
-    ((other : ℕ) → contains nat_cmp after.ready other ≡ cond (is_at (nat_cmp at) other) false (contains nat_cmp queue.ready other)) → IsNext rules left good (Some at) after
-next_some rules left good queue after at is member least waits readers removed = (
-  sym (ready_is rules left good queue is at) ∙ member,
-  (λ other below. false_from_ne_true _ (λ passes. let order = least other (ready_is rules left good queue is other ∙ passes) in absurd (omega (arith, order, below)))),
-  record {
-    many = ap (λ lists. length lists.items) readers ∙ is.many;
-    waits = λ place rule here. ap (λ counts. slice_get counts.items place) waits ∙ is.waits place rule here;
-    beyond = λ place past. ap (λ counts. slice_get counts.items place) waits ∙ is.beyond place past;
-    readers = λ place other rule found here lists. is.readers place other rule found here (sym (ap (λ all. slice_get all.items other) readers) ∙ lists);
-    within = λ place other found past lists. is.within place other found past (sym (ap (λ all. slice_get all.items other) readers) ∙ lists);
-    ready = λ other. removed other ∙ elim (at_number at other) [
-      | inl same ↦ rw (same.1, eq-eqb other at (sym same.0), and_none (left other)) refl
-      | inr apart ↦ rw (apart.1, ne_eqb other at (λ e. apart.0 (sym e))) (is.ready other ∙ ap (λ counts. left other && waits_for_none counts.items other) (sym waits) ∙ ap (λ b. b && waits_for_none after.waits.items other) (sym (and_yes (left other))))
-    ];
-    taken = λ place rule here gone. elim (cases_Bool (left place)) [
-      | inr before ↦ is.taken place rule here before
-      | inl still ↦
-          let same : place ≡ at = elim (cases_eq place at) [
-            | inl e ↦ e
-            | inr apart ↦ absurd (true≢false (sym (rw (still, ne_eqb place at apart) refl) ∙ gone))
-          ] in
-          let passes : is_ready rules left good place ≡ true = sym (ready_is rules left good queue is place) ∙ rw same member in
-          eqb-true _ 0 (and_parts (left place) _ (sym (rw (here, is_ready) refl) ∙ passes)).1
-    ];
-  },
-)
-  where
-    and_yes : (b : Bool) → (b && true) ≡ b
-    and_yes true = refl
-    and_yes false = refl
-
 -- ---- filling
-
-pub noted_start : (reader : ℕ) (lists : List (List ℕ)) → IsNoted reader [] lists lists
-noted_start reader lists = record { many = refl; each = λ other after here. (after, here, λ at. added at (reader == at) (count_of at after)) }
-  where
-    added : (at : ℕ) (b : Bool) (n : ℕ) → n ≡ n + (if b then 0 else 0)
-    added at true n = omega arith
-    added at false n = omega arith
 
 pub noted_more : (reader : ℕ) (list : List ℕ) (old lists next : List (List ℕ)) (i producer : ℕ) (before : List ℕ) → IsNoted reader (take i list) old lists → i < length list → producer ≡ get_or list i 0 →
     slice_get lists producer ≡ Some before → next ≡ slice_set lists producer (before ++ reader ∷ []) → length next ≡ length lists → IsNoted reader (take (i + 1) list) old next
@@ -299,20 +247,6 @@ noted_more reader list old lists next i producer before noted less here there wr
     by_same : (b : Bool) (first some more : ℕ) → more ≡ some + 0 → first + (if b then some else 0) ≡ first + (if b then more else 0)
     by_same true first some more is = omega arith
     by_same false first some more is = refl
-
-pub filled_start : (rules : List Rule) (queue : Queue) → queue.waits.items ≡ [] → length queue.readers.items ≡ length rules → ((other : ℕ) (list : List ℕ) → slice_get queue.readers.items other ≡ Some list → list ≡ []) →
-    ((at : ℕ) → contains nat_cmp queue.ready at ≡ false) → IsFilled rules 0 queue
-filled_start rules queue none many lists ready = record {
-  long = ap length none;
-  many = many;
-  waits = λ at rule below here. absurd (omega arith);
-  readers = λ at other rule list below here there. absurd (omega arith);
-  later = λ at other list above there. ap (count_of at) (lists other list there);
-  ready = λ at. ready at ∙ sym (none_past queue.waits.items at (rw none (nothing at)));
-}
-  where
-    nothing : (at : ℕ) → slice_get {X = ℕ} [] at ≡ None
-    nothing at = refl
 
 -- the next rule, with the makers of what it declares
 pub filled_more : (rules : List Rule) (count : ℕ) (queue after : Queue) (rule : Rule) → IsFilled rules count queue → slice_get rules count ≡ Some rule → IsNoted count (producers rules rule) queue.readers.items after.readers.items →

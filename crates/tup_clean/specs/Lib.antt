@@ -5,7 +5,6 @@ pub mod Taken
 pub mod Ran
 pub mod Denial
 pub mod Buildable
-pub mod Makers
 pub mod Queue
 pub mod Ready
 pub mod Readers

@@ -14,7 +14,6 @@ mod build;
 mod fault;
 mod laws;
 mod made;
-mod makers;
 mod queue;
 mod running;
 mod tree;

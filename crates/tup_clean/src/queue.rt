@@ -2,14 +2,13 @@
 ghost use Rattle.std.specs.Prelude.{◌≡◌, ℕ, Bool, List, false, IfOk, OnOk, Some, [], length, nat_lt, replicate};
 ghost use Rattle.tup_rule.specs.declared.rule.Rule.{Rule as RuleValue};
 ghost use Rattle.tup_clean.specs.Clean.{is_good as is_good_verdict};
-ghost use Rattle.tup_clean.specs.Makers.{producers_in};
 ghost use Rattle.tup_clean.specs.Readers.{AreReaders};
 ghost use Rattle.tup_clean.specs.Queue.{IsQueue, IsWhole, IsNext, CanRelease, AreWaiting, IsReleased, AreBelow, IsNoted, Takes, Adds, Notes};
 
-use crate::makers::{Makers, add_makers, makers};
 use std::alloc::{AllocError, Global};
 use std::collections::BTreeSet;
 use tup_access::Verdict;
+use tup_makers::{Makers, makers, producers_of};
 use tup_path::Items;
 use tup_rule::Rule;
 
@@ -47,7 +46,7 @@ impl Queue {
         ensures { OnOk result (Adds makers.now rule.now self.old self.new) }
     {
         let at = self.waits.len();
-        let producers = producers(alloc, makers, rule)?;
+        let producers = producers_of(alloc, makers, rule)?;
         note_reader(&mut self.readers, &producers, at)?;
         if producers.is_empty() {
             self.ready.insert(at)?;
@@ -102,16 +101,6 @@ fn no_readers(alloc: Global, count: usize) -> Result<Vec<Items<usize>>, AllocErr
         readers.push(Items::new(alloc))?;
     }
     Ok(readers)
-}
-
-/// The makers of what a rule declares.
-fn producers(alloc: Global, makers: &Makers, rule: &Rule) -> Result<Vec<usize>, AllocError>
-    ensures { IfOk result (λ found. found.items ≡ producers_in makers.now rule.now) }
-{
-    let mut found = Vec::new(alloc);
-    add_makers(&mut found, makers, rule.inputs.as_slice())?;
-    add_makers(&mut found, makers, rule.order.as_slice())?;
-    Ok(found)
 }
 
 /// Notes a rule with each of its producers.

@@ -95,6 +95,7 @@ FitsEnd rule None (Unwritten path) writes = writes ≡ []
 FitsEnd rule None (IllegalRead text) writes = ⊥
 FitsEnd rule None TooManyReads writes = ⊥
 
+-- a seat's command may end so
 abbrev pub CanFinish : Plan → State → ℕ → Verdict → List (Names × Stamp) → Type 0
 CanFinish plan state seat verdict writes =
     (running : Running) × (rule : Rule) × Runs plan state seat running rule × FitsEnd rule running.denied verdict writes
@@ -119,6 +120,7 @@ emptied state seat = record state { seats = changed state.seats seat None }
 abbrev pub asked : List ℕ → Option Stamp → Running → Running
 asked text answer running = record running { asks = running.asks ++ (text, answer) ∷ [] }
 
+-- a rule's command asks what it may not
 abbrev pub refused : List ℕ → Verdict → Running → Running
 refused text verdict running = record running { denied = Some (text, verdict) }
 

@@ -41,6 +41,7 @@ course_code =
 abbrev pub first : CourseState → State
 first course = opening course.plan course.files
 
+-- the core's state now
 abbrev pub now : CourseState → State
 now course = end_of course.plan (first course) course.history
 
@@ -67,6 +68,7 @@ pub record IsCourse (course : CourseState) (core : Core) (turn : Turn) (ends : L
 abbrev pub NoneReady : CourseState → Type 0
 NoneReady course = (number : ℕ) → IsReady course.plan (now course) number → ⊥
 
+-- no seat runs a rule
 abbrev pub NoneRuns : CourseState → Type 0
 NoneRuns course = (seat : ℕ) → (now course).seats seat ≡ None
 
@@ -80,6 +82,7 @@ Claims seat old Over new = (IsSome (now old).stopped ⊎ (NoneReady old × NoneR
 abbrev pub IsStopped : CourseState → ℕ → Type 0
 IsStopped course seat = ((now course).seats seat ≡ None) × IsSome (now course).stopped
 
+-- a stop at a seat, by this cause
 pub record Stops (seat : ℕ) (cause : Cause) (old new : CourseState) : Type 0 where
   pub none : IsStopped old seat → new ≡ old
   pub one : (IsStopped old seat → ⊥) → new ≡ with_events old (Stop seat cause ∷ [])
@@ -95,6 +98,7 @@ pub record GoesOn (course : CourseState) (seat : ℕ) : Type 0 where
   pub it : RunsRule course seat
   pub granted : it.running.denied ≡ None
 
+-- an ask of its command was denied, with this verdict
 pub record WasDenied (course : CourseState) (seat : ℕ) : Type 0 where
   pub it : RunsRule course seat
   pub text : List ℕ
@@ -110,9 +114,11 @@ pub record EndsDenied (seat : ℕ) (old new : CourseState) : Type 0 where
 abbrev pub last_event : CourseState → Option CoreEvent
 last_event course = slice_get course.history (length course.history - 1)
 
+-- the last that happened is the end of a command, with some verdict
 abbrev pub EndsWithFinish : CourseState → Type 0
 EndsWithFinish course = (seat : ℕ) × (given : Verdict) × (files : List (Names × Stamp)) × (last_event course ≡ Some (Finish seat given files))
 
+-- the last that happened is the end of a command, with this verdict
 abbrev pub IsLastVerdict : CourseState → Verdict → Type 0
 IsLastVerdict course given = (seat : ℕ) × (files : List (Names × Stamp)) × (last_event course ≡ Some (Finish seat given files))
 

@@ -37,6 +37,7 @@ abbrev pub record_of : Edit → Record
 record_of (Put r) = r
 record_of (Remove r) = r
 
+-- the path of a record of a file that is seen
 abbrev pub file_of : Record → Option Names
 file_of (records.Seen path stamp) = Some path
 file_of r = None

@@ -19,6 +19,7 @@ front_bytes front rest bytes e fits i =
       | inr le ↦ subst (λ b. b < 256) (sym (get_or_past front i 0 le)) (omega arith)
     ]
 
+-- the number that four bytes are, before the bytes behind them
 abbrev number_from : List ℕ → List ℕ → Read ℕ
 number_from four rest = Ok (from_be_bytes w32 four, rest)
 
@@ -60,6 +61,8 @@ pub empty-exact : IsExact empty
 empty-exact = record { found = λ bytes a rest fits e. (tt, ap (λ (x : Unit {0} × List ℕ). x.1) (ok_is (tt, bytes) (a, rest) e)); again = λ a rest fits. refl; stands = λ bytes more whole. refl }
 
 -- ---- one behind another
+
+-- the second value of a pair, read behind the first
 abbrev pair_next : {A B : Type 0} → (A → Format B) → A → List ℕ → Read (A × B)
 pair_next g a rest = (g a).reading rest >>= λ b. Ok ((a, b.0), b.1)
 
@@ -101,6 +104,7 @@ guard_ok : {A : Type 0} (b : Bool) (x y : A) → cond b (Ok x) (Err BadField) �
 guard_ok true x y e = (refl, cc)
 guard_ok false x y e = absurd (cc)
 
+-- the test of a value that was read
 abbrev check_next : {A : Type 0} → (A → Bool) → A → List ℕ → Read A
 check_next test a rest = cond (test a) (Ok (a, rest)) (Err BadField)
 
@@ -143,9 +147,11 @@ sized-exact count exact = record {
 }
 
 module _ {A : Type 0} (f : Format A) (exact : IsExact f) where
+  -- so many values, each of which has a spelling
   abbrev IsMany : ℕ → List A → Type 0
   IsMany n xs = (length xs ≡ n) × AllByRecursion f.Fits xs
 
+  -- the other values of a list, read behind the first
   abbrev many_next : ℕ → A → List ℕ → Read (List A)
   many_next n first rest = many_at f.reading n rest >>= λ others. Ok (first ∷ others.0, others.1)
 
@@ -195,6 +201,8 @@ pub list-exact : {A : Type 0} (f : Format A) → IsExact f → IsExact (list f)
 list-exact f exact = counted-exact f exact number number-exact
 
 -- ---- one of several, by a mark
+
+-- what is read behind each mark is spelled so with it, and tells only of the bytes up to where it ends
 pub record AreArms {B : Type 0} (Fits : B → Type 0) (spelling : B → List ℕ) (arms : Arms B) : Type 0 where
   pub found : (mark : ℕ) (rest : List ℕ) (b : B) (last : List ℕ) → IsBytes rest → arms mark rest ≡ Ok (b, last) → Fits b × (mark ∷ rest ≡ spelling b ++ last)
   pub stands : (mark : ℕ) → Stands (arms mark)
@@ -203,6 +211,7 @@ pub no_arms : {B : Type 0} (Fits : B → Type 0) (spelling : B → List ℕ) →
 no_arms Fits spelling = record { found = λ mark rest b last own e. absurd (cc); stands = λ mark bytes more whole. refl }
 
 module _ {A B : Type 0} (Fits : B → Type 0) (spelling : B → List ℕ) (own : ℕ) (f : Format A) (make : A → B) (others : Arms B) where
+  -- the value behind a mark that is its own
   abbrev behind_mark : List ℕ → Read B
   behind_mark rest = f.reading rest >>= λ a. Ok (make a.0, a.1)
 

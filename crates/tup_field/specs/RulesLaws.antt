@@ -36,6 +36,8 @@ piece-exact = record {
 }
 
 -- ---- what stands at a path
+
+-- each kind has a spelling
 abbrev AnyKind : Kind → Type 0
 AnyKind k = Unit {0}
 

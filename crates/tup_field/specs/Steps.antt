@@ -7,12 +7,14 @@ use Rattle.tup_field.specs.declared.fault.RecordFault.TheVariants.{Short}
 use Rattle.tup_field.specs.Format.{Read, ◌>>=◌, IsBytes, carry}
 use Rattle.tup_field.specs.Parts.{taken}
 
+-- a step that did not fail
 abbrev done : {A : Type 0} → A → Result A RecordFault
 done x = Ok x
 
 pub ok_is : {A : Type 0} (x y : A) → done x ≡ done y → x ≡ y
 ok_is x y e = cc
 
+-- a step that failed
 abbrev failed : {A : Type 0} → RecordFault → Read A
 failed fault = Err fault
 
@@ -29,16 +31,22 @@ pub behind : (front rest bytes : List ℕ) → bytes ≡ front ++ rest → IsByt
 behind front rest bytes e fits i = subst (λ b. b < 256) (get_or-append-add front rest i 0) (subst IsBytes e fits (length front + i))
 
 -- ---- the three laws of reading, each of a reader alone
+
+-- what is read is spelled so
 abbrev pub Found : {A : Type 0} → (A → Type 0) → (A → List ℕ) → (List ℕ → Read A) → Type 0
 Found {A} Fits spelling read = (bytes : List ℕ) (a : A) (rest : List ℕ) → IsBytes bytes → read bytes ≡ Ok (a, rest) → Fits a × (bytes ≡ spelling a ++ rest)
 
+-- what is spelled so is read, whatever follows
 abbrev pub Again : {A : Type 0} → (A → Type 0) → (A → List ℕ) → (List ℕ → Read A) → Type 0
 Again {A} Fits spelling read = (a : A) (rest : List ℕ) → Fits a → read (spelling a ++ rest) ≡ Ok (a, rest)
 
+-- only the answer that the bytes end too early changes with what follows
 abbrev pub Stands : {A : Type 0} → (List ℕ → Read A) → Type 0
 Stands read = (bytes more : List ℕ) → read bytes ≢ Err Short → read (bytes ++ more) ≡ carry more (read bytes)
 
 -- ---- one reader after another
+
+-- one reader, and another one over the bytes behind it, which knows what the first found
 abbrev pub and_then : {A B : Type 0} → (List ℕ → Read A) → (A → List ℕ → Read B) → List ℕ → Read B
 and_then read next bytes = read bytes >>= λ x. next x.0 x.1
 

@@ -15,6 +15,7 @@ use Rattle.tup_field.specs.Values.{truth_spelling, truth, text, name, depth, pat
 use Rattle.tup_field.specs.Steps.{Again}
 use Rattle.tup_field.specs.PartsLaws.{fixed-exact, byte-exact, number-exact, empty-exact, as_if-exact, checked-exact, fitting-exact, sized-exact, counted-exact, AreArms, no_arms, with_arm, marked_found, marked_stands}
 
+-- each truth has a spelling
 abbrev AnyTruth : Bool → Type 0
 AnyTruth b = Unit {0}
 

@@ -31,9 +31,11 @@ HasWritten g number path = (run : RunRecord) × (given : Stamp) × (finite.get g
 abbrev pub asks_of : RunRecord → List (Names × Option Stamp)
 asks_of run = run.asks
 
+-- what the record of a run tells of its writes
 abbrev pub writes_of : RunRecord → List (Names × Stamp)
 writes_of run = run.writes
 
+-- the path of an ask or of a write
 abbrev pub path_of : {T : Type 0} → Names × T → Names
 path_of told = told.0
 
@@ -41,6 +43,7 @@ path_of told = told.0
 abbrev pub HasReader : Users → Names × ℕ → Type 0
 HasReader users = Has by_names nat_cmp users.readers
 
+-- a rule is among the writers of a path
 abbrev pub HasWriter : Users → Names × ℕ → Type 0
 HasWriter users = Has by_names nat_cmp users.writers
 
@@ -56,6 +59,7 @@ AreReaders runs users = (x : Names × ℕ) → HasReader users x ↔ AreIn path_
 abbrev pub AreWriters : finite.FinMap nat_cmp RunRecord → Users → Type 0
 AreWriters runs users = (x : Names × ℕ) → HasWriter users x ↔ AreIn path_of writes_of runs x
 
+-- just the rules whose records ask a path or wrote it are its readers and its writers
 abbrev pub AreUsers : finite.FinMap nat_cmp RunRecord → Users → Type 0
 AreUsers runs users = AreReaders runs users × AreWriters runs users
 
@@ -63,6 +67,7 @@ AreUsers runs users = AreReaders runs users × AreWriters runs users
 abbrev pub asked_of : Reading → List (Question × Noted)
 asked_of reading = reading.asked
 
+-- the question of what a reading was told
 abbrev pub question_of : Question × Noted → Question
 question_of one = one.0
 

@@ -13,6 +13,7 @@ use Rattle.tup_index.specs.declared.suspects.Suspects.{Suspects}
 abbrev pub Stamps : Type 0
 Stamps = finite.FinMap by_names Stamp
 
+-- the records of runs, by the numbers of their rules
 abbrev pub Runs : Type 0
 Runs = finite.FinMap nat_cmp RunRecord
 

@@ -14,9 +14,11 @@ without graph paths = after graph (forget_edits graph.nodes paths) (with_forgott
 
 -- The graph before and now, and where the site tells them, the worlds. Only the settling, and then the one commit, can fail.
 module _ (tells : Bool) (paths : List Names) (old new : Held) (v w : World) where
+  -- all is as it was
   abbrev pub NothingIsDone : Type 0
   NothingIsDone = (new ≡ old) × (IsTrue tells → w ≡ v)
 
+  -- what each answer tells
   abbrev pub GivesUp : Result (Unit {0}) GraphFault → Type 0
   GivesUp (Ok done) = (new ≡ without old paths) × (to_write old (forget_edits old.nodes paths) ≡ [] → IsTrue tells → w ≡ v)
   GivesUp (Err Full) = IsFull old (forget_edits old.nodes paths) × NothingIsDone

@@ -22,6 +22,7 @@ maker_in g path = elim (finite.get g.owned path) [ Some owned ↦ owned.maker | 
 abbrev pub owning : GraphState → Names → Edit
 owning g path = Put (records.Owned path (maker_in g path) Unsure)
 
+-- all of these are owned from now on
 abbrev pub own_edits : GraphState → List Names → List Edit
 own_edits g paths = map (owning g) paths
 

@@ -1,5 +1,5 @@
 -- Rules that wait for each other, from a circle in their graph.
-use Rattle.std.proofs.Common.{◌≡◌, ℕ, ◌+◌, ◌<◌, List, [], ◌∷◌, ◌++◌, length, take, get_or, Option, None, option_map, subst, sym, arith, ap, ◌∙◌}
+use Rattle.std.proofs.Common.{◌≡◌, ℕ, ◌+◌, ◌<◌, List, [], ◌∷◌, ◌++◌, length, take, get_or, Option, None, option_map, subst, sym, ap, ◌∙◌}
 use Rattle.std.specs.List.{slice_get, cons_option}
 use Rattle.std.proofs.lemmas.List.{take_more, append-nil}
 use Rattle.std.proofs.lemmas.List.Elements.{filter_map-append}
@@ -18,9 +18,6 @@ circle_of rules graph round places is stands turned =
     let here = subst (λ (g : List (List ℕ)). IsRound (Leads g) round) is stands in
     let waits = round_from rules places (turned_round (Leads (all_producers rules)) round places here turned) in
     record { round = waits; least = least round places waits.first waits.more turned waits.are }
-
-pub some_round : (graph : List (List ℕ)) (round : List ℕ) → IsRound (Leads graph) round → 0 < length round
-some_round graph round stands = let e = ap length stands.are in omega (arith, e)
 
 pub within_graph : (rules : List Rule) (graph : List (List ℕ)) → graph ≡ all_producers rules → IsWithin graph
 within_graph rules graph is = subst (λ (g : List (List ℕ)). IsWithin g) (sym is) (within rules)

@@ -1,8 +1,7 @@
 -- Faults that are looked for from the front of a list on.
-use Rattle.std.proofs.Common.{◌≡◌, ℕ, ◌+◌, ◌<◌, ◌≤◌, nat_eq, true, false, List, [], ◌∷◌, ◌++◌, length, take, drop, map, get_or, Option, Some, None, option_map, refl, sym, ap, ◌∙◌, inl, inr, ◌⊎◌, arith}
+use Rattle.std.proofs.Common.{◌≡◌, ℕ, ◌+◌, ◌<◌, nat_eq, true, false, List, [], ◌∷◌, ◌++◌, length, take, drop, map, get_or, Option, Some, None, option_map, refl, sym, ap, ◌∙◌, inl, inr, ◌⊎◌, arith}
 use Rattle.std.specs.List.{find, list_any, slice_get}
 use Rattle.std.specs.Option.{option_or, option_and_then}
-use Rattle.std.proofs.lemmas.Bool.{lt-ltb, le-ltb, cases_lt}
 use Rattle.std.proofs.lemmas.List.{append-nil, drop_more, take_more, length-take-le}
 use Rattle.std.proofs.lemmas.List.Concat.{flat_map-append}
 use Rattle.std.proofs.lemmas.List.Folds.{find-append}
@@ -11,41 +10,17 @@ use Rattle.tup_rule.specs.declared.draft.GroupRef.{GroupRef}
 use Rattle.tup_rule.specs.declared.question.Reading.{Reading}
 use Rattle.tup_rule.specs.declared.rule.Rule.{Rule}
 use Rattle.tup_link.specs.declared.fault.LinkFault.{LinkFault}
-use Rattle.tup_link.specs.declared.fault.LinkFault.TheVariants.{TooMany, NoSuchGroup, Memory}
-use Rattle.tup_link.specs.declared.fault.What.{What}
-use Rattle.tup_link.specs.declared.fault.What.TheVariants.{Links}
+use Rattle.tup_link.specs.declared.fault.LinkFault.TheVariants.{NoSuchGroup, Memory}
 use Rattle.tup_link.specs.Placed.{Placed, placed, placed_in, drafts_of}
 use Rattle.tup_link.specs.Linked.{Members}
-use Rattle.tup_link.specs.Faults.{too_many, taken, missing_group, links, too_many_links, same_command, repeated, twice, duplicate}
+use Rattle.tup_link.specs.Faults.{taken, missing_group, same_command, repeated, twice, duplicate}
 
 -- ---- a list from a place on
 
 pub rest_is : {X : Type 0} (all : List X) (i : ℕ) (one : X) → i < length all → one ≡ get_or all i one → drop i all ≡ one ∷ drop (i + 1) all
 rest_is {X} all i one less here = drop_more all i one less ∙ ap (λ (x : X). x ∷ drop (i + 1) all) (sym here)
 
--- ---- limits
-
-pub isnt_too_many : (what : What) (limit count : ℕ) → count ≤ limit → too_many what limit count ≡ None
-isnt_too_many what limit count few = rw (le-ltb limit count few) refl
-
-pub is_too_many : (what : What) (limit count : ℕ) → limit < count → too_many what limit count ≡ Some (TooMany what count)
-is_too_many what limit count many = rw (lt-ltb limit count many) refl
-
-pub few_from : (what : What) (limit count : ℕ) → too_many what limit count ≡ None → count ≤ limit
-few_from what limit count none = elim (cases_lt limit count) [
-  | inl many ↦ absurd (let h : Some (TooMany what count) ≡ None = sym (is_too_many what limit count many) ∙ none in cc)
-  | inr few ↦ few
-]
-
 -- ---- groups
-
-pub missing_here : (group_has : Members) (groups : List GroupRef) (i : ℕ) (group : GroupRef) → i < length groups → group ≡ get_or groups i group → nat_eq (length (group_has group)) 0 ≡ true →
-    missing_group group_has (drop i groups) ≡ Some (NoSuchGroup group)
-missing_here group_has groups i group less here none = ap (missing_group group_has) (rest_is groups i group less here) ∙ rw none refl
-
-pub missing_on : (group_has : Members) (groups : List GroupRef) (i : ℕ) (group : GroupRef) → i < length groups → group ≡ get_or groups i group → nat_eq (length (group_has group)) 0 ≡ false →
-    missing_group group_has (drop (i + 1) groups) ≡ missing_group group_has (drop i groups)
-missing_on group_has groups i group less here some = sym (ap (missing_group group_has) (rest_is groups i group less here) ∙ rw some refl)
 
 missing_parts : (group_has : Members) (one more : List GroupRef) → missing_group group_has (one ++ more) ≡ option_or (missing_group group_has one) (missing_group group_has more)
 missing_parts group_has one more = ap (option_map NoSuchGroup) (find-append (λ group. nat_eq (length (group_has group)) 0) one more) ∙ by (find (λ group. nat_eq (length (group_has group)) 0) one)
@@ -66,12 +41,6 @@ or_none o p e = rw e refl
 pub or_some : (o p : Option LinkFault) (fault : LinkFault) → o ≡ Some fault → option_or o p ≡ Some fault
 or_some o p fault e = rw e refl
 
--- ---- declared inputs
-
-pub links_on : (ruled : Placed → Rule) (all : List Placed) (i : ℕ) (one : Placed) (count : ℕ) → i < length all → one ≡ get_or all i one →
-    too_many_links count (map ruled (drop i all)) ≡ option_or (too_many Links 4194304 (count + links (ruled one))) (too_many_links (count + links (ruled one)) (map ruled (drop (i + 1) all)))
-links_on ruled all i one count less here = ap (λ (l : List Placed). too_many_links count (map ruled l)) (rest_is all i one less here)
-
 -- ---- commands
 
 pub repeated_here : (rules : List Rule) (i : ℕ) (rule : Rule) → i < length rules → rule ≡ get_or rules i rule → list_any (same_command rule) (take i rules) ≡ true → repeated (take i rules) (drop i rules) ≡ Some i
@@ -83,9 +52,6 @@ pub repeated_on : (rules : List Rule) (i : ℕ) (rule : Rule) → i < length rul
 repeated_on rules i rule less here new =
     ap (λ (l : List Rule). repeated l (drop (i + 1) rules)) (take_more rules i rule less ∙ ap (λ (r : Rule). take i rules ++ r ∷ []) (sym here))
     ∙ sym (ap (repeated (take i rules)) (rest_is rules i rule less here) ∙ rw new refl)
-
-pub duplicate_none : (all : List Placed) (rules : List Rule) → repeated [] rules ≡ None → duplicate all rules ≡ None
-duplicate_none all rules none = ap (option_and_then (λ at. option_map twice (slice_get all at))) none
 
 pub duplicate_at : (all : List Placed) (rules : List Rule) (at : ℕ) (one : Placed) → repeated [] rules ≡ Some at → slice_get all at ≡ Some one → duplicate all rules ≡ Some (twice one)
 duplicate_at all rules at one is here = ap (option_and_then (λ at. option_map twice (slice_get all at))) is ∙ ap (option_map twice) here
@@ -100,10 +66,6 @@ placed_more readings i read less here =
     ∙ ap (λ (l : List Placed). placed (take i readings) ++ l) (append-nil (map (placed_in read.0) read.1.drafts))
 
 -- ---- faults in their order
-
-pub tells_first : (a b : Option LinkFault) (told : LinkFault) → (told ≡ Memory) ⊎ (a ≡ Some told) → (told ≡ Memory) ⊎ (option_or a b ≡ Some told)
-tells_first a b told (inl memory) = inl memory
-tells_first a b told (inr first) = inr (or_some a b told first)
 
 pub tells_next : (a b : Option LinkFault) (told : LinkFault) → a ≡ None → (told ≡ Memory) ⊎ (b ≡ Some told) → (told ≡ Memory) ⊎ (option_or a b ≡ Some told)
 tells_next a b told none (inl memory) = inl memory

@@ -1,5 +1,5 @@
 -- Sets of paths and of commands, one more at a time.
-use Rattle.std.proofs.Common.{◌≡◌, ℕ, ◌+◌, ◌<◌, nat_eq, Bool, true, false, cond, not, ◌||◌, ◌&&◌, List, [], ◌∷◌, ◌++◌, length, take, get_or, refl, sym, ap, subst, ◌∙◌, inl, inr, ◌⊎◌}
+use Rattle.std.proofs.Common.{◌≡◌, ℕ, ◌+◌, ◌<◌, nat_eq, Bool, true, false, cond, not, ◌||◌, ◌&&◌, List, [], ◌∷◌, ◌++◌, length, take, get_or, refl, sym, ap, subst, ◌∙◌}
 use Rattle.std.specs.BTreeSet.{BTreeSet, contains, Updates}
 use Rattle.std.specs.BTreeMap.{is_at}
 use Rattle.std.specs.List.{list_any, flat_map, AllZip}
@@ -7,7 +7,7 @@ use Rattle.std.specs.Ordering.{ordering_then, is_eq}
 use Rattle.std.specs.declared.cmp.Ordering.{Ordering}
 use Rattle.std.specs.declared.cmp.Ordering.TheVariants.{Less, Equal, Greater}
 use Rattle.std.specs.Str.{bytes_eq}
-use Rattle.std.proofs.lemmas.Bool.{cases_Bool, eqb-true}
+use Rattle.std.proofs.lemmas.Bool.{eqb-true}
 use Rattle.std.proofs.lemmas.List.{take_more, append-nil, nil_from_length}
 use Rattle.std.proofs.lemmas.List.Elements.{same_from_all_zip}
 use Rattle.std.proofs.lemmas.List.Concat.{flat_map-append}
@@ -86,24 +86,8 @@ was_new known paths path key added knows is e = sym (knows.each path) ∙ ap (co
     twice true added e = ap not (sym e)
     twice false added e = ap not (sym e)
 
--- a path that is there already changes nothing
-pub knows_same : (old new : BTreeSet Names) (paths : List Names) (path key : Names) → Knows old paths → Updates by_names old new key true → key ≡ path → among path paths ≡ true → Knows new paths
-knows_same old new paths path key knows updates is there = record {
-  each = λ q.
-      updates.0 q
-      ∙ ap (λ b. cond b true (contains by_names old q)) (at_path key q ∙ ap (λ (x : Names). same_path x q) is)
-      ∙ by q (cases_Bool (same_path path q));
-}
-  where
-    by : (q : Names) → (same_path path q ≡ true) ⊎ (same_path path q ≡ false) → cond (same_path path q) true (contains by_names old q) ≡ among q paths
-    by q (inl same) = ap (λ b. cond b true (contains by_names old q)) same ∙ sym (ap (λ (x : Names). among x paths) (sym ((same_path-decides path q).0 same)) ∙ there)
-    by q (inr apart) = ap (λ b. cond b true (contains by_names old q)) apart ∙ knows.each q
-
 pub with_new : (paths : List Names) (path : Names) → among path paths ≡ false → with_path paths path ≡ paths ++ path ∷ []
 with_new paths path new = rw new refl
-
-pub with_known : (paths : List Names) (path : Names) → among path paths ≡ true → with_path paths path ≡ paths
-with_known paths path there = rw there refl
 
 -- ---- the order of paths with those of one more group
 
@@ -115,9 +99,6 @@ with_more group_has order groups i group less here =
     ∙ flat_map-append group_has (take i groups) (group ∷ [])
     ∙ ap (λ (l : List Names). flat_map group_has (take i groups) ++ l) (append-nil (group_has group)))
     ∙ fold-append with_path order (flat_map group_has (take i groups)) (group_has group)
-
-pub with_push : (order front : List Names) (path : Names) → with_paths order (front ++ path ∷ []) ≡ with_path (with_paths order front) path
-with_push order front path = fold-append with_path order front (path ∷ [])
 
 -- ---- commands
 

@@ -3,7 +3,6 @@ pub mod Finding
 pub mod Gathering
 pub mod Going
 pub mod Knowing
-pub mod Making
 pub mod Showing
 pub mod Steps
 pub mod Together

@@ -1,71 +1,21 @@
-//! Which rule makes a path, and for which rules a rule waits.
-ghost use Rattle.std.specs.Prelude.{◌≡◌, ◌++◌, IfOk, OnOk};
-ghost use Rattle.tup_link.specs.Makers.{HasMakers, AddsMaker, makers_in};
-ghost use Rattle.tup_link.specs.Makers as specs;
+//! For which rules each rule waits.
+ghost use Rattle.std.specs.Prelude.{◌≡◌, IfOk};
+ghost use Rattle.tup_link.specs.Makers.{all_producers};
 
 use crate::places::Places;
 use std::alloc::{AllocError, Global};
-use std::collections::BTreeMap;
-use tup_path::{Items, Path};
+use tup_makers::{makers, producers_of};
+use tup_path::Items;
 use tup_rule::Rule;
-
-/// The place of the rule that makes a path, for each path that a rule makes.
-type Makers = BTreeMap<Path, usize>;
 
 /// For each rule, the makers of the paths that it declares.
 pub(crate) fn producers(alloc: Global, rules: &[Rule]) -> Result<Vec<Places>, AllocError>
-    ensures { IfOk result (λ all. all.items ≡ specs.all_producers rules.now) }
+    ensures { IfOk result (λ all. all.items ≡ all_producers rules.now) }
 {
     let makers = makers(alloc, rules)?;
     let mut all = Vec::new(alloc);
     for rule in rules {
-        all.push(producers_of(alloc, &makers, rule)?)?;
+        all.push(Items::from_vec(producers_of(alloc, &makers, rule)?))?;
     }
     Ok(all)
-}
-
-/// The makers of the paths that a rule declares.
-fn producers_of(alloc: Global, makers: &Makers, rule: &Rule) -> Result<Places, AllocError>
-    ensures { IfOk result (λ found. found
-        ≡ makers_in makers.now (rule.now.inputs ++ rule.now.order)) }
-{
-    let mut found = Items::new(alloc);
-    add_makers(&mut found, makers, rule.inputs.as_slice())?;
-    add_makers(&mut found, makers, rule.order.as_slice())?;
-    Ok(found)
-}
-
-/// Adds the makers of some paths, one for each that has one.
-fn add_makers(found: &mut Places, makers: &Makers, paths: &[Path]) -> Result<(), AllocError>
-    ensures { OnOk result (found.new ≡ found.old ++ makers_in makers.now paths.now) }
-{
-    for path in paths {
-        if let Some(at) = makers.get(path) {
-            found.push(*at)?;
-        }
-    }
-    Ok(())
-}
-
-/// The makers of all paths: the first rule that has a path as an output.
-fn makers(alloc: Global, rules: &[Rule]) -> Result<Makers, AllocError>
-    ensures { IfOk result (HasMakers rules.now) }
-{
-    let mut makers = BTreeMap::new(alloc);
-    for (at, rule) in rules.iter().enumerate() {
-        add_maker(&mut makers, rule.outputs.as_slice(), at)?;
-    }
-    Ok(makers)
-}
-
-/// Notes a rule as the maker of its outputs, save of those that have one.
-fn add_maker(makers: &mut Makers, outputs: &[Path], at: usize) -> Result<(), AllocError>
-    ensures { OnOk result (AddsMaker outputs.now at makers.old makers.new) }
-{
-    for output in outputs {
-        if !makers.contains_key(output) {
-            makers.insert(output.clone()?, at)?;
-        }
-    }
-    Ok(())
 }

@@ -10,6 +10,7 @@ use Rattle.tup_path.specs.Resolve.{resolve}
 abbrev pub Writes : Type 0
 Writes = List (List ℕ × Content)
 
+-- what a command under way keeps
 pub record Kept : Type 0 where
   pub dir : Names
   pub writes : Writes

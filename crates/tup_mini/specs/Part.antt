@@ -13,6 +13,7 @@ pub data Outcome (A : Type 0) : Type 0 where
   Next : Step → Outcome A
   Gives : Kept → A → Asks → Outcome A
 
+-- a part of a command, from what the command keeps and the answers that are left
 abbrev pub Part : Type 0 → Type 0
 Part A = Kept → Asks → Outcome A
 

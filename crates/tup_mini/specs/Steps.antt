@@ -6,24 +6,30 @@ use Rattle.tup_mini.specs.Words.{words, has_stray_arrow, redirected, status_of}
 use Rattle.tup_mini.specs.declared.step.MiniStep.{MiniStep}
 use Rattle.tup_mini.specs.declared.step.MiniStep.TheVariants.{Join, Echo, Include, IfExists, Stop}
 
+-- `cp FROM TO`
 abbrev pub copy_step : List (List ℕ) → MiniStep
 copy_step (from ∷ to ∷ []) = Join (from ∷ []) to
 copy_step arguments = Stop 2
 
+-- `cat FROM.. > TO`
 abbrev pub join_step : List (List ℕ) → MiniStep
 join_step arguments = elim (redirected arguments) [ Some p ↦ Join p.0 p.1 | None ↦ Stop 2 ]
 
+-- `echo WORD.. > TO`
 abbrev pub echo_step : List (List ℕ) → MiniStep
 echo_step arguments = elim (redirected arguments) [ Some p ↦ Echo p.0 p.1 | None ↦ Stop 2 ]
 
+-- `incl FROM TO`
 abbrev pub include_step : List (List ℕ) → MiniStep
 include_step (from ∷ to ∷ []) = Include from to
 include_step arguments = Stop 2
 
+-- `ifexists PROBE FROM TO`
 abbrev pub if_exists_step : List (List ℕ) → MiniStep
 if_exists_step (probe ∷ from ∷ to ∷ []) = IfExists probe from to
 if_exists_step arguments = Stop 2
 
+-- `fail N`
 abbrev pub fail_step : List (List ℕ) → MiniStep
 fail_step (status ∷ []) = Stop (status_of status)
 fail_step arguments = Stop 2

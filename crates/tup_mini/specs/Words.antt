@@ -3,6 +3,7 @@
 use Rattle.std.specs.Prelude.{ℕ, Bool, true, false, not, ◌&&◌, ◌||◌, ◌==◌, ◌+◌, ◌*◌, ◌-◌, nat_le, nat_lt, if◌then◌else◌, List, [], ◌∷◌, length, filter, Option, None, Some, option_map, bytes_eq}
 use Rattle.std.specs.List.{slice_split, list_all}
 
+-- whether a text between two blanks is a word: it isn't empty
 abbrev pub is_word : List ℕ → Bool
 is_word [] = false
 is_word (b ∷ bs) = true
@@ -27,6 +28,7 @@ redirected (word ∷ []) = None
 redirected (word ∷ to ∷ []) = if is_arrow word then Some ([], to) else None
 redirected (word ∷ next ∷ more ∷ rest) = option_map (λ (p : List (List ℕ) × List ℕ). (word ∷ p.0, p.1)) (redirected (next ∷ more ∷ rest))
 
+-- whether a byte is a decimal digit
 abbrev pub is_digit : ℕ → Bool
 is_digit b = nat_le 48 b && nat_le b 57
 

@@ -5,6 +5,8 @@ use Rattle.std.specs.FinMap as finite
 use Rattle.std.specs.List.{list_any}
 use Rattle.std.specs.Map.{keys_of}
 use Rattle.std.specs.Option.{option_map}
+use Rattle.std.proofs.lemmas.Bool.{true≢false}
+use Rattle.std.proofs.lemmas.List.Folds.{list_any-append}
 use Rattle.tup_path.specs.Name.{Names, Content}
 use Rattle.tup_path.specs.Order.{by_names, by_names-total, by_names-antisymmetric, same_path, same_path-by_names}
 use Rattle.tup_path.specs.Tree.{Tree}
@@ -18,7 +20,7 @@ use Rattle.tup_graph.specs.Answers.{tup_config}
 use Rattle.tup_graph.specs.Graph.{GraphState, is_owned, source}
 use Rattle.tup_ledger.specs.Sources.{sources_of}
 use Rattle.tup_refresh.specs.declared.fetched.Fetched.{Fetched}
-use Rattle.tup_refresh.specs.Part.{AddsConfig, AreFetched, AreFilesOf, HasConfig, HasPaths, IsUnfetched, is_source_at}
+use Rattle.tup_refresh.specs.Part.{AddsConfig, AddsSource, AreFetched, AreFilesOf, HasConfig, HasPaths, IsUnfetched, is_source_at}
 use Rattle.tup_refresh.specs.Untouched.{SeesSources}
 use Rattle.tup_refresh.proofs.Hollow.{same_keys}
 
@@ -54,6 +56,40 @@ module _ (g : GraphState) (path other : Names) (outline : Tree) where
   -- and one that is isn't
   pub no_source : is_owned g path ≡ true → finite.contains_key outline other ≡ (finite.contains_key outline other || is_source_at g other path)
   no_source on = sym (either (finite.contains_key outline other)) ∙ ap (λ b. finite.contains_key outline other || (not b && same_path other path)) (sym on)
+
+-- one file more
+pub more_sources : (g : GraphState) (path other : Names) (stamp : Stamp) (files : List (Names × Stamp)) (old new : Tree)
+    → ((other : Names) → finite.contains_key old other ≡ list_any (λ (file : Names × Stamp). is_source_at g other file.0) files) → AddsSource g path old new
+    → finite.contains_key new other ≡ list_any (λ (file : Names × Stamp). is_source_at g other file.0) (files ++ (path, stamp) ∷ [])
+more_sources g path other stamp files old new before adds =
+    adds other ∙ ap (λ b. b || is_source_at g other path) (before other)
+    ∙ ap (λ b. list_any (λ (file : Names × Stamp). is_source_at g other file.0) files || b) (sym (either (is_source_at g other path)))
+    ∙ sym (list_any-append (λ (file : Names × Stamp). is_source_at g other file.0) files ((path, stamp) ∷ []))
+
+-- tup.config gets its content
+pub config_set : (outline new : Tree) (at : Names) (content copy : Content) → finite.contains_key outline tup_config ≡ true → at ≡ tup_config → copy ≡ content → new ≡ finite.insert outline at copy → AddsConfig (Some content) outline new
+config_set outline new at content copy there is same put = record {
+  paths = λ path. ap (λ (m : Tree). finite.contains_key m path) now ∙ source_added outline tup_config path content ∙ by path (same_path path tup_config) refl;
+  content = λ given e had.
+      ap (λ (m : Tree). finite.get m tup_config) now ∙ finite.get-insert by_names-total outline tup_config content tup_config
+      ∙ ap (λ b. cond b (Some content) (finite.get outline tup_config)) (sym (same_path-by_names tup_config tup_config) ∙ (same_path-decides tup_config tup_config).1 refl) ∙ e;
+}
+  where
+    now : new ≡ finite.insert outline tup_config content
+    now = put ∙ ap (λ (p : Names). finite.insert outline p copy) is ∙ ap (finite.insert outline tup_config) same
+
+    by : (path : Names) (b : Bool) → same_path path tup_config ≡ b → (finite.contains_key outline path || (true && b)) ≡ finite.contains_key outline path
+    by path true same =
+        ap (λ c. c || true) (ap (finite.contains_key outline) ((same_path-decides path tup_config).0 same) ∙ there)
+        ∙ sym (ap (finite.contains_key outline) ((same_path-decides path tup_config).0 same) ∙ there)
+    by path false apart = either (finite.contains_key outline path)
+
+-- and where there is none, or it is no source, all is as it was
+pub config_unset : (outline : Tree) (config : Option Content) → ((content : Content) → config ≡ Some content → finite.contains_key outline tup_config ≡ false) → AddsConfig config outline outline
+config_unset outline config off = record {
+  paths = λ path. refl;
+  content = λ content e there. absurd (true≢false (sym there ∙ off content e));
+}
 
 -- ---- the sources among the files that a graph sees
 

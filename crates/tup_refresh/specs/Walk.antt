@@ -24,6 +24,7 @@ module _ (g : GraphState) (sources : Tree) (settings : Entries) where
     pub kept : (dir : Names) (left : Reading) → finite.get readings dir ≡ Some left → finite.get fresh dir ≡ None
         → (kept_reading g dir ≡ Some left) × AllStand sources settings readings dir left.asked
 
+  -- a walk's folders are under way, its fresh readings are the new ones, and its contents are those of the sources
   pub record IsWalk (walk : Walk) : Type 0 where
     pub work : IsWork sources settings walk.work
     pub parted : AreParted walk.work.readings walk.fresh

@@ -13,15 +13,19 @@ use Rattle.tup_stale.specs.Files.{without, SameBeside}
 -- as it was; the graph with doomed paths, beside that tree but for the files, which hold anything or are gone; or the graph
 -- that forgot the paths, beside the present tree without the files.
 module _ (g : GraphState) (paths files : List Names) (present : Tree) (v w : World) where
+  -- nothing was done yet
   abbrev pub IsUntouched : Type 0
   IsUntouched = IsStoreOf g w.store × TreeStays v w
 
+  -- the paths are doomed, and their files may be half gone
   abbrev pub IsDoomed : Type 0
   IsDoomed = IsStoreOf (with_doomed g paths) w.store × SameBeside files v.tree w.tree
 
+  -- the files are gone, and the paths are forgotten
   abbrev pub IsForgotten : Type 0
   IsForgotten = IsStoreOf (with_forgotten g paths) w.store × (w.tree ≡ without present files)
 
+  -- one of the three
   abbrev pub ClearStep : Type 0
   ClearStep = IsUntouched ⊎ IsDoomed ⊎ IsForgotten
 

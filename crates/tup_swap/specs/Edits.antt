@@ -17,22 +17,30 @@ use Rattle.tup_graph.specs.Swap.{WasAt, owned_now, IsFlaggedYet, ReadsNew}
 use Rattle.tup_graph.specs.Transactions.{flag_edits}
 
 -- ---- nothing is flagged, to be read, owned or recorded of a run
+
+-- a flag goes
 abbrev pub unflag : ℕ × Unit {0} → Edit
 unflag flag = Remove (records.Modify flag.0)
 
+-- a mark that a folder is to be read goes
 abbrev pub uncreate : Names × Unit {0} → Edit
 uncreate created = Remove (records.Create created.0)
 
+-- the owner of a path goes
 abbrev pub unown : Names × Owned → Edit
 unown owned = Remove (records.Owned owned.0 owned.1.maker owned.1.state)
 
+-- the record of a run goes
 abbrev pub unrun : ℕ × RunRecord → Edit
 unrun run = Remove (records.Run run.0 run.1)
 
+-- all of these go
 abbrev pub clear_edits : GraphState → List Edit
 clear_edits g = map unflag (finite.entries g.flags) ++ map uncreate (finite.entries g.created) ++ map unown (finite.entries g.owned) ++ map unrun (finite.entries g.runs)
 
 -- ---- readings of folders are gone, and others are new
+
+-- the reading of a folder goes, where there is one
 abbrev pub unread : GraphState → Names → Option Edit
 unread g dir = option_map (λ (reading : Reading). Remove (records.Reading dir reading)) (finite.get g.readings dir)
 
@@ -40,16 +48,21 @@ unread g dir = option_map (λ (reading : Reading). Remove (records.Reading dir r
 abbrev pub dir_of : Names × Reading → Names
 dir_of one = one.0
 
+-- a folder has this reading
 abbrev pub read_so : Names × Reading → Edit
 read_so one = Put (records.Reading one.0 one.1)
 
+-- the readings of some folders go, and others come
 abbrev pub reading_edits : GraphState → List (Names × Reading) → List Names → List Edit
 reading_edits g fresh gone = filter_map (unread g) gone ++ map read_so fresh
 
 -- ---- a rule goes, and a rule comes
+
+-- a rule goes, by its number
 abbrev pub rule_less : ℕ → Rule → Edit
 rule_less number rule = Remove (records.Rule number 0 rule)
 
+-- a rule comes, at this place among those of its folder
 abbrev pub rule_more : ℕ → ℕ → Rule → Edit
 rule_more number place rule = Put (records.Rule number place rule)
 
@@ -58,18 +71,22 @@ abbrev pub less_edits : ℕ → List Rule → List Edit
 less_edits number [] = []
 less_edits number (rule ∷ rules) = less_edits (suc number) rules ++ rule_less number rule ∷ []
 
--- rules come behind others, each with its place among those of its folder
+-- the place of a rule that comes behind others: how many of these are of its folder
 abbrev pub place_behind : List Rule → Rule → ℕ
 place_behind before rule = count_by (λ (other : Rule). same_path other.dir rule.dir) before
 
+-- rules come behind others, each with its place among those of its folder
 abbrev pub more_edits : List Rule → List Rule → List Edit
 more_edits before [] = []
 more_edits before (rule ∷ rules) = rule_more (length before) (place_behind before rule) rule ∷ more_edits (before ++ rule ∷ []) rules
 
 -- ---- rules have these records, and paths are owned so
+
+-- a rule has this record of its run
 abbrev pub run_so : ℕ × RunRecord → Edit
 run_so run = Put (records.Run run.0 run.1)
 
+-- a path is owned so
 abbrev pub own_so : Names × Owned → Edit
 own_so owned = Put (records.Owned owned.0 owned.1.maker owned.1.state)
 

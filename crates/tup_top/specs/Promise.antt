@@ -200,6 +200,7 @@ pub record OwnUpdate (heard hears : ℕ) (status : Status) : Type 0 where
   pub plain_cause : HasCountedCause (unfailed heard) counted status
   pub success : IsClear mini_next demo_world new → NothingFailed (unfailed heard) counted → IsDoneOrMemory status
 
+-- a demo answers as an update of its own; nothing is said of other calls
 abbrev pub Demonstrates : Wanted → ℕ → ℕ → Status → Type 0
 Demonstrates (Ok (Upd program)) heard hears status = ⊤
 Demonstrates (Ok Init) heard hears status = ⊤

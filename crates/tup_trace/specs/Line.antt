@@ -15,12 +15,15 @@ use Rattle.tup_trace.specs.declared.token.Token.TheVariants as token
 abbrev pub is_gap : ℕ → Bool
 is_gap byte = byte == 32 || byte == 44 || byte == 40 || byte == 41 || byte == 124
 
+-- a line of which nothing was read
 abbrev pub line_begun : Reading
 line_begun = record { tokens = []; kind = kind.Gap; part = nothing_read }
 
+-- the same reading, with another kind of part being read
 abbrev pub of_kind : Reading → Kind → Reading
 of_kind reading kind = record { tokens = reading.tokens; kind = kind; part = reading.part }
 
+-- the same reading, with this read of its part
 abbrev pub of_part : Reading → Unquoting → Reading
 of_part reading part = record { tokens = reading.tokens; kind = reading.kind; part = part }
 
@@ -60,6 +63,7 @@ within reading byte closing =
     if byte == closing && may_close reading.part.escape then part_ended (of_part reading (closed reading.part))
     else of_part reading (read_quoted reading.part byte)
 
+-- a byte more of a line
 abbrev pub read_byte : Reading → ℕ → Reading
 read_byte reading byte = read reading.kind
   where

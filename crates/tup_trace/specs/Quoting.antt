@@ -7,6 +7,8 @@ use Rattle.tup_trace.specs.declared.quoting.Escape.TheVariants.{Outside, Backsla
 use Rattle.tup_trace.specs.declared.quoting.Unquoting.{Unquoting}
 
 -- ---- how it is written
+
+-- whether a byte is a digit of an octal number
 abbrev pub is_octal : ℕ → Bool
 is_octal byte = nat_le 48 byte && nat_lt byte 56
 
@@ -43,6 +45,8 @@ quoted [] = []
 quoted (byte ∷ more) = quoted_as (byte_letter byte) byte (begins_octal more) ++ quoted more
 
 -- ---- how it is read, byte by byte
+
+-- the byte that a letter stands for behind a backslash
 abbrev pub letter_byte : ℕ → Option ℕ
 letter_byte letter =
     if letter == 116 then Some 9 else
@@ -57,12 +61,15 @@ letter_byte letter =
 abbrev pub octal_1 : ℕ → ℕ
 octal_1 first = first % 8
 
+-- what two digits spell
 abbrev pub octal_2 : ℕ → ℕ → ℕ
 octal_2 first second = first % 8 * 8 + second % 8
 
+-- what three digits spell
 abbrev pub octal_3 : ℕ → ℕ → ℕ → ℕ
 octal_3 first second third = first % 8 * 64 + second % 8 * 8 + third % 8
 
+-- a text of which nothing was read
 abbrev pub nothing_read : Unquoting
 nothing_read = record { text = []; escape = Outside }
 
@@ -70,6 +77,7 @@ nothing_read = record { text = []; escape = Outside }
 abbrev pub with_byte : Unquoting → ℕ → Unquoting
 with_byte read byte = record { text = read.text ++ byte ∷ []; escape = Outside }
 
+-- the same text, with an escape left open
 abbrev pub left_open : Unquoting → Escape → Unquoting
 left_open read escape = record { text = read.text; escape = escape }
 
@@ -103,6 +111,7 @@ closed read = with read.escape
     with (Two first second) = with_byte read (octal_2 first second)
     with other = read
 
+-- a byte more of a text
 abbrev pub read_quoted : Unquoting → ℕ → Unquoting
 read_quoted read byte = with read.escape
   where

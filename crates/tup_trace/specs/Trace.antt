@@ -12,6 +12,7 @@ use Rattle.tup_trace.specs.declared.trace.Line.{Line}
 use Rattle.tup_trace.specs.declared.trace.Line.TheVariants as line
 use Rattle.tup_trace.specs.declared.trace.Trace.{Trace}
 
+-- a call of a process, by its name, with its parts
 abbrev pub call : List ℕ → List ℕ → List Token → Call
 call process name parts = record { process = process; name = name; parts = parts }
 
@@ -26,6 +27,7 @@ abbrev pub is_note : Token → Bool
 is_note (Place note) = bytes_eq note (codes "unfinished ...")
 is_note other = false
 
+-- whether these parts are of a call that only began
 abbrev pub is_begun : List Token → Bool
 is_begun parts = list_any is_note parts
 
@@ -61,6 +63,7 @@ with_rest trace rest = with (find (is_of rest.process) trace.begun)
       begun = without rest.process trace.begun;
     }
 
+-- a line more: a call, or the rest of one
 abbrev pub joined : Trace → Line → Trace
 joined trace (line.Call call) = with_call trace call
 joined trace (line.Rest rest) = with_rest trace rest
@@ -94,10 +97,12 @@ abbrev pub go_on : Result Trace TraceFault → (Trace → Result (List Call) Tra
 go_on (Ok trace) rest = rest trace
 go_on (Err fault) rest = Err fault
 
+-- the calls, if the bytes from here on are lines that read
 abbrev pub read_all : List ℕ → Trace → Result (List Call) TraceFault
 read_all [] trace = all_read trace
 read_all (byte ∷ more) trace = go_on (followed trace byte) (read_all more)
 
+-- a trace of which nothing was read
 abbrev pub trace_begun : Trace
 trace_begun = record { reading = line_begun; line = 1; calls = []; begun = [] }
 

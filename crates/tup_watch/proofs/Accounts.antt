@@ -4,9 +4,10 @@ use Rattle.std.specs.Prelude.{◌||◌, ◌&&◌, not, if◌then◌else◌, fold
 use Rattle.std.specs.List.{list_any, IsDistinct, AllByRecursion}
 use Rattle.std.proofs.lemmas.Bool.{true≢false}
 use Rattle.std.proofs.lemmas.List.Folds.{list_any-append}
+use Rattle.tup_path.specs.Name.{Names}
 use Rattle.tup_path.specs.Order.{same_path}
 use Rattle.tup_path.proofs.Same.{same_path-decides}
-use Rattle.tup_watch.specs.Account.{Names, is_among, with_path, nothing, asked, written, with_step}
+use Rattle.tup_watch.specs.Account.{is_among, with_path, nothing, asked, written, with_step}
 use Rattle.tup_watch.specs.Laws.{asked_by, written_by, touched_by, asks_first, AsksAreFirst, AsksAreDistinct, AllIsTouched, TouchedAreDistinct, WrittenIsOwn}
 use Rattle.tup_watch.specs.declared.account.Account.{Account}
 use Rattle.tup_watch.specs.declared.account.Step.{Step}

@@ -1,15 +1,14 @@
 -- The account of a command: what it asks for, each path once and none that it wrote itself before, and what it wrote, in the
 -- order of first writing.
-use Rattle.std.specs.Prelude.{ℕ, Bool, if◌then◌else◌, List, [], ◌∷◌, ◌++◌, fold}
+use Rattle.std.specs.Prelude.{Bool, if◌then◌else◌, List, [], ◌∷◌, ◌++◌, fold}
 use Rattle.std.specs.List.{list_any}
+use Rattle.tup_path.specs.Name.{Names}
 use Rattle.tup_path.specs.Order.{same_path}
 use Rattle.tup_watch.specs.declared.account.Account.{Account}
 use Rattle.tup_watch.specs.declared.account.Step.{Step}
 use Rattle.tup_watch.specs.declared.account.Step.TheVariants.{Ask, Write, Change, Remove, Move}
 
-abbrev pub Names : Type 0
-Names = List (List ℕ)
-
+-- whether a path is one of these
 abbrev pub is_among : Names → List Names → Bool
 is_among path paths = list_any (λ other. same_path other path) paths
 
@@ -17,6 +16,7 @@ is_among path paths = list_any (λ other. same_path other path) paths
 abbrev pub with_path : List Names → Names → List Names
 with_path paths path = if is_among path paths then paths else paths ++ path ∷ []
 
+-- the account of a command that did nothing
 abbrev pub nothing : Account
 nothing = record { asks = []; touched = []; own = [] }
 
@@ -36,6 +36,7 @@ written account path = record account { touched = with_path account.touched path
 abbrev pub moved : Account → Names → Names → Account
 moved account from to = if same_path from to then asked account from else written (written (asked account from) to) from
 
+-- a step more
 abbrev pub with_step : Account → Step → Account
 with_step account (Ask path) = asked account path
 with_step account (Write path) = written account path

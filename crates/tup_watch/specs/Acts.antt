@@ -7,34 +7,45 @@ use Rattle.tup_watch.specs.declared.act.Act.TheVariants.{Ask, Run, Write, Change
 use Rattle.tup_watch.specs.declared.said.Said.{Said}
 
 -- ---- the places that a call says
+
+-- the first place; the empty one where there is none
 abbrev pub first : List (List ℕ) → List ℕ
 first [] = []
 first (place ∷ more) = place
 
+-- the second place, likewise
 abbrev pub second : List (List ℕ) → List ℕ
 second [] = []
 second (place ∷ more) = first more
 
 -- ---- an act at a place, if there is one
+
+-- an act, where a place is named
 abbrev pub at : List ℕ → Act → List Act
 at [] act = []
 at (byte ∷ more) act = act ∷ []
 
+-- asks for what is there, or for the link there where it isn't followed
 abbrev pub ask : List ℕ → Bool → List Act
 ask place follows = at place (Ask place follows)
 
+-- runs what is there
 abbrev pub run : List ℕ → List Act
 run place = at place (Run place)
 
+-- makes or overwrites what is there
 abbrev pub write : List ℕ → Bool → List Act
 write place follows = at place (Write place follows)
 
+-- asks for what is there, and may change it
 abbrev pub change : List ℕ → Bool → List Act
 change place follows = at place (Change place follows)
 
+-- removes what is there
 abbrev pub remove : List ℕ → List Act
 remove place = at place (Remove place)
 
+-- moves what is there to another place
 abbrev pub move : List ℕ → List ℕ → List Act
 move from to = at from (Move from to)
 
@@ -44,10 +55,12 @@ abbrev pub is_error : List ℕ → Bool
 is_error [] = true
 is_error (byte ∷ more) = byte == 45 || byte == 63
 
+-- whether it did what it says; a call whose end isn't known did not
 abbrev pub is_done : Option (List ℕ) → Bool
 is_done None = false
 is_done (Some outcome) = not (is_error outcome)
 
+-- whether it failed; a call whose end isn't known did not
 abbrev pub has_failed : Option (List ℕ) → Bool
 has_failed None = false
 has_failed (Some outcome) = is_error outcome
@@ -57,6 +70,8 @@ abbrev pub follows : List ℕ → List (List ℕ) → Bool
 follows name words = not (is_looking name || has (codes "AT_SYMLINK_NOFOLLOW") words || has (codes "O_NOFOLLOW") words)
 
 -- ---- what opening a file does
+
+-- whether the file is new behind it: made, or made empty
 abbrev pub is_new : List (List ℕ) → Bool
 is_new words = has (codes "O_CREAT") words && (has (codes "O_TRUNC") words || has (codes "O_EXCL") words)
 
@@ -64,6 +79,7 @@ is_new words = has (codes "O_CREAT") words && (has (codes "O_TRUNC") words || ha
 abbrev pub is_structured : List (List ℕ) → Bool
 is_structured words = has (codes "{flags=O_WRONLY") words || has (codes "{flags=O_RDWR") words
 
+-- whether the file may be written
 abbrev pub is_writing : List (List ℕ) → Bool
 is_writing words = has (codes "O_WRONLY") words || has (codes "O_RDWR") words || has (codes "O_APPEND") words || has (codes "O_CREAT") words || is_structured words
 
@@ -71,6 +87,7 @@ is_writing words = has (codes "O_WRONLY") words || has (codes "O_RDWR") words ||
 abbrev pub is_no_file : List (List ℕ) → Bool
 is_no_file words = has (codes "O_DIRECTORY") words || has (codes "O_TMPFILE") words
 
+-- what opening a place with these flags does
 abbrev pub opening : List (List ℕ) → List ℕ → Bool → List Act
 opening words place follows =
     if is_no_file words then [] else

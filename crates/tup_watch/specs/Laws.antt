@@ -1,8 +1,9 @@
 -- What an account tells of a command, said without going through it step by step.
 use Rattle.std.specs.Prelude.{◌≡◌, ◌&&◌, ◌||◌, not, Bool, false, if◌then◌else◌, List, [], ◌∷◌}
 use Rattle.std.specs.List.{list_any, IsDistinct}
+use Rattle.tup_path.specs.Name.{Names}
 use Rattle.tup_path.specs.Order.{same_path}
-use Rattle.tup_watch.specs.Account.{Names, is_among, account_of}
+use Rattle.tup_watch.specs.Account.{is_among, account_of}
 use Rattle.tup_watch.specs.declared.account.Step.{Step}
 use Rattle.tup_watch.specs.declared.account.Step.TheVariants.{Ask, Write, Change, Remove, Move}
 
@@ -39,6 +40,7 @@ asks_first path (step ∷ more) = is_among path (asked_by step) || (not (is_amon
 abbrev pub AsksAreFirst : Type 0
 AsksAreFirst = (path : Names) (steps : List Step) → is_among path (account_of steps).asks ≡ asks_first path steps
 
+-- each path is asked for once
 abbrev pub AsksAreDistinct : Type 0
 AsksAreDistinct = (steps : List Step) → IsDistinct same_path (account_of steps).asks
 
@@ -46,6 +48,7 @@ AsksAreDistinct = (steps : List Step) → IsDistinct same_path (account_of steps
 abbrev pub AllIsTouched : Type 0
 AllIsTouched = (path : Names) (steps : List Step) → is_among path (account_of steps).touched ≡ list_any (λ step. is_among path (touched_by step)) steps
 
+-- each path is touched once
 abbrev pub TouchedAreDistinct : Type 0
 TouchedAreDistinct = (steps : List Step) → IsDistinct same_path (account_of steps).touched
 

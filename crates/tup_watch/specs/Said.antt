@@ -17,6 +17,7 @@ abbrev pub place_from : List ℕ → List ℕ → List ℕ
 place_from folder [] = []
 place_from folder (byte ∷ more) = if byte == 47 then byte ∷ more else folder ++ 47 ∷ byte ∷ more
 
+-- a call of which nothing was read
 abbrev pub nothing_said : Said
 nothing_said = record { stretch = stretch.Arguments; places = []; words = []; base = None; outcome = None; opened = None }
 
@@ -34,6 +35,7 @@ wording said word =
     if bytes_eq word (codes "=") then record said { stretch = stretch.Outcome }
     else record said { words = said.words ++ word ∷ []; base = None }
 
+-- a part among the arguments: a flag, a text or a descriptor
 abbrev pub in_arguments : List ℕ → Said → Token → Said
 in_arguments folder said (Word word) = wording said word
 in_arguments folder said (Quoted text) = naming folder said text
@@ -49,6 +51,7 @@ abbrev pub in_opened : Said → Token → Said
 in_opened said (Place path) = record said { stretch = stretch.Over; opened = Some path }
 in_opened said other = record said { stretch = stretch.Over }
 
+-- a part more
 abbrev pub with_token : List ℕ → Said → Token → Said
 with_token folder said token = read said.stretch
   where

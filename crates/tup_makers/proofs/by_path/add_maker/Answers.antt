@@ -1,7 +1,7 @@
 use Rattle.std.proofs.Common.{sym, ◌∙◌}
-use Rattle.tup_clean.proofs.Making.{adds_known, adds_new}
-use Rattle.tup_clean.proofs.makers.add_maker.Goals as goal
-use Rattle.tup_clean.proofs.makers.add_maker.Goals.{then-not-contains_key+in_ok-clone+in_ok-insert, else-not-contains_key}
+use Rattle.tup_makers.proofs.Making.{adds_known, adds_new}
+use Rattle.tup_makers.proofs.by_path.add_maker.Goals as goal
+use Rattle.tup_makers.proofs.by_path.add_maker.Goals.{then-not-contains_key+in_ok-clone+in_ok-insert, else-not-contains_key}
 
 pub loop-output-preserved : goal.loop-output-preserved
 loop-output-preserved c =

@@ -2,10 +2,10 @@ use Rattle.std.proofs.Common.{ℕ, List, Option, [], ◌∷◌, ◌++◌, append
 use Rattle.std.proofs.lemmas.List.{append-nil}
 use Rattle.std.specs.List.{cons_option}
 use Rattle.std.specs.Option.{option_copied}
-use Rattle.tup_clean.specs.Makers.{makers_in}
-use Rattle.tup_clean.proofs.Making.{makers_in-more}
-use Rattle.tup_clean.proofs.makers.add_makers.Goals as goal
-use Rattle.tup_clean.proofs.makers.add_makers.Goals.{in-Some+in_ok-push, in_default}
+use Rattle.tup_makers.specs.Makers.{makers_in}
+use Rattle.tup_makers.proofs.Making.{makers_in-more}
+use Rattle.tup_makers.proofs.by_path.add_makers.Goals as goal
+use Rattle.tup_makers.proofs.by_path.add_makers.Goals.{in-Some+in_ok-push, in_default}
 
 pub loop-path-preserved : goal.loop-path-preserved
 loop-path-preserved c =

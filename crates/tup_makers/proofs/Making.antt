@@ -12,7 +12,7 @@ use Rattle.tup_path.specs.Order.{by_names, same_path, same_path-by_names}
 use Rattle.tup_path.proofs.Same.{same_path-decides}
 use Rattle.tup_rule.specs.declared.rule.Rule.{Rule}
 use Rattle.tup_rule.specs.Rule.{among, writes, maker}
-use Rattle.tup_link.specs.Makers.{MakerMap, HasMakers, AddsMaker, producers, makers_in}
+use Rattle.tup_makers.specs.Makers.{MakerMap, HasMakers, AddsMaker, producers, makers_in, producers_in}
 
 -- ---- the first that passes, element by element
 
@@ -51,9 +51,6 @@ position-push p (x ∷ xs) y =
 
 -- ---- one rule more
 
-pub makers_none : (makers : MakerMap) → makers.entries ≡ [] → HasMakers [] makers
-makers_none makers none = record { each = λ path. rw none refl }
-
 pub makers_more : (rules : List Rule) (at : ℕ) (rule : Rule) (old new : MakerMap) → HasMakers (take at rules) old → at < length rules → rule ≡ get_or rules at rule → AddsMaker rule.outputs at old new → HasMakers (take (at + 1) rules) new
 makers_more rules at rule old new has less here adds = record {
   each = λ path.
@@ -80,13 +77,6 @@ turned x y apart = elim (cases_Bool (same_path x y)) [
   | inl same ↦ absurd (true≢false (sym ((same_path-decides y x).1 (sym ((same_path-decides x y).0 same))) ∙ apart))
   | inr other ↦ other
 ]
-
-pub adds_none : (at : ℕ) (makers : MakerMap) → AddsMaker [] at makers makers
-adds_none at makers = record { each = λ path. by (get by_names makers path) }
-  where
-    by : (o : Option ℕ) → o ≡ option_or o None
-    by (Some n) = refl
-    by None = refl
 
 module _ (outputs : List Names) (at i : ℕ) (output : Names) (old now : MakerMap) (adds : AddsMaker (take i outputs) at old now) (less : i < length outputs) (here : output ≡ get_or outputs i output) where
   among_more : (path : Names) → among path (take (i + 1) outputs) ≡ (among path (take i outputs) || same_path path output)
@@ -138,5 +128,5 @@ makers_in-more makers paths i path less here =
 pub makers_in-append : (makers : MakerMap) (one other : List Names) → makers_in makers (one ++ other) ≡ makers_in makers one ++ makers_in makers other
 makers_in-append makers one other = filter_map-append (λ p. get by_names makers p) one other
 
-pub producers-is : (rules : List Rule) (makers : MakerMap) (rule : Rule) → HasMakers rules makers → makers_in makers (rule.inputs ++ rule.order) ≡ producers rules rule
-producers-is rules makers rule has = ap (λ (h : Names → Option ℕ). filter_map h (rule.inputs ++ rule.order)) (λ i path. has.each path i)
+pub producers_in-is : (rules : List Rule) (makers : MakerMap) (rule : Rule) → HasMakers rules makers → producers_in makers rule ≡ producers rules rule
+producers_in-is rules makers rule has = ap (λ (h : Names → Option ℕ). filter_map h (rule.inputs ++ rule.order)) (λ i path. has.each path i)

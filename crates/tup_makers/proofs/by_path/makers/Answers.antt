@@ -1,8 +1,8 @@
 use Rattle.std.proofs.Common.{List, subst}
 use Rattle.tup_path.specs.Name.{Names}
-use Rattle.tup_clean.specs.Makers.{AddsMaker}
-use Rattle.tup_clean.proofs.Making.{makers_more}
-use Rattle.tup_clean.proofs.makers.makers.Goals as goal
+use Rattle.tup_makers.specs.Makers.{AddsMaker}
+use Rattle.tup_makers.proofs.Making.{makers_more}
+use Rattle.tup_makers.proofs.by_path.makers.Goals as goal
 
 pub loop-at-preserved : goal.loop-at-preserved
 loop-at-preserved c =

@@ -1,6 +1,6 @@
-//! Which rule makes a path.
+//! Which rule makes a path, and for which rules a rule waits.
 ghost use Rattle.std.specs.Prelude.{◌≡◌, ◌++◌, IfOk, OnOk};
-ghost use Rattle.tup_clean.specs.Makers.{HasMakers, AddsMaker, makers_in};
+ghost use Rattle.tup_makers.specs.Makers.{HasMakers, AddsMaker, makers_in, producers_in};
 
 use std::alloc::{AllocError, Global};
 use std::collections::BTreeMap;
@@ -8,10 +8,10 @@ use tup_path::Path;
 use tup_rule::Rule;
 
 /// The place of the rule that makes a path, for each path that a rule makes.
-pub(crate) type Makers = BTreeMap<Path, usize>;
+pub type Makers = BTreeMap<Path, usize>;
 
 /// The makers of all paths: the first rule that has a path as an output.
-pub(crate) fn makers(alloc: Global, rules: &[Rule]) -> Result<Makers, AllocError>
+pub fn makers(alloc: Global, rules: &[Rule]) -> Result<Makers, AllocError>
     ensures { IfOk result (HasMakers rules.now) }
 {
     let mut makers = BTreeMap::new(alloc);
@@ -33,12 +33,18 @@ fn add_maker(makers: &mut Makers, outputs: &[Path], at: usize) -> Result<(), All
     Ok(())
 }
 
+/// The makers of the paths that a rule declares, one for each path that has one.
+pub fn producers_of(alloc: Global, makers: &Makers, rule: &Rule) -> Result<Vec<usize>, AllocError>
+    ensures { IfOk result (λ found. found.items ≡ producers_in makers.now rule.now) }
+{
+    let mut found = Vec::new(alloc);
+    add_makers(&mut found, makers, rule.inputs.as_slice())?;
+    add_makers(&mut found, makers, rule.order.as_slice())?;
+    Ok(found)
+}
+
 /// Adds the makers of some paths, one for each that has one.
-pub(crate) fn add_makers(
-    found: &mut Vec<usize>,
-    makers: &Makers,
-    paths: &[Path],
-) -> Result<(), AllocError>
+fn add_makers(found: &mut Vec<usize>, makers: &Makers, paths: &[Path]) -> Result<(), AllocError>
     ensures { OnOk result (found.new.items ≡ found.old.items ++ makers_in makers.now paths.now) }
 {
     for path in paths {

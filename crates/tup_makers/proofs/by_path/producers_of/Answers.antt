@@ -1,7 +1,7 @@
 use Rattle.std.proofs.Common.{List, ℕ, sym, ap, ◌∙◌, ◌++◌}
-use Rattle.tup_clean.specs.Makers.{makers_in}
-use Rattle.tup_clean.proofs.Making.{makers_in-append}
-use Rattle.tup_clean.proofs.queue.producers.Goals as goal
+use Rattle.tup_makers.specs.Makers.{makers_in}
+use Rattle.tup_makers.proofs.Making.{makers_in-append}
+use Rattle.tup_makers.proofs.by_path.producers_of.Goals as goal
 
 pub returns : goal.returns
 returns c =

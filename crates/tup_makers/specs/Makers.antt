@@ -1,6 +1,7 @@
 -- The makers of paths in a map, and the makers of what a rule declares.
-use Rattle.std.specs.Prelude.{◌≡◌, ℕ, if◌then◌else◌, List, ◌++◌, Option, None, Some, filter_map}
+use Rattle.std.specs.Prelude.{◌≡◌, ℕ, if◌then◌else◌, List, ◌++◌, None, Some, filter_map}
 use Rattle.std.specs.BTreeMap.{BTreeMap, get}
+use Rattle.std.specs.Option.{option_or}
 use Rattle.tup_path.specs.Name.{Names}
 use Rattle.tup_path.specs.Order.{by_names}
 use Rattle.tup_rule.specs.declared.rule.Rule.{Rule}
@@ -14,14 +15,9 @@ MakerMap = BTreeMap Names ℕ
 pub record HasMakers (rules : List Rule) (makers : MakerMap) : Type 0 where
   pub each : (path : Names) → get by_names makers path ≡ maker path rules
 
--- what stands there, or else this
-abbrev pub or_else : Option ℕ → Option ℕ → Option ℕ
-or_else (Some at) other = Some at
-or_else None other = other
-
 -- a map that has one maker more
 pub record AddsMaker (outputs : List Names) (at : ℕ) (old new : MakerMap) : Type 0 where
-  pub each : (path : Names) → get by_names new path ≡ or_else (get by_names old path) (if among path outputs then Some at else None)
+  pub each : (path : Names) → get by_names new path ≡ option_or (get by_names old path) (if among path outputs then Some at else None)
 
 -- the makers of the paths that a rule declares, one for each path that has one
 abbrev pub producers : List Rule → Rule → List ℕ
