@@ -6,7 +6,8 @@ ghost use Rattle.tup_top.specs.Crew.{IsCrew};
 ghost use Rattle.tup_history.specs.Deed.{IsUntouched, Refuses};
 ghost use Rattle.tup_history.specs.Run.{IsCleanBuild};
 ghost use Rattle.tup_history.specs.History.{standing, EndsDeed, TakesRun, Takes, RefusesTurn, StandsAs, AreLived, EndsDone};
-ghost use Rattle.tup_history.specs.Stays.{IsKept, AreKept};
+ghost use Rattle.tup_history.specs.Kept.{IsKept};
+ghost use Rattle.tup_history.specs.Stays.{AreKept};
 
 use crate::deed::do_deed;
 use crate::run::{begin, go_on, run};
