@@ -1,5 +1,5 @@
 -- What the sources of a tree are behind an edit, and of a project that begins.
-use Rattle.std.proofs.Common.{◌≡◌, ◌≢◌, Bool, true, false, cond, not, [], ◌∷◌, ◌++◌, Option, None, Some, inl, refl, sym, ap, subst, ◌∙◌}
+use Rattle.std.proofs.Common.{◌≡◌, ◌≢◌, Bool, true, false, cond, not, [], ◌∷◌, ◌++◌, Option, None, Some, is_some, inl, inr, refl, sym, ap, subst, ◌∙◌}
 use Rattle.std.proofs.lemmas.Bool.{cases_Bool, both_ways}
 use Rattle.std.specs.FinMap as finite
 use Rattle.tup_path.specs.Name.{Names, Content}
@@ -9,6 +9,7 @@ use Rattle.tup_path.proofs.Same.{same_path-decides, get_inserted, get_inserted_e
 use Rattle.tup_site.specs.Edit.{edited}
 use Rattle.tup_site.proofs.Sound.{gone}
 use Rattle.tup_table.specs.Store.{header}
+use Rattle.tup_graph.specs.declared.owned.Owned.{Owned}
 use Rattle.tup_graph.specs.Graph.{GraphState, empty_graph, is_owned}
 use Rattle.tup_kept.specs.Crash.{IsStoreOf}
 use Rattle.tup_ledger.specs.Sources.{sources_of}
@@ -51,7 +52,7 @@ module _ (g : GraphState) where
 
 -- ---- the store of a project that begins
 pub owns_nothing : (path : Names) → is_owned empty_graph path ≡ false
-owns_nothing path = refl
+owns_nothing path = ap (λ (found : Option Owned). is_some found) (finite.get-empty {X = Owned} by_names path)
 
 pub all_are_sources : (tree : Tree) → sources_of empty_graph tree ≡ tree
 all_are_sources tree = same_tree (sources_of empty_graph tree) tree (λ q. get_source empty_graph tree q ∙ ap (λ (b : Bool). cond (not b) (finite.get tree q) None) (owns_nothing q))
