@@ -3,6 +3,7 @@ pub mod Turns
 pub mod Edits
 pub mod Sources
 pub mod Deeds
-pub mod Begun
+pub mod Opened
 pub mod Runs
 pub mod Stays
+pub mod Told

@@ -33,11 +33,11 @@ use Rattle.tup_history.specs.Kept.{IsUnbegun, IsKept, all_sources}
 use Rattle.tup_history.specs.Run.{SaysDone, Leaves}
 use Rattle.tup_history.specs.Stays.{BehindUpdate, BehindInit, BehindRun}
 use Rattle.tup_history.specs.declared.turn.End.{End}
-use Rattle.tup_history.proofs.Begun.{opening_on, made_kept}
+use Rattle.tup_history.proofs.Opened.{opening_on, made_kept}
 use Rattle.tup_history.proofs.Deeds.{by_steps, unbegun_on}
 
 -- whatever an update came to
-came_so : (Q : Type 0) (P : Option Stop → Type 0) → ((stopped : Option Stop) → P stopped → Q) → (status : Status) → IfCame status P → Q
+pub came_so : (Q : Type 0) (P : Option Stop → Type 0) → ((stopped : Option Stop) → P stopped → Q) → (status : Status) → IfCame status P → Q
 came_so Q P so (Done read ran removed) p = so _ p
 came_so Q P so (Command rule status) p = so _ p
 came_so Q P so (IllegalRead rule text) p = so _ p
@@ -85,11 +85,11 @@ module _ (tells : Bool) (next : Next) (old new : MemSite) where
       → (before : Option Kept) → IsKept old before → BehindUpdate (world_in old) before (IsKept new)
   update_keeps status images crash None kept =
       came_so (IsUnbegun new) (OfRules (world_in old) (λ rules _. GoesOn moment_of left_since old new (UpdateStep tells next rules (world_in old))))
-      (λ stopped p. unbegun_on old new (UpdateStep tells next p.0 (world_in old)) p.2.1
+      (λ stopped p. unbegun_on old new (UpdateStep tells next p.0 (world_in old)) p.2
       (λ w step. ⊎_elim (none_held (world_in old) w kept.no_store) (λ (makes : MakesStep tells next p.0 (world_in old) (world_in old) w). absurd (none_asked (world_in old) p.0 kept.no_store makes.asked)) step) kept) status crash
   update_keeps status images crash (Some before) kept =
       came_so (BehindUpdate (world_in old) (Some before) (IsKept new)) (OfRules (world_in old) (λ rules _. LeavesOnly moment_of left_since old new (HasSources (with_outputs rules before))))
-      (λ stopped p. (p.0, untold_rules (world_in old) p.0 stopped p.1, λ w left. p.2.1.each w (earlier_law new (moment_of old) (moment_of new) w p.2.1.later left))) status (images before kept)
+      (λ stopped p. (p.0, untold_rules (world_in old) p.0 stopped p.1, λ w left. p.2.each w (earlier_law new (moment_of old) (moment_of new) w p.2.later left))) status (images before kept)
 
   -- a beginning
   made_by : (status : Status) → SaysDone status → IsUnbegun old → GoesOn moment_of left_since old new (BeginStep (world_in old)) → IfBegan status (Begins (world_in old) (world_in new)) → IfBegan status (Lasts (left_since new (moment_of new)) (world_in new)) →

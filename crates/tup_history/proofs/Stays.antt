@@ -26,7 +26,7 @@ edit_keeps path content old new is None kept = still_unbegun path content old ne
 edit_keeps path content old new is (Some before) kept = λ owned all. behind_edit path content old new is owned before all kept
 
 -- a larger promise
-run_on : (wanted : Wanted) (w : World) (end : End) (before : Option Kept) (P Q : Option Kept → Type 0) → ((then : Option Kept) → P then → Q then) → BehindRun wanted w end before P → BehindRun wanted w end before Q
+run_on : (wanted : Wanted) (w : World) (end : End) (before : Option Kept) (P Q : Option Kept → Type 0) → ((later : Option Kept) → P later → Q later) → BehindRun wanted w end before P → BehindRun wanted w end before Q
 run_on (Ok (Upd program)) w end None P Q on p = on None p
 run_on (Ok (Upd program)) w end (Some before) P Q on p = (p.0, p.1, on _ p.2)
 run_on (Ok Init) w end None P Q on p = λ done. on _ (p done)
@@ -35,7 +35,7 @@ run_on (Ok Verify) w end before P Q on p = on before p
 run_on (Ok Demo) w end before P Q on p = on before p
 run_on (Err place) w end before P Q on p = on before p
 
-behind_on : (turn : Turn) (end : End) (site : MemSite) (before : Option Kept) (P Q : Option Kept → Type 0) → ((then : Option Kept) → P then → Q then) → Behind turn end site before P → Behind turn end site before Q
+behind_on : (turn : Turn) (end : End) (site : MemSite) (before : Option Kept) (P Q : Option Kept → Type 0) → ((later : Option Kept) → P later → Q later) → Behind turn end site before P → Behind turn end site before Q
 behind_on (Deed (Edit path content)) end site None P Q on p = on None p
 behind_on (Deed (Edit path content)) end site (Some before) P Q on p = λ owned all. on _ (p owned all)
 behind_on (Deed (Crash choice)) end site before P Q on p = on before p
@@ -50,14 +50,14 @@ turn_keeps tells next (Run words stop_after) end from to takes before kept =
         (kept_still from.site takes.begun takes.begins.first takes.begins.changes takes.begins.world before kept) in
     subst (λ (w : World). BehindRun (order words) w end before (IsKept to.site)) takes.begins.world
     (run_on (order words) (world_in takes.begun) end before (IsKept takes.ended) (IsKept to.site)
-    (λ then k. kept_still takes.ended to.site takes.goes_on.first takes.goes_on.changes takes.goes_on.world then k) ran)
+    (λ later k. kept_still takes.ended to.site takes.goes_on.first takes.goes_on.changes takes.goes_on.world later k) ran)
 
 -- ---- turn after turn
-stays : (tells : Bool) (next : Next) (turns : List Turn) (ends : List End) (from to : Standing) (history : IsHistory tells next turns ends from to) (P : Option Kept → Type 0) → ((then : Option Kept) → IsKept to.site then → P then) →
+stays : (tells : Bool) (next : Next) (turns : List Turn) (ends : List End) (from to : Standing) (history : IsHistory tells next turns ends from to) (P : Option Kept → Type 0) → ((later : Option Kept) → IsKept to.site later → P later) →
     (before : Option Kept) → IsKept from.site before → StaysKept tells next turns ends from to history before P
 stays tells next [] [] from to is P last before kept = last before (subst (λ (s : Standing). IsKept s.site before) (sym is) kept)
 stays tells next (turn ∷ turns) (end ∷ ends) from to (mid, takes, history) P last before kept =
-    behind_on turn end from.site before (IsKept mid.site) _ (λ then k. (k, stays tells next turns ends mid to history P last then k)) (turn_keeps tells next turn end from mid takes before kept)
+    behind_on turn end from.site before (IsKept mid.site) _ (λ later k. (k, stays tells next turns ends mid to history P last later k)) (turn_keeps tells next turn end from mid takes before kept)
 stays tells next [] (end ∷ ends) from to none P last before kept = absurd none
 stays tells next (turn ∷ turns) [] from to none P last before kept = absurd none
 
@@ -67,6 +67,6 @@ lived_kept tells next turns ends refused from to lived before kept = record {
   last = lived.last;
   history = lived.history;
   stays = stays tells next (take (length ends) turns) ends from lived.last lived.history (IsKept to.site)
-      (λ then k. kept_still lived.last.site to.site lived.stands.site.beside.first lived.stands.site.changes lived.stands.site.world then k) before kept;
+      (λ later k. kept_still lived.last.site to.site lived.stands.site.beside.first lived.stands.site.changes lived.stands.site.world later k) before kept;
   stands = lived.stands;
 }

@@ -54,7 +54,7 @@ Behind (Run words stop_after) end site before promise = BehindRun (order words) 
 abbrev pub StaysKept : (tells : Bool) (next : Next) (turns : List Turn) (ends : List End) (from to : Standing) → IsHistory tells next turns ends from to → Option Kept → (Option Kept → Type 0) → Type 0
 StaysKept tells next [] [] from to is before promise = promise before
 StaysKept tells next (turn ∷ turns) (end ∷ ends) from to (mid, takes, history) before promise =
-    Behind turn end from.site before (λ then. IsKept mid.site then × StaysKept tells next turns ends mid to history then promise)
+    Behind turn end from.site before (λ later. IsKept mid.site later × StaysKept tells next turns ends mid to history later promise)
 StaysKept tells next [] (end ∷ ends) from to none before promise = ⊥
 StaysKept tells next (turn ∷ turns) [] from to none before promise = ⊥
 
