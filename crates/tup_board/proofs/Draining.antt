@@ -1,10 +1,10 @@
 -- What one rule of a drain leaves, and what an update that is over came to.
 use Rattle.std.proofs.Common.{◌≡◌, ◌≢◌, ◌⊎◌, ℕ, ◌<◌, ◌+◌, ◌-◌, Bool, true, false, List, [], ◌∷◌, ◌++◌, length, Option, None, Some, Result, Ok, Err, refl, sym, ap, ◌∙◌, subst, inl, inr, ⊎_elim, append_assoc, arith}
-use Rattle.std.specs.Prelude.{◌==◌, IsSome, IsTrue, if◌then◌else◌, unwrap_or, slice_get, take, filter_map, option_map}
+use Rattle.std.specs.Prelude.{◌==◌, All, IsSome, IsTrue, if◌then◌else◌, unwrap_or, slice_get, take, filter_map, option_map}
 use Rattle.std.specs.List.{cons_option}
 use Rattle.std.proofs.lemmas.Bool.{false≢true, true≢false, eq-eqb, eqb-true}
 use Rattle.std.proofs.lemmas.List.{append-nil, append_cancel_left, length-append}
-use Rattle.std.proofs.lemmas.List.Elements.{All-nil, filter_map-append}
+use Rattle.std.proofs.lemmas.List.Elements.{All-nil, All-cons, All-append, filter_map-append}
 use Rattle.std.proofs.lemmas.Option.{none-some, same_Some}
 use Rattle.tup_path.specs.Count.{Rose}
 use Rattle.tup_path.specs.Name.{Names}
@@ -36,14 +36,15 @@ use Rattle.tup_course.specs.declared.claimed.Claimed.{Claimed}
 use Rattle.tup_course.specs.declared.claimed.Claimed.TheVariants.{Rule as Gives, Wait, Over}
 use Rattle.tup_course.specs.Room.{unclaimed}
 use Rattle.tup_course.proofs.Rooms.{unclaimed_fewer}
+use Rattle.tup_ground.specs.Fault.{CountsFaults}
 use Rattle.tup_ground.specs.declared.fault.BoardFault.{BoardFault}
 use Rattle.tup_ground.specs.declared.fault.BoardFault.TheVariants as fault_by
 use Rattle.tup_board.specs.declared.answers.Drained.{Drained}
 use Rattle.tup_board.specs.declared.answers.Drained.TheVariants.{Done, Left}
-use Rattle.tup_board.specs.Board.{BoardState, Opening, course_of, plan_of, start, state, with_history}
-use Rattle.tup_board.specs.Calls.{BuildsClean, Drains, Finishes, HasFailed, HasRun, HasRunCause, IsOver, RanAll, RunsOne, StartsAlone, command_of, commands}
+use Rattle.tup_board.specs.Board.{BoardState, Opening, course_of, plan_of, seat_of, start, state, with_history}
+use Rattle.tup_board.specs.Calls.{BuildsClean, Drains, Finishes, HasFailed, HasRun, HasRunCause, IsOver, KeepsCount, RanAll, RunsOne, StartsAlone, command_of, commands}
 use Rattle.tup_board.specs.CameLaws.{claims_both, from_both}
-use Rattle.tup_board.specs.Seat.{IsFromSeat, IsLeft}
+use Rattle.tup_board.specs.Seat.{IsFromSeat, IsLeft, IsSteady}
 use Rattle.tup_board.specs.Sound.{IsSound}
 use Rattle.tup_board.proofs.Seated.{orderly}
 use Rattle.tup_board.proofs.Seeing.{apart_from, from_one, state_more}
@@ -185,6 +186,36 @@ end_left seat old new running ended result here same other fin = left_so seat ol
 pub memory_kept : {S : Type 0} (seat : ℕ) (old new : BoardState S) (ended : Ended) (result : Result Verdict BoardFault) → result ≡ Err fault_by.Memory → Finishes seat ended old result new → new.history ≡ old.history
 memory_kept seat old new ended result is fin = subst (λ (r : Result Verdict BoardFault). Finishes seat ended old r new) is fin
 
+-- ---- what became of the site's count
+module _ {S : Type 0} (site : Site S) where
+  -- a call that leaves the site
+  pub steady_rest : (old new : BoardState S) → new ≡ with_history old new.history → IsSteady site old new
+  steady_rest old new rest none other = ap (λ (b : BoardState S). site.faults b.site) rest
+
+  pub steady_both : (old mid new : BoardState S) → IsSteady site old mid → (state mid).stopped ≡ None → IsSteady site mid new → IsSteady site old new
+  steady_both old mid new one going two none other = two going other ∙ one none (λ is. none-some causes.Site (sym going ∙ is))
+
+  -- the end of a command
+  pub steady_end : (seat : ℕ) (old new : BoardState S) (ended : Ended) (result : Result Verdict BoardFault) → new.opening ≡ old.opening → Finishes seat ended old result new
+      → CountsFaults (site.faults old.site) (site.faults new.site) old.lost result → IsSteady site old new
+  steady_end seat old new ended result same fin counts none other =
+      counts.steady (λ is. other (stop_is seat old new same causes.Site none (subst (λ (r : Result Verdict BoardFault). Finishes seat ended old r new) is fin).0))
+
+  -- it had no memory, and was stopped
+  pub steady_memory : (old mid new : BoardState S) (result : Result Verdict BoardFault) → result ≡ Err fault_by.Memory → CountsFaults (site.faults old.site) (site.faults mid.site) old.lost result
+      → new ≡ with_history mid new.history → IsSteady site old new
+  steady_memory old mid new result is counts rest none other = ap (λ (b : BoardState S). site.faults b.site) rest ∙ counts.steady (λ failed. let clash = sym is ∙ failed in cc)
+
+  -- an update under way
+  abbrev pub StaysSteady : BoardState S → BoardState S → Type 0
+  StaysSteady old now = (state now).stopped ≢ Some causes.Site → site.faults now.site ≡ site.faults old.site
+
+  pub stays_steady : (old now mid new : BoardState S) (number : ℕ) (result : Claimed) → StaysSteady old now → Claims 0 (course_of now) result (course_of mid) → result ≡ Gives number → mid ≡ with_history now mid.history
+      → StartsAlone mid number → IsSteady site mid new → StaysSteady old new
+  stays_steady old now mid new number result stays claimed is rest starts steady other =
+      let gives = subst (λ (r : Claimed). Claims 0 (course_of now) r (course_of mid)) is claimed in
+      steady starts.going other ∙ ap (λ (b : BoardState S). site.faults b.site) rest ∙ stays (λ failed. none-some causes.Site (sym gives.0.ready.going ∙ failed))
+
 -- ---- what a command was run to, by the runner's count
 pub never_failed : (was now : ℕ) (stopped : Option Cause) → now ≡ was → stopped ≢ Some causes.Run → HasFailed was now stopped
 never_failed was now stopped same never = record { run = λ is. absurd (never is); steady = λ _. same }
@@ -201,6 +232,7 @@ ran_one old new number starts from ends = record {
   opening = from.opening;
   events = from.events;
   adds = from.adds;
+  own = from.own;
   none_claimed = from.none_claimed;
   none_runs = λ seat. by seat (seat == 0) refl;
 }
@@ -295,6 +327,7 @@ pub record HasDrained {S : Type 0} (tells_ran : Bool) (old now : BoardState S) (
   pub opening : now.opening ≡ old.opening
   pub events : List CoreEvent
   pub adds : now.history ≡ old.history ++ events
+  pub own : All (λ event. seat_of event ≡ 0) events
   pub none_runs : NoneRuns (course_of now)
   pub ran_all : IsTrue tells_ran → Ran (plan_of old) events was ran (state now).stopped
   pub run : (state now).stopped ≡ Some causes.Run → ((state old).stopped ≡ Some causes.Run) ⊎ Rose before faults
@@ -305,6 +338,7 @@ drained_none tells_ran old was before none = record {
   opening = refl;
   events = [];
   adds = sym (append-nil old.history);
+  own = All-nil _;
   none_runs = none;
   ran_all = λ tells. inl (sym (append-nil was));
   run = λ is. inl is;
@@ -351,6 +385,7 @@ module _ {S : Type 0} (tells_ran : Bool) (old now mid new : BoardState S) (was r
     events = more;
     adds = one.adds ∙ ap (λ (h : List CoreEvent). h ++ one.events) (adds ∙ ap (λ (h : List CoreEvent). h ++ Claim 0 number ∷ []) has.adds)
         ∙ append_assoc (old.history ++ has.events) (Claim 0 number ∷ []) one.events ∙ append_assoc old.history has.events (Claim 0 number ∷ one.events);
+    own = All-append (λ event. seat_of event ≡ 0) has.events (Claim 0 number ∷ one.events) has.own (All-cons (λ event. seat_of event ≡ 0) (Claim 0 number) one.events refl one.own);
     none_runs = one.none_runs;
     ran_all = ran_then;
     run = λ is. inr (subst (λ (n : ℕ). Rose n last) steady_now (failed.run is));
@@ -409,6 +444,9 @@ module _ {S R : Type 0} (site : Site S) (runner : Runner R) (tells_ran : Bool) (
     pub drained_there : HasDrained tells_ran old mid was ran before faults
     drained_there = subst (λ (b : BoardState S). HasDrained tells_ran old b was ran before faults) (sym nothing_more) has
 
+    pub steady_there : StaysSteady site old now → StaysSteady site old mid
+    steady_there stays = subst (λ (b : BoardState S). StaysSteady site old b) (sym nothing_more) stays
+
 -- ---- an update that is over
 module _ {S : Type 0} (tells_ran : Bool) (old now : BoardState S) (was ran : List (Names × List ℕ)) (before faults : ℕ) (has : HasDrained tells_ran old now was ran before faults) (result : Drained) (drains : Drains (state now) result) where
   -- it is left for a cause just where it was stopped for that, unless a verdict is bad
@@ -423,6 +461,9 @@ module _ {S : Type 0} (tells_ran : Bool) (old now : BoardState S) (was ran : Lis
   stopped_for : (cause : Cause) → cause ≢ causes.Bad → result ≡ Left cause → (state now).stopped ≡ Some cause
   stopped_for cause other is =
       ⊎_elim (λ stopped. stopped) (λ bad. absurd (other bad.1)) (subst (Drains (state now)) is drains)
+
+  pub kept_count : (site : Site S) → StaysSteady site old now → KeepsCount (site.faults old.site) (site.faults now.site) result
+  kept_count site stays other = stays (λ is. other (left_by causes.Site is))
 
   pub run_cause : HasRunCause (state old).stopped before faults result
   run_cause = record {

@@ -2,7 +2,7 @@
 use Rattle.std.proofs.Common.{◌≡◌, ℕ, Bool, true, false, List, [], ◌∷◌, ◌++◌, map, Option, None, Some, Result, Ok, Err, refl, sym, ap, ◌∙◌, subst, ⊎_elim, inl, inr}
 use Rattle.std.specs.Prelude.{IsTrue, if◌then◌else◌, slice_get}
 use Rattle.std.proofs.lemmas.List.{append-nil}
-use Rattle.std.proofs.lemmas.Option.{same_Some}
+use Rattle.std.proofs.lemmas.Option.{none-some, same_Some}
 use Rattle.tup_path.specs.Name.{Names, Content}
 use Rattle.tup_stamp.specs.declared.Stamp.{Stamp}
 use Rattle.tup_rule.specs.declared.rule.Rule.{Rule}
@@ -111,7 +111,7 @@ module _ {S : Type 0} (site : Site S) (b : BoardState S) (seat number : ℕ) (ru
   module _ (result : made_so) (new : Ground S) (makes : Makes site number run files (record { site = b.site; graph = b.graph; lost = b.lost }) result new)
       (counts : CountsFaults (site.faults b.site) (site.faults new.site) b.lost result) where
     -- what making them did, as the end of the command tells it
-    module _ (answer : judged_so) (as_tried : (lost : Option Lost) → WasTried run result lost → WasTried run answer lost) where
+    module _ (answer : judged_so) (as_tried : (lost : Option Lost) → WasTried run result lost → WasTried run answer lost) (as_lost : (commit : Lost) → b.lost ≡ Some commit → answer ≡ Err (lost_fault commit)) where
       abbrev step_made : World → World → Type 0
       step_made v w = MakeStep (WasTried run result new.lost) b.graph.nodes number run files v w
 
@@ -144,7 +144,15 @@ module _ {S : Type 0} (site : Site S) (b : BoardState S) (seat number : ℕ) (ru
       leaves hist told = record { number = number; run = run; is = run_at; now = leaves_now told b.lost refl; crash = leaves_crash told b.lost refl }
 
       touches : (hist : List CoreEvent) → Touches site seat ended b answer (record b { history = hist; site = new.site; graph = new.graph; lost = new.lost })
-      touches hist = record { opening = refl; bad = λ not. absurd (not good_at); good = λ told is. leaves hist told }
+      touches hist = record {
+        opening = refl;
+        bad = λ not. absurd (not good_at);
+        good = λ told is. leaves hist told;
+        idle = λ commit some is. (
+          ap (λ (it : Ground S). record b { history = hist; site = it.site; graph = it.graph; lost = it.lost }) (makes.idle commit some).0,
+          inl (as_lost commit some),
+        );
+      }
 
       known_now : (lost : Option Lost) → b.lost ≡ lost → IsTrue site.tells → Keeps (site.known b.site) (site.known new.site)
       known_now None none told = (makes.makes none).known told
@@ -164,6 +172,9 @@ module _ {S : Type 0} (site : Site S) (b : BoardState S) (seat number : ℕ) (ru
       tried_well lost (inl was) = inl (Good, refl)
       tried_well lost (inr was) = inr was
 
+      lost_well : (commit : Lost) → b.lost ≡ Some commit → (let well : judged_so = Ok Good in well) ≡ Err (lost_fault commit)
+      lost_well commit some = absurd (none-some commit (sym none_before ∙ some))
+
       pub ends_ok : Ends site seat ended b (Ok Good) (record b { history = b.history ++ Finish seat Good run.writes ∷ []; site = new.site; graph = new.graph; lost = new.lost })
       ends_ok = record {
         finishes = (
@@ -174,8 +185,8 @@ module _ {S : Type 0} (site : Site S) (b : BoardState S) (seat number : ℕ) (ru
           λ well. (none_before, λ lacks. (makes.makes none_before).room done ok (no_room lacks)),
         );
         lost = inl (((makes.makes none_before).ok done ok).0 ∙ sym none_before);
-        touches = touches (Ok Good) tried_well (b.history ++ Finish seat Good run.writes ∷ []);
-        known = known_now (Ok Good) tried_well b.lost refl;
+        touches = touches (Ok Good) tried_well lost_well (b.history ++ Finish seat Good run.writes ∷ []);
+        known = known_now (Ok Good) tried_well lost_well b.lost refl;
         cause = record { later = counts.later; site = λ e. absurd (good_or_not fault_by.Site e); steady = λ other. counts.steady (λ e. made_or_not done fault_by.Site (sym ok ∙ e)) };
       }
 
@@ -187,6 +198,9 @@ module _ {S : Type 0} (site : Site S) (b : BoardState S) (seat number : ℕ) (ru
       tried_badly : (lost : Option Lost) → WasTried run result lost → WasTried run refusal lost
       tried_badly lost (inl was) = absurd (made_or_not was.0 fault (sym was.1 ∙ refused))
       tried_badly lost (inr was) = inr was
+
+      lost_badly : (commit : Lost) → b.lost ≡ Some commit → refusal ≡ Err (lost_fault commit)
+      lost_badly commit some = ap Err (same_fault {T = Unit {0}} fault (lost_fault commit) (sym refused ∙ (makes.idle commit some).1))
 
       abbrev then_is : BoardState S
       then_is = record b { history = b.history ++ stops_by seat fault; site = new.site; graph = new.graph; lost = new.lost }
@@ -229,7 +243,7 @@ module _ {S : Type 0} (site : Site S) (b : BoardState S) (seat number : ℕ) (ru
       ends_refused = record {
         finishes = finishes_as fault refl;
         lost = may_lose b.lost new.lost refl refl;
-        touches = touches refusal tried_badly (b.history ++ stops_by seat fault);
-        known = known_now refusal tried_badly b.lost refl;
+        touches = touches refusal tried_badly lost_badly (b.history ++ stops_by seat fault);
+        known = known_now refusal tried_badly lost_badly b.lost refl;
         cause = counts_so;
       }

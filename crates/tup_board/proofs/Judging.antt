@@ -85,6 +85,7 @@ module _ {S R : Type 0} (site : Site S) (runner : Runner R) (b : BoardState S) (
             now = inl (inl refl, refl);
             crash = at_rest site.moment site.left_since b.site _;
           };
+      idle = λ commit some is. (refl, inr refl);
     };
     known = λ told content had. had;
     cause = record { later = omega arith; site = λ e. cc; steady = λ _. refl };

@@ -122,6 +122,7 @@ module _ {S R : Type 0} (site : Site S) (runner : Runner R) (old new : BoardStat
     view = λ e. absurd (view e);
     going = λ other. goes site old new number starts is keeps (granted_fine none);
     never_run = never_run site old new number starts is keeps;
+    steady = keeps.steady;
   }
 
   pub performs_ok : {A : Type 0} → is ≡ None → (value : A) → Performs site runner old (Ok value) new
@@ -134,6 +135,7 @@ module _ {S R : Type 0} (site : Site S) (runner : Runner R) (old new : BoardStat
     view = λ e. absurd (not_view e);
     going = λ other. goes site old new number starts is keeps (ap has_failed did.refused);
     never_run = never_run site old new number starts is keeps;
+    steady = keeps.steady;
   }
     where
       not_view : (let result : Result A RunFailed = Err RunDenied in result) ≡ Err ByView → ⊥
@@ -144,6 +146,7 @@ module _ {S R : Type 0} (site : Site S) (runner : Runner R) (old new : BoardStat
     view = λ e. ends site old new number starts is keeps (ap has_failed did.refused);
     going = λ other. absurd (other refl);
     never_run = never_run site old new number starts is keeps;
+    steady = keeps.steady;
   }
     where
       not_denied : (let result : Result A RunFailed = Err ByView in result) ≡ Err RunDenied → ⊥

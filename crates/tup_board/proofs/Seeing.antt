@@ -30,13 +30,13 @@ use Rattle.tup_core.proofs.Changed.{changed_cases, changed_here}
 use Rattle.tup_course.proofs.Courses.{end_more}
 use Rattle.tup_ground.specs.declared.fault.BoardFault.{BoardFault}
 use Rattle.tup_ground.specs.declared.fault.BoardFault.TheVariants as fault_by
-use Rattle.tup_board.specs.Board.{BoardState, Opening, plan_of, start, state}
+use Rattle.tup_board.specs.Board.{BoardState, Opening, plan_of, seat_of, start, state}
 use Rattle.tup_board.specs.declared.answers.Asked.{Asked}
 use Rattle.tup_board.specs.declared.answers.Asked.TheVariants as reply_by
 use Rattle.tup_board.specs.Calls.{AreKnown, Asks as AllAsked, IsStampOf}
 use Rattle.tup_board.specs.CameLaws.{no_place}
 use Rattle.tup_board.proofs.Known.{known_among}
-use Rattle.tup_board.specs.Seat.{CameBy, IsFromSeat, KeepsSeat, answer_by, is_granted, refused_by, seat_of, told_by}
+use Rattle.tup_board.specs.Seat.{CameBy, IsFromSeat, KeepsSeat, answer_by, is_granted, refused_by, told_by}
 
 -- what one seat runs changed
 pub apart_from : (seats : ℕ → Option Running) (seat : ℕ) (what : Option Running) (other : ℕ) → other ≢ seat → changed seats seat what other ≡ seats other
@@ -68,6 +68,10 @@ module _ {S : Type 0} (site : Site S) (seat : ℕ) (text : List ℕ) (old new : 
   abbrev Adds : List CoreEvent → Type 0
   Adds events = new ≡ record old { history = old.history ++ events; site = new.site }
 
+  -- its site failed at nothing
+  abbrev SameCount : Type 0
+  SameCount = site.faults new.site ≡ site.faults old.site
+
   opening_is : (events : List CoreEvent) → Adds events → new.opening ≡ old.opening
   opening_is events adds = ap (λ (b : BoardState S). b.opening) adds
 
@@ -92,7 +96,8 @@ module _ {S : Type 0} (site : Site S) (seat : ℕ) (text : List ℕ) (old new : 
   from_event event adds = from_one seat old new event (opening_is (event ∷ []) adds) (history_is (event ∷ []) adds)
 
   -- ---- an ask was answered
-  module _ (given : Option Stamp) (answer : Answer) (stamps : IsStampOf given answer) (there : IsTrue site.tells → AreKnown (site.known new.site) ((text, answer) ∷ [])) (adds : Adds (Ask seat text given ∷ [])) where
+  module _ (given : Option Stamp) (answer : Answer) (stamps : IsStampOf given answer) (there : IsTrue site.tells → AreKnown (site.known new.site) ((text, answer) ∷ [])) (adds : Adds (Ask seat text given ∷ []))
+      (same_count : SameCount) where
     answered_here : (state new).seats seat ≡ option_map (asked text given) ((state old).seats seat)
     answered_here = seats_are (Ask seat text given) seat adds ∙ changed_here (state old).seats seat (option_map (asked text given) ((state old).seats seat))
 
@@ -105,6 +110,7 @@ module _ {S : Type 0} (site : Site S) (seat : ℕ) (text : List ℕ) (old new : 
         going = λ fine. stopped_is (Ask seat text given) adds;
         left = λ failed fine. absurd (false≢true failed);
         never_run = λ run. sym (stopped_is (Ask seat text given) adds) ∙ run;
+        steady = λ none other. same_count;
       };
       asked = λ fine running here. record {
         now = asked text given running;
@@ -128,8 +134,8 @@ module _ {S : Type 0} (site : Site S) (seat : ℕ) (text : List ℕ) (old new : 
       same_granted (Some running) = refl
 
   -- ---- it was denied
-  came_denied : (verdict : Verdict) → Adds (Deny seat text verdict ∷ []) → CameBy site seat old None [] new (Some (record { text = text; why = Denied }))
-  came_denied verdict adds = record {
+  came_denied : (verdict : Verdict) → Adds (Deny seat text verdict ∷ []) → SameCount → CameBy site seat old None [] new (Some (record { text = text; why = Denied }))
+  came_denied verdict adds same_count = record {
     keeps = record {
       from = from_event (Deny seat text verdict) adds refl refl (λ other differ. apart_from (state old).seats seat (option_map (refused text verdict) ((state old).seats seat)) other differ);
       known = known;
@@ -137,6 +143,7 @@ module _ {S : Type 0} (site : Site S) (seat : ℕ) (text : List ℕ) (old new : 
       going = λ fine. stopped_is (Deny seat text verdict) adds;
       left = λ failed fine. absurd (false≢true failed);
       never_run = λ run. sym (stopped_is (Deny seat text verdict) adds) ∙ run;
+      steady = λ none other. same_count;
     };
     asked = λ fine running here. record {
       now = refused text verdict running;
@@ -151,8 +158,8 @@ module _ {S : Type 0} (site : Site S) (seat : ℕ) (text : List ℕ) (old new : 
   }
 
   -- ---- the files couldn't be reached: the seat stopped
-  came_stopped : (cause : Cause) → cause ≢ causes.Run → Adds (Stop seat cause ∷ []) → CameBy site seat old None [] new (Some (record { text = text; why = Fault }))
-  came_stopped cause other adds = record {
+  came_stopped : (cause : Cause) → cause ≢ causes.Run → Adds (Stop seat cause ∷ []) → (cause ≢ causes.Site → SameCount) → CameBy site seat old None [] new (Some (record { text = text; why = Fault }))
+  came_stopped cause other adds same_count = record {
     keeps = record {
       from = from_event (Stop seat cause) adds refl refl (λ other differ. apart_from (state old).seats seat None other differ);
       known = known;
@@ -160,6 +167,7 @@ module _ {S : Type 0} (site : Site S) (seat : ℕ) (text : List ℕ) (old new : 
       going = λ fine. absurd (true≢false fine);
       left = λ failed fine. seats_are (Stop seat cause) seat adds ∙ changed_here (state old).seats seat None;
       never_run = λ run. not_for_run (state old).stopped (sym (stopped_is (Stop seat cause) adds) ∙ run);
+      steady = λ none apart. same_count (λ is. apart (stopped_is (Stop seat cause) adds ∙ ap (λ (o : Option Cause). Some (unwrap_or o cause)) none ∙ ap Some is));
     };
     asked = λ fine running here. absurd (true≢false fine);
   }
@@ -169,8 +177,8 @@ module _ {S : Type 0} (site : Site S) (seat : ℕ) (text : List ℕ) (old new : 
       not_for_run (Some earlier) e = e
 
   -- ---- there was no memory: nothing happened
-  came_nowhere : Adds [] → CameBy site seat old None [] new None
-  came_nowhere adds = record {
+  came_nowhere : Adds [] → SameCount → CameBy site seat old None [] new None
+  came_nowhere adds same_count = record {
     keeps = record {
       from = record {
         opening = opening_is [] adds;
@@ -185,6 +193,7 @@ module _ {S : Type 0} (site : Site S) (seat : ℕ) (text : List ℕ) (old new : 
       going = λ fine. ap (λ (s : State). s.stopped) (same_state adds);
       left = λ failed fine. absurd (false≢true failed);
       never_run = λ run. sym (ap (λ (s : State). s.stopped) (same_state adds)) ∙ run;
+      steady = λ none other. same_count;
     };
     asked = λ fine running here. record {
       now = running;
@@ -230,13 +239,13 @@ module _ {S : Type 0} (site : Site S) (seat : ℕ) (text : List ℕ) (old new : 
       → CameBy site seat old None (told_by text result) new (refused_by text result)
   came_by (Ok (reply_by.Content content)) knows asks =
       came_answer site seat text old new asks.known (Some (stamp content)) (Holds content) refl
-      (λ tells. told_known site old new text asks.for_it.0 content (knows tells) (asks.told tells asks.for_it.0 asks.for_it.1) (asks.known tells)) asks.asked.adds
-  came_by (Ok reply_by.Absent) knows asks = came_answer site seat text old new asks.known None Nothing refl (λ tells. none_known (site.known new.site) text) asks.asked.adds
-  came_by (Ok (reply_by.Denied verdict)) knows asks = came_denied site seat text old new asks.known verdict asks.asked.adds
-  came_by (Err fault_by.Site) knows asks = came_stopped site seat text old new asks.known causes.Site (λ e. cc) asks.asked.adds
-  came_by (Err (fault_by.TooLarge bytes)) knows asks = came_stopped site seat text old new asks.known (causes.TooLarge bytes) (λ e. cc) asks.asked.adds
-  came_by (Err fault_by.Full) knows asks = came_stopped site seat text old new asks.known causes.Full (λ e. cc) asks.asked.adds
-  came_by (Err fault_by.Memory) knows asks = came_nowhere site seat text old new asks.known asks.asked.adds
+      (λ tells. told_known site old new text asks.for_it.0 content (knows tells) (asks.told tells asks.for_it.0 asks.for_it.1) (asks.known tells)) asks.asked.adds (asks.cause.steady (λ e. cc))
+  came_by (Ok reply_by.Absent) knows asks = came_answer site seat text old new asks.known None Nothing refl (λ tells. none_known (site.known new.site) text) asks.asked.adds (asks.cause.steady (λ e. cc))
+  came_by (Ok (reply_by.Denied verdict)) knows asks = came_denied site seat text old new asks.known verdict asks.asked.adds (asks.cause.steady (λ e. cc))
+  came_by (Err fault_by.Site) knows asks = came_stopped site seat text old new asks.known causes.Site (λ e. cc) asks.asked.adds (λ apart. absurd (apart refl))
+  came_by (Err (fault_by.TooLarge bytes)) knows asks = came_stopped site seat text old new asks.known (causes.TooLarge bytes) (λ e. cc) asks.asked.adds (λ apart. asks.cause.steady (λ e. cc))
+  came_by (Err fault_by.Full) knows asks = came_stopped site seat text old new asks.known causes.Full (λ e. cc) asks.asked.adds (λ apart. asks.cause.steady (λ e. cc))
+  came_by (Err fault_by.Memory) knows asks = came_nowhere site seat text old new asks.known asks.asked.adds (asks.cause.steady (λ e. cc))
 
   -- where nothing was refused its command may ask again
   pub granted_on : (result : Result Asked BoardFault) → Replied result → is_granted ((state old).seats seat) ≡ true → refused_by text result ≡ None → is_granted ((state new).seats seat) ≡ true

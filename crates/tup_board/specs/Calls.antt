@@ -1,6 +1,6 @@
 -- What each call of a board leaves, by its answer (own). All that happens to the core is told by the events that the call
 -- adds to the history.
-use Rattle.std.specs.Prelude.{◌≡◌, ◌≢◌, ◌⊎◌, ℕ, ◌<◌, true, false, List, [], ◌∷◌, ◌++◌, length, Option, None, Some, IsSome, Result, Ok, Err, Contains, map, filter_map, option_map, slice_get, take, ◌-◌, IsTrue}
+use Rattle.std.specs.Prelude.{◌≡◌, ◌≢◌, ◌⊎◌, ℕ, ◌<◌, true, false, List, [], ◌∷◌, ◌++◌, length, Option, None, Some, IsSome, Result, Ok, Err, Contains, map, filter_map, option_map, slice_get, take, ◌-◌, All, IsTrue}
 use Rattle.std.specs.FinMap as finite
 use Rattle.tup_path.specs.Count.{Rose}
 use Rattle.tup_path.specs.Name.{Names, Content}
@@ -26,7 +26,7 @@ use Rattle.tup_access.specs.declared.verdict.Verdict.TheVariants.{Good}
 use Rattle.tup_record.specs.declared.run.RunRecord.{RunRecord}
 use Rattle.tup_kept.specs.Held.{Held}
 use Rattle.tup_core.specs.declared.event.Cause.{Cause}
-use Rattle.tup_core.specs.declared.event.Cause.TheVariants.{Bad, Run, Memory as StoppedByMemory}
+use Rattle.tup_core.specs.declared.event.Cause.TheVariants.{Bad, Run, Memory as StoppedByMemory, Site as Failed}
 use Rattle.tup_core.specs.declared.event.CoreEvent.{CoreEvent}
 use Rattle.tup_core.specs.declared.event.CoreEvent.TheVariants.{Ask, Deny, Finish}
 use Rattle.tup_core.specs.Honest.{EndsHonestly, stamped}
@@ -42,15 +42,16 @@ use Rattle.tup_board.specs.declared.answers.Drained.{Drained}
 use Rattle.tup_board.specs.declared.answers.Drained.TheVariants.{Done, Left}
 use Rattle.tup_ground.specs.declared.fault.BoardFault.{BoardFault}
 use Rattle.tup_ground.specs.declared.fault.BoardFault.TheVariants.{Site as ByVisit, TooLarge, Full, Memory}
-use Rattle.tup_board.specs.Board.{BoardState, course_of, plan_of, state, with_history}
+use Rattle.tup_board.specs.Board.{BoardState, course_of, plan_of, seat_of, state, with_history}
 use Rattle.tup_course.specs.Course.{RunsRule, GoesOn, WasDenied, NoneReady, NoneRuns}
 use Rattle.tup_board.specs.Cause.{stops_by}
 use Rattle.tup_board.specs.Ends.{IsRecordOf}
-use Rattle.tup_ground.specs.Fault.{CountsFaults}
+use Rattle.tup_ground.specs.Fault.{CountsFaults, lost_fault}
 use Rattle.tup_ground.specs.Ground.{LacksRoomFor, Loses, MakeStep, WasTried}
 use Rattle.tup_ground.specs.Lost.{Lost}
 
--- ---- new: nothing happened yet
+-- ---- new
+-- a board of these on which nothing happened yet
 abbrev pub opened_as : {S : Type 0} → Plan → Held → S → BoardState S
 opened_as plan graph site = record { opening = record { plan = plan; graph = graph; site = site }; history = []; site = site; graph = graph; lost = None }
 
@@ -185,11 +186,14 @@ pub record LeavesBeside {S : Type 0} (site : Site S) (seat : ℕ) (ended : Ended
   pub now : MakeStep (WasTried run result new.lost) old.graph.nodes number run (judge is.kept.rule ended).files (site.world old.site) (site.world new.site)
   pub crash : GoesOnFrom site.moment site.left_since old.site new.site (MakeStep (WasTried run result new.lost) old.graph.nodes number run (judge is.kept.rule ended).files)
 
--- what the end of a command touches: of one that isn't Good nothing
+-- what the end of a command touches: of one that isn't Good nothing; and once a commit was lost of a Good one neither, which is refused
+-- as that commit was
 pub record Touches {S : Type 0} (site : Site S) (seat : ℕ) (ended : Ended) (old : BoardState S) (result : Result Verdict BoardFault) (new : BoardState S) : Type 0 where
   pub opening : new.opening ≡ old.opening
   pub bad : (IsGoodAt old seat ended → ⊥) → new ≡ with_history old new.history
   pub good : IsTrue site.tells → IsGoodAt old seat ended → LeavesBeside site seat ended old result new
+  pub idle : (commit : Lost) → old.lost ≡ Some commit → IsGoodAt old seat ended
+      → (new ≡ with_history old new.history) × ((result ≡ Err (lost_fault commit)) ⊎ (result ≡ Err Memory))
 
 -- all that the end of a command does, by its answer
 pub record Ends {S : Type 0} (site : Site S) (seat : ℕ) (ended : Ended) (old : BoardState S) (result : Result Verdict BoardFault) (new : BoardState S) : Type 0 where
@@ -250,6 +254,10 @@ pub record HasRunCause (before : Option Cause) (was now : ℕ) (result : Drained
   pub run : result ≡ Left Run → (before ≡ Some Run) ⊎ Rose was now
   pub steady : result ≢ Left Run → now ≡ was
 
+-- and its site did at none but where it is left for that
+abbrev pub KeepsCount : ℕ → ℕ → Drained → Type 0
+KeepsCount was now result = result ≢ Left Failed → now ≡ was
+
 -- ---- one rule of a drain
 -- seat 0 runs the rule of this number, whose command did nothing yet; nothing is stopped, and no other seat runs one
 pub record StartsAlone {S : Type 0} (board : BoardState S) (number : ℕ) : Type 0 where
@@ -259,11 +267,12 @@ pub record StartsAlone {S : Type 0} (board : BoardState S) (number : ℕ) : Type
   pub alone : (other : ℕ) → other ≢ 0 → (state board).seats other ≡ None
   pub going : (state board).stopped ≡ None
 
--- it was run or left: no seat runs one any more, and none was claimed
+-- it was run or left, all at seat 0: no seat runs one any more, and none was claimed
 pub record RunsOne {S : Type 0} (old new : BoardState S) : Type 0 where
   pub opening : new.opening ≡ old.opening
   pub events : List CoreEvent
   pub adds : new.history ≡ old.history ++ events
+  pub own : All (λ event. seat_of event ≡ 0) events
   pub none_claimed : claims events ≡ []
   pub none_runs : NoneRuns (course_of new)
 

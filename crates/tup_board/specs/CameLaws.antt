@@ -3,6 +3,7 @@ use Rattle.std.proofs.Common.{◌≡◌, ℕ, ◌<◌, Bool, true, false, List, 
 use Rattle.std.proofs.lemmas.Bool.{true≢false}
 use Rattle.std.proofs.lemmas.List.{append-nil}
 use Rattle.std.proofs.lemmas.List.Elements.{All-nil, All-append, Contains-append_cases}
+use Rattle.std.proofs.lemmas.Option.{none-some}
 use Rattle.tup_path.specs.Name.{Content}
 use Rattle.tup_stamp.specs.declared.Stamp.{Stamp}
 use Rattle.tup_site.specs.declared.site.Site.{Ghosts as Site}
@@ -10,13 +11,14 @@ use Rattle.tup_runner.specs.Next.{Asks}
 use Rattle.tup_runner.specs.Refusal.{Refusal}
 use Rattle.tup_runner.specs.declared.step.Answer.TheVariants.{Content as Holds}
 use Rattle.tup_access.specs.declared.verdict.Verdict.{Verdict}
+use Rattle.tup_core.specs.declared.event.Cause.TheVariants.{Site as Failed}
 use Rattle.tup_core.specs.declared.event.CoreEvent.{CoreEvent}
 use Rattle.tup_core.specs.declared.event.CoreEvent.TheVariants.{Claim, Ask, Deny, Finish, Stop}
 use Rattle.tup_core.specs.declared.running.Running.{Running}
 use Rattle.tup_core.specs.Run.{claims}
-use Rattle.tup_board.specs.Board.{BoardState, state}
+use Rattle.tup_board.specs.Board.{BoardState, seat_of, state}
 use Rattle.tup_board.specs.Calls.{AreKnown, AreStamped}
-use Rattle.tup_board.specs.Seat.{CameBy, HasAsked, IsDenial, IsFromSeat, KeepsSeat, has_failed, seat_of}
+use Rattle.tup_board.specs.Seat.{CameBy, HasAsked, IsDenial, IsFromSeat, KeepsSeat, has_failed}
 
 pub claims_both : (some more : List CoreEvent) → claims (some ++ more) ≡ claims some ++ claims more
 claims_both [] more = refl
@@ -65,6 +67,7 @@ module _ {S : Type 0} (site : Site S) (seat : ℕ) where
     going = λ fine. refl;
     left = λ failed fine. absurd (true≢false (sym failed ∙ fine));
     never_run = λ run. run;
+    steady = λ none other. refl;
   }
 
   pub came_none : (b : BoardState S) (refusal : Option Refusal) → CameBy site seat b refusal [] b refusal
@@ -113,6 +116,13 @@ module _ {S : Type 0} (site : Site S) (seat : ℕ) where
         going = λ fine. two.going fine ∙ one.going (next_fine fine);
         left = λ failed fine. left_both (has_failed next) refl failed fine;
         never_run = λ run. one.never_run (two.never_run run);
+        steady = λ none other. ⊎_elim
+            (λ clear.
+            let goes : (state b).stopped ≡ None = one.going (none_failed next clear) ∙ none in
+            two.steady goes other ∙ one.steady none (λ is. none-some Failed (sym goes ∙ is)))
+            (λ same.
+            ap (λ (it : BoardState S). site.faults it.site) same.1 ∙ one.steady none (λ is. other (ap (λ (it : BoardState S). (state it).stopped) same.1 ∙ is)))
+            two.stays;
       }
 
   module _ (a b c : BoardState S) (first next last : Option Refusal) (some more : Asks) (one : CameBy site seat a first some b next) (two : CameBy site seat b next more c last) where

@@ -15,23 +15,14 @@ use Rattle.tup_access.specs.declared.verdict.Verdict.{Verdict}
 use Rattle.tup_board.specs.declared.answers.Asked.{Asked}
 use Rattle.tup_board.specs.declared.answers.Asked.TheVariants as reply_by
 use Rattle.tup_board.specs.declared.seat.Refused.{Refused}
-use Rattle.tup_core.specs.declared.event.Cause.TheVariants.{Run}
+use Rattle.tup_core.specs.declared.event.Cause.TheVariants.{Run, Site as Failed}
 use Rattle.tup_core.specs.declared.event.CoreEvent.{CoreEvent}
-use Rattle.tup_core.specs.declared.event.CoreEvent.TheVariants.{Claim, Ask, Deny, Finish, Stop}
 use Rattle.tup_core.specs.declared.running.Running.{Running}
 use Rattle.tup_core.specs.Run.{claims}
 use Rattle.tup_ground.specs.declared.fault.BoardFault.{BoardFault}
 use Rattle.tup_ground.specs.declared.fault.BoardFault.TheVariants as fault_by
-use Rattle.tup_board.specs.Board.{BoardState, state}
+use Rattle.tup_board.specs.Board.{BoardState, seat_of, state}
 use Rattle.tup_board.specs.Calls.{AreStamped, AreKnown, MeansDenied}
-
--- the seat at which an event happened
-abbrev pub seat_of : CoreEvent → ℕ
-seat_of (Claim seat rule) = seat
-seat_of (Ask seat text answer) = seat
-seat_of (Deny seat text verdict) = seat
-seat_of (Finish seat given files) = seat
-seat_of (Stop seat cause) = seat
 
 -- whether a seat runs a rule whose command was denied nothing
 abbrev pub is_granted : Option Running → Bool
@@ -57,6 +48,10 @@ pub record IsLeft {S : Type 0} (seat : ℕ) (old new : BoardState S) : Type 0 wh
   pub from : IsFromSeat seat old new
   pub ends : (state new).seats seat ≡ None
   pub never_run : (state old).stopped ≡ None → (state new).stopped ≢ Some Run
+
+-- the site's count of faults is what it was, unless all is stopped for its failure: where nothing was stopped before
+abbrev pub IsSteady : {S : Type 0} → Site S → BoardState S → BoardState S → Type 0
+IsSteady site old new = (state old).stopped ≡ None → (state new).stopped ≢ Some Failed → site.faults new.site ≡ site.faults old.site
 
 -- what a view has refused, as contracts see it
 abbrev pub refusal_of : Option Refused → Option Refusal
@@ -101,6 +96,7 @@ pub record KeepsSeat {S : Type 0} (site : Site S) (seat : ℕ) (old : BoardState
   pub going : has_failed is ≡ false → (state new).stopped ≡ (state old).stopped
   pub left : has_failed is ≡ true → has_failed was ≡ false → (state new).seats seat ≡ None
   pub never_run : (state new).stopped ≡ Some Run → (state old).stopped ≡ Some Run
+  pub steady : IsSteady site old new
 
 -- the command that a seat ran asked just this more, and was answered so; it was denied just what its view refused since
 pub record HasAsked {S : Type 0} (site : Site S) (seat : ℕ) (running : Running) (was : Option Refusal) (asks : Asks) (new : BoardState S) (is : Option Refusal) : Type 0 where
@@ -126,3 +122,4 @@ pub record Performs {S R A : Type 0} (site : Site S) (runner : Runner R) (old : 
   pub view : result ≡ Err ByView → (state new).seats 0 ≡ None
   pub going : result ≢ Err ByView → (state new).stopped ≡ None
   pub never_run : (state new).stopped ≢ Some Run
+  pub steady : IsSteady site old new

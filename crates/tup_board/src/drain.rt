@@ -1,5 +1,5 @@
 //! A whole update on one thread.
-ghost use Rattle.std.specs.Prelude.{◌≡◌, ◌++◌, ◌↔◌, ℕ, List, None, Some, Err, true, false, slice_get, IfOk, IsTrue};
+ghost use Rattle.std.specs.Prelude.{◌≡◌, ◌++◌, ◌↔◌, ℕ, List, None, Some, Err, true, false, slice_get, All, IfOk, IsTrue};
 ghost use Rattle.std.specs.FinMap as finite;
 ghost use Rattle.std.specs.Option.{option_map};
 ghost use Rattle.tup_path.specs.Name.{Names};
@@ -11,9 +11,9 @@ ghost use Rattle.tup_runner.specs.Run.{Appends, CountsFaults as RunnerCounts};
 ghost use Rattle.tup_core.specs.Kept.{Kept};
 ghost use Rattle.tup_core.specs.Sound.{IsAcyclic};
 ghost use Rattle.tup_core.specs.declared.event.CoreEvent.{CoreEvent as CoreEventValue};
-ghost use Rattle.tup_board.specs.Board.{course_of, plan_of, state};
+ghost use Rattle.tup_board.specs.Board.{course_of, plan_of, seat_of, state};
 ghost use Rattle.tup_board.specs.Calls.{command_of, IsReportOf, StartsAlone};
-ghost use Rattle.tup_board.specs.Seat.{IsLeft, Performs, refusal_of};
+ghost use Rattle.tup_board.specs.Seat.{IsLeft, IsSteady, Performs, refusal_of};
 
 use crate::answers::Drained;
 use crate::board::Board;
@@ -29,7 +29,7 @@ use tup_site::Site;
 
 impl<S: Site, R: Runner> Board<S, R> {
     ghost use Rattle.tup_course.specs.Course.{NoneRuns};
-    ghost use Rattle.tup_board.specs.Calls.{BuildsClean, Drains, HasFailed, HasRun, HasRunCause, IsOver, RanAll, RunsOne};
+    ghost use Rattle.tup_board.specs.Calls.{BuildsClean, Drains, HasFailed, HasRun, HasRunCause, IsOver, KeepsCount, RanAll, RunsOne};
 
     /// Runs all that can be run, one rule after another, at seat 0, while no seat runs a rule.
     ///
@@ -37,7 +37,7 @@ impl<S: Site, R: Runner> Board<S, R> {
     /// pending any more, and where the plan was made of what is kept of a project, the files are those of the clean build
     /// of its sources. `Left` with `Bad` comes just where a verdict is bad and nothing was stopped for another cause
     /// before, and `Left` with another cause where that was the first of a stop. By itself it stops only for a failure of
-    /// its runner, and for want of memory.
+    /// its runner, and for want of memory. A failure of its site is what it is left for, if nothing was stopped before.
     pub fn drain(&mut self, alloc: Global, plan: &Plan, runner: &mut R) -> Drained
         requires plan { plan.now ≡ plan_of self.old }
         requires none_runs { NoneRuns (course_of self.old) }
@@ -52,9 +52,11 @@ impl<S: Site, R: Runner> Board<S, R> {
             → IsTrue R.tells_ran
             → RanAll plan.now events (R.ran runner.old) (R.ran runner.new) result }
         ensures history { (events : List CoreEventValue)
-            × (self.new.history ≡ self.old.history ++ events) }
+            × (self.new.history ≡ self.old.history ++ events)
+            × All (λ event. seat_of event ≡ 0) events }
         ensures cause { HasRunCause (state self.old).stopped
             (R.faults runner.old) (R.faults runner.new) result }
+        ensures steady { KeepsCount (S.faults self.old.site) (S.faults self.new.site) result }
     {
         'rules: loop {
             match self.claim(plan, 0) {
@@ -94,6 +96,7 @@ impl<S: Site, R: Runner> Board<S, R> {
             (state self.new).stopped }
         ensures cause { HasFailed (R.faults runner.old) (R.faults runner.new)
             (state self.new).stopped }
+        ensures steady { IsSteady S.Site.own self.old self.new }
     {
         match performed(self, alloc, plan, rule, runner) {
             Ok(report) => self.end(alloc, plan, &report),
@@ -112,7 +115,8 @@ impl<S: Site, R: Runner> Board<S, R> {
         requires report { IsReportOf S.Site.own self.old 0 report.now.dir report.now.text
             (asks_of report.now) }
         requires going { (state self.old).stopped ≡ None }
-        ensures { IsLeft 0 self.old self.new }
+        ensures left { IsLeft 0 self.old self.new }
+        ensures steady { IsSteady S.Site.own self.old self.new }
     {
         let ended = self.finish(alloc, plan, 0, report);
         if is_memory(&ended) {

@@ -3,7 +3,7 @@ use Rattle.tup_runner.specs.Run.{Appends, CountsFaults as RunnerCounts}
 use Rattle.tup_runner.specs.declared.fault.RunFailed.TheVariants as by_run
 use Rattle.tup_core.specs.declared.event.Cause.TheVariants as causes
 use Rattle.tup_board.specs.Calls.{command_of}
-use Rattle.tup_board.proofs.Draining.{denied_left, failed_so, for_memory, never_failed, ran_and_left, ran_and_stopped, stop_left}
+use Rattle.tup_board.proofs.Draining.{denied_left, failed_so, for_memory, never_failed, ran_and_left, ran_and_stopped, steady_both, steady_rest, stop_left}
 use Rattle.tup_board.proofs.board.Board.run.Goals as goal
 
 pub finish_denied-requires-clause-denied : goal.finish_denied-requires-clause-denied
@@ -12,7 +12,7 @@ finish_denied-requires-clause-denied g c κs within =
     c.performed.ensures.performs.denied is
 
 pub returns-in-Ok-clause-one : goal.returns-in-Ok-clause-one
-returns-in-Ok-clause-one g c = ran_and_left c.args.self.now c.performed.new.board c.end.new.self c.args.rule c.requires.starts c.performed.ensures.performs.from c.end.ensures
+returns-in-Ok-clause-one g c = ran_and_left c.args.self.now c.performed.new.board c.end.new.self c.args.rule c.requires.starts c.performed.ensures.performs.from c.end.ensures.left
 
 pub returns-in-Err-Denied-clause-one : goal.returns-in-Err-Denied-clause-one
 returns-in-Err-Denied-clause-one g c =
@@ -60,3 +60,25 @@ returns-in-Err-Memory-clause-cause g c =
     let going = c.performed.ensures.performs.going (λ e. let clash = sym is ∙ e in cc) in
     let stopped = stop_left 0 c.performed.new.board c.stop-in-Err-Memory.new.self causes.Memory going c.stop-in-Err-Memory.ensures.stops c.stop-in-Err-Memory.ensures.rest in
     for_memory _ _ _ (subst (RunnerCounts (g.R.Runner.faults c.args.runner.now) (g.R.Runner.faults c.performed.new.runner)) is c.performed.ensures.cause) stopped.stops
+
+pub returns-in-Ok-clause-steady : goal.returns-in-Ok-clause-steady
+returns-in-Ok-clause-steady g c =
+    steady_both g.S.Site c.args.self.now c.performed.new.board c.end.new.self c.performed.ensures.performs.steady (c.performed.ensures.performs.going (λ e. let clash = sym c.in-Ok.is ∙ e in cc)) c.end.ensures.steady
+
+pub returns-in-Err-Denied-clause-steady : goal.returns-in-Err-Denied-clause-steady
+returns-in-Err-Denied-clause-steady g c =
+    let is : c.performed.result ≡ Err by_run.Denied = grind arith in
+    steady_both g.S.Site c.args.self.now c.performed.new.board c.finish_denied.new.self c.performed.ensures.performs.steady (c.performed.ensures.performs.going (λ e. let clash = sym is ∙ e in cc))
+    (steady_rest g.S.Site c.performed.new.board c.finish_denied.new.self c.finish_denied.ensures.rest)
+
+pub returns-in-Err-Fault-clause-steady : goal.returns-in-Err-Fault-clause-steady
+returns-in-Err-Fault-clause-steady g c =
+    let is : c.performed.result ≡ Err by_run.Fault = grind arith in
+    steady_both g.S.Site c.args.self.now c.performed.new.board c.stop.new.self c.performed.ensures.performs.steady (c.performed.ensures.performs.going (λ e. let clash = sym is ∙ e in cc))
+    (steady_rest g.S.Site c.performed.new.board c.stop.new.self c.stop.ensures.rest)
+
+pub returns-in-Err-Memory-clause-steady : goal.returns-in-Err-Memory-clause-steady
+returns-in-Err-Memory-clause-steady g c =
+    let is : c.performed.result ≡ Err by_run.Memory = grind arith in
+    steady_both g.S.Site c.args.self.now c.performed.new.board c.stop-in-Err-Memory.new.self c.performed.ensures.performs.steady (c.performed.ensures.performs.going (λ e. let clash = sym is ∙ e in cc))
+    (steady_rest g.S.Site c.performed.new.board c.stop-in-Err-Memory.new.self c.stop-in-Err-Memory.ensures.rest)
