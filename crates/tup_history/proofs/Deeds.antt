@@ -1,5 +1,5 @@
 -- A site that is kept stays kept by an edit, a crash, and every call whose steps leave that.
-use Rattle.std.proofs.Common.{◌≡◌, ⊎_elim, Bool, true, false, if◌then◌else◌, [], Option, None, Some, refl, sym, ap, subst, ◌∙◌}
+use Rattle.std.proofs.Common.{◌≡◌, ⊎_elim, Bool, true, false, if◌then◌else◌, Option, None, Some, sym, ap, subst, ◌∙◌}
 use Rattle.tup_path.specs.Name.{Names, Content}
 use Rattle.tup_path.specs.Tree.{Tree}
 use Rattle.tup_site.specs.Choice.{chosen_world}
@@ -16,7 +16,7 @@ use Rattle.tup_kept.specs.Crash.{IsStoreOf}
 use Rattle.tup_ledger.specs.Sources.{sources_of, Kept, HasSources}
 use Rattle.tup_ledger.proofs.Guarding.{one_store}
 use Rattle.tup_history.specs.Deed.{IsEdited, IsCrashed}
-use Rattle.tup_history.specs.Kept.{IsUnbegun, IsKept, Owns, AllOwn, with_source}
+use Rattle.tup_history.specs.Kept.{IsUnbegun, IsKept, AllOwn, with_source}
 use Rattle.tup_history.proofs.Edits.{left_still, edit_left, crash_left}
 use Rattle.tup_history.proofs.Sources.{edits_no_source, edits_source}
 

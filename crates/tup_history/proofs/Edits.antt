@@ -1,5 +1,5 @@
 -- What an edit, and a crash, make of what a crash may leave of a site in memory.
-use Rattle.std.proofs.Common.{◌≡◌, ◌≢◌, ⊎_elim, inl, inr, ℕ, Bool, false, true, not, ◌&&◌, List, [], ◌∷◌, ◌++◌, Option, None, Some, filter, length, refl, sym, ap, subst, ◌∙◌, arith}
+use Rattle.std.proofs.Common.{◌≡◌, ◌≢◌, ⊎_elim, inl, inr, Bool, false, true, not, ◌&&◌, List, [], ◌∷◌, ◌++◌, Option, None, Some, filter, length, refl, sym, ap, subst, ◌∙◌, arith}
 use Rattle.std.proofs.lemmas.Bool.{cases_Bool, or_parts, both_ways}
 use Rattle.std.specs.FinMap as finite
 use Rattle.tup_path.specs.Name.{Names, Content}
@@ -11,9 +11,9 @@ use Rattle.tup_site.specs.Edit.{edited}
 use Rattle.tup_site.specs.Choice.{chosen_world}
 use Rattle.tup_site.specs.History.{at_first, after, after_all, LeftSince}
 use Rattle.tup_site.specs.Laws.{image_now, left_now}
-use Rattle.tup_site.specs.Memory.{world_in, tree_in, first_of, changes_of, state_of, moment_of, left_since}
+use Rattle.tup_site.specs.Memory.{tree_in, first_of, changes_of, state_of, moment_of, left_since}
 use Rattle.tup_site.specs.Sound.{IsSound}
-use Rattle.tup_site.specs.State.{State, IsImage, is_among, is_in_line, with_edit, with_put, without_file, at_rest}
+use Rattle.tup_site.specs.State.{State, IsImage, is_among, is_in_line, with_edit, with_put, without_file}
 use Rattle.tup_site.specs.World.{World, StoreStays}
 use Rattle.tup_site.specs.declared.change.Change.{Change}
 use Rattle.tup_site.specs.declared.change.Change.TheVariants.{Edited, Crashed}

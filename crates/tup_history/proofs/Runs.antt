@@ -1,10 +1,9 @@
 -- A site that is kept stays kept by every run of the program.
-use Rattle.std.proofs.Common.{◌≡◌, ◌⊎◌, inl, inr, ⊎_elim, ℕ, Bool, false, ◌∷◌, ◌++◌, List, [], Option, None, Some, Ok, Err, refl, sym, subst, ◌∙◌}
+use Rattle.std.proofs.Common.{◌≡◌, ◌⊎◌, inl, ⊎_elim, ℕ, Bool, false, List, [], Option, None, Some, Ok, Err, refl, sym, subst, ◌∙◌}
 use Rattle.std.proofs.lemmas.Bool.{both_ways, or_cases}
-use Rattle.tup_path.specs.Name.{Names}
 use Rattle.tup_site.specs.Crash.{GoesOn, LeavesOnly}
 use Rattle.tup_site.specs.Laws.{earlier_law, present_law}
-use Rattle.tup_site.specs.Memory.{world_in, tree_in, store_in, moment_of, left_since}
+use Rattle.tup_site.specs.Memory.{world_in, tree_in, moment_of, left_since}
 use Rattle.tup_site.specs.World.{World}
 use Rattle.tup_site.specs.declared.memory.MemSite.{MemSite}
 use Rattle.tup_rule.specs.declared.rule.Rule.{Rule}

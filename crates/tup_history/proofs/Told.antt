@@ -18,7 +18,7 @@ use Rattle.tup_top.specs.Order.{Wanted, order}
 use Rattle.tup_top.specs.declared.order.Order.TheVariants.{Init, Upd, Verify, Demo}
 use Rattle.tup_top.specs.declared.status.Status.{Status}
 use Rattle.tup_history.specs.History.{Standing, StandsAs, Takes, IsHistory, StillTells}
-use Rattle.tup_history.specs.Run.{Leaves, Lets}
+use Rattle.tup_history.specs.Run.{Leaves}
 use Rattle.tup_history.specs.declared.turn.End.{End}
 use Rattle.tup_history.specs.declared.turn.Turn.{Turn}
 use Rattle.tup_history.specs.declared.turn.Turn.TheVariants.{Deed, Run}

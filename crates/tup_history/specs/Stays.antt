@@ -1,5 +1,5 @@
 -- That a project stays kept, turn after turn. Own.
-use Rattle.std.specs.Prelude.{◌≡◌, ◌⊎◌, Bool, if◌then◌else◌, List, [], ◌∷◌, length, take, Option, None, Some, Ok, Err}
+use Rattle.std.specs.Prelude.{◌≡◌, ◌⊎◌, Bool, if◌then◌else◌, List, [], ◌∷◌, length, take, Option, None, Some, Ok}
 use Rattle.tup_path.specs.Name.{Names, Content}
 use Rattle.tup_site.specs.Memory.{world_in}
 use Rattle.tup_site.specs.World.{World}
