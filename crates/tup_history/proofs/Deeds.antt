@@ -89,7 +89,7 @@ module _ (old new : MemSite) where
   pub unbegun_on : (step : World → World → Type 0) → GoesOn moment_of left_since old new step → ((w : World) → step (world_in old) w → w ≡ world_in old) → IsUnbegun old → IsUnbegun new
   unbegun_on step on stays kept =
       let is : (w : World) → left_since new (moment_of new) w → w ≡ world_in old =
-          by_steps step (λ w. w ≡ world_in old) on kept.durable (λ v w left one. stays w (subst (λ (u : World). step u w) (kept.durable v left) one)) in
+      by_steps step (λ w. w ≡ world_in old) on kept.durable (λ v w left one. stays w (subst (λ (u : World). step u w) (kept.durable v left) one)) in
       let now : world_in new ≡ world_in old = is (world_in new) (present_law new) in
       record {
         no_store = ap (λ (w : World). w.store) now ∙ kept.no_store;

@@ -46,8 +46,8 @@ turn_keeps tells next (Deed (Edit path content)) end from to takes before kept =
 turn_keeps tells next (Deed (Crash choice)) end from to takes before kept = crash_keeps choice from.site to.site takes.ends.done before kept
 turn_keeps tells next (Run words stop_after) end from to takes before kept =
     let ran : BehindRun (order words) (world_in takes.begun) end before (IsKept takes.ended) =
-        run_keeps tells next (order words) end takes.status takes.begun takes.ended takes.answered takes.leaves takes.keeps.begins before
-        (kept_still from.site takes.begun takes.begins.first takes.begins.changes takes.begins.world before kept) in
+    run_keeps tells next (order words) end takes.status takes.begun takes.ended takes.answered takes.leaves takes.keeps.begins before
+    (kept_still from.site takes.begun takes.begins.first takes.begins.changes takes.begins.world before kept) in
     subst (λ (w : World). BehindRun (order words) w end before (IsKept to.site)) takes.begins.world
     (run_on (order words) (world_in takes.begun) end before (IsKept takes.ended) (IsKept to.site)
     (λ later k. kept_still takes.ended to.site takes.goes_on.first takes.goes_on.changes takes.goes_on.world later k) ran)

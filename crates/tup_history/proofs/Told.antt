@@ -33,12 +33,15 @@ then_goes old mid new first last = (omega (arith, first.0, last.0), λ t w le le
 
 -- more happened
 more_goes : (old new : MemSite) → first_of new ≡ first_of old → (changes : List Change) → changes_of new ≡ changes_of old ++ changes → Goes old new
-more_goes old new first changes more = (omega (arith, long), λ t w le left. record {
-  moment = left.moment;
-  since = left.since;
-  past = omega (arith, left.past, long);
-  image = subst (λ (s : State). IsImage s w) (sym (state left.moment left.past)) left.image;
-})
+more_goes old new first changes more = (
+  omega (arith, long),
+  λ t w le left. record {
+    moment = left.moment;
+    since = left.since;
+    past = omega (arith, left.past, long);
+    image = subst (λ (s : State). IsImage s w) (sym (state left.moment left.past)) left.image;
+  },
+)
   where
     long : length (changes_of new) ≡ length (changes_of old) + length changes
     long = ap length more ∙ length-append (changes_of old) changes
