@@ -13,6 +13,7 @@
 mod answers;
 mod fault;
 mod file;
+mod place;
 mod reporting;
 mod row;
 mod token;
@@ -21,6 +22,7 @@ mod words;
 pub use answers::Answers;
 pub use fault::RowFault;
 pub use file::{try_file, try_file_by};
+pub use place::set;
 pub use reporting::report;
 pub use row::Row;
 pub use words::Words;

@@ -59,6 +59,21 @@ impl Words {
         words
     }
 
+    /// One word: a value as it is displayed; or the words of a refusal.
+    pub fn given<D: Display, F: Display>(alloc: Global, given: &Result<D, F>) -> Words {
+        match given {
+            Ok(value) => Words::shown(alloc, value),
+            Err(fault) => Words::refusal(alloc, fault),
+        }
+    }
+
+    /// Values as they are displayed, a word each.
+    pub fn all<D: Display>(alloc: Global, values: &[D]) -> Words {
+        let mut words = Words::new(alloc);
+        words.show_all(alloc, values);
+        words
+    }
+
     /// No answer, for this reason.
     pub fn none(alloc: Global, fault: RowFault) -> Words {
         let words = Words::new(alloc);
@@ -79,6 +94,13 @@ impl Words {
         match format!(in alloc; "{value}") {
             Ok(text) => self.push(text.into_bytes()),
             Err(_) => self.fail(RowFault::Memory),
+        }
+    }
+
+    /// Adds values as they are displayed, a word each.
+    pub fn show_all<D: Display>(&mut self, alloc: Global, values: &[D]) {
+        for value in values {
+            self.show(alloc, value);
         }
     }
 
@@ -166,10 +188,26 @@ impl Words {
         }
     }
 
+    /// The word at a place as a number below 2^32. Where it is none the row differs, and this is 0.
+    pub fn small_at(&self, at: usize) -> u32 {
+        match u32::try_from(self.number_at(at)) {
+            Ok(number) => number,
+            Err(_) => {
+                self.fail(RowFault::OtherKind);
+                0
+            }
+        }
+    }
+
     /// The word at a place, to be kept.
     pub fn bytes_at(&self, alloc: Global, at: usize) -> Vec<u8> {
-        match Vec::from_slice(alloc, self.word_at(at)) {
-            Ok(bytes) => bytes,
+        self.copy_of(alloc, self.word_at(at))
+    }
+
+    /// A copy of some bytes. Where there is no memory for it the row differs, and this is empty.
+    pub fn copy_of(&self, alloc: Global, bytes: &[u8]) -> Vec<u8> {
+        match Vec::from_slice(alloc, bytes) {
+            Ok(copy) => copy,
             Err(_) => {
                 self.fail(RowFault::Memory);
                 Vec::new(alloc)

@@ -54,7 +54,7 @@ fn push_run(
 }
 
 /// The graph of the rules and of the records that they keep.
-pub(crate) fn led(
+fn led(
     alloc: Global,
     rules: &[Rule],
     runs: &[(u32, RunRecord)],
@@ -66,13 +66,38 @@ pub(crate) fn led(
     push_more(alloc, &mut edits, rules)?;
     push_runs(&mut edits, runs)?;
     let mut led = Indexed::empty(alloc);
-    led.edit_all(alloc, edits)?;
-    Ok(led)
+    match led.edit_all(alloc, edits) {
+        Ok(()) => Ok(led),
+        Err(fault) => {
+            drop(led);
+            Err(fault)
+        }
+    }
+}
+
+/// The rules that are to be run, where these are the rules now, and these the records that they keep.
+pub(crate) fn flags_now(
+    alloc: Global,
+    nodes: &Nodes,
+    rules: &[Rule],
+    runs: &[(u32, RunRecord)],
+    befores: &[Option<u32>],
+) -> Result<Items<u32>, GraphFault>
+    requires befores { AreNumbersBefore nodes.now (led_by rules.now runs.now).rules befores.now }
+    requires runs { AreRunsOfRules (led_by rules.now runs.now) }
+    ensures flags { IfOk result (λ flags. (number : ℕ)
+        → Contains flags number ↔ IsToRun nodes.now (led_by rules.now runs.now) number) }
+    ensures memory { IfErr result (λ fault. fault ≡ GraphFault.Memory) }
+{
+    let led = led(alloc, rules, runs)?;
+    let flags = to_run(alloc, nodes, &led, befores);
+    drop(led);
+    flags
 }
 
 /// The rules that are to be run: those whose records ask an output of a new one, and all that recorded reads lead to from
 /// them; new ones, and those that were flagged.
-pub(crate) fn to_run(
+fn to_run(
     alloc: Global,
     nodes: &Nodes,
     led: &Indexed,

@@ -8,7 +8,7 @@ use crate::before::numbers_before;
 use crate::clearing::{push_cleared, push_less, push_unread};
 use crate::owners::owned_now;
 use crate::putting::{push_flags, push_fresh, push_more, push_owned, push_runs};
-use crate::running::{led, runs_now, to_run};
+use crate::running::{flags_now, runs_now};
 use std::alloc::Global;
 use tup_graph::{Edits, GraphFault, Nodes, Owned};
 use tup_map::ByPath;
@@ -41,8 +41,7 @@ pub fn swap_rules(
 {
     let befores = numbers_before(alloc, nodes, rules)?;
     let runs = runs_now(alloc, nodes, befores.as_slice())?;
-    let led = led(alloc, rules, runs.as_slice())?;
-    let flags = to_run(alloc, nodes, &led, befores.as_slice())?;
+    let flags = flags_now(alloc, nodes, rules, runs.as_slice(), befores.as_slice())?;
     let owned = owned_now(alloc, nodes, rules)?;
     let mut edits = Items::new(alloc);
     push_away(&mut edits, nodes, fresh)?;

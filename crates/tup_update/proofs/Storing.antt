@@ -10,10 +10,11 @@ use Rattle.tup_site.specs.declared.fault.SiteFailed.TheVariants.{Fault, TooLarge
 use Rattle.tup_table.specs.Images.{OpenStep}
 use Rattle.tup_table.specs.Reading.{ReadsAs}
 use Rattle.tup_table.specs.Store.{IsStore}
-use Rattle.tup_table.specs.Table.{IsAtRest}
+use Rattle.tup_table.specs.Table.{IsAtRest, entries_in}
 use Rattle.tup_table.proofs.Appends.{closed_store}
 use Rattle.tup_table.proofs.Going.{IsEarlier, as_step}
 use Rattle.tup_graph.specs.Graph.{GraphState}
+use Rattle.tup_graph.specs.Opening.{IsGraphOf}
 use Rattle.tup_graph.specs.Transactions.{forget_edits}
 use Rattle.tup_graph.specs.declared.edit.Edit.{Edit}
 use Rattle.tup_graph.specs.declared.fault.GraphFault.{GraphFault}
@@ -95,10 +96,11 @@ module _ {S : Type 0} (world : S → World) (moment : S → ℕ) (left_since : S
         λ i. record { entries = stands.entries i; gate = stands.gate i },
       )
 
-  pub no_room : (edits : GraphState → List Edit) (held : Held) (before : S) (now : World) → StandsFor world moment left_since held before → now ≡ world before → IsFull held (edits held.nodes) → LacksRoom edits now
-  no_room edits held before now stands same full = record {
+  pub no_room : (edits : GraphState → List Edit) (held : Held) (before : S) (now : World) → StandsFor world moment left_since held before → now ≡ world before → IsGraphOf (entries_in held.table) held.nodes → IsFull held (edits held.nodes) → LacksRoom edits now
+  no_room edits held before now stands same graph full = record {
     graph = held;
     reads = subst (λ (w : World). ReadsAs w.store (Ok (opened_in held))) (sym same) (stand_reads held before stands);
+    stands = graph;
     full = full;
   }
 

@@ -14,7 +14,9 @@ use Rattle.tup_access.specs.declared.verdict.Verdict.{Verdict}
 use Rattle.tup_clean.specs.Clean.{succeeds, is_good}
 use Rattle.tup_ledger.specs.Ascending.{ascending}
 use Rattle.tup_table.specs.Reading.{ReadsAs}
+use Rattle.tup_table.specs.Table.{entries_in}
 use Rattle.tup_graph.specs.Graph.{GraphState}
+use Rattle.tup_graph.specs.Opening.{IsGraphOf}
 use Rattle.tup_graph.specs.Transactions.{forget_edits}
 use Rattle.tup_graph.specs.declared.edit.Edit.{Edit}
 use Rattle.tup_kept.specs.Held.{Held}
@@ -63,10 +65,11 @@ SourcesStay old new =
 abbrev pub IsBadRule : Next → List Rule → Holding → RuleName → Verdict → Type 0
 IsBadRule next rules old name verdict = IsFirstBad rules (ends next rules old) (build next rules old) name verdict
 
--- the store of a world has no room for a commit of these edits
+-- the store of a world, which stands for a graph, has no room for a commit of these edits of it
 pub record LacksRoom (edits : GraphState → List Edit) (w : World) : Type 0 where
   pub graph : Held
   pub reads : ReadsAs w.store (Ok (opened_in graph))
+  pub stands : IsGraphOf (entries_in graph.table) graph.nodes
   pub full : IsFull graph (edits graph.nodes)
 
 -- it has none for the outputs of some rules, which are to be owned, or for giving up what was owned and no rule makes

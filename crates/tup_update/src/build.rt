@@ -183,6 +183,8 @@ fn prepare<S: Site>(
     ensures late { IfErr result IsLate }
     ensures counted { HasCountedCause (S.faults site.old) (S.faults site.new) (result_err result) }
 {
+    // A law: while the graph is fresh, its store stands for its nodes.
+    let _ = graph.nodes();
     own(alloc, graph, site, plan.outputs.as_slice())?;
     Ok(clear(alloc, site, plan.vanished.as_slice(), removed)?)
 }
@@ -260,5 +262,7 @@ fn finish<S: Site>(
     ensures late { IfErr result IsLate }
     ensures counted { HasCountedCause (S.faults site.old) (S.faults site.new) (result_err result) }
 {
+    // A law: while the graph is fresh, its store stands for its nodes.
+    let _ = graph.nodes();
     Ok(give_up(alloc, graph, site, left)?)
 }

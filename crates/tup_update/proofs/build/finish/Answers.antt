@@ -1,6 +1,8 @@
 use Rattle.std.proofs.Common.{◌≡◌, ◌∙◌, sym, ap, subst, Some}
 use Rattle.std.specs.Result.{result_err}
+use Rattle.tup_table.specs.Table.{entries_in}
 use Rattle.tup_graph.specs.Graph.{GraphState}
+use Rattle.tup_graph.specs.Opening.{IsGraphOf}
 use Rattle.tup_graph.specs.Transactions.{forget_edits, with_forgotten}
 use Rattle.tup_ledger.proofs.Keys.{owned_without}
 use Rattle.tup_update.specs.Outcome.{HasCountedCause}
@@ -27,7 +29,8 @@ returns-in_err-give_up-clause-full g c = λ tells full.
     let left = c.args.left.now in
     let both : Some (stop_of_graph fault) ≡ Some Full = sym (err_is c.from_residual.result (stop_of_graph fault) c.from_residual.ensures.1) ∙ ap (λ r. result_err r) full in
     let gives = given_full g.S.Site.tells left held c.give_up.new.graph (g.S.Site.world c.args.site.now) (g.S.Site.world c.give_up.new.site) fault tells c.in_err-give_up.ensures.gives_up (cc both) in
-    no_room g.S.Site.world g.S.Site.moment g.S.Site.left_since (λ (g : GraphState). forget_edits g left) held c.args.site.now (g.S.Site.world c.give_up.new.site) (c.requires.stands tells) gives.1 gives.0
+    no_room g.S.Site.world g.S.Site.moment g.S.Site.left_since (λ (g : GraphState). forget_edits g left) held c.args.site.now (g.S.Site.world c.give_up.new.site) (c.requires.stands tells) gives.1
+    (subst (IsGraphOf (entries_in held.table)) c.nodes.ensures.value (c.nodes.ensures.graph c.requires.fresh)) gives.0
 
 pub returns-in_err-give_up-clause-counted : goal.returns-in_err-give_up-clause-counted
 returns-in_err-give_up-clause-counted g c =

@@ -1,7 +1,9 @@
 use Rattle.std.proofs.Common.{◌≡◌, ◌∙◌, ◌++◌, ℕ, ⊎_elim, inl, inr, sym, ap, subst, List, Some, Err}
 use Rattle.std.specs.Result.{result_err}
 use Rattle.tup_path.specs.Name.{Names}
+use Rattle.tup_table.specs.Table.{entries_in}
 use Rattle.tup_graph.specs.Graph.{GraphState}
+use Rattle.tup_graph.specs.Opening.{IsGraphOf}
 use Rattle.tup_kept.specs.Transaction.{IsFull}
 use Rattle.tup_ledger.specs.Ascending.{ascending}
 use Rattle.tup_ledger.specs.Owned.{own_edits, owned_in, with_owned}
@@ -46,6 +48,7 @@ returns-in_err-own-clause-full g c = λ tells full.
     let stop : stop_of_graph fault ≡ Full = (let both : Some (stop_of_graph fault) ≡ Some Full = sym (err_is c.from_residual.result (stop_of_graph fault) c.from_residual.ensures.1) ∙ ap (λ r. result_err r) full in cc both) in
     let is = committed_full (own_edits held.nodes c.as_slice.result.now) (with_owned held.nodes c.as_slice.result.now) held c.own.new.graph c.args.site.now c.own.new.site fault c.in_err-own.ensures.leaves stop in
     no_room g.S.Site.world g.S.Site.moment g.S.Site.left_since (λ (g : GraphState). own_edits g outputs) held c.args.site.now (g.S.Site.world c.own.new.site) (c.requires.stands tells) (ap (λ s. g.S.Site.world s) is.1)
+    (subst (IsGraphOf (entries_in held.table)) c.nodes.ensures.value (c.nodes.ensures.graph c.requires.fresh))
     (subst (λ (paths : List Names). IsFull held (own_edits held.nodes paths)) c.as_slice.ensures is.0)
 
 pub returns-in_err-own-clause-counted : goal.returns-in_err-own-clause-counted
