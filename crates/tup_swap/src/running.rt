@@ -54,11 +54,7 @@ fn push_run(
 }
 
 /// The graph of the rules and of the records that they keep.
-fn led(
-    alloc: Global,
-    rules: &[Rule],
-    runs: &[(u32, RunRecord)],
-) -> Result<Indexed, GraphFault>
+fn led(alloc: Global, rules: &[Rule], runs: &[(u32, RunRecord)]) -> Result<Indexed, GraphFault>
     ensures led { IfOk result (λ led. led ≡ led_by rules.now runs.now) }
     ensures memory { IfErr result (λ fault. fault ≡ GraphFault.Memory) }
 {
