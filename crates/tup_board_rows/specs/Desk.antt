@@ -1,14 +1,8 @@
--- What holds of a board with its plan (own).
+-- What a seat may run (own).
 use Rattle.std.specs.Prelude.{◌≡◌, ℕ, ◌<◌, Some, slice_get}
 use Rattle.tup_rule.specs.declared.rule.Rule.{Rule}
 use Rattle.tup_core.specs.declared.plan.Plan.{Plan}
 use Rattle.tup_core.specs.declared.running.Running.{Running}
-use Rattle.tup_board.specs.Board.{plan_of}
-use Rattle.tup_board_rows.specs.declared.opening.Opened.{Opened}
-
--- the plan is the board's
-abbrev pub IsOfBoard : Opened → Type 0
-IsOfBoard opened = opened.plan ≡ plan_of opened.board
 
 -- there is such a seat, and the rule that it runs is one of the plan
 pub record MayRun (plan : Plan) (seat : ℕ) (running : Running) : Type 0 where

@@ -3,7 +3,7 @@ ghost use Rattle.std.specs.Prelude.{◌≡◌, ◌↔◌, [], All, IfOk, IsTrue,
 ghost use Rattle.std.specs.FinMap as finite;
 ghost use Rattle.tup_site.specs.Memory.{tree_in};
 ghost use Rattle.tup_board.specs.Outputs.{AreApart};
-ghost use Rattle.tup_board_rows.specs.Apart.{HasOutputs, IsBeside, MayStand, PutsAll, PutsNew, StandTogether};
+ghost use Rattle.tup_board_rows.specs.Apart.{HasOutputs, PutsAll, PutsNew, StandTogether};
 
 use std::alloc::{AllocError, Global};
 use tup_core::Plan;
@@ -38,13 +38,13 @@ fn stand_together(alloc: Global, rules: &[Rule], paths: &[Path]) -> Result<bool,
     ensures { IfOk result (λ may. IsTrue may → StandTogether rules.now paths.now) }
 {
     match MemSite::new(alloc, Vec::new(alloc), Vec::new(alloc)) {
-        Ok(site) => takes(alloc, site, rules, paths),
+        Ok(site) => stand_in(alloc, site, rules, paths),
         Err(_) => Err(AllocError),
     }
 }
 
-/// Whether a site can have all of them.
-fn takes(
+/// The same of a site without files.
+fn stand_in(
     alloc: Global,
     mut site: MemSite,
     rules: &[Rule],
@@ -52,10 +52,24 @@ fn takes(
 ) -> Result<bool, AllocError>
     ensures { IfOk result (λ may. IsTrue may → StandTogether rules.now paths.now) }
 {
-    if !put_outputs(alloc, &mut site, rules)? {
+    let may = takes(alloc, &mut site, rules, paths);
+    drop(site);
+    may
+}
+
+/// Whether a site can have all of them.
+fn takes(
+    alloc: Global,
+    site: &mut MemSite,
+    rules: &[Rule],
+    paths: &[Path],
+) -> Result<bool, AllocError>
+    ensures { IfOk result (λ may. IsTrue may → StandTogether rules.now paths.now) }
+{
+    if !put_outputs(alloc, site, rules)? {
         return Ok(false);
     }
-    put_all(alloc, &mut site, paths)
+    put_all(alloc, site, paths)
 }
 
 /// Puts a file at each output of some rules, if each may stand there, and no two rules make the same.
@@ -114,24 +128,4 @@ fn put(alloc: Global, site: &mut MemSite, path: &Path) -> Result<bool, AllocErro
         Err(MemRefused::Memory) => Err(AllocError),
         Err(_) => Ok(false),
     }
-}
-
-/// Whether a file may stand at a path beside those at these paths: it isn't the top, nor above or below one.
-pub(crate) fn may_stand(path: &Path, paths: &[Path]) -> bool
-    ensures { IsTrue result ↔ MayStand paths.now path.now }
-{
-    path.depth() > 0 && are_beside(path, paths)
-}
-
-fn are_beside(path: &Path, others: &[Path]) -> bool
-    ensures { IsTrue result ↔ All (IsBeside path.now) others.now }
-{
-    others.iter().all(|other| is_beside(path, other))
-}
-
-/// Whether two paths lie neither above nor below each other.
-fn is_beside(path: &Path, other: &Path) -> bool
-    ensures { IsTrue result ↔ IsBeside path.now other.now }
-{
-    !path.is_below(other) && !other.is_below(path)
 }

@@ -1,4 +1,4 @@
-//! The clean build of a project.
+//! Whether a site is the clean build of its sources.
 ghost use Rattle.std.specs.Prelude.{◌≡◌, true, IfOk, IsTrue, OnOk};
 ghost use Rattle.std.specs.FinMap as finite;
 ghost use Rattle.tup_path.specs.Order.{by_names};
@@ -12,91 +12,97 @@ use tup_rows::RowFault;
 use tup_rule::Rule;
 use tup_site::{MemSite, Site};
 
-/// The files that the clean build of some rules leaves over these sources.
-pub(crate) fn clean_tree(
+/// Whether a site has just the files that the clean build of some rules leaves over its sources.
+pub(crate) fn is_clean(
     alloc: Global,
+    site: &mut MemSite,
     rules: &[Rule],
-    sources: &Files,
-) -> Result<Files, RowFault> {
-    let sources = sorted(alloc, sources)?;
-    match clean_build(alloc, rules, &sources, &mut Mini::new(alloc)) {
+) -> Result<bool, RowFault> {
+    let files = files_in(alloc, site)?;
+    are_clean(alloc, &files, rules)
+}
+
+fn are_clean(alloc: Global, files: &Files, rules: &[Rule]) -> Result<bool, RowFault> {
+    let sources = sources_of(alloc, files, rules)?;
+    are_left(alloc, files, &sources, rules)
+}
+
+fn are_left(alloc: Global, files: &Files, sources: &Files, rules: &[Rule]) -> Result<bool, RowFault>
+    requires { IsTrue (finite.is_sorted by_names sources.now) }
+{
+    Ok(clean_tree(alloc, rules, sources)? == *files)
+}
+
+/// The files of a site.
+pub(crate) fn files_in(alloc: Global, site: &mut MemSite) -> Result<Files, RowFault> {
+    match site.list(alloc) {
+        Ok(paths) => Ok(files_at(alloc, site, paths.as_slice())?),
+        Err(_) => Err(RowFault::Memory),
+    }
+}
+
+/// The files of a site at these paths.
+fn files_at(alloc: Global, site: &MemSite, paths: &[Path]) -> Result<Files, AllocError> {
+    let mut files = Items::new(alloc);
+    for path in paths {
+        if let Some(content) = site.file(path) {
+            files.push(file_of(path, content)?)?;
+        }
+    }
+    Ok(files)
+}
+
+fn file_of(path: &Path, content: &Bytes) -> Result<(Path, Bytes), AllocError> {
+    Ok((path.clone()?, content.clone()?))
+}
+
+/// The files that the clean build of some rules leaves over these sources.
+fn clean_tree(alloc: Global, rules: &[Rule], sources: &Files) -> Result<Files, RowFault>
+    requires { IsTrue (finite.is_sorted by_names sources.now) }
+{
+    match clean_build(alloc, rules, sources, &mut Mini::new(alloc)) {
         Ok(clean) => Ok(clean.tree),
         Err(_) => Err(RowFault::Memory),
     }
 }
 
-/// Whether a site has just these files.
-pub(crate) fn has_files(
-    alloc: Global,
-    site: &mut MemSite,
-    files: &Files,
-) -> Result<bool, RowFault> {
-    Ok(files_in(alloc, site)? == *files)
+/// Those of some files that none of these rules makes, in the order of their paths.
+fn sources_of(alloc: Global, files: &Files, rules: &[Rule]) -> Result<Files, AllocError>
+    ensures { IfOk result (λ sources. IsTrue (finite.is_sorted by_names sources)) }
+{
+    let sources = unmade(alloc, files, rules)?;
+    Ok(Items::from_vec(sources.into_iter().collect(alloc)?))
 }
 
-/// The files of a site that none of these rules makes.
-pub(crate) fn sources_in(
-    alloc: Global,
-    site: &mut MemSite,
-    rules: &[Rule],
-) -> Result<Files, RowFault> {
-    let mut sources = Items::new(alloc);
-    for (path, content) in files_in(alloc, site)?.as_slice() {
+/// Files by their paths.
+type Contents = BTreeMap<Path, Bytes>;
+
+/// The same by their paths.
+fn unmade(alloc: Global, files: &Files, rules: &[Rule]) -> Result<Contents, AllocError>
+    ensures { IfOk result (λ contents. finite.is_sorted by_names contents.entries ≡ true) }
+{
+    let mut contents = BTreeMap::new(alloc);
+    for (path, content) in files.as_slice() {
         if !is_made(rules, path) {
-            sources.push((path.clone()?, content.clone()?))?;
+            put(&mut contents, path, content)?;
         }
     }
-    Ok(sources)
+    Ok(contents)
 }
 
 fn is_made(rules: &[Rule], path: &Path) -> bool {
     rules.iter().any(|rule| rule.writes(path))
 }
 
-/// The files of a site.
-pub(crate) fn files_in(alloc: Global, site: &mut MemSite) -> Result<Files, RowFault> {
-    let mut files = Items::new(alloc);
-    match site.list(alloc) {
-        Ok(paths) => add_files(&mut files, site, paths.as_slice())?,
-        Err(_) => return Err(RowFault::Memory),
-    }
-    Ok(files)
-}
-
-/// Adds the files of a site at these paths.
-fn add_files(files: &mut Files, site: &MemSite, paths: &[Path]) -> Result<(), AllocError> {
-    for path in paths {
-        if let Some(content) = site.file(path) {
-            files.push((path.clone()?, content.clone()?))?;
-        }
-    }
-    Ok(())
-}
-
-/// These files in the order of their paths.
-fn sorted(alloc: Global, files: &Files) -> Result<Files, AllocError>
-    ensures { IfOk result (λ sorted. IsTrue (finite.is_sorted by_names sorted)) }
-{
-    let contents = contents(alloc, files)?;
-    Ok(Items::from_vec(contents.into_iter().collect(alloc)?))
-}
-
-/// Files by their paths.
-type Contents = BTreeMap<Path, Bytes>;
-
-/// These files by their paths.
-fn contents(alloc: Global, files: &Files) -> Result<Contents, AllocError>
-    ensures { IfOk result (λ contents. finite.is_sorted by_names contents.entries ≡ true) }
-{
-    let mut contents = BTreeMap::new(alloc);
-    for (path, content) in files.as_slice() {
-        put(&mut contents, path.clone()?, content.clone()?)?;
-    }
-    Ok(contents)
-}
-
 /// Puts a file in the place of what stands there.
-fn put(contents: &mut Contents, path: Path, content: Bytes) -> Result<(), AllocError>
+fn put(contents: &mut Contents, path: &Path, content: &Bytes) -> Result<(), AllocError>
+    ensures { OnOk result (finite.is_sorted by_names contents.old.entries ≡ true
+        → finite.is_sorted by_names contents.new.entries ≡ true) }
+{
+    insert(contents, path.clone()?, content.clone()?)
+}
+
+fn insert(contents: &mut Contents, path: Path, content: Bytes) -> Result<(), AllocError>
     ensures { OnOk result (finite.is_sorted by_names contents.old.entries ≡ true
         → finite.is_sorted by_names contents.new.entries ≡ true) }
 {

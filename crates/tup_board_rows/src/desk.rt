@@ -1,277 +1,361 @@
-//! A board that obeys orders.
-ghost use Rattle.std.specs.Prelude.{◌≡◌, IfOk};
+//! A board whose seats are driven by hand.
+ghost use Rattle.std.specs.Prelude.{◌≡◌, IfOk, IsTrue};
+ghost use Rattle.tup_kept.specs.Held.{is_fresh};
 ghost use Rattle.tup_board.specs.Board.{course_of, plan_of};
-ghost use Rattle.tup_course.specs.Course.{GoesOn};
+ghost use Rattle.tup_board.specs.Outputs.{AreApart, IsPlanOf};
+ghost use Rattle.tup_course.specs.Course.{GoesOn, RunsRule, WasDenied};
 
-use crate::opening::MemBoard;
 use crate::order::Order;
-use crate::replies::Replies;
-use crate::seat::{ask, end_denied, goes_on, step, stop, was_denied};
-use crate::shown::{show_claimed, show_drained};
+use crate::quiet::Quiet;
+use crate::seat::{is_over_asks, may_run, performed, rule_of};
+use crate::shown::{
+    asked_words, claimed_words, drained_words, ended_words, fault_words, verdict_words,
+};
 use std::alloc::{AllocError, Global};
-use tup_board::Claimed;
-use tup_core::Plan;
+use tup_board::{Asked, Board, BoardParts, Claimed, Drained};
+use tup_core::{Cause, Plan};
+use tup_given::Replies;
+use tup_kept::Graph;
 use tup_mini::Mini;
-use tup_rows::{RowFault, Words};
+use tup_path::{Items, Text};
+use tup_rows::{RowFault, Words, set};
+use tup_runner::{Answer, Report, RunFailed};
 
 /// How often a command may ask.
-const STEPS: usize = 5_000;
+const STEPS: u32 = 5_000;
 
-/// For each seat what its command was told.
+/// A board over a site in memory, at which small commands run.
+pub(crate) type MemBoard = Board<Quiet, Mini>;
+
+/// A board with its plan, and for each seat what its command was told.
 #[derive(Drop)]
 pub(crate) struct Desk {
-    replies: Vec<Option<Replies>>,
+    board: MemBoard,
+    plan: Plan,
+    told: Vec<Replies>,
+    ghost planned: { plan ≡ plan_of board },
+}
+
+/// A board at its opening.
+pub(crate) fn seated(alloc: Global, site: Quiet, graph: Graph, plan: Plan) -> Result<Desk, RowFault>
+    requires fresh { IsTrue (is_fresh graph) }
+    requires plan { IsPlanOf graph.nodes plan }
+    requires apart { AreApart plan graph.nodes }
+{
+    match Board::new(alloc, site, graph, &plan) {
+        Ok(board) => Desk::of(alloc, board, plan),
+        Err(back) => {
+            drop(back);
+            drop(plan);
+            Err(RowFault::Memory)
+        }
+    }
 }
 
 impl Desk {
-    /// Nothing was told yet.
-    pub(crate) fn new(alloc: Global) -> Result<Desk, AllocError> {
-        let mut replies = Vec::new(alloc);
-        for _ in 0..16 {
-            add(&mut replies, None)?;
+    /// Nobody was told anything yet.
+    fn of(alloc: Global, board: MemBoard, plan: Plan) -> Result<Desk, RowFault>
+        requires { plan ≡ plan_of board }
+    {
+        match untold(alloc) {
+            Ok(told) => Ok(Desk { board, plan, told }),
+            Err(_) => {
+                drop(board);
+                drop(plan);
+                Err(RowFault::Memory)
+            }
         }
-        Ok(Desk { replies })
     }
 
-    /// Does what an order says, and adds what came of it.
-    pub(crate) fn obey(
-        &mut self,
-        alloc: Global,
-        board: &mut MemBoard,
-        plan: &Plan,
-        order: &Order<'_>,
-        words: &mut Words,
-    ) -> Result<(), RowFault>
-        requires plan { plan.now ≡ plan_of board.old }
-        ensures plan { plan_of board.new ≡ plan_of board.old }
-    {
-        match order.call {
-            "claim" => self.show_claim(alloc, board, plan, order.seat, words),
-            "step" => self.step(alloc, board, plan, order.seat, words),
-            "work" => self.work(alloc, board, plan, order.seat, words),
-            "drain" => drained(alloc, board, plan, words),
-            "all" => self.all(alloc, board, plan, order.seat, words),
-            "ask" => self.ask(alloc, board, plan, order, words),
-            "asks" => self.asks(alloc, board, plan, order, words),
-            "denied" => end_denied(alloc, board, plan, order.seat, words),
-            "stop" => stop(board, plan, order.seat, order.what),
+    /// Takes the board apart.
+    pub(crate) fn into_parts(self) -> BoardParts<Quiet> {
+        let Desk {
+            board,
+            plan,
+            told,
+            ..
+        } = self;
+        drop(plan);
+        drop(told);
+        board.into_parts()
+    }
+
+    /// Does what an order says: what came of it. `OtherKind` where the seat can't.
+    pub(crate) fn obey(&mut self, alloc: Global, order: &Order<'_>) -> Result<Words, RowFault> {
+        let seat = order.number(1);
+        match order.word(0) {
+            "claim" => self.show_claim(alloc, seat),
+            "step" => self.work(alloc, seat, 1),
+            "work" => self.work(alloc, seat, STEPS),
+            "all" => self.all(alloc, seat),
+            "drain" => self.show_drain(alloc),
+            "ask" => self.ask_for(alloc, seat, order, 1),
+            "asks" => self.ask_for(alloc, seat, order, order.number(3)),
+            "denied" => self.end_denied(alloc, seat),
+            "stop" => self.stop(alloc, seat, order.word(2)),
             _ => Err(RowFault::NoSuchCall),
         }
     }
 
-    /// A seat claims, if it runs nothing; its command was told nothing yet.
-    fn claim(
-        &mut self,
-        alloc: Global,
-        board: &mut MemBoard,
-        plan: &Plan,
-        seat: u32,
-    ) -> Result<Claimed, RowFault>
-        requires plan { plan.now ≡ plan_of board.old }
-        ensures plan { plan_of board.new ≡ plan_of board.old }
-    {
-        if seat >= 16 || board.running(seat).is_some() {
+    /// A seat that runs nothing claims; its command was told nothing yet.
+    fn claim(&mut self, alloc: Global, seat: u32) -> Result<Claimed, RowFault> {
+        if seat >= 16 || self.board.running(seat).is_some() {
             return Err(RowFault::OtherKind);
         }
-        put_at(&mut self.replies, seat, Some(Replies::new(alloc)));
-        Ok(board.claim(plan, seat))
-    }
-
-    fn show_claim(
-        &mut self,
-        alloc: Global,
-        board: &mut MemBoard,
-        plan: &Plan,
-        seat: u32,
-        words: &mut Words,
-    ) -> Result<(), RowFault>
-        requires plan { plan.now ≡ plan_of board.old }
-        ensures plan { plan_of board.new ≡ plan_of board.old }
-    {
-        let claimed = self.claim(alloc, board, plan, seat)?;
-        show_claimed(alloc, words, claimed);
-        Ok(())
-    }
-
-    /// The command of a seat asks once more, or ends.
-    fn step(
-        &mut self,
-        alloc: Global,
-        board: &mut MemBoard,
-        plan: &Plan,
-        seat: u32,
-        words: &mut Words,
-    ) -> Result<(), RowFault>
-        requires plan { plan.now ≡ plan_of board.old }
-        ensures plan { plan_of board.new ≡ plan_of board.old }
-    {
-        let mut replies = self.take(board, plan, seat)?;
-        let done = step(alloc, board, plan, seat, &mut replies, words);
-        put_at(&mut self.replies, seat, Some(replies));
-        done
-    }
-
-    /// The command of a seat goes on until it ends, or an ask is denied or refused; only what came of its last step is
-    /// added.
-    fn work(
-        &mut self,
-        alloc: Global,
-        board: &mut MemBoard,
-        plan: &Plan,
-        seat: u32,
-        words: &mut Words,
-    ) -> Result<(), RowFault>
-        requires plan { plan.now ≡ plan_of board.old }
-        ensures plan { plan_of board.new ≡ plan_of board.old }
-    {
-        let mut last = Words::new(alloc);
-        for _ in 0..STEPS {
-            if !goes_on(board, plan, seat) {
-                break;
-            }
-            last = Words::new(alloc);
-            self.step(alloc, board, plan, seat, &mut last)?;
+        if let Some(told) = self.told.get_mut(seat as usize) {
+            set(told, Replies::new(Items::new(alloc)));
         }
-        add_all(alloc, words, last.as_slice());
-        Ok(())
+        Ok(self.board.claim(&self.plan, seat))
     }
 
-    /// A seat claims one rule after another, and its commands go on to their ends; what came of the last claim is added.
-    fn all(
-        &mut self,
-        alloc: Global,
-        board: &mut MemBoard,
-        plan: &Plan,
-        seat: u32,
-        words: &mut Words,
-    ) -> Result<(), RowFault>
-        requires plan { plan.now ≡ plan_of board.old }
-        ensures plan { plan_of board.new ≡ plan_of board.old }
-    {
-        let mut claimed = Claimed::Wait;
-        for _ in 0..=plan.reach.len() {
-            claimed = self.claim(alloc, board, plan, seat)?;
+    fn show_claim(&mut self, alloc: Global, seat: u32) -> Result<Words, RowFault> {
+        Ok(claimed_words(alloc, self.claim(alloc, seat)?))
+    }
+
+    /// A seat claims one rule after another, and its commands go on to their ends: what came of the last claim.
+    fn all(&mut self, alloc: Global, seat: u32) -> Result<Words, RowFault> {
+        for _ in 0..=self.plan.reach.len() {
+            let claimed = self.claim(alloc, seat)?;
             if !matches!(claimed, Claimed::Rule(_)) {
+                return Ok(claimed_words(alloc, claimed));
+            }
+            self.run(alloc, seat)?;
+        }
+        Err(RowFault::TooMany)
+    }
+
+    /// The command of a seat goes on to its end.
+    fn run(&mut self, alloc: Global, seat: u32) -> Result<(), RowFault> {
+        self.work(alloc, seat, STEPS)?;
+        if self.was_denied(seat) {
+            self.end_denied(alloc, seat)?;
+        }
+        Ok(())
+    }
+
+    /// The command of a seat goes on, so many steps at most, until it ends, or an ask is denied or refused: what came of
+    /// its last step.
+    fn work(&mut self, alloc: Global, seat: u32, steps: u32) -> Result<Words, RowFault> {
+        let mut last = Err(RowFault::OtherKind);
+        for _ in 0..steps {
+            if !self.goes_on(seat) {
                 break;
             }
-            self.run(alloc, board, plan, seat)?;
+            set(&mut last, self.step(alloc, seat));
         }
-        show_claimed(alloc, words, claimed);
-        Ok(())
+        last
     }
 
-    /// The command of a seat goes on to its end, which nobody is told.
-    fn run(
-        &mut self,
-        alloc: Global,
-        board: &mut MemBoard,
-        plan: &Plan,
-        seat: u32,
-    ) -> Result<(), RowFault>
-        requires plan { plan.now ≡ plan_of board.old }
-        ensures plan { plan_of board.new ≡ plan_of board.old }
+    /// It asks once more, or ends.
+    fn step(&mut self, alloc: Global, seat: u32) -> Result<Words, RowFault>
+        requires { GoesOn (course_of self.old.board) seat }
     {
-        let mut unheard = Words::new(alloc);
-        self.work(alloc, board, plan, seat, &mut unheard)?;
-        if was_denied(board, plan, seat) {
-            end_denied(alloc, board, plan, seat, &mut unheard)?;
+        match self.report(alloc, seat) {
+            Ok(report) => {
+                let done = self.finish(alloc, seat, &report);
+                drop(report);
+                done
+            }
+            Err(RunFailed::Denied) => self.ask_next(alloc, seat),
+            Err(_) => Err(RowFault::Memory),
         }
-        Ok(())
     }
 
-    /// The command of a seat asks for a text.
-    fn ask(
-        &mut self,
-        alloc: Global,
-        board: &mut MemBoard,
-        plan: &Plan,
-        order: &Order<'_>,
-        words: &mut Words,
-    ) -> Result<(), RowFault>
-        requires plan { plan.now ≡ plan_of board.old }
-        ensures plan { plan_of board.new ≡ plan_of board.old }
+    /// The report of the command of a seat over what it was told.
+    fn report(&mut self, alloc: Global, seat: u32) -> Result<Report<Mini>, RunFailed>
+        requires runs { GoesOn (course_of self.old.board) seat }
+        ensures board { self.new.board ≡ self.old.board }
+        ensures dir { IfOk result (λ report. (it : RunsRule (course_of self.old.board) seat)
+            → report.dir ≡ it.rule.dir) }
+        ensures text { IfOk result (λ report. (it : RunsRule (course_of self.old.board) seat)
+            → report.text ≡ it.rule.text) }
     {
-        let text = order.text(alloc)?;
-        let mut replies = self.take(board, plan, order.seat)?;
-        let done = ask(alloc, board, plan, order.seat, &text, &mut replies, words);
-        put_at(&mut self.replies, order.seat, Some(replies));
-        done
-    }
-
-    /// It asks for a text so often; only the last answer is added.
-    fn asks(
-        &mut self,
-        alloc: Global,
-        board: &mut MemBoard,
-        plan: &Plan,
-        order: &Order<'_>,
-        words: &mut Words,
-    ) -> Result<(), RowFault>
-        requires plan { plan.now ≡ plan_of board.old }
-        ensures plan { plan_of board.new ≡ plan_of board.old }
-    {
-        let mut last = Words::new(alloc);
-        for _ in 0..order.count {
-            last = Words::new(alloc);
-            self.ask(alloc, board, plan, order, &mut last)?;
+        let Some(rule) = rule_of(&self.board, &self.plan, seat) else {
+            return Err(RunFailed::Memory);
+        };
+        match self.told.get_mut(seat as usize) {
+            Some(told) => performed(alloc, rule, told),
+            None => Err(RunFailed::Memory),
         }
-        add_all(alloc, words, last.as_slice());
-        Ok(())
     }
 
-    /// What the command of a seat was told, which goes on.
-    fn take(&mut self, board: &MemBoard, plan: &Plan, seat: u32) -> Result<Replies, RowFault>
-        requires plan { plan.now ≡ plan_of board.now }
-        ensures { IfOk result (λ _. GoesOn (course_of board.now) seat) }
+    /// Ends the command of a seat. `OtherKind` where its report isn't over what it was told.
+    fn finish(&mut self, alloc: Global, seat: u32, report: &Report<Mini>) -> Result<Words, RowFault>
+        requires runs { GoesOn (course_of self.old.board) seat }
+        requires dir { (it : RunsRule (course_of self.old.board) seat)
+            → report.now.dir ≡ it.rule.dir }
+        requires text { (it : RunsRule (course_of self.old.board) seat)
+            → report.now.text ≡ it.rule.text }
     {
-        if !goes_on(board, plan, seat) {
+        if !is_over_asks(alloc, &self.board, seat, report)? {
             return Err(RowFault::OtherKind);
         }
-        match taken(&mut self.replies, seat) {
-            Some(replies) => Ok(replies),
+        let ended = self.board.finish(alloc, &self.plan, seat, report);
+        let words = ended_words(alloc, &ended);
+        drop(ended);
+        Ok(words)
+    }
+
+    /// The command of a seat asks for the text that its view has refused.
+    fn ask_next(&mut self, alloc: Global, seat: u32) -> Result<Words, RowFault>
+        requires { GoesOn (course_of self.old.board) seat }
+    {
+        match self.refused(seat) {
+            Some(text) => {
+                let told = self.ask(alloc, seat, &text);
+                drop(text);
+                told
+            }
             None => Err(RowFault::OtherKind),
         }
     }
+
+    fn refused(&mut self, seat: u32) -> Option<Text>
+        ensures { self.new.board ≡ self.old.board }
+    {
+        self.told.get_mut(seat as usize)?.take_denied()
+    }
+
+    /// The command of a seat asks for the text of an order so often: the last answer.
+    fn ask_for(
+        &mut self,
+        alloc: Global,
+        seat: u32,
+        order: &Order<'_>,
+        times: u32,
+    ) -> Result<Words, RowFault> {
+        let text = order.text(alloc);
+        let last = self.ask_often(alloc, seat, &text, times);
+        drop(text);
+        last
+    }
+
+    fn ask_often(
+        &mut self,
+        alloc: Global,
+        seat: u32,
+        text: &Text,
+        times: u32,
+    ) -> Result<Words, RowFault> {
+        let mut last = Err(RowFault::OtherKind);
+        for _ in 0..times {
+            if !self.goes_on(seat) {
+                return Err(RowFault::OtherKind);
+            }
+            set(&mut last, self.ask(alloc, seat, text));
+        }
+        last
+    }
+
+    /// The command of a seat asks for a text.
+    fn ask(&mut self, alloc: Global, seat: u32, text: &Text) -> Result<Words, RowFault>
+        requires { GoesOn (course_of self.old.board) seat }
+    {
+        match self.board.ask(alloc, &self.plan, seat, text) {
+            Ok(asked) => self.tell(alloc, seat, text, asked),
+            Err(fault) => Ok(fault_words(alloc, fault)),
+        }
+    }
+
+    /// A command is told what it asked for.
+    fn tell(
+        &mut self,
+        alloc: Global,
+        seat: u32,
+        text: &Text,
+        asked: Asked,
+    ) -> Result<Words, RowFault> {
+        let noted = self.note(seat, text, &asked);
+        let words = asked_words(alloc, &asked);
+        drop(asked);
+        match noted {
+            Ok(()) => Ok(words),
+            Err(_) => Err(RowFault::Memory),
+        }
+    }
+
+    /// It is to be told that again when it begins anew.
+    fn note(&mut self, seat: u32, text: &Text, asked: &Asked) -> Result<(), AllocError> {
+        match self.told.get_mut(seat as usize) {
+            Some(told) => note(told, text, asked),
+            None => Ok(()),
+        }
+    }
+
+    /// Ends the command of a seat that was denied an ask.
+    fn end_denied(&mut self, alloc: Global, seat: u32) -> Result<Words, RowFault> {
+        if !self.was_denied(seat) {
+            return Err(RowFault::OtherKind);
+        }
+        self.board.finish_denied(&self.plan, seat);
+        Ok(verdict_words(alloc, self.board.last_verdict()))
+    }
+
+    /// Stops at a seat.
+    fn stop(&mut self, alloc: Global, seat: u32, cause: &str) -> Result<Words, RowFault> {
+        if seat >= 16 {
+            return Err(RowFault::OtherKind);
+        }
+        match cause {
+            "run" => self.board.stop(&self.plan, seat, Cause::Run),
+            "memory" => self.board.stop(&self.plan, seat, Cause::Memory),
+            _ => return Err(RowFault::OtherKind),
+        }
+        Ok(Words::new(alloc))
+    }
+
+    /// All that can be run is run, if nothing happened yet.
+    pub(crate) fn drain(&mut self, alloc: Global) -> Result<Drained, RowFault> {
+        if !self.board.history().is_empty() {
+            return Err(RowFault::OtherKind);
+        }
+        Ok(self.board.drain(alloc, &self.plan, &mut Mini::new(alloc)))
+    }
+
+    fn show_drain(&mut self, alloc: Global) -> Result<Words, RowFault> {
+        Ok(drained_words(alloc, self.drain(alloc)?))
+    }
+
+    /// Whether a seat runs a rule whose command was denied nothing.
+    fn goes_on(&self, seat: u32) -> bool
+        ensures { IsTrue result → GoesOn (course_of self.now.board) seat }
+    {
+        match self.board.running(seat) {
+            Some(running) => may_run(&self.plan, seat, running) && running.denied.is_none(),
+            None => false,
+        }
+    }
+
+    /// Whether a seat runs a rule whose command was denied its last ask.
+    fn was_denied(&self, seat: u32) -> bool
+        ensures { IsTrue result → WasDenied (course_of self.now.board) seat }
+    {
+        match self.board.running(seat) {
+            Some(running) => may_run(&self.plan, seat, running) && running.denied.is_some(),
+            None => false,
+        }
+    }
 }
 
-/// A board at which nothing happened yet runs all that can be run.
-fn drained(
-    alloc: Global,
-    board: &mut MemBoard,
-    plan: &Plan,
-    words: &mut Words,
-) -> Result<(), RowFault>
-    requires plan { plan.now ≡ plan_of board.old }
-    ensures plan { plan_of board.new ≡ plan_of board.old }
-{
-    if !board.history().is_empty() {
-        return Err(RowFault::OtherKind);
+/// For each seat nothing.
+fn untold(alloc: Global) -> Result<Vec<Replies>, AllocError> {
+    let mut told = Vec::new(alloc);
+    for _ in 0..16 {
+        told.push(Replies::new(Items::new(alloc)))?;
     }
-    let drained = board.drain(alloc, plan, &mut Mini::new(alloc));
-    show_drained(alloc, words, drained);
+    Ok(told)
+}
+
+/// Notes what a text was answered, if it was.
+fn note(told: &mut Replies, text: &Text, asked: &Asked) -> Result<(), AllocError> {
+    match asked {
+        Asked::Content(content) => add(told, text, Answer::Content(content.clone()?)),
+        Asked::Absent => add(told, text, Answer::Absent),
+        Asked::Denied(_) => Ok(()),
+    }
+}
+
+fn add(told: &mut Replies, text: &Text, answer: Answer) -> Result<(), AllocError> {
+    told.add(text.clone()?, answer)?;
     Ok(())
-}
-
-/// Adds words at the end.
-fn add_all(alloc: Global, words: &mut Words, more: &[Vec<u8>]) {
-    for word in more {
-        words.put(alloc, word);
-    }
-}
-
-/// Adds an item at the end.
-fn add<T: Drop>(items: &mut Vec<T>, item: T) -> Result<(), AllocError> {
-    Ok(items.push(item)?)
-}
-
-/// What stands in a slot, which is empty then.
-fn taken<T: Drop>(slots: &mut [Option<T>], at: u32) -> Option<T> {
-    slots.get_mut(at as usize)?.take()
-}
-
-/// Puts a value into a slot, if there is one.
-fn put_at<T: Drop>(slots: &mut [T], at: u32, value: T) {
-    if let Some(slot) = slots.get_mut(at as usize) {
-        *slot = value;
-    }
 }

@@ -2,7 +2,7 @@
 //!
 //! The file of `data/` has rows, a call with the answer that is wanted each. Its head says what the calls and their
 //! arguments mean. A board stands over a site in memory that tells contracts nothing but its failures (`Quiet`); what a
-//! call of the board asks of its caller is tested before it (`apart`, `seat`).
+//! call of the board asks of its caller is tested before it (`apart`, `desk`).
 #![tactic(auto)]
 
 mod apart;
@@ -11,9 +11,9 @@ mod crash;
 mod desk;
 mod opening;
 mod order;
+mod place;
 mod project;
 mod quiet;
-mod replies;
 mod rows;
 mod script;
 mod seat;
@@ -21,11 +21,11 @@ mod shown;
 mod store;
 mod sweep;
 
-use project::Project;
+use project::Given;
 use std::io;
 use tup_rows::try_file_by;
 
 fn main(rt: HostRuntime) -> io::Result<()> {
     let alloc = rt.alloc();
-    try_file_by(&rt, alloc, "board.rows", Project::new(alloc))
+    try_file_by(&rt, alloc, "board.rows", Given::new(alloc))
 }

@@ -2,83 +2,138 @@
 ghost use Rattle.std.specs.Prelude.{◌≡◌, ◌↔◌, true, All, IfOk, IsTrue};
 ghost use Rattle.tup_graph.specs.Graph.{is_flagged};
 ghost use Rattle.tup_kept.specs.Held.{is_fresh};
-ghost use Rattle.tup_board.specs.Outputs.{IsPlanOf};
-ghost use Rattle.tup_board_rows.specs.Desk.{IsOfBoard};
+ghost use Rattle.tup_board.specs.Outputs.{AreApart, IsPlanOf};
 
 use crate::apart::are_apart;
+use crate::desk::{Desk, seated};
+use crate::project::{Given, reach_at};
 use crate::quiet::Quiet;
+use crate::store::site_of;
 use std::alloc::Global;
 use tup_above::runs_are_of_rules;
-use tup_board::Board;
-use tup_core::{Numbers, Plan};
+use tup_core::Plan;
 use tup_graph::Nodes;
 use tup_kept::Graph;
-use tup_mini::Mini;
 use tup_note::note_scan;
 use tup_partial::{flags_are_of_rules, plan_of};
-use tup_rows::RowFault;
+use tup_path::Path;
+use tup_rows::{RowFault, Words};
 use tup_scan::{Still, scan};
 use tup_site::MemSite;
 
-/// A board over a site in memory, at which small commands run.
-pub(crate) type MemBoard = Board<Quiet, Mini>;
-
-/// A board with its plan.
-#[derive(Drop)]
-pub(crate) struct Opened {
-    pub(crate) board: MemBoard,
-    pub(crate) plan: Plan,
+/// The board of a row at its opening, whose site lets so many calls pass. `OtherKind` where no board may be made.
+pub(crate) fn board_of(
+    alloc: Global,
+    given: &Given,
+    said: &Words,
+    calls: u64,
+) -> Result<Desk, RowFault> {
+    let reach = reach_at(alloc, said, 0);
+    let keep_going = said.str_at(1) == "keep";
+    match site_of(alloc, &given.project, reach.as_slice()) {
+        Ok(site) => open(alloc, site, keep_going, calls, &given.large),
+        Err(fault) => Err(fault),
+    }
 }
 
-/// A board over a site whose store has a graph, once its tree was scanned; from then on the site lets so many calls pass.
-/// `OtherKind` where no board may be made of these.
-pub(crate) fn open(
+/// The board of the next update of a site, all of whose calls pass.
+pub(crate) fn next_board(alloc: Global, site: MemSite) -> Result<Desk, RowFault> {
+    open(alloc, Quiet::new(site), false, u64::MAX, &None)
+}
+
+/// A board over a site whose store has a graph, once its tree was scanned; then a file grows, and from then on the site lets
+/// so many calls pass.
+fn open(
     alloc: Global,
-    site: MemSite,
+    mut site: Quiet,
     keep_going: bool,
     calls: u64,
-) -> Result<Opened, RowFault>
-    ensures { IfOk result IsOfBoard }
-{
-    let mut site = Quiet::new(site);
-    let graph = scanned(alloc, &mut site)?;
-    site.stop_after(calls);
-    made(alloc, site, graph, keep_going)
+    large: &Option<(Path, u64)>,
+) -> Result<Desk, RowFault> {
+    match scanned(alloc, &mut site, calls, large) {
+        Ok(graph) => planned(alloc, site, graph, keep_going),
+        Err(fault) => {
+            drop(site);
+            Err(fault)
+        }
+    }
 }
 
-/// A board over a site and its graph.
-fn made(alloc: Global, site: Quiet, graph: Graph, keep_going: bool) -> Result<Opened, RowFault>
+/// A board over a site and its graph, if one may be made.
+fn planned(alloc: Global, site: Quiet, graph: Graph, keep_going: bool) -> Result<Desk, RowFault>
     requires { IsTrue (is_fresh graph) }
-    ensures { IfOk result IsOfBoard }
 {
-    let plan = planned(alloc, &graph, keep_going)?;
-    if !are_apart(alloc, &plan, graph.nodes())? {
-        return Err(RowFault::OtherKind);
-    }
-    match Board::new(alloc, site, graph, &plan) {
-        Ok(board) => Ok(Opened { board, plan }),
-        Err(_) => Err(RowFault::Memory),
+    match tested(alloc, &graph, keep_going) {
+        Ok(plan) => seated(alloc, site, graph, plan),
+        Err(fault) => {
+            drop(site);
+            drop(graph);
+            Err(fault)
+        }
     }
 }
 
-/// The graph of a site's store, which has seen the files of its tree.
-fn scanned(alloc: Global, site: &mut Quiet) -> Result<Graph, RowFault>
+/// The graph of a site's store, which has seen the files of its tree; then the site may fail.
+fn scanned(
+    alloc: Global,
+    site: &mut Quiet,
+    calls: u64,
+    large: &Option<(Path, u64)>,
+) -> Result<Graph, RowFault>
     ensures { IfOk result (λ graph. IsTrue (is_fresh graph)) }
 {
-    let Ok(mut graph) = Graph::open(alloc, site) else {
-        return Err(RowFault::OtherKind);
-    };
-    let Ok(seen) = scan(alloc, site, 1, &Still) else {
-        return Err(RowFault::OtherKind);
-    };
-    if note_scan(alloc, &mut graph, site, &seen).is_err() || !graph.fresh() {
-        return Err(RowFault::OtherKind);
-    }
+    let graph = noted(alloc, site)?;
+    site.stop_after(calls);
+    site.set_large(large)?;
     Ok(graph)
 }
 
+fn noted(alloc: Global, site: &mut Quiet) -> Result<Graph, RowFault>
+    ensures { IfOk result (λ graph. IsTrue (is_fresh graph)) }
+{
+    match Graph::open(alloc, site) {
+        Ok(graph) => note(alloc, site, graph),
+        Err(_) => Err(RowFault::OtherKind),
+    }
+}
+
+/// A graph takes note of the files of a site.
+fn note(alloc: Global, site: &mut Quiet, mut graph: Graph) -> Result<Graph, RowFault>
+    requires { IsTrue (is_fresh graph) }
+    ensures { IfOk result (λ graph. IsTrue (is_fresh graph)) }
+{
+    if is_noted(alloc, site, &mut graph) && graph.fresh() {
+        Ok(graph)
+    } else {
+        drop(graph);
+        Err(RowFault::OtherKind)
+    }
+}
+
+fn is_noted(alloc: Global, site: &mut Quiet, graph: &mut Graph) -> bool
+    requires { IsTrue (is_fresh graph.old) }
+{
+    match scan(alloc, site, 1, &Still) {
+        Ok(seen) => note_scan(alloc, graph, site, &seen).is_ok(),
+        Err(_) => false,
+    }
+}
+
+/// The plan that runs the flagged rules of a graph, if their outputs may be made.
+fn tested(alloc: Global, graph: &Graph, keep_going: bool) -> Result<Plan, RowFault>
+    requires { IsTrue (is_fresh graph.now) }
+    ensures plan { IfOk result (IsPlanOf graph.now.nodes) }
+    ensures apart { IfOk result (λ plan. AreApart plan graph.now.nodes) }
+{
+    let plan = plan_in(alloc, graph, keep_going)?;
+    if !are_apart(alloc, &plan, graph.nodes())? {
+        return Err(RowFault::OtherKind);
+    }
+    Ok(plan)
+}
+
 /// The plan that runs the flagged rules of a graph.
-fn planned(alloc: Global, graph: &Graph, keep_going: bool) -> Result<Plan, RowFault>
+fn plan_in(alloc: Global, graph: &Graph, keep_going: bool) -> Result<Plan, RowFault>
     requires { IsTrue (is_fresh graph.now) }
     ensures { IfOk result (IsPlanOf graph.now.nodes) }
 {

@@ -1,5 +1,5 @@
 //! A site in memory that tells contracts nothing but its failures.
-ghost use Rattle.std.specs.Prelude.{◌≡◌, ◌+◌, ◌≤◌, ◌↔◌, [], All, IfOk, IsTrue, length};
+ghost use Rattle.std.specs.Prelude.{◌≡◌, ◌+◌, ◌≤◌, ◌<◌, ◌↔◌, ℕ, [], All, IfOk, IsTrue, Some, length};
 ghost use Rattle.std.specs.FinMap as finite;
 ghost use Rattle.tup_path.specs.Count.{Rose};
 ghost use Rattle.tup_path.specs.Name.{Names};
@@ -8,9 +8,10 @@ ghost use Rattle.tup_site.specs.Memory.{store_in, tree_in};
 ghost use Rattle.tup_site.specs.declared.fault.SiteFailed.TheVariants.{Fault};
 ghost use Rattle.tup_board_rows.specs.Apart.{MayStand};
 
-use crate::apart::may_stand;
-use std::alloc::Global;
+use crate::place::may_stand;
+use std::alloc::{AllocError, Global};
 use tup_path::{Bytes, Path, Paths};
+use tup_rows::set;
 use tup_site::{MemSite, Site, SiteFailed};
 
 /// A site in memory of which contracts know nothing but how often it failed: they ask nothing of what it holds.
@@ -20,6 +21,8 @@ pub(crate) struct Quiet {
     /// How many more calls pass.
     left: u64,
     faults: u64,
+    /// A file that is too large, and how many bytes it has.
+    large: Option<(Path, u64)>,
 }
 
 impl Quiet {
@@ -29,6 +32,23 @@ impl Quiet {
             site,
             left: u64::MAX,
             faults: 0,
+            large: None,
+        }
+    }
+
+    /// Has a file grow to so many bytes.
+    pub(crate) fn set_large(&mut self, large: &Option<(Path, u64)>) -> Result<(), AllocError> {
+        set(&mut self.large, large.clone()?);
+        Ok(())
+    }
+
+    /// How many bytes a file has, where these are too many.
+    fn too_many(&self, path: &Path) -> Option<u64>
+        ensures { (bytes : ℕ) → result ≡ Some bytes → 16777216 < bytes }
+    {
+        match &self.large {
+            Some((large, bytes)) if large == path && *bytes > 16_777_216 => Some(*bytes),
+            _ => None,
         }
     }
 
@@ -40,6 +60,11 @@ impl Quiet {
     /// The site beneath, where all calls pass.
     pub(crate) fn into_site(self) -> MemSite {
         self.site
+    }
+
+    /// The same, to be looked at.
+    pub(crate) fn beneath(&mut self) -> &mut MemSite {
+        &mut self.site
     }
 
     /// Begins a call, which fails where no more pass.
@@ -139,6 +164,9 @@ impl Site for Quiet {
 
     fn get(&mut self, alloc: Global, path: &Path) -> Result<Option<Bytes>, SiteFailed> {
         self.begin()?;
+        if let Some(bytes) = self.too_many(path) {
+            return Err(SiteFailed::TooLarge(bytes));
+        }
         let answer = self.site.get(alloc, path);
         self.told(answer)
     }

@@ -1,19 +1,16 @@
 //! The calls of `board.rows`.
-use crate::project::Project;
+use crate::project::Given;
 use crate::script::script;
 use crate::sweep::{edited, sweep};
 use std::alloc::Global;
 use tup_rows::{Answers, RowFault, Words};
 
-impl Answers for Project {
+impl Answers for Given {
     fn answer(&mut self, alloc: Global, call: &str, said: &Words) -> Result<Words, RowFault> {
         match call {
-            "source" => Ok(self.add_source(alloc, said)),
-            "large" => Ok(self.add_large(alloc, said)),
-            "rule" => Ok(self.add_rule(alloc, said)),
-            "chain" => Ok(self.add_chain(alloc, said)),
-            "fan" => Ok(self.add_fan(alloc, said)),
-            "wide" => Ok(self.add_wide(alloc, said)),
+            "source" => Ok(self.project.add_source(alloc, said)),
+            "rule" => Ok(self.project.add_rule(alloc, said)),
+            "large" => Ok(self.set_large(alloc, said)),
             "anew" => Ok(self.begin_anew(alloc)),
             "sweep" => sweep(alloc, self, said),
             "edited" => edited(alloc, self, said),

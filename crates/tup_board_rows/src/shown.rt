@@ -6,25 +6,69 @@ use tup_core::{Cause, CoreEvent};
 use tup_rows::Words;
 
 /// What a seat is to do next: the number of a rule, `wait` or `over`.
-pub(crate) fn show_claimed(alloc: Global, words: &mut Words, claimed: Claimed) {
+pub(crate) fn claimed_words(alloc: Global, claimed: Claimed) -> Words {
     match claimed {
-        Claimed::Rule(rule) => words.show(alloc, &rule),
-        Claimed::Wait => words.put(alloc, b"wait"),
-        Claimed::Over => words.put(alloc, b"over"),
+        Claimed::Rule(rule) => Words::shown(alloc, &rule),
+        Claimed::Wait => Words::word(alloc, b"wait"),
+        Claimed::Over => Words::word(alloc, b"over"),
     }
 }
 
 /// What a command was told: a content, `-` where nothing stands, or the verdict.
-pub(crate) fn show_asked(alloc: Global, words: &mut Words, asked: &Asked) {
+pub(crate) fn asked_words(alloc: Global, asked: &Asked) -> Words {
     match asked {
-        Asked::Content(content) => words.put(alloc, content.as_slice()),
-        Asked::Absent => words.put(alloc, b"-"),
-        Asked::Denied(verdict) => show_verdict(alloc, words, verdict),
+        Asked::Content(content) => Words::word(alloc, content.as_slice()),
+        Asked::Absent => Words::word(alloc, b"-"),
+        Asked::Denied(verdict) => verdict_words(alloc, verdict),
     }
 }
 
+pub(crate) fn verdict_words(alloc: Global, verdict: &Verdict) -> Words {
+    let mut words = Words::new(alloc);
+    show_verdict(alloc, &mut words, verdict);
+    words
+}
+
+/// What came of the end of a command.
+pub(crate) fn ended_words(alloc: Global, ended: &Result<Verdict, BoardFault>) -> Words {
+    match ended {
+        Ok(verdict) => verdict_words(alloc, verdict),
+        Err(fault) => fault_words(alloc, *fault),
+    }
+}
+
+/// How an update ended: `done`, or why not.
+pub(crate) fn drained_words(alloc: Global, drained: Drained) -> Words {
+    match drained {
+        Drained::Done => Words::word(alloc, b"done"),
+        Drained::Left(cause) => cause_words(alloc, cause),
+    }
+}
+
+fn cause_words(alloc: Global, cause: Cause) -> Words {
+    let mut words = Words::new(alloc);
+    show_cause(alloc, &mut words, cause);
+    words
+}
+
+/// Why a call was refused.
+pub(crate) fn fault_words(alloc: Global, fault: BoardFault) -> Words {
+    match fault {
+        BoardFault::Site => Words::word(alloc, b"!site"),
+        BoardFault::TooLarge(bytes) => large_words(alloc, bytes),
+        BoardFault::Full => Words::word(alloc, b"!full"),
+        BoardFault::Memory => Words::word(alloc, b"!memory"),
+    }
+}
+
+fn large_words(alloc: Global, bytes: u64) -> Words {
+    let mut words = Words::word(alloc, b"!large");
+    words.show(alloc, &bytes);
+    words
+}
+
 /// A verdict: its word, and what it names.
-pub(crate) fn show_verdict(alloc: Global, words: &mut Words, verdict: &Verdict) {
+fn show_verdict(alloc: Global, words: &mut Words, verdict: &Verdict) {
     match verdict {
         Verdict::Good => words.put(alloc, b"good"),
         Verdict::Failed(status) => {
@@ -47,19 +91,6 @@ pub(crate) fn show_verdict(alloc: Global, words: &mut Words, verdict: &Verdict) 
     }
 }
 
-/// Why a call was refused.
-pub(crate) fn show_fault(alloc: Global, words: &mut Words, fault: BoardFault) {
-    match fault {
-        BoardFault::Site => words.put(alloc, b"!site"),
-        BoardFault::TooLarge(bytes) => {
-            words.put(alloc, b"!large");
-            words.show(alloc, &bytes);
-        }
-        BoardFault::Full => words.put(alloc, b"!full"),
-        BoardFault::Memory => words.put(alloc, b"!memory"),
-    }
-}
-
 /// Why an update stopped.
 pub(crate) fn show_cause(alloc: Global, words: &mut Words, cause: Cause) {
     match cause {
@@ -75,14 +106,6 @@ pub(crate) fn show_cause(alloc: Global, words: &mut Words, cause: Cause) {
     }
 }
 
-/// How an update ended: `done`, or why not.
-pub(crate) fn show_drained(alloc: Global, words: &mut Words, drained: Drained) {
-    match drained {
-        Drained::Done => words.put(alloc, b"done"),
-        Drained::Left(cause) => show_cause(alloc, words, cause),
-    }
-}
-
 /// An event: its kind, its seat and what more it has.
 pub(crate) fn show_event(alloc: Global, words: &mut Words, event: &CoreEvent) {
     match event {
@@ -93,14 +116,7 @@ pub(crate) fn show_event(alloc: Global, words: &mut Words, event: &CoreEvent) {
         CoreEvent::Ask { seat, text, answer } => {
             show_at(alloc, words, b"ask", *seat);
             words.show(alloc, text);
-            words.put(
-                alloc,
-                if answer.is_some() {
-                    b"there"
-                } else {
-                    b"absent"
-                },
-            );
+            words.put(alloc, presence(answer.is_some()));
         }
         CoreEvent::Deny {
             seat,
@@ -126,17 +142,12 @@ pub(crate) fn show_event(alloc: Global, words: &mut Words, event: &CoreEvent) {
     }
 }
 
-/// The rules that were claimed, in their order.
-pub(crate) fn show_claims(alloc: Global, words: &mut Words, events: &[CoreEvent]) {
-    for event in events {
-        if let CoreEvent::Claim { rule, .. } = event {
-            words.show(alloc, rule);
-        }
-    }
-}
-
 /// The kind of an event, and its seat.
 fn show_at(alloc: Global, words: &mut Words, kind: &[u8], seat: u32) {
     words.put(alloc, kind);
     words.show(alloc, &seat);
+}
+
+fn presence(is_there: bool) -> &'static [u8] {
+    if is_there { b"there" } else { b"absent" }
 }

@@ -1,107 +1,170 @@
 //! A site in memory with the files and the store of a project.
-use crate::project::Project;
-use std::alloc::{AllocError, Global};
-use tup_path::{Bytes, Items, Path};
+ghost use Rattle.std.specs.Prelude.{IsTrue};
+ghost use Rattle.tup_table.specs.Table.{is_fresh};
+
+use crate::quiet::Quiet;
+use std::alloc::Global;
+use tup_given::Project;
+use tup_path::{Items, Path};
 use tup_record::{OwnedState, Record, encode};
 use tup_rows::RowFault;
 use tup_rule::Rule;
-use tup_site::{MemSite, Site};
-use tup_table::{Change, appended, have_short_keys};
+use tup_site::MemSite;
+use tup_table::{Change, Table, have_short_keys};
 
-/// How a store begins, and the open gate of its first commit.
-const BEGIN: [u8; 9] = *b"tup-db\n\x01\x01";
-
-/// A site with the sources of a project, and a store that has its rules, of which these are flagged, and that owns their
+/// A site with the sources of a project, whose store has the project's rules, of which these are flagged, and owns their
 /// outputs.
 pub(crate) fn site_of(
     alloc: Global,
     project: &Project,
     flagged: &[u32],
-) -> Result<MemSite, RowFault> {
-    let store = store_of(alloc, project.rules.as_slice(), flagged)?;
-    match MemSite::new(alloc, copies(alloc, project)?, Vec::new(alloc)) {
-        Ok(site) => with_store(alloc, site, &store),
+) -> Result<Quiet, RowFault> {
+    match MemSite::new(alloc, project.sources.clone()?.into_vec(), Vec::new(alloc)) {
+        Ok(site) => with_store(alloc, Quiet::new(site), project.rules.as_slice(), flagged),
         Err(_) => Err(RowFault::OtherKind),
     }
 }
 
-/// A site with these bytes as its store.
-fn with_store(alloc: Global, mut site: MemSite, store: &[u8]) -> Result<MemSite, RowFault> {
-    if site.db_write(alloc, 0, store).is_err() || site.db_sync(alloc).is_err() {
-        return Err(RowFault::Memory);
+/// A site with a store of these rules.
+fn with_store(
+    alloc: Global,
+    mut site: Quiet,
+    rules: &[Rule],
+    flagged: &[u32],
+) -> Result<Quiet, RowFault> {
+    match write_store(alloc, &mut site, rules, flagged) {
+        Ok(()) => Ok(site),
+        Err(fault) => {
+            drop(site);
+            Err(fault)
+        }
     }
-    Ok(site)
 }
 
-fn copies(alloc: Global, project: &Project) -> Result<Vec<(Path, Bytes)>, AllocError> {
-    let mut files = Vec::new(alloc);
-    for (path, content) in project.sources.as_slice() {
-        files.push((path.clone()?, content.clone()?))?;
+fn write_store(
+    alloc: Global,
+    site: &mut Quiet,
+    rules: &[Rule],
+    flagged: &[u32],
+) -> Result<(), RowFault> {
+    match changes_of(alloc, rules, flagged) {
+        Ok(changes) => {
+            let done = make_store(alloc, site, changes.as_slice());
+            drop(changes);
+            done
+        }
+        Err(fault) => Err(fault),
     }
-    Ok(files)
 }
 
-/// A store of these rules.
-fn store_of(alloc: Global, rules: &[Rule], flagged: &[u32]) -> Result<Vec<u8>, RowFault> {
-    let changes = changes_of(alloc, rules, flagged)?;
-    if !have_short_keys(changes.as_slice()) {
-        return Err(RowFault::OtherKind);
+fn make_store(alloc: Global, site: &mut Quiet, changes: &[Change]) -> Result<(), RowFault> {
+    match Table::make(alloc, site) {
+        Ok(table) => commit(alloc, site, table, changes),
+        Err(_) => Err(RowFault::OtherKind),
     }
-    let mut store = Vec::from_slice(alloc, &BEGIN)?;
-    match appended(alloc, 8, changes.as_slice()) {
-        Ok(more) => store.extend_from_slice(more.as_slice())?,
-        Err(_) => return Err(RowFault::Memory),
-    }
-    Ok(store)
 }
 
-/// The records of some rules.
+/// Commits the first changes of a store.
+fn commit(
+    alloc: Global,
+    site: &mut Quiet,
+    mut table: Table,
+    changes: &[Change],
+) -> Result<(), RowFault>
+    requires { IsTrue (is_fresh table) }
+{
+    let is_made = have_short_keys(changes) && table.commit(alloc, site, changes).is_ok();
+    drop(table);
+    if is_made {
+        Ok(())
+    } else {
+        Err(RowFault::OtherKind)
+    }
+}
+
+/// The records of some rules, of which these are flagged.
 fn changes_of(alloc: Global, rules: &[Rule], flagged: &[u32]) -> Result<Items<Change>, RowFault> {
     let mut changes = Items::new(alloc);
-    for (rule, number) in rules.iter().zip(0..u32::MAX) {
-        add_rule(alloc, &mut changes, number, rule)?;
+    match put_all(alloc, &mut changes, rules, flagged) {
+        Ok(()) => Ok(changes),
+        Err(fault) => {
+            drop(changes);
+            Err(fault)
+        }
     }
-    for number in flagged {
-        add(alloc, &mut changes, &Record::Modify { number: *number })?;
-    }
-    Ok(changes)
 }
 
-/// The records of a rule: itself, and that its outputs are owned.
-fn add_rule(
+fn put_all(
     alloc: Global,
     changes: &mut Items<Change>,
-    number: u32,
-    rule: &Rule,
+    rules: &[Rule],
+    flagged: &[u32],
 ) -> Result<(), RowFault> {
-    let record = Record::Rule {
-        number,
-        place: number,
-        rule: rule.clone()?,
-    };
-    add(alloc, changes, &record)?;
-    for path in rule.outputs.as_slice() {
-        add_owned(alloc, changes, number, path)?;
+    put_rules(alloc, changes, rules)?;
+    put_flags(alloc, changes, flagged)
+}
+
+fn put_rules(alloc: Global, changes: &mut Items<Change>, rules: &[Rule]) -> Result<(), RowFault> {
+    for (rule, number) in rules.iter().zip(0..u32::MAX) {
+        put_rule(alloc, changes, number, rule.clone()?)?;
+        put_outputs(alloc, changes, number, rule.outputs.as_slice())?;
     }
     Ok(())
 }
 
-fn add_owned(
+fn put_rule(
     alloc: Global,
     changes: &mut Items<Change>,
     number: u32,
-    path: &Path,
+    rule: Rule,
+) -> Result<(), RowFault> {
+    let place = number;
+    let record = Record::Rule {
+        number,
+        place,
+        rule,
+    };
+    put(alloc, changes, record)
+}
+
+/// The outputs of a rule are owned.
+fn put_outputs(
+    alloc: Global,
+    changes: &mut Items<Change>,
+    number: u32,
+    paths: &[Path],
+) -> Result<(), RowFault> {
+    for path in paths {
+        put_owned(alloc, changes, number, path.clone()?)?;
+    }
+    Ok(())
+}
+
+fn put_owned(
+    alloc: Global,
+    changes: &mut Items<Change>,
+    number: u32,
+    path: Path,
 ) -> Result<(), RowFault> {
     let record = Record::Owned {
-        path: path.clone()?,
+        path,
         maker: Some(number),
         state: OwnedState::Never,
     };
-    add(alloc, changes, &record)
+    put(alloc, changes, record)
 }
 
-fn add(alloc: Global, changes: &mut Items<Change>, record: &Record) -> Result<(), RowFault> {
-    match encode(alloc, record) {
+fn put_flags(alloc: Global, changes: &mut Items<Change>, flagged: &[u32]) -> Result<(), RowFault> {
+    for number in flagged {
+        put(alloc, changes, Record::Modify { number: *number })?;
+    }
+    Ok(())
+}
+
+fn put(alloc: Global, changes: &mut Items<Change>, record: Record) -> Result<(), RowFault> {
+    let spelled = encode(alloc, &record);
+    drop(record);
+    match spelled {
         Ok((key, value)) => Ok(changes.push(Change::Put { key, value })?),
         Err(_) => Err(RowFault::OtherKind),
     }

@@ -1,8 +1,8 @@
 //! The calls of `course.rows`: the sources and the rules that rows give, and the course that they are on.
 use crate::answer::show_events;
 use crate::desk::Desk;
+use crate::opening::reach_at;
 use crate::orders::obey;
-use crate::project::reach_at;
 use std::alloc::Global;
 use tup_core::{Plan, Stamps};
 use tup_path::Items;

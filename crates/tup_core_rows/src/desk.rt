@@ -1,13 +1,13 @@
 //! A course with its plan, whose seats are driven by hand.
-ghost use Rattle.std.specs.Prelude.{◌≡◌, ◌<◌, ◌≢◌, ℕ, true, Some, IfOk, IsTrue, length, slice_get};
+ghost use Rattle.std.specs.Prelude.{◌≡◌, ◌<◌, ◌≢◌, ℕ, Some, IfOk, IsTrue, length, slice_get};
 ghost use Rattle.std.specs.Option.{option_copied};
 ghost use Rattle.tup_rule.specs.declared.rule.Rule.{Rule as RuleValue};
 ghost use Rattle.tup_core.specs.declared.running.Running.{Running as RunningValue};
-ghost use Rattle.tup_core.specs.Sound.{IsInRange};
 ghost use Rattle.tup_core.specs.Step.{told};
 ghost use Rattle.tup_course.specs.Course.{now, WasDenied, EndsWithFinish};
 ghost use Rattle.tup_core_rows.specs.Desk.{IsFree, RunsPlanned, Goes, MayBeTold, MayBeDenied, names_in};
 
+use crate::opening::is_in_range;
 use std::alloc::{AllocError, Global};
 use tup_access::{Access, Verdict};
 use tup_core::{Cause, CoreEvent, Plan, Running, Stamps};
@@ -231,16 +231,4 @@ fn stamped(alloc: Global, paths: &[Path], stamp: Stamp) -> Result<Stamps, AllocE
         files.push((path.clone()?, stamp))?;
     }
     Ok(files)
-}
-
-/// Whether the numbers of the reach are places of rules.
-fn is_in_range(plan: &Plan) -> bool
-    ensures { result ≡ true → IsInRange plan.now }
-{
-    for number in plan.reach.as_slice() {
-        if *number as usize >= plan.rules.len() {
-            return false;
-        }
-    }
-    true
 }

@@ -2,12 +2,13 @@
 ghost use Rattle.tup_core_rows.specs.Machine.{IsOfPlan};
 
 use crate::machine::Machine;
-use crate::project::{Project, reach_at};
+use crate::opening::{opening, reach_at};
 use crate::sources::sorted;
 use crate::update::Update;
 use std::alloc::Global;
 use tup_clean::clean_build;
 use tup_core::CoreEvent;
+use tup_given::Project;
 use tup_mini::Mini;
 use tup_path::Files;
 use tup_rows::{RowFault, Words};
@@ -59,7 +60,7 @@ fn ends_with(
     order: u64,
     tree: &Files,
 ) -> Result<bool, RowFault> {
-    match project.opening(alloc, reach_at(alloc, said, 2), true) {
+    match opening(alloc, project, reach_at(alloc, said, 2), true) {
         Ok(mut machine) => {
             leads_to(alloc, project, said.number_at(0), &mut machine, order, tree)
         }

@@ -1,8 +1,9 @@
 //! Events, as rows spell them.
+use crate::values;
 use std::alloc::Global;
 use tup_access::Verdict;
 use tup_core::{Cause, CoreEvent, Stamps};
-use tup_path::{Items, Path, PathFault, Text};
+use tup_path::{Items, Path, Text};
 use tup_rows::RowFault;
 use tup_stamp::{Stamp, stamp_of};
 
@@ -196,14 +197,10 @@ fn status(word: &[u8]) -> Result<u8, RowFault> {
 
 /// A word as a text to keep.
 fn text(alloc: Global, word: &[u8]) -> Result<Text, RowFault> {
-    Ok(Text::from_str(alloc, str(word)?)?)
+    values::text(alloc, str(word)?)
 }
 
 /// The path that a word names from the top.
 fn path(alloc: Global, word: &[u8]) -> Result<Path, RowFault> {
-    match Path::from_top(alloc, str(word)?) {
-        Ok(path) => Ok(path),
-        Err(PathFault::Memory) => Err(RowFault::Memory),
-        Err(_) => Err(RowFault::OtherKind),
-    }
+    values::path(alloc, str(word)?)
 }

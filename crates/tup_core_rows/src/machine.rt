@@ -1,8 +1,8 @@
 //! A core with its plan.
-ghost use Rattle.std.specs.Prelude.{◌≡◌, true, IfOk};
-ghost use Rattle.tup_core.specs.Sound.{IsInRange};
+ghost use Rattle.std.specs.Prelude.{IfOk};
 ghost use Rattle.tup_core_rows.specs.Machine.{IsOfPlan};
 
+use crate::opening::is_in_range;
 use std::alloc::Global;
 use tup_access::Access;
 use tup_core::{Core, CoreEvent, CoreFault, Plan, Stamps};
@@ -107,16 +107,4 @@ impl Machine {
 /// How a row says yes and no.
 fn yes_or_no(yes: bool) -> &'static [u8] {
     if yes { b"yes" } else { b"no" }
-}
-
-/// Whether the numbers of the reach are places of rules.
-fn is_in_range(plan: &Plan) -> bool
-    ensures { result ≡ true → IsInRange plan.now }
-{
-    for number in plan.reach.as_slice() {
-        if *number as usize >= plan.rules.len() {
-            return false;
-        }
-    }
-    true
 }

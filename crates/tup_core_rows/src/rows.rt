@@ -1,17 +1,23 @@
 //! The calls of `core.rows`.
 use crate::drive::drive;
-use crate::project::Project;
 use crate::run::run;
 use std::alloc::Global;
+use tup_given::Project;
 use tup_rows::{Answers, RowFault, Words};
 
-impl Answers for Project {
+/// Knows them; what the rows so far gave.
+#[derive(Drop)]
+pub(crate) struct Core {
+    pub(crate) project: Project,
+}
+
+impl Answers for Core {
     fn answer(&mut self, alloc: Global, call: &str, said: &Words) -> Result<Words, RowFault> {
         Ok(match call {
-            "source" => self.add_source(alloc, said),
-            "rule" => self.add_rule(alloc, said),
-            "drive" => drive(alloc, self, said),
-            _ => run(alloc, self, call, said),
+            "source" => self.project.add_source(alloc, said),
+            "rule" => self.project.add_rule(alloc, said),
+            "drive" => drive(alloc, &self.project, said),
+            _ => run(alloc, &self.project, call, said),
         })
     }
 }

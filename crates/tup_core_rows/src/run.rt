@@ -3,15 +3,16 @@ ghost use Rattle.tup_core_rows.specs.Machine.{IsOfPlan};
 
 use crate::event::event;
 use crate::machine::Machine;
-use crate::project::{Project, reach_at};
+use crate::opening::{opening, reach_at};
 use crate::told::told;
 use std::alloc::Global;
+use tup_given::Project;
 use tup_rows::{RowFault, Words};
 
 /// Takes the events of a row, each behind a `;`, and answers a call then.
 pub(crate) fn run(alloc: Global, project: &Project, call: &str, said: &Words) -> Words {
     let keep_going = said.word_at(1) == b"keep".as_slice();
-    match project.opening(alloc, reach_at(alloc, said, 0), keep_going) {
+    match opening(alloc, project, reach_at(alloc, said, 0), keep_going) {
         Ok(mut machine) => answer(alloc, &mut machine, call, said),
         Err(fault) => Words::none(alloc, fault),
     }

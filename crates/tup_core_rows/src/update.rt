@@ -1,6 +1,6 @@
 //! An update whose seats take turns: what each runs, and what happens then.
 use crate::job::Job;
-use crate::project::{Project, stamps_of};
+use crate::opening::stamps_of;
 use crate::sources::{Contents, are_those_of, contents, put};
 use std::alloc::{AllocError, Global};
 use std::collections::BTreeSet;
@@ -8,6 +8,7 @@ use std::mem;
 use tup_access::{Access, Verdict, allowed, judge};
 use tup_clean::generated;
 use tup_core::CoreEvent;
+use tup_given::Project;
 use tup_path::{Bytes, Files, Items, Path, Text};
 use tup_rows::RowFault;
 use tup_rule::{Rule, Rules};
@@ -118,7 +119,7 @@ impl Update {
 
     /// A command asks, and is answered, or ends by that.
     fn ask(&mut self, alloc: Global, seat: u32, job: &mut Job, text: Text) -> bool {
-        match allowed(alloc, &job.rule, &self.made, &text, job.replies.len()) {
+        match allowed(alloc, &job.rule, &self.made, &text, job.asked()) {
             Ok(Access::Yes(path)) => self.answer(seat, job, text, &path),
             Ok(Access::No(verdict)) => self.deny(alloc, seat, &text, verdict),
             Err(_) => self.fails(RowFault::Memory),
@@ -129,7 +130,7 @@ impl Update {
     fn answer(&mut self, seat: u32, job: &mut Job, text: Text, path: &Path) -> bool {
         let content = told(&job.rule, &self.files, path);
         let event = asking(seat, &text, content);
-        let added = job.replies.add(text, content);
+        let added = job.reply(text, content);
         self.happens(event);
         self.note(added);
         true

@@ -1,20 +1,20 @@
 //! The drafts that rows give.
 use std::alloc::Global;
 use tup_path::{Items, Path, Paths, Text};
-use tup_rows::{RowFault, Words};
+use tup_rows::{RowFault, Words, set};
 use tup_rule::{Draft, GroupRef, GroupRefs, Piece, Pieces};
 
 /// The draft of a row: FILE LINE COMMAND DISPLAY INPUTS ORDER OUTPUTS GROUPS GIVES.
 pub(crate) fn draft_at(alloc: Global, said: &Words) -> Draft {
     let mut draft = bare(alloc, said.path_at(alloc, 0));
-    draft.line = line_at(said, 1);
-    draft.pieces = pieces_of(alloc, said, said.str_at(2));
-    draft.display = display_at(alloc, said, 3);
-    draft.inputs = said.paths_at(alloc, 4);
-    draft.order = said.paths_at(alloc, 5);
-    draft.outputs = said.paths_at(alloc, 6);
-    draft.groups = groups_at(alloc, said, 7);
-    draft.gives = gives_at(alloc, said, 8);
+    draft.line = said.small_at(1);
+    set(&mut draft.pieces, pieces_of(alloc, said, said.str_at(2)));
+    set(&mut draft.display, display_at(alloc, said, 3));
+    set(&mut draft.inputs, said.paths_at(alloc, 4));
+    set(&mut draft.order, said.paths_at(alloc, 5));
+    set(&mut draft.outputs, said.paths_at(alloc, 6));
+    set(&mut draft.groups, groups_at(alloc, said, 7));
+    set(&mut draft.gives, gives_at(alloc, said, 8));
     draft
 }
 
@@ -31,16 +31,6 @@ pub(crate) fn bare(alloc: Global, file: Path) -> Draft {
         outputs: Items::new(alloc),
         groups: Items::new(alloc),
         gives: None,
-    }
-}
-
-fn line_at(said: &Words, at: usize) -> u32 {
-    match said.str_at(at).parse() {
-        Ok(line) => line,
-        Err(_) => {
-            said.fail(RowFault::OtherKind);
-            0
-        }
     }
 }
 

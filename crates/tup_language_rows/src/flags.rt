@@ -5,7 +5,7 @@ use std::fs::Files;
 use std::io;
 use tup_flags::{FlagFault, FlagParts, Place, expand};
 use tup_path::{Items, Path, Text};
-use tup_rows::{Answers, RowFault, Words, try_file_by};
+use tup_rows::{Answers, RowFault, Words, set, try_file_by};
 use tup_rule::{GroupRef, GroupRefs, Piece, Pieces};
 
 pub(crate) fn try_rows<R: Files + Print>(rt: &R, alloc: Global) -> io::Result<()> {
@@ -49,13 +49,13 @@ impl Flags {
     fn changed(&mut self, alloc: Global, part: &str, said: &Words) -> Words {
         let parts = &mut self.parts;
         match part {
-            "dir" => parts.dir = said.path_at(alloc, 0),
-            "inputs" => parts.inputs = said.paths_at(alloc, 0),
-            "order" => parts.order = said.paths_at(alloc, 0),
-            "outputs" => parts.outputs = said.paths_at(alloc, 0),
+            "dir" => set(&mut parts.dir, said.path_at(alloc, 0)),
+            "inputs" => set(&mut parts.inputs, said.paths_at(alloc, 0)),
+            "order" => set(&mut parts.order, said.paths_at(alloc, 0)),
+            "outputs" => set(&mut parts.outputs, said.paths_at(alloc, 0)),
             "foreach" => parts.foreach = said.str_at(0) == "yes",
-            "glob" => parts.glob = some_text(alloc, said),
-            "groups" => parts.groups = groups(alloc, said),
+            "glob" => set(&mut parts.glob, some_text(alloc, said)),
+            "groups" => set(&mut parts.groups, groups(alloc, said)),
             _ => return Words::none(alloc, RowFault::NoSuchCall),
         }
         Words::new(alloc)

@@ -43,7 +43,12 @@ impl Folders {
     /// The readings of all folders of the sources. The next project begins without any.
     fn folders(&mut self, alloc: Global) -> Words {
         match self.sources(alloc) {
-            Ok(sources) => shown(alloc, read_folders(alloc, &sources)),
+            Ok(sources) => {
+                let found = read_folders(alloc, &sources);
+                let words = shown(alloc, &found);
+                drop(found);
+                words
+            }
             Err(_) => Words::none(alloc, RowFault::Memory),
         }
     }
@@ -51,7 +56,12 @@ impl Folders {
     /// The rules of the sources. The next project begins without any.
     fn rules(&mut self, alloc: Global) -> Words {
         match self.sources(alloc) {
-            Ok(sources) => linked(alloc, read_all(alloc, &sources)),
+            Ok(sources) => {
+                let found = read_all(alloc, &sources);
+                let words = linked(alloc, &found);
+                drop(found);
+                words
+            }
             Err(_) => Words::none(alloc, RowFault::Memory),
         }
     }

@@ -6,7 +6,7 @@ use std::fs::Files;
 use std::io;
 use tup_link::{LinkFault, RuleNames, What, link};
 use tup_path::Paths;
-use tup_rows::{Answers, RowFault, Words, try_file_by};
+use tup_rows::{Answers, RowFault, Words, set, try_file_by};
 use tup_rule::{GroupRef, Rule};
 
 pub(crate) fn try_rows<R: Files + Print>(rt: &R, alloc: Global) -> io::Result<()> {
@@ -43,7 +43,7 @@ impl Answers for Linking {
 
 impl Linking {
     fn begin(&mut self, alloc: Global) -> Words {
-        self.project = Project::new(alloc);
+        set(&mut self.project, Project::new(alloc));
         Words::new(alloc)
     }
 
@@ -110,9 +110,7 @@ fn shown(alloc: Global, rule: &Rule) -> Words {
 
 fn each(alloc: Global, words: &mut Words, name: &str, paths: &Paths) {
     words.put(alloc, name.as_bytes());
-    for path in paths.as_slice() {
-        words.show(alloc, path);
-    }
+    words.show_all(alloc, paths.as_slice());
 }
 
 /// The words of a refusal with its cause; want of memory is no answer.

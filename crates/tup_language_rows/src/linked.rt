@@ -1,5 +1,4 @@
 //! Rules as words.
-use crate::readings::add_paths;
 use std::alloc::Global;
 use tup_link::{RuleNames, What};
 use tup_rows::Words;
@@ -7,10 +6,10 @@ use tup_rule::{GroupRef, Rule, Rules};
 use tup_whole::ProjectFault;
 
 /// The rules, one after another, or why there are none.
-pub(crate) fn linked(alloc: Global, found: Result<Rules, ProjectFault>) -> Words {
+pub(crate) fn linked(alloc: Global, found: &Result<Rules, ProjectFault>) -> Words {
     match found {
         Ok(rules) => all(alloc, rules.as_slice()),
-        Err(fault) => refused(alloc, &fault),
+        Err(fault) => refused(alloc, fault),
     }
 }
 
@@ -28,18 +27,18 @@ fn add_rule(alloc: Global, words: &mut Words, rule: &Rule) {
     words.put(alloc, b"rule");
     words.show(alloc, &rule.dir);
     words.show(alloc, &rule.text);
-    add_paths(alloc, words, rule.inputs.as_slice());
+    words.show_all(alloc, rule.inputs.as_slice());
     words.put(alloc, b"|");
-    add_paths(alloc, words, rule.order.as_slice());
+    words.show_all(alloc, rule.order.as_slice());
     words.put(alloc, b"->");
-    add_paths(alloc, words, rule.outputs.as_slice());
+    words.show_all(alloc, rule.outputs.as_slice());
 }
 
 /// A refusal with its cause.
 fn refused(alloc: Global, fault: &ProjectFault) -> Words {
     let mut words = Words::refusal(alloc, fault);
     match fault {
-        ProjectFault::CircularDirs(dirs) => add_paths(alloc, &mut words, dirs.as_slice()),
+        ProjectFault::CircularDirs(dirs) => words.show_all(alloc, dirs.as_slice()),
         ProjectFault::CircularCommands(names) => add_names(alloc, &mut words, names),
         ProjectFault::NoSuchGroup(group) => add_group(alloc, &mut words, group),
         ProjectFault::TooMany { what, number } => add_limit(alloc, &mut words, *what, *number),

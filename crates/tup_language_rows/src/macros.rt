@@ -3,7 +3,7 @@ use std::alloc::Global;
 use std::fs::Files;
 use std::io;
 use tup_macro::{Bins, Groups, Macro, MacroFault, Macros};
-use tup_path::{Paths, Texts};
+use tup_path::Texts;
 use tup_rows::{Answers, RowFault, Words, try_file_by};
 use tup_rule::GroupRef;
 
@@ -69,7 +69,7 @@ impl Tables {
 
     fn bin(&self, alloc: Global, said: &Words) -> Words {
         match self.bins.members(alloc, &said.text_at(alloc, 0)) {
-            Ok(members) => listed(alloc, &members),
+            Ok(members) => Words::all(alloc, members.as_slice()),
             Err(fault) => refused(alloc, fault),
         }
     }
@@ -81,7 +81,7 @@ impl Tables {
 
     fn group(&self, alloc: Global, said: &Words) -> Words {
         match self.groups.members(alloc, &group_at(alloc, said)) {
-            Ok(Some(members)) => listed(alloc, &members),
+            Ok(Some(members)) => Words::all(alloc, members.as_slice()),
             Ok(None) => Words::word(alloc, b"none"),
             Err(fault) => refused(alloc, fault),
         }
@@ -125,15 +125,5 @@ fn named(alloc: Global, body: &Macro) -> Words {
 
 fn each(alloc: Global, words: &mut Words, name: &str, texts: &Texts) {
     words.put(alloc, name.as_bytes());
-    for text in texts.as_slice() {
-        words.show(alloc, text);
-    }
-}
-
-fn listed(alloc: Global, paths: &Paths) -> Words {
-    let mut words = Words::new(alloc);
-    for path in paths.as_slice() {
-        words.show(alloc, path);
-    }
-    words
+    words.show_all(alloc, texts.as_slice());
 }

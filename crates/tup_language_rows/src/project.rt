@@ -2,7 +2,7 @@
 use crate::draft::{bare, numbered, pieces_of, tops};
 use std::alloc::Global;
 use tup_path::{Items, Path};
-use tup_rows::{RowFault, Words};
+use tup_rows::{RowFault, Words, set};
 use tup_rule::{Draft, Reading};
 
 /// The readings of the rows so far.
@@ -67,7 +67,7 @@ fn link_of(alloc: Global, said: &Words, dir: &Path, number: u64) -> Draft {
 
 fn wide(alloc: Global, said: &Words, number: u64, inputs: u64) -> Draft {
     let mut draft = named(alloc, said, number);
-    draft.inputs = tops(alloc, said, inputs);
+    set(&mut draft.inputs, tops(alloc, said, inputs));
     draft
 }
 
@@ -75,7 +75,7 @@ fn wide(alloc: Global, said: &Words, number: u64, inputs: u64) -> Draft {
 fn named(alloc: Global, said: &Words, number: u64) -> Draft {
     let mut draft = bare(alloc, Path::top(alloc));
     match format!(in alloc; "{number}") {
-        Ok(text) => draft.pieces = pieces_of(alloc, said, &text),
+        Ok(text) => set(&mut draft.pieces, pieces_of(alloc, said, &text)),
         Err(_) => said.fail(RowFault::Memory),
     }
     draft

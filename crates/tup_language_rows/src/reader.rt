@@ -8,7 +8,7 @@ use std::io;
 use tup_ask::ReadEnd;
 use tup_path::{Bytes, Path, Text};
 use tup_reader::read_tupfile;
-use tup_rows::{Answers, RowFault, Words, try_file_by};
+use tup_rows::{Answers, RowFault, Words, set, try_file_by};
 use tup_rule::Reading;
 
 pub(crate) fn try_rows<R: Files + Print>(rt: &R, alloc: Global) -> io::Result<()> {
@@ -31,7 +31,7 @@ impl Session {
 
     /// Forgets the sources.
     fn begin(&mut self, alloc: Global) -> Words {
-        self.sources = Sources::new(alloc);
+        set(&mut self.sources, Sources::new(alloc));
         Words::new(alloc)
     }
 
@@ -105,7 +105,11 @@ impl Session {
     /// The rules of a folder, or why it isn't read.
     fn reads(&mut self, alloc: Global, dir: &Path) -> Words {
         match self.read(alloc, dir) {
-            Ok(reading) => drafts(alloc, reading.drafts.as_slice()),
+            Ok(reading) => {
+                let words = drafts(alloc, reading.drafts.as_slice());
+                drop(reading);
+                words
+            }
             Err(end) => Words::refusal(alloc, &end),
         }
     }
@@ -113,7 +117,11 @@ impl Session {
     /// How many rules a folder has and how many questions are asked, or why it isn't read.
     fn counts(&mut self, alloc: Global, dir: &Path) -> Words {
         match self.read(alloc, dir) {
-            Ok(reading) => counted(alloc, &reading),
+            Ok(reading) => {
+                let words = counted(alloc, &reading);
+                drop(reading);
+                words
+            }
             Err(end) => Words::refusal(alloc, &end),
         }
     }
@@ -121,7 +129,11 @@ impl Session {
     /// What the reading of a folder asks, or why it isn't read.
     fn asks(&mut self, alloc: Global, dir: &Path) -> Words {
         match self.read(alloc, dir) {
-            Ok(reading) => questions(alloc, reading.asked.as_slice()),
+            Ok(reading) => {
+                let words = questions(alloc, reading.asked.as_slice());
+                drop(reading);
+                words
+            }
             Err(end) => Words::refusal(alloc, &end),
         }
     }

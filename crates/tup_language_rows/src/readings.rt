@@ -6,11 +6,11 @@ use tup_rows::Words;
 use tup_rule::{Draft, Reading};
 
 /// The readings, one after another, or why there are none.
-pub(crate) fn shown(alloc: Global, found: Result<Items<(Path, Reading)>, FoldersFault>) -> Words {
+pub(crate) fn shown(alloc: Global, found: &Result<Items<(Path, Reading)>, FoldersFault>) -> Words {
     match found {
         Ok(readings) => all(alloc, readings.as_slice()),
         Err(FoldersFault::Circular(dirs)) => circle(alloc, dirs.as_slice()),
-        Err(fault) => Words::refusal(alloc, &fault),
+        Err(fault) => Words::refusal(alloc, fault),
     }
 }
 
@@ -29,22 +29,15 @@ fn all(alloc: Global, readings: &[(Path, Reading)]) -> Words {
 fn add_rules(alloc: Global, words: &mut Words, drafts: &[Draft]) {
     for draft in drafts {
         words.put(alloc, b"rule");
-        add_paths(alloc, words, draft.inputs.as_slice());
+        words.show_all(alloc, draft.inputs.as_slice());
         words.put(alloc, b"->");
-        add_paths(alloc, words, draft.outputs.as_slice());
-    }
-}
-
-/// Adds paths.
-pub(crate) fn add_paths(alloc: Global, words: &mut Words, paths: &[Path]) {
-    for path in paths {
-        words.show(alloc, path);
+        words.show_all(alloc, draft.outputs.as_slice());
     }
 }
 
 /// The folders of a circle.
 fn circle(alloc: Global, dirs: &[Path]) -> Words {
     let mut words = Words::word(alloc, b"circle");
-    add_paths(alloc, &mut words, dirs);
+    words.show_all(alloc, dirs);
     words
 }

@@ -76,9 +76,7 @@ fn add_paths(alloc: Global, words: &mut Words, what: &[u8], paths: &[Path]) {
     if !paths.is_empty() {
         words.put(alloc, what);
     }
-    for path in paths {
-        words.show(alloc, path);
-    }
+    words.show_all(alloc, paths);
 }
 
 /// A word for groups, if there are any, and the groups.
@@ -148,15 +146,8 @@ fn add_told(alloc: Global, words: &mut Words, told: &Noted) {
         Noted::Content(stamp) => words.put(alloc, presence(stamp.is_some())),
         Noted::Config(Some(value)) => words.show(alloc, value),
         Noted::Config(None) => words.put(alloc, b"unset"),
-        Noted::Names(names) => add_names(alloc, words, names.as_slice()),
+        Noted::Names(names) => words.show_all(alloc, names.as_slice()),
         Noted::Kind(kind) => words.put(alloc, kind_name(*kind)),
-    }
-}
-
-/// Adds names.
-fn add_names(alloc: Global, words: &mut Words, names: &[Text]) {
-    for name in names {
-        words.show(alloc, name);
     }
 }
 

@@ -7,7 +7,7 @@ use std::alloc::Global;
 use std::fs::Files;
 use std::io;
 use tup_path::{Bytes, Text};
-use tup_rows::{Answers, RowFault, Words, try_file_by};
+use tup_rows::{Answers, RowFault, Words, set, try_file_by};
 use tup_vars::{Branches, Config, Lookup, Stopped, VarFault, Vars, read_config};
 
 pub(crate) fn try_rows<R: Files + Print>(rt: &R, alloc: Global) -> io::Result<()> {
@@ -46,20 +46,32 @@ impl Answers for Session {
 impl Session {
     /// As `fresh` leaves it.
     fn new(alloc: Global) -> Result<Session, RowFault> {
-        let vars = no_variables(alloc)?;
-        let lookup = Counted::new(alloc)?;
-        Ok(Session {
-            vars,
-            lookup,
-            cwd: Text::from_str(alloc, ".")?,
-            branches: Branches::new(alloc),
-        })
+        let cwd = Text::from_str(alloc, ".")?;
+        match Vars::new(alloc) {
+            Ok(vars) => Session::with(alloc, cwd, vars),
+            Err(_) => Err(RowFault::Memory),
+        }
+    }
+
+    fn with(alloc: Global, cwd: Text, vars: Vars) -> Result<Session, RowFault> {
+        match read_config(alloc, &Bytes::new(Vec::new(alloc))) {
+            Ok(config) => Ok(Session {
+                vars,
+                lookup: Counted::new(config),
+                cwd,
+                branches: Branches::new(alloc),
+            }),
+            Err(_) => {
+                drop(vars);
+                Err(RowFault::Memory)
+            }
+        }
     }
 
     fn begin(&mut self, alloc: Global) -> Words {
         match Session::new(alloc) {
             Ok(session) => {
-                *self = session;
+                set(self, session);
                 Words::done(alloc)
             }
             Err(fault) => Words::none(alloc, fault),
@@ -86,7 +98,7 @@ impl Session {
     }
 
     fn change_directory(&mut self, alloc: Global, said: &Words) -> Words {
-        self.cwd = said.text_at(alloc, 0);
+        set(&mut self.cwd, said.text_at(alloc, 0));
         Words::done(alloc)
     }
 
@@ -97,10 +109,7 @@ impl Session {
     }
 
     fn expand(&mut self, alloc: Global, said: &Words) -> Words {
-        match self.expanded(alloc, &said.text_at(alloc, 0)) {
-            Ok(text) => Words::shown(alloc, &text),
-            Err(fault) => Words::refusal(alloc, &fault),
-        }
+        Words::given(alloc, &self.expanded(alloc, &said.text_at(alloc, 0)))
     }
 
     fn expand_long(&mut self, alloc: Global, said: &Words) -> Words {
@@ -116,20 +125,6 @@ impl Session {
             return Err(VarFault::Stopped);
         }
         self.vars.expand(alloc, text, &self.cwd, &mut self.lookup)
-    }
-}
-
-fn no_variables(alloc: Global) -> Result<Vars, RowFault> {
-    match Vars::new(alloc) {
-        Ok(vars) => Ok(vars),
-        Err(_) => Err(RowFault::Memory),
-    }
-}
-
-fn no_settings(alloc: Global) -> Result<Config, RowFault> {
-    match read_config(alloc, &Bytes::new(Vec::new(alloc))) {
-        Ok(config) => Ok(config),
-        Err(_) => Err(RowFault::Memory),
     }
 }
 
@@ -149,12 +144,12 @@ struct Counted {
 }
 
 impl Counted {
-    fn new(alloc: Global) -> Result<Counted, RowFault> {
-        Ok(Counted {
-            config: no_settings(alloc)?,
+    fn new(config: Config) -> Counted {
+        Counted {
+            config,
             left: u64::MAX,
             stopped: false,
-        })
+        }
     }
 
     fn answer(&mut self, alloc: Global, call: &str, said: &Words) -> Words {
@@ -168,7 +163,7 @@ impl Counted {
     fn configure(&mut self, alloc: Global, file: Vec<u8>) -> Words {
         match read_config(alloc, &Bytes::new(file)) {
             Ok(config) => {
-                self.config = config;
+                set(&mut self.config, config);
                 Words::done(alloc)
             }
             Err(fault) => Words::refusal(alloc, &fault),

@@ -54,15 +54,7 @@ fn holds(alloc: Global, content: &Bytes) -> Words {
 /// The answer of a call that gives paths.
 pub(crate) fn listed(alloc: Global, answer: Result<Paths, SiteFailed>) -> Words {
     match answer {
-        Ok(paths) => said(alloc, &paths),
+        Ok(paths) => Words::all(alloc, paths.as_slice()),
         Err(failed) => refused(alloc, failed),
     }
-}
-
-fn said(alloc: Global, paths: &Paths) -> Words {
-    let mut words = Words::new(alloc);
-    for path in paths.as_slice() {
-        words.show(alloc, path);
-    }
-    words
 }

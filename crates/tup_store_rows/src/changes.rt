@@ -8,48 +8,53 @@ use tup_table::{Change, Entries, Entry, TableFault};
 pub fn changes_of(alloc: Global, said: &Words, words: &[Vec<u8>]) -> Items<Change> {
     let mut changes = Items::new(alloc);
     for words in words.chunks(3) {
-        match change(alloc, words) {
-            Ok(change) => said.list(&mut changes, change),
-            Err(fault) => said.fail(fault),
+        match change(alloc, said, words) {
+            Some(change) => said.list(&mut changes, change),
+            None => said.fail(RowFault::OtherKind),
         }
     }
     changes
 }
 
 /// The change that three words name.
-fn change(alloc: Global, words: &[Vec<u8>]) -> Result<Change, RowFault> {
-    let [kind, key, value] = words else {
-        return Err(RowFault::TooFew);
-    };
-    match kind.as_slice() {
-        b"put" => put(alloc, key, value),
-        b"delete" => delete(alloc, key),
-        _ => Err(RowFault::OtherKind),
+fn change(alloc: Global, said: &Words, words: &[Vec<u8>]) -> Option<Change> {
+    match words {
+        [kind, key, value] => change_of(alloc, said, kind, (key, value)),
+        _ => None,
+    }
+}
+
+fn change_of(alloc: Global, said: &Words, kind: &[u8], pair: (&[u8], &[u8])) -> Option<Change> {
+    match kind {
+        b"put" => Some(put(alloc, said, pair.0, pair.1)),
+        b"delete" => Some(Change::Delete {
+            key: bytes(alloc, said, pair.0),
+        }),
+        _ => None,
     }
 }
 
 /// A key and the value that is put at it.
-pub fn put(alloc: Global, key: &[u8], value: &[u8]) -> Result<Change, RowFault> {
-    let key = bytes(alloc, key)?;
-    match bytes(alloc, value) {
-        Ok(value) => Ok(Change::Put { key, value }),
-        Err(fault) => Err(fault),
-    }
-}
-
-fn delete(alloc: Global, key: &[u8]) -> Result<Change, RowFault> {
-    match bytes(alloc, key) {
-        Ok(key) => Ok(Change::Delete { key }),
-        Err(fault) => Err(fault),
+pub fn put(alloc: Global, said: &Words, key: &[u8], value: &[u8]) -> Change {
+    Change::Put {
+        key: bytes(alloc, said, key),
+        value: bytes(alloc, said, value),
     }
 }
 
 /// The bytes of a word, to keep.
-pub fn bytes(alloc: Global, word: &[u8]) -> Result<Bytes, RowFault> {
-    match Vec::from_slice(alloc, word) {
-        Ok(bytes) => Ok(Bytes::new(bytes)),
-        Err(_) => Err(RowFault::Memory),
+pub fn bytes(alloc: Global, said: &Words, word: &[u8]) -> Bytes {
+    Bytes::new(said.copy_of(alloc, word))
+}
+
+/// A store with another byte at a place.
+pub fn with_byte(alloc: Global, said: &Words, store: &[u8], at: usize, byte: &[u8]) -> Vec<u8> {
+    let mut store = said.copy_of(alloc, store);
+    match (store.get_mut(at), byte) {
+        (Some(place), [byte]) => *place = *byte,
+        _ => said.fail(RowFault::OtherKind),
     }
+    store
 }
 
 /// Adds changes: `put` with a key and a value, or `delete` with a key.

@@ -31,22 +31,15 @@ impl Answers for Graphs {
 pub fn store(alloc: Global, said: &Words, pairs: &[Vec<u8>]) -> Vec<u8> {
     let mut puts = Items::new(alloc);
     for pair in pairs.chunks(2) {
-        match put_of(alloc, pair) {
-            Ok(change) => said.list(&mut puts, change),
-            Err(fault) => said.fail(fault),
+        match pair {
+            [key, value] => said.list(&mut puts, put(alloc, said, key, value)),
+            _ => said.fail(RowFault::TooFew),
         }
     }
     let mut bytes = Vec::new(alloc);
     add_bytes(said, &mut bytes, &BEGIN);
     add_commit(alloc, said, &mut bytes, puts.as_slice());
     bytes
-}
-
-fn put_of(alloc: Global, pair: &[Vec<u8>]) -> Result<Change, RowFault> {
-    match pair {
-        [key, value] => put(alloc, key, value),
-        _ => Err(RowFault::TooFew),
-    }
 }
 
 /// Adds a commit and the gate behind it to a store, which ends with an open gate.
@@ -76,7 +69,10 @@ fn graph_of(alloc: Global, bytes: &[u8]) -> Words {
 /// Adds the graph that a store holds, or why it holds none.
 pub fn add_graph(alloc: Global, words: &mut Words, bytes: &[u8]) {
     match read(alloc, bytes) {
-        Ok(opened) => add_graph_in(alloc, words, &opened.entries),
+        Ok(opened) => {
+            add_graph_in(alloc, words, &opened.entries);
+            drop(opened);
+        }
         Err(TableFault::Memory) => words.fail(RowFault::Memory),
         Err(fault) => add_refusal(alloc, words, &fault),
     }
@@ -84,7 +80,10 @@ pub fn add_graph(alloc: Global, words: &mut Words, bytes: &[u8]) {
 
 fn add_graph_in(alloc: Global, words: &mut Words, entries: &Entries) {
     match read_graph(alloc, entries) {
-        Ok(graph) => graph.say(alloc, words),
+        Ok(graph) => {
+            graph.say(alloc, words);
+            drop(graph);
+        }
         Err(GraphFault::Memory) => words.fail(RowFault::Memory),
         Err(fault) => add_refusal(alloc, words, &fault),
     }

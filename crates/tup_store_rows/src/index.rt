@@ -6,7 +6,8 @@ use std::fmt::Display;
 use tup_graph::{Edit, Edits, GraphFault, Nodes};
 use tup_index::Indexed;
 use tup_path::Items;
-use tup_rows::{Answers, RowFault, Words};
+use tup_record::Record;
+use tup_rows::{Answers, RowFault, Words, set};
 use tup_rule::Question;
 
 /// A graph that knows who asked what.
@@ -40,7 +41,7 @@ impl Indexes {
     fn set(&mut self, alloc: Global, said: &Words) -> Words {
         match indexed(alloc, edits(alloc, said)) {
             Ok(indexed) => {
-                self.indexed = indexed;
+                set(&mut self.indexed, indexed);
                 Words::done(alloc)
             }
             Err(_) => Words::none(alloc, RowFault::Memory),
@@ -87,32 +88,43 @@ fn members(alloc: Global, set: Option<&BTreeSet<u32>>) -> Words {
 /// The graph that edits of a new one leave, read for who asked what.
 fn indexed(alloc: Global, edits: Edits) -> Result<Indexed, GraphFault> {
     let mut nodes = Nodes::empty(alloc);
-    nodes.edit_all(alloc, edits)?;
-    Indexed::of(alloc, nodes)
+    match nodes.edit_all(alloc, edits) {
+        Ok(()) => Indexed::of(alloc, nodes),
+        Err(fault) => {
+            drop(nodes);
+            Err(fault)
+        }
+    }
 }
 
 /// The edits that words name, three each.
 fn edits(alloc: Global, said: &Words) -> Edits {
     let mut edits = Items::new(alloc);
     for words in said.as_slice().chunks(3) {
-        match edit(alloc, words) {
-            Ok(edit) => said.list(&mut edits, edit),
-            Err(fault) => said.fail(fault),
+        match edit(alloc, said, words) {
+            Some(edit) => said.list(&mut edits, edit),
+            None => said.fail(RowFault::OtherKind),
         }
     }
     edits
 }
 
 /// The edit that three words name: `put` or `remove`, and the key and the value that spell a record.
-fn edit(alloc: Global, words: &[Vec<u8>]) -> Result<Edit, RowFault> {
-    let [kind, key, value] = words else {
-        return Err(RowFault::TooFew);
-    };
-    let found = record_of(alloc, key, value)?;
-    match kind.as_slice() {
-        b"put" => Ok(Edit::Put(found)),
-        b"remove" => Ok(Edit::Remove(found)),
-        _ => Err(RowFault::OtherKind),
+fn edit(alloc: Global, said: &Words, words: &[Vec<u8>]) -> Option<Edit> {
+    match words {
+        [kind, key, value] => edit_of(kind, record_of(alloc, said, key, value)?),
+        _ => None,
+    }
+}
+
+fn edit_of(kind: &[u8], record: Record) -> Option<Edit> {
+    match kind {
+        b"put" => Some(Edit::Put(record)),
+        b"remove" => Some(Edit::Remove(record)),
+        _ => {
+            drop(record);
+            None
+        }
     }
 }
 

@@ -19,7 +19,7 @@ use tup_kept::Graph;
 use tup_ledger::{Begun, begin as begin_project, give_up, open, own, owned_paths, sorted};
 use tup_note::{note_scan, swap_rules};
 use tup_path::{Path, Paths};
-use tup_rows::{Answers, RowFault, Words};
+use tup_rows::{Answers, RowFault, Words, set};
 use tup_site::MemSite;
 
 /// How many calls a site has answered when a graph of it makes a transaction: the store is written
@@ -73,14 +73,18 @@ impl KeptGraphs {
                 said.fail(RowFault::Memory);
             }
         }
-        self.fails = fails;
+        set(&mut self.fails, fails);
         Words::done(alloc)
     }
 
     /// Begins a project over these bytes of a store.
     fn init(&self, alloc: Global, said: &Words) -> Words {
         match self.site(alloc, said) {
-            Ok(mut site) => begun_in(alloc, &mut site),
+            Ok(mut site) => {
+                let words = begun_in(alloc, &mut site);
+                drop(site);
+                words
+            }
             Err(fault) => Words::none(alloc, fault),
         }
     }
@@ -88,7 +92,11 @@ impl KeptGraphs {
     /// Opens the store of a project, which has these bytes.
     fn open(&self, alloc: Global, said: &Words) -> Words {
         match self.site(alloc, said) {
-            Ok(mut site) => opened_in(alloc, &mut site),
+            Ok(mut site) => {
+                let words = opened_in(alloc, &mut site);
+                drop(site);
+                words
+            }
             Err(fault) => Words::none(alloc, fault),
         }
     }
@@ -103,7 +111,11 @@ impl KeptGraphs {
     fn transaction(&self, alloc: Global, call: &str, said: &Words) -> Words {
         let fails = behind(alloc, said, &self.fails, BEFORE_A_TRANSACTION);
         match site_with(alloc, &self.store, fails) {
-            Ok(mut site) => transaction_in(alloc, call, said, &mut site),
+            Ok(mut site) => {
+                let words = transaction_in(alloc, call, said, &mut site);
+                drop(site);
+                words
+            }
             Err(fault) => Words::none(alloc, fault),
         }
     }
@@ -152,7 +164,10 @@ fn opened_in(alloc: Global, site: &mut MemSite) -> Words {
 /// Adds what a store lists that was opened, or why it wasn't.
 fn add_opening(alloc: Global, words: &mut Words, opened: Result<Graph, GraphFault>) {
     match opened {
-        Ok(graph) => add_paths(alloc, words, &owned_paths(alloc, graph.nodes())),
+        Ok(graph) => {
+            add_paths(alloc, words, &owned_paths(alloc, graph.nodes()));
+            drop(graph);
+        }
         Err(fault) => add_end(alloc, words, Err(fault)),
     }
 }
@@ -179,7 +194,11 @@ fn add_paths(alloc: Global, words: &mut Words, paths: &Result<Paths, AllocError>
 /// The graph of a store that was made.
 fn make(alloc: Global, said: &Words, fails: &[u64]) -> Words {
     match MemSite::new(alloc, Vec::new(alloc), behind(alloc, said, fails, 0)) {
-        Ok(mut site) => make_in(alloc, &mut site),
+        Ok(mut site) => {
+            let words = make_in(alloc, &mut site);
+            drop(site);
+            words
+        }
         Err(_) => Words::none(alloc, RowFault::Memory),
     }
 }
@@ -188,7 +207,11 @@ fn make_in(alloc: Global, site: &mut MemSite) -> Words
     requires { store_in site.old ≡ [] }
 {
     match Graph::make(alloc, site) {
-        Ok(graph) => with_graph(alloc, Words::new(alloc), &graph, site),
+        Ok(graph) => {
+            let words = with_graph(alloc, Words::new(alloc), &graph, site);
+            drop(graph);
+            words
+        }
         Err(fault) => refused(alloc, fault),
     }
 }
@@ -196,7 +219,11 @@ fn make_in(alloc: Global, site: &mut MemSite) -> Words
 /// How a transaction ends after how many calls of the site, and the graph then.
 fn transaction_in(alloc: Global, call: &str, said: &Words, site: &mut MemSite) -> Words {
     match Graph::open(alloc, site) {
-        Ok(mut graph) => made(alloc, call, said, &mut graph, site),
+        Ok(mut graph) => {
+            let words = made(alloc, call, said, &mut graph, site);
+            drop(graph);
+            words
+        }
         Err(fault) => unopened(alloc, said, fault),
     }
 }
@@ -306,7 +333,10 @@ fn swap(
     if !is_one(&fresh) || !are_by_folder(rules.as_slice()) {
         return unmade(said, RowFault::OtherKind);
     }
-    swap_rules(alloc, graph, site, &fresh, rules.as_slice())
+    let swapped = swap_rules(alloc, graph, site, &fresh, rules.as_slice());
+    drop(fresh);
+    drop(rules);
+    swapped
 }
 
 /// Gives up paths at which no file stands.
@@ -375,18 +405,22 @@ fn add_end(alloc: Global, words: &mut Words, ended: Result<(), GraphFault>) {
 
 /// The words, whether a graph stands for the store of its site, and the graph that another opening
 /// reads there.
-fn with_graph(alloc: Global, mut words: Words, graph: &Graph, site: &mut MemSite) -> Words {
+fn with_graph(alloc: Global, words: Words, graph: &Graph, site: &mut MemSite) -> Words {
     match Graph::open(alloc, site) {
-        Ok(again) => add_graph(alloc, &mut words, graph, &again),
-        Err(fault) => return refused(alloc, fault),
+        Ok(again) => {
+            let words = with_again(alloc, words, graph, &again);
+            drop(again);
+            words
+        }
+        Err(fault) => refused(alloc, fault),
     }
-    words
 }
 
-/// Adds whether a graph stands for its store, and the graph that was read there again.
-fn add_graph(alloc: Global, words: &mut Words, graph: &Graph, again: &Graph) {
+/// The words, whether a graph stands for its store, and the graph that was read there again.
+fn with_again(alloc: Global, mut words: Words, graph: &Graph, again: &Graph) -> Words {
     words.put(alloc, standing(alloc, graph, again).as_bytes());
-    again.nodes().say(alloc, words);
+    again.nodes().say(alloc, &mut words);
+    words
 }
 
 /// Whether a graph is fresh, and has then what was read again.

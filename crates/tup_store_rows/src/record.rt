@@ -24,7 +24,11 @@ fn record(alloc: Global, said: &Words) -> Words {
     let key = Bytes::new(said.bytes_at(alloc, 0));
     let value = value(alloc, said);
     match decode(alloc, &key, &value) {
-        Ok(record) => spelled(alloc, &record, &key, &value),
+        Ok(record) => {
+            let words = spelled(alloc, &record, &key, &value);
+            drop(record);
+            words
+        }
         Err(fault) => refused(alloc, fault),
     }
 }
@@ -51,7 +55,11 @@ fn spelled(alloc: Global, record: &Record, key: &Bytes, value: &Bytes) -> Words 
 /// What a copy of a record is spelled as.
 fn again(alloc: Global, record: &Record) -> Result<(Bytes, Bytes), RowFault> {
     match record.clone() {
-        Ok(copy) => spelling(alloc, &copy),
+        Ok(copy) => {
+            let spelling = spelling(alloc, &copy);
+            drop(copy);
+            spelling
+        }
         Err(_) => Err(RowFault::Memory),
     }
 }
@@ -77,11 +85,7 @@ fn compare(
 }
 
 /// The record that a key and a value spell.
-pub fn record_of(alloc: Global, key: &[u8], value: &[u8]) -> Result<Record, RowFault> {
-    let key = bytes(alloc, key)?;
-    let value = bytes(alloc, value)?;
-    match decode(alloc, &key, &value) {
-        Ok(record) => Ok(record),
-        Err(_) => Err(RowFault::OtherKind),
-    }
+pub fn record_of(alloc: Global, said: &Words, key: &[u8], value: &[u8]) -> Option<Record> {
+    let key = bytes(alloc, said, key);
+    decode(alloc, &key, &bytes(alloc, said, value)).ok()
 }

@@ -4,10 +4,10 @@ ghost use Rattle.tup_site.specs.Memory.{world_in, store_in, moment_of, left_sinc
 ghost use Rattle.tup_table.specs.Appending.{HasShortKey};
 ghost use Rattle.tup_table.specs.Table.{is_fresh, StandsFor};
 
-use crate::changes::{add_entries, bytes, changes_of, refused};
+use crate::changes::{add_entries, changes_of, refused, with_byte};
 use crate::field::joined;
 use std::alloc::Global;
-use tup_path::Items;
+use tup_path::{Bytes, Items};
 use tup_rows::{Answers, RowFault, Words};
 use tup_site::{Choice, MemRefused, MemSite, Site};
 use tup_table::{Change, Table, TableFault, have_short_keys};
@@ -57,19 +57,11 @@ impl Sites {
 
     /// Opens the store with another byte at a place.
     fn set(&self, alloc: Global, said: &Words) -> Words {
-        match self.with_byte(alloc, said.number_at(0), said.word_at(1)) {
-            Ok(store) => open(alloc, &store),
-            Err(fault) => Words::none(alloc, fault),
-        }
-    }
-
-    fn with_byte(&self, alloc: Global, at: u64, byte: &[u8]) -> Result<Vec<u8>, RowFault> {
-        let mut store = Vec::from_slice(alloc, &self.store)?;
-        match (store.get_mut(at as usize), byte) {
-            (Some(place), [byte]) => *place = *byte,
-            _ => return Err(RowFault::OtherKind),
-        }
-        Ok(store)
+        let at = said.number_at(0) as usize;
+        open(
+            alloc,
+            &with_byte(alloc, said, &self.store, at, said.word_at(1)),
+        )
     }
 
     /// Commits to a site whose call with the first argument's number fails, counted from where the commit begins.
@@ -99,33 +91,36 @@ impl Sites {
         );
         let changes = changes_of(alloc, said, words);
         match site_with(alloc, &self.store, fails) {
-            Ok(mut site) => crash_in(alloc, &mut site, said.word_at(1), changes.as_slice()),
+            Ok(mut site) => {
+                let words = crash_in(alloc, said, &mut site, changes.as_slice());
+                drop(site);
+                words
+            }
             Err(fault) => Words::none(alloc, fault),
         }
     }
 }
 
-fn crash_in(alloc: Global, site: &mut MemSite, left: &[u8], changes: &[Change]) -> Words {
+fn crash_in(alloc: Global, said: &Words, site: &mut MemSite, changes: &[Change]) -> Words {
     if !have_short_keys(changes) {
         return Words::none(alloc, RowFault::OtherKind);
     }
     match Table::open(alloc, site) {
         Ok(mut table) => {
             let _ = table.commit(alloc, site, changes);
-            crashed(alloc, site, left)
+            drop(table);
+            crashed(alloc, said, site)
         }
         Err(fault) => refused(alloc, fault),
     }
 }
 
-/// What the opening of a store changes in it, and the entries, where a crash leaves these bytes; or why none can.
-fn crashed(alloc: Global, site: &mut MemSite, left: &[u8]) -> Words {
-    let Ok(db) = bytes(alloc, left) else {
-        return Words::none(alloc, RowFault::Memory);
-    };
+/// What the opening of a store changes in it, and the entries, where a crash leaves the second argument; or why none can.
+fn crashed(alloc: Global, said: &Words, site: &mut MemSite) -> Words {
+    let db = Bytes::new(said.bytes_at(alloc, 1));
     let tree = Items::new(alloc);
     match site.crash(alloc, Choice { db, tree }) {
-        Ok(()) => open_in(alloc, left, site),
+        Ok(()) => open_in(alloc, said.word_at(1), site),
         Err(MemRefused::Memory) => Words::none(alloc, RowFault::Memory),
         Err(refused) => Words::refusal(alloc, &refused),
     }
@@ -134,16 +129,31 @@ fn crashed(alloc: Global, site: &mut MemSite, left: &[u8]) -> Words {
 /// A store that was written and never synced is opened where the first argument says so, and then a crash leaves the second
 /// argument.
 fn unsynced(alloc: Global, said: &Words, store: &[u8]) -> Words {
-    let Ok(mut site) = MemSite::new(alloc, Vec::new(alloc), Vec::new(alloc)) else {
-        return Words::none(alloc, RowFault::Memory);
-    };
+    match MemSite::new(alloc, Vec::new(alloc), Vec::new(alloc)) {
+        Ok(mut site) => {
+            let words = unsynced_in(alloc, said, store, &mut site);
+            drop(site);
+            words
+        }
+        Err(_) => Words::none(alloc, RowFault::Memory),
+    }
+}
+
+fn unsynced_in(alloc: Global, said: &Words, store: &[u8], site: &mut MemSite) -> Words {
     if site.db_write(alloc, 0, store).is_err() {
         return Words::none(alloc, RowFault::Memory);
     }
-    if said.word_at(0) == b"open".as_slice() && Table::open(alloc, &mut site).is_err() {
+    if said.word_at(0) == b"open".as_slice() && !opens(alloc, site) {
         return Words::none(alloc, RowFault::OtherKind);
     }
-    crashed(alloc, &mut site, said.word_at(1))
+    crashed(alloc, said, site)
+}
+
+fn opens(alloc: Global, site: &mut MemSite) -> bool {
+    let opened = Table::open(alloc, site);
+    let opens = opened.is_ok();
+    drop(opened);
+    opens
 }
 
 fn one(alloc: Global, said: &Words, number: u64) -> Vec<u64> {
@@ -170,6 +180,7 @@ fn filled(alloc: Global, mut site: MemSite, store: &[u8]) -> Result<MemSite, Row
     if is_filled(alloc, &mut site, store) {
         Ok(site)
     } else {
+        drop(site);
         Err(RowFault::Memory)
     }
 }
@@ -182,7 +193,11 @@ fn is_filled(alloc: Global, site: &mut MemSite, store: &[u8]) -> bool {
 /// The bytes of a store that was made.
 fn make(alloc: Global) -> Words {
     match MemSite::new(alloc, Vec::new(alloc), Vec::new(alloc)) {
-        Ok(mut site) => make_in(alloc, &mut site),
+        Ok(mut site) => {
+            let words = make_in(alloc, &mut site);
+            drop(site);
+            words
+        }
         Err(_) => Words::none(alloc, RowFault::Memory),
     }
 }
@@ -191,7 +206,11 @@ fn make_in(alloc: Global, site: &mut MemSite) -> Words
     requires { store_in site.old ≡ [] }
 {
     match Table::make(alloc, site) {
-        Ok(table) => left(alloc, &[], site, &table),
+        Ok(table) => {
+            let words = left(alloc, &[], site, &table);
+            drop(table);
+            words
+        }
         Err(fault) => refused(alloc, fault),
     }
 }
@@ -199,14 +218,22 @@ fn make_in(alloc: Global, site: &mut MemSite) -> Words
 /// What the opening of a store changes in it, and the entries.
 fn open(alloc: Global, store: &[u8]) -> Words {
     match site_with(alloc, store, Vec::new(alloc)) {
-        Ok(mut site) => open_in(alloc, store, &mut site),
+        Ok(mut site) => {
+            let words = open_in(alloc, store, &mut site);
+            drop(site);
+            words
+        }
         Err(fault) => Words::none(alloc, fault),
     }
 }
 
 fn open_in(alloc: Global, store: &[u8], site: &mut MemSite) -> Words {
     match Table::open(alloc, site) {
-        Ok(table) => left(alloc, store, site, &table),
+        Ok(table) => {
+            let words = left(alloc, store, site, &table);
+            drop(table);
+            words
+        }
         Err(fault) => refused(alloc, fault),
     }
 }
@@ -224,7 +251,11 @@ fn left(alloc: Global, store: &[u8], site: &MemSite, table: &Table) -> Words {
 fn commit(alloc: Global, said: &Words, store: &[u8], fails: Vec<u64>, words: &[Vec<u8>]) -> Words {
     let changes = changes_of(alloc, said, words);
     match site_with(alloc, store, fails) {
-        Ok(mut site) => commit_in(alloc, store, &mut site, changes.as_slice()),
+        Ok(mut site) => {
+            let words = commit_in(alloc, store, &mut site, changes.as_slice());
+            drop(site);
+            words
+        }
         Err(fault) => Words::none(alloc, fault),
     }
 }
@@ -234,7 +265,11 @@ fn commit_in(alloc: Global, store: &[u8], site: &mut MemSite, changes: &[Change]
         return Words::none(alloc, RowFault::OtherKind);
     }
     match Table::open(alloc, site) {
-        Ok(mut table) => committed(alloc, store, site, &mut table, changes),
+        Ok(mut table) => {
+            let words = committed(alloc, store, site, &mut table, changes);
+            drop(table);
+            words
+        }
         Err(fault) => refused(alloc, fault),
     }
 }

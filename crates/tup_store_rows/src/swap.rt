@@ -24,7 +24,10 @@ pub fn swapped(
     pairs: &[Vec<u8>],
 ) -> Result<Edits, GraphFault> {
     let (fresh, rules) = news(alloc, said, pairs);
-    swap_rules(alloc, graph, &fresh, rules.as_slice())
+    let edits = swap_rules(alloc, graph, &fresh, rules.as_slice());
+    drop(fresh);
+    drop(rules);
+    edits
 }
 
 /// The readings and rules that pairs of words spell as records; a Create record stands for a folder that is gone.
@@ -70,17 +73,20 @@ fn is_behind(rule: &Rule, other: &Rule) -> bool
 }
 
 fn take(alloc: Global, said: &Words, fresh: &mut Refreshed, rules: &mut Rules, pair: &[Vec<u8>]) {
-    match record(alloc, pair) {
+    match record(alloc, said, pair) {
         Some(Record::Reading { dir, reading }) => said.list(&mut fresh.readings, (dir, reading)),
         Some(Record::Create { dir }) => said.list(&mut fresh.gone, dir),
         Some(Record::Rule { rule, .. }) => said.list(rules, rule),
-        _ => said.fail(RowFault::OtherKind),
+        other => {
+            said.fail(RowFault::OtherKind);
+            drop(other);
+        }
     }
 }
 
-fn record(alloc: Global, pair: &[Vec<u8>]) -> Option<Record> {
+fn record(alloc: Global, said: &Words, pair: &[Vec<u8>]) -> Option<Record> {
     match pair {
-        [key, value] => record_of(alloc, key, value).ok(),
+        [key, value] => record_of(alloc, said, key, value),
         _ => None,
     }
 }

@@ -1,4 +1,5 @@
 //! The calls of `sweep.rows`: a store that is damaged at each of its places in turn.
+use crate::changes::with_byte;
 use crate::field::joined;
 use crate::graph::add_graph;
 use std::alloc::Global;
@@ -15,7 +16,7 @@ impl Answers for Sweeps {
     fn answer(&mut self, alloc: Global, call: &str, said: &Words) -> Result<Words, RowFault> {
         Ok(match call {
             "store" => self.set_store(alloc, said),
-            "each" => self.each(alloc, said.word_at(0)),
+            "each" => self.each(alloc, said),
             "cut" => self.cut(alloc),
             _ => Words::none(alloc, RowFault::NoSuchCall),
         })
@@ -36,33 +37,23 @@ impl Sweeps {
     }
 
     /// Reads the store with this byte at each place in turn.
-    fn each(&self, alloc: Global, byte: &[u8]) -> Words {
+    fn each(&self, alloc: Global, said: &Words) -> Words {
         let mut ends = Ends::new(alloc, &self.store);
         for at in 0..self.store.len() {
-            match self.with_byte(alloc, at, byte) {
-                Ok(store) => ends.read(alloc, &store),
-                Err(fault) => return Words::none(alloc, fault),
-            }
+            ends.read(
+                alloc,
+                &with_byte(alloc, said, &self.store, at, said.word_at(0)),
+            );
         }
         ends.told(alloc)
-    }
-
-    fn with_byte(&self, alloc: Global, at: usize, byte: &[u8]) -> Result<Vec<u8>, RowFault> {
-        let mut store = Vec::from_slice(alloc, &self.store)?;
-        match (store.get_mut(at), byte) {
-            (Some(place), [byte]) => *place = *byte,
-            _ => return Err(RowFault::OtherKind),
-        }
-        Ok(store)
     }
 
     /// Reads the store cut at each place in turn.
     fn cut(&self, alloc: Global) -> Words {
         let mut ends = Ends::new(alloc, &self.store);
         for length in 0..self.store.len() {
-            match self.store.get(..length) {
-                Some(front) => ends.read(alloc, front),
-                None => return Words::none(alloc, RowFault::OtherKind),
+            if let Some(front) = self.store.get(..length) {
+                ends.read(alloc, front);
             }
         }
         ends.told(alloc)

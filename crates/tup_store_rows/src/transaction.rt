@@ -78,7 +78,11 @@ fn made(
     transaction: (&str, &[Vec<u8>]),
 ) -> Result<Vec<Change>, RowFault> {
     match read(alloc, bytes) {
-        Ok(opened) => made_of(alloc, said, &opened.entries, transaction),
+        Ok(opened) => {
+            let made = made_of(alloc, said, &opened.entries, transaction);
+            drop(opened);
+            made
+        }
         Err(_) => Err(RowFault::OtherKind),
     }
 }
@@ -107,7 +111,11 @@ fn made_over(
     requires { AreRunsOfRules nodes }
 {
     match Indexed::of(alloc, nodes) {
-        Ok(graph) => made_in(alloc, said, entries, &graph, transaction),
+        Ok(graph) => {
+            let made = made_in(alloc, said, entries, &graph, transaction);
+            drop(graph);
+            made
+        }
         Err(_) => Err(RowFault::Memory),
     }
 }
@@ -131,10 +139,16 @@ fn needed(
     edits: Result<Edits, GraphFault>,
 ) -> Result<Vec<Change>, RowFault> {
     match edits {
-        Ok(edits) => match changes(alloc, entries, &edits) {
-            Ok(changes) => Ok(changes),
-            Err(_) => Err(RowFault::Memory),
-        },
+        Ok(edits) => needed_by(alloc, entries, edits),
+        Err(_) => Err(RowFault::Memory),
+    }
+}
+
+fn needed_by(alloc: Global, entries: &Entries, edits: Edits) -> Result<Vec<Change>, RowFault> {
+    let needed = changes(alloc, entries, &edits);
+    drop(edits);
+    match needed {
+        Ok(changes) => Ok(changes),
         Err(_) => Err(RowFault::Memory),
     }
 }

@@ -1,5 +1,5 @@
 -- How a beginning ends that came out so: what is promised of it holds of the status that tells of it.
-use Rattle.std.proofs.Common.{◌≡◌, ◌⊎◌, ⊎_elim, inl, inr, ℕ, List, [], ◌∷◌, ◌++◌, Result, Ok, Err, refl, sym, subst, ◌∙◌}
+use Rattle.std.proofs.Common.{◌≡◌, ◌⊎◌, ⊎_elim, inl, inr, ℕ, List, [], ◌∷◌, ◌++◌, Result, Ok, Err, refl, sym, subst, ◌∙◌, arith}
 use Rattle.tup_site.specs.World.{World}
 use Rattle.tup_table.specs.Store.{header}
 use Rattle.tup_table.specs.declared.fault.TableFault.{TableFault}
@@ -98,6 +98,14 @@ no_damage bytes left offset empty opens =
     ⊎_elim
     (λ damaged. let one : ◌≡◌ {A = Result Opened TableFault} (Err table.NotThere) (Err (table.BadStore offset)) = reads_one bytes (Err table.NotThere) (Err (table.BadStore offset)) empty damaged.0 in absurd (cc one))
     (λ broken. let one : ◌≡◌ {A = Result Opened TableFault} (Err table.NotThere) (Ok broken.opened) = reads_one bytes (Err table.NotThere) (Ok broken.opened) empty broken.reads in absurd (cc one)) opens
+
+-- so where the site never fails, only want of memory keeps a project from beginning there
+pub only_memory : (v w : World) (fault : GraphFault) → v.store ≡ [] → Begins v w (Err fault) → CountsFaults {T = Begun} 0 0 (Err fault) → fault ≡ graph.Memory
+only_memory v w graph.NotThere empty begins counts = absurd begins
+only_memory v w (graph.BadStore offset) empty begins counts = absurd (no_damage v.store w.store offset empty begins)
+only_memory v w graph.Site empty begins counts = absurd (not_rose 0 0 refl (omega arith) (counts.fault refl))
+only_memory v w graph.Full empty begins counts = absurd begins
+only_memory v w graph.Memory empty begins counts = refl
 
 -- so a project that begins there has the store of nothing
 pub made_there : (v w : World) (begun : Begun) → v.store ≡ [] → Begins v w (Ok begun) → w.store ≡ header ++ 0 ∷ []

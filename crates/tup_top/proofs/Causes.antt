@@ -14,8 +14,7 @@ use Rattle.tup_access.specs.declared.verdict.Verdict.TheVariants.{Good, Failed, 
 use Rattle.tup_clean.specs.Taken.{Taken}
 use Rattle.tup_update.specs.Log.{LogFits, RulesFit, OfRules}
 use Rattle.tup_update.specs.Ran.{RunsThese}
-use Rattle.tup_mini.specs.Means.{mini_next}
-use Rattle.tup_update.specs.Outcome.{ExactlyTheFiles, HasCause, NothingForgotten, HasRunCause, HasCountedCause as StopHasCountedCause}
+use Rattle.tup_update.specs.Outcome.{ExactlyTheFiles, NothingForgotten, HasRunCause, HasCountedCause as StopHasCountedCause}
 use Rattle.tup_update.specs.Sources.{ends, PassesLimit}
 use Rattle.tup_update.specs.Turns.{names_of, TurnsFit}
 use Rattle.tup_update.proofs.Ending.{no_front, whole_front}
@@ -27,7 +26,7 @@ use Rattle.tup_update.specs.declared.stop.Stop.{Stop}
 use Rattle.tup_update.specs.declared.stop.Stop.TheVariants.{NoStore, BadStore as StoreDamaged, Sources, Bad, Run, Full, Outside}
 use Rattle.tup_top.specs.Lines.{lines}
 use Rattle.tup_top.specs.Crew.{OneRose, RanFits}
-use Rattle.tup_top.specs.Promise.{CountsAll, Counts, AreSteady, HasCountedCause, HasDemoCause}
+use Rattle.tup_top.specs.Promise.{CountsAll, Counts, AreSteady, HasCountedCause}
 use Rattle.tup_top.specs.Printed.{IsDone, Ends, Prints, Told, PrintsUpdate}
 use Rattle.tup_top.specs.Status.{status_of, status_of_sources, IfCame, after_sink_fault}
 use Rattle.tup_top.specs.declared.status.Status.{Status}
@@ -327,41 +326,14 @@ prints_update next old before now held grown told status text answer is reads en
   prints = subst (λ s. Prints s (lines told.rules told.log s) before now held grown answer) is (subst (λ t. Prints status t before now held grown answer) reads prints);
 }
 
--- what a demo may answer, from what its update may: its runner counts no failures
-never_rose : OneRose (0 ∷ []) (0 ∷ []) → ⊥
+-- a runner that counts no failures never failed
+pub never_rose : OneRose (0 ∷ []) (0 ∷ []) → ⊥
 never_rose one = by one.at one.was one.is one.stood one.stands one.rose
   where
     by : (at was is : ℕ) → slice_get (0 ∷ []) at ≡ Some was → slice_get (0 ∷ []) at ≡ Some is → Rose was is → ⊥
     by zero was is stood stands (inl more) = let none : was ≡ 0 = cc stood in let same : is ≡ 0 = cc stands in omega (arith, none, same, more)
     by zero was is stood stands (inr end) = let same : is ≡ 0 = cc stands in omega (arith, same, end)
     by (suc at) was is stood stands rose = absurd (cc stood)
-
-pub demo_cause : (site_before site_now sink_before sink_now : ℕ) (status : Status) → HasCountedCause (of_one site_before 0 sink_before) (of_one site_now 0 sink_now) status → HasDemoCause sink_before sink_now status
-demo_cause site_before site_now before now (Done read ran removed) cause = cause.1
-demo_cause site_before site_now before now (Command rule status) cause = tt
-demo_cause site_before site_now before now (IllegalRead rule text) cause = tt
-demo_cause site_before site_now before now (IllegalWrite rule text) cause = tt
-demo_cause site_before site_now before now (Unwritten rule path) cause = tt
-demo_cause site_before site_now before now (TooManyReads rule) cause = tt
-demo_cause site_before site_now before now (Usage place) cause = cause
-demo_cause site_before site_now before now NotInit cause = tt
-demo_cause site_before site_now before now AlreadyInit cause = cause
-demo_cause site_before site_now before now (BadStore offset) cause = tt
-demo_cause site_before site_now before now (Parse fault) cause = tt
-demo_cause site_before site_now before now (CircularDirs cycle) cause = tt
-demo_cause site_before site_now before now (CircularCommands cycle) cause = tt
-demo_cause site_before site_now before now (NoSuchGroup group) cause = tt
-demo_cause site_before site_now before now SiteFault cause = tt
-demo_cause site_before site_now before now RunFault cause = never_rose cause.1
-demo_cause site_before site_now before now SinkFault cause = cause.1
-demo_cause site_before site_now before now (Limit what number) cause = cause.1
-demo_cause site_before site_now before now Memory cause = tt
-demo_cause site_before site_now before now (Differs path) cause = cause
-
--- of an update of some world, which left a new one
-pub with_new : (status : Status) (old new : World) → IfCame status (OfRules old (λ rules. HasCause mini_next rules old new)) → IfCame status (λ stopped. (new : World) × OfRules old (λ rules. HasCause mini_next rules old new) stopped)
-with_new status old new cause =
-    came_on (OfRules old (λ rules. HasCause mini_next rules old new)) (λ stopped. (new : World) × OfRules old (λ rules. HasCause mini_next rules old new) stopped) (λ stopped why. (new, why)) status cause
 
 -- an update that the outside stopped before it began
 abbrev pub told_nothing : (next : Next) (old : World) (failed : SiteFailed) → Told next old

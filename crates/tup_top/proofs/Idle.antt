@@ -21,11 +21,10 @@ use Rattle.tup_update.proofs.Held.{holds_itself}
 use Rattle.tup_top.specs.Lines.{last_line, begun_line, compared_line}
 use Rattle.tup_top.specs.Order.{Wanted}
 use Rattle.tup_top.specs.Printed.{Printed, PrintedAlone, PrintsBegun, demo_world}
-use Rattle.tup_top.specs.Promise.{ForUpdate, ForInit, ForVerify, ForDemo, Demonstrates, NothingDone}
+use Rattle.tup_top.specs.Promise.{ForUpdate, ForInit, ForVerify, NothingDone}
 use Rattle.tup_top.specs.declared.order.Order.TheVariants.{Init, Upd, Verify, Demo}
 use Rattle.tup_top.specs.declared.status.Status.TheVariants.{Usage, Memory}
 use Rattle.tup_top.proofs.Causes.{prints_nothing, prints_no_update}
-use Rattle.tup_top.proofs.Shown.{own_memory}
 
 -- nothing was done
 pub idle : (wanted : Wanted) (w : World) → NothingDone wanted w w
@@ -58,21 +57,6 @@ memory_for_init (Ok Init) P p = p
 memory_for_init (Ok Verify) P p = tt
 memory_for_init (Ok Demo) P p = tt
 memory_for_init (Err place) P p = tt
-
--- and a demo
-pub memory_for_demo : (wanted : Wanted) (P : Option Stop → Type 0) → P (Some (Outside NoMemory)) → ForDemo wanted Memory P
-memory_for_demo (Ok (Upd program)) P p = tt
-memory_for_demo (Ok Init) P p = tt
-memory_for_demo (Ok Verify) P p = tt
-memory_for_demo (Ok Demo) P p = p
-memory_for_demo (Err place) P p = tt
-
-pub memory_demonstrates : (wanted : Wanted) (count : ℕ) → Demonstrates wanted count count Memory
-memory_demonstrates (Ok (Upd program)) count = tt
-memory_demonstrates (Ok Init) count = tt
-memory_demonstrates (Ok Verify) count = tt
-memory_demonstrates (Ok Demo) count = own_memory count count
-memory_demonstrates (Err place) count = tt
 
 -- a beginning of which nothing is printed
 begun_nothing : (count : ℕ) (held : List ℕ) → PrintsBegun count count held held Memory

@@ -6,3 +6,6 @@ pub mod Verified
 pub mod Crewed
 pub mod Begun
 pub mod Shown
+pub mod Makers
+pub mod Room
+pub mod Demo

@@ -1,13 +1,12 @@
 -- What is printed of one call: the lines of an update, or the line of a refusal; a front of them where the sink failed.
-use Rattle.std.specs.Prelude.{◌≡◌, ◌≢◌, ◌⊎◌, ⊤, ℕ, List, [], ◌∷◌, ◌++◌, Option, Result, Ok, Err, codes}
+use Rattle.std.specs.Prelude.{◌≡◌, ◌≢◌, ◌⊎◌, ⊤, ℕ, List, [], ◌∷◌, ◌++◌, Option, Result, Ok, Err}
 use Rattle.tup_path.specs.Count.{Rose}
-use Rattle.tup_path.specs.Name.{Names, Content}
-use Rattle.tup_path.specs.Tree.{tree_of_files}
 use Rattle.tup_site.specs.World.{World}
 use Rattle.tup_rule.specs.declared.rule.Rule.{Rule}
 use Rattle.tup_runner.specs.Next.{Next}
 use Rattle.tup_mini.specs.Means.{mini_next}
 use Rattle.tup_tell.specs.Sink.{GrownByPart}
+use Rattle.tup_demo.specs.Project.{demo_tree}
 use Rattle.tup_table.specs.Store.{header}
 use Rattle.tup_graph.specs.declared.fault.GraphFault.{GraphFault}
 use Rattle.tup_ledger.specs.declared.beginning.Begun.{Begun}
@@ -68,13 +67,9 @@ pub record PrintsBegun (before now : ℕ) (old new : List ℕ) (answer : Status)
   pub ends : Ends before now (status_of_begun begun) answer
   pub prints : Prints (status_of_begun begun) (begun_line (status_of_begun begun)) before now old new answer
 
--- the small project that is shown
-abbrev pub demo_files : List (Names × Content)
-demo_files = (codes "Tupfile" ∷ [], codes ": a |> cp a b |> b" ++ 10 ∷ []) ∷ (codes "a" ∷ [], codes "hi" ++ 10 ∷ []) ∷ []
-
--- the site that holds it, once it began
+-- the small project of a demo, in the site that holds it, once it began
 abbrev pub demo_world : World
-demo_world = record { tree = tree_of_files demo_files; store = header ++ 0 ∷ [] }
+demo_world = record { tree = demo_tree; store = header ++ 0 ∷ [] }
 
 -- the lines of what was asked for: of the update, of the beginning, of the comparison, of the demo's update, or the line of the
 -- refusal

@@ -1,6 +1,6 @@
 -- What the program promises of one call, each promise a word. What it says of an update is what tup_update says, of what
 -- the status tells that the update came to.
-use Rattle.std.specs.Prelude.{◌≡◌, ◌⊎◌, ◌<◌, ◌≤◌, ⊤, ℕ, ◌-◌, ◌^◌, List, [], ◌∷◌, length, map, slice_get, Option, None, Some, IsTrue, OnOk, Result, Ok, Err}
+use Rattle.std.specs.Prelude.{◌≡◌, ◌⊎◌, ◌<◌, ◌≤◌, ⊤, ℕ, ◌-◌, ◌^◌, List, [], length, map, slice_get, Option, None, Some, IsTrue, OnOk, Result, Ok, Err}
 use Rattle.std.specs.FinMap as finite
 use Rattle.tup_path.specs.Count.{Rose}
 use Rattle.tup_path.specs.Name.{Names, Content}
@@ -13,9 +13,8 @@ use Rattle.tup_graph.specs.declared.fault.GraphFault.{GraphFault}
 use Rattle.tup_ledger.specs.Begin.{BeginStep}
 use Rattle.tup_ledger.specs.declared.beginning.Begun.{Begun}
 use Rattle.tup_update.specs.Holding.{Holding, HoldsOn, OfHeld, Shows}
-use Rattle.tup_mini.specs.Means.{mini_next}
-use Rattle.tup_update.specs.Log.{OfRules, whole_log}
-use Rattle.tup_update.specs.Outcome.{HasCause, HasNoRoom}
+use Rattle.tup_update.specs.Log.{whole_log}
+use Rattle.tup_update.specs.Outcome.{HasNoRoom}
 use Rattle.tup_update.specs.Sources.{IsAsked, IsRefused, build}
 use Rattle.tup_update.specs.declared.compare.Compared.{Compared}
 use Rattle.tup_update.specs.declared.fault.SourcesFault.{SourcesFault}
@@ -23,7 +22,6 @@ use Rattle.tup_update.specs.declared.stop.Stop.{Stop}
 use Rattle.tup_top.specs.Status.{status_of, most, IfCame, IfCompared, IfBegan}
 use Rattle.tup_top.specs.Order.{Wanted, IsUpdate, IsVerify, IsInit}
 use Rattle.tup_top.specs.Crew.{OneRose}
-use Rattle.tup_top.specs.Printed.{demo_world}
 use Rattle.tup_top.specs.declared.order.Order.TheVariants.{Init, Upd, Verify, Demo}
 use Rattle.tup_top.specs.declared.status.Status.{Status}
 use Rattle.tup_top.specs.declared.status.Status.TheVariants.{Done, Command, IllegalRead, IllegalWrite, Unwritten, TooManyReads, Usage, AlreadyInit, BadStore, SiteFault, RunFault, SinkFault, Limit, Memory, Differs}
@@ -44,14 +42,6 @@ ForVerify (Ok Verify) status promise = IfCompared status promise
 ForVerify (Ok Demo) status promise = ⊤
 ForVerify (Err place) status promise = ⊤
 
--- a promise of a demo, of what its update came to
-abbrev pub ForDemo : Wanted → Status → (Option Stop → Type 0) → Type 0
-ForDemo (Ok (Upd program)) status promise = ⊤
-ForDemo (Ok Init) status promise = ⊤
-ForDemo (Ok Verify) status promise = ⊤
-ForDemo (Ok Demo) status promise = IfCame status promise
-ForDemo (Err place) status promise = ⊤
-
 -- a promise of a beginning, of how the project began
 abbrev pub ForInit : Wanted → Status → (Result Begun GraphFault → Type 0) → Type 0
 ForInit (Ok (Upd program)) status promise = ⊤
@@ -63,10 +53,6 @@ ForInit (Err place) status promise = ⊤
 -- a store that was made, or stood there, is left by a crash from now on
 abbrev pub Lasts : (World → Type 0) → World → Result Begun GraphFault → Type 0
 Lasts left now begun = OnOk begun (PinsStore left now)
-
--- why the update of the small project stopped that a demo shows, as of every update
-abbrev pub StopsDemo : Option Stop → Type 0
-StopsDemo stopped = (new : World) × OfRules demo_world (λ rules. HasCause mini_next rules demo_world new) stopped
 
 -- Only an update does more than this: a beginning leaves the world as it was, or with a store of the same entries, or makes one
 -- where there was none; a comparison leaves a world that holds the same; and any other call the world as it was. None touches
@@ -122,16 +108,13 @@ abbrev pub HasComparedCause : Counts → Counts → Status → Type 0
 HasComparedCause before now (Differs path) = AreSteady before now
 HasComparedCause before now other = HasCountedCause before now other
 
--- the same of a demo, whose site and runner are its own; this runner never fails
+-- The same of a demo, whose site and runner are its own and never fail, and in the way of whose update nothing stands: it has
+-- read its one Tupfile and run its one command, or its sink failed, or there was no memory.
 abbrev pub HasDemoCause : ℕ → ℕ → Status → Type 0
-HasDemoCause before now (Done read ran removed) = now ≡ before
+HasDemoCause before now (Done read ran removed) = (read ≡ 1) × (ran ≡ 1) × (removed ≡ 0) × (now ≡ before)
 HasDemoCause before now SinkFault = Rose before now
-HasDemoCause before now (Limit what number) = number ≡ most what
-HasDemoCause before now (Usage place) = ⊥
-HasDemoCause before now AlreadyInit = ⊥
-HasDemoCause before now (Differs path) = ⊥
-HasDemoCause before now RunFault = ⊥
-HasDemoCause before now other = ⊤
+HasDemoCause before now Memory = ⊤
+HasDemoCause before now other = ⊥
 
 -- the same of a beginning, by what its site and its sink count
 abbrev pub HasBegunCause : ℕ → ℕ → ℕ → ℕ → Status → Type 0
@@ -185,28 +168,6 @@ IsDoneOrMemory other = ⊥
 -- an update that nothing stands in the way of is done, but for want of memory
 abbrev pub Succeeds : Wanted → Next → World → World → Counts → Counts → Status → Type 0
 Succeeds wanted next old new before now status = IsUpdate wanted → IsClear next old new → NothingFailed before now → IsDoneOrMemory status
-
--- a site of its own, and its runner, that failed at nothing so far, beside a sink with this count
-abbrev pub unfailed : ℕ → Counts
-unfailed heard = record { site = 0; runners = 0 ∷ []; sink = heard }
-
--- What a demo answers is the answer of an update: one of the small project, in a site of its own where it has begun. It has the
--- causes of an update, and where nothing stands in its way and nothing failed it is done, but for want of memory.
-pub record OwnUpdate (heard hears : ℕ) (status : Status) : Type 0 where
-  pub new : World
-  pub counted : Counts
-  pub sink : counted.sink ≡ hears
-  pub cause : IfCame status (OfRules demo_world (λ rules. HasCause mini_next rules demo_world new))
-  pub plain_cause : HasCountedCause (unfailed heard) counted status
-  pub success : IsClear mini_next demo_world new → NothingFailed (unfailed heard) counted → IsDoneOrMemory status
-
--- a demo answers as an update of its own; nothing is said of other calls
-abbrev pub Demonstrates : Wanted → ℕ → ℕ → Status → Type 0
-Demonstrates (Ok (Upd program)) heard hears status = ⊤
-Demonstrates (Ok Init) heard hears status = ⊤
-Demonstrates (Ok Verify) heard hears status = ⊤
-Demonstrates (Ok Demo) heard hears status = OwnUpdate heard hears status
-Demonstrates (Err place) heard hears status = ⊤
 
 -- a project begins where there is no store and nothing failed, but for want of memory
 abbrev pub Initializes : Wanted → World → Counts → Counts → Status → Type 0

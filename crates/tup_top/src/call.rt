@@ -13,7 +13,7 @@ ghost use Rattle.tup_top.specs.Order.{IsUpdate, order};
 ghost use Rattle.tup_top.specs.Crew.{IsCrew, CrewRuns, CrewCompares, RanFits, RanInTurn, NothingRun};
 ghost use Rattle.tup_top.specs.Lines.{last_line as line_of};
 ghost use Rattle.tup_top.specs.Printed.{Printed, PrintedAlone, Prints};
-ghost use Rattle.tup_top.specs.Promise.{ForUpdate, ForInit, ForVerify, ForDemo, StopsDemo, Demonstrates, Lasts, NothingDone, QuietStep, CountsAll};
+ghost use Rattle.tup_top.specs.Promise.{ForUpdate, ForInit, ForVerify, Lasts, NothingDone, QuietStep, CountsAll};
 ghost use Rattle.tup_top.specs.Promise.{HasPlainCause, IsRefusal, Succeeds, Initializes, Compares, counts};
 ghost use Rattle.tup_top.specs.declared.status.Status.TheVariants.{Usage};
 
@@ -96,12 +96,6 @@ pub fn tup<S: Site, R: Runner, K: Sink>(
     ensures cause { IsTrue S.tells → IsTrue R.tells → let old = S.world site in
         let new = S.world result.site in ForUpdate (order words.now) result.status
         (OfRules old (λ rules. HasCause R.next rules old new)) }
-    // A demo stops for the same causes as an update, of the small project that it shows.
-    ensures demo_cause { ForDemo (order words.now) result.status StopsDemo }
-    // Its answer is that of an update of a site of its own: counted, and done where nothing stands
-    // in the way.
-    ensures demonstrates { let before = K.faults out.old in let now = K.faults out.new in
-        Demonstrates (order words.now) before now result.status }
     ensures plain_cause { let before = counts S.faults R.faults K.faults site crew.items out.old in
         let now = counts S.faults R.faults K.faults result.site result.crew.items out.new in
         HasPlainCause (order words.now) before now result.status }

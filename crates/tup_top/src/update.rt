@@ -1,11 +1,9 @@
 //! An update, and what is told of it.
-ghost use Rattle.std.specs.Prelude.{◌≡◌, [], ◌∷◌, ◌++◌, IsTrue, IfOk, IfSome, Ok};
-ghost use Rattle.tup_path.specs.Resolve.{resolve};
+ghost use Rattle.std.specs.Prelude.{◌≡◌, [], ◌∷◌, ◌++◌, IsTrue, IfOk, IfErr};
 ghost use Rattle.tup_site.specs.Crash.{GoesOn, LeavesOnly};
-ghost use Rattle.tup_site.specs.Memory.{world_in, tree_in, store_in, faults_of};
 ghost use Rattle.tup_mini.specs.Means.{mini_next};
+ghost use Rattle.tup_steady.specs.Steady.{world_in, tree_in, store_in};
 ghost use Rattle.tup_table.specs.Store.{header};
-ghost use Rattle.tup_kept.specs.Cause.{OnlyOutside};
 ghost use Rattle.tup_ledger.specs.Listing.{IsSafe};
 ghost use Rattle.tup_ledger.specs.Sources.{HasSources, Kept};
 ghost use Rattle.tup_update.specs.Images.{UpdateStep, with_outputs};
@@ -14,21 +12,22 @@ ghost use Rattle.tup_update.specs.Ran.{RunsThese};
 ghost use Rattle.tup_update.specs.Settled.{IsSettled};
 ghost use Rattle.tup_update.specs.Outcome.{ExactlyTheFiles, MadeBeforeBad, SourcesStay, NothingForgotten, HasCause};
 ghost use Rattle.tup_top.specs.Crew.{RanFits, RanInTurn};
-ghost use Rattle.tup_top.specs.Printed as specs;
 ghost use Rattle.tup_top.specs.Printed.{PrintsUpdate, demo_world};
-ghost use Rattle.tup_top.specs.Promise.{CountsAll, HasCountedCause, HasDemoCause, OwnUpdate, StopsDemo, counts};
+ghost use Rattle.tup_top.specs.Promise.{CountsAll, HasCountedCause, HasDemoCause, counts};
 ghost use Rattle.tup_top.specs.Status.{IfCame};
 
 use crate::print::{lines, print, tell};
 use crate::status::{Status, status_of, status_of_begun};
 use std::alloc::Global;
+use tup_demo::demo_project;
 use tup_graph::GraphFault;
 use tup_ledger::begin;
 use tup_mini::Mini;
-use tup_path::{Bytes, Items, Path};
+use tup_path::Items;
 use tup_rule::RuleName;
 use tup_runner::Runner;
-use tup_site::{MemRefused, MemSite, Site};
+use tup_site::{MemRefused, Site};
+use tup_steady::SteadySite;
 use tup_tell::Sink;
 use tup_update::{Update, update_site};
 
@@ -109,8 +108,6 @@ pub(crate) fn update<S: Site, R: Runner, K: Sink>(
 /// Begins a small project in memory, updates it, and prints the lines of this update.
 pub(crate) fn demo<K: Sink>(alloc: Global, out: &mut K) -> Status
     ensures cause { HasDemoCause (K.faults out.old) (K.faults out.new) result }
-    ensures stops { IfCame result StopsDemo }
-    ensures own { OwnUpdate (K.faults out.old) (K.faults out.new) result }
     ensures printed { IsTrue K.tells
         → let before = K.faults out.old in let now = K.faults out.new in
         PrintsUpdate mini_next demo_world before now (K.held out.old) (K.held out.new) result }
@@ -121,52 +118,26 @@ pub(crate) fn demo<K: Sink>(alloc: Global, out: &mut K) -> Status
     }
 }
 
-/// The small project, begun.
-fn demo_site(alloc: Global) -> Result<MemSite, GraphFault>
+/// The small project, begun. It is refused for want of memory alone.
+fn demo_site(alloc: Global) -> Result<SteadySite, GraphFault>
     ensures holds { IfOk result (λ site. world_in site ≡ demo_world) }
-    ensures faults { IfOk result (λ site. faults_of site ≡ 0) }
-    ensures outside { OnlyOutside result }
+    ensures memory { IfErr result (λ fault. fault ≡ GraphFault.Memory) }
 {
-    let Some(files) = demo_files(alloc) else {
-        return Err(GraphFault::Memory);
-    };
-    match MemSite::new(alloc, files, Vec::new(alloc)) {
+    match demo_project(alloc) {
         Ok(site) => begun(alloc, site),
         Err(MemRefused::Memory) => Err(GraphFault::Memory),
-        // Two contents have one stamp, so that the site can't tell them apart.
         Err(_) => Err(GraphFault::Site),
     }
 }
 
-/// A project that begins where there is no store.
-fn begun(alloc: Global, site: MemSite) -> Result<MemSite, GraphFault>
+/// A project that begins where there is no store, in a site that never fails.
+fn begun(alloc: Global, site: SteadySite) -> Result<SteadySite, GraphFault>
     requires { store_in site ≡ [] }
     ensures files { IfOk result (λ begun. tree_in begun ≡ tree_in site) }
     ensures store { IfOk result (λ begun. store_in begun ≡ header ++ 0 ∷ []) }
-    ensures faults { IfOk result (λ begun. faults_of begun ≡ faults_of site) }
-    ensures outside { OnlyOutside result }
+    ensures memory { IfErr result (λ fault. fault ≡ GraphFault.Memory) }
 {
     let mut site = site;
     begin(alloc, &mut site)?;
     Ok(site)
-}
-
-/// The files of the small project.
-fn demo_files(alloc: Global) -> Option<Vec<(Path, Bytes)>>
-    ensures { IfSome result (λ files. files.items ≡ specs.demo_files) }
-{
-    vec![in alloc;
-        file(alloc, "Tupfile", b": a |> cp a b |> b\n")?,
-        file(alloc, "a", b"hi\n")?,
-    ]
-    .ok()
-}
-
-/// A file at a path below the top.
-fn file(alloc: Global, path: &str, content: &[u8]) -> Option<(Path, Bytes)>
-    ensures { IfSome result (λ file. (resolve [] path.now ≡ Ok file.0) × (file.1 ≡ content.now)) }
-{
-    let path = Path::from_top(alloc, path).ok()?;
-    let content = Bytes::new(Vec::from_slice(alloc, content).ok()?);
-    Some((path, content))
 }

@@ -1,9 +1,14 @@
-//! Answers the rows of `data/` on the whole program, over a project in memory.
+//! Answers the rows of `data/` on the whole program, and on histories of its calls with edits and crashes between, over a
+//! project in memory.
 #![tactic(auto)]
 
+mod crashes;
 mod failing;
+mod lives;
 mod session;
+mod turns;
 
+use lives::Lives;
 use session::Session;
 use std::alloc::Global;
 use std::fs::Files;
@@ -15,7 +20,8 @@ fn main(rt: HostRuntime) -> io::Result<()> {
     try_rows(&rt, rt.alloc(), "init.rows")?;
     try_rows(&rt, rt.alloc(), "tup.rows")?;
     try_rows(&rt, rt.alloc(), "folders.rows")?;
-    try_rows(&rt, rt.alloc(), "verify.rows")
+    try_rows(&rt, rt.alloc(), "verify.rows")?;
+    try_file_by(&rt, rt.alloc(), "history.rows", Lives::new(rt.alloc()))
 }
 
 /// Tries the rows of a file, from a folder without a project on.

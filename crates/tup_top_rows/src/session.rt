@@ -5,11 +5,11 @@ use tup_graph::GraphFault;
 use tup_kept::Graph;
 use tup_ledger::{begin, open, owned_paths};
 use tup_path::{Bytes, Items, Path, Paths};
-use tup_rows::{Answers, RowFault, Words};
+use tup_rows::{Answers, RowFault, Words, set};
 use tup_rule::RuleName;
 use tup_site::{MemSite, Site};
 use tup_tell::{MemSink, Sink};
-use tup_top::{Ran, Word, tup};
+use tup_top::{Ran, Status, Word, tup};
 
 /// A project, and what runs its commands.
 #[derive(Drop)]
@@ -65,7 +65,7 @@ impl Session {
     fn begin(&mut self, alloc: Global, site: Result<MemSite, RowFault>, run_fails: u64) -> Words {
         match site {
             Ok(site) => {
-                *self = Session::over(alloc, site, run_fails);
+                set(self, Session::over(alloc, site, run_fails));
                 Words::done(alloc)
             }
             Err(fault) => Words::none(alloc, fault),
@@ -74,44 +74,79 @@ impl Session {
 
     /// Calls the program, and gives its exit number and what it printed.
     fn call(&mut self, alloc: Global, said: &Words, sink_fails: u64) -> Words {
-        match (self.project.take(), vec![in alloc; sink_fails]) {
-            (Some(project), Ok(fails)) => {
-                let mut out = MemSink::new(alloc, fails);
-                self.run(alloc, &words_of(alloc, said), project, &mut out)
+        match self.project.take() {
+            Some(project) => self.call_on(alloc, said, project, sink_fails),
+            None => Words::none(alloc, RowFault::Memory),
+        }
+    }
+
+    fn call_on(&mut self, alloc: Global, said: &Words, project: Project, sink_fails: u64) -> Words {
+        match vec![in alloc; sink_fails] {
+            Ok(fails) => self.run(alloc, said, project, &mut MemSink::new(alloc, fails)),
+            Err(_) => {
+                drop(project);
+                Words::none(alloc, RowFault::Memory)
             }
-            _ => Words::none(alloc, RowFault::Memory),
         }
     }
 
     /// Runs the program with a crew of the one runner.
-    fn run(&mut self, alloc: Global, words: &[Word], project: Project, out: &mut MemSink) -> Words {
-        let Project { site, runner, .. } = project;
+    fn run(&mut self, alloc: Global, said: &Words, project: Project, out: &mut MemSink) -> Words {
+        let Project {
+            site,
+            runner,
+            begun,
+        } = project;
+        drop(begun);
         match vec![in alloc; runner] {
-            Ok(crew) => self.keep(alloc, tup(alloc, words, site, crew, out), out),
-            Err(_) => Words::none(alloc, RowFault::Memory),
+            Ok(crew) => {
+                let ran = tup(alloc, &words_of(alloc, said), site, crew, out);
+                self.keep(alloc, ran, out)
+            }
+            Err(_) => {
+                drop(site);
+                Words::none(alloc, RowFault::Memory)
+            }
         }
     }
 
-    /// Keeps the site and the runner as the program leaves them.
+    /// Keeps the site and the runner as the program leaves them, and gives its exit number and what it printed.
     fn keep(&mut self, alloc: Global, ran: Ran<MemSite, Failing>, out: &MemSink) -> Words {
+        let answer = answer_of(alloc, &ran.status, out);
+        self.keep_project(ran);
+        answer
+    }
+
+    fn keep_project(&mut self, ran: Ran<MemSite, Failing>) {
         let Ran {
             status,
             site,
             mut crew,
             ran: begun,
         } = ran;
-        self.project = match crew.pop() {
-            Some(runner) => Some(Project {
-                site,
-                runner,
-                begun,
-            }),
-            None => None,
-        };
-        let mut answer = Words::shown(alloc, &status.exit());
-        answer.put(alloc, out.bytes().as_slice());
-        answer
+        drop(status);
+        match crew.pop() {
+            Some(runner) => set(
+                &mut self.project,
+                Some(Project {
+                    site,
+                    runner,
+                    begun,
+                }),
+            ),
+            None => {
+                drop(site);
+                drop(begun);
+            }
+        }
     }
+}
+
+/// The exit number of a call of the program, and what it printed.
+fn answer_of(alloc: Global, status: &Status, out: &MemSink) -> Words {
+    let mut answer = Words::shown(alloc, &status.exit());
+    answer.put(alloc, out.bytes().as_slice());
+    answer
 }
 
 /// A folder without files and without a project, whose call of this number fails, counted from 1.
@@ -124,19 +159,39 @@ fn folder(alloc: Global, fails: u64) -> Result<MemSite, RowFault> {
 
 /// A project without files, of which the call of this number fails behind its beginning.
 fn started(alloc: Global, fails: u64) -> Result<MemSite, RowFault> {
-    let begun = begun_over(alloc, folder(alloc, 0)?)?;
     if fails == 0 {
-        return Ok(begun);
+        return begun_with(alloc, 0);
     }
-    begun_over(alloc, folder(alloc, begun.calls().saturating_add(fails))?)
+    let calls = calls_to_begin(alloc)?;
+    begun_with(alloc, calls.saturating_add(fails))
 }
 
-/// A folder in which a project begins.
-fn begun_over(alloc: Global, site: MemSite) -> Result<MemSite, RowFault> {
-    let mut site = site;
-    match begin(alloc, &mut site) {
-        Ok(_) => Ok(site),
-        Err(_) => Err(RowFault::Memory),
+/// How many calls of a site the beginning of a project makes.
+fn calls_to_begin(alloc: Global) -> Result<u64, RowFault> {
+    match begun_with(alloc, 0) {
+        Ok(site) => {
+            let calls = site.calls();
+            drop(site);
+            Ok(calls)
+        }
+        Err(fault) => Err(fault),
+    }
+}
+
+/// A folder in which a project begins, and whose call of this number fails.
+fn begun_with(alloc: Global, fails: u64) -> Result<MemSite, RowFault> {
+    match folder(alloc, fails) {
+        Ok(site) => begun_over(alloc, site),
+        Err(fault) => Err(fault),
+    }
+}
+
+fn begun_over(alloc: Global, mut site: MemSite) -> Result<MemSite, RowFault> {
+    if begin(alloc, &mut site).is_ok() {
+        Ok(site)
+    } else {
+        drop(site);
+        Err(RowFault::Memory)
     }
 }
 
@@ -179,7 +234,7 @@ fn edit(alloc: Global, site: &mut MemSite, said: &Words, content: Option<Bytes>)
 }
 
 /// What a file holds.
-fn file(alloc: Global, site: &MemSite, said: &Words) -> Words {
+pub(crate) fn file(alloc: Global, site: &MemSite, said: &Words) -> Words {
     match site.file(&said.path_at(alloc, 0)) {
         Some(content) => holds(alloc, content),
         None => Words::word(alloc, b"none"),
@@ -196,21 +251,33 @@ fn holds(alloc: Global, content: &Bytes) -> Words {
 /// The paths that the store lists.
 fn listed(alloc: Global, site: &MemSite) -> Words {
     match owned(alloc, site.store()) {
-        Ok(paths) => shown(alloc, paths.as_slice()),
+        Ok(paths) => Words::all(alloc, paths.as_slice()),
         Err(fault) => Words::refusal(alloc, &fault),
     }
 }
 
 /// The paths that a store of these bytes lists; none where there are no bytes.
 fn owned(alloc: Global, bytes: &[u8]) -> Result<Paths, GraphFault> {
-    let Ok(mut site) = MemSite::new(alloc, Vec::new(alloc), Vec::new(alloc)) else {
-        return Err(GraphFault::Memory);
-    };
+    match MemSite::new(alloc, Vec::new(alloc), Vec::new(alloc)) {
+        Ok(mut site) => {
+            let paths = owned_in(alloc, &mut site, bytes);
+            drop(site);
+            paths
+        }
+        Err(_) => Err(GraphFault::Memory),
+    }
+}
+
+fn owned_in(alloc: Global, site: &mut MemSite, bytes: &[u8]) -> Result<Paths, GraphFault> {
     if site.db_write(alloc, 0, bytes).is_err() {
         return Err(GraphFault::Memory);
     }
-    match open(alloc, &mut site) {
-        Ok(graph) => owned_by(alloc, &graph),
+    match open(alloc, site) {
+        Ok(graph) => {
+            let paths = owned_by(alloc, &graph);
+            drop(graph);
+            paths
+        }
         Err(GraphFault::NotThere) => Ok(Paths::new(alloc)),
         Err(fault) => Err(fault),
     }
@@ -219,15 +286,6 @@ fn owned(alloc: Global, bytes: &[u8]) -> Result<Paths, GraphFault> {
 /// The paths that a graph owns.
 fn owned_by(alloc: Global, graph: &Graph) -> Result<Paths, GraphFault> {
     Ok(owned_paths(alloc, graph.nodes())?)
-}
-
-/// Paths, each as it is written.
-fn shown(alloc: Global, paths: &[Path]) -> Words {
-    let mut words = Words::new(alloc);
-    for path in paths {
-        words.show(alloc, path);
-    }
-    words
 }
 
 /// Writes bytes over the store from its first on.

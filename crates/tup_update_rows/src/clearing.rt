@@ -8,7 +8,7 @@ use crate::project::Project;
 use std::alloc::Global;
 use tup_kept::Graph;
 use tup_path::{Bytes, Path, Paths};
-use tup_rows::{Answers, RowFault, Words};
+use tup_rows::{Answers, RowFault, Words, set};
 use tup_site::{Changed, Choice, MemSite};
 use tup_stale::{StaleFault, clear};
 
@@ -47,22 +47,29 @@ impl Clearings {
     }
 
     fn begin(&mut self, alloc: Global) -> Words {
-        self.project = Project::new(alloc);
+        set(&mut self.project, Project::new(alloc));
         Words::done(alloc)
     }
 
     /// A site with the project, of which an opening and so many calls more pass.
     fn site(&self, alloc: Global, calls: u64) -> Result<MemSite, RowFault> {
-        let mut site = self.project.site(alloc)?;
-        site.stop_after(calls.saturating_add(OPENING));
-        Ok(site)
+        match self.project.site(alloc) {
+            Ok(mut site) => {
+                site.stop_after(calls.saturating_add(OPENING));
+                Ok(site)
+            }
+            Err(fault) => Err(fault),
+        }
     }
 
     /// Clears the project, stopped after so many calls of the site.
     fn clear(&self, alloc: Global, call: &str, said: &Words, calls: u64) -> Words {
         let mut words = Words::new(alloc);
         match self.site(alloc, calls) {
-            Ok(mut site) => self.clear_in(alloc, &mut words, call, said, &mut site),
+            Ok(mut site) => {
+                self.clear_in(alloc, &mut words, call, said, &mut site);
+                drop(site);
+            }
             Err(fault) => words.fail(fault),
         }
         words
@@ -109,7 +116,11 @@ impl Clearings {
     /// The store as it was after so many calls, cut by so many bytes, and files.
     fn choice(&self, alloc: Global, said: &Words) -> Result<Choice, RowFault> {
         match self.site(alloc, said.number_at(1)) {
-            Ok(mut before) => choice_at(alloc, said, &mut before),
+            Ok(mut before) => {
+                let choice = choice_at(alloc, said, &mut before);
+                drop(before);
+                choice
+            }
             Err(fault) => Err(fault),
         }
     }
@@ -121,7 +132,7 @@ fn choice_at(alloc: Global, said: &Words, before: &mut MemSite) -> Result<Choice
     let end = store.len().saturating_sub(said.number_at(2) as usize);
     match store.get(..end) {
         Some(front) => Ok(Choice {
-            db: Bytes::new(Vec::from_slice(alloc, front)?),
+            db: Bytes::new(said.copy_of(alloc, front)),
             tree: changed(alloc, said),
         }),
         None => Err(RowFault::OtherKind),
@@ -153,7 +164,10 @@ fn change(alloc: Global, said: &Words, at: usize) -> (Path, Option<Bytes>) {
 /// for the store.
 fn add_clearing(alloc: Global, words: &mut Words, site: &mut MemSite) {
     match Graph::open(alloc, site) {
-        Ok(mut graph) => add_clearing_of(alloc, words, &mut graph, site),
+        Ok(mut graph) => {
+            add_clearing_of(alloc, words, &mut graph, site);
+            drop(graph);
+        }
         Err(fault) => add_refusal(alloc, words, fault),
     }
 }
@@ -174,9 +188,7 @@ fn add_end(alloc: Global, words: &mut Words, ended: Result<Paths, StaleFault>) {
     match ended {
         Ok(removed) => {
             words.put(alloc, b"done");
-            for path in removed.as_slice() {
-                words.show(alloc, path);
-            }
+            words.show_all(alloc, removed.as_slice());
         }
         Err(StaleFault::Memory) => words.fail(RowFault::Memory),
         Err(fault) => words.show(alloc, &fault),

@@ -22,7 +22,10 @@ pub(crate) fn add_left(alloc: Global, words: &mut Words, project: &Project, site
 /// Adds the paths that the store of a site owns, each with its maker and its state.
 fn add_owned(alloc: Global, words: &mut Words, site: &mut MemSite) {
     match Graph::open(alloc, site) {
-        Ok(graph) => add_nodes(alloc, words, graph.nodes()),
+        Ok(graph) => {
+            add_nodes(alloc, words, graph.nodes());
+            drop(graph);
+        }
         Err(fault) => add_refusal(alloc, words, fault),
     }
 }

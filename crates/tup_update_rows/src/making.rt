@@ -7,14 +7,14 @@ ghost use Rattle.tup_ground.specs.declared.ground.GoodEnd.{GoodEnd as GoodEndVal
 ghost use Rattle.tup_update_rows.specs.Making.{IsFlat, AreFilesOf};
 
 use crate::left::add_left;
-use crate::project::{Project, number_at};
+use crate::project::Project;
 use std::alloc::{AllocError, Global};
 use tup_graph::Nodes;
 use tup_ground::{BoardFault, GoodEnd, Ground, Reads};
 use tup_kept::Graph;
 use tup_path::{Bytes, Files, Items, Path};
 use tup_record::RunRecord;
-use tup_rows::{Answers, RowFault, Words};
+use tup_rows::{Answers, RowFault, Words, set};
 use tup_site::{MemSite, Site};
 use tup_stamp::stamp_of;
 
@@ -52,7 +52,7 @@ impl Makings {
     }
 
     fn begin(&mut self, alloc: Global) -> Words {
-        self.project = Project::new(alloc);
+        set(&mut self.project, Project::new(alloc));
         Words::done(alloc)
     }
 
@@ -79,8 +79,10 @@ impl Makings {
         let before = site.calls().saturating_add(OPENING);
         match ready(alloc, site) {
             Some(mut ground) => {
-                let made = make_on(alloc, &mut ground, number_at(said, 0), said.word_at(1));
-                self.shown(alloc, made, &mut ground, before)
+                let made = make_on(alloc, &mut ground, said.small_at(0), said.word_at(1));
+                let words = self.shown(alloc, made, &mut ground, before);
+                drop(ground);
+                words
             }
             None => Words::none(alloc, RowFault::OtherKind),
         }

@@ -5,15 +5,15 @@ ghost use Rattle.tup_above.specs.Readers.{AreRunsOfRules};
 ghost use Rattle.tup_kept.specs.Held.{is_fresh};
 ghost use Rattle.tup_partial.specs.Plan.{AreFlagsOfRules};
 
-use crate::project::{Project, number_at};
+use crate::project::Project;
 use std::alloc::Global;
 use tup_above::runs_are_of_rules;
-use tup_core::{Numbers, Plan};
+use tup_core::Plan;
 use tup_graph::GraphFault;
 use tup_index::Indexed;
 use tup_kept::Graph;
 use tup_partial::{PartialFault, above, flags_are_of_rules, plan_of};
-use tup_rows::{Answers, RowFault, Words};
+use tup_rows::{Answers, RowFault, Words, set};
 use tup_site::MemSite;
 
 /// A project whose graph is asked what is to be run.
@@ -43,14 +43,18 @@ impl Plans {
     }
 
     fn begin(&mut self, alloc: Global) -> Words {
-        self.project = Project::new(alloc);
+        set(&mut self.project, Project::new(alloc));
         Words::done(alloc)
     }
 
     /// Opens the store of the project, and asks its graph.
     fn asked(&self, alloc: Global, call: &str, said: &Words) -> Words {
         match self.project.site(alloc) {
-            Ok(mut site) => asked_in(alloc, call, said, &mut site),
+            Ok(mut site) => {
+                let words = asked_in(alloc, call, said, &mut site);
+                drop(site);
+                words
+            }
             Err(fault) => Words::none(alloc, fault),
         }
     }
@@ -58,7 +62,11 @@ impl Plans {
 
 fn asked_in(alloc: Global, call: &str, said: &Words, site: &mut MemSite) -> Words {
     match Graph::open(alloc, site) {
-        Ok(graph) => answer_of(alloc, call, said, &graph),
+        Ok(graph) => {
+            let words = answer_of(alloc, call, said, &graph);
+            drop(graph);
+            words
+        }
         Err(GraphFault::Memory) => Words::none(alloc, RowFault::Memory),
         Err(fault) => Words::refusal(alloc, &fault),
     }
@@ -84,18 +92,16 @@ fn above_of(alloc: Global, said: &Words, graph: &Indexed) -> Words
     if !are_rules(graph, &roots) {
         return Words::none(alloc, RowFault::OtherKind);
     }
-    let mut words = Words::new(alloc);
     match above(alloc, graph, &roots) {
-        Ok(numbers) => add_numbers(alloc, &mut words, &numbers),
-        Err(PartialFault::Memory) => words.fail(RowFault::Memory),
+        Ok(numbers) => Words::all(alloc, numbers.as_slice()),
+        Err(PartialFault::Memory) => Words::none(alloc, RowFault::Memory),
     }
-    words
 }
 
 fn numbers(alloc: Global, said: &Words) -> Vec<u32> {
     let mut numbers = Vec::new(alloc);
     for at in 0..said.len() {
-        if numbers.push(number_at(said, at)).is_err() {
+        if numbers.push(said.small_at(at)).is_err() {
             said.fail(RowFault::Memory);
         }
     }
@@ -121,7 +127,11 @@ fn plan(alloc: Global, keep_going: bool, graph: &Indexed) -> Words
     requires flags { AreFlagsOfRules graph.now }
 {
     match plan_of(alloc, graph, keep_going) {
-        Ok(plan) => words_of(alloc, &plan),
+        Ok(plan) => {
+            let words = words_of(alloc, &plan);
+            drop(plan);
+            words
+        }
         Err(PartialFault::Memory) => Words::none(alloc, RowFault::Memory),
     }
 }
@@ -130,12 +140,6 @@ fn plan(alloc: Global, keep_going: bool, graph: &Indexed) -> Words
 fn words_of(alloc: Global, plan: &Plan) -> Words {
     let mut words = Words::shown(alloc, &plan.rules.len());
     words.put(alloc, if plan.keep_going { b"goes" } else { b"stops" });
-    add_numbers(alloc, &mut words, &plan.reach);
+    words.show_all(alloc, plan.reach.as_slice());
     words
-}
-
-fn add_numbers(alloc: Global, words: &mut Words, numbers: &Numbers) {
-    for number in numbers.as_slice() {
-        words.show(alloc, number);
-    }
 }

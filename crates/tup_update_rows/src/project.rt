@@ -38,7 +38,7 @@ impl Project {
     /// An owned path that a rule makes.
     pub fn made(&mut self, alloc: Global, said: &Words) -> Words {
         let path = said.path_at(alloc, 0);
-        let maker = Some(number_at(said, 1));
+        let maker = Some(said.small_at(1));
         self.record(alloc, said, owned(path, maker, state_at(said, 2)))
     }
 
@@ -67,14 +67,14 @@ impl Project {
 
     /// A run of a rule, which asked these paths and found nothing.
     pub fn ran(&mut self, alloc: Global, said: &Words) -> Words {
-        let number = number_at(said, 0);
+        let number = said.small_at(0);
         let run = run(alloc, said);
         self.record(alloc, said, Record::Run { number, run })
     }
 
     /// A rule that is to be run.
     pub fn flag(&mut self, alloc: Global, said: &Words) -> Words {
-        let number = number_at(said, 0);
+        let number = said.small_at(0);
         self.record(alloc, said, Record::Modify { number })
     }
 
@@ -88,7 +88,9 @@ impl Project {
 
     /// Adds a record.
     fn record(&mut self, alloc: Global, said: &Words, record: Record) -> Words {
-        match encode(alloc, &record) {
+        let spelled = encode(alloc, &record);
+        drop(record);
+        match spelled {
             Ok((key, value)) => said.list(&mut self.records, Change::Put { key, value }),
             Err(_) => said.fail(RowFault::OtherKind),
         }
@@ -111,10 +113,19 @@ impl Project {
 
     /// A site in memory with this project.
     pub fn site(&self, alloc: Global) -> Result<MemSite, RowFault> {
-        let store = self.store(alloc)?;
         match MemSite::new(alloc, self.copies(alloc)?, Vec::new(alloc)) {
-            Ok(site) => filled(alloc, site, &store),
+            Ok(site) => self.filled(alloc, site),
             Err(_) => Err(RowFault::OtherKind),
+        }
+    }
+
+    fn filled(&self, alloc: Global, site: MemSite) -> Result<MemSite, RowFault> {
+        match self.store(alloc) {
+            Ok(store) => filled(alloc, site, &store),
+            Err(fault) => {
+                drop(site);
+                Err(fault)
+            }
         }
     }
 
@@ -132,6 +143,7 @@ fn filled(alloc: Global, mut site: MemSite, store: &[u8]) -> Result<MemSite, Row
     if is_filled(alloc, &mut site, store) {
         Ok(site)
     } else {
+        drop(site);
         Err(RowFault::Memory)
     }
 }
@@ -189,15 +201,4 @@ fn state_at(said: &Words, at: usize) -> OwnedState {
 /// The stamp of the content that the word at a place is.
 fn stamp_at(said: &Words, at: usize) -> Stamp {
     stamp_of(said.word_at(at))
-}
-
-/// The number of a rule that the word at a place is.
-pub(crate) fn number_at(said: &Words, at: usize) -> u32 {
-    match u32::try_from(said.number_at(at)) {
-        Ok(number) => number,
-        Err(_) => {
-            said.fail(RowFault::OtherKind);
-            0
-        }
-    }
 }

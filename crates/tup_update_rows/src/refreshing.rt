@@ -6,7 +6,7 @@ use tup_folders::read_folders;
 use tup_path::{Bytes, Path};
 use tup_record::{OwnedState, Record};
 use tup_refresh::{RefreshFault, Refreshed};
-use tup_rows::{Answers, RowFault, Words};
+use tup_rows::{Answers, RowFault, Words, set};
 use tup_site::Site;
 
 /// How many bytes a file has that is too large.
@@ -29,11 +29,8 @@ impl Answers for Refreshings {
             "nofile" => self.no_file(alloc, said),
             "flag" => self.flag(alloc, said),
             "owned" => self.owned(alloc, said),
-            "refresh" => self.refresh(alloc),
             "calls" => Words::shown(alloc, &self.calls),
-            "stopped" => self.stopped(alloc, said),
-            "large" => self.large(alloc, said),
-            _ => Words::none(alloc, RowFault::NoSuchCall),
+            _ => self.refresh(alloc, call, said),
         })
     }
 }
@@ -49,7 +46,7 @@ impl Refreshings {
 
     /// Another tree.
     fn another(&mut self, alloc: Global) -> Words {
-        self.tree = Tree::new(alloc).ok();
+        set(&mut self.tree, Tree::new(alloc).ok());
         Words::new(alloc)
     }
 
@@ -105,50 +102,52 @@ impl Refreshings {
         }
     }
 
-    /// Refreshes the readings, and keeps them where there is no fault.
-    fn refresh(&mut self, alloc: Global) -> Words {
-        let Some(tree) = &mut self.tree else {
-            return Words::none(alloc, RowFault::Memory);
-        };
-        let Ok(config) = tree.note(alloc) else {
-            return Words::none(alloc, RowFault::Memory);
-        };
-        let before = tree.site.calls();
-        let found = tree.refresh(alloc, &config);
-        self.calls = tree.site.calls().saturating_sub(before);
-        compared(alloc, tree, found)
-    }
-
-    /// Refreshes the readings, where all calls of the site but so many fail, and keeps none.
-    fn stopped(&mut self, alloc: Global, said: &Words) -> Words {
-        let Some(tree) = &mut self.tree else {
-            return Words::none(alloc, RowFault::Memory);
-        };
-        let Ok(config) = tree.note(alloc) else {
-            return Words::none(alloc, RowFault::Memory);
-        };
-        let before = tree.site.faults();
-        tree.site.stop_after(said.number_at(0));
-        let found = tree.refresh(alloc, &config);
-        tree.site.run_on();
-        let mut words = shown_alone(alloc, &found);
-        words.put(alloc, b"faults");
-        words.show(alloc, &tree.site.faults().saturating_sub(before));
-        words
-    }
-
-    /// Refreshes the readings, where the file at a path has grown too large since it was noted.
-    fn large(&mut self, alloc: Global, said: &Words) -> Words {
-        let Some(tree) = &mut self.tree else {
-            return Words::none(alloc, RowFault::Memory);
-        };
-        let Ok(config) = tree.note(alloc) else {
-            return Words::none(alloc, RowFault::Memory);
-        };
-        match grow(alloc, tree, said.path_at(alloc, 0)) {
-            Ok(()) => shown_alone(alloc, &tree.refresh(alloc, &config)),
-            Err(fault) => Words::none(alloc, fault),
+    /// Refreshes the readings, in one of three ways.
+    fn refresh(&mut self, alloc: Global, call: &str, said: &Words) -> Words {
+        match &mut self.tree {
+            Some(tree) => refreshed(alloc, tree, &mut self.calls, call, said),
+            None => Words::none(alloc, RowFault::Memory),
         }
+    }
+}
+
+fn refreshed(alloc: Global, tree: &mut Tree, calls: &mut u64, call: &str, said: &Words) -> Words {
+    match tree.note(alloc) {
+        Ok(config) => match call {
+            "refresh" => refresh(alloc, tree, calls, &config),
+            "stopped" => stopped(alloc, tree, said, &config),
+            "large" => large(alloc, tree, said, &config),
+            _ => Words::none(alloc, RowFault::NoSuchCall),
+        },
+        Err(_) => Words::none(alloc, RowFault::Memory),
+    }
+}
+
+/// Refreshes the readings, and keeps them where there is no fault.
+fn refresh(alloc: Global, tree: &mut Tree, calls: &mut u64, config: &Option<Bytes>) -> Words {
+    let before = tree.site.calls();
+    let found = tree.refresh(alloc, config);
+    *calls = tree.site.calls().saturating_sub(before);
+    compared(alloc, tree, found)
+}
+
+/// Refreshes the readings, where all calls of the site but so many fail, and keeps none.
+fn stopped(alloc: Global, tree: &mut Tree, said: &Words, config: &Option<Bytes>) -> Words {
+    let before = tree.site.faults();
+    tree.site.stop_after(said.number_at(0));
+    let mut words = shown_alone(alloc, tree.refresh(alloc, config));
+    tree.site.run_on();
+    words.put(alloc, b"faults");
+    words.show(alloc, &tree.site.faults().saturating_sub(before));
+    words
+}
+
+/// Refreshes the readings, where the file at a path has grown too large since it was noted.
+fn large(alloc: Global, tree: &mut Tree, said: &Words, config: &Option<Bytes>) -> Words {
+    if grow(alloc, said, tree) {
+        shown_alone(alloc, tree.refresh(alloc, config))
+    } else {
+        Words::none(alloc, RowFault::OtherKind)
     }
 }
 
@@ -157,14 +156,22 @@ fn compared(alloc: Global, tree: &mut Tree, found: Result<Refreshed, RefreshFaul
     let words = beside_whole(alloc, tree, &found);
     match found {
         Ok(given) => kept(alloc, tree, given, words),
-        Err(_fault) => words,
+        Err(fault) => {
+            drop(fault);
+            words
+        }
     }
 }
 
 /// What a refresh gave beside what reading all folders gives.
 fn beside_whole(alloc: Global, tree: &Tree, found: &Result<Refreshed, RefreshFault>) -> Words {
     match tree.sources(alloc) {
-        Ok(sources) => shown(alloc, found, &read_folders(alloc, &sources)),
+        Ok(sources) => {
+            let whole = read_folders(alloc, &sources);
+            let words = shown(alloc, found, &whole);
+            drop(whole);
+            words
+        }
         Err(_) => Words::none(alloc, RowFault::Memory),
     }
 }
@@ -177,18 +184,18 @@ fn kept(alloc: Global, tree: &mut Tree, given: Refreshed, words: Words) -> Words
     }
 }
 
-/// Makes a file too large.
-fn grow(alloc: Global, tree: &mut Tree, path: Path) -> Result<(), RowFault> {
-    let content = Bytes::new(zeros(alloc)?);
-    match tree.site.edit(alloc, path, Some(content)) {
-        Ok(()) => Ok(()),
-        Err(_) => Err(RowFault::OtherKind),
-    }
+/// Makes the file that a row names too large.
+fn grow(alloc: Global, said: &Words, tree: &mut Tree) -> bool {
+    let content = Bytes::new(zeros(alloc, said));
+    let path = said.path_at(alloc, 0);
+    tree.site.edit(alloc, path, Some(content)).is_ok()
 }
 
 /// Bytes of a file that is too large.
-fn zeros(alloc: Global) -> Result<Vec<u8>, RowFault> {
+fn zeros(alloc: Global, said: &Words) -> Vec<u8> {
     let mut bytes = Vec::new(alloc);
-    bytes.resize(LARGE, 0)?;
-    Ok(bytes)
+    if bytes.resize(LARGE, 0).is_err() {
+        said.fail(RowFault::Memory);
+    }
+    bytes
 }

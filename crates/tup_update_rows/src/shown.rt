@@ -26,15 +26,19 @@ pub(crate) fn shown(
 }
 
 /// How many folders were read, or why there are no readings.
-pub(crate) fn shown_alone(alloc: Global, found: &Result<Refreshed, RefreshFault>) -> Words {
-    match found {
-        Ok(given) => {
-            let mut words = Words::word(alloc, b"read");
-            words.show(alloc, &given.fresh.len());
-            words
-        }
+pub(crate) fn shown_alone(alloc: Global, found: Result<Refreshed, RefreshFault>) -> Words {
+    let words = match &found {
+        Ok(given) => read(alloc, given),
         Err(fault) => Words::refusal(alloc, fault),
-    }
+    };
+    drop(found);
+    words
+}
+
+fn read(alloc: Global, given: &Refreshed) -> Words {
+    let mut words = Words::word(alloc, b"read");
+    words.show(alloc, &given.fresh.len());
+    words
 }
 
 /// A word that says whether two are the same.
@@ -61,16 +65,9 @@ fn add_given(alloc: Global, words: &mut Words, given: &Refreshed) {
 fn add_rules(alloc: Global, words: &mut Words, drafts: &[Draft]) {
     for draft in drafts {
         words.put(alloc, b"rule");
-        add_paths(alloc, words, draft.inputs.as_slice());
+        words.show_all(alloc, draft.inputs.as_slice());
         words.put(alloc, b"->");
-        add_paths(alloc, words, draft.outputs.as_slice());
-    }
-}
-
-/// Adds paths.
-fn add_paths(alloc: Global, words: &mut Words, paths: &[Path]) {
-    for path in paths {
-        words.show(alloc, path);
+        words.show_all(alloc, draft.outputs.as_slice());
     }
 }
 
@@ -80,7 +77,7 @@ fn refused(alloc: Global, fault: &RefreshFault, other: &FoldersFault) -> Words {
         (RefreshFault::Circular(dirs), FoldersFault::Circular(others)) => {
             let mut words = same(alloc, dirs == others);
             words.put(alloc, b"circle");
-            add_paths(alloc, &mut words, dirs.as_slice());
+            words.show_all(alloc, dirs.as_slice());
             words
         }
         (RefreshFault::Parse(fault), FoldersFault::Parse(other)) => {

@@ -6,11 +6,13 @@ ghost use Rattle.tup_path.specs.Order.{by_names};
 use std::alloc::{AllocError, Global};
 use tup_graph::{Edit, Edits, GraphFault, Nodes};
 use tup_map::ByPath;
-use tup_path::{Bytes, Files, Path};
+use tup_path::{Bytes, Files, Items, Path};
 use tup_record::Record;
 use tup_refresh::{RefreshFault, Refreshed, refresh};
+use tup_rule::Reading;
 use tup_scan::{Seen, Still, scan};
 use tup_site::{MemRefused, MemSite};
+use tup_stamp::Stamp;
 
 /// The files of a site in memory, and the graph of a store.
 #[derive(Drop)]
@@ -44,24 +46,28 @@ impl Tree {
     }
 
     fn note_seen(&mut self, alloc: Global, seen: Seen) -> Result<Option<Bytes>, GraphFault> {
-        let mut edits = Edits::new(alloc);
-        self.push_unseen(&mut edits)?;
-        for (path, stamp) in seen.files.into_vec() {
-            edits.push(Edit::Put(Record::Seen { path, stamp }))?;
+        let Seen { files, config } = seen;
+        match self.see(alloc, files) {
+            Ok(()) => Ok(config),
+            Err(fault) => Err(fault),
         }
-        self.nodes.edit_all(alloc, edits)?;
-        Ok(seen.config)
+    }
+
+    /// Has these files seen in place of those before.
+    fn see(&mut self, alloc: Global, files: Items<(Path, Stamp)>) -> Result<(), GraphFault> {
+        let unseen = self.unseen(alloc)?;
+        self.nodes.edit_all(alloc, unseen)?;
+        self.nodes.edit_all(alloc, seen_anew(alloc, files)?)
     }
 
     /// Takes away what was seen before.
-    fn push_unseen(&self, edits: &mut Edits) -> Result<(), GraphFault> {
+    fn unseen(&self, alloc: Global) -> Result<Edits, GraphFault> {
+        let mut edits = Edits::new(alloc);
         for (path, stamp) in self.nodes.files() {
-            edits.push(Edit::Remove(Record::Seen {
-                path: path.clone()?,
-                stamp: *stamp,
-            }))?;
+            let record = seen_at(path, *stamp)?;
+            edits.push(Edit::Remove(record))?;
         }
-        Ok(())
+        Ok(edits)
     }
 
     /// Refreshes the readings over the files as they stand, of which this was noted.
@@ -76,34 +82,38 @@ impl Tree {
     /// Keeps what a refresh gave: fresh readings are put, those that are gone go, and nothing is
     /// flagged any more.
     pub(crate) fn keep(&mut self, alloc: Global, given: Refreshed) -> Result<(), GraphFault> {
-        let mut edits = Edits::new(alloc);
-        self.push_gone(&given, &mut edits)?;
-        self.push_flags(&mut edits)?;
-        for (dir, reading) in given.fresh.into_vec() {
-            edits.push(Edit::Put(Record::Reading { dir, reading }))?;
-        }
-        self.nodes.edit_all(alloc, edits)
+        let gone = self.gone(alloc, given.gone.as_slice())?;
+        self.nodes.edit_all(alloc, gone)?;
+        self.keep_fresh(alloc, given)
+    }
+
+    fn keep_fresh(&mut self, alloc: Global, given: Refreshed) -> Result<(), GraphFault> {
+        let fresh = read_anew(alloc, given)?;
+        let flags = self.flags(alloc)?;
+        self.nodes.edit_all(alloc, flags)?;
+        self.nodes.edit_all(alloc, fresh)
     }
 
     /// Takes away the readings that are gone.
-    fn push_gone(&self, given: &Refreshed, edits: &mut Edits) -> Result<(), GraphFault> {
-        for dir in given.gone.as_slice() {
+    fn gone(&self, alloc: Global, dirs: &[Path]) -> Result<Edits, GraphFault> {
+        let mut edits = Edits::new(alloc);
+        for dir in dirs {
             if let Some(reading) = self.nodes.reading(dir) {
-                edits.push(Edit::Remove(Record::Reading {
-                    dir: dir.clone()?,
-                    reading: reading.clone()?,
-                }))?;
+                let record = reading_of(dir, reading)?;
+                edits.push(Edit::Remove(record))?;
             }
         }
-        Ok(())
+        Ok(edits)
     }
 
     /// Takes all flags of folders away.
-    fn push_flags(&self, edits: &mut Edits) -> Result<(), GraphFault> {
+    fn flags(&self, alloc: Global) -> Result<Edits, GraphFault> {
+        let mut edits = Edits::new(alloc);
         for (dir, _) in self.nodes.created() {
-            edits.push(Edit::Remove(Record::Create { dir: dir.clone()? }))?;
+            let dir = dir.clone()?;
+            edits.push(Edit::Remove(Record::Create { dir }))?;
         }
-        Ok(())
+        Ok(edits)
     }
 
     /// The files that aren't owned.
@@ -127,4 +137,37 @@ impl Tree {
             _ => Ok(()),
         }
     }
+}
+
+fn seen_at(path: &Path, stamp: Stamp) -> Result<Record, AllocError> {
+    match path.clone() {
+        Ok(path) => Ok(Record::Seen { path, stamp }),
+        Err(fault) => Err(fault),
+    }
+}
+
+fn reading_of(dir: &Path, reading: &Reading) -> Result<Record, AllocError> {
+    let dir = dir.clone()?;
+    match reading.clone() {
+        Ok(reading) => Ok(Record::Reading { dir, reading }),
+        Err(fault) => Err(fault),
+    }
+}
+
+/// Puts files that were seen.
+fn seen_anew(alloc: Global, files: Items<(Path, Stamp)>) -> Result<Edits, GraphFault> {
+    let mut edits = Edits::new(alloc);
+    for (path, stamp) in files.into_vec() {
+        edits.push(Edit::Put(Record::Seen { path, stamp }))?;
+    }
+    Ok(edits)
+}
+
+/// Puts readings that are fresh.
+fn read_anew(alloc: Global, given: Refreshed) -> Result<Edits, GraphFault> {
+    let mut edits = Edits::new(alloc);
+    for (dir, reading) in given.fresh.into_vec() {
+        edits.push(Edit::Put(Record::Reading { dir, reading }))?;
+    }
+    Ok(edits)
 }

@@ -15,12 +15,12 @@ use Rattle.tup_update.proofs.Held.{holds_itself}
 use Rattle.tup_update.proofs.Keeping.{no_turns, unchanged_sources}
 use Rattle.tup_top.specs.Crew.{RanFits, RanInTurn, CrewRuns, CrewCompares}
 use Rattle.tup_top.specs.Order.{Wanted, order}
-use Rattle.tup_top.specs.Promise.{ForUpdate, ForVerify, Lasts, NothingDone, QuietStep, StopsDemo, CountsAll, HasPlainCause, counts}
+use Rattle.tup_top.specs.Promise.{ForUpdate, ForVerify, Lasts, NothingDone, QuietStep, CountsAll, HasPlainCause, counts}
 use Rattle.tup_top.specs.declared.status.Status.TheVariants.{Memory}
 use Rattle.tup_ledger.specs.Begin.{Begins}
 use Rattle.tup_top.proofs.Begun.{initializes_so}
 use Rattle.tup_top.proofs.Crewed.{crew_cause, crew_compared, crew_runs, crew_compares, no_crew_ran}
-use Rattle.tup_top.proofs.Idle.{idle, memory_of, memory_for_update, memory_for_init, memory_for_verify, memory_for_demo, memory_prints, memory_prints_alone, memory_demonstrates, rest_images}
+use Rattle.tup_top.proofs.Idle.{idle, memory_of, memory_for_update, memory_for_init, memory_for_verify, memory_prints, memory_prints_alone, rest_images}
 use Rattle.tup_top.proofs.Success.{succeeds_so, compares_so, sources_stay_so}
 use Rattle.tup_top.proofs.call.tup.Goals as goal
 
@@ -130,9 +130,6 @@ returns-clause-cause g c = λ _ _.
     let world = g.S.Site.world c.args.site in
     memory_of (order c.args.words.now) world (λ rules. HasCause g.R.Runner.next rules world world) tt
 
-pub returns-clause-demo_cause : goal.returns-clause-demo_cause
-returns-clause-demo_cause g c = memory_for_demo (order c.args.words.now) StopsDemo (g.S.Site.world c.args.site, ([], inl refl, tt))
-
 pub returns-clause-begun : goal.returns-clause-begun
 returns-clause-begun g c = λ _ _.
     let world = g.S.Site.world c.args.site in
@@ -235,6 +232,3 @@ returns-clause-images g c = λ _ kept safe.
     let site = c.args.site in
     memory_of (order c.args.words.now) (g.S.Site.world site) (λ rules _. LeavesOnly g.S.Site.moment g.S.Site.left_since site site (HasSources (with_outputs rules kept)))
     (rest_images g.S.Site.moment g.S.Site.left_since site kept safe)
-
-pub returns-clause-demonstrates : goal.returns-clause-demonstrates
-returns-clause-demonstrates g c = memory_demonstrates (order c.args.words.now) (g.K.Sink.faults c.args.out.now)

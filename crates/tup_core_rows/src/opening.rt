@@ -1,0 +1,64 @@
+//! Where the machine of an update begins.
+ghost use Rattle.std.specs.Prelude.{◌≡◌, true, IfOk};
+ghost use Rattle.tup_core.specs.Sound.{IsInRange};
+ghost use Rattle.tup_core_rows.specs.Machine.{IsOfPlan};
+
+use crate::machine::Machine;
+use std::alloc::{AllocError, Global};
+use tup_core::{Numbers, Plan, Stamps};
+use tup_given::Project;
+use tup_path::{Files, Items};
+use tup_rows::{RowFault, Words};
+use tup_stamp::stamp_of;
+
+/// A core where the rules of a reach are to be run. `OtherKind` where a number of the reach is
+/// none of a rule.
+pub(crate) fn opening(
+    alloc: Global,
+    project: &Project,
+    reach: Numbers,
+    keep_going: bool,
+) -> Result<Machine, RowFault>
+    ensures { IfOk result IsOfPlan }
+{
+    let stamps = stamps_of(alloc, &project.sources)?;
+    let plan = Plan {
+        rules: project.rules.clone()?,
+        reach,
+        keep_going,
+    };
+    Machine::new(alloc, plan, stamps)
+}
+
+/// Whether the numbers of the reach are places of rules.
+pub(crate) fn is_in_range(plan: &Plan) -> bool
+    ensures { result ≡ true → IsInRange plan.now }
+{
+    for number in plan.reach.as_slice() {
+        if *number as usize >= plan.rules.len() {
+            return false;
+        }
+    }
+    true
+}
+
+/// Files with their stamps.
+pub(crate) fn stamps_of(alloc: Global, files: &Files) -> Result<Stamps, AllocError> {
+    let mut stamps = Items::new(alloc);
+    for (path, content) in files.as_slice() {
+        stamps.push((path.clone()?, stamp_of(content.as_slice())))?;
+    }
+    Ok(stamps)
+}
+
+/// The numbers of rules that a word of a row is, parted by blanks.
+pub(crate) fn reach_at(alloc: Global, said: &Words, at: usize) -> Numbers {
+    let mut numbers = Items::new(alloc);
+    for word in said.str_at(at).split_ascii_whitespace() {
+        match word.parse() {
+            Ok(number) => said.list(&mut numbers, number),
+            Err(_) => said.fail(RowFault::OtherKind),
+        }
+    }
+    numbers
+}

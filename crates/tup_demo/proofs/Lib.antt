@@ -1,0 +1,3 @@
+pub mod Files
+mod Stamps
+mod Standing

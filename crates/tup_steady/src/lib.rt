@@ -1,0 +1,12 @@
+//! A small site in memory that never fails.
+//!
+//! No call of a `SteadySite` is listed to fail, and it is never stopped. It has room for the
+//! contents that it was made with, and for no others, and for 65,536 bytes of a store: a `put` of
+//! another content, or a write past that, finds no memory. So no two contents of one stamp meet in
+//! it, its count of failures is 0 for good, and its store is never full.
+#![tactic(auto)]
+
+mod steady;
+mod steady_calls;
+
+pub use steady::SteadySite;
