@@ -14,6 +14,7 @@ use Rattle.tup_history.specs.Chain.{Leads}
 use Rattle.tup_history.specs.History.{Standing, StandsAs, IsHistory, RefusesTurn, AreLived}
 use Rattle.tup_history.specs.declared.turn.End.{End}
 use Rattle.tup_history.specs.declared.turn.Turn.{Turn}
+use Rattle.tup_history.proofs.Told.{told_at_last}
 
 -- one step more
 pub leads_on : {S T E : Type 0} (step : T → E → S → S → Type 0) (turns : List T) (ends : List E) (from mid to : S) (turn : T) (end : E) → Leads step turns ends from mid → step turn end mid to → Leads step (turns ++ turn ∷ []) (ends ++ end ∷ []) from to
@@ -60,6 +61,7 @@ module _ (tells : Bool) (next : Next) where
       subst (λ (e : List End). AreLived tells next (turn ∷ turns) e (Some (0, Memory)) from from) (sym none) (record {
         last = from;
         history = refl;
+        told = tt;
         stops = (refl, record { turn = turn; stands = refl; reason = inr (refl, refl) });
         stands = stands_itself from;
       })
@@ -72,6 +74,7 @@ module _ (tells : Bool) (next : Next) where
       subst (λ (e : List End). AreLived tells next turns e None from to) (sym is) (record {
         last = to;
         history = subst (λ (l : List Turn). IsHistory tells next l ends from to) (sym these) history;
+        told = told_at_last tells next (take (length ends) turns) ends from to to (subst (λ (l : List Turn). IsHistory tells next l ends from to) (sym these) history) (stands_itself to);
         stops = count ∙ all;
         stands = stands_itself to;
       })
@@ -85,6 +88,7 @@ module _ (tells : Bool) (next : Next) where
       subst (λ (e : List End). AreLived tells next turns e (Some (at, why)) from to) (sym is) (record {
         last = mid;
         history = subst (λ (l : List Turn). IsHistory tells next l ends from mid) (sym these) history;
+        told = told_at_last tells next (take (length ends) turns) ends from mid to (subst (λ (l : List Turn). IsHistory tells next l ends from mid) (sym these) history) same;
         stops = (place, record { turn = turn; stands = there; reason = inl refuses });
         stands = same;
       })

@@ -1,6 +1,6 @@
 -- A history of a project: edits, crashes and runs of the program, one after another. Own.
-use Rattle.std.specs.Prelude.{◌≡◌, ◌⊎◌, Bool, ℕ, List, [], ◌∷◌, length, take, map, Option, None, Some, slice_get}
-use Rattle.tup_site.specs.Memory.{world_in, moment_of, faults_of, left_of}
+use Rattle.std.specs.Prelude.{◌≡◌, ◌⊎◌, ⊤, Bool, ℕ, List, [], ◌∷◌, length, take, map, Option, None, Some, slice_get}
+use Rattle.tup_site.specs.Memory.{world_in, moment_of, left_since, faults_of, left_of}
 use Rattle.tup_site.specs.declared.choice.Deed.{Deed as ADeed}
 use Rattle.tup_site.specs.declared.memory.MemSite.{MemSite}
 use Rattle.tup_site.specs.declared.refused.MemRefused.{MemRefused}
@@ -66,6 +66,13 @@ Takes tells next (Run words stop_after) end from to = TakesRun tells next words 
 abbrev pub IsHistory : Bool → Next → List Turn → List End → Standing → Standing → Type 0
 IsHistory tells next turns ends from to = Leads (Takes tells next) turns ends from to
 
+-- A site still tells what was there behind each of these turns: a crash since the moment of the turn's end may have left it.
+abbrev pub StillTells : (tells : Bool) (next : Next) (turns : List Turn) (ends : List End) (from to : Standing) → IsHistory tells next turns ends from to → MemSite → Type 0
+StillTells tells next [] [] from to is site = ⊤
+StillTells tells next (turn ∷ turns) (end ∷ ends) from to (mid, takes, history) site = left_since site end.moment (world_in mid.site) × StillTells tells next turns ends mid to history site
+StillTells tells next [] (end ∷ ends) from to none site = ⊥
+StillTells tells next (turn ∷ turns) [] from to none site = ⊥
+
 -- why a turn is refused: a deed as the site says, and a run never is
 abbrev pub RefusesTurn : Turn → MemSite → MemRefused → Type 0
 RefusesTurn (Deed deed) site why = Refuses deed site why
@@ -88,11 +95,12 @@ pub record StandsAs (old new : Standing) : Type 0 where
   pub runners : new.runners ≡ old.runners
   pub sink : new.sink ≡ old.sink
 
--- What became of these turns: those that have an end are a history. A turn that was refused changed nothing, and those behind
--- it weren't carried out.
+-- What became of these turns: those that have an end are a history, of which the site still tells. A turn that was refused
+-- changed nothing, and those behind it weren't carried out.
 pub record AreLived (tells : Bool) (next : Next) (turns : List Turn) (ends : List End) (refused : Option (ℕ × MemRefused)) (from to : Standing) : Type 0 where
   pub last : Standing
   pub history : IsHistory tells next (take (length ends) turns) ends from last
+  pub told : StillTells tells next (take (length ends) turns) ends from last history to.site
   pub stops : StopsThere turns ends last.site refused
   pub stands : StandsAs last to
 

@@ -2,3 +2,5 @@ pub mod Deed
 pub mod Chain
 pub mod Run
 pub mod History
+pub mod Kept
+pub mod Stays

@@ -22,7 +22,7 @@ use Rattle.tup_update.specs.Settled.{IsSettled}
 use Rattle.tup_update.specs.Sources.{sources, build, outputs}
 use Rattle.tup_top.specs.Crew.{RanFits, RanInTurn}
 use Rattle.tup_top.specs.Order.{Wanted, IsUpdate}
-use Rattle.tup_top.specs.Promise.{ForUpdate, ForInit, ForVerify, ForDemo, StopsDemo, Lasts, NothingDone, QuietStep, CountsAll, Counts, HasPlainCause, Succeeds, Initializes, Compares}
+use Rattle.tup_top.specs.Promise.{ForUpdate, ForInit, ForVerify, Lasts, NothingDone, QuietStep, CountsAll, Counts, HasPlainCause, Succeeds, Initializes, Compares}
 use Rattle.tup_top.specs.declared.status.Status.{Status}
 use Rattle.tup_top.specs.declared.status.Status.TheVariants.{Done, SinkFault}
 
@@ -56,7 +56,6 @@ pub record Keeps (tells : Bool) (next : Next) (wanted : Wanted) (old new : World
   pub begun : IsTrue tells → ForUpdate wanted status (OfRules old (λ rules. RanFits next rules old ran))
   pub in_turn : ForUpdate wanted status (OfRules old (λ rules. RanInTurn rules ran))
   pub cause : IsTrue tells → ForUpdate wanted status (OfRules old (λ rules. HasCause next rules old new))
-  pub demo_cause : ForDemo wanted status StopsDemo
   pub plain_cause : HasPlainCause wanted before now status
   pub success : IsTrue tells → Succeeds wanted next old new before now status
   pub begins : ForInit wanted status (Begins old new)

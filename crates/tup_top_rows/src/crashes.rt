@@ -113,7 +113,7 @@ fn torn_store(alloc: Global, said: &Words, stop: u64, store: &[u8]) -> Bytes {
     let mut torn = said.copy_of(alloc, store);
     for at in 0..store.len() {
         if may_tear(alloc, said, stop, store, at) {
-            tear(&mut torn, at);
+            tear_byte(&mut torn, at);
         }
     }
     Bytes::new(torn)
@@ -122,7 +122,7 @@ fn torn_store(alloc: Global, said: &Words, stop: u64, store: &[u8]) -> Bytes {
 /// Whether a crash may tear this byte of the store.
 fn may_tear(alloc: Global, said: &Words, stop: u64, store: &[u8], at: usize) -> bool {
     let mut bytes = said.copy_of(alloc, store);
-    tear(&mut bytes, at);
+    tear_byte(&mut bytes, at);
     may_leave(
         alloc,
         said,
@@ -132,7 +132,7 @@ fn may_tear(alloc: Global, said: &Words, stop: u64, store: &[u8], at: usize) -> 
 }
 
 /// Changes a byte, if there is one at this place.
-fn tear(bytes: &mut [u8], at: usize) {
+fn tear_byte(bytes: &mut [u8], at: usize) {
     if let Some(byte) = bytes.get_mut(at) {
         *byte ^= 0xff;
     }

@@ -16,7 +16,6 @@ returns-clause-keeps g c = record {
   begun = λ means. c.tup.ensures.begun refl means;
   in_turn = c.tup.ensures.in_turn refl;
   cause = λ means. c.tup.ensures.cause refl means;
-  demo_cause = c.tup.ensures.demo_cause;
   plain_cause = c.tup.ensures.plain_cause;
   success = λ means. c.tup.ensures.success refl means;
   begins = c.tup.ensures.begins refl;
