@@ -1,8 +1,8 @@
 use Rattle.std.proofs.lemmas.Bool.{false≢true}
 use Rattle.tup_board_rows.proofs.desk.Desk.finish.Goals as goal
 
-pub finish-requires-clause-report : goal.finish-requires-clause-report
-finish-requires-clause-report c κs = record {
+pub finish-ended-requires-clause-report : goal.finish-ended-requires-clause-report
+finish-ended-requires-clause-report c κs = record {
   it = c.requires.runs;
   dir_is = c.requires.dir c.requires.runs.it;
   text_is = c.requires.text c.requires.runs.it;
