@@ -9,19 +9,24 @@ use Rattle.tup_rule.specs.declared.question.Told.{Told}
 use Rattle.tup_rule.specs.declared.question.Told.TheVariants as told
 use Rattle.tup_ask.specs.Reads.{Reads, Asks, gives, and_then}
 
--- an answer to each question; one of another kind, which nobody gives, says that there is nothing
+-- What an answer tells to each question; an answer of another kind, which nobody gives, says that there is nothing.
+
+-- the content of a file
 abbrev pub content_in : Told → Option Content
 content_in (told.Content content) = content
 content_in _ = None
 
+-- the value of a setting that is set; None: it is not set, or the answer is of another kind
 abbrev pub setting_in : Told → Option (List ℕ)
 setting_in (told.Config value) = value
 setting_in _ = None
 
+-- the names in a folder
 abbrev pub names_in : Told → List (List ℕ)
 names_in (told.Names names) = names
 names_in _ = []
 
+-- what stands at a path
 abbrev pub kind_in : Told → Kind
 kind_in (told.Kind kind) = kind
 kind_in _ = Nothing

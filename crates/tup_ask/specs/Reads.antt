@@ -4,6 +4,7 @@ use Rattle.std.specs.Prelude.{◌≡◌, List, [], ◌∷◌, Result, Ok, Err, C
 use Rattle.tup_rule.specs.declared.question.Question.{Question}
 use Rattle.tup_rule.specs.declared.question.Told.{Told}
 
+-- a reading that ends with an `A` or a fault `F`
 pub data Reads (F A : Type 0) : Type 0 where
   -- the end, with a value or a fault
   Ends : Result A F → Reads F A

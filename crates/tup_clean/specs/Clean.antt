@@ -17,6 +17,7 @@ pub record Build : Type 0 where
   pub tree : Tree
   pub verdicts : List (Option Verdict)
 
+-- whether a verdict was given, and is Good
 abbrev pub is_good : Option Verdict → Bool
 is_good (Some Good) = true
 is_good other = false

@@ -29,6 +29,7 @@ pub record MayBeTold (course : CourseState) (seat number : ℕ) (text : List ℕ
   pub goes : Goes course seat number
   pub yes : access course.plan.rules goes.it.it.rule (length goes.it.it.running.asks) text ≡ Yes path
 
+-- it may not ask for a text, and this becomes of it
 pub record MayBeDenied (course : CourseState) (seat : ℕ) (text : List ℕ) (verdict : Verdict) : Type 0 where
   pub it : GoesOn course seat
   pub no : access course.plan.rules it.it.rule (length it.it.running.asks) text ≡ No verdict

@@ -15,5 +15,6 @@ demo_source = codes "hi" ++ 10 ∷ []
 abbrev pub demo_files : List (Names × Content)
 demo_files = (codes "Tupfile" ∷ [], demo_tupfile) ∷ (codes "a" ∷ [], demo_source) ∷ []
 
+-- its tree: these files
 abbrev pub demo_tree : Tree
 demo_tree = tree_of_files demo_files

@@ -19,6 +19,7 @@ demo_rule = record {
   outputs = (codes "b" ∷ []) ∷ [];
 }
 
+-- its rules: this one
 abbrev pub demo_rules : List Rule
 demo_rules = demo_rule ∷ []
 

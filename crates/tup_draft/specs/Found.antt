@@ -16,10 +16,11 @@ input path glob = record { path = path; glob = glob }
 abbrev pub inputs_alone : List Input → Found
 inputs_alone inputs = record { inputs = inputs; groups = [] }
 
--- a file, or a group, alone
+-- a file, alone
 abbrev pub one_input : Names → Found
 one_input path = inputs_alone (input path None ∷ [])
 
+-- a group, alone
 abbrev pub one_group : GroupRef → Found
 one_group group = record { inputs = []; groups = group ∷ [] }
 
@@ -43,10 +44,11 @@ with_input inputs input = if has_path inputs input.path then inputs else inputs 
 abbrev pub HasFiles : List Names → List Input → Type 0
 HasFiles keys inputs = (path : Names) → among path keys ≡ has_path inputs path
 
--- what was found with one more input, unless its path is there; and with more groups
+-- what was found with one more input, unless its path is there
 abbrev pub with_one : Found → Input → Found
 with_one found input = record found { inputs = with_input found.inputs input }
 
+-- what was found with more groups
 abbrev pub with_groups : Found → List GroupRef → Found
 with_groups found groups = record found { groups = found.groups ++ groups }
 

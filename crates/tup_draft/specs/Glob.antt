@@ -25,6 +25,7 @@ use Rattle.tup_ask.specs.Text.{taken}
 use Rattle.tup_draft.specs.Found.{input, inputs_alone}
 use Rattle.tup_draft.specs.Folder.{file_in, led_to_folder, name_in}
 
+-- the bytes that make a name a glob: `*`, `?` and `[`
 abbrev pub is_operator : ℕ → Bool
 is_operator byte = byte == 42 || byte == 63 || byte == 91
 

@@ -105,6 +105,7 @@ draft_in file line group parts outputs spoken =
       gives = group;
     }
 
+-- a draft as its place in a file says it: the file and the line come from there
 abbrev pub draft_of : Spot → Option GroupRef → FlagParts → List Names → Spoken → Draft
 draft_of at group parts outputs spoken = draft_in at.file at.line group parts outputs spoken
 

@@ -22,6 +22,7 @@ abbrev pub own : GraphState → ℕ → OwnedState → Names → Edit
 own g number state path = Put (records.Owned path (maker_of g number path) state)
 
 -- ---- a run begins: the outputs of its rule become unsure
+-- each output of the rule, unsure
 abbrev pub begin_edits : GraphState → ℕ → List Edit
 begin_edits g number = map (own g number Unsure) (outputs_of g number)
 
@@ -61,6 +62,7 @@ abbrev pub forget_edits : GraphState → List Names → List Edit
 forget_edits g paths = filter_map (disowned g) paths ++ filter_map (unseen g) paths
 
 -- ---- rules are to be run
+-- each of them on the modify list
 abbrev pub flag_edits : List ℕ → List Edit
 flag_edits numbers = map (λ number. Put (records.Modify number)) numbers
 

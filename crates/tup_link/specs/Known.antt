@@ -10,15 +10,18 @@ use Rattle.tup_rule.specs.declared.rule.Rule.{Rule}
 use Rattle.tup_rule.specs.Rule.{among}
 use Rattle.tup_link.specs.Faults.{same_command}
 
+-- a set that has the paths of a list, and no others
 pub record Knows (known : BTreeSet Names) (paths : List Names) : Type 0 where
   pub each : (path : Names) → contains by_names known path ≡ among path paths
 
--- a command in its folder, and which of two comes first
+-- a command in its folder
 abbrev pub Command : Type 0
 Command = Names × List ℕ
 
+-- commands in order: by their folders, then by their bytes
 abbrev pub by_command : Command → Command → Ordering
 by_command one other = ordering_then (by_names one.0 other.0) (by_bytes one.1 other.1)
 
+-- a set that has the commands of the rules of a list, and no others
 pub record KnowsCommands (known : BTreeSet Command) (rules : List Rule) : Type 0 where
   pub each : (rule : Rule) → contains by_command known (rule.dir, rule.text) ≡ list_any (same_command rule) rules

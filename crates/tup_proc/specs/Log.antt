@@ -39,6 +39,7 @@ IsLine (Absent text) = IsLineText text
 IsLine (Wrote file text) = (file < 4294967296) × IsLineText text
 IsLine (End status) = status < 256
 
+-- the line that ends a log
 abbrev pub is_end : LogLine → Bool
 is_end (End status) = true
 is_end line = false

@@ -7,6 +7,7 @@ use Rattle.tup_vars.specs.Config.{around, behind}
 use Rattle.tup_reader.specs.declared.kind.LineKind.{LineKind}
 use Rattle.tup_reader.specs.declared.kind.LineKind.TheVariants as slices
 
+-- what a line is, with what it holds
 pub data Kind : Type 0 where
   -- `ifeq`, or `ifneq`, with the text behind it
   Compares : Bool → List ℕ → Kind

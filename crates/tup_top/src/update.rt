@@ -126,6 +126,7 @@ fn demo_site(alloc: Global) -> Result<SteadySite, GraphFault>
     match demo_project(alloc) {
         Ok(site) => begun(alloc, site),
         Err(MemRefused::Memory) => Err(GraphFault::Memory),
+        // its project fits, so want of memory alone refuses it
         Err(_) => Err(GraphFault::Site),
     }
 }

@@ -4,6 +4,7 @@ use Rattle.std.specs.Prelude.{◌≡◌, ◌≢◌, ℕ, Bool, false, ◌&&◌, 
 use Rattle.std.specs.List.{slice_split}
 use Rattle.tup_lex.specs.Word.{begins_with}
 
+-- one segment of a text
 pub data Segment : Type 0 where
   -- bytes that stand for themselves
   Plain : List ℕ → Segment
