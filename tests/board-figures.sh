@@ -29,7 +29,8 @@ for count; do
                 }
                 print "run \"" substr(numbers, 2) "\" stop - " orders
             }' > board.rows
-            /usr/bin/time -f "$kind of $count, orders '$orders': %U s, %M KB" "$program" | grep -v ' 0 differ$' || true
+            /usr/bin/time -f "$kind of $count, orders '$orders': %U s, %M KB" "$program" > said
+            grep -v ' 0 differ$' said || true
         done
     done
 done
