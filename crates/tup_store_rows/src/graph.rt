@@ -11,7 +11,7 @@ use tup_rows::{Answers, RowFault, Words};
 use tup_table::{Change, Entries, TableFault, appended, have_short_keys, read};
 
 /// How a store begins, and the open gate of its first commit.
-const BEGIN: [u8; 9] = *b"tup-db\n\x01\x01";
+pub const BEGIN: [u8; 9] = *b"tup-db\n\x01\x01";
 
 /// Reads graphs, and tries transactions on them.
 #[derive(Drop)]

@@ -176,7 +176,8 @@ pub fn site_with(alloc: Global, store: &[u8], fails: Vec<u64>) -> Result<MemSite
     }
 }
 
-fn filled(alloc: Global, mut site: MemSite, store: &[u8]) -> Result<MemSite, RowFault> {
+/// A site whose store has these bytes, durably.
+pub fn filled(alloc: Global, mut site: MemSite, store: &[u8]) -> Result<MemSite, RowFault> {
     if is_filled(alloc, &mut site, store) {
         Ok(site)
     } else {

@@ -4,7 +4,7 @@ use Rattle.std.proofs.lemmas.Result.{MatchResult-weaker}
 use Rattle.tup_path.specs.Name.{Names, Content}
 use Rattle.tup_path.specs.Order.{by_names}
 use Rattle.tup_folders.proofs.Working.{from_test}
-use Rattle.tup_update_rows.proofs.tree.Tree.sources.Goals as goal
+use Rattle.tup_store_rows.proofs.tree.Tree.sources.Goals as goal
 
 pub returns : goal.returns
 returns c =

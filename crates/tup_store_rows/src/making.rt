@@ -4,7 +4,7 @@ ghost use Rattle.std.specs.FinMap as finite;
 ghost use Rattle.tup_path.specs.Name.{Names, Content};
 ghost use Rattle.tup_ground.specs.Ground.{IsGround, paths_of};
 ghost use Rattle.tup_ground.specs.declared.ground.GoodEnd.{GoodEnd as GoodEndValue};
-ghost use Rattle.tup_update_rows.specs.Making.{IsFlat, AreFilesOf};
+ghost use Rattle.tup_store_rows.specs.Making.{IsFlat, AreFilesOf};
 
 use crate::left::add_left;
 use crate::project::Project;

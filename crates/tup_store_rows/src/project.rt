@@ -1,15 +1,14 @@
 //! A project for rows: the records of its store, and its files.
+use crate::graph::BEGIN;
+use crate::sites::filled;
 use std::alloc::Global;
 use tup_path::{Bytes, Items, Path, Paths};
 use tup_record::{OwnedState, Record, RunRecord, encode};
 use tup_rows::{RowFault, Words};
 use tup_rule::Rule;
-use tup_site::{MemSite, Site};
+use tup_site::MemSite;
 use tup_stamp::{Stamp, stamp_of};
 use tup_table::{Change, appended, have_short_keys};
-
-/// How a store begins, and the open gate of its first commit.
-const BEGIN: [u8; 9] = *b"tup-db\n\x01\x01";
 
 /// The records that a store has, and files beside it.
 #[derive(Drop)]
@@ -136,20 +135,6 @@ impl Project {
         }
         Ok(files)
     }
-}
-
-/// A site whose store has these bytes, durably.
-fn filled(alloc: Global, mut site: MemSite, store: &[u8]) -> Result<MemSite, RowFault> {
-    if is_filled(alloc, &mut site, store) {
-        Ok(site)
-    } else {
-        drop(site);
-        Err(RowFault::Memory)
-    }
-}
-
-fn is_filled(alloc: Global, site: &mut MemSite, store: &[u8]) -> bool {
-    site.db_write(alloc, 0, store).is_ok() && site.db_sync(alloc).is_ok()
 }
 
 fn owned(path: Path, maker: Option<u32>, state: OwnedState) -> Record {

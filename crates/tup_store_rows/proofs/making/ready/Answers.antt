@@ -2,8 +2,8 @@ use Rattle.std.proofs.Common.{All, sym, subst}
 use Rattle.std.specs.FinMap as finite
 use Rattle.std.proofs.lemmas.Option.{IfSome_then}
 use Rattle.tup_path.specs.Tree.{Tree}
-use Rattle.tup_update_rows.specs.Making.{IsFlat}
-use Rattle.tup_update_rows.proofs.making.ready.Goals as goal
+use Rattle.tup_store_rows.specs.Making.{IsFlat}
+use Rattle.tup_store_rows.proofs.making.ready.Goals as goal
 
 pub returns-then-lists_flat-clause-flat : goal.returns-then-lists_flat-clause-flat
 returns-then-lists_flat-clause-flat g c =

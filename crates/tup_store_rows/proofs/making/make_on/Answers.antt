@@ -1,5 +1,5 @@
-use Rattle.tup_update_rows.proofs.Flat.{can_make}
-use Rattle.tup_update_rows.proofs.making.make_on.Goals as goal
+use Rattle.tup_store_rows.proofs.Flat.{can_make}
+use Rattle.tup_store_rows.proofs.making.make_on.Goals as goal
 
 pub make-requires-after_bounds : goal.make-requires-after_bounds
 make-requires-after_bounds g c κs within =
