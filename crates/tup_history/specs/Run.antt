@@ -55,9 +55,9 @@ pub record Keeps (tells : Bool) (next : Next) (wanted : Wanted) (old new : World
   pub none_begun : (IsUpdate wanted → ⊥) → ran ≡ []
   pub begun : IsTrue tells → ForUpdate wanted status (OfRules old (λ rules. RanFits next rules old ran))
   pub in_turn : ForUpdate wanted status (OfRules old (λ rules. RanInTurn rules ran))
-  pub cause : IsTrue tells → ForUpdate wanted status (OfRules old (λ rules. HasCause next rules old new))
+  pub cause : IsTrue tells → ForUpdate wanted status (OfRules old (λ rules. HasCause next rules old))
   pub plain_cause : HasPlainCause wanted before now status
-  pub success : IsTrue tells → Succeeds wanted next old new before now status
+  pub success : IsTrue tells → Succeeds wanted next old before now status
   pub begins : ForInit wanted status (Begins old new)
   pub initializes : Initializes wanted old before now status
   pub compared : IsTrue tells → ForVerify wanted status (HasCompared next old)

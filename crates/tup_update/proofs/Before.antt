@@ -5,6 +5,9 @@ use Rattle.tup_site.specs.World.{World}
 use Rattle.tup_site.specs.declared.fault.SiteFailed.TheVariants.{Fault, TooLarge, Memory}
 use Rattle.tup_rule.specs.declared.rule.Rule.{Rule}
 use Rattle.tup_runner.specs.Next.{Next}
+use Rattle.tup_table.specs.Reading.{ReadsAs}
+use Rattle.tup_table.specs.declared.opened.Opened.{Opened}
+use Rattle.tup_kept.specs.Opening.{opened_in}
 use Rattle.tup_ledger.specs.Ascending.{ascending}
 use Rattle.std.specs.FinMap as finite
 use Rattle.std.specs.Result.{result_err}
@@ -28,6 +31,10 @@ makes_on {T} (Ok value) makes = tt
 makes_on {T} (Err stop) makes = makes
 
 module _ (rules : List Rule) (old mid new : World) (on : HoldsOn old mid) where
+  -- the bytes before read as whatever the bytes behind it read as
+  abbrev pub ReadsBack : Type 0
+  ReadsBack = (opened : Opened) → ReadsAs mid.store (Ok opened) → ReadsAs old.store (Ok opened)
+
   pub asked_before : IsAsked mid rules → IsAsked old rules
   asked_before asked = (asked.0, shown_before old mid on asked.0 asked.1, asked.2)
 
@@ -91,17 +98,21 @@ module _ (rules : List Rule) (old mid new : World) (on : HoldsOn old mid) where
     bad_before (Some Full) makes made = tt
     bad_before (Some (Outside failed)) makes made = tt
 
-    cause_before : (stopped : Option Stop) → MakesOn stopped → HasCause next rules mid new stopped → HasCause next rules old new stopped
-    cause_before None makes why = tt
-    cause_before (Some NoStore) makes why = absurd makes
-    cause_before (Some (BadStore offset)) makes why = absurd makes
-    cause_before (Some (Sources fault)) makes why = absurd makes
-    cause_before (Some (Bad name verdict)) makes why = held_before old mid on (λ held. IsBadRule next rules held name verdict) why
-    cause_before (Some Run) makes why = tt
-    cause_before (Some Full) makes why = held_before old mid on (λ held. HasNoRoom rules held new) why
-    cause_before (Some (Outside Fault)) makes why = tt
-    cause_before (Some (Outside (TooLarge n))) makes why = held_before old mid on (λ held. HasFileOf n (build next rules held).tree) why
-    cause_before (Some (Outside Memory)) makes why = tt
+    -- where there is no room behind it there is none before
+    room_before : ReadsBack → (held : Holding) → HasNoRoom rules held mid → HasNoRoom rules held old
+    room_before back held (graph, is, full) = (graph, record { reads = back (opened_in graph) is.reads; stands = is.stands }, full)
+
+    cause_before : (stopped : Option Stop) → ReadsBack → MakesOn stopped → HasCause next rules mid stopped → HasCause next rules old stopped
+    cause_before None back makes why = tt
+    cause_before (Some NoStore) back makes why = absurd makes
+    cause_before (Some (BadStore offset)) back makes why = absurd makes
+    cause_before (Some (Sources fault)) back makes why = absurd makes
+    cause_before (Some (Bad name verdict)) back makes why = held_before old mid on (λ held. IsBadRule next rules held name verdict) why
+    cause_before (Some Run) back makes why = tt
+    cause_before (Some Full) back makes why = held_before old mid on (λ held. HasNoRoom rules held old) (λ held shows. room_before back held (why held shows))
+    cause_before (Some (Outside Fault)) back makes why = tt
+    cause_before (Some (Outside (TooLarge n))) back makes why = held_before old mid on (λ held. HasFileOf n (build next rules held).tree) why
+    cause_before (Some (Outside Memory)) back makes why = tt
 
     abbrev tells_part : Holding → Type 0
     tells_part held = IsPartOf log (whole_log next rules held)
@@ -116,10 +127,10 @@ module _ (rules : List Rule) (old mid new : World) (on : HoldsOn old mid) where
     log_before (Some Full) makes fits = held_before old mid on tells_part fits
     log_before (Some (Outside failed)) makes fits = ⊎_elim inl (λ part. inr (asked_before part.0, held_before old mid on tells_part part.1)) fits
 
-    pub keeps_before : (stopped : Option Stop) → MakesOn stopped → Keeps next rules mid new log stopped → Keeps next rules old new log stopped
-    keeps_before stopped makes keeps = record {
+    pub keeps_before : (stopped : Option Stop) → ReadsBack → MakesOn stopped → Keeps next rules mid new log stopped → Keeps next rules old new log stopped
+    keeps_before stopped back makes keeps = record {
       exactly_the_files = files_before stopped keeps.exactly_the_files;
       made_before_bad = bad_before stopped makes keeps.made_before_bad;
-      cause = cause_before stopped makes keeps.cause;
+      cause = cause_before stopped back makes keeps.cause;
       log_fits = log_before stopped makes keeps.log_fits;
     }

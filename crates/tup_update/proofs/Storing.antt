@@ -1,5 +1,5 @@
 -- What a call of the ledger that is refused becomes, and what its graph stands for when files are changed.
-use Rattle.std.proofs.Common.{◌≡◌, ◌≢◌, ℕ, Bool, IsTrue, List, Some, Result, Ok, Err, refl, sym, subst}
+use Rattle.std.proofs.Common.{◌≡◌, ◌≢◌, ◌∙◌, ℕ, Bool, List, Some, Result, Ok, Err, inl, inr, refl, sym, ap, subst}
 use Rattle.tup_path.specs.Name.{Names}
 use Rattle.tup_path.specs.Tree.{Tree}
 use Rattle.tup_site.specs.Crash.{GoesOn}
@@ -7,12 +7,16 @@ use Rattle.tup_site.specs.World.{World, StoreStays}
 use Rattle.tup_site.specs.Cause.{CountsFaults as SiteCounts}
 use Rattle.tup_site.specs.declared.fault.SiteFailed.{SiteFailed}
 use Rattle.tup_site.specs.declared.fault.SiteFailed.TheVariants.{Fault, TooLarge, Memory}
+use Rattle.tup_rule.specs.declared.rule.Rule.{Rule}
 use Rattle.tup_table.specs.Images.{OpenStep}
 use Rattle.tup_table.specs.Reading.{ReadsAs}
 use Rattle.tup_table.specs.Store.{IsStore}
 use Rattle.tup_table.specs.Table.{IsAtRest, entries_in}
+use Rattle.tup_table.specs.declared.fault.TableFault.{TableFault}
+use Rattle.tup_table.specs.declared.opened.Opened.{Opened}
 use Rattle.tup_table.proofs.Appends.{closed_store}
 use Rattle.tup_table.proofs.Going.{IsEarlier, as_step}
+use Rattle.tup_table.proofs.Stores.{reads_one}
 use Rattle.tup_graph.specs.Graph.{GraphState}
 use Rattle.tup_graph.specs.Opening.{IsGraphOf}
 use Rattle.tup_graph.specs.Transactions.{forget_edits}
@@ -24,11 +28,13 @@ use Rattle.tup_kept.specs.Held.{Held, StandsFor}
 use Rattle.tup_kept.specs.Opening.{OpensAs, opened_in}
 use Rattle.tup_kept.specs.Transaction.{IsFull, Leaves}
 use Rattle.tup_ledger.specs.Given.{GivesUp}
+use Rattle.tup_ledger.specs.Owned.{own_edits, with_owned}
 use Rattle.tup_update.specs.Holding.{HoldsOn}
 use Rattle.tup_update.specs.Images.{FilesStep}
 use Rattle.tup_update.specs.Opened.{IsUnopened, StopsOpening}
-use Rattle.tup_update.specs.Outcome.{HasCountedCause, LacksRoom}
+use Rattle.tup_update.specs.Outcome.{HasCountedCause, IsTooFull, ReadsAsGraph, once_owned}
 use Rattle.tup_update.specs.Parts.{IsLate}
+use Rattle.tup_update.specs.Sources.{left_over, outputs}
 use Rattle.tup_update.specs.Stopped.{stop_of_graph}
 use Rattle.tup_update.specs.declared.stop.Stop.TheVariants.{Full, Outside}
 use Rattle.tup_update.proofs.Crashing.{still_listed}
@@ -64,11 +70,11 @@ module _ (edits : List Edit) (nodes : GraphState) (old new : Held) where
   committed_late before now graph.Memory leaves = tt
 
   -- only one tells that there is no room
-  pub committed_full : {S : Type 0} (before now : S) (fault : GraphFault) → Leaves edits nodes old new before now (Err fault) → stop_of_graph fault ≡ Full → IsFull old edits × (now ≡ before)
+  pub committed_full : {S : Type 0} (before now : S) (fault : GraphFault) → Leaves edits nodes old new before now (Err fault) → stop_of_graph fault ≡ Full → IsFull old edits
   committed_full before now graph.NotThere leaves is = absurd leaves
   committed_full before now (graph.BadStore offset) leaves is = absurd leaves
   committed_full before now graph.Site leaves is = absurd (cc is)
-  committed_full before now graph.Full leaves is = (leaves.0, leaves.2)
+  committed_full before now graph.Full leaves is = leaves.0
   committed_full before now graph.Memory leaves is = absurd (cc is)
 
 module _ (tells : Bool) (paths : List Names) (old new : Held) (v w : World) where
@@ -79,12 +85,24 @@ module _ (tells : Bool) (paths : List Names) (old new : Held) (v w : World) wher
   given_late graph.Full gives = tt
   given_late graph.Memory gives = tt
 
-  pub given_full : (fault : GraphFault) → IsTrue tells → GivesUp tells paths old new v w (Err fault) → stop_of_graph fault ≡ Full → IsFull old (forget_edits old.nodes paths) × (w ≡ v)
-  given_full graph.NotThere told gives is = absurd gives
-  given_full (graph.BadStore offset) told gives is = absurd gives
-  given_full graph.Site told gives is = absurd (cc is)
-  given_full graph.Full told gives is = (gives.0, gives.1.1 told)
-  given_full graph.Memory told gives is = absurd (cc is)
+  pub given_full : (fault : GraphFault) → GivesUp tells paths old new v w (Err fault) → stop_of_graph fault ≡ Full → IsFull old (forget_edits old.nodes paths)
+  given_full graph.NotThere gives is = absurd gives
+  given_full (graph.BadStore offset) gives is = absurd gives
+  given_full graph.Site gives is = absurd (cc is)
+  given_full graph.Full gives is = gives.0
+  given_full graph.Memory gives is = absurd (cc is)
+
+-- ---- there is no room
+
+-- for the outputs, or behind them for giving up what no rule makes
+module _ (rules : List Rule) (owned : List Names) (held : Held) where
+  pub none_to_own : (paths : List Names) → paths ≡ outputs rules → IsFull held (own_edits held.nodes paths) → IsTooFull rules owned held
+  none_to_own paths same full = inl (subst (λ (l : List Names). IsFull held (own_edits held.nodes l)) same full)
+
+  pub none_to_give : (paths left : List Names) (then : Held) → paths ≡ outputs rules → left ≡ left_over owned rules → then ≡ once_owned held paths → IsFull then (forget_edits then.nodes left) → IsTooFull rules owned held
+  none_to_give paths left then same other is full =
+      let full_then = subst (λ (h : Held). IsFull h (forget_edits h.nodes left)) (is ∙ ap (once_owned held) same) full in
+      inr (subst (λ (l : List Names). IsFull (once_owned held (outputs rules)) (forget_edits (with_owned held.nodes (outputs rules)) l)) other full_then)
 
 -- ---- what stands for a store
 module _ {S : Type 0} (world : S → World) (moment : S → ℕ) (left_since : S → ℕ → World → Type 0) where
@@ -96,13 +114,14 @@ module _ {S : Type 0} (world : S → World) (moment : S → ℕ) (left_since : S
         λ i. record { entries = stands.entries i; gate = stands.gate i },
       )
 
-  pub no_room : (edits : GraphState → List Edit) (held : Held) (before : S) (now : World) → StandsFor world moment left_since held before → now ≡ world before → IsGraphOf (entries_in held.table) held.nodes → IsFull held (edits held.nodes) → LacksRoom edits now
-  no_room edits held before now stands same graph full = record {
-    graph = held;
-    reads = subst (λ (w : World). ReadsAs w.store (Ok (opened_in held))) (sym same) (stand_reads held before stands);
-    stands = graph;
-    full = full;
-  }
+  pub read_as : (held : Held) (site : S) → StandsFor world moment left_since held site → IsGraphOf (entries_in held.table) held.nodes → ReadsAsGraph held (world site)
+  read_as held site stands graph = record { reads = stand_reads held site stands; stands = graph }
+
+  -- bytes that read as what it has read as whatever the store reads as
+  pub reads_back : (held : Held) (site : S) (bytes : List ℕ) → StandsFor world moment left_since held site → ReadsAs bytes (Ok (opened_in held)) → (opened : Opened) → ReadsAs (world site).store (Ok opened) → ReadsAs bytes (Ok opened)
+  reads_back held site bytes stands reads opened there =
+      let one : ◌≡◌ {A = Result Opened TableFault} (Ok (opened_in held)) (Ok opened) = reads_one (world site).store (Ok (opened_in held)) (Ok opened) (stand_reads held site stands) there in
+      subst (λ (o : Opened). ReadsAs bytes (Ok o)) (cc one) reads
 
   -- it does so still where files are changed
   pub stands_on : (held : Held) (old new : S) (agree : Tree → Tree → Type 0) → IsEarlier moment left_since new → StoreStays (world old) (world new) → GoesOn moment left_since old new (FilesStep agree) →

@@ -1,8 +1,12 @@
 //! The store of a project: which paths it lists as owned.
-ghost use Rattle.std.specs.Prelude.{IsTrue, IfOk, IfErr};
+ghost use Rattle.std.specs.Prelude.{IsTrue, IfOk, IfErr, Ok};
 ghost use Rattle.std.specs.Result.{result_err};
 ghost use Rattle.tup_site.specs.Crash.{GoesOn};
+ghost use Rattle.tup_table.specs.Reading.{ReadsAs};
+ghost use Rattle.tup_table.specs.Table.{entries_in};
+ghost use Rattle.tup_graph.specs.Opening.{IsGraphOf};
 ghost use Rattle.tup_kept.specs.Held.{StandsFor};
+ghost use Rattle.tup_kept.specs.Opening.{opened_in};
 ghost use Rattle.tup_update.specs.Holding.{HoldsOn, Lists};
 ghost use Rattle.tup_update.specs.Opened.{IsOpened, IsUnopened, StopsOpening};
 ghost use Rattle.tup_update.specs.Outcome.{HasCountedCause};
@@ -18,6 +22,10 @@ use tup_site::Site;
 /// what they were, and so is what the store lists.
 pub(crate) fn opened<S: Site>(alloc: Global, site: &mut S) -> Result<(Graph, Paths), Stop>
     ensures opened { IfOk result (λ opened. IsOpened opened.0 opened.1) }
+    ensures graph { IfOk result
+        (λ opened. IsGraphOf (entries_in opened.0.table) opened.0.nodes) }
+    ensures reads { IsTrue S.tells → IfOk result
+        (λ opened. ReadsAs (S.world site.old).store (Ok (opened_in opened.0))) }
     ensures stands { IsTrue S.tells → IfOk result
         (λ opened. StandsFor S.world S.moment S.left_since opened.0 site.new) }
     ensures lists { IsTrue S.tells

@@ -79,7 +79,7 @@ pub fn update_site<S: Site, R: Runner>(alloc: Global, site: &mut S, runner: &mut
     ensures settled { IsTrue S.tells → let left = S.left_since site.new (S.moment site.new) in
         IsSettled left (S.world site.new) result.stopped }
     ensures cause { IsTrue S.tells → IsTrue R.tells → HasCause R.next
-        result.rules (S.world site.old) (S.world site.new) result.stopped }
+        result.rules (S.world site.old) result.stopped }
     ensures counted_cause { HasCountedCause (S.faults site.old) (S.faults site.new) result.stopped }
     ensures run_cause { HasRunCause (R.faults runner.old) (R.faults runner.new) result.stopped }
     ensures ran { IsTrue R.tells_ran

@@ -1,16 +1,17 @@
-use Rattle.std.proofs.Common.{sym, subst, ap}
+use Rattle.std.proofs.Common.{Ok, sym, subst, ap}
 use Rattle.std.specs.Result.{result_err}
 use Rattle.tup_path.specs.Tree.{Tree}
 use Rattle.tup_site.specs.World.{World}
+use Rattle.tup_table.specs.Reading.{ReadsAs}
 use Rattle.tup_update.specs.Holding.{HoldsOn}
 use Rattle.tup_update.specs.Outcome.{Stays, Keeps}
 use Rattle.tup_update.specs.Parts.{IsUnread}
 use Rattle.tup_update.specs.Settled.{IsSettled}
 use Rattle.tup_update.specs.Stopped.{stop_of}
-use Rattle.tup_update.proofs.Before.{stays_before, keeps_before, makes_on}
+use Rattle.tup_update.proofs.Before.{ReadsBack, stays_before, keeps_before, makes_on}
 use Rattle.tup_update.proofs.Begun.{ran_none, ran_all_of}
 use Rattle.tup_update.proofs.Crashing.{opened_so, opened_only, as_opened, quiet_files, then_quiet}
-use Rattle.tup_update.proofs.Storing.{stands_on}
+use Rattle.tup_update.proofs.Storing.{reads_back, stands_on}
 use Rattle.tup_update.proofs.Keeping.{err_is, unread_cause, unread_stays, unread_keeps, unopened_stays, unopened_keeps}
 use Rattle.tup_update.proofs.Settling.{unread_unsettled, opening_unsettled}
 use Rattle.tup_update.proofs.update.carry_out.Goals as goal
@@ -97,7 +98,10 @@ returns-clause-kept g c = λ tells means.
     let old = g.S.Site.world c.args.site.now in
     let mid = g.S.Site.world c.read.new.site in
     let on = subst (HoldsOn old) (sym (c.read.ensures.same tells)) (c.opened.ensures.holds tells) in
-    keeps_before c.in_ok-project.project.rules old mid (g.S.Site.world c.build-built.new.site) on g.R.Runner.next _ (result_err c.build-built.result) (makes_on c.build-built.result c.build-built.ensures.makes) (c.build-built.ensures.kept tells means)
+    let back : ReadsBack c.in_ok-project.project.rules old mid (g.S.Site.world c.build-built.new.site) on = λ opened there.
+    reads_back g.S.Site.world g.S.Site.moment g.S.Site.left_since c.in_ok-graph.graph c.opened.new.site old.store (c.in_ok-graph.ensures.stands tells) (c.in_ok-graph.ensures.reads tells) opened
+    (subst (λ (w : World). ReadsAs w.store (Ok opened)) (c.read.ensures.same tells) there) in
+    keeps_before c.in_ok-project.project.rules old mid (g.S.Site.world c.build-built.new.site) on g.R.Runner.next _ (result_err c.build-built.result) back (makes_on c.build-built.result c.build-built.ensures.makes) (c.build-built.ensures.kept tells means)
 
 pub returns-clause-crash : goal.returns-clause-crash
 returns-clause-crash g c = λ tells.
