@@ -29,8 +29,11 @@ module _ (before now : ℕ) (fault : GraphFault) (status answer : Status) (memor
 
   -- its line is that of an update for which there was no memory
   pub unshown_prints : (held grown : List ℕ) → Prints status (last_line status) before now held grown answer → PrintsDemo before now held grown answer
-  unshown_prints held grown prints = ([], record {
-    told = told_nothing true true mini_next demo_world NoMemory;
-    ends = ends_so;
-    prints = subst (λ (s : Status). Prints s (last_line s) before now held grown answer) it_is prints;
-  })
+  unshown_prints held grown prints = (
+    [],
+    record {
+      told = told_nothing true true mini_next demo_world NoMemory;
+      ends = ends_so;
+      prints = subst (λ (s : Status). Prints s (last_line s) before now held grown answer) it_is prints;
+    },
+  )

@@ -1,5 +1,5 @@
 -- What is promised of a world behind the opening of its store is promised of the one before it.
-use Rattle.std.proofs.Common.{◌≡◌, ⊎_elim, inl, inr, Bool, IsSome, List, Option, None, Some, Result, Ok, Err, IfErr}
+use Rattle.std.proofs.Common.{◌≡◌, ◌∙◌, ⊎_elim, inl, inr, Bool, IsSome, List, Option, None, Some, Result, Ok, Err, IfErr}
 use Rattle.tup_path.specs.Name.{Names}
 use Rattle.tup_site.specs.World.{World}
 use Rattle.tup_site.specs.declared.fault.SiteFailed.TheVariants.{Fault, TooLarge, Memory}
@@ -11,7 +11,7 @@ use Rattle.tup_kept.specs.Opening.{opened_in}
 use Rattle.tup_ledger.specs.Ascending.{ascending}
 use Rattle.std.specs.FinMap as finite
 use Rattle.std.specs.Result.{result_err}
-use Rattle.tup_update.specs.Holding.{Holding, HoldsOn}
+use Rattle.tup_update.specs.Holding.{Holding, HoldsOn, Lists, ListsOn}
 use Rattle.tup_update.specs.Log.{IsPartOf, LogFits, RulesFit, whole_log}
 use Rattle.tup_update.specs.Outcome.{AllIsMade, ClaimedListed, ExactlyTheFiles, HasCause, HasNoRoom, IsBadRule, IsBehindBad, IsLeft, IsListed, IsMade, Keeps, MadeBeforeBad, NothingForgotten, Stays, claimed}
 use Rattle.tup_update.specs.Parts.{HasFileOf, StopsMaking}
@@ -41,11 +41,14 @@ module _ (rules : List Rule) (old mid new : World) (on : HoldsOn old mid) where
   claimed_before : ClaimedListed rules mid new → ClaimedListed rules old new
   claimed_before listed = held_before old mid on (λ held. IsListed (claimed rules held) held new) listed
 
+  still_listed_before : ListsOn mid new → ListsOn old new
+  still_listed_before still = record { tree = still.tree ∙ on.tree; lists = held_before old mid on (λ held. Lists new.store held.owned) still.lists }
+
   module _ (tells : Bool) (next : Next) where
     left_before : IsLeft tells next rules mid new → IsLeft tells next rules old new
     left_before left = (
       asked_before left.0,
-      ⊎_elim (λ holds. inl (holds_then old mid new on holds))
+      ⊎_elim (λ still. inl (still_listed_before still))
           (λ rest. inr (⊎_elim (λ listed. inl (claimed_before listed)) (λ made. inr (held_before old mid on (λ held. AllIsMade tells next rules held new) made)) rest)) left.1,
     )
 

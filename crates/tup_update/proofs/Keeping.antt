@@ -12,7 +12,7 @@ use Rattle.tup_access.specs.declared.verdict.Verdict.{Verdict}
 use Rattle.tup_runner.specs.Next.{Next}
 use Rattle.tup_clean.specs.Clean.{clean}
 use Rattle.tup_clean.specs.Taken.{Taken, takes, up_to_bad, verdicts_of}
-use Rattle.tup_update.specs.Holding.{Holding, HoldsOn, Lists, OfHeld, holding}
+use Rattle.tup_update.specs.Holding.{Holding, HoldsOn, Lists, ListsOn, OfHeld, holding}
 use Rattle.tup_ledger.specs.Ascending.{ascending}
 use Rattle.tup_update.specs.Log.{IsFront, IsGrownByFront, IsPartOf, IsEmptyLog, IsUnused, LogFits, RulesFit, whole_log, with_read}
 use Rattle.tup_update.specs.Outcome.{Stays, Keeps, MadeBeforeBad, IsBehindBad, HasCause, HasCountedCause, IsBadRule, IsMade, IsListed, ClaimedListed, AllIsMade, HasNoRoom, IsLeft, NothingForgotten, SourcesStay, claimed}
@@ -31,7 +31,7 @@ use Rattle.tup_update.specs.declared.stop.Unread.{Unread}
 use Rattle.tup_update.specs.declared.stop.Unread.TheVariants.{Sources, Outside as Unlucky}
 use Rattle.tup_update.specs.declared.update.Log.{Log}
 use Rattle.tup_update.proofs.Beside.{left_is}
-use Rattle.tup_update.proofs.Held.{of_held, holds_itself, holds_listed, shown_before, shows_one}
+use Rattle.tup_update.proofs.Held.{of_held, holds_itself, shown_before, shows_one}
 use Rattle.tup_update.proofs.Behind.{none_made}
 use Rattle.tup_update.proofs.Ending.{sources_are_kept, no_front, whole_front, grown_from_nothing}
 use Rattle.tup_update.proofs.Known.{claimed_known, beside_ascending}
@@ -398,9 +398,9 @@ module _ (project : Project) (old mid : World) (vanishing claiming : List Names)
     turns_fit = late_turns project.rules log.ran log.ended stop late (no_turns project.rules log.ran log.ended nothing none);
   }
     where
-      by : Lists mid.store claiming ⊎ (Lists mid.store before × TreeStays old mid) → HoldsOn old mid ⊎ ClaimedListed project.rules old mid ⊎ OfHeld old (λ held. AllIsMade tells next project.rules held mid)
+      by : Lists mid.store claiming ⊎ (Lists mid.store before × TreeStays old mid) → ListsOn old mid ⊎ ClaimedListed project.rules old mid ⊎ OfHeld old (λ held. AllIsMade tells next project.rules held mid)
       by (inl stored) = inr (inl (listed mid (λ path unmade. refl) stored))
-      by (inr (still, same)) = inl (holds_listed old mid project.owned way.is.owned (subst (Lists mid.store) (sym owned) still) same)
+      by (inr (still, same)) = inl (record { tree = same; lists = kept_then (λ held. Lists mid.store held.owned) (subst (Lists mid.store) (sym owned) still) })
 
   removed_whole : (before removed : List Names) → before ≡ [] → removed ≡ before ++ vanishing → removed ≡ vanished project.rules held_then
   removed_whole before removed none grown = grown ∙ ap (λ (l : List Names). l ++ vanishing) none ∙ way.vanishes

@@ -21,7 +21,7 @@ use Rattle.tup_kept.specs.Held.{Held}
 use Rattle.tup_kept.specs.Opening.{opened_in}
 use Rattle.tup_kept.specs.Transaction.{IsFull, after}
 use Rattle.tup_ledger.specs.Owned.{own_edits, with_owned}
-use Rattle.tup_update.specs.Holding.{Holding, HoldsOn, IsDamaged, Lists, OfHeld, holding}
+use Rattle.tup_update.specs.Holding.{Holding, HoldsOn, IsDamaged, Lists, ListsOn, OfHeld, holding}
 use Rattle.tup_update.specs.declared.update.Log.{Log}
 use Rattle.tup_update.specs.declared.stop.Stop.{Stop}
 use Rattle.tup_update.specs.declared.stop.Stop.TheVariants.{NoStore, BadStore, Sources, Bad, Run, Full, Outside}
@@ -137,11 +137,11 @@ pub record AllIsMade (tells : Bool) (next : Next) (rules : List Rule) (old : Hol
   pub known : IsListed (ascending (outputs rules)) old new
   pub built : IsTrue tells → IsBuilt (build next rules old) new.tree
 
--- what is left where the outside stops an update whose rules were read: the world holds what it held, or all that was claimed
--- is listed, or all was made
+-- what is left where the outside stops an update whose rules were read: no file was touched and the store lists what it did, or
+-- all that was claimed is listed, or all was made
 abbrev pub IsLeft : Bool → Next → List Rule → World → World → Type 0
 IsLeft tells next rules old new =
-    IsAsked old rules × (HoldsOn old new ⊎ ClaimedListed rules old new ⊎ OfHeld old (λ held. AllIsMade tells next rules held new))
+    IsAsked old rules × (ListsOn old new ⊎ ClaimedListed rules old new ⊎ OfHeld old (λ held. AllIsMade tells next rules held new))
 
 -- nothing is forgotten, wherever an update stops: what wasn't a source before is owned by the next update too. Where the
 -- store or the sources couldn't be read, the world holds what it held.

@@ -96,8 +96,11 @@ returns-in_err-prepare-clause-kept g c = λ tells means.
     subst (Keeps g.R.Runner.next project.rules old mid (with_read project.read log)) (sym (err_is c.from_residual-in_err-prepare.result stop c.from_residual-in_err-prepare.ensures.1))
     (unprepared_keeps project old mid plan.vanished claiming way g.R.Runner.next c.args.log.now.removed log stop
     c.in_err-prepare.ensures.late
-    (λ e. (c.args.graph.now, read_as g.S.Site.world g.S.Site.moment g.S.Site.left_since c.args.graph.now c.args.site.now (c.requires.stands tells) c.requires.graph,
-    none_to_own project.rules project.owned c.args.graph.now plan.outputs c.in_ok-plan.ensures.outputs (c.prepare.ensures.full (c.in_err-prepare.was ∙ ap (λ (s : Stop). Err s) e))))
+    (λ e. (
+      c.args.graph.now,
+      read_as g.S.Site.world g.S.Site.moment g.S.Site.left_since c.args.graph.now c.args.site.now (c.requires.stands tells) c.requires.graph,
+      none_to_own project.rules project.owned c.args.graph.now plan.outputs c.in_ok-plan.ensures.outputs (c.prepare.ensures.full (c.in_err-prepare.was ∙ ap (λ (s : Stop). Err s) e)),
+    ))
     c.requires.unused.0 c.prepare.ensures.part c.requires.unused.1 c.requires.unused.2)
 
 pub returns-in_err-prepare-clause-ran : goal.returns-in_err-prepare-clause-ran
@@ -280,8 +283,11 @@ returns-in_err-finish-in-None-clause-kept g c = λ tells means.
     subst (Keeps g.R.Runner.next project.rules old new (with_read project.read log)) (sym (err_is c.from_residual-in_err-finish-in-None.result stop c.from_residual-in_err-finish-in-None.ensures.1))
     (unfinished_keeps project old mid plan.vanished claiming way g.R.Runner.next new c.args.log.now.removed log stop
     c.in_err-finish-in-None.ensures.late
-    (λ e. (c.args.graph.now, read_as g.S.Site.world g.S.Site.moment g.S.Site.left_since c.args.graph.now c.args.site.now (c.requires.stands tells) c.requires.graph,
-    none_to_give project.rules project.owned c.args.graph.now plan.outputs c.as_slice.result.now c.prepare.new.graph c.in_ok-plan.ensures.outputs (c.as_slice.ensures ∙ c.in_ok-plan.ensures.left) c.in_ok-prepare.ensures.owns (c.finish.ensures.full (c.in_err-finish-in-None.was ∙ ap (λ (s : Stop). Err s) e))))
+    (λ e. (
+      c.args.graph.now,
+      read_as g.S.Site.world g.S.Site.moment g.S.Site.left_since c.args.graph.now c.args.site.now (c.requires.stands tells) c.requires.graph,
+      none_to_give project.rules project.owned c.args.graph.now plan.outputs c.as_slice.result.now c.prepare.new.graph c.in_ok-plan.ensures.outputs (c.as_slice.ensures ∙ c.in_ok-plan.ensures.left) c.in_ok-prepare.ensures.owns (c.finish.ensures.full (c.in_err-finish-in-None.was ∙ ap (λ (s : Stop). Err s) e)),
+    ))
     c.requires.unused.0 c.in_ok-prepare.ensures.removed (c.in_ok-bad.ensures.noted tells means))
 
 pub returns-in_err-finish-in-None-clause-ran : goal.returns-in_err-finish-in-None-clause-ran
