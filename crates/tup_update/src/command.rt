@@ -76,7 +76,8 @@ fn run_seeing<S: Site, R: Runner>(
     ensures own { IfOk result (λ judged. AreOwn sight.entry.rule.now judged.1) }
     ensures same { IsTrue S.tells → S.world site.new ≡ S.world site.old }
     ensures crash { IsTrue S.tells → GoesOn S.moment S.left_since site.old site.new NoStep }
-    ensures large { IsTrue S.tells → let sight = sight.entry in let tree = (S.world site.new).tree in
+    ensures large { IsTrue S.tells
+        → let sight = sight.entry in let tree = (S.world site.new).tree in
         HandsOnReadable Outside sight.rules.now sight.rule.now tree result }
     ensures ran { IsTrue R.tells_ran
         → RunsOne (name_of sight.entry.rule.now) (R.ran runner.old) (R.ran runner.new) result }
