@@ -20,6 +20,7 @@ use Rattle.tup_graph.specs.Transactions.{forget_edits}
 use Rattle.tup_kept.specs.Held.{Held}
 use Rattle.tup_kept.specs.Opening.{opened_in}
 use Rattle.tup_kept.specs.Transaction.{IsFull, after}
+use Rattle.tup_ledger.specs.Given.{without}
 use Rattle.tup_ledger.specs.Owned.{own_edits, with_owned}
 use Rattle.tup_update.specs.Holding.{Holding, HoldsOn, IsDamaged, Lists, ListsOn, OfHeld, holding}
 use Rattle.tup_update.specs.declared.update.Log.{Log}
@@ -82,6 +83,26 @@ IsTooFull rules owned graph =
 -- so it is in the store of a world, before anything is written
 abbrev pub HasNoRoom : List Rule → Holding → World → Type 0
 HasNoRoom rules held w = (graph : Held) × ReadsAsGraph graph w × IsTooFull rules held.owned graph
+
+-- The bytes of a store that read as this graph once, behind an update that has come so far. It makes two commits at most: one that
+-- owns the outputs of its rules, and behind that one that gives up what no rule makes. Both were made at its end, and the first
+-- where a rule was bad or couldn't be run. After another stop this says nothing.
+abbrev pub HasCommits : List Rule → List Names → Held → List ℕ → Option Stop → Type 0
+HasCommits rules owned graph bytes None = ReadsAs bytes (Ok (opened_in (without (once_owned graph (outputs rules)) (left_over owned rules))))
+HasCommits rules owned graph bytes (Some (Bad name verdict)) = ReadsAs bytes (Ok (opened_in (once_owned graph (outputs rules))))
+HasCommits rules owned graph bytes (Some Run) = ReadsAs bytes (Ok (opened_in (once_owned graph (outputs rules))))
+HasCommits rules owned graph bytes (Some stop) = ⊤
+
+-- so what a store had before an update it has afterwards, but for what is owned, and these commits alone were added
+abbrev pub HasCommitted : List Rule → World → World → Option Stop → Type 0
+HasCommitted rules old new stopped = OfHeld old (λ held. (graph : Held) × ReadsAsGraph graph old × HasCommits rules held.owned graph new.store stopped)
+
+-- the same wherever it came so far
+abbrev pub JustCommits : List Rule → World → World → Option Stop → Type 0
+JustCommits rules old new None = HasCommitted rules old new None
+JustCommits rules old new (Some (Bad name verdict)) = HasCommitted rules old new (Some (Bad name verdict))
+JustCommits rules old new (Some Run) = HasCommitted rules old new (Some Run)
+JustCommits rules old new (Some stop) = ⊤
 
 -- Why an update stops, where the site tells. What is too large is a file of the clean build: where no rules were read, a source.
 abbrev pub HasCause : Next → List Rule → World → Option Stop → Type 0

@@ -13,7 +13,7 @@ ghost use Rattle.tup_update.specs.Holding.{HoldsOn, Lists};
 ghost use Rattle.tup_update.specs.Images.{UpdateStep, with_outputs};
 ghost use Rattle.tup_update.specs.Log.{IsEmptyLog, LogFits, RulesFit};
 ghost use Rattle.tup_update.specs.Opened.{IsOpened, IsUnopened, StopsOpening};
-ghost use Rattle.tup_update.specs.Outcome.{Keeps, Stays, ExactlyTheFiles, MadeBeforeBad, SourcesStay, NothingForgotten, HasCause, HasCountedCause, HasRunCause};
+ghost use Rattle.tup_update.specs.Outcome.{Keeps, Stays, ExactlyTheFiles, MadeBeforeBad, SourcesStay, NothingForgotten, HasCause, HasCountedCause, HasRunCause, JustCommits};
 ghost use Rattle.tup_update.specs.Ran.{RunsThese};
 ghost use Rattle.tup_update.specs.Settled.{IsSettled};
 ghost use Rattle.tup_update.specs.Turns.{TurnsFit};
@@ -77,6 +77,9 @@ pub fn update_site<S: Site, R: Runner>(alloc: Global, site: &mut S, runner: &mut
     ensures sources_stay { IsTrue S.tells → SourcesStay (S.world site.old) (S.world site.new) }
     ensures nothing_forgotten { IsTrue S.tells → NothingForgotten R.tells R.next
         result.rules (S.world site.old) (S.world site.new) result.stopped }
+    // Of what the store has just what is owned is another, and nothing but that was written.
+    ensures commits { IsTrue S.tells → JustCommits
+        result.rules (S.world site.old) (S.world site.new) result.stopped }
     ensures crash { IsTrue S.tells → GoesOn S.moment S.left_since site.old site.new
         (UpdateStep R.tells R.next result.rules (S.world site.old)) }
     // Where each world that a crash may leave before has these sources, and owns no other path than
@@ -122,6 +125,8 @@ fn carry_out<S: Site, R: Runner>(
         rules.new (S.world site.old) (S.world site.new) log.new (result_err result) }
     ensures kept { IsTrue S.tells → IsTrue R.tells → Keeps R.next
         rules.new (S.world site.old) (S.world site.new) log.new (result_err result) }
+    ensures commits { IsTrue S.tells → JustCommits
+        rules.new (S.world site.old) (S.world site.new) (result_err result) }
     ensures crash { IsTrue S.tells → GoesOn S.moment S.left_since site.old site.new
         (UpdateStep R.tells R.next rules.new (S.world site.old)) }
     ensures settled { IsTrue S.tells → let left = S.left_since site.new (S.moment site.new) in

@@ -1,6 +1,9 @@
-use Rattle.std.proofs.Common.{◌≡◌, ◌∙◌, sym, ap, subst, Some}
+use Rattle.std.proofs.Common.{◌≡◌, ◌∙◌, sym, ap, subst, Ok, Some}
 use Rattle.std.specs.Result.{result_err}
+use Rattle.tup_table.specs.Reading.{ReadsAs}
 use Rattle.tup_graph.specs.Transactions.{with_forgotten}
+use Rattle.tup_kept.specs.Held.{Held}
+use Rattle.tup_kept.specs.Opening.{opened_in}
 use Rattle.tup_ledger.proofs.Keys.{owned_without}
 use Rattle.tup_update.specs.Outcome.{HasCountedCause}
 use Rattle.tup_update.specs.Parts.{IsLate}
@@ -10,7 +13,7 @@ use Rattle.tup_update.specs.declared.stop.Stop.TheVariants.{Full}
 use Rattle.tup_update.proofs.Crashing.{given_so}
 use Rattle.tup_update.proofs.Handed.{err_if}
 use Rattle.tup_update.proofs.Keeping.{err_is}
-use Rattle.tup_update.proofs.Storing.{given_late, given_full, graph_counts}
+use Rattle.tup_update.proofs.Storing.{given_late, given_full, graph_counts, stand_reads}
 use Rattle.tup_update.proofs.build.finish.Goals as goal
 
 pub returns-in_err-give_up-clause-late : goal.returns-in_err-give_up-clause-late
@@ -48,3 +51,9 @@ returns-clause-crash g c = λ tells.
     let left = c.args.left.now in
     given_so g.S.Site.moment g.S.Site.left_since c.args.site.now c.give_up.new.site nodes (with_forgotten nodes left) _ (g.S.Site.world c.args.site.now) (owned_without nodes left)
     (c.give_up.ensures.crash tells).only (c.give_up.ensures.settled tells)
+
+pub returns-clause-reads : goal.returns-clause-reads
+returns-clause-reads g c = λ tells.
+    let site = c.give_up.new.site in
+    subst (λ (h : Held). ReadsAs (g.S.Site.world site).store (Ok (opened_in h))) c.in_ok-give_up.ensures.gives_up.0
+    (stand_reads g.S.Site.world g.S.Site.moment g.S.Site.left_since c.give_up.new.graph site (c.give_up.ensures.stands tells c.in_ok-give_up.ensures.owned.0))
