@@ -8,7 +8,7 @@ ghost use Rattle.tup_ledger.specs.Sources.{HasSources, Kept};
 ghost use Rattle.tup_update.specs.Images.{UpdateStep, with_outputs};
 ghost use Rattle.tup_update.specs.Log.{OfRules};
 ghost use Rattle.tup_update.specs.Settled.{IsSettled};
-ghost use Rattle.tup_update.specs.Outcome.{ExactlyTheFiles, MadeBeforeBad, SourcesStay, NothingForgotten, HasCause};
+ghost use Rattle.tup_update.specs.Outcome.{ExactlyTheFiles, MadeBeforeBad, SourcesStay, NothingForgotten, HasCause, JustCommits};
 ghost use Rattle.tup_top.specs.Order.{IsUpdate, order};
 ghost use Rattle.tup_top.specs.Crew.{IsCrew, CrewRuns, CrewCompares, RanFits, RanInTurn, NothingRun};
 ghost use Rattle.tup_top.specs.Lines.{last_line as line_of};
@@ -66,6 +66,10 @@ pub fn tup<S: Site, R: Runner, K: Sink>(
     ensures nothing_forgotten { IsTrue S.tells → let old = S.world site in
         let new = S.world result.site in ForUpdate (order words.now) result.status
         (OfRules old (λ rules. NothingForgotten R.tells R.next rules old new)) }
+    // Of what the store has just what is owned is another, and nothing but that was written.
+    ensures commits { IsTrue S.tells → let old = S.world site in
+        let new = S.world result.site in ForUpdate (order words.now) result.status
+        (OfRules old (λ rules. JustCommits rules old new)) }
     // Whenever a crash comes: no file changes but owned ones and outputs, and nothing is forgotten.
     ensures crash { IsTrue S.tells → let old = S.world site in
         ForUpdate (order words.now) result.status (OfRules old (λ rules _.

@@ -9,7 +9,7 @@ ghost use Rattle.tup_update.specs.Images.{UpdateStep, with_outputs};
 ghost use Rattle.tup_update.specs.Log.{OfRules};
 ghost use Rattle.tup_update.specs.Ran.{RunsThese};
 ghost use Rattle.tup_update.specs.Settled.{IsSettled};
-ghost use Rattle.tup_update.specs.Outcome.{ExactlyTheFiles, MadeBeforeBad, SourcesStay, NothingForgotten, HasCause};
+ghost use Rattle.tup_update.specs.Outcome.{ExactlyTheFiles, MadeBeforeBad, SourcesStay, NothingForgotten, HasCause, JustCommits};
 ghost use Rattle.tup_top.specs.Crew.{RanFits, RanInTurn};
 ghost use Rattle.tup_top.specs.Printed.{PrintsDemo, PrintsUpdate, demo_world};
 ghost use Rattle.tup_top.specs.Promise.{CountsAll, HasCountedCause, HasDemoCause, counts};
@@ -54,6 +54,8 @@ pub(crate) fn update<S: Site, R: Runner, K: Sink>(
     ensures nothing_forgotten { IsTrue S.tells → let old = S.world site.old in
         IfCame result.status
         (OfRules old (λ rules. NothingForgotten R.tells R.next rules old (S.world site.new))) }
+    ensures commits { IsTrue S.tells → let old = S.world site.old in
+        IfCame result.status (OfRules old (λ rules. JustCommits rules old (S.world site.new))) }
     ensures crash { IsTrue S.tells → let old = S.world site.old in
         IfCame result.status (OfRules old (λ rules _.
         GoesOn S.moment S.left_since site.old site.new (UpdateStep R.tells R.next rules old))) }

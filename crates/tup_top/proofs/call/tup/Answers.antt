@@ -5,7 +5,7 @@ use Rattle.tup_ledger.specs.Sources.{HasSources}
 use Rattle.tup_update.specs.Compared.{HasCompared}
 use Rattle.tup_update.specs.Images.{UpdateStep, with_outputs}
 use Rattle.tup_update.specs.Log.{OfRules}
-use Rattle.tup_update.specs.Outcome.{ExactlyTheFiles, MadeBeforeBad, NothingForgotten, HasCause}
+use Rattle.tup_update.specs.Outcome.{ExactlyTheFiles, MadeBeforeBad, NothingForgotten, HasCause, JustCommits}
 use Rattle.tup_update.specs.Settled.{IsSettled}
 use Rattle.tup_update.specs.Sources.{ends}
 use Rattle.tup_update.specs.Turns.{names_of}
@@ -135,6 +135,11 @@ pub returns-clause-cause : goal.returns-clause-cause
 returns-clause-cause g c = λ _ _.
     let world = g.S.Site.world c.args.site in
     memory_of (order c.args.words.now) world (λ rules. HasCause g.R.Runner.next rules world) tt
+
+pub returns-clause-commits : goal.returns-clause-commits
+returns-clause-commits g c = λ _.
+    let world = g.S.Site.world c.args.site in
+    memory_of (order c.args.words.now) world (λ rules. JustCommits rules world world) tt
 
 pub returns-clause-begun : goal.returns-clause-begun
 returns-clause-begun g c = λ _ _.

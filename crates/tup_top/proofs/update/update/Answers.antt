@@ -3,7 +3,7 @@ use Rattle.tup_site.specs.Crash.{GoesOn, LeavesOnly}
 use Rattle.tup_ledger.specs.Sources.{HasSources}
 use Rattle.tup_update.specs.Images.{UpdateStep, with_outputs}
 use Rattle.tup_update.specs.Log.{RulesFit}
-use Rattle.tup_update.specs.Outcome.{ExactlyTheFiles, MadeBeforeBad, NothingForgotten, HasCause}
+use Rattle.tup_update.specs.Outcome.{ExactlyTheFiles, MadeBeforeBad, NothingForgotten, HasCause, JustCommits}
 use Rattle.tup_update.specs.Ran.{RunsThese}
 use Rattle.tup_update.specs.Settled.{IsSettled}
 use Rattle.tup_top.specs.Crew.{RanFits, RanInTurn}
@@ -31,6 +31,11 @@ returns-in_default-clause-nothing_forgotten g c = λ tells.
 
 pub returns-in_default-clause-cause : goal.returns-in_default-clause-cause
 returns-in_default-clause-cause g c = λ tells means.
+    let update = c.update_site-rules in
+    (update.result.rules, untold_rules (g.S.Site.world c.args.site.now) c.update_site-rules.result.rules update.result.stopped (update.ensures.rules tells), tt)
+
+pub returns-in_default-clause-commits : goal.returns-in_default-clause-commits
+returns-in_default-clause-commits g c = λ tells.
     let update = c.update_site-rules in
     (update.result.rules, untold_rules (g.S.Site.world c.args.site.now) c.update_site-rules.result.rules update.result.stopped (update.ensures.rules tells), tt)
 
@@ -111,6 +116,13 @@ returns-clause-cause g c = λ tells means.
     let old = g.S.Site.world c.args.site.now in
     answered_of old (λ rules. HasCause g.R.Runner.next rules old) update.result.rules _ _ _ _ update.result.log update.result.stopped _ _ c.status_of-status.ensures c.print-status.ensures.ends
     update.ensures.counted_cause (update.ensures.rules tells) (update.ensures.cause tells means) tt
+
+pub returns-clause-commits : goal.returns-clause-commits
+returns-clause-commits g c = λ tells.
+    let update = c.update_site-rules in
+    let old = g.S.Site.world c.args.site.now in
+    answered_of old (λ rules. JustCommits rules old (g.S.Site.world update.new.site)) update.result.rules _ _ _ _ update.result.log update.result.stopped _ _ c.status_of-status.ensures c.print-status.ensures.ends
+    update.ensures.counted_cause (update.ensures.rules tells) (update.ensures.commits tells) tt
 
 pub returns-clause-begun : goal.returns-clause-begun
 returns-clause-begun g c = λ tells means.
