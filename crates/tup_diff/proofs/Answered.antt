@@ -1,5 +1,5 @@
 -- Answers to what a reading asked.
-use Rattle.std.specs.Prelude.{◌≡◌, ◌≢◌, ℕ, Bool, true, List, [], ◌∷◌, ◌++◌, Decides}
+use Rattle.std.specs.Prelude.{◌≡◌, ◌≢◌, ℕ, Bool, List, [], ◌∷◌, ◌++◌, Decides}
 use Rattle.std.proofs.Common.{refl, sym, subst, ◌∙◌, inl, inr}
 use Rattle.tup_path.specs.Name.{Names}
 use Rattle.tup_rule.specs.declared.question.Kind.{Kind}

@@ -1,5 +1,5 @@
 -- The outputs of readings, folder after folder.
-use Rattle.std.specs.Prelude.{◌≡◌, ◌⊎◌, ◌↔◌, ℕ, Bool, true, false, Decides, List, [], ◌∷◌, ◌++◌, cond, Option, None, Some, Contains}
+use Rattle.std.specs.Prelude.{◌≡◌, ◌↔◌, ℕ, Bool, true, false, Decides, List, [], ◌∷◌, ◌++◌, cond, Option, None, Some, Contains}
 use Rattle.std.proofs.Common.{refl, sym, ap, subst, ◌∙◌, inl, inr, append_assoc}
 use Rattle.std.specs.BTreeSet.{BTreeSet, contains}
 use Rattle.std.specs.FinMap as finite
@@ -97,8 +97,8 @@ module _ (readings : Readings) (entries : List (Names × Reading)) (dir : Names)
       either false is = elsewhere d name is
 
 -- a set that was empty before
-pub drafted_set : (drafts : List Draft) (dir : Names) (empty set : BTreeSet (List ℕ)) → empty.keys ≡ [] → GrowsBy by_bytes (IsDraftedIn drafts dir) empty set → AreDraftedIn drafts dir set
-drafted_set drafts dir empty set none grows name = (
+pub drafted_set : (drafts : List Draft) (dir : Names) (empty all : BTreeSet (List ℕ)) → empty.keys ≡ [] → GrowsBy by_bytes (IsDraftedIn drafts dir) empty all → AreDraftedIn drafts dir all
+drafted_set drafts dir empty all none grows name = (
   λ h. elim (grows.keys.only name h) [ inl before ↦ absurd (true≢false (sym before ∙ in_empty by_bytes name-decides empty name none)) | inr is ↦ is ],
   λ is. grows.keys.all name is,
 )
