@@ -1,6 +1,7 @@
 -- The graph of a new store is kept, and so is the site of a project that has just begun.
 use Rattle.std.proofs.Common.{◌≡◌, ℕ, Bool, true, false, cond, List, [], ◌∷◌, ◌++◌, length, Option, None, Some, IsSome, inl, refl, sym, ap, subst, ◌∙◌, arith}
 use Rattle.std.specs.FinMap as finite
+use Rattle.std.proofs.lemmas.Bool.{false≢true}
 use Rattle.std.proofs.lemmas.Option.{none-some}
 use Rattle.tup_path.specs.Name.{Names, Content}
 use Rattle.tup_path.specs.Order.{by_names}
@@ -48,7 +49,7 @@ none_seen path = by (finite.contains_key empty_graph.owned path)
     by false = finite.get-empty {X = Stamp} by_names path
 
 no_source : (path : Names) → IsSource (source empty_graph) path → ⊥
-no_source path there = absurd (subst (λ (found : Option Stamp). IsSome found) (none_seen path) there)
+no_source path there = absurd (false≢true (subst (λ (found : Option Stamp). IsSome found) (none_seen path) there))
 
 -- ---- no rules are linked of no readings
 
