@@ -129,12 +129,12 @@ fn came_to(alloc: Global, refused: Option<(Text, Refused)>) -> Result<(Verdict, 
 /// A rule among those of its project.
 #[derive(Drop)]
 struct Sight<'a> {
-    rules: &'a Rules,
+    pub rules: &'a Rules,
     /// What the rules make.
-    made: &'a BTreeSet<Path>,
-    rule: &'a Rule,
+    pub made: &'a BTreeSet<Path>,
+    pub rule: &'a Rule,
     /// What the rule declares.
-    declared: &'a BTreeSet<Path>,
+    pub declared: &'a BTreeSet<Path>,
 }
 
 impl Sight<'_> {
@@ -179,12 +179,12 @@ enum Refused {
 /// The view of the rule's command.
 #[derive(Drop)]
 struct SiteView<'a, 's, 'r, S: Site> {
-    sight: Sight<'a>,
-    site: &'s mut S,
+    pub sight: Sight<'a>,
+    pub site: &'s mut S,
     /// How many asks were answered.
-    asked: u32,
+    pub asked: u32,
     /// The text that got no answer, and why. The caller keeps it.
-    refused: &'r mut Option<(Text, Refused)>,
+    pub refused: &'r mut Option<(Text, Refused)>,
     ghost knows: { IsGenerated sight.rules.now sight.made.now },
     ghost knows_declared: { IsDeclared sight.rule.now sight.declared.now },
     ghost denies: { (text : List ℕ) (verdict : VerdictValue)
