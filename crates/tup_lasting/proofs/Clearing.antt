@@ -7,7 +7,7 @@ use Rattle.tup_path.specs.Order.{same_path, same_path-by_names, by_names-total}
 use Rattle.tup_path.specs.Tree.{Tree}
 use Rattle.tup_path.proofs.Same.{same_path-decides}
 use Rattle.tup_site.specs.Crash.{GoesOn}
-use Rattle.tup_site.specs.World.{World}
+use Rattle.tup_site.specs.World.{World, TreeStays}
 use Rattle.tup_site.specs.declared.site.Site.{Ghosts as Site}
 use Rattle.tup_stamp.specs.declared.Stamp.{Stamp}
 use Rattle.tup_rule.specs.Rule.{among}
@@ -183,12 +183,15 @@ module _ {S : Type 0} (site : Site S) (next : Next) (language : Language) (known
   held_then : (v : World) → LeftNow site old v → (path : Names) (o : Owned) → finite.get g.owned path ≡ Some o → HoldsItsOwn first v path o
   held_then v left path o is = holds_before site next language known first since graph old over earlier v left path o is
 
+  same_beside : (v w : World) → TreeStays v w → (path : Names) → file_beside w g path ≡ file_beside v g path
+  same_beside v w stays path = λ i. elim (is_owned g path) [ true ↦ None | false ↦ finite.get (stays i) path ]
+
   came : (v w : World) → LeftNow site old v → ClearStep g paths files tree v w → Came w
   came v w left (inl (stored, stays)) = (
     g,
     in_bytes g w.store stored,
     kept_now,
-    λ path. (λ i. elim (is_owned g path) [ true ↦ None | false ↦ finite.get (stays i) path ]) ∙ sources_then v left path,
+    λ path. same_beside v w stays path ∙ sources_then v left path,
     λ path o is. holds_alike first first v w path o o refl (λ i. finite.get (stays i) path) refl (held_then v left path o is),
   )
   came v w left (inr (inl (stored, beside))) = (
