@@ -4,4 +4,4 @@ pub mod Lasting
 pub mod Sites
 pub mod Unmade
 pub mod Unasked
-pub mod Clearing
+pub mod Cleared

@@ -1,6 +1,6 @@
 use Rattle.tup_stale.specs.Unmade.{unmade}
 use Rattle.tup_remains.proofs.Laws.{before}
-use Rattle.tup_lasting.proofs.Clearing.{cleared_remains}
+use Rattle.tup_lasting.proofs.Cleared.{cleared_remains}
 use Rattle.tup_lasting.proofs.Unmade.{unmade_at}
 use Rattle.tup_lasting.proofs.clearing.clearings_keep_sites.Goals as goal
 
