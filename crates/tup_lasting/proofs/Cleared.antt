@@ -28,7 +28,6 @@ use Rattle.tup_remains.proofs.Stores.{in_bytes, one_in_bytes}
 use Rattle.tup_stale.specs.Crash.{ClearStep}
 use Rattle.tup_stale.specs.Files.{without, SameBeside}
 use Rattle.tup_stale.specs.Unmade.{standing}
-use Rattle.tup_stale.proofs.Removals.{get-without}
 use Rattle.tup_lasting.proofs.Unmade.{among_filtered}
 
 -- ---- a path that is owned once some were doomed is unsure, or none of them and as it was
@@ -137,7 +136,7 @@ module _ {S : Type 0} (site : Site S) (next : Next) (language : Language) (known
 
   module _ (w : World) (gone : w.tree ≡ without tree files) (path : Names) where
     file : finite.get w.tree path ≡ cond (among path files) None (finite.get tree path)
-    file = ap (λ (t : Tree). finite.get t path) gone ∙ get-without files tree path
+    file = ap (λ (t : Tree). finite.get t path) gone ∙ get_removed files tree path
 
     file_stays : among path paths ≡ false → finite.get w.tree path ≡ finite.get tree path
     file_stays none = file ∙ ap (λ (b : Bool). cond b None (finite.get tree path)) (outside path none)

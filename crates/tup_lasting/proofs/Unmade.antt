@@ -1,5 +1,5 @@
 -- Owned paths that no rule makes any more, and those of them at which files stand.
-use Rattle.std.proofs.Common.{◌≡◌, ◌⊎◌, ℕ, zero, suc, Bool, true, false, cond, ◌||◌, ◌&&◌, List, [], ◌∷◌, filter, is_none, is_some, Option, None, Some, Contains, refl, sym, ap, subst, ◌∙◌, arith}
+use Rattle.std.proofs.Common.{◌≡◌, ◌⊎◌, ℕ, zero, suc, Bool, true, false, cond, ◌||◌, ◌&&◌, List, [], ◌∷◌, map, filter, is_none, is_some, Option, None, Some, Contains, refl, sym, ap, subst, ◌∙◌, arith}
 use Rattle.std.specs.FinMap as finite
 use Rattle.tup_path.specs.Name.{Names}
 use Rattle.tup_path.specs.Order.{same_path, by_names-total, by_names-antisymmetric}
@@ -9,7 +9,6 @@ use Rattle.tup_graph.specs.declared.owned.Owned.{Owned}
 use Rattle.tup_graph.specs.Graph.{GraphState}
 use Rattle.tup_index.proofs.Entries.{found_entry}
 use Rattle.tup_stale.specs.Unmade.{lacks_maker, unmade}
-use Rattle.tup_stale.proofs.Looked.{unmade_of}
 
 and_false : (b : Bool) → (b && false) ≡ false
 and_false true = refl
@@ -41,6 +40,11 @@ module _ (test : Names → Bool) where
       by false e false same more = listed false e ∙ more ∙ sym (all false same)
 
 -- ---- what is listed without a maker is owned so
+
+-- the paths of entries without a maker
+abbrev unmade_of : List (Names × Owned) → List Names
+unmade_of entries = map (λ (entry : Names × Owned). entry.0) (filter lacks_maker entries)
+
 none_is : (maker : Option ℕ) → is_none maker ≡ true → maker ≡ None
 none_is None e = refl
 none_is (Some number) e = absurd (let wrong : false ≡ true = e in cc)
