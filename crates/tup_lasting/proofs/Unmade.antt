@@ -55,26 +55,26 @@ module _ (q : Names) where
 
   listed_in : (entries : List (Names × Owned)) → among q (unmade_of entries) ≡ true → IsUnmadeIn entries
   listed_in [] is = absurd (let wrong : false ≡ true = is in cc)
-  listed_in (entry ∷ entries) is = by (lacks_maker entry) refl (same_path q entry.0) refl
+  listed_in (entry ∷ entries) is = by (lacks_maker entry) refl (same_path q entry.0) refl (listed_in entries)
     where
       rest : List Names
       rest = unmade_of entries
 
-      later : among q rest ≡ true → IsUnmadeIn (entry ∷ entries)
-      later there = (let more = listed_in entries there in let less = more.1.1 in (more.0, (suc more.1.0, omega (arith, less), more.1.2), more.2))
+      later : IsUnmadeIn entries → IsUnmadeIn (entry ∷ entries)
+      later more = (let less = more.1.1 in (more.0, (suc more.1.0, omega (arith, less), more.1.2), more.2))
 
       listed : (b : Bool) → lacks_maker entry ≡ b → among q (cond b (entry.0 ∷ rest) rest) ≡ true
       listed true e = sym (rw e refl) ∙ is
       listed false e = sym (rw e refl) ∙ is
 
-      by : (b : Bool) → lacks_maker entry ≡ b → (same : Bool) → same_path q entry.0 ≡ same → IsUnmadeIn (entry ∷ entries)
-      by true e true same = (
+      by : (b : Bool) → lacks_maker entry ≡ b → (same : Bool) → same_path q entry.0 ≡ same → (among q rest ≡ true → IsUnmadeIn entries) → IsUnmadeIn (entry ∷ entries)
+      by true e true same behind = (
         entry.1,
         (zero, omega arith, λ i. (sym ((same_path-decides q entry.0).0 same) i, entry.1)),
         none_is entry.1.maker e,
       )
-      by true e false same = later (sym (ap (λ (b : Bool). b || among q rest) same) ∙ listed true e)
-      by false e same_or_not same = later (listed false e)
+      by true e false same behind = later (behind (sym (ap (λ (b : Bool). b || among q rest) same) ∙ listed true e))
+      by false e same_or_not same behind = later (behind (listed false e))
 
 pub unmade_at : (g : GraphState) (q : Names) → among q (unmade g) ≡ true → (o : Owned) × (finite.get g.owned q ≡ Some o) × (o.maker ≡ None)
 unmade_at g q is =
