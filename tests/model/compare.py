@@ -46,9 +46,8 @@ def compare_folders(program, kills):
     problems, calls, killed = [], 0, 0
     for number in range(max(1, int(100 * COUNT))):
         lot = random.Random('folders %d %d' % (SEED, number))
-        folder = Folder([os.path.abspath(program[0])], lot, kills, problems)
-        folder.program = [os.path.abspath(program[0])]
-        Player(lot, with_words(folder, program[1:])).play()
+        folder = Folder(program[0], program[1:], lot, kills, problems)
+        Player(lot, folder).play()
         calls, killed = calls + folder.calls, killed + folder.killed
         if not problems or problems[-1][0] != folder.top:
             folder.remove()
@@ -56,13 +55,6 @@ def compare_folders(program, kills):
         print(*problem, sep='\n    ')
     print('%d calls in real folders, %d killed before, %d differ' % (calls, killed, len(problems)))
     return not problems
-
-
-def with_words(folder, words):
-    """A folder in which updates are called with more words."""
-    run = folder.run
-    folder.run = lambda said: run(said + words if said in ([], ['upd']) else said)
-    return folder
 
 
 def main(words):

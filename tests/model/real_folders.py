@@ -25,15 +25,24 @@ def tree_of(top):
 class Folder:
     """A project in a folder of its own; `problems` are the calls that came out otherwise."""
 
-    def __init__(self, program, lot, kills, problems):
-        self.program, self.lot, self.kills, self.problems = program, lot, kills, problems
+    def __init__(self, program, options, lot, kills, problems):
+        self.program, self.options, self.lot = os.path.abspath(program), options, lot
+        self.kills, self.problems = kills, problems
         self.top, self.calls, self.killed = tempfile.mkdtemp(), 0, 0
 
     def place(self, path):
         return os.path.join(os.fsencode(self.top), *path)
 
+    def start(self, words):
+        """A call, with the options behind its words where it is an update."""
+        options = self.options if words in ([], ['upd']) else []
+        return subprocess.Popen([self.program, *words, *options], cwd=self.top, stdout=subprocess.PIPE,
+                                stderr=subprocess.DEVNULL)
+
     def run(self, words):
-        return subprocess.run([*self.program, *words], cwd=self.top, stdout=subprocess.PIPE, stderr=subprocess.DEVNULL)
+        process = self.start(words)
+        lines, _ = process.communicate()
+        return process.returncode, lines
 
     def begin(self, has_begun):
         if has_begun:
@@ -54,7 +63,7 @@ class Folder:
 
     def call(self, words, status, lines, before, world):
         was_killed = self.kills and words != ['verify'] and status in (0, 1) and before.owned is not None and self.kill(words, before)
-        found = self.run(words)
+        found_status, found_lines = self.run(words)
         self.calls += 1
         tree = tree_of(self.top)
         if was_killed and status == 1:
@@ -63,18 +72,18 @@ class Folder:
             same_tree = {path: tree[path] for path in tree if path not in owned} == before.sources()
         else:
             same_tree = tree == world.tree
-        if found.returncode != status or not was_killed and found.stdout != lines or not same_tree:
+        if found_status != status or not was_killed and found_lines != lines or not same_tree:
             differ = [show(path).decode() for path in sorted(set(tree) | set(world.tree)) if tree.get(path) != world.tree.get(path)]
-            self.problems.append((self.top, words, (status, lines), (found.returncode, found.stdout), differ))
+            self.problems.append((self.top, words, (status, lines), (found_status, found_lines), differ))
             return False
         return not (was_killed and status == 1)
 
     def kill(self, words, before):
         """Ends a call at some moment; no source may be lost by that."""
-        process = subprocess.Popen([*self.program, *words], cwd=self.top, stdout=subprocess.DEVNULL, stderr=subprocess.DEVNULL)
+        process = self.start(words)
         time.sleep(self.lot.random() * .006)
         process.kill()
-        process.wait()
+        process.communicate()
         self.killed += 1
         tree = tree_of(self.top)
         lost = [show(path).decode() for path, content in before.sources().items() if tree.get(path) != content]
