@@ -42,9 +42,9 @@ use Rattle.tup_ground.specs.declared.fault.BoardFault.TheVariants as fault_by
 use Rattle.tup_board.specs.declared.answers.Drained.{Drained}
 use Rattle.tup_board.specs.declared.answers.Drained.TheVariants.{Done, Left}
 use Rattle.tup_board.specs.Board.{BoardState, Opening, course_of, plan_of, seat_of, start, state, with_history}
-use Rattle.tup_board.specs.Calls.{BuildsClean, Drains, Finishes, HasFailed, HasRun, HasRunCause, IsOver, KeepsCount, RanAll, RunsOne, StartsAlone, command_of, commands}
+use Rattle.tup_board.specs.Calls.{BuildsClean, Drains, Finishes, HasFailed, HasRun, HasRunCause, IsOver, RanAll, RunsOne, StartsAlone, command_of, commands}
 use Rattle.tup_board.specs.CameLaws.{claims_both, from_both}
-use Rattle.tup_board.specs.Seat.{IsFromSeat, IsLeft, IsSteady}
+use Rattle.tup_board.specs.Seat.{IsFromSeat, IsLeft, IsSteady, KeepsCount}
 use Rattle.tup_board.specs.Sound.{IsSound}
 use Rattle.tup_board.proofs.Seated.{orderly}
 use Rattle.tup_board.proofs.Seeing.{apart_from, from_one, state_more}
@@ -207,11 +207,8 @@ module _ {S : Type 0} (site : Site S) where
   steady_memory old mid new result is counts rest none other = ap (λ (b : BoardState S). site.faults b.site) rest ∙ counts.steady (λ failed. let clash = sym is ∙ failed in cc)
 
   -- an update under way
-  abbrev pub StaysSteady : BoardState S → BoardState S → Type 0
-  StaysSteady old now = (state now).stopped ≢ Some causes.Site → site.faults now.site ≡ site.faults old.site
-
-  pub stays_steady : (old now mid new : BoardState S) (number : ℕ) (result : Claimed) → StaysSteady old now → Claims 0 (course_of now) result (course_of mid) → result ≡ Gives number → mid ≡ with_history now mid.history
-      → StartsAlone mid number → IsSteady site mid new → StaysSteady old new
+  pub stays_steady : (old now mid new : BoardState S) (number : ℕ) (result : Claimed) → KeepsCount site old now → Claims 0 (course_of now) result (course_of mid) → result ≡ Gives number → mid ≡ with_history now mid.history
+      → StartsAlone mid number → IsSteady site mid new → KeepsCount site old new
   stays_steady old now mid new number result stays claimed is rest starts steady other =
       let gives = subst (λ (r : Claimed). Claims 0 (course_of now) r (course_of mid)) is claimed in
       steady starts.going other ∙ ap (λ (b : BoardState S). site.faults b.site) rest ∙ stays (λ failed. none-some causes.Site (sym gives.0.ready.going ∙ failed))
@@ -444,8 +441,8 @@ module _ {S R : Type 0} (site : Site S) (runner : Runner R) (tells_ran : Bool) (
     pub drained_there : HasDrained tells_ran old mid was ran before faults
     drained_there = subst (λ (b : BoardState S). HasDrained tells_ran old b was ran before faults) (sym nothing_more) has
 
-    pub steady_there : StaysSteady site old now → StaysSteady site old mid
-    steady_there stays = subst (λ (b : BoardState S). StaysSteady site old b) (sym nothing_more) stays
+    pub steady_there : KeepsCount site old now → KeepsCount site old mid
+    steady_there stays = subst (λ (b : BoardState S). KeepsCount site old b) (sym nothing_more) stays
 
 -- ---- an update that is over
 module _ {S : Type 0} (tells_ran : Bool) (old now : BoardState S) (was ran : List (Names × List ℕ)) (before faults : ℕ) (has : HasDrained tells_ran old now was ran before faults) (result : Drained) (drains : Drains (state now) result) where
@@ -461,9 +458,6 @@ module _ {S : Type 0} (tells_ran : Bool) (old now : BoardState S) (was ran : Lis
   stopped_for : (cause : Cause) → cause ≢ causes.Bad → result ≡ Left cause → (state now).stopped ≡ Some cause
   stopped_for cause other is =
       ⊎_elim (λ stopped. stopped) (λ bad. absurd (other bad.1)) (subst (Drains (state now)) is drains)
-
-  pub kept_count : (site : Site S) → StaysSteady site old now → KeepsCount (site.faults old.site) (site.faults now.site) result
-  kept_count site stays other = stays (λ is. other (left_by causes.Site is))
 
   pub run_cause : HasRunCause (state old).stopped before faults result
   run_cause = record {

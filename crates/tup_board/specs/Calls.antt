@@ -26,7 +26,7 @@ use Rattle.tup_access.specs.declared.verdict.Verdict.TheVariants.{Good}
 use Rattle.tup_record.specs.declared.run.RunRecord.{RunRecord}
 use Rattle.tup_kept.specs.Held.{Held}
 use Rattle.tup_core.specs.declared.event.Cause.{Cause}
-use Rattle.tup_core.specs.declared.event.Cause.TheVariants.{Bad, Run, Memory as StoppedByMemory, Site as Failed}
+use Rattle.tup_core.specs.declared.event.Cause.TheVariants.{Bad, Run, Memory as StoppedByMemory}
 use Rattle.tup_core.specs.declared.event.CoreEvent.{CoreEvent}
 use Rattle.tup_core.specs.declared.event.CoreEvent.TheVariants.{Ask, Deny, Finish}
 use Rattle.tup_core.specs.Honest.{EndsHonestly, stamped}
@@ -253,10 +253,6 @@ RanAll plan events old new result = new ≡ old ++ commands plan events
 pub record HasRunCause (before : Option Cause) (was now : ℕ) (result : Drained) : Type 0 where
   pub run : result ≡ Left Run → (before ≡ Some Run) ⊎ Rose was now
   pub steady : result ≢ Left Run → now ≡ was
-
--- and its site did at none but where it is left for that
-abbrev pub KeepsCount : ℕ → ℕ → Drained → Type 0
-KeepsCount was now result = result ≢ Left Failed → now ≡ was
 
 -- ---- one rule of a drain
 -- seat 0 runs the rule of this number, whose command did nothing yet; nothing is stopped, and no other seat runs one

@@ -49,9 +49,13 @@ pub record IsLeft {S : Type 0} (seat : ℕ) (old new : BoardState S) : Type 0 wh
   pub ends : (state new).seats seat ≡ None
   pub never_run : (state old).stopped ≡ None → (state new).stopped ≢ Some Run
 
--- the site's count of faults is what it was, unless all is stopped for its failure: where nothing was stopped before
+-- the site's count of faults is what it was, unless all is stopped for its failure
+abbrev pub KeepsCount : {S : Type 0} → Site S → BoardState S → BoardState S → Type 0
+KeepsCount site old new = (state new).stopped ≢ Some Failed → site.faults new.site ≡ site.faults old.site
+
+-- so it is where nothing was stopped before: the first cause of a stop stays, whatever fails then
 abbrev pub IsSteady : {S : Type 0} → Site S → BoardState S → BoardState S → Type 0
-IsSteady site old new = (state old).stopped ≡ None → (state new).stopped ≢ Some Failed → site.faults new.site ≡ site.faults old.site
+IsSteady site old new = (state old).stopped ≡ None → KeepsCount site old new
 
 -- what a view has refused, as contracts see it
 abbrev pub refusal_of : Option Refused → Option Refusal

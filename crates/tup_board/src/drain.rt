@@ -13,7 +13,7 @@ ghost use Rattle.tup_core.specs.Sound.{IsAcyclic};
 ghost use Rattle.tup_core.specs.declared.event.CoreEvent.{CoreEvent as CoreEventValue};
 ghost use Rattle.tup_board.specs.Board.{course_of, plan_of, seat_of, state};
 ghost use Rattle.tup_board.specs.Calls.{command_of, IsReportOf, StartsAlone};
-ghost use Rattle.tup_board.specs.Seat.{IsLeft, IsSteady, Performs, refusal_of};
+ghost use Rattle.tup_board.specs.Seat.{IsLeft, IsSteady, KeepsCount, Performs, refusal_of};
 
 use crate::answers::Drained;
 use crate::board::Board;
@@ -29,7 +29,7 @@ use tup_site::Site;
 
 impl<S: Site, R: Runner> Board<S, R> {
     ghost use Rattle.tup_course.specs.Course.{NoneRuns};
-    ghost use Rattle.tup_board.specs.Calls.{BuildsClean, Drains, HasFailed, HasRun, HasRunCause, IsOver, KeepsCount, RanAll, RunsOne};
+    ghost use Rattle.tup_board.specs.Calls.{BuildsClean, Drains, HasFailed, HasRun, HasRunCause, IsOver, RanAll, RunsOne};
 
     /// Runs all that can be run, one rule after another, at seat 0, while no seat runs a rule.
     ///
@@ -56,7 +56,7 @@ impl<S: Site, R: Runner> Board<S, R> {
             × All (λ event. seat_of event ≡ 0) events }
         ensures cause { HasRunCause (state self.old).stopped
             (R.faults runner.old) (R.faults runner.new) result }
-        ensures steady { KeepsCount (S.faults self.old.site) (S.faults self.new.site) result }
+        ensures steady { KeepsCount S.Site.own self.old self.new }
     {
         'rules: loop {
             match self.claim(plan, 0) {

@@ -2,4 +2,6 @@ pub mod Going
 pub mod Openings
 pub mod Placed
 pub mod Putting
+pub mod Seeing
+pub mod Sharing
 pub mod Told

@@ -1,12 +1,15 @@
 -- Asks with the stamps of their answers, one after another.
-use Rattle.std.proofs.Common.{◌≡◌, ◌&&◌, ℕ, List, [], ◌∷◌, ◌++◌, Option, Some, None, nat_eq, refl, ap}
+use Rattle.std.proofs.Common.{◌≡◌, ◌&&◌, ℕ, List, [], ◌∷◌, ◌++◌, Option, Some, None, nat_eq, refl, sym, ap, ◌∙◌, take}
 use Rattle.std.specs.Bool.{Decides}
 use Rattle.std.specs.Option.{option_eq}
 use Rattle.std.specs.Cmp.Lexicographic.{pointwise, bytes_decides}
 use Rattle.std.proofs.lemmas.Bool.Decides.{Decides-and, Decides-like}
 use Rattle.tup_stamp.specs.declared.Stamp.{Stamp}
 use Rattle.tup_stamp.specs.contracts.StampPartialEq.TheImpl as stamps
+use Rattle.tup_runner.specs.Next.{Asks}
 use Rattle.tup_runner.specs.declared.step.Answer.{Answer}
+use Rattle.tup_given.specs.Replies.{ComesOn, answered}
+use Rattle.tup_given.specs.declared.replies.Replies.{Replies}
 use Rattle.tup_board.specs.Calls.{AreStamped, IsStampOf}
 
 pub stamped_push : (stamps : List (List ℕ × Option Stamp)) (asks : List (List ℕ × Answer)) (ask : List ℕ × Option Stamp) (given : List ℕ × Answer) → AreStamped stamps asks
@@ -30,3 +33,7 @@ ask_decides one other =
     (λ e. λ i. (e.0 i, e.1 i))
     (λ e. (λ i. (e i).0, λ i. (e i).1))
     (Decides-and _ _ (bytes_decides one.0 other.0) (answer_decides one.1 other.1))
+
+-- a view that has answered nothing came on by all that it has answered then
+pub came_all : (first : Replies) (some : Asks) (last : Replies) → first.asked ≡ 0 → ComesOn first some last → some ≡ answered last
+came_all first some last none came = sym (came.1 ∙ ap (λ (n : ℕ). take n first.given ++ some) none)

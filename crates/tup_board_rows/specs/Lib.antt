@@ -1,2 +1,4 @@
 pub mod Apart
 pub mod Desk
+pub mod Opening
+pub mod Told

@@ -1,13 +1,12 @@
 //! A board whose seats are driven by hand.
 ghost use Rattle.std.specs.Prelude.{◌≡◌, IfOk, IsTrue};
-ghost use Rattle.tup_kept.specs.Held.{is_fresh};
 ghost use Rattle.tup_board.specs.Board.{course_of, plan_of};
-ghost use Rattle.tup_board.specs.Outputs.{AreApart, IsPlanOf};
 ghost use Rattle.tup_course.specs.Course.{GoesOn, RunsRule, WasDenied};
 
 use crate::order::Order;
 use crate::quiet::Quiet;
-use crate::seat::{is_over_asks, may_run, performed, rule_of};
+use crate::report::{note, performed};
+use crate::seat::{is_over_asks, may_run, rule_of};
 use crate::shown::{
     asked_words, claimed_words, drained_words, ended_words, fault_words, verdict_words,
 };
@@ -15,11 +14,10 @@ use std::alloc::{AllocError, Global};
 use tup_board::{Asked, Board, BoardParts, Claimed, Drained};
 use tup_core::{Cause, Plan};
 use tup_given::Replies;
-use tup_kept::Graph;
 use tup_mini::Mini;
 use tup_path::{Items, Text};
 use tup_rows::{RowFault, Words, set};
-use tup_runner::{Answer, Report, RunFailed};
+use tup_runner::{Report, RunFailed};
 
 /// How often a command may ask.
 const STEPS: u32 = 5_000;
@@ -36,25 +34,9 @@ pub(crate) struct Desk {
     ghost planned: { plan ≡ plan_of board },
 }
 
-/// A board at its opening.
-pub(crate) fn seated(alloc: Global, site: Quiet, graph: Graph, plan: Plan) -> Result<Desk, RowFault>
-    requires fresh { IsTrue (is_fresh graph) }
-    requires plan { IsPlanOf graph.nodes plan }
-    requires apart { AreApart plan graph.nodes }
-{
-    match Board::new(alloc, site, graph, &plan) {
-        Ok(board) => Desk::of(alloc, board, plan),
-        Err(back) => {
-            drop(back);
-            drop(plan);
-            Err(RowFault::Memory)
-        }
-    }
-}
-
 impl Desk {
     /// Nobody was told anything yet.
-    fn of(alloc: Global, board: MemBoard, plan: Plan) -> Result<Desk, RowFault>
+    pub(crate) fn of(alloc: Global, board: MemBoard, plan: Plan) -> Result<Desk, RowFault>
         requires { plan ≡ plan_of board }
     {
         match untold(alloc) {
@@ -174,7 +156,7 @@ impl Desk {
             return Err(RunFailed::Memory);
         };
         match self.told.get_mut(seat as usize) {
-            Some(told) => performed(alloc, rule, told),
+            Some(told) => performed(alloc, &mut Mini::new(alloc), rule, told),
             None => Err(RunFailed::Memory),
         }
     }
@@ -344,18 +326,4 @@ fn untold(alloc: Global) -> Result<Vec<Replies>, AllocError> {
         told.push(Replies::new(Items::new(alloc)))?;
     }
     Ok(told)
-}
-
-/// Notes what a text was answered, if it was.
-fn note(told: &mut Replies, text: &Text, asked: &Asked) -> Result<(), AllocError> {
-    match asked {
-        Asked::Content(content) => add(told, text, Answer::Content(content.clone()?)),
-        Asked::Absent => add(told, text, Answer::Absent),
-        Asked::Denied(_) => Ok(()),
-    }
-}
-
-fn add(told: &mut Replies, text: &Text, answer: Answer) -> Result<(), AllocError> {
-    told.add(text.clone()?, answer)?;
-    Ok(())
 }

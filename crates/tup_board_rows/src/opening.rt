@@ -1,16 +1,20 @@
 //! Boards at their opening.
-ghost use Rattle.std.specs.Prelude.{◌≡◌, ◌↔◌, true, All, IfOk, IsTrue};
+ghost use Rattle.std.specs.Prelude.{◌≡◌, ◌↔◌, true, [], All, IfOk, IsTrue};
+ghost use Rattle.tup_scan.specs.Seen.{IsSeen};
 ghost use Rattle.tup_graph.specs.Graph.{is_flagged};
-ghost use Rattle.tup_kept.specs.Held.{is_fresh};
+ghost use Rattle.tup_kept.specs.Held.{is_fresh, StandsFor};
+ghost use Rattle.tup_board.specs.Board.{plan_of as planned_at};
 ghost use Rattle.tup_board.specs.Outputs.{AreApart, IsPlanOf};
+ghost use Rattle.tup_board_rows.specs.Opening.{IsReady};
 
 use crate::apart::are_apart;
-use crate::desk::{Desk, seated};
+use crate::desk::Desk;
 use crate::project::{Given, reach_at};
 use crate::quiet::Quiet;
 use crate::store::site_of;
 use std::alloc::Global;
 use tup_above::runs_are_of_rules;
+use tup_board::Board;
 use tup_core::Plan;
 use tup_graph::Nodes;
 use tup_kept::Graph;
@@ -18,8 +22,9 @@ use tup_note::note_scan;
 use tup_partial::{flags_are_of_rules, plan_of};
 use tup_path::Path;
 use tup_rows::{RowFault, Words};
-use tup_scan::{Still, scan};
-use tup_site::MemSite;
+use tup_runner::Runner;
+use tup_scan::{Seen, Still, scan};
+use tup_site::{MemSite, Site};
 
 /// The board of a row at its opening, whose site lets so many calls pass. `OtherKind` where no board may be made.
 pub(crate) fn board_of(
@@ -51,7 +56,7 @@ fn open(
     large: &Option<(Path, u64)>,
 ) -> Result<Desk, RowFault> {
     match scanned(alloc, &mut site, calls, large) {
-        Ok(graph) => planned(alloc, site, graph, keep_going),
+        Ok(graph) => seated(alloc, site, graph, keep_going),
         Err(fault) => {
             drop(site);
             Err(fault)
@@ -59,17 +64,13 @@ fn open(
     }
 }
 
-/// A board over a site and its graph, if one may be made.
-fn planned(alloc: Global, site: Quiet, graph: Graph, keep_going: bool) -> Result<Desk, RowFault>
+/// Its board, at which nobody was told anything yet.
+fn seated(alloc: Global, site: Quiet, graph: Graph, keep_going: bool) -> Result<Desk, RowFault>
     requires { IsTrue (is_fresh graph) }
 {
-    match tested(alloc, &graph, keep_going) {
-        Ok(plan) => seated(alloc, site, graph, plan),
-        Err(fault) => {
-            drop(site);
-            drop(graph);
-            Err(fault)
-        }
+    match planned(alloc, site, graph, keep_going) {
+        Ok((board, plan)) => Desk::of(alloc, board, plan),
+        Err(fault) => Err(fault),
     }
 }
 
@@ -88,8 +89,70 @@ fn scanned(
     Ok(graph)
 }
 
-fn noted(alloc: Global, site: &mut Quiet) -> Result<Graph, RowFault>
-    ensures { IfOk result (λ graph. IsTrue (is_fresh graph)) }
+/// A board over a site whose store has a graph, once its tree was scanned, and the board's plan.
+pub(crate) fn board_over<S: Site, R: Runner>(
+    alloc: Global,
+    mut site: S,
+) -> Result<(Board<S, R>, Plan), RowFault>
+    ensures plan { IfOk result (λ both. both.1 ≡ planned_at both.0) }
+    ensures none { IfOk result (λ both. both.0.history ≡ []) }
+{
+    match noted(alloc, &mut site) {
+        Ok(graph) => planned(alloc, site, graph, false),
+        Err(fault) => {
+            drop(site);
+            Err(fault)
+        }
+    }
+}
+
+/// A board over a site and its graph, if one may be made, and the board's plan.
+fn planned<S: Site, R: Runner>(
+    alloc: Global,
+    site: S,
+    graph: Graph,
+    keep_going: bool,
+) -> Result<(Board<S, R>, Plan), RowFault>
+    requires { IsReady S.Site.own graph site }
+    ensures plan { IfOk result (λ both. both.1 ≡ planned_at both.0) }
+    ensures none { IfOk result (λ both. both.0.history ≡ []) }
+{
+    match tested(alloc, &graph, keep_going) {
+        Ok(plan) => made(alloc, site, graph, plan),
+        Err(fault) => {
+            drop(site);
+            drop(graph);
+            Err(fault)
+        }
+    }
+}
+
+/// The board that runs a plan.
+fn made<S: Site, R: Runner>(
+    alloc: Global,
+    site: S,
+    graph: Graph,
+    plan: Plan,
+) -> Result<(Board<S, R>, Plan), RowFault>
+    requires ready { IsReady S.Site.own graph site }
+    requires plan { IsPlanOf graph.nodes plan }
+    requires apart { AreApart plan graph.nodes }
+    ensures plan { IfOk result (λ both. both.1 ≡ planned_at both.0) }
+    ensures none { IfOk result (λ both. both.0.history ≡ []) }
+{
+    match Board::new(alloc, site, graph, &plan) {
+        Ok(board) => Ok((board, plan)),
+        Err(back) => {
+            drop(back);
+            drop(plan);
+            Err(RowFault::Memory)
+        }
+    }
+}
+
+/// The graph of a site's store, which has seen the files of its tree.
+fn noted<S: Site>(alloc: Global, site: &mut S) -> Result<Graph, RowFault>
+    ensures { IfOk result (λ graph. IsReady S.Site.own graph site.new) }
 {
     match Graph::open(alloc, site) {
         Ok(graph) => note(alloc, site, graph),
@@ -98,11 +161,13 @@ fn noted(alloc: Global, site: &mut Quiet) -> Result<Graph, RowFault>
 }
 
 /// A graph takes note of the files of a site.
-fn note(alloc: Global, site: &mut Quiet, mut graph: Graph) -> Result<Graph, RowFault>
-    requires { IsTrue (is_fresh graph) }
-    ensures { IfOk result (λ graph. IsTrue (is_fresh graph)) }
+fn note<S: Site>(alloc: Global, site: &mut S, mut graph: Graph) -> Result<Graph, RowFault>
+    requires fresh { IsTrue (is_fresh graph) }
+    requires stands { IsTrue S.tells
+        → StandsFor S.world S.moment S.left_since graph site.old }
+    ensures { IfOk result (λ graph. IsReady S.Site.own graph site.new) }
 {
-    if is_noted(alloc, site, &mut graph) && graph.fresh() {
+    if is_noted(alloc, site, &mut graph) {
         Ok(graph)
     } else {
         drop(graph);
@@ -110,11 +175,29 @@ fn note(alloc: Global, site: &mut Quiet, mut graph: Graph) -> Result<Graph, RowF
     }
 }
 
-fn is_noted(alloc: Global, site: &mut Quiet, graph: &mut Graph) -> bool
-    requires { IsTrue (is_fresh graph.old) }
+/// Whether a graph has taken note of the files of a site.
+fn is_noted<S: Site>(alloc: Global, site: &mut S, graph: &mut Graph) -> bool
+    requires fresh { IsTrue (is_fresh graph.old) }
+    requires stands { IsTrue S.tells
+        → StandsFor S.world S.moment S.left_since graph.old site.old }
+    ensures { IsTrue result → IsReady S.Site.own graph.new site.new }
 {
     match scan(alloc, site, 1, &Still) {
-        Ok(seen) => note_scan(alloc, graph, site, &seen).is_ok(),
+        Ok(seen) => takes_note(alloc, site, graph, &seen),
+        Err(_) => false,
+    }
+}
+
+/// Whether it has taken note of what a scan has seen.
+fn takes_note<S: Site>(alloc: Global, site: &mut S, graph: &mut Graph, seen: &Seen) -> bool
+    requires fresh { IsTrue (is_fresh graph.old) }
+    requires stands { IsTrue S.tells
+        → StandsFor S.world S.moment S.left_since graph.old site.old }
+    requires seen { IsTrue S.tells → IsSeen (S.world site.old).tree seen.now }
+    ensures { IsTrue result → IsReady S.Site.own graph.new site.new }
+{
+    match note_scan(alloc, graph, site, seen) {
+        Ok(()) => graph.fresh(),
         Err(_) => false,
     }
 }

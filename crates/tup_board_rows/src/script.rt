@@ -12,7 +12,7 @@ use tup_core::CoreEvent;
 use tup_graph::Nodes;
 use tup_path::{Bytes, Path};
 use tup_rows::{RowFault, Words};
-use tup_site::MemSite;
+use tup_site::{MemSite, Site};
 
 /// What a call shows of the board of a row, once it has obeyed the orders; `none` where no board may be made.
 pub(crate) fn script(
@@ -29,7 +29,7 @@ pub(crate) fn script(
 }
 
 /// The answer of a row, which isn't looked at any further.
-fn none(alloc: Global, said: &Words) -> Words {
+pub(crate) fn none(alloc: Global, said: &Words) -> Words {
     said.as_slice();
     Words::word(alloc, b"none")
 }
@@ -80,7 +80,7 @@ fn obey(
     Ok(())
 }
 
-fn add_all(alloc: Global, words: &mut Words, more: &[Vec<u8>]) {
+pub(crate) fn add_all(alloc: Global, words: &mut Words, more: &[Vec<u8>]) {
     for word in more {
         words.put(alloc, word);
     }
@@ -113,24 +113,33 @@ fn looked_at(
     }
 }
 
-/// All that happened.
 fn events(alloc: Global, history: &[CoreEvent]) -> Words {
     let mut words = Words::new(alloc);
+    add_events(alloc, &mut words, history);
+    words
+}
+
+/// All that happened.
+pub(crate) fn add_events(alloc: Global, words: &mut Words, history: &[CoreEvent]) {
     for event in history {
-        show_event(alloc, &mut words, event);
+        show_event(alloc, words, event);
     }
+}
+
+fn flags(alloc: Global, parts: &BoardParts<Quiet>) -> Words {
+    let mut words = Words::new(alloc);
+    add_state(alloc, &mut words, parts);
     words
 }
 
 /// Whether the graph is `fresh` or `lost`, the first cause of a stop or `-`, and the flagged rules.
-fn flags(alloc: Global, parts: &BoardParts<Quiet>) -> Words {
-    let mut words = Words::word(alloc, freshness(parts.graph.fresh()));
+pub(crate) fn add_state<S: Site>(alloc: Global, words: &mut Words, parts: &BoardParts<S>) {
+    words.put(alloc, freshness(parts.graph.fresh()));
     match parts.cause {
-        Some(cause) => show_cause(alloc, &mut words, cause),
+        Some(cause) => show_cause(alloc, words, cause),
         None => words.put(alloc, b"-"),
     }
-    add_flags(alloc, &mut words, parts.graph.nodes());
-    words
+    add_flags(alloc, words, parts.graph.nodes());
 }
 
 fn freshness(is_fresh: bool) -> &'static [u8] {

@@ -11,11 +11,10 @@ ghost use Rattle.tup_runner.specs.Report.{asks_of};
 use crate::desk::MemBoard;
 use std::alloc::{AllocError, Global};
 use tup_core::{Plan, Running, StampAsks};
-use tup_given::Replies;
 use tup_mini::Mini;
 use tup_path::{Items, Text};
 use tup_rule::Rule;
-use tup_runner::{Answer, Report, RunFailed, perform};
+use tup_runner::{Answer, Report};
 use tup_stamp::{Stamp, stamp_of};
 
 /// The rule that a seat runs.
@@ -33,19 +32,6 @@ pub(crate) fn may_run(plan: &Plan, seat: u32, running: &Running) -> bool
     ensures { IsTrue result → MayRun plan.now seat running.now }
 {
     seat < 16 && plan.rules.as_slice().get(running.rule as usize).is_some()
-}
-
-/// The report of the command of a rule over what it was told.
-pub(crate) fn performed(
-    alloc: Global,
-    rule: &Rule,
-    told: &mut Replies,
-) -> Result<Report<Mini>, RunFailed>
-    ensures dir { IfOk result (λ report. report.dir ≡ rule.now.dir) }
-    ensures text { IfOk result (λ report. report.text ≡ rule.now.text) }
-{
-    told.rewind();
-    perform(alloc, &mut Mini::new(alloc), &rule.dir, &rule.text, told)
 }
 
 /// Whether a report has the asks of what a seat runs, with the stamps that they were answered.

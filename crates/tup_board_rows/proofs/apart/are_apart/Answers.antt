@@ -1,6 +1,5 @@
 use Rattle.std.proofs.Common.{List, subst}
 use Rattle.std.proofs.lemmas.Result.{IfOk-weaker}
-use Rattle.tup_path.specs.Name.{Names}
 use Rattle.tup_rule.specs.declared.rule.Rule.{Rule}
 use Rattle.tup_board_rows.specs.Apart.{StandTogether}
 use Rattle.tup_board_rows.proofs.Openings.{apart_is}

@@ -1,4 +1,4 @@
-use Rattle.std.proofs.Common.{◌≡◌, ◌∷◌, [], ◌++◌, ℕ, List, Option, take, sym, ap, ◌∙◌, subst}
+use Rattle.std.proofs.Common.{◌∷◌, [], ◌++◌, ℕ, List, Option, take, sym, ap, ◌∙◌, subst}
 use Rattle.std.proofs.lemmas.List.{take_more}
 use Rattle.tup_stamp.specs.declared.Stamp.{Stamp}
 use Rattle.tup_runner.specs.declared.step.Answer.{Answer}

@@ -5,7 +5,7 @@ use Rattle.tup_core.specs.Sound.{IsAcyclic}
 use Rattle.tup_board.specs.declared.answers.Drained.{Drained}
 use Rattle.tup_board.specs.Board.{state}
 use Rattle.tup_board.specs.Calls.{Drains, RanAll}
-use Rattle.tup_board.proofs.Draining.{builds_clean, drained_none, drained_there, goes_further, is_smaller, none_pending, over_there, plan_there, kept_count, ran_as, run_cause, starts_there, stays_steady, steady_there}
+use Rattle.tup_board.proofs.Draining.{builds_clean, drained_none, drained_there, goes_further, is_smaller, none_pending, over_there, plan_there, ran_as, run_cause, starts_there, stays_steady, steady_there}
 use Rattle.tup_board.proofs.board.Board.drain.Goals as goal
 
 pub rules-init : goal.rules-init
@@ -58,9 +58,7 @@ returns-in-Over-clause-cause g c =
     (drained_there g.S.Site g.R.Runner g.R.Runner.tells_ran c.args.self.now c.rules.self c.claim.new.self (g.R.Runner.ran c.args.runner.now) (g.R.Runner.ran c.rules.runner) (g.R.Runner.faults c.args.runner.now) (g.R.Runner.faults c.rules.runner) c.rules.invariant.0 c.claim.result c.claim.ensures.claims c.claim.ensures.rest c.in-Over.is) c.drained.result c.drained.ensures
 
 pub returns-in-Over-clause-steady : goal.returns-in-Over-clause-steady
-returns-in-Over-clause-steady g c =
-    kept_count g.R.Runner.tells_ran c.args.self.now c.claim.new.self (g.R.Runner.ran c.args.runner.now) (g.R.Runner.ran c.rules.runner) (g.R.Runner.faults c.args.runner.now) (g.R.Runner.faults c.rules.runner)
-    (drained_there g.S.Site g.R.Runner g.R.Runner.tells_ran c.args.self.now c.rules.self c.claim.new.self (g.R.Runner.ran c.args.runner.now) (g.R.Runner.ran c.rules.runner) (g.R.Runner.faults c.args.runner.now) (g.R.Runner.faults c.rules.runner) c.rules.invariant.0 c.claim.result c.claim.ensures.claims c.claim.ensures.rest c.in-Over.is) c.drained.result c.drained.ensures g.S.Site (steady_there g.S.Site g.R.Runner g.R.Runner.tells_ran c.args.self.now c.rules.self c.claim.new.self (g.R.Runner.ran c.args.runner.now) (g.R.Runner.ran c.rules.runner) (g.R.Runner.faults c.args.runner.now) (g.R.Runner.faults c.rules.runner) c.rules.invariant.0 c.claim.result c.claim.ensures.claims c.claim.ensures.rest c.in-Over.is c.rules.invariant.1)
+returns-in-Over-clause-steady g c = steady_there g.S.Site g.R.Runner g.R.Runner.tells_ran c.args.self.now c.rules.self c.claim.new.self (g.R.Runner.ran c.args.runner.now) (g.R.Runner.ran c.rules.runner) (g.R.Runner.faults c.args.runner.now) (g.R.Runner.faults c.rules.runner) c.rules.invariant.0 c.claim.result c.claim.ensures.claims c.claim.ensures.rest c.in-Over.is c.rules.invariant.1
 
 pub returns-in-Over-clause-opening : goal.returns-in-Over-clause-opening
 returns-in-Over-clause-opening g c = (drained_there g.S.Site g.R.Runner g.R.Runner.tells_ran c.args.self.now c.rules.self c.claim.new.self (g.R.Runner.ran c.args.runner.now) (g.R.Runner.ran c.rules.runner) (g.R.Runner.faults c.args.runner.now) (g.R.Runner.faults c.rules.runner) c.rules.invariant.0 c.claim.result c.claim.ensures.claims c.claim.ensures.rest c.in-Over.is).opening

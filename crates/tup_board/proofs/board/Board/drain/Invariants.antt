@@ -1,9 +1,10 @@
-use Rattle.tup_board.proofs.Draining.{HasDrained, StaysSteady, left_to_claim}
+use Rattle.tup_board.specs.Seat.{KeepsCount}
+use Rattle.tup_board.proofs.Draining.{HasDrained, left_to_claim}
 use Rattle.tup_board.proofs.board.Board.drain.Given as goal
 
 abbrev pub invariant-rules : goal.invariant-rules
 invariant-rules g l =
-    HasDrained g.R.Runner.tells_ran l.fn.self l.self (g.R.Runner.ran l.fn.runner) (g.R.Runner.ran l.runner) (g.R.Runner.faults l.fn.runner) (g.R.Runner.faults l.runner) × StaysSteady g.S.Site l.fn.self l.self
+    HasDrained g.R.Runner.tells_ran l.fn.self l.self (g.R.Runner.ran l.fn.runner) (g.R.Runner.ran l.runner) (g.R.Runner.faults l.fn.runner) (g.R.Runner.faults l.runner) × KeepsCount g.S.Site l.fn.self l.self
 
 abbrev pub decreases-rules : goal.decreases-rules
 decreases-rules g l = left_to_claim l.self
