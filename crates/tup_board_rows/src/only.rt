@@ -25,8 +25,9 @@ use tup_site::MemSite;
 /// What the only seat of a board does, and all that happened; `none` where there is no such seat, or no board may be made.
 pub(crate) fn alone(alloc: Global, given: &Given, said: &Words) -> Result<Words, RowFault> {
     match tried(alloc, given, said) {
+        Ok(words) => Ok(words),
         Err(RowFault::OtherKind) => Ok(none(alloc, said)),
-        came => came,
+        Err(fault) => Err(fault),
     }
 }
 
