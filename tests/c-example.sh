@@ -38,7 +38,7 @@ update() {
     step=$1
     updates=$((updates + 1))
     before=$(sources)
-    timeout 100 "$tup" upd --proc "$sh" > "$work/out" 2> "$work/err"
+    ${user:-} timeout 100 "$tup" upd --proc "$sh" > "$work/out" 2> "$work/err"
     status=$?
     [ $status = "$2" ] || wrong "exit number $status, wanted $2: $(cat "$work/err")"
     last=$(tail -n 1 "$work/out")
@@ -107,12 +107,17 @@ update 'at the end' 0 "$all"
 greets 'Hello from version 1.2'
 cmp -s lib/hello.c "$example/lib/hello.c" || wrong 'hello.c was changed'
 
-# command STEP STATUS LAST TEXT: a project of two sources whose one rule has this command and the output `made`.
-command() {
+# one_rule TEXT: a project of a few sources whose one rule has this command and the output `made`.
+one_rule() {
     rm -rf "$work/commands" && mkdir -p "$work/commands/src/sub" && cd "$work/commands" && "$tup" init > /dev/null || exit 1
     echo a > src/a && echo b > src/b && echo s > src/sub/s && echo o > source && echo h > .hidden && chmod 600 src/b && ln -s a src/ln
     printf 'int main(void) { return 0 }\n' > src/wrong.c
-    printf ': a |> %s |> made\n' "$4" > src/Tupfile
+    printf ': a |> %s |> made\n' "$1" > src/Tupfile
+}
+
+# command STEP STATUS LAST TEXT: the update of such a project.
+command() {
+    one_rule "$4"
     update "$1" "$2" "$3"
 }
 
@@ -137,6 +142,36 @@ sleep 3
 [ "$(cat src/a)" = a ] || wrong 'a was changed'
 command 'one that holds its streams open' 0 'done: 1 read, 1 run, 0 removed' 'sleep 1000 & echo now > made'
 command 'permissions are changed' 0 'done: 1 read, 1 run, 0 removed' 'chmod 777 a b ../source && cp a made'
+
+# -- updates that are stopped, as Ctrl-C stops one: to all that they started the signal comes. The next one is done
+# stopped SIGNAL TEXT: this update is stopped after a second, and its command then mended.
+stopped() {
+    one_rule "$2"
+    if [ -n "$user" ]; then chown -R 65534:65534 .; fi
+    step="stopped by $1${user:+ and not by root}: $2"
+    before=$(sources)
+    $user timeout -s "$1" 1 "$tup" upd --proc "$sh" > "$work/out" 2> "$work/err"
+    [ "$(sources)" = "$before" ] || wrong 'a source changed'
+    [ -e src/made ] && wrong 'made is there'
+    sleep 1
+    pgrep -f 'sleep 98[7]' > /dev/null && wrong 'its command is still at work'
+    printf ': a |> cp a made |> made\n' > src/Tupfile
+    update "behind one that was $step" 0 'done: 1 read, 1 run, 0 removed'
+    [ "$(ls .tup)" = "$(printf 'db\nstage')" ] || wrong "more is left in .tup: $(ls .tup)"
+}
+all_stopped() {
+    for signal in INT TERM KILL; do
+        stopped $signal 'echo x > made; echo x > a; rm b; mv sub other; sleep 987'
+    done
+    stopped INT 'mkdir dir && echo x > dir/x && chmod 555 dir && sleep 987'
+}
+user=
+all_stopped
+if [ "$(id -u)" = 0 ]; then
+    chmod 755 "$work" && cp "$tup" "$work/tup" && cp "$sh" "$work/tup_sh" && chmod 755 "$work/tup" "$work/tup_sh"
+    tup=$work/tup sh=$work/tup_sh user='setpriv --reuid 65534 --regid 65534 --clear-groups'
+    all_stopped
+fi
 
 printf '%s updates, %s wrong\n' "$updates" "$failures"
 [ "$failures" = 0 ]

@@ -1,5 +1,5 @@
 #!/bin/sh
-# Each system call of an update over real files, and of the beginning of a project, is failed and killed in turn, by strace: whatever stops the program, no
+# Each system call of an update over real files, of the beginning of a project and of a comparison, is failed and killed in turn, by strace: whatever stops the program, no
 # source may be lost, and the next update has to end with `done` and leave just the files of a clean build. A call that
 # failed is told with its error; only where nothing is lost by it may the update go on. Before, the order of its syncs is
 # looked at: which calls of the system make a file durable no clause says. Words: the program, and the projects to try (none: all). It ends with 1
@@ -34,6 +34,12 @@ three_rules() {
 
 # A folder without a project, whose beginning is stopped.
 beginning() { three_rules; }
+
+# A project that is up to date, whose comparison is stopped.
+comparison() {
+    three_rules
+    "$tup" > /dev/null
+}
 
 # One rule has vanished, one command and a source have changed, and a user has written over an output and deleted another.
 after_changes() {
@@ -106,8 +112,16 @@ may_go_on() {
 made_all() {
     case $order in
         init) [ -s .tup/db ] || wrong "exit $exit, and there is no store" ;;
+        verify) [ "$exit $(tail -1 "$work/told")" = '0 same' ] || [ $exit = 9 ] || wrong "exit $exit: $(tail -1 "$work/told")" ;;
         *) [ "$(files)" = "$wanted_files" ] || wrong "exit $exit, and the files aren't those of a clean build" ;;
     esac
+}
+
+# A comparison that was stopped has changed nothing.
+unchanged() {
+    [ "$(files)" = "$wanted_files" ] || wrong "a comparison changed a file"
+    cmp -s .tup/db "$work/project/.tup/db" || wrong "a comparison changed the store"
+    [ "$(ls .tup)" = db ] || wrong "a comparison left more than the store in .tup: $(ls .tup | tr '\n' ' ')"
 }
 
 # A project that may have begun begins, or says that it has.
@@ -137,7 +151,10 @@ stop() {
         'write error='*' 9') made_all ;;
         *) wrong "exit $exit: $(tail -1 "$work/told")" ;;
     esac
-    if [ "$order" = init ]; then begin_again; fi
+    case $order in
+        init) begin_again ;;
+        verify) unchanged ;;
+    esac
     next=$("$tup" 2>&1)
     case "$? $next" in
         '0 '*'done: '*) ;;
@@ -195,6 +212,7 @@ try() {
     rm -rf "$work/project" "$work/clean" && mkdir "$work/project" "$work/clean" && cd "$work/project" || exit 1
     case $1 in
         beginning) order=init stores=1 ;;
+        comparison) order=verify stores=0 && "$tup" init > /dev/null ;;
         *) order=upd stores=2 && "$tup" init > /dev/null ;;
     esac
     "$1"
@@ -207,7 +225,10 @@ try() {
     awk '{ name = $0; sub(/\(.*/, "", name); count[name]++ } /"\.["\/]/ { begun = 1 } begun && name ~ /^[a-z]/ && name !~ /^mmap/ { print name, count[name] }' "$work/trace" > "$work/list"
     what=$1
     [ -s "$work/list" ] || wrong "no call of the update was found"
-    late=$(unsynced "$stores")
+    case $order in
+        verify) late=$(grep -E '^(rename|unlink|mkdir|rmdir)|O_WRONLY|O_RDWR|O_CREAT' "$work/trace") ;;
+        *) late=$(unsynced "$stores") ;;
+    esac
     [ -z "$late" ] || wrong "$late"
     : > "$work/exits"
     while read -r call number; do
@@ -233,7 +254,7 @@ behind_a_bad_rule() {
 }
 
 behind_a_bad_rule
-for project in ${*:-beginning three_rules after_changes fewer_paths after_a_kill folders_below}; do try "$project"; done
+for project in ${*:-beginning comparison three_rules after_changes fewer_paths after_a_kill folders_below}; do try "$project"; done
 
 if [ "$failures" -gt 0 ]; then
     echo "$failures of $all updates that were stopped went wrong"

@@ -55,7 +55,8 @@ impl Model for Graph {
 
     ghost view = { λ g. record { table = g.table; nodes = g.nodes; whole = g.whole } };
 
-    ghost invariant = { λ g. IsSound (record { table = g.table; nodes = g.nodes; whole = g.whole }) };
+    ghost invariant = { λ g.
+        IsSound (record { table = g.table; nodes = g.nodes; whole = g.whole }) };
 }
 
 impl Graph {

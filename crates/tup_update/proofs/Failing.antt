@@ -25,8 +25,8 @@ use Rattle.tup_access.specs.declared.verdict.Verdict.{Verdict}
 use Rattle.tup_access.specs.declared.verdict.Access.TheVariants.{No}
 use Rattle.tup_clean.proofs.Denying.{judged_denied}
 use Rattle.tup_update.specs.declared.stop.Halt.{Halt}
-use Rattle.tup_update.specs.declared.view.Refused.{Refused}
-use Rattle.tup_update.specs.declared.view.Refused.TheVariants.{Denied, Failed}
+use Rattle.tup_update.specs.declared.command.Refused.{Refused}
+use Rattle.tup_update.specs.declared.command.Refused.TheVariants.{Denied, Failed}
 use Rattle.tup_update.specs.Seeing.{IsCause, ComesTo, refusal_of}
 
 pub cause_of : {T : Type 0} (tells : Bool) (rules : List Rule) (rule : Rule) (old new : World) (path : Names) (before now : ℕ) (result : Result T SiteFailed) (failed : SiteFailed) → may_read rules rule path ≡ true → writes rule path ≡ false →

@@ -31,7 +31,7 @@ use Rattle.tup_update.specs.Holding.{Holding, Lists, Shows, holding}
 use Rattle.tup_update.specs.Parts.{AddsFile, AgreesOnItsFiles, IsFolderOf, IsFound, IsRefusal, IsTooMany, IsUnread}
 use Rattle.tup_update.specs.Sources.{files_beside, folder_of_tupfile, sources, ReadAs}
 use Rattle.tup_update.specs.Stopped.{unread_of_project}
-use Rattle.tup_update.specs.declared.found.Found.{Found}
+use Rattle.tup_update.specs.declared.project.Found.{Found}
 use Rattle.tup_update.specs.declared.stop.Unread.{Unread}
 use Rattle.tup_update.specs.declared.stop.Unread.TheVariants.{Outside as Unlucky}
 use Rattle.tup_update.proofs.Beside.{get_beside, left_is}

@@ -22,8 +22,8 @@ use Rattle.tup_update.specs.Parts.{bad_of, SameBeside, SameBesideOutputs, IsRunn
 use Rattle.tup_update.specs.Put.{HasRoom, AreOwn}
 use Rattle.tup_update.specs.Seeing.{ComesTo}
 use Rattle.tup_update.specs.declared.stop.Halt.{Halt}
-use Rattle.tup_update.specs.declared.view.Refused.{Refused}
-use Rattle.tup_update.specs.declared.view.Refused.TheVariants.{Denied, Failed as NotGiven}
+use Rattle.tup_update.specs.declared.command.Refused.{Refused}
+use Rattle.tup_update.specs.declared.command.Refused.TheVariants.{Denied, Failed as NotGiven}
 use Rattle.tup_update.proofs.Beside.{get_beside}
 
 -- a path that a rule makes is an output at some place

@@ -23,7 +23,7 @@ use Rattle.tup_update.specs.Log.{IsFront}
 use Rattle.tup_update.specs.Sources.{AsksFor, IsRefused, Refuses, PassesLimit, sources, files_beside, folder_of_tupfile, folders_read, is_made, is_made_in_turn}
 use Rattle.tup_update.specs.Turns.{names_of, EndsBadly}
 use Rattle.tup_update.specs.declared.fault.SourcesFault.TheVariants.{TooManyFiles}
-use Rattle.tup_update.specs.declared.found.Found.{Found}
+use Rattle.tup_update.specs.declared.project.Found.{Found}
 use Rattle.tup_update.specs.declared.project.Project.{Project}
 use Rattle.tup_update.specs.declared.stop.Stop.{Stop}
 use Rattle.tup_update.specs.declared.stop.Stop.TheVariants.{NoStore, BadStore, Sources as NoSources, Bad, Full, Outside as Stopped}

@@ -16,8 +16,8 @@ use Rattle.tup_runner.specs.declared.step.Answer.{Answer}
 use Rattle.tup_runner.specs.declared.step.Answer.TheVariants.{Content as Holds, Absent}
 use Rattle.tup_update.specs.declared.stop.Halt.{Halt}
 use Rattle.tup_update.specs.declared.stop.Halt.TheVariants.{Outside}
-use Rattle.tup_update.specs.declared.view.Refused.{Refused}
-use Rattle.tup_update.specs.declared.view.Refused.TheVariants.{Denied, Failed}
+use Rattle.tup_update.specs.declared.command.Refused.{Refused}
+use Rattle.tup_update.specs.declared.command.Refused.TheVariants.{Denied, Failed}
 use Rattle.tup_update.specs.Outside.{HasReadableOf}
 
 -- a set that has just what a rule declares

@@ -7,9 +7,9 @@ use Rattle.tup_rule.specs.declared.rule.Rule.{Rule}
 use Rattle.tup_runner.specs.Next.{Asks}
 use Rattle.tup_access.specs.Answered.{HasSeen}
 use Rattle.tup_access.proofs.Asked.{seen_none, seen_on}
-use Rattle.tup_update.specs.declared.view.Sight.{Sight}
-use Rattle.tup_update.specs.declared.view.Refused.{Refused}
-use Rattle.tup_update.specs.declared.view.Refused.TheVariants.{Denied, Failed}
+use Rattle.tup_update.specs.declared.command.Sight.{Sight}
+use Rattle.tup_update.specs.declared.command.Refused.{Refused}
+use Rattle.tup_update.specs.declared.command.Refused.TheVariants.{Denied, Failed}
 use Rattle.tup_update.specs.Outside.{HasReadableOf}
 use Rattle.tup_update.specs.Seeing.{Counts, KeepsCount}
 

@@ -14,10 +14,10 @@ ghost use Rattle.tup_update.specs.Holding.{HoldsOn, Lists};
 ghost use Rattle.tup_update.specs.Outcome.{HasCountedCause, HasRunCause};
 ghost use Rattle.tup_update.specs.Parts.{NamesALargeFile, NoDamage};
 
-use crate::found::{Found, contents};
+use crate::project::{Found, contents};
 use crate::run::BadRule;
 use crate::stop::Stop;
-use crate::store::opened;
+use crate::update::opened;
 use std::alloc::{AllocError, Global};
 use tup_access::Verdict;
 use tup_clean::{CleanFault, Cleaned, clean_build};

@@ -1,11 +1,14 @@
 //! One update, from the store and the sources to the files.
-ghost use Rattle.std.specs.Prelude.{◌≡◌, [], IsTrue};
+ghost use Rattle.std.specs.Prelude.{◌≡◌, [], IsTrue, IfOk, IfErr};
 ghost use Rattle.std.specs.Result.{result_err};
 ghost use Rattle.tup_site.specs.Crash.{GoesOn, LeavesOnly};
+ghost use Rattle.tup_kept.specs.Held.{StandsFor};
 ghost use Rattle.tup_ledger.specs.Listing.{IsSafe};
 ghost use Rattle.tup_ledger.specs.Sources.{HasSources, Kept};
+ghost use Rattle.tup_update.specs.Holding.{HoldsOn, Lists};
 ghost use Rattle.tup_update.specs.Images.{UpdateStep, with_outputs};
 ghost use Rattle.tup_update.specs.Log.{IsEmptyLog, LogFits, RulesFit};
+ghost use Rattle.tup_update.specs.Opened.{IsOpened, IsUnopened, StopsOpening};
 ghost use Rattle.tup_update.specs.Outcome.{Keeps, Stays, ExactlyTheFiles, MadeBeforeBad, SourcesStay, NothingForgotten, HasCause, HasCountedCause, HasRunCause};
 ghost use Rattle.tup_update.specs.Ran.{RunsThese};
 ghost use Rattle.tup_update.specs.Settled.{IsSettled};
@@ -13,9 +16,10 @@ ghost use Rattle.tup_update.specs.Turns.{TurnsFit};
 
 use crate::project::Project;
 use crate::stop::Stop;
-use crate::store::opened;
 use std::alloc::Global;
 use tup_access::Verdict;
+use tup_kept::Graph;
+use tup_ledger::{open, owned_paths};
 use tup_path::{Items, Paths};
 use tup_rule::{RuleName, Rules};
 use tup_runner::Runner;
@@ -130,4 +134,23 @@ fn carry_out<S: Site, R: Runner>(
     log.read = project.read;
     *rules = project.rules;
     built
+}
+
+/// Opens the store of a site, and tells which paths it lists. Whatever it answers, the files are
+/// what they were, and so is what the store lists.
+pub(crate) fn opened<S: Site>(alloc: Global, site: &mut S) -> Result<(Graph, Paths), Stop>
+    ensures opened { IfOk result (λ opened. IsOpened opened.0 opened.1) }
+    ensures stands { IsTrue S.tells → IfOk result
+        (λ opened. StandsFor S.world S.moment S.left_since opened.0 site.new) }
+    ensures lists { IsTrue S.tells
+        → IfOk result (λ opened. Lists (S.world site.new).store opened.1) }
+    ensures holds { IsTrue S.tells → HoldsOn (S.world site.old) (S.world site.new) }
+    ensures cause { IsTrue S.tells → IfErr result (IsUnopened (S.world site.old)) }
+    ensures crash { IsTrue S.tells → GoesOn S.moment S.left_since site.old site.new HoldsOn }
+    ensures stops { IfErr result StopsOpening }
+    ensures counted { HasCountedCause (S.faults site.old) (S.faults site.new) (result_err result) }
+{
+    let graph = open(alloc, site)?;
+    let owned = owned_paths(alloc, graph.nodes())?;
+    Ok((graph, owned))
 }

@@ -4,7 +4,7 @@ use Rattle.tup_access.proofs.Outputs.{judge-LeavesOutputs}
 use Rattle.tup_access.specs.Access.{access}
 use Rattle.tup_access.specs.Judge.{judge}
 use Rattle.tup_access.specs.declared.verdict.Access.TheVariants.{No}
-use Rattle.tup_update.specs.declared.view.Sight.{Sight}
+use Rattle.tup_update.specs.declared.command.Sight.{Sight}
 use Rattle.tup_update.specs.Seeing.{ComesTo}
 use Rattle.tup_update.proofs.Failing.{judged_refused}
 use Rattle.tup_update.proofs.Running.{judged_own, refused_own}

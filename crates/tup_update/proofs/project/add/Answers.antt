@@ -3,7 +3,7 @@ use Rattle.tup_site.specs.World.{World}
 use Rattle.tup_site.specs.Cause.{IsTooLarge}
 use Rattle.tup_site.specs.declared.fault.SiteFailed.TheVariants.{TooLarge}
 use Rattle.tup_update.proofs.Handed.{handed_on}
-use Rattle.tup_update.proofs.found.add.Goals as goal
+use Rattle.tup_update.proofs.project.add.Goals as goal
 
 pub returns-in_err-content-clause-large : goal.returns-in_err-content-clause-large
 returns-in_err-content-clause-large g c = λ tells n is.

@@ -14,7 +14,7 @@ use Rattle.tup_update.specs.Parts.{IsUnread}
 use Rattle.tup_update.proofs.Handed.{err_if}
 use Rattle.tup_update.proofs.Reading.{large_unread, sources_are, too_many_unread}
 use Rattle.tup_update.specs.SeeingLaws.{rests_on}
-use Rattle.tup_update.proofs.found.Found.read.Goals as goal
+use Rattle.tup_update.proofs.project.Found.read.Goals as goal
 
 pub returns-clause-found : goal.returns-clause-found
 returns-clause-found g c = λ tells.

@@ -11,7 +11,7 @@ use Rattle.tup_update.proofs.Crashing.{among_here}
 use Rattle.tup_update.proofs.Handed.{handed_on}
 use Rattle.tup_update.proofs.Reading.{HasFilesAt, from_T, none_found, next_looked_for, all_found}
 use Rattle.tup_update.specs.SeeingLaws.{rests, rests_on}
-use Rattle.tup_update.proofs.found.contents.Goals as goal
+use Rattle.tup_update.proofs.project.contents.Goals as goal
 
 pub loop-path-init : goal.loop-path-init
 loop-path-init g c = record {

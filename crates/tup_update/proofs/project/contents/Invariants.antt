@@ -1,7 +1,7 @@
 use Rattle.std.proofs.Common.{◌≡◌, take, IsTrue}
 use Rattle.tup_site.specs.Crash.{GoesOn, NoStep}
 use Rattle.tup_update.proofs.Reading.{HasFilesAt}
-use Rattle.tup_update.proofs.found.contents.Given as goal
+use Rattle.tup_update.proofs.project.contents.Given as goal
 
 abbrev pub invariant-loop-path : goal.invariant-loop-path
 invariant-loop-path g l = record {

@@ -10,7 +10,7 @@ use Rattle.tup_update.proofs.Handed.{err_if}
 use Rattle.tup_update.proofs.Held.{kept_holds}
 use Rattle.tup_update.proofs.Keeping.{err_is}
 use Rattle.tup_update.proofs.Storing.{graph_counts, opening_on, opening_stops, unopened}
-use Rattle.tup_update.proofs.store.opened.Goals as goal
+use Rattle.tup_update.proofs.update.opened.Goals as goal
 
 -- ---- it couldn't be opened
 

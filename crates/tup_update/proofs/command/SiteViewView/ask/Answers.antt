@@ -6,7 +6,7 @@ use Rattle.tup_access.specs.Access.{access}
 use Rattle.tup_runner.specs.declared.fault.ViewFailed.TheVariants.{Fault}
 use Rattle.tup_update.proofs.Failing.{cause_of, nothing_kept}
 use Rattle.tup_update.proofs.Handed.{given_ok}
-use Rattle.tup_update.proofs.view.SiteViewView.ask.Goals as goal
+use Rattle.tup_update.proofs.command.SiteViewView.ask.Goals as goal
 
 pub returns : goal.returns
 returns g c = record {

@@ -8,7 +8,7 @@ use Rattle.tup_update.specs.Stopped.{unread_of_project}
 use Rattle.tup_update.proofs.Handed.{err_if}
 use Rattle.tup_update.proofs.Limits.{of_rules}
 use Rattle.tup_update.proofs.Reading.{read_as, refused_as, sources_read, is_tree_of_sources}
-use Rattle.tup_update.proofs.found.Found.rules.Goals as goal
+use Rattle.tup_update.proofs.project.Found.rules.Goals as goal
 
 pub returns-in_err-read_all-clause-refused : goal.returns-in_err-read_all-clause-refused
 returns-in_err-read_all-clause-refused c = λ w found.
