@@ -1,5 +1,5 @@
 -- What a seat runs by its entries, as its command goes on.
-use Rattle.std.proofs.Common.{◌≡◌, ℕ, List, [], ◌∷◌, ◌++◌, Option, None, Some, Result, Ok, refl, sym, ap, ◌∙◌, subst, inl, inr}
+use Rattle.std.proofs.Common.{◌≡◌, ℕ, List, [], ◌∷◌, ◌++◌, Option, None, Some, Result, Ok, refl, sym, ap, ◌∙◌, subst, inl, inr, arith}
 use Rattle.std.specs.Prelude.{Contains, option_map, slice_get}
 use Rattle.std.proofs.lemmas.List.Elements.{Contains-push_cases}
 use Rattle.std.proofs.lemmas.Option.{same_Some}
@@ -106,6 +106,9 @@ module _ (plan : Plan) (old new : List CoreEvent) (rule : Rule) (seat : ℕ) (te
         honest = (record { asks = told; stamps = answered_of known runs.it.running.asks told runs.asks_are are; just = after.before }, after.asks_it)
 
 -- ---- what a command was told is known
+pub none_told : (known : List Content) → AreKnown known []
+none_told known text content has = absurd (omega (arith, has.1))
+
 pub known_more : (before now : List Content) (told : Asks) (text : List ℕ) (content : Content) → AreKnown before told → ((one : Content) → Contains before one → Contains now one) → Contains now content
     → AreKnown now (told ++ (text, Holds content) ∷ [])
 known_more before now told text content are more here other found has =
