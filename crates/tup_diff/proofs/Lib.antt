@@ -7,6 +7,7 @@ pub mod Named
 pub mod Answered
 pub mod Staled
 pub mod Editing
+pub mod Making
 pub mod Noting
 pub mod Rooted
 pub mod Looking

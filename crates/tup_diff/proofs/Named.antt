@@ -41,16 +41,21 @@ module _ {X : Type 0} (P : List X → List ℕ → Type 0) (One : X → List ℕ
   pub names_more : {a b c : BTreeSet (List ℕ)} → GrowsBy by_bytes (P (take i xs)) a b → GrowsBy by_bytes (One x) b c → GrowsBy by_bytes (P (take (i + 1) xs)) a c
   names_more {a} {b} {c} first one = subst (λ (l : List X). GrowsBy by_bytes (P l) a c) (sym (taken xs i x d less here)) (set_as to from (set_on first one))
 
+-- one name more
+pub name_pushed : (names : List (List ℕ)) (name : List ℕ) (a b c : BTreeSet (List ℕ)) → GrowsBy by_bytes (Contains names) a b → GrowsBy by_bytes (λ n. n ≡ name) b c → GrowsBy by_bytes (Contains (names ++ name ∷ [])) a c
+name_pushed names name a b c first one = set_as to from (set_on first one)
+  where
+    to : (n : List ℕ) → Contains names n ⊎ (n ≡ name) → Contains (names ++ name ∷ []) n
+    to n (inl h) = Contains-append_left names (name ∷ []) n h
+    to n (inr e) = subst (Contains (names ++ name ∷ [])) (sym e) (Contains-push names name)
+
+    from : (n : List ℕ) → Contains (names ++ name ∷ []) n → Contains names n ⊎ (n ≡ name)
+    from n h = elim (Contains-push_cases names name n h) [ inl before ↦ inl before | inr last ↦ inr (sym last) ]
+
 pub listed_more : (names : List (List ℕ)) (i : ℕ) (name d : List ℕ) (a b c : BTreeSet (List ℕ)) → i < length names → name ≡ get_or names i d
     → GrowsBy by_bytes (Contains (take i names)) a b → GrowsBy by_bytes (λ n. n ≡ name) b c → GrowsBy by_bytes (Contains (take (i + 1) names)) a c
-listed_more names i name d a b c less here = names_more Contains (λ x n. n ≡ x) names i name d less here to from
-  where
-    to : (n : List ℕ) → Contains (take i names) n ⊎ (n ≡ name) → Contains (take i names ++ name ∷ []) n
-    to n (inl h) = Contains-append_left (take i names) (name ∷ []) n h
-    to n (inr e) = subst (Contains (take i names ++ name ∷ [])) (sym e) (Contains-push (take i names) name)
-
-    from : (n : List ℕ) → Contains (take i names ++ name ∷ []) n → Contains (take i names) n ⊎ (n ≡ name)
-    from n h = elim (Contains-push_cases (take i names) name n h) [ inl before ↦ inl before | inr last ↦ inr (sym last) ]
+listed_more names i name d a b c less here first one =
+    subst (λ (l : List (List ℕ)). GrowsBy by_bytes (Contains l) a c) (sym (taken names i name d less here)) (name_pushed (take i names) name a b c first one)
 
 pub paths_more : (dir : Names) (paths : List Names) (i : ℕ) (path d : Names) (a b c : BTreeSet (List ℕ)) → i < length paths → path ≡ get_or paths i d
     → GrowsBy by_bytes (IsIn (take i paths) dir) a b → GrowsBy by_bytes (λ name. path ≡ dir ++ name ∷ []) b c → GrowsBy by_bytes (IsIn (take (i + 1) paths) dir) a c

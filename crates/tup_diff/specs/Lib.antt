@@ -3,6 +3,7 @@ pub mod Present
 pub mod Settings
 pub mod Index
 pub mod Names
+pub mod Made
 pub mod Told
 pub mod Stale
 pub mod Edits

@@ -7,6 +7,7 @@ use Rattle.tup_stamp.specs.declared.Stamp.{Stamp}
 use Rattle.tup_graph.specs.Answers.{IsSource, tup_config}
 use Rattle.tup_graph.specs.Graph.{GraphState, source}
 use Rattle.tup_diff.specs.Index.{IsIndexOf}
+use Rattle.tup_diff.specs.Made.{AreMade}
 use Rattle.tup_diff.specs.Settings.{AreSettings}
 use Rattle.tup_diff.specs.declared.present.Present.{Present}
 
@@ -18,9 +19,10 @@ seeing g stamps = record g { seen = stamps }
 abbrev pub graph_of : Present → GraphState
 graph_of present = seeing present.nodes.now present.stamps
 
--- it is whole: it has an index of the sources, and the settings of this content
+-- it is whole: it has an index of the sources, the outputs of the readings, and the settings of this content
 pub record IsPresent (config : Option Content) (present : Present) : Type 0 where
   pub index : IsIndexOf (IsSource (source (graph_of present))) present.index
+  pub made : AreMade present.nodes.now.readings present.made
   pub settings : AreSettings config (source (graph_of present) tup_config) present.settings
 
 -- whatever that content is

@@ -1,9 +1,9 @@
 //! Whether what a reading was told is still so.
-ghost use Rattle.std.specs.Prelude.{◌≡◌, Option, IfOk, IfErr};
+ghost use Rattle.std.specs.Prelude.{◌≡◌, ◌++◌, ◌∷◌, [], Option, IfOk, IfErr};
 ghost use Rattle.std.specs.Bool.{Decides};
 ghost use Rattle.tup_path.specs.Name.{Names, Content};
 ghost use Rattle.tup_rule.specs.declared.question.Question.TheVariants as asks;
-ghost use Rattle.tup_graph.specs.Answers.{IsDrafted, IsKind, IsMadeElsewhere, IsOutputOf};
+ghost use Rattle.tup_graph.specs.Answers.{IsKind, IsMadeElsewhere, IsOutputOf};
 ghost use Rattle.tup_graph.specs.Graph.{source};
 ghost use Rattle.tup_diff.specs.Present.{IsPresent, IsWhole, graph_of};
 ghost use Rattle.tup_diff.specs.Told.{AreNames, AreToldSo, IsToldOtherwise, IsToldSo, Tells};
@@ -13,7 +13,7 @@ use crate::present::Present;
 use std::alloc::Global;
 use tup_graph::GraphFault;
 use tup_path::{Path, Text, Texts};
-use tup_rule::{Draft, Kind, Noted, Question};
+use tup_rule::{Kind, Noted, Question};
 
 impl Present<'_> {
     /// Whether all that the reading of a folder was told is still so.
@@ -184,39 +184,24 @@ impl Present<'_> {
             (source (graph_of self.now)) self.now.nodes.now.readings reader.now path.now)) }
         ensures memory { IfErr result (λ fault. fault ≡ GraphFault.Memory) }
     {
-        let Some((dir, _)) = parted(alloc, path)? else {
+        let Some((dir, name)) = parted(alloc, path)? else {
             return Ok(false);
         };
         if dir == *reader {
             return Ok(false);
         }
-        Ok(self.has_output(&dir, path))
+        Ok(self.has_output(&dir, &name))
     }
 
-    /// Whether the reading of a folder, which has a Tupfile, has an output.
-    fn has_output(&self, dir: &Path, path: &Path) -> bool
+    /// Whether the reading of a folder, which has a Tupfile, has an output of this name in the folder.
+    fn has_output(&self, dir: &Path, name: &Text) -> bool
         requires present { IsWhole self.now }
         ensures { Decides result (IsOutputOf (source (graph_of self.now))
-            self.now.nodes.now.readings dir.now path.now) }
+            self.now.nodes.now.readings dir.now (dir.now ++ name.now ∷ [])) }
     {
-        let Some(reading) = self.nodes.reading(dir) else {
-            return false;
-        };
         if !self.index.tupfiles.contains(dir) {
             return false;
         }
-        is_drafted(reading.drafts.as_slice(), path)
+        self.made.has(dir, name)
     }
-}
-
-/// Whether a path is an output of one of these drafts.
-fn is_drafted(drafts: &[Draft], path: &Path) -> bool
-    ensures { Decides result (IsDrafted drafts.now path.now) }
-{
-    for draft in drafts {
-        if draft.outputs.as_slice().contains(path) {
-            return true;
-        }
-    }
-    false
 }

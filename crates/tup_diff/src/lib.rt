@@ -9,6 +9,7 @@ mod answers;
 mod edits;
 mod index;
 mod laws;
+mod made;
 mod names;
 mod present;
 mod roots;

@@ -6,6 +6,7 @@ ghost use Rattle.tup_graph.specs.Graph.{source};
 ghost use Rattle.tup_diff.specs.Present.{IsPresent, graph_of, seeing};
 
 use crate::index::Index;
+use crate::made::Made;
 use crate::settings::Settings;
 use crate::stamps::stamps_of;
 use std::alloc::Global;
@@ -23,6 +24,8 @@ pub(crate) struct Present<'g> {
     pub(crate) stamps: ByPath<Stamp>,
     /// The sources by their folders.
     pub(crate) index: Index,
+    /// The outputs of the readings by their folders.
+    pub(crate) made: Made,
     pub(crate) settings: Settings,
 }
 
@@ -40,12 +43,14 @@ impl<'g> Present<'g> {
     {
         let stamps = stamps_of(alloc, seen.files.as_slice())?;
         let index = Index::new(alloc, nodes, seen.files.as_slice())?;
+        let made = Made::new(alloc, nodes)?;
         let stamp = config_stamp(alloc, nodes, &stamps)?;
         let settings = Settings::new(alloc, stamp, &seen.config)?;
         Ok(Present {
             nodes,
             stamps,
             index,
+            made,
             settings,
         })
     }

@@ -134,7 +134,8 @@ impl Present<'_> {
         numbers: Option<&BTreeSet<u32>>,
     ) -> Result<(), GraphFault>
         ensures roots { OnOk result (FindsRoots (graph_of self.now)
-            (λ number. is_in nat_cmp (option_copied numbers.entry) number ≡ true) roots.old roots.new) }
+            (λ number. is_in nat_cmp (option_copied numbers.entry) number ≡ true)
+            roots.old roots.new) }
         ensures memory { IfErr result (λ fault. fault ≡ GraphFault.Memory) }
     {
         match numbers {

@@ -17,7 +17,8 @@ use tup_scan::Seen;
 ///
 /// Of each key there is one edit, and none that changes nothing. It looks at the files, at the readings, at the rules that
 /// are flagged or whose records may not tell what was seen before, and at those that use a path which has another stamp
-/// now: a rule that is none of these isn't looked at.
+/// now: a rule that is none of these isn't looked at. The outputs of the readings are put into a map once, so that what a
+/// reading asked about a path takes one lookup.
 pub fn note_scan(alloc: Global, graph: &Indexed, seen: &Seen) -> Result<Edits, GraphFault>
     requires runs { AreRunsOfRules graph.now }
     ensures edits { IfOk result (AreScanEdits graph.now seen.now.files seen.now.config) }

@@ -1,15 +1,17 @@
 //! What the phases of an update give fits the graph that is kept.
 //!
 //! All of it are laws over definitions, for the update that stands on them: that there is a language of
-//! Tupfiles, that what a refresh and linking give may be swapped in and keeps a kept graph, and that the
-//! laws of the core hold of a kept graph.
+//! Tupfiles, that a project which has just begun is kept, that what a refresh and linking give may be swapped
+//! in and keeps a kept graph, and that the laws of the core hold of a kept graph.
 #![tactic(auto)]
 
+mod begun;
 mod brought;
 mod language;
 mod planning;
 mod swapped;
 
+pub use begun::beginnings_are_kept;
 pub use brought::refreshed_fits;
 pub use language::tupfiles_are_a_language;
 pub use planning::{kept_for_core, kept_is_planned};

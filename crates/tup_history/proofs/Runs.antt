@@ -18,6 +18,7 @@ use Rattle.tup_update.specs.Images.{MakesStep, UpdateStep, with_outputs}
 use Rattle.tup_update.specs.Log.{OfRules}
 use Rattle.tup_update.specs.Sources.{IsAsked}
 use Rattle.tup_update.specs.declared.stop.Stop.{Stop}
+use Rattle.tup_update.proofs.Held.{still_none}
 use Rattle.tup_update.proofs.Safe.{kept_safe}
 use Rattle.tup_top.specs.Order.{Wanted}
 use Rattle.tup_top.specs.Promise.{ForInit, Lasts}
@@ -64,7 +65,7 @@ came_so Q P so (Differs path) p = absurd p
 
 -- without a store an opening leaves what was there
 none_held : (v w : World) → v.store ≡ [] → HoldsOn v w → w ≡ v
-none_held v w none on = let store : w.store ≡ v.store = on.none none ∙ sym none in λ i. record { tree = on.tree i; store = store i }
+none_held v w none on = let store : w.store ≡ v.store = still_none v w on none ∙ sym none in λ i. record { tree = on.tree i; store = store i }
 
 none_asked : (w : World) (rules : List Rule) → w.store ≡ [] → IsAsked w rules → ⊥
 none_asked w rules none (held, shows, asks) = nothing_lists held.owned (subst (λ (bytes : List ℕ). Lists bytes held.owned) none shows.lists)

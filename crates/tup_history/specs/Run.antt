@@ -17,7 +17,7 @@ use Rattle.tup_update.specs.Compared.{HasCompared}
 use Rattle.tup_update.specs.Holding.{Holding, Shows}
 use Rattle.tup_update.specs.Images.{UpdateStep, with_outputs}
 use Rattle.tup_update.specs.Log.{OfRules}
-use Rattle.tup_update.specs.Outcome.{ExactlyTheFiles, MadeBeforeBad, SourcesStay, NothingForgotten, HasCause}
+use Rattle.tup_update.specs.Outcome.{ExactlyTheFiles, MadeBeforeBad, SourcesStay, NothingForgotten, HasCause, JustCommits}
 use Rattle.tup_update.specs.Settled.{IsSettled}
 use Rattle.tup_update.specs.Sources.{sources, build, outputs}
 use Rattle.tup_top.specs.Crew.{RanFits, RanInTurn}
@@ -51,13 +51,14 @@ pub record Keeps (tells : Bool) (next : Next) (wanted : Wanted) (old new : World
   pub made_before_bad : IsTrue tells → ForUpdate wanted status (OfRules old (λ rules. MadeBeforeBad next rules old new))
   pub sources_stay : SourcesStay old new
   pub nothing_forgotten : ForUpdate wanted status (OfRules old (λ rules. NothingForgotten tells next rules old new))
+  pub commits : ForUpdate wanted status (OfRules old (λ rules. JustCommits rules old new))
   pub nothing_done : NothingDone wanted old new
   pub none_begun : (IsUpdate wanted → ⊥) → ran ≡ []
   pub begun : IsTrue tells → ForUpdate wanted status (OfRules old (λ rules. RanFits next rules old ran))
   pub in_turn : ForUpdate wanted status (OfRules old (λ rules. RanInTurn rules ran))
-  pub cause : IsTrue tells → ForUpdate wanted status (OfRules old (λ rules. HasCause next rules old new))
+  pub cause : IsTrue tells → ForUpdate wanted status (OfRules old (λ rules. HasCause next rules old))
   pub plain_cause : HasPlainCause wanted before now status
-  pub success : IsTrue tells → Succeeds wanted next old new before now status
+  pub success : IsTrue tells → Succeeds wanted next old before now status
   pub begins : ForInit wanted status (Begins old new)
   pub initializes : Initializes wanted old before now status
   pub compared : IsTrue tells → ForVerify wanted status (HasCompared next old)

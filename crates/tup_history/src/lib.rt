@@ -10,7 +10,9 @@
 mod deed;
 mod life;
 mod run;
+mod start;
 mod turn;
 
 pub use life::{Lived, history};
+pub use start::new_sites_are_unbegun;
 pub use turn::{End, Turn};

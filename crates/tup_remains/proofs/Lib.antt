@@ -1,5 +1,6 @@
 pub mod Stores
 pub mod Remaining
+pub mod Opened
 pub mod Following
 pub mod Noting
 pub mod Changing

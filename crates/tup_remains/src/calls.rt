@@ -4,6 +4,7 @@ ghost use Rattle.std.specs.FinMap as finite;
 ghost use Rattle.tup_path.specs.Name.{Names, Content};
 ghost use Rattle.tup_site.specs.Crash.{GoesOn, NoStep};
 ghost use Rattle.tup_site.specs.World.{World, TreeStays};
+ghost use Rattle.tup_table.specs.Images.{OpenStep};
 ghost use Rattle.tup_stamp.specs.declared.Stamp.{Stamp};
 ghost use Rattle.tup_rule.specs.Rule.{among};
 ghost use Rattle.tup_rule.specs.declared.rule.Rule.{Rule};
@@ -89,6 +90,17 @@ pub fn reads_keep_sites<S: Site>(site: &S)
         (since : ℕ) (new : S) → since ≤ S.moment site.now
         → IsKeptSite next language known first (S.left_since site.now since)
         → GoesOn S.moment S.left_since site.now new NoStep
+        → IsKeptSite next language known first (S.left_since new since) }
+{
+    let _ = site;
+}
+
+/// A law: an opening of its store keeps a kept site, whatever it answers, at every moment.
+pub fn openings_keep_sites<S: Site>(site: &S)
+    ensures { (next : Next) (language : Language) (known : List Content) (first : World)
+        (since : ℕ) (new : S) → IsTrue S.tells → since ≤ S.moment site.now
+        → IsKeptSite next language known first (S.left_since site.now since)
+        → GoesOn S.moment S.left_since site.now new OpenStep
         → IsKeptSite next language known first (S.left_since new since) }
 {
     let _ = site;

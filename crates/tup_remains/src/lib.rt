@@ -8,6 +8,6 @@ mod calls;
 mod files;
 mod notes;
 
-pub use calls::{calls_keep_present, calls_keep_sites, reads_keep_sites};
+pub use calls::{calls_keep_present, calls_keep_sites, openings_keep_sites, reads_keep_sites};
 pub use files::files_keep_sites;
 pub use notes::{notes_keep_sites, notes_leave_fitting};

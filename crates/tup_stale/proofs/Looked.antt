@@ -1,8 +1,8 @@
 -- A look at files, one after another.
-use Rattle.std.proofs.Common.{◌≡◌, ◌⊎◌, ⊎_elim, ℕ, ◌+◌, ◌<◌, Bool, true, false, cond, List, [], ◌∷◌, ◌++◌, length, map, filter, take, get_or, is_some, Some, Err, All, Contains, sym, ap, subst, ◌∙◌}
+use Rattle.std.proofs.Common.{◌≡◌, ◌⊎◌, ⊎_elim, ℕ, ◌+◌, ◌<◌, Bool, true, false, cond, List, [], ◌∷◌, ◌++◌, length, map, filter, take, get_or, is_some, Some, Err, All, sym, ap, subst, ◌∙◌}
 use Rattle.std.specs.FinMap as finite
 use Rattle.std.proofs.lemmas.List.{append-nil}
-use Rattle.std.proofs.lemmas.List.Elements.{filter_more, Contains-get_or}
+use Rattle.std.proofs.lemmas.List.Elements.{filter_more}
 use Rattle.std.proofs.lemmas.Option.{slice_get-get_or}
 use Rattle.tup_path.specs.Name.{Names}
 use Rattle.tup_path.specs.Tree.{Tree}
@@ -44,11 +44,13 @@ refused_behind g tree paths i path (UserFile named written found) within here fi
   users = subst (λ (p : Names). HasUsers g tree p written found) (sym refused.0) refused.1;
   first = first;
 }
-refused_behind g tree paths i path (TooLarge bytes) within here first refused = (
-  path,
-  subst (Contains paths) here (Contains-get_or paths i path within),
-  refused,
-)
+refused_behind g tree paths i path (TooLarge bytes) within here first refused = record {
+  at = i;
+  path = path;
+  here = slice_get-get_or paths i path within ∙ ap Some here;
+  large = refused;
+  first = first;
+}
 refused_behind g tree paths i path Full within here first refused = absurd refused
 refused_behind g tree paths i path Site within here first refused = tt
 refused_behind g tree paths i path Memory within here first refused = tt

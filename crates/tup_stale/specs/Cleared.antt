@@ -1,8 +1,9 @@
 -- What a clearing leaves of a graph and of the files (own). It dooms the paths, removes the files that stand there,
 -- settles, and forgets the paths.
-use Rattle.std.specs.Prelude.{◌≡◌, ◌≢◌, ◌⊎◌, Bool, false, List, None, Some, IsTrue, Result, Ok, Err}
+use Rattle.std.specs.Prelude.{◌≡◌, ◌≢◌, ◌⊎◌, ℕ, Bool, false, List, None, Some, All, IsTrue, Result, Ok, Err}
 use Rattle.std.specs.FinMap as finite
 use Rattle.tup_path.specs.Name.{Names}
+use Rattle.tup_site.specs.Crash.{GoesOn, NoStep}
 use Rattle.tup_site.specs.World.{World, TreeStays}
 use Rattle.tup_graph.specs.Graph.{GraphState}
 use Rattle.tup_graph.specs.Transactions.{doom_edits, with_doomed, forget_edits, with_forgotten}
@@ -10,6 +11,7 @@ use Rattle.tup_graph.specs.declared.owned.Owned.{Owned}
 use Rattle.tup_kept.specs.Held.{Held, is_fresh}
 use Rattle.tup_kept.specs.Transaction.{after, IsFull}
 use Rattle.tup_stale.specs.Files.{without, IsPart}
+use Rattle.tup_stale.specs.Unmade.{HasNoUsers}
 use Rattle.tup_stale.specs.declared.fault.StaleFault.{StaleFault}
 use Rattle.tup_stale.specs.declared.fault.StaleFault.TheVariants.{UserFile, Site, TooLarge, Full, Memory}
 
@@ -64,3 +66,9 @@ module _ (tells : Bool) (paths files : List Names) (old new : Held) (v w : World
   Leaves (Err Full) = (CannotDoom old paths × AtFirst) ⊎ (CannotForget old paths × Removed)
   Leaves (Err Site) = AtFirst ⊎ Removing ⊎ Committing
   Leaves (Err Memory) = AtFirst ⊎ Removing ⊎ Committing
+
+-- A file of the user's is spared: none stands at these paths, or the graph, the world and what a crash may leave are what they
+-- were.
+abbrev pub SparesUsers : {S : Type 0} → (S → World) → (S → ℕ) → (S → ℕ → World → Type 0) → List Names → Held → Held → S → S → Type 0
+SparesUsers world moment left_since paths old new before now =
+    All (HasNoUsers old.nodes (world before).tree) paths ⊎ ((new ≡ old) × (world now ≡ world before) × GoesOn moment left_since before now NoStep)

@@ -1,5 +1,5 @@
 -- Owned paths that no rule makes any more, and the files that stand there (own).
-use Rattle.std.specs.Prelude.{◌≡◌, ◌≢◌, ℕ, Bool, List, All, Contains, take, filter, map, Option, None, Some, is_none, is_some, option_map, slice_get, Result, Ok, Err}
+use Rattle.std.specs.Prelude.{◌≡◌, ◌≢◌, ℕ, Bool, List, All, take, filter, map, Option, None, Some, is_none, is_some, option_map, slice_get, Result, Ok, Err}
 use Rattle.std.specs.FinMap as finite
 use Rattle.tup_path.specs.Name.{Names}
 use Rattle.tup_path.specs.Tree.{Tree}
@@ -57,6 +57,14 @@ pub record IsFirstUsers (g : GraphState) (tree : Tree) (paths : List Names) (pat
   pub users : HasUsers g tree path written found
   pub first : All (HasNoUsers g tree) (take at paths)
 
+-- the file at one of some paths is too large to be looked at, and before it stands none of the user's
+pub record IsLargeBehind (g : GraphState) (tree : Tree) (paths : List Names) (bytes : ℕ) : Type 0 where
+  pub at : ℕ
+  pub path : Names
+  pub here : slice_get paths at ≡ Some path
+  pub large : IsTooLarge tree path bytes
+  pub first : All (HasNoUsers g tree) (take at paths)
+
 -- why a look at the file of one path is refused
 abbrev pub IsRefused : GraphState → Tree → Names → StaleFault → Type 0
 IsRefused g tree path (UserFile named written found) = (named ≡ path) × HasUsers g tree path written found
@@ -66,11 +74,11 @@ IsRefused g tree path Site = Unit {0}
 IsRefused g tree path Memory = Unit {0}
 
 -- What a look at the files of some paths tells, by its answer: the user's own file exactly where there is one, and the
--- first of these.
+-- first of these; a file that is too large where none of the user's stands before it.
 abbrev pub Sees : GraphState → Tree → List Names → Result (List Names) StaleFault → Type 0
 Sees g tree paths (Ok files) = (files ≡ standing tree paths) × All (HasNoUsers g tree) paths
 Sees g tree paths (Err (UserFile path written found)) = IsFirstUsers g tree paths path written found
-Sees g tree paths (Err (TooLarge bytes)) = (path : Names) × Contains paths path × IsTooLarge tree path bytes
+Sees g tree paths (Err (TooLarge bytes)) = IsLargeBehind g tree paths bytes
 Sees g tree paths (Err Full) = All (HasNoUsers g tree) paths
 Sees g tree paths (Err Site) = Unit {0}
 Sees g tree paths (Err Memory) = Unit {0}

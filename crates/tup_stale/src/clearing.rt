@@ -4,7 +4,7 @@ ghost use Rattle.tup_site.specs.Crash.{GoesOn};
 ghost use Rattle.tup_site.specs.Known.{Keeps};
 ghost use Rattle.tup_kept.specs.Held.{is_fresh, StandsFor};
 ghost use Rattle.tup_stale.specs.Cause.{CountsFaults, OnlyLarge, IsStopped};
-ghost use Rattle.tup_stale.specs.Cleared.{Leaves, AllAreMade};
+ghost use Rattle.tup_stale.specs.Cleared.{Leaves, AllAreMade, SparesUsers};
 ghost use Rattle.tup_stale.specs.Crash.{ClearStep, LeavesBy};
 ghost use Rattle.tup_stale.specs.Files.{SameBeside};
 ghost use Rattle.tup_stale.specs.Unmade.{unmade as unmade_in, standing, Sees};
@@ -34,6 +34,9 @@ pub fn clear<S: Site>(alloc: Global, graph: &mut Graph, site: &mut S) -> Result<
         let files = standing (S.world site.old).tree paths in
         Leaves S.tells paths files graph.old graph.new
         (S.world site.old) (S.world site.new) result }
+    // Whatever the answer: where a file of the user's stands at one of these paths, nothing is changed.
+    ensures users { IsTrue S.tells → SparesUsers S.world S.moment S.left_since
+        (unmade_in graph.old.nodes) graph.old graph.new site.old site.new }
     // Nothing changes but these files, whatever the answer.
     ensures others { let tree = (S.world site.old).tree in
         IsTrue S.tells → SameBeside (standing tree (unmade_in graph.old.nodes))
@@ -74,6 +77,8 @@ fn clear_paths<S: Site>(
     ensures leaves { let files = standing (S.world site.old).tree paths.now in
         Leaves S.tells paths.now files graph.old graph.new
         (S.world site.old) (S.world site.new) result }
+    ensures users { IsTrue S.tells → SparesUsers S.world S.moment S.left_since
+        paths.now graph.old graph.new site.old site.new }
     ensures stands { IsTrue S.tells → IsTrue (is_fresh graph.new)
         → StandsFor S.world S.moment S.left_since graph.new site.new }
     ensures crash { let tree = (S.world site.old).tree in

@@ -319,8 +319,8 @@ prints_nothing status text before now held = record {
 }
 
 -- the lines of an update were handed to the sink
-pub prints_update : (next : Next) (old : World) (before now : ℕ) (held grown : List ℕ) (told : Told next old) (status : Status) (text : List ℕ) (answer : Status) → status ≡ status_of told.log told.stopped → text ≡ lines told.rules told.log status → Ends before now status answer → Prints status text before now held grown answer → PrintsUpdate next old before now held grown answer
-prints_update next old before now held grown told status text answer is reads ends prints = record {
+pub prints_update : (site runner : Bool) (next : Next) (old : World) (ran : List RuleName) (before now : ℕ) (held grown : List ℕ) (told : Told site runner next old ran) (status : Status) (text : List ℕ) (answer : Status) → status ≡ status_of told.log told.stopped → text ≡ lines told.rules told.log status → Ends before now status answer → Prints status text before now held grown answer → PrintsUpdate site runner next old ran before now held grown answer
+prints_update site runner next old ran before now held grown told status text answer is reads ends prints = record {
   told = told;
   ends = subst (λ s. Ends before now s answer) is ends;
   prints = subst (λ s. Prints s (lines told.rules told.log s) before now held grown answer) is (subst (λ t. Prints status t before now held grown answer) reads prints);
@@ -336,20 +336,22 @@ never_rose one = by one.at one.was one.is one.stood one.stands one.rose
     by (suc at) was is stood stands rose = absurd (cc stood)
 
 -- an update that the outside stopped before it began
-abbrev pub told_nothing : (next : Next) (old : World) (failed : SiteFailed) → Told next old
-told_nothing next old failed = record {
+abbrev pub told_nothing : (site runner : Bool) (next : Next) (old : World) (failed : SiteFailed) → Told site runner next old []
+told_nothing site runner next old failed = record {
   rules = [];
   log = record { read = []; removed = []; ran = []; ended = [] };
   stopped = Some (Outside failed);
-  are_its_rules = inl refl;
-  is_its_log = inl (refl, refl, refl, refl);
+  begun = refl;
+  are_its_rules = λ _. inl refl;
+  in_turn = λ _. no_turns [] [] [] refl refl;
+  is_its_log = λ _ _. inl (refl, refl, refl, refl);
 }
 
-pub prints_no_update : (next : Next) (old : World) (before now : ℕ) (held : List ℕ) → PrintsUpdate next old before now held held Memory
-prints_no_update next old before now held = record {
-  told = told_nothing next old NoMemory;
+pub prints_no_update : (site runner : Bool) (next : Next) (old : World) (before now : ℕ) (held : List ℕ) → PrintsUpdate site runner next old [] before now held held Memory
+prints_no_update site runner next old before now held = record {
+  told = told_nothing site runner next old NoMemory;
   ends = inl refl;
-  prints = prints_nothing Memory (lines [] (told_nothing next old NoMemory).log Memory) before now held;
+  prints = prints_nothing Memory (lines [] (told_nothing site runner next old NoMemory).log Memory) before now held;
 }
 
 -- ---- what was begun

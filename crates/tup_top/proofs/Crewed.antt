@@ -1,5 +1,5 @@
 -- A crew whose first runner did all: what one runner counts and ran is what the crew does.
-use Rattle.std.proofs.Common.{◌≡◌, ℕ, zero, suc, ◌<◌, List, [], ◌∷◌, length, map, get_or, Option, Some, Result, Err, inl, refl, ap, subst, arith}
+use Rattle.std.proofs.Common.{◌≡◌, ℕ, zero, suc, ◌<◌, List, [], ◌∷◌, drop, length, map, get_or, Option, Some, Result, Err, inl, refl, ap, subst, arith}
 use Rattle.std.specs.Prelude.{slice_get, slice_set}
 use Rattle.std.specs.Result.{result_err}
 use Rattle.tup_path.specs.Name.{Names}
@@ -141,3 +141,8 @@ module _ {R : Type 0} (ran_by : R → List (Names × List ℕ)) (crew : List R) 
 pub no_crew_ran : {R : Type 0} (ran_by : R → List (Names × List ℕ)) (next : Next) (w : World) (crew : List R) → 0 < length crew → CrewCompares next w (map ran_by crew) (map ran_by crew) (Err (Outside NoMemory))
 no_crew_ran {R} ran_by next w [] some = absurd (omega (arith, some))
 no_crew_ran {R} ran_by next w (one ∷ others) some = (inl refl, refl)
+
+-- the others are as they were
+pub others_stay : {R : Type 0} (crew : List R) (now : R) → drop 1 (slice_set crew 0 now) ≡ drop 1 crew
+others_stay [] now = refl
+others_stay (one ∷ others) now = refl

@@ -29,8 +29,8 @@ use Rattle.tup_demo_build.proofs.Building.{builds, taken}
 use Rattle.tup_demo_build.proofs.Reading.{come_to}
 use Rattle.tup_update.specs.Holding.{Holding, Shows, holding}
 use Rattle.tup_update.specs.Log.{OfRules, whole_log}
-use Rattle.tup_update.specs.Outcome.{HasCause, HasNoRoom}
-use Rattle.tup_update.specs.Sources.{IsAsked, IsRefused, ReadAs, build, ends, folders_of, folders_read, gone, sources, vanished}
+use Rattle.tup_update.specs.Outcome.{HasCause, HasNoRoom, once_owned}
+use Rattle.tup_update.specs.Sources.{IsAsked, IsRefused, ReadAs, build, ends, folders_of, folders_read, gone, outputs, sources, vanished}
 use Rattle.tup_update.specs.declared.fault.SourcesFault.{SourcesFault}
 use Rattle.tup_update.specs.declared.fault.SourcesFault.TheVariants as sources_fault
 use Rattle.tup_update.proofs.Beside.{get_beside}
@@ -134,21 +134,24 @@ is_small rules (inr asked) path content found =
 
 -- ---- its store
 
-has_room : (new : World) → length new.store ≤ 65536 → (rules : List Rule) → IsAsked demo_world rules → HasNoRoom rules demo_held new → ⊥
-has_room new small rules asked full = by (subst (λ (rs : List Rule). HasNoRoom rs demo_held new) (rules_are rules asked) full)
-  where
-    by : HasNoRoom demo_rules demo_held new → ⊥
-    by (inl lacks) = room_for_one new small lacks
-    by (inr lacks) = room_for_nothing new lacks
+short_store : length demo_world.store ≤ 65536
+short_store = let is : length demo_world.store ≡ 9 = refl in omega (arith, is)
 
-pub clear : (new : World) → length new.store ≤ 65536 → IsClear mini_next demo_world new
-clear new small = record {
+has_room : (rules : List Rule) → IsAsked demo_world rules → HasNoRoom rules demo_held demo_world → ⊥
+has_room rules asked full = by (subst (λ (rs : List Rule). HasNoRoom rs demo_held demo_world) (rules_are rules asked) full)
+  where
+    by : HasNoRoom demo_rules demo_held demo_world → ⊥
+    by (graph, is, inl lacks) = room_for_one demo_world graph short_store is lacks
+    by (graph, is, inr lacks) = room_for_nothing (once_owned graph (outputs demo_rules)) lacks
+
+pub clear : IsClear mini_next demo_world
+clear = record {
   held = demo_held;
   store_reads = demo_shows;
   sources_read = is_read;
   clean = is_clean;
   small = is_small;
-  room = has_room new small;
+  room = has_room;
 }
 
 -- ---- what it tells
@@ -190,35 +193,34 @@ fine = record {
     alone zero count stands = let none : count ≡ 0 = cc stands in omega (arith, none)
     alone (suc at) count stands = absurd (cc stands)
 
-module _ (new : World) (small : length new.store ≤ 65536) where
-  -- what its update came to is no other stop
-  excluded : (status : Status) → IfCame status (OfRules demo_world (λ rules. HasCause mini_next rules demo_world new)) → HasCountedCause nothing nothing status → IsDoneOrMemory status
-  excluded status cause counts = succeeds_so mini_next demo_world new nothing nothing status cause counts (clear new small) fine
+-- what its update came to is no other stop
+excluded : (status : Status) → IfCame status (OfRules demo_world (λ rules. HasCause mini_next rules demo_world)) → HasCountedCause nothing nothing status → IsDoneOrMemory status
+excluded status cause counts = succeeds_so mini_next demo_world nothing nothing status cause counts clear fine
 
-  pub demo_cause : (before now : ℕ) (status : Status) → IfCame status (OfRules demo_world (λ rules. HasCause mini_next rules demo_world new)) → HasCountedCause (of_one 0 0 before) (of_one 0 0 now) status
-      → IfCame status (OfRules demo_world (λ rules _. CountsAll mini_next rules demo_world status)) → HasDemoCause before now status
-  demo_cause before now (Done read ran removed) cause counts (rules, asked, all) =
-      let same = all_done rules read ran removed asked all in
-      let read_is : read ≡ 1 = cc same in
-      let ran_is : ran ≡ 1 = cc same in
-      let removed_is : removed ≡ 0 = cc same in
-      (read_is, ran_is, removed_is, counts.1)
-  demo_cause before now (Command rule status) cause counts told = excluded (Command rule status) cause (refl, refl)
-  demo_cause before now (IllegalRead rule text) cause counts told = excluded (IllegalRead rule text) cause (refl, refl)
-  demo_cause before now (IllegalWrite rule text) cause counts told = excluded (IllegalWrite rule text) cause (refl, refl)
-  demo_cause before now (Unwritten rule path) cause counts told = excluded (Unwritten rule path) cause (refl, refl)
-  demo_cause before now (TooManyReads rule) cause counts told = excluded (TooManyReads rule) cause (refl, refl)
-  demo_cause before now (Usage place) cause counts told = counts
-  demo_cause before now NotInit cause counts told = excluded NotInit cause (refl, refl)
-  demo_cause before now AlreadyInit cause counts told = counts
-  demo_cause before now (BadStore offset) cause counts told = excluded (BadStore offset) cause (refl, refl)
-  demo_cause before now (Parse fault) cause counts told = excluded (Parse fault) cause (refl, refl)
-  demo_cause before now (CircularDirs cycle) cause counts told = excluded (CircularDirs cycle) cause (refl, refl)
-  demo_cause before now (CircularCommands cycle) cause counts told = excluded (CircularCommands cycle) cause (refl, refl)
-  demo_cause before now (NoSuchGroup group) cause counts told = excluded (NoSuchGroup group) cause (refl, refl)
-  demo_cause before now SiteFault cause counts told = not_rose 0 0 refl (omega arith) counts.0
-  demo_cause before now RunFault cause counts told = never_rose counts.1
-  demo_cause before now SinkFault cause counts told = counts.1
-  demo_cause before now (Limit what number) cause counts told = excluded (Limit what number) cause ((refl, refl), counts.1)
-  demo_cause before now Memory cause counts told = tt
-  demo_cause before now (Differs path) cause counts told = counts
+pub demo_cause : (before now : ℕ) (status : Status) → IfCame status (OfRules demo_world (λ rules. HasCause mini_next rules demo_world)) → HasCountedCause (of_one 0 0 before) (of_one 0 0 now) status
+    → IfCame status (OfRules demo_world (λ rules _. CountsAll mini_next rules demo_world status)) → HasDemoCause before now status
+demo_cause before now (Done read ran removed) cause counts (rules, asked, all) =
+    let same = all_done rules read ran removed asked all in
+    let read_is : read ≡ 1 = cc same in
+    let ran_is : ran ≡ 1 = cc same in
+    let removed_is : removed ≡ 0 = cc same in
+    (read_is, ran_is, removed_is, counts.1)
+demo_cause before now (Command rule status) cause counts told = excluded (Command rule status) cause (refl, refl)
+demo_cause before now (IllegalRead rule text) cause counts told = excluded (IllegalRead rule text) cause (refl, refl)
+demo_cause before now (IllegalWrite rule text) cause counts told = excluded (IllegalWrite rule text) cause (refl, refl)
+demo_cause before now (Unwritten rule path) cause counts told = excluded (Unwritten rule path) cause (refl, refl)
+demo_cause before now (TooManyReads rule) cause counts told = excluded (TooManyReads rule) cause (refl, refl)
+demo_cause before now (Usage place) cause counts told = counts
+demo_cause before now NotInit cause counts told = excluded NotInit cause (refl, refl)
+demo_cause before now AlreadyInit cause counts told = counts
+demo_cause before now (BadStore offset) cause counts told = excluded (BadStore offset) cause (refl, refl)
+demo_cause before now (Parse fault) cause counts told = excluded (Parse fault) cause (refl, refl)
+demo_cause before now (CircularDirs cycle) cause counts told = excluded (CircularDirs cycle) cause (refl, refl)
+demo_cause before now (CircularCommands cycle) cause counts told = excluded (CircularCommands cycle) cause (refl, refl)
+demo_cause before now (NoSuchGroup group) cause counts told = excluded (NoSuchGroup group) cause (refl, refl)
+demo_cause before now SiteFault cause counts told = not_rose 0 0 refl (omega arith) counts.0
+demo_cause before now RunFault cause counts told = never_rose counts.1
+demo_cause before now SinkFault cause counts told = counts.1
+demo_cause before now (Limit what number) cause counts told = excluded (Limit what number) cause ((refl, refl), counts.1)
+demo_cause before now Memory cause counts told = tt
+demo_cause before now (Differs path) cause counts told = counts

@@ -1,5 +1,5 @@
 -- A call that found no memory to read its words did nothing.
-use Rattle.std.proofs.Common.{ℕ, Bool, ◌||◌, List, [], Option, Some, Result, Ok, Err, inl, refl, ap, arith}
+use Rattle.std.proofs.Common.{◌≡◌, ℕ, Bool, true, ◌||◌, List, [], Option, Some, Result, Ok, Err, inl, refl, sym, ap, subst, arith}
 use Rattle.tup_site.specs.Crash.{LeavesOnly}
 use Rattle.tup_site.specs.World.{World}
 use Rattle.tup_ledger.specs.Listing.{IsSafe}
@@ -8,6 +8,7 @@ use Rattle.tup_rule.specs.Rule.{is_generated}
 use Rattle.tup_update.specs.Images.{with_outputs}
 use Rattle.tup_site.specs.declared.fault.SiteFailed.TheVariants.{Memory as NoMemory}
 use Rattle.tup_rule.specs.declared.rule.Rule.{Rule}
+use Rattle.tup_rule.specs.declared.rule.RuleName.{RuleName}
 use Rattle.tup_runner.specs.Next.{Next}
 use Rattle.tup_mini.specs.Means.{mini_next}
 use Rattle.tup_graph.specs.declared.fault.GraphFault.{GraphFault}
@@ -20,7 +21,7 @@ use Rattle.tup_update.specs.declared.stop.Stop.TheVariants.{Outside}
 use Rattle.tup_update.proofs.Held.{holds_itself}
 use Rattle.tup_top.specs.Lines.{last_line, begun_line, compared_line}
 use Rattle.tup_top.specs.Order.{Wanted}
-use Rattle.tup_top.specs.Printed.{Printed, PrintedAlone, PrintsBegun, demo_world}
+use Rattle.tup_top.specs.Printed.{Printed, PrintsBegun, PrintsUpdate, demo_world}
 use Rattle.tup_top.specs.Promise.{ForUpdate, ForInit, ForVerify, NothingDone}
 use Rattle.tup_top.specs.declared.order.Order.TheVariants.{Init, Upd, Verify, Demo}
 use Rattle.tup_top.specs.declared.status.Status.TheVariants.{Usage, Memory}
@@ -63,25 +64,18 @@ begun_nothing : (count : ℕ) (held : List ℕ) → PrintsBegun count count held
 begun_nothing count held = record { begun = Err graph.Memory; ends = inl refl; prints = prints_nothing Memory (begun_line Memory) count count held }
 
 -- and what is printed then
-pub memory_prints : (wanted : Wanted) (next : Next) (old : World) (count : ℕ) (held : List ℕ) → Printed wanted next old count count held held Memory
-memory_prints (Ok (Upd program)) next old count held = prints_no_update next old count count held
-memory_prints (Ok Init) next old count held = begun_nothing count held
-memory_prints (Ok Verify) next old count held = record {
+pub memory_prints : (site runner : Bool) (wanted : Wanted) (next : Next) (old : World) (ran : List RuleName) (count : ℕ) (held : List ℕ) → ran ≡ [] → Printed site runner wanted next old ran count count held held Memory
+memory_prints site runner (Ok (Upd program)) next old ran count held none =
+    subst (λ (l : List RuleName). PrintsUpdate site runner next old l count count held held Memory) (sym none) (prints_no_update site runner next old count count held)
+memory_prints site runner (Ok Init) next old ran count held none = begun_nothing count held
+memory_prints site runner (Ok Verify) next old ran count held none = record {
   compared = Err (Outside NoMemory);
-  has = tt;
+  has = λ _ _. tt;
   ends = inl refl;
   prints = prints_nothing Memory (compared_line Memory) count count held;
 }
-memory_prints (Ok Demo) next old count held = prints_no_update mini_next demo_world count count held
-memory_prints (Err place) next old count held = prints_nothing (Usage place) (last_line (Usage place)) count count held
-
--- also where no site has part in it
-pub memory_prints_alone : (wanted : Wanted) (count : ℕ) (held : List ℕ) → PrintedAlone wanted count count held held Memory
-memory_prints_alone (Ok (Upd program)) count held = tt
-memory_prints_alone (Ok Init) count held = begun_nothing count held
-memory_prints_alone (Ok Verify) count held = tt
-memory_prints_alone (Ok Demo) count held = prints_no_update mini_next demo_world count count held
-memory_prints_alone (Err place) count held = prints_nothing (Usage place) (last_line (Usage place)) count count held
+memory_prints site runner (Ok Demo) next old ran count held none = ([], prints_no_update true true mini_next demo_world count count held)
+memory_prints site runner (Err place) next old ran count held none = prints_nothing (Usage place) (last_line (Usage place)) count count held
 
 -- what was promised of the rules that it found, where it found none
 pub memory_of : (wanted : Wanted) (old : World) (promise : List Rule → Option Stop → Type 0) → promise [] (Some (Outside NoMemory)) → ForUpdate wanted Memory (OfRules old promise)

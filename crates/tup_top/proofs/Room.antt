@@ -17,7 +17,6 @@ use Rattle.tup_table.specs.declared.opened.Opened.{Opened}
 use Rattle.tup_table.specs.Table.{entries_in, gate_of}
 use Rattle.tup_graph.specs.Changes.{changes_it}
 use Rattle.tup_graph.specs.Edits.{change_of, HasSpelling}
-use Rattle.tup_graph.specs.Transactions.{forget_edits}
 use Rattle.tup_graph.specs.declared.edit.Edit.{Edit}
 use Rattle.tup_graph.specs.declared.edit.Edit.TheVariants.{Put}
 use Rattle.tup_kept.specs.Held.{Held}
@@ -25,7 +24,7 @@ use Rattle.tup_kept.specs.Opening.{opened_in}
 use Rattle.tup_kept.specs.Transaction.{IsFull, to_write}
 use Rattle.tup_ledger.specs.Owned.{maker_in, own_edits}
 use Rattle.tup_site.specs.World.{World}
-use Rattle.tup_update.specs.Outcome.{LacksRoom}
+use Rattle.tup_update.specs.Outcome.{ReadsAsGraph}
 use Rattle.tup_top.proofs.Makers.{maker_fits}
 
 -- where nothing is to be edited there is room
@@ -42,12 +41,9 @@ none_there = no_length (finite.entries no_changes) (sym (finite.len-entries no_c
 nothing_needed : (graph : Held) → to_write graph [] ≡ []
 nothing_needed graph = ap (λ (entries : List (List ℕ × Change)). filter (changes_it (entries_in graph.table)) (map (λ (entry : List ℕ × Change). entry.1) entries)) none_there
 
-pub room_for_nothing : (w : World) → LacksRoom (λ g. forget_edits g []) w → ⊥
-room_for_nothing w lacks = by lacks.full
-  where
-    by : IsFull lacks.graph [] → ⊥
-    by (inl unspelled) = unspelled (All-from_recursion HasSpelling [] tt)
-    by (inr (some, over)) = some (nothing_needed lacks.graph)
+pub room_for_nothing : (graph : Held) → IsFull graph [] → ⊥
+room_for_nothing graph (inl unspelled) = unspelled (All-from_recursion HasSpelling [] tt)
+room_for_nothing graph (inr (some, over)) = some (nothing_needed graph)
 
 -- ---- one path is owned
 
@@ -103,12 +99,9 @@ gate_within w graph (commits, (rest, follows, end), is) =
     let both = length-append (blocks commits) rest in
     omega (arith, gate, front, whole, behind, both)
 
-pub room_for_one : (w : World) → length w.store ≤ 65536 → LacksRoom (λ g. own_edits g (output ∷ [])) w → ⊥
-room_for_one w small lacks = by lacks.full
-  where
-    by : IsFull lacks.graph (edit (maker_in lacks.graph.nodes output) ∷ []) → ⊥
-    by (inl unspelled) = unspelled (All-from_recursion HasSpelling (edit (maker_in lacks.graph.nodes output) ∷ []) ((output_is_path, (maker_fits (entries_in lacks.graph.table) lacks.graph.nodes output lacks.stands, tt)), tt))
-    by (inr (some, over)) =
-        let gate = gate_within w lacks.graph lacks.reads in
-        let length_is = subst (λ (changes : List Change). length (appending changes) ≤ 22) (sym (one_needed lacks.graph (maker_in lacks.graph.nodes output))) (few (changes_it (entries_in lacks.graph.table)) (change_of (edit (maker_in lacks.graph.nodes output))) (short (maker_in lacks.graph.nodes output))) in
-        omega (arith, over, gate, length_is, small)
+pub room_for_one : (w : World) (graph : Held) → length w.store ≤ 65536 → ReadsAsGraph graph w → IsFull graph (own_edits graph.nodes (output ∷ [])) → ⊥
+room_for_one w graph small is (inl unspelled) = unspelled (All-from_recursion HasSpelling (edit (maker_in graph.nodes output) ∷ []) ((output_is_path, (maker_fits (entries_in graph.table) graph.nodes output is.stands, tt)), tt))
+room_for_one w graph small is (inr (some, over)) =
+    let gate = gate_within w graph is.reads in
+    let length_is = subst (λ (changes : List Change). length (appending changes) ≤ 22) (sym (one_needed graph (maker_in graph.nodes output))) (few (changes_it (entries_in graph.table)) (change_of (edit (maker_in graph.nodes output))) (short (maker_in graph.nodes output))) in
+    omega (arith, over, gate, length_is, small)

@@ -1,11 +1,11 @@
 -- What a demo answers whose small project couldn't begin: there was no memory.
-use Rattle.std.proofs.Common.{◌≡◌, inl, inr, ℕ, List, Err, sym, ap, subst, ◌∙◌}
+use Rattle.std.proofs.Common.{◌≡◌, inl, inr, ℕ, true, List, [], Err, sym, ap, subst, ◌∙◌}
 use Rattle.tup_site.specs.declared.fault.SiteFailed.TheVariants.{Memory as NoMemory}
 use Rattle.tup_graph.specs.declared.fault.GraphFault.{GraphFault}
 use Rattle.tup_graph.specs.declared.fault.GraphFault.TheVariants as graph
 use Rattle.tup_mini.specs.Means.{mini_next}
 use Rattle.tup_top.specs.Lines.{last_line}
-use Rattle.tup_top.specs.Printed.{Ends, Prints, PrintsUpdate, demo_world}
+use Rattle.tup_top.specs.Printed.{Ends, Prints, PrintsDemo, demo_world}
 use Rattle.tup_top.specs.Promise.{HasDemoCause}
 use Rattle.tup_top.specs.Status.{status_of_begun}
 use Rattle.tup_top.specs.declared.status.Status.{Status}
@@ -28,9 +28,12 @@ module _ (before now : ℕ) (fault : GraphFault) (status answer : Status) (memor
   unshown_cause = subst (HasDemoCause before now) (sym (answer_is ends_so)) tt
 
   -- its line is that of an update for which there was no memory
-  pub unshown_prints : (held grown : List ℕ) → Prints status (last_line status) before now held grown answer → PrintsUpdate mini_next demo_world before now held grown answer
-  unshown_prints held grown prints = record {
-    told = told_nothing mini_next demo_world NoMemory;
-    ends = ends_so;
-    prints = subst (λ (s : Status). Prints s (last_line s) before now held grown answer) it_is prints;
-  }
+  pub unshown_prints : (held grown : List ℕ) → Prints status (last_line status) before now held grown answer → PrintsDemo before now held grown answer
+  unshown_prints held grown prints = (
+    [],
+    record {
+      told = told_nothing true true mini_next demo_world NoMemory;
+      ends = ends_so;
+      prints = subst (λ (s : Status). Prints s (last_line s) before now held grown answer) it_is prints;
+    },
+  )

@@ -36,8 +36,8 @@ list_all_at p xs at x all stands =
 true_is_not_false : (b : Bool) → b ≡ true → b ≡ false → ⊥
 true_is_not_false b is not = let no : true ≡ false = sym is ∙ not in cc
 
-no_bad_rule : (next : Next) (old new : World) (name : RuleName) (verdict : Verdict) → IsClear next old new → OfRules old (λ rules. HasCause next rules old new) (Some (Bad name verdict)) → ⊥
-no_bad_rule next old new name verdict clear (rules, asks, bad) =
+no_bad_rule : (next : Next) (old : World) (name : RuleName) (verdict : Verdict) → IsClear next old → OfRules old (λ rules. HasCause next rules old) (Some (Bad name verdict)) → ⊥
+no_bad_rule next old name verdict clear (rules, asks, bad) =
     let first = bad clear.held clear.store_reads in
     true_is_not_false (is_good (Some verdict)) (list_all_at is_good (build next rules clear.held).verdicts first.ending.at (Some verdict) (clear.clean rules asks) first.given) first.ending.bad
 
@@ -45,8 +45,8 @@ pub not_rose : (before now : ℕ) → now ≡ before → now < 2 ^ 64 - 1 → Ro
 not_rose before now same counts (inl more) = omega (arith, same, more)
 not_rose before now same counts (inr end) = omega (arith, counts, end)
 
-no_large_file : (next : Next) (old new : World) (rules : List Rule) (number : ℕ) (clear : IsClear next old new) → (rules ≡ []) ⊎ IsAsked old rules → HasFileOf number (build next rules clear.held).tree → 16777216 < number → ⊥
-no_large_file next old new rules number clear fits file large =
+no_large_file : (next : Next) (old : World) (rules : List Rule) (number : ℕ) (clear : IsClear next old) → (rules ≡ []) ⊎ IsAsked old rules → HasFileOf number (build next rules clear.held).tree → 16777216 < number → ⊥
+no_large_file next old rules number clear fits file large =
     let small = clear.small rules fits file.0 file.1.content file.1.found in
     let bytes = file.1.bytes in
     omega (arith, small, bytes, large)
@@ -58,31 +58,31 @@ no_runner_rose before now fine one =
     let same : Some one.is ≡ Some one.was = sym one.stands ∙ there in
     not_rose one.was one.is (cc same) (fine.runners_count one.at one.is one.stands) one.rose
 
-pub succeeds_so : (next : Next) (old new : World) (before now : Counts) (status : Status) → IfCame status (OfRules old (λ rules. HasCause next rules old new)) → HasCountedCause before now status → IsClear next old new → NothingFailed before now → IsDoneOrMemory status
-succeeds_so next old new before now (Done read ran removed) cause counted clear fine = tt
-succeeds_so next old new before now (Command rule status) cause counted clear fine = no_bad_rule next old new rule (Failed status) clear cause
-succeeds_so next old new before now (IllegalRead rule text) cause counted clear fine = no_bad_rule next old new rule (ReadsIllegally text) clear cause
-succeeds_so next old new before now (IllegalWrite rule text) cause counted clear fine = no_bad_rule next old new rule (WritesIllegally text) clear cause
-succeeds_so next old new before now (Unwritten rule path) cause counted clear fine = no_bad_rule next old new rule (LeavesUnwritten path) clear cause
-succeeds_so next old new before now (TooManyReads rule) cause counted clear fine = no_bad_rule next old new rule ReadsTooOften clear cause
-succeeds_so next old new before now (Usage place) cause counted clear fine = absurd counted
-succeeds_so next old new before now NotInit (rules, fits, none) counted clear fine = absurd (there old.store clear.held.owned clear.store_reads.lists none)
-succeeds_so next old new before now AlreadyInit cause counted clear fine = absurd counted
-succeeds_so next old new before now (BadStore offset) (rules, fits, damaged) counted clear fine = absurd (undamaged old.store clear.held.owned offset clear.store_reads.lists damaged)
-succeeds_so next old new before now (Parse fault) (rules, fits, refused) counted clear fine = absurd (clear.sources_read (sources.Parse fault) refused)
-succeeds_so next old new before now (CircularDirs cycle) (rules, fits, refused) counted clear fine = absurd (clear.sources_read (sources.CircularDirs cycle) refused)
-succeeds_so next old new before now (CircularCommands cycle) (rules, fits, refused) counted clear fine = absurd (clear.sources_read (sources.CircularCommands cycle) refused)
-succeeds_so next old new before now (NoSuchGroup group) (rules, fits, refused) counted clear fine = absurd (clear.sources_read (sources.NoSuchGroup group) refused)
-succeeds_so next old new before now SiteFault cause counted clear fine = not_rose before.site now.site fine.site fine.site_counts counted.0
-succeeds_so next old new before now RunFault cause counted clear fine = no_runner_rose before now fine counted.1
-succeeds_so next old new before now SinkFault cause counted clear fine = not_rose before.sink now.sink fine.sink fine.sink_counts counted.1
-succeeds_so next old new before now (Limit FileSize number) (count, passed, (rules, fits, large)) counted clear fine = no_large_file next old new rules count clear fits (large clear.held clear.store_reads) passed
-succeeds_so next old new before now (Limit Files number) (count, passed, (rules, fits, refused)) counted clear fine = absurd (clear.sources_read (sources.TooManyFiles count) refused)
-succeeds_so next old new before now (Limit Commands number) (count, passed, (rules, fits, refused)) counted clear fine = absurd (clear.sources_read (sources.TooManyCommands count) refused)
-succeeds_so next old new before now (Limit Links number) (count, passed, (rules, fits, refused)) counted clear fine = absurd (clear.sources_read (sources.TooManyLinks count) refused)
-succeeds_so next old new before now (Limit StoreSize number) (rules, fits, full) counted clear fine = absurd (clear.room rules fits (full clear.held clear.store_reads))
-succeeds_so next old new before now (Differs path) cause counted clear fine = absurd counted
-succeeds_so next old new before now Memory cause counted clear fine = tt
+pub succeeds_so : (next : Next) (old : World) (before now : Counts) (status : Status) → IfCame status (OfRules old (λ rules. HasCause next rules old)) → HasCountedCause before now status → IsClear next old → NothingFailed before now → IsDoneOrMemory status
+succeeds_so next old before now (Done read ran removed) cause counted clear fine = tt
+succeeds_so next old before now (Command rule status) cause counted clear fine = no_bad_rule next old rule (Failed status) clear cause
+succeeds_so next old before now (IllegalRead rule text) cause counted clear fine = no_bad_rule next old rule (ReadsIllegally text) clear cause
+succeeds_so next old before now (IllegalWrite rule text) cause counted clear fine = no_bad_rule next old rule (WritesIllegally text) clear cause
+succeeds_so next old before now (Unwritten rule path) cause counted clear fine = no_bad_rule next old rule (LeavesUnwritten path) clear cause
+succeeds_so next old before now (TooManyReads rule) cause counted clear fine = no_bad_rule next old rule ReadsTooOften clear cause
+succeeds_so next old before now (Usage place) cause counted clear fine = absurd counted
+succeeds_so next old before now NotInit (rules, fits, none) counted clear fine = absurd (there old.store clear.held.owned clear.store_reads.lists none)
+succeeds_so next old before now AlreadyInit cause counted clear fine = absurd counted
+succeeds_so next old before now (BadStore offset) (rules, fits, damaged) counted clear fine = absurd (undamaged old.store clear.held.owned offset clear.store_reads.lists damaged)
+succeeds_so next old before now (Parse fault) (rules, fits, refused) counted clear fine = absurd (clear.sources_read (sources.Parse fault) refused)
+succeeds_so next old before now (CircularDirs cycle) (rules, fits, refused) counted clear fine = absurd (clear.sources_read (sources.CircularDirs cycle) refused)
+succeeds_so next old before now (CircularCommands cycle) (rules, fits, refused) counted clear fine = absurd (clear.sources_read (sources.CircularCommands cycle) refused)
+succeeds_so next old before now (NoSuchGroup group) (rules, fits, refused) counted clear fine = absurd (clear.sources_read (sources.NoSuchGroup group) refused)
+succeeds_so next old before now SiteFault cause counted clear fine = not_rose before.site now.site fine.site fine.site_counts counted.0
+succeeds_so next old before now RunFault cause counted clear fine = no_runner_rose before now fine counted.1
+succeeds_so next old before now SinkFault cause counted clear fine = not_rose before.sink now.sink fine.sink fine.sink_counts counted.1
+succeeds_so next old before now (Limit FileSize number) (count, passed, (rules, fits, large)) counted clear fine = no_large_file next old rules count clear fits (large clear.held clear.store_reads) passed
+succeeds_so next old before now (Limit Files number) (count, passed, (rules, fits, refused)) counted clear fine = absurd (clear.sources_read (sources.TooManyFiles count) refused)
+succeeds_so next old before now (Limit Commands number) (count, passed, (rules, fits, refused)) counted clear fine = absurd (clear.sources_read (sources.TooManyCommands count) refused)
+succeeds_so next old before now (Limit Links number) (count, passed, (rules, fits, refused)) counted clear fine = absurd (clear.sources_read (sources.TooManyLinks count) refused)
+succeeds_so next old before now (Limit StoreSize number) (rules, fits, full) counted clear fine = absurd (clear.room rules fits (full clear.held clear.store_reads))
+succeeds_so next old before now (Differs path) cause counted clear fine = absurd counted
+succeeds_so next old before now Memory cause counted clear fine = tt
 
 -- the same of a comparison
 no_large : (w : World) (number : ℕ) → CanBeCompared w → HasFileOf number w.tree → 16777216 < number → ⊥

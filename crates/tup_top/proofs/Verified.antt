@@ -1,5 +1,5 @@
 -- How a comparison ends that came out so: what is promised of it holds of the status that tells of it.
-use Rattle.std.proofs.Common.{◌≡◌, inl, inr, ℕ, List, [], Option, None, Some, Result, Ok, Err, refl, sym, subst, ◌∙◌}
+use Rattle.std.proofs.Common.{◌≡◌, inl, inr, ℕ, Bool, IsTrue, List, [], Option, None, Some, Result, Ok, Err, refl, sym, subst, ◌∙◌}
 use Rattle.std.specs.Result.{result_err}
 use Rattle.tup_path.specs.Name.{Names}
 use Rattle.tup_site.specs.World.{World}
@@ -161,9 +161,10 @@ module _ (site_before site_now run_before run_now sink_before sink_now : ℕ) wh
 
 -- ---- what is printed
 
-pub prints_compared : (next : Next) (w : World) (before now : ℕ) (held grown : List ℕ) (result : Result Compared Stop) (status : Status) (text : List ℕ) (answer : Status) → HasCompared next w result → status ≡ status_of_compared result →
-    text ≡ compared_line status → Ends before now status answer → Prints status text before now held grown answer → PrintsComparison next w before now held grown answer
-prints_compared next w before now held grown result status text answer has is reads ends prints = record {
+pub prints_compared : (site runner : Bool) (next : Next) (w : World) (before now : ℕ) (held grown : List ℕ) (result : Result Compared Stop) (status : Status) (text : List ℕ) (answer : Status) →
+    (IsTrue site → IsTrue runner → HasCompared next w result) → status ≡ status_of_compared result →
+    text ≡ compared_line status → Ends before now status answer → Prints status text before now held grown answer → PrintsComparison site runner next w before now held grown answer
+prints_compared site runner next w before now held grown result status text answer has is reads ends prints = record {
   compared = result;
   has = has;
   ends = subst (λ (s : Status). Ends before now s answer) is ends;

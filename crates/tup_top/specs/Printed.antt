@@ -1,8 +1,9 @@
 -- What is printed of one call: the lines of an update, or the line of a refusal; a front of them where the sink failed.
-use Rattle.std.specs.Prelude.{◌≡◌, ◌≢◌, ◌⊎◌, ⊤, ℕ, List, [], ◌∷◌, ◌++◌, Option, Result, Ok, Err}
+use Rattle.std.specs.Prelude.{◌≡◌, ◌≢◌, ◌⊎◌, ⊤, ℕ, Bool, true, List, [], ◌∷◌, ◌++◌, Option, IsTrue, Result, Ok, Err}
 use Rattle.tup_path.specs.Count.{Rose}
 use Rattle.tup_site.specs.World.{World}
 use Rattle.tup_rule.specs.declared.rule.Rule.{Rule}
+use Rattle.tup_rule.specs.declared.rule.RuleName.{RuleName}
 use Rattle.tup_runner.specs.Next.{Next}
 use Rattle.tup_mini.specs.Means.{mini_next}
 use Rattle.tup_tell.specs.Sink.{GrownByPart}
@@ -12,6 +13,7 @@ use Rattle.tup_graph.specs.declared.fault.GraphFault.{GraphFault}
 use Rattle.tup_ledger.specs.declared.beginning.Begun.{Begun}
 use Rattle.tup_update.specs.Compared.{HasCompared}
 use Rattle.tup_update.specs.Log.{LogFits, RulesFit}
+use Rattle.tup_update.specs.Turns.{TurnsFit}
 use Rattle.tup_update.specs.declared.compare.Compared.{Compared}
 use Rattle.tup_update.specs.declared.update.Log.{Log}
 use Rattle.tup_update.specs.declared.stop.Stop.{Stop}
@@ -40,24 +42,27 @@ pub record Prints (status : Status) (text : List ℕ) (before now : ℕ) (old ne
   pub all : answer ≢ Memory → ¬ Rose before now → new ≡ old ++ text
   pub untold : answer ≡ Memory → status ≢ Memory → new ≡ old
 
--- what an update of this world told of itself
-pub record Told (next : Next) (old : World) : Type 0 where
+-- What an update of this world, which began these rules, told of itself. The site tells its world or doesn't, and the runner
+-- what its commands mean. Each rule that was begun is told of, but perhaps the last, and where the outside stopped the update.
+pub record Told (site runner : Bool) (next : Next) (old : World) (ran : List RuleName) : Type 0 where
   pub rules : List Rule
   pub log : Log
   pub stopped : Option Stop
-  pub are_its_rules : RulesFit old rules stopped
-  pub is_its_log : LogFits next rules old log stopped
+  pub begun : log.ran ≡ ran
+  pub are_its_rules : IsTrue site → RulesFit old rules stopped
+  pub in_turn : IsTrue site → TurnsFit rules log.ran log.ended stopped
+  pub is_its_log : IsTrue site → IsTrue runner → LogFits next rules old log stopped
 
--- the lines of an update of this world
-pub record PrintsUpdate (next : Next) (world : World) (before now : ℕ) (old new : List ℕ) (answer : Status) : Type 0 where
-  pub told : Told next world
+-- the lines of an update of this world, which began these rules
+pub record PrintsUpdate (site runner : Bool) (next : Next) (world : World) (ran : List RuleName) (before now : ℕ) (old new : List ℕ) (answer : Status) : Type 0 where
+  pub told : Told site runner next world ran
   pub ends : Ends before now (status_of told.log told.stopped) answer
   pub prints : Prints (status_of told.log told.stopped) (lines told.rules told.log (status_of told.log told.stopped)) before now old new answer
 
 -- the line of a comparison of this world
-pub record PrintsComparison (next : Next) (world : World) (before now : ℕ) (old new : List ℕ) (answer : Status) : Type 0 where
+pub record PrintsComparison (site runner : Bool) (next : Next) (world : World) (before now : ℕ) (old new : List ℕ) (answer : Status) : Type 0 where
   pub compared : Result Compared Stop
-  pub has : HasCompared next world compared
+  pub has : IsTrue site → IsTrue runner → HasCompared next world compared
   pub ends : Ends before now (status_of_compared compared) answer
   pub prints : Prints (status_of_compared compared) (compared_line (status_of_compared compared)) before now old new answer
 
@@ -71,20 +76,15 @@ pub record PrintsBegun (before now : ℕ) (old new : List ℕ) (answer : Status)
 abbrev pub demo_world : World
 demo_world = record { tree = demo_tree; store = header ++ 0 ∷ [] }
 
+-- the lines of the update that a demo shows, over a site of its own
+abbrev pub PrintsDemo : ℕ → ℕ → List ℕ → List ℕ → Status → Type 0
+PrintsDemo before now old new answer = (ran : List RuleName) × PrintsUpdate true true mini_next demo_world ran before now old new answer
+
 -- the lines of what was asked for: of the update, of the beginning, of the comparison, of the demo's update, or the line of the
 -- refusal
-abbrev pub Printed : Wanted → Next → World → ℕ → ℕ → List ℕ → List ℕ → Status → Type 0
-Printed (Ok (Upd program)) next world before now old new answer = PrintsUpdate next world before now old new answer
-Printed (Ok Init) next world before now old new answer = PrintsBegun before now old new answer
-Printed (Ok Verify) next world before now old new answer = PrintsComparison next world before now old new answer
-Printed (Ok Demo) next world before now old new answer = PrintsUpdate mini_next demo_world before now old new answer
-Printed (Err place) next world before now old new answer = Prints (Usage place) (last_line (Usage place)) before now old new answer
-
--- The same of what is so over every site and with every runner: the line of the beginning, the demo's lines, or the line of the
--- refusal.
-abbrev pub PrintedAlone : Wanted → ℕ → ℕ → List ℕ → List ℕ → Status → Type 0
-PrintedAlone (Ok (Upd program)) before now old new answer = ⊤
-PrintedAlone (Ok Init) before now old new answer = PrintsBegun before now old new answer
-PrintedAlone (Ok Verify) before now old new answer = ⊤
-PrintedAlone (Ok Demo) before now old new answer = PrintsUpdate mini_next demo_world before now old new answer
-PrintedAlone (Err place) before now old new answer = Prints (Usage place) (last_line (Usage place)) before now old new answer
+abbrev pub Printed : Bool → Bool → Wanted → Next → World → List RuleName → ℕ → ℕ → List ℕ → List ℕ → Status → Type 0
+Printed site runner (Ok (Upd program)) next world ran before now old new answer = PrintsUpdate site runner next world ran before now old new answer
+Printed site runner (Ok Init) next world ran before now old new answer = PrintsBegun before now old new answer
+Printed site runner (Ok Verify) next world ran before now old new answer = PrintsComparison site runner next world before now old new answer
+Printed site runner (Ok Demo) next world ran before now old new answer = PrintsDemo before now old new answer
+Printed site runner (Err place) next world ran before now old new answer = Prints (Usage place) (last_line (Usage place)) before now old new answer

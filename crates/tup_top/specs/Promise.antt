@@ -149,15 +149,15 @@ pub record NothingFailed (before now : Counts) : Type 0 where
   pub sink : now.sink ≡ before.sink
   pub sink_counts : now.sink < 2 ^ 64 - 1
 
--- Nothing stands in the way of an update: the store reads and has room, the sources ask for rules, and their clean build
--- succeeds. No source is too large, and no file of that build.
-pub record IsClear (next : Next) (old new : World) : Type 0 where
+-- Nothing stands in the way of an update: the store reads and has room for what an update commits, the sources ask for rules, and
+-- their clean build succeeds. No source is too large, and no file of that build.
+pub record IsClear (next : Next) (old : World) : Type 0 where
   pub held : Holding
   pub store_reads : Shows old held
   pub sources_read : (fault : SourcesFault) → IsRefused old fault → ⊥
   pub clean : (rules : List Rule) → IsAsked old rules → IsTrue (succeeds (build next rules held))
   pub small : (rules : List Rule) → (rules ≡ []) ⊎ IsAsked old rules → (path : Names) (content : Content) → finite.get (build next rules held).tree path ≡ Some content → length content ≤ 16777216
-  pub room : (rules : List Rule) → IsAsked old rules → HasNoRoom rules held new → ⊥
+  pub room : (rules : List Rule) → IsAsked old rules → HasNoRoom rules held old → ⊥
 
 -- an answer that is free, or says that all was done
 abbrev pub IsDoneOrMemory : Status → Type 0
@@ -166,8 +166,8 @@ IsDoneOrMemory Memory = ⊤
 IsDoneOrMemory other = ⊥
 
 -- an update that nothing stands in the way of is done, but for want of memory
-abbrev pub Succeeds : Wanted → Next → World → World → Counts → Counts → Status → Type 0
-Succeeds wanted next old new before now status = IsUpdate wanted → IsClear next old new → NothingFailed before now → IsDoneOrMemory status
+abbrev pub Succeeds : Wanted → Next → World → Counts → Counts → Status → Type 0
+Succeeds wanted next old before now status = IsUpdate wanted → IsClear next old → NothingFailed before now → IsDoneOrMemory status
 
 -- a project begins where there is no store and nothing failed, but for want of memory
 abbrev pub Initializes : Wanted → World → Counts → Counts → Status → Type 0

@@ -1,5 +1,5 @@
 //! The top call.
-ghost use Rattle.std.specs.Prelude.{◌≡◌, IsTrue, length, map};
+ghost use Rattle.std.specs.Prelude.{◌≡◌, IsTrue, drop, length, map};
 ghost use Rattle.tup_site.specs.Crash.{GoesOn, LeavesOnly};
 ghost use Rattle.tup_ledger.specs.Begin.{Begins};
 ghost use Rattle.tup_update.specs.Compared.{HasCompared};
@@ -8,11 +8,11 @@ ghost use Rattle.tup_ledger.specs.Sources.{HasSources, Kept};
 ghost use Rattle.tup_update.specs.Images.{UpdateStep, with_outputs};
 ghost use Rattle.tup_update.specs.Log.{OfRules};
 ghost use Rattle.tup_update.specs.Settled.{IsSettled};
-ghost use Rattle.tup_update.specs.Outcome.{ExactlyTheFiles, MadeBeforeBad, SourcesStay, NothingForgotten, HasCause};
+ghost use Rattle.tup_update.specs.Outcome.{ExactlyTheFiles, MadeBeforeBad, SourcesStay, NothingForgotten, HasCause, JustCommits};
 ghost use Rattle.tup_top.specs.Order.{IsUpdate, order};
 ghost use Rattle.tup_top.specs.Crew.{IsCrew, CrewRuns, CrewCompares, RanFits, RanInTurn, NothingRun};
 ghost use Rattle.tup_top.specs.Lines.{last_line as line_of};
-ghost use Rattle.tup_top.specs.Printed.{Printed, PrintedAlone, Prints};
+ghost use Rattle.tup_top.specs.Printed.{Printed, Prints};
 ghost use Rattle.tup_top.specs.Promise.{ForUpdate, ForInit, ForVerify, Lasts, NothingDone, QuietStep, CountsAll};
 ghost use Rattle.tup_top.specs.Promise.{HasPlainCause, IsRefusal, Succeeds, Initializes, Compares, counts};
 ghost use Rattle.tup_top.specs.declared.status.Status.TheVariants.{Usage};
@@ -66,6 +66,10 @@ pub fn tup<S: Site, R: Runner, K: Sink>(
     ensures nothing_forgotten { IsTrue S.tells → let old = S.world site in
         let new = S.world result.site in ForUpdate (order words.now) result.status
         (OfRules old (λ rules. NothingForgotten R.tells R.next rules old new)) }
+    // Of what the store has just what is owned is another, and nothing but that was written.
+    ensures commits { IsTrue S.tells → let old = S.world site in
+        let new = S.world result.site in ForUpdate (order words.now) result.status
+        (OfRules old (λ rules. JustCommits rules old new)) }
     // Whenever a crash comes: no file changes but owned ones and outputs, and nothing is forgotten.
     ensures crash { IsTrue S.tells → let old = S.world site in
         ForUpdate (order words.now) result.status (OfRules old (λ rules _.
@@ -85,6 +89,8 @@ pub fn tup<S: Site, R: Runner, K: Sink>(
     ensures nothing_done { IsTrue S.tells
         → NothingDone (order words.now) (S.world site) (S.world result.site) }
     ensures crew { length result.crew.items ≡ length crew.items }
+    // All runners but the first are as they were.
+    ensures others { drop 1 result.crew.items ≡ drop 1 crew.items }
     ensures nothing_run { NothingRun (order words.now) crew.items result.crew.items result.ran }
     ensures begun { IsTrue S.tells → IsTrue R.tells → let old = S.world site in
         ForUpdate (order words.now) result.status
@@ -94,16 +100,15 @@ pub fn tup<S: Site, R: Runner, K: Sink>(
     ensures ran { IsTrue R.tells_ran → ForUpdate (order words.now) result.status
         (CrewRuns result.ran (map R.ran crew.items) (map R.ran result.crew.items)) }
     ensures cause { IsTrue S.tells → IsTrue R.tells → let old = S.world site in
-        let new = S.world result.site in ForUpdate (order words.now) result.status
-        (OfRules old (λ rules. HasCause R.next rules old new)) }
+        ForUpdate (order words.now) result.status
+        (OfRules old (λ rules. HasCause R.next rules old)) }
     ensures plain_cause { let before = counts S.faults R.faults K.faults site crew.items out.old in
         let now = counts S.faults R.faults K.faults result.site result.crew.items out.new in
         HasPlainCause (order words.now) before now result.status }
     ensures success { IsTrue S.tells → IsTrue R.tells
         → let before = counts S.faults R.faults K.faults site crew.items out.old in
         let now = counts S.faults R.faults K.faults result.site result.crew.items out.new in
-        let new = S.world result.site in
-        Succeeds (order words.now) R.next (S.world site) new before now result.status }
+        Succeeds (order words.now) R.next (S.world site) before now result.status }
     // A project begins where there is no store; one that is there stays, with all that it owns.
     ensures begins { IsTrue S.tells → let old = S.world site in
         ForInit (order words.now) result.status (Begins old (S.world result.site)) }
@@ -125,15 +130,12 @@ pub fn tup<S: Site, R: Runner, K: Sink>(
     ensures told { IsTrue S.tells → IsTrue R.tells → let old = S.world site in
         ForUpdate (order words.now) result.status
         (OfRules old (λ rules _. CountsAll R.next rules old result.status)) }
-    ensures printed { IsTrue S.tells → IsTrue R.tells → IsTrue K.tells
+    // What is printed, over every site and by every runner, by what these tell.
+    ensures printed { IsTrue K.tells
         → let before = K.faults out.old in let now = K.faults out.new in
-        let new = K.held out.new in
-        Printed (order words.now) R.next (S.world site) before now (K.held out.old) new
-        result.status }
-    // What a beginning, the demo and a refusal print is told over every site and by every runner.
-    ensures printed_alone { IsTrue K.tells
-        → let before = K.faults out.old in let now = K.faults out.new in
-        PrintedAlone (order words.now) before now (K.held out.old) (K.held out.new) result.status }
+        let old = S.world site in
+        Printed S.tells R.tells (order words.now) R.next old result.ran before now
+        (K.held out.old) (K.held out.new) result.status }
 {
     match order_of(words) {
         Ok(Order::Upd { .. }) => {

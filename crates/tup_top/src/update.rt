@@ -1,7 +1,6 @@
 //! An update, and what is told of it.
 ghost use Rattle.std.specs.Prelude.{◌≡◌, [], ◌∷◌, ◌++◌, IsTrue, IfOk, IfErr};
 ghost use Rattle.tup_site.specs.Crash.{GoesOn, LeavesOnly};
-ghost use Rattle.tup_mini.specs.Means.{mini_next};
 ghost use Rattle.tup_steady.specs.Steady.{world_in, tree_in, store_in};
 ghost use Rattle.tup_table.specs.Store.{header};
 ghost use Rattle.tup_ledger.specs.Listing.{IsSafe};
@@ -10,9 +9,9 @@ ghost use Rattle.tup_update.specs.Images.{UpdateStep, with_outputs};
 ghost use Rattle.tup_update.specs.Log.{OfRules};
 ghost use Rattle.tup_update.specs.Ran.{RunsThese};
 ghost use Rattle.tup_update.specs.Settled.{IsSettled};
-ghost use Rattle.tup_update.specs.Outcome.{ExactlyTheFiles, MadeBeforeBad, SourcesStay, NothingForgotten, HasCause};
+ghost use Rattle.tup_update.specs.Outcome.{ExactlyTheFiles, MadeBeforeBad, SourcesStay, NothingForgotten, HasCause, JustCommits};
 ghost use Rattle.tup_top.specs.Crew.{RanFits, RanInTurn};
-ghost use Rattle.tup_top.specs.Printed.{PrintsUpdate, demo_world};
+ghost use Rattle.tup_top.specs.Printed.{PrintsDemo, PrintsUpdate, demo_world};
 ghost use Rattle.tup_top.specs.Promise.{CountsAll, HasCountedCause, HasDemoCause, counts};
 ghost use Rattle.tup_top.specs.Status.{IfCame};
 
@@ -55,6 +54,8 @@ pub(crate) fn update<S: Site, R: Runner, K: Sink>(
     ensures nothing_forgotten { IsTrue S.tells → let old = S.world site.old in
         IfCame result.status
         (OfRules old (λ rules. NothingForgotten R.tells R.next rules old (S.world site.new))) }
+    ensures commits { IsTrue S.tells → let old = S.world site.old in
+        IfCame result.status (OfRules old (λ rules. JustCommits rules old (S.world site.new))) }
     ensures crash { IsTrue S.tells → let old = S.world site.old in
         IfCame result.status (OfRules old (λ rules _.
         GoesOn S.moment S.left_since site.old site.new (UpdateStep R.tells R.next rules old))) }
@@ -65,8 +66,7 @@ pub(crate) fn update<S: Site, R: Runner, K: Sink>(
     ensures settled { IsTrue S.tells → let left = S.left_since site.new (S.moment site.new) in
         IfCame result.status (IsSettled left (S.world site.new)) }
     ensures cause { IsTrue S.tells → IsTrue R.tells → let old = S.world site.old in
-        IfCame result.status
-        (OfRules old (λ rules. HasCause R.next rules old (S.world site.new))) }
+        IfCame result.status (OfRules old (λ rules. HasCause R.next rules old)) }
     ensures counted_cause { let counted = counts S.faults R.faults K.faults in
         let before = counted site.old (runner.old ∷ []) out.old in
         let now = counted site.new (runner.new ∷ []) out.new in
@@ -81,10 +81,10 @@ pub(crate) fn update<S: Site, R: Runner, K: Sink>(
     ensures told { IsTrue S.tells → IsTrue R.tells → let old = S.world site.old in
         IfCame result.status
         (OfRules old (λ rules _. CountsAll R.next rules old result.status)) }
-    ensures printed { IsTrue S.tells → IsTrue R.tells → IsTrue K.tells
+    ensures printed { IsTrue K.tells
         → let before = K.faults out.old in let now = K.faults out.new in
-        PrintsUpdate R.next (S.world site.old) before now (K.held out.old) (K.held out.new)
-        result.status }
+        PrintsUpdate S.tells R.tells R.next (S.world site.old) result.ran before now
+        (K.held out.old) (K.held out.new) result.status }
 {
     let Update {
         rules,
@@ -110,7 +110,7 @@ pub(crate) fn demo<K: Sink>(alloc: Global, out: &mut K) -> Status
     ensures cause { HasDemoCause (K.faults out.old) (K.faults out.new) result }
     ensures printed { IsTrue K.tells
         → let before = K.faults out.old in let now = K.faults out.new in
-        PrintsUpdate mini_next demo_world before now (K.held out.old) (K.held out.new) result }
+        PrintsDemo before now (K.held out.old) (K.held out.new) result }
 {
     match demo_site(alloc) {
         Ok(mut site) => update(alloc, &mut site, &mut Mini::new(alloc), out).status,

@@ -35,10 +35,10 @@ pub(crate) fn verify<S: Site, R: Runner, K: Sink>(
         let before = counted site.old (runner.old ∷ []) out.old in
         let now = counted site.new (runner.new ∷ []) out.new in
         HasComparedCause before now result }
-    ensures printed { IsTrue S.tells → IsTrue R.tells → IsTrue K.tells
+    ensures printed { IsTrue K.tells
         → let before = K.faults out.old in let now = K.faults out.new in
-        PrintsComparison R.next (S.world site.old) before now (K.held out.old) (K.held out.new)
-        result }
+        PrintsComparison S.tells R.tells R.next (S.world site.old) before now
+        (K.held out.old) (K.held out.new) result }
 {
     let status = status_of_compared(compare_site(alloc, site, runner));
     match compared_line(alloc, &status) {

@@ -1,14 +1,17 @@
 -- What is promised of a world behind the opening of its store is promised of the one before it.
-use Rattle.std.proofs.Common.{◌≡◌, ⊎_elim, inl, inr, Bool, IsSome, List, Option, None, Some, Result, Ok, Err, IfErr}
+use Rattle.std.proofs.Common.{◌≡◌, ◌∙◌, ⊎_elim, inl, inr, Bool, IsSome, List, Option, None, Some, Result, Ok, Err, IfErr}
 use Rattle.tup_path.specs.Name.{Names}
 use Rattle.tup_site.specs.World.{World}
 use Rattle.tup_site.specs.declared.fault.SiteFailed.TheVariants.{Fault, TooLarge, Memory}
 use Rattle.tup_rule.specs.declared.rule.Rule.{Rule}
 use Rattle.tup_runner.specs.Next.{Next}
+use Rattle.tup_table.specs.Reading.{ReadsAs}
+use Rattle.tup_table.specs.declared.opened.Opened.{Opened}
+use Rattle.tup_kept.specs.Opening.{opened_in}
 use Rattle.tup_ledger.specs.Ascending.{ascending}
 use Rattle.std.specs.FinMap as finite
 use Rattle.std.specs.Result.{result_err}
-use Rattle.tup_update.specs.Holding.{Holding, HoldsOn}
+use Rattle.tup_update.specs.Holding.{Holding, HoldsOn, Lists, ListsOn}
 use Rattle.tup_update.specs.Log.{IsPartOf, LogFits, RulesFit, whole_log}
 use Rattle.tup_update.specs.Outcome.{AllIsMade, ClaimedListed, ExactlyTheFiles, HasCause, HasNoRoom, IsBadRule, IsBehindBad, IsLeft, IsListed, IsMade, Keeps, MadeBeforeBad, NothingForgotten, Stays, claimed}
 use Rattle.tup_update.specs.Parts.{HasFileOf, StopsMaking}
@@ -28,17 +31,24 @@ makes_on {T} (Ok value) makes = tt
 makes_on {T} (Err stop) makes = makes
 
 module _ (rules : List Rule) (old mid new : World) (on : HoldsOn old mid) where
+  -- the bytes before read as whatever the bytes behind it read as
+  abbrev pub ReadsBack : Type 0
+  ReadsBack = (opened : Opened) → ReadsAs mid.store (Ok opened) → ReadsAs old.store (Ok opened)
+
   pub asked_before : IsAsked mid rules → IsAsked old rules
   asked_before asked = (asked.0, shown_before old mid on asked.0 asked.1, asked.2)
 
   claimed_before : ClaimedListed rules mid new → ClaimedListed rules old new
   claimed_before listed = held_before old mid on (λ held. IsListed (claimed rules held) held new) listed
 
+  still_listed_before : ListsOn mid new → ListsOn old new
+  still_listed_before still = record { tree = still.tree ∙ on.tree; lists = held_before old mid on (λ held. Lists new.store held.owned) still.lists }
+
   module _ (tells : Bool) (next : Next) where
     left_before : IsLeft tells next rules mid new → IsLeft tells next rules old new
     left_before left = (
       asked_before left.0,
-      ⊎_elim (λ holds. inl (holds_then old mid new on holds))
+      ⊎_elim (λ still. inl (still_listed_before still))
           (λ rest. inr (⊎_elim (λ listed. inl (claimed_before listed)) (λ made. inr (held_before old mid on (λ held. AllIsMade tells next rules held new) made)) rest)) left.1,
     )
 
@@ -91,17 +101,21 @@ module _ (rules : List Rule) (old mid new : World) (on : HoldsOn old mid) where
     bad_before (Some Full) makes made = tt
     bad_before (Some (Outside failed)) makes made = tt
 
-    cause_before : (stopped : Option Stop) → MakesOn stopped → HasCause next rules mid new stopped → HasCause next rules old new stopped
-    cause_before None makes why = tt
-    cause_before (Some NoStore) makes why = absurd makes
-    cause_before (Some (BadStore offset)) makes why = absurd makes
-    cause_before (Some (Sources fault)) makes why = absurd makes
-    cause_before (Some (Bad name verdict)) makes why = held_before old mid on (λ held. IsBadRule next rules held name verdict) why
-    cause_before (Some Run) makes why = tt
-    cause_before (Some Full) makes why = held_before old mid on (λ held. HasNoRoom rules held new) why
-    cause_before (Some (Outside Fault)) makes why = tt
-    cause_before (Some (Outside (TooLarge n))) makes why = held_before old mid on (λ held. HasFileOf n (build next rules held).tree) why
-    cause_before (Some (Outside Memory)) makes why = tt
+    -- where there is no room behind it there is none before
+    room_before : ReadsBack → (held : Holding) → HasNoRoom rules held mid → HasNoRoom rules held old
+    room_before back held (graph, is, full) = (graph, record { reads = back (opened_in graph) is.reads; stands = is.stands }, full)
+
+    cause_before : (stopped : Option Stop) → ReadsBack → MakesOn stopped → HasCause next rules mid stopped → HasCause next rules old stopped
+    cause_before None back makes why = tt
+    cause_before (Some NoStore) back makes why = absurd makes
+    cause_before (Some (BadStore offset)) back makes why = absurd makes
+    cause_before (Some (Sources fault)) back makes why = absurd makes
+    cause_before (Some (Bad name verdict)) back makes why = held_before old mid on (λ held. IsBadRule next rules held name verdict) why
+    cause_before (Some Run) back makes why = tt
+    cause_before (Some Full) back makes why = held_before old mid on (λ held. HasNoRoom rules held old) (λ held shows. room_before back held (why held shows))
+    cause_before (Some (Outside Fault)) back makes why = tt
+    cause_before (Some (Outside (TooLarge n))) back makes why = held_before old mid on (λ held. HasFileOf n (build next rules held).tree) why
+    cause_before (Some (Outside Memory)) back makes why = tt
 
     abbrev tells_part : Holding → Type 0
     tells_part held = IsPartOf log (whole_log next rules held)
@@ -116,10 +130,10 @@ module _ (rules : List Rule) (old mid new : World) (on : HoldsOn old mid) where
     log_before (Some Full) makes fits = held_before old mid on tells_part fits
     log_before (Some (Outside failed)) makes fits = ⊎_elim inl (λ part. inr (asked_before part.0, held_before old mid on tells_part part.1)) fits
 
-    pub keeps_before : (stopped : Option Stop) → MakesOn stopped → Keeps next rules mid new log stopped → Keeps next rules old new log stopped
-    keeps_before stopped makes keeps = record {
+    pub keeps_before : (stopped : Option Stop) → ReadsBack → MakesOn stopped → Keeps next rules mid new log stopped → Keeps next rules old new log stopped
+    keeps_before stopped back makes keeps = record {
       exactly_the_files = files_before stopped keeps.exactly_the_files;
       made_before_bad = bad_before stopped makes keeps.made_before_bad;
-      cause = cause_before stopped makes keeps.cause;
+      cause = cause_before stopped back makes keeps.cause;
       log_fits = log_before stopped makes keeps.log_fits;
     }

@@ -30,7 +30,7 @@ use Rattle.tup_update.specs.Parts.{Changes, IsProject, SameBeside, SameBesideOut
 use Rattle.tup_update.specs.SeeingLaws.{rests}
 use Rattle.tup_update.specs.Sources.{vanished, sources, AsksFor}
 use Rattle.tup_update.specs.declared.project.Project.{Project}
-use Rattle.tup_update.proofs.Held.{shows_one, held_before, shown_before}
+use Rattle.tup_update.proofs.Held.{shows_one, held_before, lists_back, shown_before}
 use Rattle.tup_update.proofs.Preparing.{kept_beside}
 use Rattle.tup_update.proofs.Trees.{places}
 
@@ -267,7 +267,7 @@ module _ {S : Type 0} (moment : S → ℕ) (left_since : S → ℕ → World →
       further u v w first step = record {
         asked = step.asked;
         buildable = step.buildable;
-        from = λ held shows. first.back held.owned (step.from held shows);
+        from = λ held shows. lists_back u v first held.owned (step.from held shows);
         files = subst (λ (t : Tree). (held : Holding) → Shows was held → Changes held.owned rules t w.tree) first.tree step.files;
         listed = λ held shows. ⊎_elim inl (λ rest. inr (⊎_elim (λ still. inl (still.0, still.1 ∙ first.tree)) inr rest)) (step.listed held shows);
       }

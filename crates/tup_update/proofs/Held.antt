@@ -12,6 +12,7 @@ use Rattle.tup_graph.specs.Opening.{IsGraphOf}
 use Rattle.tup_graph.proofs.OneWay.{not_broken}
 use Rattle.tup_table.specs.Images.{Leaves, OpenStep}
 use Rattle.tup_table.specs.Store.{header, blocks}
+use Rattle.tup_ledger.specs.Listing.{StillLists}
 use Rattle.tup_ledger.proofs.Guarding.{entries_one}
 use Rattle.tup_ledger.proofs.Listing.{lists_one, nothing_lists, opened_still}
 use Rattle.tup_update.specs.Holding.{HasSameEntries, Holding, HoldsOn, IsDamaged, Lists, OfHeld, Shows, holding}
@@ -30,7 +31,7 @@ of_held w paths promise lists kept held shows = subst promise (held_is w held pa
 
 -- ---- worlds that hold the same
 pub holds_itself : (w : World) → HoldsOn w w
-holds_itself w = record { tree = refl; none = λ none. none; lists = λ paths lists. lists; back = λ paths lists. lists; unread = λ none. inl refl }
+holds_itself w = record { tree = refl; store = inl refl }
 
 pub holds_same : (v w : World) → w ≡ v → HoldsOn v w
 holds_same v w same = subst (HoldsOn v) (sym same) (holds_itself v)
@@ -42,13 +43,7 @@ same_then first mid last (inr (entries, was, is)) (inl again) = inr (entries, wa
 same_then first mid last (inr (entries, was, is)) (inr (others, then, now)) = inr (entries, was, subst (λ (es : Standing). Leaves es last) (entries_one mid others entries then is) now)
 
 pub holds_then : (u v w : World) → HoldsOn u v → HoldsOn v w → HoldsOn u w
-holds_then u v w one two = record {
-  tree = two.tree ∙ one.tree;
-  none = λ none. two.none (one.none none);
-  lists = λ paths lists. two.lists paths (one.lists paths lists);
-  back = λ paths lists. one.back paths (two.back paths lists);
-  unread = λ none. same_then u.store v.store w.store (one.unread none) (two.unread (λ paths lists. none paths (one.back paths lists)));
-}
+holds_then u v w one two = record { tree = two.tree ∙ one.tree; store = same_then u.store v.store w.store one.store two.store }
 
 -- where nothing stands, no store does
 not_store : (entries : Standing) → Leaves entries [] → ⊥
@@ -56,27 +51,41 @@ not_store entries (commits, store, is) =
     let no : [] ≡ header ++ (blocks commits ++ store.0) = store.1.whole in
     cc
 
--- as where a store was opened: it has the same entries
+-- as where a store was opened
 pub opened_holds : (v w : World) → OpenStep v w → HoldsOn v w
-opened_holds v w step = record {
-  tree = step.tree;
-  none = λ none. absurd (not_store step.entries (subst (Leaves step.entries) none step.before));
-  lists = λ paths. (opened_still v w step paths).0;
-  back = λ paths. (opened_still v w step paths).1;
-  unread = λ none. inr (step.entries, step.before, step.after);
-}
+opened_holds v w step = record { tree = step.tree; store = inr (step.entries, step.before, step.after) }
 
 pub kept_holds : (v w : World) → (w ≡ v) ⊎ OpenStep v w → HoldsOn v w
 kept_holds v w (inl same) = holds_same v w same
 kept_holds v w (inr step) = opened_holds v w step
 
--- ---- what is promised of one of them is promised of the other
+-- ---- what one of them lists the other does, and what is promised of one of them is promised of the other
 module _ (old mid : World) (on : HoldsOn old mid) where
+  pub still_none : old.store ≡ [] → mid.store ≡ []
+  still_none none = by on.store
+    where
+      by : (mid.store ≡ old.store) ⊎ HasSameEntries old.store mid.store → mid.store ≡ []
+      by (inl same) = same ∙ none
+      by (inr (entries, was, is)) = absurd (not_store entries (subst (Leaves entries) none was))
+
+  still : StillLists old.store mid.store
+  still = by on.store
+    where
+      by : (mid.store ≡ old.store) ⊎ HasSameEntries old.store mid.store → StillLists old.store mid.store
+      by (inl same) = subst (λ (bytes : List ℕ). StillLists old.store bytes) (sym same) (λ paths. ((λ lists. lists), λ lists. lists))
+      by (inr (entries, was, is)) = opened_still old mid (record { tree = on.tree; entries = entries; before = was; after = is })
+
+  pub lists_on : (paths : List Names) → Lists old.store paths → Lists mid.store paths
+  lists_on paths lists = (still paths).0 lists
+
+  pub lists_back : (paths : List Names) → Lists mid.store paths → Lists old.store paths
+  lists_back paths lists = (still paths).1 lists
+
   pub shown_before : (held : Holding) → Shows mid held → Shows old held
-  shown_before held shows = record { lists = on.back held.owned shows.lists; tree = shows.tree ∙ on.tree }
+  shown_before held shows = record { lists = lists_back held.owned shows.lists; tree = shows.tree ∙ on.tree }
 
   pub shown_behind : (held : Holding) → Shows old held → Shows mid held
-  shown_behind held shows = record { lists = on.lists held.owned shows.lists; tree = shows.tree ∙ sym on.tree }
+  shown_behind held shows = record { lists = lists_on held.owned shows.lists; tree = shows.tree ∙ sym on.tree }
 
   pub held_before : (promise : Holding → Type 0) → OfHeld mid promise → OfHeld old promise
   held_before promise kept held shows = kept held (shown_behind held shows)
@@ -84,16 +93,6 @@ module _ (old mid : World) (on : HoldsOn old mid) where
 -- ---- a store that lists something is there, and isn't damaged
 pub there : (bytes : List ℕ) (paths : List Names) → Lists bytes paths → bytes ≡ [] → ⊥
 there bytes paths lists none = nothing_lists paths (subst (λ (b : List ℕ). Lists b paths) none lists)
-
--- worlds with the same files hold the same where both stores list these paths
-pub holds_listed : (v w : World) (paths : List Names) → Lists v.store paths → Lists w.store paths → w.tree ≡ v.tree → HoldsOn v w
-holds_listed v w paths was is same = record {
-  tree = same;
-  none = λ none. absurd (there v.store paths was none);
-  lists = λ others lists. subst (Lists w.store) (lists_one v.store paths others was lists) is;
-  back = λ others lists. subst (Lists v.store) (lists_one w.store paths others is lists) was;
-  unread = λ none. absurd (none paths was);
-}
 
 pub undamaged : (bytes : List ℕ) (paths : List Names) (offset : ℕ) → Lists bytes paths → IsDamaged bytes offset → ⊥
 undamaged bytes paths offset lists (left, opens) =

@@ -12,7 +12,7 @@ use Rattle.tup_access.specs.declared.verdict.Verdict.{Verdict}
 use Rattle.tup_runner.specs.Next.{Next}
 use Rattle.tup_clean.specs.Clean.{clean}
 use Rattle.tup_clean.specs.Taken.{Taken, takes, up_to_bad, verdicts_of}
-use Rattle.tup_update.specs.Holding.{Holding, HoldsOn, Lists, OfHeld, holding}
+use Rattle.tup_update.specs.Holding.{Holding, HoldsOn, Lists, ListsOn, OfHeld, holding}
 use Rattle.tup_ledger.specs.Ascending.{ascending}
 use Rattle.tup_update.specs.Log.{IsFront, IsGrownByFront, IsPartOf, IsEmptyLog, IsUnused, LogFits, RulesFit, whole_log, with_read}
 use Rattle.tup_update.specs.Outcome.{Stays, Keeps, MadeBeforeBad, IsBehindBad, HasCause, HasCountedCause, IsBadRule, IsMade, IsListed, ClaimedListed, AllIsMade, HasNoRoom, IsLeft, NothingForgotten, SourcesStay, claimed}
@@ -31,7 +31,7 @@ use Rattle.tup_update.specs.declared.stop.Unread.{Unread}
 use Rattle.tup_update.specs.declared.stop.Unread.TheVariants.{Sources, Outside as Unlucky}
 use Rattle.tup_update.specs.declared.update.Log.{Log}
 use Rattle.tup_update.proofs.Beside.{left_is}
-use Rattle.tup_update.proofs.Held.{of_held, holds_itself, holds_listed, shown_before, shows_one}
+use Rattle.tup_update.proofs.Held.{of_held, holds_itself, shown_before, shows_one}
 use Rattle.tup_update.proofs.Behind.{none_made}
 use Rattle.tup_update.proofs.Ending.{sources_are_kept, no_front, whole_front, grown_from_nothing}
 use Rattle.tup_update.proofs.Known.{claimed_known, beside_ascending}
@@ -50,7 +50,7 @@ refusal_unread w paths (Unlucky Fault) lists refused = tt
 refusal_unread w paths (Unlucky (TooLarge n)) lists refused = absurd (cc refused)
 refusal_unread w paths (Unlucky Memory) lists refused = tt
 
-pub unread_cause : (next : Next) (rules : List Rule) (old new : World) (unread : Unread) → rules ≡ [] → HoldsOn old new → IsUnread new unread → HasCause next rules old new (Some (stop_of unread))
+pub unread_cause : (next : Next) (rules : List Rule) (old new : World) (unread : Unread) → rules ≡ [] → HoldsOn old new → IsUnread new unread → HasCause next rules old (Some (stop_of unread))
 unfolding clean
 unread_cause next rules old new (Sources fault) none on why = (why.0, shown_before old new on why.0 why.1, why.2)
 unread_cause next rules old new (Unlucky Fault) none on why = tt
@@ -113,7 +113,7 @@ unread_stays tells next rules old new log unread on none empty = record {
     turns (Sources fault) = (empty.2, empty.3)
     turns (Unlucky failed) = no_turns rules log.ran log.ended empty.2 empty.3
 
-pub unread_keeps : (next : Next) (rules : List Rule) (old new : World) (log : Log) (unread : Unread) → HasCause next rules old new (Some (stop_of unread)) → IsEmptyLog log →
+pub unread_keeps : (next : Next) (rules : List Rule) (old new : World) (log : Log) (unread : Unread) → HasCause next rules old (Some (stop_of unread)) → IsEmptyLog log →
     Keeps next rules old new log (Some (stop_of unread))
 unread_keeps next rules old new log unread why empty = record {
   exactly_the_files = tt;
@@ -186,7 +186,7 @@ unopened_keeps next rules old new log stop stops why empty = record {
     before Full stops = absurd stops
     before (Outside failed) stops = tt
 
-    caused : (stop : Stop) → StopsOpening stop → IsUnopened old stop → HasCause next rules old new (Some stop)
+    caused : (stop : Stop) → StopsOpening stop → IsUnopened old stop → HasCause next rules old (Some stop)
     caused NoStore stops why = why
     caused (BadStore offset) stops why = why
     caused (NoSources fault) stops why = absurd stops
@@ -229,11 +229,11 @@ late_turns rules ran ended Run late turns = absurd late
 late_turns rules ran ended Full late turns = turns
 late_turns rules ran ended (Outside failed) late turns = turns
 
-large_cause : (next : Next) (rules : List Rule) (old new : World) (halt : Halt) → ((n : ℕ) → halt ≡ Halted (TooLarge n) → OfHeld old (λ held. HasFileOf n (build next rules held).tree)) → HasCause next rules old new (Some (stop_of_halt halt))
-large_cause next rules old new RunHalted large = tt
-large_cause next rules old new (Halted Fault) large = tt
-large_cause next rules old new (Halted (TooLarge n)) large = large n refl
-large_cause next rules old new (Halted Memory) large = tt
+large_cause : (next : Next) (rules : List Rule) (old : World) (halt : Halt) → ((n : ℕ) → halt ≡ Halted (TooLarge n) → OfHeld old (λ held. HasFileOf n (build next rules held).tree)) → HasCause next rules old (Some (stop_of_halt halt))
+large_cause next rules old RunHalted large = tt
+large_cause next rules old (Halted Fault) large = tt
+large_cause next rules old (Halted (TooLarge n)) large = large n refl
+large_cause next rules old (Halted Memory) large = tt
 
 -- what was planned for a project of a world, and the world from which files of vanished rules are taken
 pub record IsUnderWay (project : Project) (old mid : World) (vanishing claiming : List Names) : Type 0 where
@@ -269,16 +269,17 @@ module _ (project : Project) (old : World) (is : IsProject project old) where
 
   -- what is told of a part
   told_part : (next : Next) (log : Log) → IsFront log.removed (vanished project.rules held) → ArePartNoted project.rules (ends next project.rules held) log.ran log.ended →
-      OfHeld old (λ held. IsPartOf (with_read project.read log) (whole_log next project.rules held))
-  told_part next log removed noted = promised (λ held. IsPartOf (with_read project.read log) (whole_log next project.rules held)) part
+      (log.ran ≡ []) ⊎ (log.removed ≡ vanished project.rules held) → OfHeld old (λ held. IsPartOf (with_read project.read log) (whole_log next project.rules held))
+  told_part next log removed noted order = promised (λ held. IsPartOf (with_read project.read log) (whole_log next project.rules held)) part
     where
       part : IsPartOf (with_read project.read log) (whole_log next project.rules held)
-      part = record { read = whole_front project.read (whole_log next project.rules held).read is.read; removed = removed; ran = noted.0; ended = noted.1 }
+      part = record { read = is.read; removed = removed; ran = noted.0; ended = noted.1; in_order = order }
 
   -- the store couldn't be written, or files couldn't be removed
-  late_keeps : (next : Next) (new : World) (log : Log) (stop : Stop) → IsLate stop → (stop ≡ Full → HasNoRoom project.rules held new) →
-      IsFront log.removed (vanished project.rules held) → ArePartNoted project.rules (ends next project.rules held) log.ran log.ended → Keeps next project.rules old new (with_read project.read log) (Some stop)
-  late_keeps next new log stop late room removed noted = record { exactly_the_files = tt; made_before_bad = before stop late; cause = caused stop late room; log_fits = fits stop late }
+  late_keeps : (next : Next) (new : World) (log : Log) (stop : Stop) → IsLate stop → (stop ≡ Full → HasNoRoom project.rules held old) →
+      IsFront log.removed (vanished project.rules held) → ArePartNoted project.rules (ends next project.rules held) log.ran log.ended →
+      (log.ran ≡ []) ⊎ (log.removed ≡ vanished project.rules held) → Keeps next project.rules old new (with_read project.read log) (Some stop)
+  late_keeps next new log stop late room removed noted order = record { exactly_the_files = tt; made_before_bad = before stop late; cause = caused stop late room; log_fits = fits stop late }
     where
       before : (stop : Stop) → IsLate stop → MadeBeforeBad next project.rules old new (Some stop)
       before NoStore late = absurd late
@@ -289,13 +290,13 @@ module _ (project : Project) (old : World) (is : IsProject project old) where
       before Full late = tt
       before (Outside failed) late = tt
 
-      caused : (stop : Stop) → IsLate stop → (stop ≡ Full → HasNoRoom project.rules held new) → HasCause next project.rules old new (Some stop)
+      caused : (stop : Stop) → IsLate stop → (stop ≡ Full → HasNoRoom project.rules held old) → HasCause next project.rules old (Some stop)
       caused NoStore late room = absurd late
       caused (BadStore offset) late room = absurd late
       caused (NoSources fault) late room = absurd late
       caused (Bad rule verdict) late room = absurd late
       caused Run late room = absurd late
-      caused Full late room = promised (λ held. HasNoRoom project.rules held new) (room refl)
+      caused Full late room = promised (λ held. HasNoRoom project.rules held old) (room refl)
       caused (Outside Fault) late room = tt
       caused (Outside (TooLarge n)) late room = absurd late
       caused (Outside Memory) late room = tt
@@ -306,21 +307,21 @@ module _ (project : Project) (old : World) (is : IsProject project old) where
       fits (NoSources fault) late = absurd late
       fits (Bad rule verdict) late = absurd late
       fits Run late = absurd late
-      fits Full late = told_part next log removed noted
-      fits (Outside failed) late = inr (asks, told_part next log removed noted)
+      fits Full late = told_part next log removed noted order
+      fits (Outside failed) late = inr (asks, told_part next log removed noted order)
 
   -- the making was stopped under way
-  halted_keeps : (next : Next) (new : World) (log : Log) (halt : Halt) → HasCause next project.rules old new (Some (stop_of_halt halt)) →
+  halted_keeps : (next : Next) (new : World) (log : Log) (halt : Halt) → HasCause next project.rules old (Some (stop_of_halt halt)) →
       IsFront log.removed (vanished project.rules held) → ArePartNoted project.rules (ends next project.rules held) log.ran log.ended →
-      Keeps next project.rules old new (with_read project.read log) (Some (stop_of_halt halt))
-  halted_keeps next new log halt why removed noted = record { exactly_the_files = tt; made_before_bad = before halt; cause = why; log_fits = fits halt }
+      (log.ran ≡ []) ⊎ (log.removed ≡ vanished project.rules held) → Keeps next project.rules old new (with_read project.read log) (Some (stop_of_halt halt))
+  halted_keeps next new log halt why removed noted order = record { exactly_the_files = tt; made_before_bad = before halt; cause = why; log_fits = fits halt }
     where
       before : (halt : Halt) → MadeBeforeBad next project.rules old new (Some (stop_of_halt halt))
       before RunHalted = tt
       before (Halted failed) = tt
 
       told : OfHeld old (λ held. IsPartOf (with_read project.read log) (whole_log next project.rules held))
-      told = told_part next log removed noted
+      told = told_part next log removed noted order
 
       fits : (halt : Halt) → LogFits next project.rules old (with_read project.read log) (Some (stop_of_halt halt))
       fits RunHalted = told
@@ -341,7 +342,7 @@ module _ (project : Project) (old : World) (is : IsProject project old) where
 
   pub unplanned_keeps : (next : Next) (log : Log) → IsUnused log → Keeps next project.rules old old (with_read project.read log) (Some (Outside Memory))
   unplanned_keeps next log unused =
-      halted_keeps next old log (Halted Memory) tt (no_front log.removed (vanished project.rules held) unused.0) (none_noted next log.ran log.ended unused.1 unused.2)
+      halted_keeps next old log (Halted Memory) tt (no_front log.removed (vanished project.rules held) unused.0) (none_noted next log.ran log.ended unused.1 unused.2) (inl unused.1)
 
 -- ---- the making, from the first writing of the store on
 
@@ -397,18 +398,18 @@ module _ (project : Project) (old mid : World) (vanishing claiming : List Names)
     turns_fit = late_turns project.rules log.ran log.ended stop late (no_turns project.rules log.ran log.ended nothing none);
   }
     where
-      by : Lists mid.store claiming ⊎ (Lists mid.store before × TreeStays old mid) → HoldsOn old mid ⊎ ClaimedListed project.rules old mid ⊎ OfHeld old (λ held. AllIsMade tells next project.rules held mid)
+      by : Lists mid.store claiming ⊎ (Lists mid.store before × TreeStays old mid) → ListsOn old mid ⊎ ClaimedListed project.rules old mid ⊎ OfHeld old (λ held. AllIsMade tells next project.rules held mid)
       by (inl stored) = inr (inl (listed mid (λ path unmade. refl) stored))
-      by (inr (still, same)) = inl (holds_listed old mid project.owned way.is.owned (subst (Lists mid.store) (sym owned) still) same)
+      by (inr (still, same)) = inl (record { tree = same; lists = kept_then (λ held. Lists mid.store held.owned) (subst (Lists mid.store) (sym owned) still) })
 
   removed_whole : (before removed : List Names) → before ≡ [] → removed ≡ before ++ vanishing → removed ≡ vanished project.rules held_then
   removed_whole before removed none grown = grown ∙ ap (λ (l : List Names). l ++ vanishing) none ∙ way.vanishes
 
-  pub unprepared_keeps : (next : Next) (before : List Names) (log : Log) (stop : Stop) → IsLate stop → (stop ≡ Full → HasNoRoom project.rules held_then mid) → before ≡ [] → IsGrownByFront before log.removed vanishing →
+  pub unprepared_keeps : (next : Next) (before : List Names) (log : Log) (stop : Stop) → IsLate stop → (stop ≡ Full → HasNoRoom project.rules held_then old) → before ≡ [] → IsGrownByFront before log.removed vanishing →
       log.ran ≡ [] → log.ended ≡ [] → Keeps next project.rules old mid (with_read project.read log) (Some stop)
   unprepared_keeps next before log stop late room empty removed nothing none =
       late_keeps project old way.is next mid log stop late room
-      (subst (IsFront log.removed) way.vanishes (grown_from_nothing before log.removed vanishing empty removed)) (none_noted project old way.is next log.ran log.ended nothing none)
+      (subst (IsFront log.removed) way.vanishes (grown_from_nothing before log.removed vanishing empty removed)) (none_noted project old way.is next log.ran log.ended nothing none) (inl nothing)
 
   -- ---- the rules were halted
 
@@ -431,10 +432,10 @@ module _ (project : Project) (old mid : World) (vanishing claiming : List Names)
       log.removed ≡ before ++ vanishing → ArePartNoted project.rules (up_to_bad (takes next project.rules (files_beside project.owned mid.tree))) log.ran log.ended →
       Keeps next project.rules old now (with_read project.read log) (Some (stop_of_halt halt))
   unrun_keeps next now before log halt large none removed noted =
-      halted_keeps project old way.is next now log halt (large_cause next project.rules old now halt
+      halted_keeps project old way.is next now log halt (large_cause next project.rules old halt
       (λ n e. kept_then (λ held. HasFileOf n (build next project.rules held).tree) (subst (λ (t : Tree). HasFileOf n (clean next project.rules t).tree) same_run (large n e))))
       (whole_front log.removed (vanished project.rules held_then) (removed_whole before log.removed none removed))
-      (subst (λ (l : List Taken). ArePartNoted project.rules l log.ran log.ended) (same_ends next) noted)
+      (subst (λ (l : List Taken). ArePartNoted project.rules l log.ran log.ended) (same_ends next) noted) (inr (removed_whole before log.removed none removed))
 
   -- ---- the rules were run to their end
 
@@ -536,7 +537,7 @@ module _ (project : Project) (old mid : World) (vanishing claiming : List Names)
     turns_fit = late_turns project.rules log.ran log.ended stop late (turns.0, inl turns.1);
   }
 
-  pub unfinished_keeps : (next : Next) (new : World) (before : List Names) (log : Log) (stop : Stop) → IsLate stop → (stop ≡ Full → HasNoRoom project.rules held_then new) → before ≡ [] → log.removed ≡ before ++ vanishing →
+  pub unfinished_keeps : (next : Next) (new : World) (before : List Names) (log : Log) (stop : Stop) → IsLate stop → (stop ≡ Full → HasNoRoom project.rules held_then old) → before ≡ [] → log.removed ≡ before ++ vanishing →
       AreNoted project.rules (up_to_bad (takes next project.rules (files_beside project.owned mid.tree))) log.ran log.ended →
       Keeps next project.rules old new (with_read project.read log) (Some stop)
   unfinished_keeps next new before log stop late room none removed noted =
@@ -544,7 +545,7 @@ module _ (project : Project) (old mid : World) (vanishing claiming : List Names)
       (whole_front log.removed (vanished project.rules held_then) (removed_whole before log.removed none removed)) (
         whole_front log.ran (names_of project.rules (ends next project.rules held_then)) (noted.0 ∙ ap (names_of project.rules) (same_ends next)),
         whole_front log.ended (ends next project.rules held_then) (noted.1 ∙ same_ends next),
-      )
+      ) (inr (removed_whole before log.removed none removed))
 
   -- all was made and the outputs are owned
   pub finished_stays : (tells : Bool) (next : Next) (ran new : World) (log : Log) → IsCleared vanishing old.tree mid.tree → SameBesideOutputs project.rules mid.tree ran.tree → TreeStays ran new →

@@ -23,6 +23,7 @@ use Rattle.tup_update.specs.Outcome.{IsListed, claimed}
 use Rattle.tup_update.specs.Sources.{files_beside, outputs}
 use Rattle.tup_update.proofs.Fronts.{among_outputs}
 use Rattle.tup_update.proofs.Known.{among_ascending, among_claimed, claimed_known}
+use Rattle.tup_update.proofs.Held.{lists_on}
 
 -- the same as a list sees it: the store lists these paths, which may be owned, and beside them stand these sources
 record Safe (kept : Kept) (w : World) (paths : List Names) : Type 0 where
@@ -65,7 +66,7 @@ module _ (rules : List Rule) (kept : Kept) where
 
   -- a store was opened
   opened_safe : (v w : World) (paths : List Names) → HoldsOn v w → Safe kept v paths → Safe kept w paths
-  opened_safe v w paths on safe = record { lists = on.lists paths safe.lists; sources = ap (files_beside paths) on.tree ∙ safe.sources; only = safe.only }
+  opened_safe v w paths on safe = record { lists = lists_on v w on paths safe.lists; sources = ap (files_beside paths) on.tree ∙ safe.sources; only = safe.only }
 
   -- files were made, of what this world held
   module _ (tells : Bool) (next : Next) (was v w : World) (owned : List Names) (then : Safe kept was owned) (before : Safe kept v owned) (step : MakesStep tells next rules was v w) where

@@ -1,5 +1,5 @@
 -- What a call of the ledger that is refused becomes, and what its graph stands for when files are changed.
-use Rattle.std.proofs.Common.{◌≡◌, ◌≢◌, ℕ, Bool, IsTrue, List, Some, Result, Ok, Err, refl, sym, subst}
+use Rattle.std.proofs.Common.{◌≡◌, ◌≢◌, ◌∙◌, ℕ, Bool, List, Option, None, Some, Result, Ok, Err, inl, inr, refl, sym, ap, subst}
 use Rattle.tup_path.specs.Name.{Names}
 use Rattle.tup_path.specs.Tree.{Tree}
 use Rattle.tup_site.specs.Crash.{GoesOn}
@@ -7,12 +7,18 @@ use Rattle.tup_site.specs.World.{World, StoreStays}
 use Rattle.tup_site.specs.Cause.{CountsFaults as SiteCounts}
 use Rattle.tup_site.specs.declared.fault.SiteFailed.{SiteFailed}
 use Rattle.tup_site.specs.declared.fault.SiteFailed.TheVariants.{Fault, TooLarge, Memory}
+use Rattle.tup_rule.specs.declared.rule.Rule.{Rule}
+use Rattle.tup_rule.specs.declared.rule.RuleName.{RuleName}
+use Rattle.tup_access.specs.declared.verdict.Verdict.{Verdict}
 use Rattle.tup_table.specs.Images.{OpenStep}
 use Rattle.tup_table.specs.Reading.{ReadsAs}
 use Rattle.tup_table.specs.Store.{IsStore}
 use Rattle.tup_table.specs.Table.{IsAtRest, entries_in}
+use Rattle.tup_table.specs.declared.fault.TableFault.{TableFault}
+use Rattle.tup_table.specs.declared.opened.Opened.{Opened}
 use Rattle.tup_table.proofs.Appends.{closed_store}
 use Rattle.tup_table.proofs.Going.{IsEarlier, as_step}
+use Rattle.tup_table.proofs.Stores.{reads_one}
 use Rattle.tup_graph.specs.Graph.{GraphState}
 use Rattle.tup_graph.specs.Opening.{IsGraphOf}
 use Rattle.tup_graph.specs.Transactions.{forget_edits}
@@ -23,16 +29,23 @@ use Rattle.tup_kept.specs.Cause.{CountsFaults}
 use Rattle.tup_kept.specs.Held.{Held, StandsFor}
 use Rattle.tup_kept.specs.Opening.{OpensAs, opened_in}
 use Rattle.tup_kept.specs.Transaction.{IsFull, Leaves}
-use Rattle.tup_ledger.specs.Given.{GivesUp}
-use Rattle.tup_update.specs.Holding.{HoldsOn}
+use Rattle.tup_ledger.specs.Given.{GivesUp, without}
+use Rattle.tup_ledger.specs.Owned.{own_edits, with_owned}
+use Rattle.tup_update.specs.Holding.{HoldsOn, Lists}
 use Rattle.tup_update.specs.Images.{FilesStep}
 use Rattle.tup_update.specs.Opened.{IsUnopened, StopsOpening}
-use Rattle.tup_update.specs.Outcome.{HasCountedCause, LacksRoom}
-use Rattle.tup_update.specs.Parts.{IsLate}
-use Rattle.tup_update.specs.Stopped.{stop_of_graph}
-use Rattle.tup_update.specs.declared.stop.Stop.TheVariants.{Full, Outside}
+use Rattle.tup_update.specs.Outcome.{HasCommits, HasCommitted, HasCountedCause, IsTooFull, JustCommits, ReadsAsGraph, once_owned}
+use Rattle.tup_update.specs.Parts.{IsLate, StopsAt}
+use Rattle.tup_update.specs.Sources.{left_over, outputs}
+use Rattle.tup_update.specs.Stopped.{stop_of, stop_of_graph, stop_of_halt}
+use Rattle.tup_update.specs.declared.stop.Halt.{Halt}
+use Rattle.tup_update.specs.declared.stop.Halt.TheVariants.{Run as RunHalted, Outside as Halted}
+use Rattle.tup_update.specs.declared.stop.Stop.{Stop}
+use Rattle.tup_update.specs.declared.stop.Unread.{Unread}
+use Rattle.tup_update.specs.declared.stop.Unread.TheVariants.{Sources as NoRules, Outside as Unlucky}
+use Rattle.tup_update.specs.declared.stop.Stop.TheVariants.{NoStore, BadStore, Sources, Bad, Run, Full, Outside}
 use Rattle.tup_update.proofs.Crashing.{still_listed}
-use Rattle.tup_update.proofs.Held.{opened_holds}
+use Rattle.tup_update.proofs.Held.{of_held, opened_holds}
 
 -- ---- a refusal, and what the site counted
 
@@ -64,11 +77,11 @@ module _ (edits : List Edit) (nodes : GraphState) (old new : Held) where
   committed_late before now graph.Memory leaves = tt
 
   -- only one tells that there is no room
-  pub committed_full : {S : Type 0} (before now : S) (fault : GraphFault) → Leaves edits nodes old new before now (Err fault) → stop_of_graph fault ≡ Full → IsFull old edits × (now ≡ before)
+  pub committed_full : {S : Type 0} (before now : S) (fault : GraphFault) → Leaves edits nodes old new before now (Err fault) → stop_of_graph fault ≡ Full → IsFull old edits
   committed_full before now graph.NotThere leaves is = absurd leaves
   committed_full before now (graph.BadStore offset) leaves is = absurd leaves
   committed_full before now graph.Site leaves is = absurd (cc is)
-  committed_full before now graph.Full leaves is = (leaves.0, leaves.2)
+  committed_full before now graph.Full leaves is = leaves.0
   committed_full before now graph.Memory leaves is = absurd (cc is)
 
 module _ (tells : Bool) (paths : List Names) (old new : Held) (v w : World) where
@@ -79,16 +92,84 @@ module _ (tells : Bool) (paths : List Names) (old new : Held) (v w : World) wher
   given_late graph.Full gives = tt
   given_late graph.Memory gives = tt
 
-  pub given_full : (fault : GraphFault) → IsTrue tells → GivesUp tells paths old new v w (Err fault) → stop_of_graph fault ≡ Full → IsFull old (forget_edits old.nodes paths) × (w ≡ v)
-  given_full graph.NotThere told gives is = absurd gives
-  given_full (graph.BadStore offset) told gives is = absurd gives
-  given_full graph.Site told gives is = absurd (cc is)
-  given_full graph.Full told gives is = (gives.0, gives.1.1 told)
-  given_full graph.Memory told gives is = absurd (cc is)
+  pub given_full : (fault : GraphFault) → GivesUp tells paths old new v w (Err fault) → stop_of_graph fault ≡ Full → IsFull old (forget_edits old.nodes paths)
+  given_full graph.NotThere gives is = absurd gives
+  given_full (graph.BadStore offset) gives is = absurd gives
+  given_full graph.Site gives is = absurd (cc is)
+  given_full graph.Full gives is = gives.0
+  given_full graph.Memory gives is = absurd (cc is)
+
+-- ---- there is no room
+
+-- for the outputs, or behind them for giving up what no rule makes
+module _ (rules : List Rule) (owned : List Names) (held : Held) where
+  pub none_to_own : (paths : List Names) → paths ≡ outputs rules → IsFull held (own_edits held.nodes paths) → IsTooFull rules owned held
+  none_to_own paths same full = inl (subst (λ (l : List Names). IsFull held (own_edits held.nodes l)) same full)
+
+  pub none_to_give : (paths left : List Names) (then : Held) → paths ≡ outputs rules → left ≡ left_over owned rules → then ≡ once_owned held paths → IsFull then (forget_edits then.nodes left) → IsTooFull rules owned held
+  none_to_give paths left then same other is full =
+      let full_then = subst (λ (h : Held). IsFull h (forget_edits h.nodes left)) (is ∙ ap (once_owned held) same) full in
+      inr (subst (λ (l : List Names). IsFull (once_owned held (outputs rules)) (forget_edits (with_owned held.nodes (outputs rules)) l)) other full_then)
+
+-- ---- which commits were made
+
+-- both
+pub given_reads : (rules : List Rule) (owned : List Names) (graph then : Held) (paths left : List Names) (bytes : List ℕ) → then ≡ once_owned graph paths → paths ≡ outputs rules → left ≡ left_over owned rules
+    → ReadsAs bytes (Ok (opened_in (without then left))) → HasCommits rules owned graph bytes None
+given_reads rules owned graph then paths left bytes is same other reads =
+    let behind = subst (λ (h : Held). ReadsAs bytes (Ok (opened_in (without h left)))) (is ∙ ap (once_owned graph) same) reads in
+    subst (λ (l : List Names). ReadsAs bytes (Ok (opened_in (without (once_owned graph (outputs rules)) l)))) other behind
+
+module _ (rules : List Rule) (owned : List Names) (graph : Held) (bytes : List ℕ) where
+  -- nothing is said
+  pub late_commits : (stop : Stop) → IsLate stop → HasCommits rules owned graph bytes (Some stop)
+  late_commits NoStore late = absurd late
+  late_commits (BadStore offset) late = absurd late
+  late_commits (Sources fault) late = absurd late
+  late_commits (Bad rule verdict) late = absurd late
+  late_commits Run late = absurd late
+  late_commits Full late = tt
+  late_commits (Outside failed) late = tt
+
+  -- the first
+  pub halt_commits : (halt : Halt) → ReadsAs bytes (Ok (opened_in (once_owned graph (outputs rules)))) → HasCommits rules owned graph bytes (Some (stop_of_halt halt))
+  halt_commits RunHalted reads = reads
+  halt_commits (Halted failed) reads = tt
+
+  pub bad_commits : (name : RuleName) (verdict : Verdict) (stop : Stop) → StopsAt name verdict stop → ReadsAs bytes (Ok (opened_in (once_owned graph (outputs rules)))) → HasCommits rules owned graph bytes (Some stop)
+  bad_commits name verdict stop (inl is) reads = subst (λ (s : Stop). HasCommits rules owned graph bytes (Some s)) (sym is) reads
+  bad_commits name verdict stop (inr (failed, is, small)) reads = subst (λ (s : Stop). HasCommits rules owned graph bytes (Some s)) (sym is) tt
+
+module _ (rules : List Rule) (old new : World) where
+  pub commits_so : (owned : List Names) (graph : Held) (stopped : Option Stop) → ReadsAsGraph graph old → Lists old.store owned → HasCommits rules owned graph new.store stopped → JustCommits rules old new stopped
+  commits_so owned graph stopped is lists has = by stopped (of_held old owned (λ held. (g : Held) × ReadsAsGraph g old × HasCommits rules held.owned g new.store stopped) lists (graph, is, has))
+    where
+      by : (stopped : Option Stop) → HasCommitted rules old new stopped → JustCommits rules old new stopped
+      by None made = made
+      by (Some NoStore) made = tt
+      by (Some (BadStore offset)) made = tt
+      by (Some (Sources fault)) made = tt
+      by (Some (Bad name verdict)) made = made
+      by (Some Run) made = made
+      by (Some Full) made = tt
+      by (Some (Outside failed)) made = tt
+
+  pub opening_commits : (stop : Stop) → StopsOpening stop → JustCommits rules old new (Some stop)
+  opening_commits NoStore stops = tt
+  opening_commits (BadStore offset) stops = tt
+  opening_commits (Sources fault) stops = tt
+  opening_commits (Bad rule verdict) stops = absurd stops
+  opening_commits Run stops = absurd stops
+  opening_commits Full stops = tt
+  opening_commits (Outside failed) stops = tt
+
+  pub unread_commits : (unread : Unread) → JustCommits rules old new (Some (stop_of unread))
+  unread_commits (NoRules fault) = tt
+  unread_commits (Unlucky failed) = tt
 
 -- ---- what stands for a store
 module _ {S : Type 0} (world : S → World) (moment : S → ℕ) (left_since : S → ℕ → World → Type 0) where
-  stand_reads : (held : Held) (site : S) → StandsFor world moment left_since held site → ReadsAs (world site).store (Ok (opened_in held))
+  pub stand_reads : (held : Held) (site : S) → StandsFor world moment left_since held site → ReadsAs (world site).store (Ok (opened_in held))
   stand_reads held site stands =
       let rested = stands.rests.bytes in (
         stands.commits,
@@ -96,13 +177,21 @@ module _ {S : Type 0} (world : S → World) (moment : S → ℕ) (left_since : S
         λ i. record { entries = stands.entries i; gate = stands.gate i },
       )
 
-  pub no_room : (edits : GraphState → List Edit) (held : Held) (before : S) (now : World) → StandsFor world moment left_since held before → now ≡ world before → IsGraphOf (entries_in held.table) held.nodes → IsFull held (edits held.nodes) → LacksRoom edits now
-  no_room edits held before now stands same graph full = record {
-    graph = held;
-    reads = subst (λ (w : World). ReadsAs w.store (Ok (opened_in held))) (sym same) (stand_reads held before stands);
-    stands = graph;
-    full = full;
-  }
+  pub read_as : (held : Held) (site : S) → StandsFor world moment left_since held site → IsGraphOf (entries_in held.table) held.nodes → ReadsAsGraph held (world site)
+  read_as held site stands graph = record { reads = stand_reads held site stands; stands = graph }
+
+  -- bytes that read as what it has read as whatever the store reads as
+  pub reads_back : (held : Held) (site : S) (bytes : List ℕ) → StandsFor world moment left_since held site → ReadsAs bytes (Ok (opened_in held)) → (opened : Opened) → ReadsAs (world site).store (Ok opened) → ReadsAs bytes (Ok opened)
+  reads_back held site bytes stands reads opened there =
+      let one : ◌≡◌ {A = Result Opened TableFault} (Ok (opened_in held)) (Ok opened) = reads_one (world site).store (Ok (opened_in held)) (Ok opened) (stand_reads held site stands) there in
+      subst (λ (o : Opened). ReadsAs bytes (Ok o)) (cc one) reads
+
+  -- the store behind the first commit
+  pub claimed_reads : (rules : List Rule) (graph then : Held) (paths : List Names) (site : S) (now : World) → StandsFor world moment left_since then site → then ≡ once_owned graph paths → paths ≡ outputs rules → StoreStays (world site) now
+      → ReadsAs now.store (Ok (opened_in (once_owned graph (outputs rules))))
+  claimed_reads rules graph then paths site now stands is same stays =
+      subst (λ (bytes : List ℕ). ReadsAs bytes (Ok (opened_in (once_owned graph (outputs rules))))) (sym stays)
+      (subst (λ (h : Held). ReadsAs (world site).store (Ok (opened_in h))) (is ∙ ap (once_owned graph) same) (stand_reads then site stands))
 
   -- it does so still where files are changed
   pub stands_on : (held : Held) (old new : S) (agree : Tree → Tree → Type 0) → IsEarlier moment left_since new → StoreStays (world old) (world new) → GoesOn moment left_since old new (FilesStep agree) →

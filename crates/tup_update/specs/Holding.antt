@@ -1,5 +1,5 @@
 -- What a site holds, as an update sees it: the files of its tree, and the paths that its store lists as owned.
-use Rattle.std.specs.Prelude.{◌≡◌, ◌⊎◌, ℕ, List, [], Err}
+use Rattle.std.specs.Prelude.{◌≡◌, ◌⊎◌, ℕ, List, Err}
 use Rattle.tup_path.specs.Name.{Names}
 use Rattle.tup_path.specs.Tree.{Tree}
 use Rattle.tup_site.specs.World.{World}
@@ -31,15 +31,15 @@ OfHeld w promise = (held : Holding) → Shows w held → promise held
 abbrev pub HasSameEntries : List ℕ → List ℕ → Type 0
 HasSameEntries before after = (entries : Standing) × Leaves entries before × Leaves entries after
 
--- a later world holds what an earlier one did: it has the same files, its store lists the same, and one that isn't there still
--- isn't
+-- a later world holds what an earlier one did: it has the same files, and the same store, or one of the same entries
 pub record HoldsOn (old new : World) : Type 0 where
   pub tree : new.tree ≡ old.tree
-  pub none : old.store ≡ [] → new.store ≡ []
-  pub lists : (paths : List Names) → Lists old.store paths → Lists new.store paths
-  pub back : (paths : List Names) → Lists new.store paths → Lists old.store paths
-  -- one that doesn't read is as it was, or keeps its entries
-  pub unread : ((paths : List Names) → ¬ Lists old.store paths) → (new.store ≡ old.store) ⊎ HasSameEntries old.store new.store
+  pub store : (new.store ≡ old.store) ⊎ HasSameEntries old.store new.store
+
+-- a later world lists what an earlier one did: it has the same files, and its store lists the same
+pub record ListsOn (old new : World) : Type 0 where
+  pub tree : new.tree ≡ old.tree
+  pub lists : OfHeld old (λ held. Lists new.store held.owned)
 
 -- the bytes are no store, or one of which a record can't be read, from this byte on
 abbrev pub IsDamaged : List ℕ → ℕ → Type 0

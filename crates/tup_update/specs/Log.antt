@@ -59,12 +59,14 @@ whole_log next rules held = record {
   ended = ends next rules held;
 }
 
--- the log of an update that was stopped under way: it goes as far as it goes
+-- The log of an update that was stopped under way: it goes as far as it goes. By then all folders were read, and no rule is
+-- begun before all files of vanished rules are removed.
 pub record IsPartOf (log whole : Log) : Type 0 where
-  pub read : IsFront log.read whole.read
+  pub read : log.read ≡ whole.read
   pub removed : IsFront log.removed whole.removed
   pub ran : IsFront log.ran whole.ran
   pub ended : IsFront log.ended whole.ended
+  pub in_order : (log.ran ≡ []) ⊎ (log.removed ≡ whole.removed)
 
 -- the log says what was done: all of it after an end or a bad rule, nothing where the sources couldn't be read
 abbrev pub LogFits : Next → List Rule → World → Log → Option Stop → Type 0

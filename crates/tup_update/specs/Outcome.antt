@@ -15,15 +15,14 @@ use Rattle.tup_clean.specs.Clean.{succeeds, is_good}
 use Rattle.tup_ledger.specs.Ascending.{ascending}
 use Rattle.tup_table.specs.Reading.{ReadsAs}
 use Rattle.tup_table.specs.Table.{entries_in}
-use Rattle.tup_graph.specs.Graph.{GraphState}
 use Rattle.tup_graph.specs.Opening.{IsGraphOf}
 use Rattle.tup_graph.specs.Transactions.{forget_edits}
-use Rattle.tup_graph.specs.declared.edit.Edit.{Edit}
 use Rattle.tup_kept.specs.Held.{Held}
 use Rattle.tup_kept.specs.Opening.{opened_in}
-use Rattle.tup_kept.specs.Transaction.{IsFull}
-use Rattle.tup_ledger.specs.Owned.{own_edits}
-use Rattle.tup_update.specs.Holding.{Holding, HoldsOn, IsDamaged, Lists, OfHeld, holding}
+use Rattle.tup_kept.specs.Transaction.{IsFull, after}
+use Rattle.tup_ledger.specs.Given.{without}
+use Rattle.tup_ledger.specs.Owned.{own_edits, with_owned}
+use Rattle.tup_update.specs.Holding.{Holding, HoldsOn, IsDamaged, Lists, ListsOn, OfHeld, holding}
 use Rattle.tup_update.specs.declared.update.Log.{Log}
 use Rattle.tup_update.specs.declared.stop.Stop.{Stop}
 use Rattle.tup_update.specs.declared.stop.Stop.TheVariants.{NoStore, BadStore, Sources, Bad, Run, Full, Outside}
@@ -65,29 +64,58 @@ SourcesStay old new =
 abbrev pub IsBadRule : Next → List Rule → Holding → RuleName → Verdict → Type 0
 IsBadRule next rules old name verdict = IsFirstBad rules (ends next rules old) (build next rules old) name verdict
 
--- the store of a world, which stands for a graph, has no room for a commit of these edits of it
-pub record LacksRoom (edits : GraphState → List Edit) (w : World) : Type 0 where
-  pub graph : Held
+-- the store of a world reads as this graph
+pub record ReadsAsGraph (graph : Held) (w : World) : Type 0 where
   pub reads : ReadsAs w.store (Ok (opened_in graph))
   pub stands : IsGraphOf (entries_in graph.table) graph.nodes
-  pub full : IsFull graph (edits graph.nodes)
 
--- it has none for the outputs of some rules, which are to be owned, or for giving up what was owned and no rule makes
+-- what a graph is once these paths are owned as well
+abbrev pub once_owned : Held → List Names → Held
+once_owned graph paths = after graph (own_edits graph.nodes paths) (with_owned graph.nodes paths)
+
+-- there is no room in the store of a graph for one of the two commits of an update: for the outputs of its rules, which are to
+-- be owned, or behind that for giving up what was owned and no rule makes
+abbrev pub IsTooFull : List Rule → List Names → Held → Type 0
+IsTooFull rules owned graph =
+    IsFull graph (own_edits graph.nodes (outputs rules))
+    ⊎ IsFull (once_owned graph (outputs rules)) (forget_edits (with_owned graph.nodes (outputs rules)) (left_over owned rules))
+
+-- so it is in the store of a world, before anything is written
 abbrev pub HasNoRoom : List Rule → Holding → World → Type 0
-HasNoRoom rules old new = LacksRoom (λ g. own_edits g (outputs rules)) new ⊎ LacksRoom (λ g. forget_edits g (left_over old.owned rules)) new
+HasNoRoom rules held w = (graph : Held) × ReadsAsGraph graph w × IsTooFull rules held.owned graph
+
+-- The bytes of a store that read as this graph once, behind an update that has come so far. It makes two commits at most: one that
+-- owns the outputs of its rules, and behind that one that gives up what no rule makes. Both were made at its end, and the first
+-- where a rule was bad or couldn't be run. After another stop this says nothing.
+abbrev pub HasCommits : List Rule → List Names → Held → List ℕ → Option Stop → Type 0
+HasCommits rules owned graph bytes None = ReadsAs bytes (Ok (opened_in (without (once_owned graph (outputs rules)) (left_over owned rules))))
+HasCommits rules owned graph bytes (Some (Bad name verdict)) = ReadsAs bytes (Ok (opened_in (once_owned graph (outputs rules))))
+HasCommits rules owned graph bytes (Some Run) = ReadsAs bytes (Ok (opened_in (once_owned graph (outputs rules))))
+HasCommits rules owned graph bytes (Some stop) = ⊤
+
+-- so what a store had before an update it has afterwards, but for what is owned, and these commits alone were added
+abbrev pub HasCommitted : List Rule → World → World → Option Stop → Type 0
+HasCommitted rules old new stopped = OfHeld old (λ held. (graph : Held) × ReadsAsGraph graph old × HasCommits rules held.owned graph new.store stopped)
+
+-- the same wherever it came so far
+abbrev pub JustCommits : List Rule → World → World → Option Stop → Type 0
+JustCommits rules old new None = HasCommitted rules old new None
+JustCommits rules old new (Some (Bad name verdict)) = HasCommitted rules old new (Some (Bad name verdict))
+JustCommits rules old new (Some Run) = HasCommitted rules old new (Some Run)
+JustCommits rules old new (Some stop) = ⊤
 
 -- Why an update stops, where the site tells. What is too large is a file of the clean build: where no rules were read, a source.
-abbrev pub HasCause : Next → List Rule → World → World → Option Stop → Type 0
-HasCause next rules old new (Some NoStore) = old.store ≡ []
-HasCause next rules old new (Some (BadStore offset)) = IsDamaged old.store offset
-HasCause next rules old new (Some (Sources fault)) = IsRefused old fault
-HasCause next rules old new (Some (Bad name verdict)) = OfHeld old (λ held. IsBadRule next rules held name verdict)
-HasCause next rules old new (Some Run) = ⊤
-HasCause next rules old new (Some Full) = OfHeld old (λ held. HasNoRoom rules held new)
-HasCause next rules old new (Some (Outside (TooLarge n))) = OfHeld old (λ held. HasFileOf n (build next rules held).tree)
-HasCause next rules old new (Some (Outside SiteFault)) = ⊤
-HasCause next rules old new (Some (Outside Memory)) = ⊤
-HasCause next rules old new None = ⊤
+abbrev pub HasCause : Next → List Rule → World → Option Stop → Type 0
+HasCause next rules old (Some NoStore) = old.store ≡ []
+HasCause next rules old (Some (BadStore offset)) = IsDamaged old.store offset
+HasCause next rules old (Some (Sources fault)) = IsRefused old fault
+HasCause next rules old (Some (Bad name verdict)) = OfHeld old (λ held. IsBadRule next rules held name verdict)
+HasCause next rules old (Some Run) = ⊤
+HasCause next rules old (Some Full) = OfHeld old (λ held. HasNoRoom rules held old)
+HasCause next rules old (Some (Outside (TooLarge n))) = OfHeld old (λ held. HasFileOf n (build next rules held).tree)
+HasCause next rules old (Some (Outside SiteFault)) = ⊤
+HasCause next rules old (Some (Outside Memory)) = ⊤
+HasCause next rules old None = ⊤
 
 -- why an update stops, by what every site counts: its count rises where it is blamed, and nowhere else
 abbrev pub HasCountedCause : ℕ → ℕ → Option Stop → Type 0
@@ -130,11 +158,11 @@ pub record AllIsMade (tells : Bool) (next : Next) (rules : List Rule) (old : Hol
   pub known : IsListed (ascending (outputs rules)) old new
   pub built : IsTrue tells → IsBuilt (build next rules old) new.tree
 
--- what is left where the outside stops an update whose rules were read: the world holds what it held, or all that was claimed
--- is listed, or all was made
+-- what is left where the outside stops an update whose rules were read: no file was touched and the store lists what it did, or
+-- all that was claimed is listed, or all was made
 abbrev pub IsLeft : Bool → Next → List Rule → World → World → Type 0
 IsLeft tells next rules old new =
-    IsAsked old rules × (HoldsOn old new ⊎ ClaimedListed rules old new ⊎ OfHeld old (λ held. AllIsMade tells next rules held new))
+    IsAsked old rules × (ListsOn old new ⊎ ClaimedListed rules old new ⊎ OfHeld old (λ held. AllIsMade tells next rules held new))
 
 -- nothing is forgotten, wherever an update stops: what wasn't a source before is owned by the next update too. Where the
 -- store or the sources couldn't be read, the world holds what it held.
@@ -162,5 +190,5 @@ pub record Stays (tells : Bool) (next : Next) (rules : List Rule) (old new : Wor
 pub record Keeps (next : Next) (rules : List Rule) (old new : World) (log : Log) (stopped : Option Stop) : Type 0 where
   pub exactly_the_files : ExactlyTheFiles next rules old new stopped
   pub made_before_bad : MadeBeforeBad next rules old new stopped
-  pub cause : HasCause next rules old new stopped
+  pub cause : HasCause next rules old stopped
   pub log_fits : LogFits next rules old log stopped

@@ -1,14 +1,20 @@
 //! The making of a project's files.
-ghost use Rattle.std.specs.Prelude.{◌≡◌, ◌⊎◌, ◌++◌, false, filter, not, IsTrue, IfOk, IfErr, OnOk, Err, Some};
+ghost use Rattle.std.specs.Prelude.{◌≡◌, ◌⊎◌, ◌++◌, false, filter, not, IsTrue, IfOk, IfErr, OnOk, Err, Ok, Some};
 ghost use Rattle.std.specs.Result.{result_err};
 ghost use Rattle.tup_site.specs.Crash.{GoesOn, NoStep, PinsStore};
 ghost use Rattle.tup_site.specs.World.{TreeStays, StoreStays};
 ghost use Rattle.tup_site.specs.Cause.{CountsFaults, NeverTooLarge};
 ghost use Rattle.tup_access.specs.Generated.{IsGenerated};
 ghost use Rattle.tup_clean.specs.Clean.{is_good};
+ghost use Rattle.tup_table.specs.Reading.{ReadsAs};
+ghost use Rattle.tup_table.specs.Table.{entries_in};
+ghost use Rattle.tup_graph.specs.Opening.{IsGraphOf};
 ghost use Rattle.tup_graph.specs.Transactions.{forget_edits};
 ghost use Rattle.tup_kept.specs.Held.{is_fresh, StandsFor};
+ghost use Rattle.tup_kept.specs.Opening.{opened_in};
+ghost use Rattle.tup_kept.specs.Transaction.{IsFull};
 ghost use Rattle.tup_ledger.specs.Ascending.{ascending};
+ghost use Rattle.tup_ledger.specs.Given.{without};
 ghost use Rattle.tup_ledger.specs.Listing.{ListsEither};
 ghost use Rattle.tup_ledger.specs.Owned.{own_edits, owned_in};
 ghost use Rattle.tup_ledger.specs.Sources.{HaveNoFiles};
@@ -17,7 +23,7 @@ ghost use Rattle.tup_update.specs.Holding.{Lists};
 ghost use Rattle.tup_update.specs.Images.{FilesStep, GivenStep, ListedStep, MakesStep};
 ghost use Rattle.tup_update.specs.Opened.{IsOpened};
 ghost use Rattle.tup_update.specs.Log.{IsGrownByFront, IsUnused, with_read};
-ghost use Rattle.tup_update.specs.Outcome.{Keeps, Stays, HasCountedCause, HasRunCause, LacksRoom};
+ghost use Rattle.tup_update.specs.Outcome.{Keeps, Stays, HasCountedCause, HasCommits, HasRunCause, once_owned};
 ghost use Rattle.tup_update.specs.Parts.{IsProject, IsCleared, IsLate, SameBeside, StopsAt, StopsMaking};
 ghost use Rattle.tup_update.specs.Ran.{RunsThese};
 ghost use Rattle.tup_update.specs.Settled.{IsDurable, IsSettled};
@@ -105,6 +111,7 @@ impl Project {
         log: &mut Log,
     ) -> Result<(), Stop>
         requires opened { IsOpened graph.old self.now.owned }
+        requires graph { IsGraphOf (entries_in graph.old.table) graph.old.nodes }
         requires stands { IsTrue S.tells
             → StandsFor S.world S.moment S.left_since graph.old site.old }
         requires project { IsTrue S.tells → IsProject self.now (S.world site.old) }
@@ -117,6 +124,8 @@ impl Project {
             → let told = with_read self.now.read log.new in
             Keeps R.next
             self.now.rules (S.world site.old) (S.world site.new) told (result_err result) }
+        ensures commits { IsTrue S.tells → HasCommits self.now.rules self.now.owned graph.old
+            (S.world site.new).store (result_err result) }
         ensures settled { IsTrue S.tells → let left = S.left_since site.new (S.moment site.new) in
             IsSettled left (S.world site.new) (result_err result) }
         ensures crash { IsTrue S.tells → GoesOn S.moment S.left_since site.old site.new
@@ -176,15 +185,14 @@ fn prepare<S: Site>(
         (IsOpened graph.new (ascending (owned_in graph.old.nodes ++ plan.now.outputs))) }
     ensures stands { IsTrue S.tells
         → OnOk result (StandsFor S.world S.moment S.left_since graph.new site.new) }
-    ensures full { IsTrue S.tells → result ≡ Err Full
-        → LacksRoom (λ g. own_edits g plan.now.outputs) (S.world site.new) }
+    ensures full { result ≡ Err Full
+        → IsFull graph.old (own_edits graph.old.nodes plan.now.outputs) }
+    ensures owns { OnOk result (graph.new ≡ once_owned graph.old plan.now.outputs) }
     ensures removed { OnOk result (removed.new ≡ removed.old ++ plan.now.vanished) }
     ensures part { IsGrownByFront removed.old removed.new plan.now.vanished }
     ensures late { IfErr result IsLate }
     ensures counted { HasCountedCause (S.faults site.old) (S.faults site.new) (result_err result) }
 {
-    // A law: while the graph is fresh, its store stands for its nodes.
-    let _ = graph.nodes();
     own(alloc, graph, site, plan.outputs.as_slice())?;
     Ok(clear(alloc, site, plan.vanished.as_slice(), removed)?)
 }
@@ -257,12 +265,12 @@ fn finish<S: Site>(
         GoesOn S.moment S.left_since site.old site.new (GivenStep owned rest (S.world site.old)) }
     ensures durable { IsTrue S.tells → OnOk result
         (IsDurable (S.left_since site.new (S.moment site.new)) (S.world site.new)) }
-    ensures full { IsTrue S.tells → result ≡ Err Full
-        → LacksRoom (λ g. forget_edits g left.now) (S.world site.new) }
+    ensures full { result ≡ Err Full
+        → IsFull graph.old (forget_edits graph.old.nodes left.now) }
+    ensures reads { IsTrue S.tells → OnOk result
+        (ReadsAs (S.world site.new).store (Ok (opened_in (without graph.old left.now)))) }
     ensures late { IfErr result IsLate }
     ensures counted { HasCountedCause (S.faults site.old) (S.faults site.new) (result_err result) }
 {
-    // A law: while the graph is fresh, its store stands for its nodes.
-    let _ = graph.nodes();
     Ok(give_up(alloc, graph, site, left)?)
 }

@@ -1,15 +1,19 @@
 //! One update, from the store and the sources to the files.
-ghost use Rattle.std.specs.Prelude.{◌≡◌, [], IsTrue, IfOk, IfErr};
+ghost use Rattle.std.specs.Prelude.{◌≡◌, [], IsTrue, IfOk, IfErr, Ok};
 ghost use Rattle.std.specs.Result.{result_err};
 ghost use Rattle.tup_site.specs.Crash.{GoesOn, LeavesOnly};
+ghost use Rattle.tup_table.specs.Reading.{ReadsAs};
+ghost use Rattle.tup_table.specs.Table.{entries_in};
+ghost use Rattle.tup_graph.specs.Opening.{IsGraphOf};
 ghost use Rattle.tup_kept.specs.Held.{StandsFor};
+ghost use Rattle.tup_kept.specs.Opening.{opened_in};
 ghost use Rattle.tup_ledger.specs.Listing.{IsSafe};
 ghost use Rattle.tup_ledger.specs.Sources.{HasSources, Kept};
 ghost use Rattle.tup_update.specs.Holding.{HoldsOn, Lists};
 ghost use Rattle.tup_update.specs.Images.{UpdateStep, with_outputs};
 ghost use Rattle.tup_update.specs.Log.{IsEmptyLog, LogFits, RulesFit};
 ghost use Rattle.tup_update.specs.Opened.{IsOpened, IsUnopened, StopsOpening};
-ghost use Rattle.tup_update.specs.Outcome.{Keeps, Stays, ExactlyTheFiles, MadeBeforeBad, SourcesStay, NothingForgotten, HasCause, HasCountedCause, HasRunCause};
+ghost use Rattle.tup_update.specs.Outcome.{Keeps, Stays, ExactlyTheFiles, MadeBeforeBad, SourcesStay, NothingForgotten, HasCause, HasCountedCause, HasRunCause, JustCommits};
 ghost use Rattle.tup_update.specs.Ran.{RunsThese};
 ghost use Rattle.tup_update.specs.Settled.{IsSettled};
 ghost use Rattle.tup_update.specs.Turns.{TurnsFit};
@@ -73,6 +77,9 @@ pub fn update_site<S: Site, R: Runner>(alloc: Global, site: &mut S, runner: &mut
     ensures sources_stay { IsTrue S.tells → SourcesStay (S.world site.old) (S.world site.new) }
     ensures nothing_forgotten { IsTrue S.tells → NothingForgotten R.tells R.next
         result.rules (S.world site.old) (S.world site.new) result.stopped }
+    // Of what the store has just what is owned is another, and nothing but that was written.
+    ensures commits { IsTrue S.tells → JustCommits
+        result.rules (S.world site.old) (S.world site.new) result.stopped }
     ensures crash { IsTrue S.tells → GoesOn S.moment S.left_since site.old site.new
         (UpdateStep R.tells R.next result.rules (S.world site.old)) }
     // Where each world that a crash may leave before has these sources, and owns no other path than
@@ -83,7 +90,7 @@ pub fn update_site<S: Site, R: Runner>(alloc: Global, site: &mut S, runner: &mut
     ensures settled { IsTrue S.tells → let left = S.left_since site.new (S.moment site.new) in
         IsSettled left (S.world site.new) result.stopped }
     ensures cause { IsTrue S.tells → IsTrue R.tells → HasCause R.next
-        result.rules (S.world site.old) (S.world site.new) result.stopped }
+        result.rules (S.world site.old) result.stopped }
     ensures counted_cause { HasCountedCause (S.faults site.old) (S.faults site.new) result.stopped }
     ensures run_cause { HasRunCause (R.faults runner.old) (R.faults runner.new) result.stopped }
     ensures ran { IsTrue R.tells_ran
@@ -118,6 +125,8 @@ fn carry_out<S: Site, R: Runner>(
         rules.new (S.world site.old) (S.world site.new) log.new (result_err result) }
     ensures kept { IsTrue S.tells → IsTrue R.tells → Keeps R.next
         rules.new (S.world site.old) (S.world site.new) log.new (result_err result) }
+    ensures commits { IsTrue S.tells → JustCommits
+        rules.new (S.world site.old) (S.world site.new) (result_err result) }
     ensures crash { IsTrue S.tells → GoesOn S.moment S.left_since site.old site.new
         (UpdateStep R.tells R.next rules.new (S.world site.old)) }
     ensures settled { IsTrue S.tells → let left = S.left_since site.new (S.moment site.new) in
@@ -140,6 +149,10 @@ fn carry_out<S: Site, R: Runner>(
 /// what they were, and so is what the store lists.
 pub(crate) fn opened<S: Site>(alloc: Global, site: &mut S) -> Result<(Graph, Paths), Stop>
     ensures opened { IfOk result (λ opened. IsOpened opened.0 opened.1) }
+    ensures graph { IfOk result
+        (λ opened. IsGraphOf (entries_in opened.0.table) opened.0.nodes) }
+    ensures reads { IsTrue S.tells → IfOk result
+        (λ opened. ReadsAs (S.world site.old).store (Ok (opened_in opened.0))) }
     ensures stands { IsTrue S.tells → IfOk result
         (λ opened. StandsFor S.world S.moment S.left_since opened.0 site.new) }
     ensures lists { IsTrue S.tells

@@ -11,6 +11,7 @@ returns-clause-keeps g c = record {
   made_before_bad = λ means. c.tup.ensures.made_before_bad refl means;
   sources_stay = c.tup.ensures.sources_stay refl;
   nothing_forgotten = c.tup.ensures.nothing_forgotten refl;
+  commits = c.tup.ensures.commits refl;
   nothing_done = c.tup.ensures.nothing_done refl;
   none_begun = c.tup.ensures.nothing_run.begun;
   begun = λ means. c.tup.ensures.begun refl means;

@@ -6,7 +6,7 @@ use Rattle.tup_graph.specs.Opening.{IsGraphOf}
 use Rattle.tup_graph.specs.declared.fault.GraphFault.{GraphFault}
 use Rattle.tup_graph.specs.declared.fault.GraphFault.TheVariants.{NotThere}
 use Rattle.tup_kept.specs.Held.{Held, is_fresh, StandsFor}
-use Rattle.tup_kept.specs.Opening.{OpensAs}
+use Rattle.tup_kept.specs.Opening.{OpensAs, opened_in}
 use Rattle.tup_ledger.specs.Begin.{Begins, BeginStep}
 use Rattle.tup_ledger.specs.declared.beginning.Begun.{Begun}
 use Rattle.tup_ledger.specs.declared.beginning.Begun.TheVariants.{WasThere}
@@ -27,7 +27,8 @@ returns-clause-begins g c = λ tells.
           let opens = subst (λ (r : Result Held GraphFault). OpensAs v.store (world mid).store r) w.in-Ok.is (c.open.ensures.opens tells) in
           let is = subst (λ (r : Result Held GraphFault). IfOk r (λ h. IsTrue (is_fresh h) × IsGraphOf (entries_in h.table) h.nodes)) w.in-Ok.is c.open.ensures.graph in
           let stands = subst (λ (r : Result Held GraphFault). IfOk r (λ h. StandsFor world g.S.Site.moment g.S.Site.left_since h mid)) w.in-Ok.is (c.open.ensures.stands tells) in
-          let begins : Begins v (world mid) (Ok WasThere) = (graph.nodes, opened_store v.store (world mid).store graph opens is.1, stored world g.S.Site.moment g.S.Site.left_since graph.table graph.nodes mid stands is.1 (world mid) (site_laws.present mid tells)) in
+          let after = stored world g.S.Site.moment g.S.Site.left_since graph.table graph.nodes mid stands is.1 (world mid) (site_laws.present mid tells) in
+          let begins : Begins v (world mid) (Ok WasThere) = (graph.nodes, opened_store v.store (world mid).store graph opens is.1, after, (opened_in graph, opens.0, opens.1)) in
           subst (λ (s : g.row.S.Denot). Begins v (world s) c.match-open.result) (sym w.site-is) (subst (λ (r : Result Begun GraphFault). Begins v (world mid) r) (sym w.result-is) begins)
       | in-Err-NotThere w ↦
           let told = subst (λ (r : Result Held GraphFault). OpensAs v.store (world mid).store r) w.in-Err-NotThere.is (c.open.ensures.opens tells) in

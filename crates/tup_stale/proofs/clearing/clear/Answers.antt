@@ -1,9 +1,9 @@
-use Rattle.std.proofs.Common.{◌≡◌, List, [], sym, ap, subst, ◌∙◌, arith}
+use Rattle.std.proofs.Common.{◌≡◌, List, [], inr, refl, sym, ap, subst, ◌∙◌, arith}
 use Rattle.tup_path.specs.Name.{Names}
-use Rattle.tup_site.specs.Crash.{GoesOn}
+use Rattle.tup_site.specs.Crash.{GoesOn, NoStep}
 use Rattle.tup_table.specs.Table.{entries_in}
 use Rattle.tup_graph.specs.Opening.{IsGraphOf}
-use Rattle.tup_stale.specs.Cleared.{AtLast, Leaves}
+use Rattle.tup_stale.specs.Cleared.{AtLast, Leaves, SparesUsers}
 use Rattle.tup_stale.specs.Crash.{ClearStep}
 use Rattle.tup_stale.specs.Files.{SameBeside}
 use Rattle.tup_stale.specs.Unmade.{unmade, standing}
@@ -80,3 +80,16 @@ returns-clause-crash g c = λ tells.
     let graph = subst (IsGraphOf (entries_in old.table)) c.nodes.ensures.value (c.nodes.ensures.graph c.requires.fresh) in
     leaves_since g.S.Site.world g.S.Site.moment g.S.Site.left_since old.table old.nodes site end (unmade old.nodes) (standing tree (unmade old.nodes)) tree (c.requires.stands tells) graph
     (subst (λ (qs : List Names). GoesOn g.S.Site.moment g.S.Site.left_since site end (ClearStep old.nodes qs (standing tree qs) tree)) are (c.clear_paths.ensures.crash tells))
+
+pub returns-in_err-paths-clause-users : goal.returns-in_err-paths-clause-users
+returns-in_err-paths-clause-users g c = λ tells. inr (refl, refl, at_rest g.S.Site.moment g.S.Site.left_since c.args.site.now NoStep)
+
+pub returns-then-len-eq0-clause-users : goal.returns-then-len-eq0-clause-users
+returns-then-len-eq0-clause-users g c = λ tells. inr (refl, refl, at_rest g.S.Site.moment g.S.Site.left_since c.args.site.now NoStep)
+
+pub returns-clause-users : goal.returns-clause-users
+returns-clause-users g c = λ tells.
+    let old = c.args.graph.now in
+    let are : c.as_slice.result.now ≡ unmade old.nodes = c.as_slice.ensures ∙ c.in_ok-paths.ensures ∙ ap unmade c.nodes.ensures.value in
+    subst (λ (qs : List Names). SparesUsers g.S.Site.world g.S.Site.moment g.S.Site.left_since qs old c.clear_paths.new.graph c.args.site.now c.clear_paths.new.site) are
+    (c.clear_paths.ensures.users tells)

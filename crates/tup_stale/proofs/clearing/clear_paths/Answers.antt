@@ -1,4 +1,4 @@
-use Rattle.std.proofs.Common.{◌≡◌, List, Result, Ok, Err, All, sym, ap, subst, ◌∙◌, arith}
+use Rattle.std.proofs.Common.{◌≡◌, List, Result, Ok, Err, All, inl, inr, refl, sym, ap, subst, ◌∙◌, arith}
 use Rattle.tup_path.specs.Name.{Names}
 use Rattle.tup_path.specs.Tree.{Tree}
 use Rattle.tup_site.specs.Crash.{GoesOn, NoStep}
@@ -67,3 +67,14 @@ returns-clause-crash g c = λ tells.
     (c.look.ensures.crash tells)
     (subst (λ (fs : List Names). GoesOn g.S.Site.moment g.S.Site.left_since mid c.give_up.new.site (ClearStep nodes paths fs tree)) files_are
     (subst (λ (t : Tree). GoesOn g.S.Site.moment g.S.Site.left_since mid c.give_up.new.site (ClearStep nodes paths c.as_slice.result.now t)) same (c.give_up.ensures.crash tells)))
+
+pub returns-in_err-files-clause-users : goal.returns-in_err-files-clause-users
+returns-in_err-files-clause-users g c = λ tells. inr (refl, c.look.ensures.same tells, c.look.ensures.crash tells)
+
+pub returns-in_err-give_up-clause-users : goal.returns-in_err-give_up-clause-users
+returns-in_err-give_up-clause-users g c = λ tells.
+    inl (subst (λ (h : GraphState). All (HasNoUsers h (g.S.Site.world c.args.site.now).tree) c.args.paths.now) c.nodes.ensures.value (c.in_ok-files.ensures.sees tells).1)
+
+pub returns-clause-users : goal.returns-clause-users
+returns-clause-users g c = λ tells.
+    inl (subst (λ (h : GraphState). All (HasNoUsers h (g.S.Site.world c.args.site.now).tree) c.args.paths.now) c.nodes.ensures.value (c.in_ok-files.ensures.sees tells).1)

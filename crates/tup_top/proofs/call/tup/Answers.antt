@@ -5,7 +5,7 @@ use Rattle.tup_ledger.specs.Sources.{HasSources}
 use Rattle.tup_update.specs.Compared.{HasCompared}
 use Rattle.tup_update.specs.Images.{UpdateStep, with_outputs}
 use Rattle.tup_update.specs.Log.{OfRules}
-use Rattle.tup_update.specs.Outcome.{ExactlyTheFiles, MadeBeforeBad, NothingForgotten, HasCause}
+use Rattle.tup_update.specs.Outcome.{ExactlyTheFiles, MadeBeforeBad, NothingForgotten, HasCause, JustCommits}
 use Rattle.tup_update.specs.Settled.{IsSettled}
 use Rattle.tup_update.specs.Sources.{ends}
 use Rattle.tup_update.specs.Turns.{names_of}
@@ -19,14 +19,14 @@ use Rattle.tup_top.specs.Promise.{ForUpdate, ForVerify, Lasts, NothingDone, Quie
 use Rattle.tup_top.specs.declared.status.Status.TheVariants.{Memory}
 use Rattle.tup_ledger.specs.Begin.{Begins}
 use Rattle.tup_top.proofs.Begun.{initializes_so}
-use Rattle.tup_top.proofs.Crewed.{crew_cause, crew_compared, crew_runs, crew_compares, no_crew_ran}
-use Rattle.tup_top.proofs.Idle.{idle, memory_of, memory_for_update, memory_for_init, memory_for_verify, memory_prints, memory_prints_alone, rest_images}
+use Rattle.tup_top.proofs.Crewed.{crew_cause, crew_compared, crew_runs, crew_compares, no_crew_ran, others_stay}
+use Rattle.tup_top.proofs.Idle.{idle, memory_of, memory_for_update, memory_for_init, memory_for_verify, memory_prints, rest_images}
 use Rattle.tup_top.proofs.Success.{succeeds_so, compares_so, sources_stay_so}
 use Rattle.tup_top.proofs.call.tup.Goals as goal
 
 pub returns-in-Ok-Upd-clause-success : goal.returns-in-Ok-Upd-clause-success
 returns-in-Ok-Upd-clause-success g c = λ tells means _ clear fine.
-    succeeds_so g.R.Runner.next (g.S.Site.world c.args.site) (g.S.Site.world c.update-status.new.site) _ _ c.update-status.result.status (c.update-status.ensures.cause tells means)
+    succeeds_so g.R.Runner.next (g.S.Site.world c.args.site) _ _ c.update-status.result.status (c.update-status.ensures.cause tells means)
     (crew_cause g.R.Runner.faults c.args.crew.items c.index_mut.result.now c.update-status.new.runner (g.S.Site.faults c.args.site) (g.S.Site.faults c.update-status.new.site) (g.K.Sink.faults c.args.out.now) (g.K.Sink.faults c.update-status.new.out)
     c.update-status.result.status c.requires.crew.0 c.index_mut.ensures.value c.update-status.ensures.counted_cause) clear fine
 
@@ -60,7 +60,13 @@ returns-in-Ok-Upd-clause-images g c = λ tells kept safe.
     let promise = OfRules (g.S.Site.world site) (λ rules _. LeavesOnly g.S.Site.moment g.S.Site.left_since site new (HasSources (with_outputs rules kept))) in
     subst (λ (w : Wanted). ForUpdate w c.update-status.result.status promise) (sym is) (c.update-status.ensures.images tells kept safe)
 
+pub returns-in-Ok-Upd-clause-others : goal.returns-in-Ok-Upd-clause-others
+returns-in-Ok-Upd-clause-others g c = others_stay c.args.crew.items c.update-status.new.runner
+
 -- a comparison
+
+pub returns-in-Ok-Verify-clause-others : goal.returns-in-Ok-Verify-clause-others
+returns-in-Ok-Verify-clause-others g c = others_stay c.args.crew.items c.verify-status.new.runner
 
 pub returns-in-Ok-Verify-clause-sources_stay : goal.returns-in-Ok-Verify-clause-sources_stay
 returns-in-Ok-Verify-clause-sources_stay g c = λ tells.
@@ -128,7 +134,12 @@ returns-clause-nothing_forgotten g c = λ _.
 pub returns-clause-cause : goal.returns-clause-cause
 returns-clause-cause g c = λ _ _.
     let world = g.S.Site.world c.args.site in
-    memory_of (order c.args.words.now) world (λ rules. HasCause g.R.Runner.next rules world world) tt
+    memory_of (order c.args.words.now) world (λ rules. HasCause g.R.Runner.next rules world) tt
+
+pub returns-clause-commits : goal.returns-clause-commits
+returns-clause-commits g c = λ _.
+    let world = g.S.Site.world c.args.site in
+    memory_of (order c.args.words.now) world (λ rules. JustCommits rules world world) tt
 
 pub returns-clause-begun : goal.returns-clause-begun
 returns-clause-begun g c = λ _ _.
@@ -147,7 +158,9 @@ returns-clause-told g c = λ _ _.
     memory_of (order c.args.words.now) world (λ rules _. CountsAll g.R.Runner.next rules world Memory) tt
 
 pub returns-clause-printed : goal.returns-clause-printed
-returns-clause-printed g c = λ _ _ _. memory_prints (order c.args.words.now) g.R.Runner.next (g.S.Site.world c.args.site) (g.K.Sink.faults c.args.out.now) (g.K.Sink.held c.args.out.now)
+returns-clause-printed g c = λ _.
+    memory_prints g.S.Site.tells g.R.Runner.tells (order c.args.words.now) g.R.Runner.next (g.S.Site.world c.args.site) c.new-in-Err-Memory.result (g.K.Sink.faults c.args.out.now) (g.K.Sink.held c.args.out.now)
+    c.new-in-Err-Memory.ensures
 
 pub returns-clause-compared : goal.returns-clause-compared
 returns-clause-compared g c = λ _ _. memory_for_verify (order c.args.words.now) (HasCompared g.R.Runner.next (g.S.Site.world c.args.site)) tt
@@ -156,9 +169,6 @@ pub returns-clause-compared_ran : goal.returns-clause-compared_ran
 returns-clause-compared_ran g c = λ _ _ _.
     memory_for_verify (order c.args.words.now) (CrewCompares g.R.Runner.next (g.S.Site.world c.args.site) (map g.R.Runner.ran c.args.crew.items) (map g.R.Runner.ran c.args.crew.items))
     (no_crew_ran g.R.Runner.ran g.R.Runner.next (g.S.Site.world c.args.site) c.args.crew.items c.requires.crew.0)
-
-pub returns-clause-printed_alone : goal.returns-clause-printed_alone
-returns-clause-printed_alone g c = λ _. memory_prints_alone (order c.args.words.now) (g.K.Sink.faults c.args.out.now) (g.K.Sink.held c.args.out.now)
 
 pub returns-clause-crash : goal.returns-clause-crash
 returns-clause-crash g c = λ _.

@@ -1,6 +1,5 @@
-use Rattle.std.proofs.Common.{refl, subst}
+use Rattle.std.proofs.Common.{true, refl, subst}
 use Rattle.tup_site.specs.World.{World}
-use Rattle.tup_steady.specs.Steady.{small_store, world_in}
 use Rattle.tup_mini.specs.Means.{mini_next}
 use Rattle.tup_update.specs.Log.{OfRules}
 use Rattle.tup_update.specs.Outcome.{HasCause}
@@ -14,12 +13,12 @@ use Rattle.tup_top.proofs.update.demo.Goals as goal
 pub returns-in-Ok : goal.returns-in-Ok
 returns-in-Ok g c =
     let status = c.update.result.status in
-    let new = world_in c.update.new.site in
+    let ran = c.update.result.ran in
     record {
-      cause = demo_cause new (small_store c.update.new.site) (g.K.Sink.faults c.args.out.now) (g.K.Sink.faults c.update.new.out) status
-          (subst (λ (w : World). IfCame status (OfRules w (λ rules. HasCause mini_next rules w new))) c.in-Ok.ensures.holds (c.update.ensures.cause refl refl)) c.update.ensures.counted_cause
+      cause = demo_cause (g.K.Sink.faults c.args.out.now) (g.K.Sink.faults c.update.new.out) status
+          (subst (λ (w : World). IfCame status (OfRules w (λ rules. HasCause mini_next rules w))) c.in-Ok.ensures.holds (c.update.ensures.cause refl refl)) c.update.ensures.counted_cause
           (subst (λ (w : World). IfCame status (OfRules w (λ rules _. CountsAll mini_next rules w status))) c.in-Ok.ensures.holds (c.update.ensures.told refl refl));
-      printed = λ shows. subst (λ w. PrintsUpdate mini_next w (g.K.Sink.faults c.args.out.now) (g.K.Sink.faults c.update.new.out) (g.K.Sink.held c.args.out.now) (g.K.Sink.held c.update.new.out) status) c.in-Ok.ensures.holds (c.update.ensures.printed refl refl shows);
+      printed = λ shows. (ran, subst (λ w. PrintsUpdate true true mini_next w ran (g.K.Sink.faults c.args.out.now) (g.K.Sink.faults c.update.new.out) (g.K.Sink.held c.args.out.now) (g.K.Sink.held c.update.new.out) status) c.in-Ok.ensures.holds (c.update.ensures.printed shows));
     }
 
 pub returns-in-Err : goal.returns-in-Err

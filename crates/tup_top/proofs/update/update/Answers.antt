@@ -3,7 +3,7 @@ use Rattle.tup_site.specs.Crash.{GoesOn, LeavesOnly}
 use Rattle.tup_ledger.specs.Sources.{HasSources}
 use Rattle.tup_update.specs.Images.{UpdateStep, with_outputs}
 use Rattle.tup_update.specs.Log.{RulesFit}
-use Rattle.tup_update.specs.Outcome.{ExactlyTheFiles, MadeBeforeBad, NothingForgotten, HasCause}
+use Rattle.tup_update.specs.Outcome.{ExactlyTheFiles, MadeBeforeBad, NothingForgotten, HasCause, JustCommits}
 use Rattle.tup_update.specs.Ran.{RunsThese}
 use Rattle.tup_update.specs.Settled.{IsSettled}
 use Rattle.tup_top.specs.Crew.{RanFits, RanInTurn}
@@ -34,6 +34,11 @@ returns-in_default-clause-cause g c = λ tells means.
     let update = c.update_site-rules in
     (update.result.rules, untold_rules (g.S.Site.world c.args.site.now) c.update_site-rules.result.rules update.result.stopped (update.ensures.rules tells), tt)
 
+pub returns-in_default-clause-commits : goal.returns-in_default-clause-commits
+returns-in_default-clause-commits g c = λ tells.
+    let update = c.update_site-rules in
+    (update.result.rules, untold_rules (g.S.Site.world c.args.site.now) c.update_site-rules.result.rules update.result.stopped (update.ensures.rules tells), tt)
+
 pub returns-in_default-clause-begun : goal.returns-in_default-clause-begun
 returns-in_default-clause-begun g c = λ tells means.
     let update = c.update_site-rules in
@@ -57,17 +62,21 @@ returns-in_default-clause-told g c = λ tells means.
     (update.result.rules, untold_rules (g.S.Site.world c.args.site.now) c.update_site-rules.result.rules update.result.stopped (update.ensures.rules tells), tt)
 
 pub returns-in_default-clause-printed : goal.returns-in_default-clause-printed
-returns-in_default-clause-printed g c = λ tells means _. record {
-  told = record {
-    rules = c.update_site-rules.result.rules;
-    log = c.update_site-rules.result.log;
-    stopped = c.update_site-rules.result.stopped;
-    are_its_rules = c.update_site-rules.ensures.rules tells;
-    is_its_log = c.update_site-rules.ensures.logged tells means;
-  };
-  ends = inr (inl refl);
-  prints = prints_nothing _ _ _ _ _;
-}
+returns-in_default-clause-printed g c = λ _.
+    let update = c.update_site-rules in
+    record {
+      told = record {
+        rules = update.result.rules;
+        log = update.result.log;
+        stopped = update.result.stopped;
+        begun = refl;
+        are_its_rules = λ tells. update.ensures.rules tells;
+        in_turn = λ tells. update.ensures.in_turn tells;
+        is_its_log = λ tells means. update.ensures.logged tells means;
+      };
+      ends = inr (inl refl);
+      prints = prints_nothing _ _ _ _ _;
+    }
 
 -- ---- its lines were printed, or not
 
@@ -105,8 +114,15 @@ pub returns-clause-cause : goal.returns-clause-cause
 returns-clause-cause g c = λ tells means.
     let update = c.update_site-rules in
     let old = g.S.Site.world c.args.site.now in
-    answered_of old (λ rules. HasCause g.R.Runner.next rules old (g.S.Site.world update.new.site)) update.result.rules _ _ _ _ update.result.log update.result.stopped _ _ c.status_of-status.ensures c.print-status.ensures.ends
+    answered_of old (λ rules. HasCause g.R.Runner.next rules old) update.result.rules _ _ _ _ update.result.log update.result.stopped _ _ c.status_of-status.ensures c.print-status.ensures.ends
     update.ensures.counted_cause (update.ensures.rules tells) (update.ensures.cause tells means) tt
+
+pub returns-clause-commits : goal.returns-clause-commits
+returns-clause-commits g c = λ tells.
+    let update = c.update_site-rules in
+    let old = g.S.Site.world c.args.site.now in
+    answered_of old (λ rules. JustCommits rules old (g.S.Site.world update.new.site)) update.result.rules _ _ _ _ update.result.log update.result.stopped _ _ c.status_of-status.ensures c.print-status.ensures.ends
+    update.ensures.counted_cause (update.ensures.rules tells) (update.ensures.commits tells) tt
 
 pub returns-clause-begun : goal.returns-clause-begun
 returns-clause-begun g c = λ tells means.
@@ -148,14 +164,16 @@ returns-clause-counted_cause g c =
     update.result.log update.result.stopped _ _ c.status_of-status.ensures c.print-status.ensures.ends c.print-status.ensures.counted update.ensures.counted_cause update.ensures.run_cause
 
 pub returns-clause-printed : goal.returns-clause-printed
-returns-clause-printed g c = λ tells means shows.
+returns-clause-printed g c = λ shows.
     let update = c.update_site-rules in
-    prints_update g.R.Runner.next _ _ _ _ _ (record {
+    prints_update g.S.Site.tells g.R.Runner.tells g.R.Runner.next _ _ _ _ _ _ (record {
       rules = update.result.rules;
       log = update.result.log;
       stopped = update.result.stopped;
-      are_its_rules = update.ensures.rules tells;
-      is_its_log = update.ensures.logged tells means;
+      begun = refl;
+      are_its_rules = λ tells. update.ensures.rules tells;
+      in_turn = λ tells. update.ensures.in_turn tells;
+      is_its_log = λ tells means. update.ensures.logged tells means;
     }) _ _ _ c.status_of-status.ensures (search rules) c.print-status.ensures.ends (c.print-status.ensures.prints shows)
 
 -- ---- what it adds to what a crash may leave

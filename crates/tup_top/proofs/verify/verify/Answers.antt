@@ -25,9 +25,9 @@ returns-in-Ok-clause-counted_cause g c =
     (g.K.Sink.faults c.print.new.out) compared.result _ _ c.status_of_compared-status.ensures c.print.ensures.ends c.print.ensures.counted compared.ensures.counted_cause compared.ensures.run_cause
 
 pub returns-in-Ok-clause-printed : goal.returns-in-Ok-clause-printed
-returns-in-Ok-clause-printed g c = λ tells means shows.
+returns-in-Ok-clause-printed g c = λ shows.
     let compared = c.compare_site in
-    prints_compared g.R.Runner.next _ _ _ _ _ compared.result _ _ _ (compared.ensures.compared tells means) c.status_of_compared-status.ensures (search rules) c.print.ensures.ends (c.print.ensures.prints shows)
+    prints_compared g.S.Site.tells g.R.Runner.tells g.R.Runner.next _ _ _ _ _ compared.result _ _ _ (λ tells means. compared.ensures.compared tells means) c.status_of_compared-status.ensures (search rules) c.print.ensures.ends (c.print.ensures.prints shows)
 
 -- no memory for its line
 pub returns-in-Err-clause-ran : goal.returns-in-Err-clause-ran

@@ -1,9 +1,9 @@
-use Rattle.std.proofs.Common.{◌≡◌, ◌∙◌, sym, ap, subst, Some}
+use Rattle.std.proofs.Common.{◌≡◌, ◌∙◌, sym, ap, subst, Ok, Some}
 use Rattle.std.specs.Result.{result_err}
-use Rattle.tup_table.specs.Table.{entries_in}
-use Rattle.tup_graph.specs.Graph.{GraphState}
-use Rattle.tup_graph.specs.Opening.{IsGraphOf}
-use Rattle.tup_graph.specs.Transactions.{forget_edits, with_forgotten}
+use Rattle.tup_table.specs.Reading.{ReadsAs}
+use Rattle.tup_graph.specs.Transactions.{with_forgotten}
+use Rattle.tup_kept.specs.Held.{Held}
+use Rattle.tup_kept.specs.Opening.{opened_in}
 use Rattle.tup_ledger.proofs.Keys.{owned_without}
 use Rattle.tup_update.specs.Outcome.{HasCountedCause}
 use Rattle.tup_update.specs.Parts.{IsLate}
@@ -13,7 +13,7 @@ use Rattle.tup_update.specs.declared.stop.Stop.TheVariants.{Full}
 use Rattle.tup_update.proofs.Crashing.{given_so}
 use Rattle.tup_update.proofs.Handed.{err_if}
 use Rattle.tup_update.proofs.Keeping.{err_is}
-use Rattle.tup_update.proofs.Storing.{given_late, given_full, graph_counts, no_room}
+use Rattle.tup_update.proofs.Storing.{given_late, given_full, graph_counts, stand_reads}
 use Rattle.tup_update.proofs.build.finish.Goals as goal
 
 pub returns-in_err-give_up-clause-late : goal.returns-in_err-give_up-clause-late
@@ -23,14 +23,10 @@ returns-in_err-give_up-clause-late g c =
     (given_late g.S.Site.tells c.args.left.now c.args.graph.now c.give_up.new.graph (g.S.Site.world c.args.site.now) (g.S.Site.world c.give_up.new.site) fault c.in_err-give_up.ensures.gives_up)
 
 pub returns-in_err-give_up-clause-full : goal.returns-in_err-give_up-clause-full
-returns-in_err-give_up-clause-full g c = λ tells full.
+returns-in_err-give_up-clause-full g c = λ full.
     let fault = c.in_err-give_up.field-0.0 in
-    let held = c.args.graph.now in
-    let left = c.args.left.now in
     let both : Some (stop_of_graph fault) ≡ Some Full = sym (err_is c.from_residual.result (stop_of_graph fault) c.from_residual.ensures.1) ∙ ap (λ r. result_err r) full in
-    let gives = given_full g.S.Site.tells left held c.give_up.new.graph (g.S.Site.world c.args.site.now) (g.S.Site.world c.give_up.new.site) fault tells c.in_err-give_up.ensures.gives_up (cc both) in
-    no_room g.S.Site.world g.S.Site.moment g.S.Site.left_since (λ (g : GraphState). forget_edits g left) held c.args.site.now (g.S.Site.world c.give_up.new.site) (c.requires.stands tells) gives.1
-    (subst (IsGraphOf (entries_in held.table)) c.nodes.ensures.value (c.nodes.ensures.graph c.requires.fresh)) gives.0
+    given_full g.S.Site.tells c.args.left.now c.args.graph.now c.give_up.new.graph (g.S.Site.world c.args.site.now) (g.S.Site.world c.give_up.new.site) fault c.in_err-give_up.ensures.gives_up (cc both)
 
 pub returns-in_err-give_up-clause-counted : goal.returns-in_err-give_up-clause-counted
 returns-in_err-give_up-clause-counted g c =
@@ -55,3 +51,9 @@ returns-clause-crash g c = λ tells.
     let left = c.args.left.now in
     given_so g.S.Site.moment g.S.Site.left_since c.args.site.now c.give_up.new.site nodes (with_forgotten nodes left) _ (g.S.Site.world c.args.site.now) (owned_without nodes left)
     (c.give_up.ensures.crash tells).only (c.give_up.ensures.settled tells)
+
+pub returns-clause-reads : goal.returns-clause-reads
+returns-clause-reads g c = λ tells.
+    let site = c.give_up.new.site in
+    subst (λ (h : Held). ReadsAs (g.S.Site.world site).store (Ok (opened_in h))) c.in_ok-give_up.ensures.gives_up.0
+    (stand_reads g.S.Site.world g.S.Site.moment g.S.Site.left_since c.give_up.new.graph site (c.give_up.ensures.stands tells c.in_ok-give_up.ensures.owned.0))

@@ -1,14 +1,11 @@
 use Rattle.std.proofs.Common.{◌≡◌, ◌∙◌, ◌++◌, ℕ, ⊎_elim, inl, inr, sym, ap, subst, List, Some, Err}
 use Rattle.std.specs.Result.{result_err}
 use Rattle.tup_path.specs.Name.{Names}
-use Rattle.tup_table.specs.Table.{entries_in}
-use Rattle.tup_graph.specs.Graph.{GraphState}
-use Rattle.tup_graph.specs.Opening.{IsGraphOf}
 use Rattle.tup_kept.specs.Transaction.{IsFull}
 use Rattle.tup_ledger.specs.Ascending.{ascending}
 use Rattle.tup_ledger.specs.Owned.{own_edits, owned_in, with_owned}
 use Rattle.tup_update.specs.Holding.{Lists}
-use Rattle.tup_update.specs.Outcome.{HasCountedCause}
+use Rattle.tup_update.specs.Outcome.{HasCountedCause, once_owned}
 use Rattle.tup_update.specs.Parts.{IsLate, SameBeside}
 use Rattle.tup_update.specs.Stopped.{stop_of_graph}
 use Rattle.tup_update.specs.declared.stop.Stop.TheVariants.{Full, Outside}
@@ -16,7 +13,7 @@ use Rattle.tup_ledger.proofs.Keys.{owned_with}
 use Rattle.tup_update.proofs.Crashing.{prepared, still_listed, written_only}
 use Rattle.tup_update.proofs.Handed.{err_if}
 use Rattle.tup_update.proofs.Keeping.{err_is}
-use Rattle.tup_update.proofs.Storing.{committed_late, committed_full, graph_counts, site_late, site_counts, no_room, stands_on}
+use Rattle.tup_update.proofs.Storing.{committed_late, committed_full, graph_counts, site_late, site_counts, stands_on}
 use Rattle.tup_update.proofs.build.prepare.Goals as goal
 
 -- ---- what couldn't be owned
@@ -41,15 +38,12 @@ returns-in_err-own-clause-late g c =
     (committed_late (own_edits c.args.graph.now.nodes c.as_slice.result.now) (with_owned c.args.graph.now.nodes c.as_slice.result.now) c.args.graph.now c.own.new.graph c.args.site.now c.own.new.site fault c.in_err-own.ensures.leaves)
 
 pub returns-in_err-own-clause-full : goal.returns-in_err-own-clause-full
-returns-in_err-own-clause-full g c = λ tells full.
+returns-in_err-own-clause-full g c = λ full.
     let fault = c.in_err-own.field-0.0 in
     let held = c.args.graph.now in
-    let outputs = c.args.plan.now.outputs in
     let stop : stop_of_graph fault ≡ Full = (let both : Some (stop_of_graph fault) ≡ Some Full = sym (err_is c.from_residual.result (stop_of_graph fault) c.from_residual.ensures.1) ∙ ap (λ r. result_err r) full in cc both) in
-    let is = committed_full (own_edits held.nodes c.as_slice.result.now) (with_owned held.nodes c.as_slice.result.now) held c.own.new.graph c.args.site.now c.own.new.site fault c.in_err-own.ensures.leaves stop in
-    no_room g.S.Site.world g.S.Site.moment g.S.Site.left_since (λ (g : GraphState). own_edits g outputs) held c.args.site.now (g.S.Site.world c.own.new.site) (c.requires.stands tells) (ap (λ s. g.S.Site.world s) is.1)
-    (subst (IsGraphOf (entries_in held.table)) c.nodes.ensures.value (c.nodes.ensures.graph c.requires.fresh))
-    (subst (λ (paths : List Names). IsFull held (own_edits held.nodes paths)) c.as_slice.ensures is.0)
+    subst (λ (paths : List Names). IsFull held (own_edits held.nodes paths)) c.as_slice.ensures
+    (committed_full (own_edits held.nodes c.as_slice.result.now) (with_owned held.nodes c.as_slice.result.now) held c.own.new.graph c.args.site.now c.own.new.site fault c.in_err-own.ensures.leaves stop)
 
 pub returns-in_err-own-clause-counted : goal.returns-in_err-own-clause-counted
 returns-in_err-own-clause-counted g c =
@@ -82,7 +76,7 @@ returns-in_err-clear-clause-crash g c = λ tells.
     (c.clear.ensures.crash tells)
 
 pub returns-in_err-clear-clause-full : goal.returns-in_err-clear-clause-full
-returns-in_err-clear-clause-full g c = λ tells full.
+returns-in_err-clear-clause-full g c = λ full.
     let failed = c.in_err-clear.field-0.0 in
     let both : Some (Outside failed) ≡ Some Full = sym (err_is c.from_residual-in_err-clear.result (Outside failed) c.from_residual-in_err-clear.ensures.1) ∙ ap (λ r. result_err r) full in
     absurd (cc both)
@@ -103,6 +97,9 @@ returns-in_err-clear-clause-counted g c =
     (site_counts (g.S.Site.faults c.own.new.site) now c.clear.result failed c.in_err-clear.was c.clear.ensures.counted (λ n e. c.clear.ensures.never_too_large n (c.in_err-clear.was ∙ ap (λ f. Err f) e))))
 
 -- ---- and the files were removed
+
+pub returns-clause-owns : goal.returns-clause-owns
+returns-clause-owns g c = c.in_ok-own.ensures.leaves.0 ∙ ap (once_owned c.args.graph.now) c.as_slice.ensures
 
 pub returns-clause-crash : goal.returns-clause-crash
 returns-clause-crash g c = λ tells.

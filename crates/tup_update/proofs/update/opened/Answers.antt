@@ -1,4 +1,6 @@
 use Rattle.std.proofs.Common.{ap, sym, subst, ◌∙◌}
+use Rattle.tup_table.specs.Table.{entries_in}
+use Rattle.tup_graph.specs.Opening.{IsGraphOf}
 use Rattle.tup_ledger.specs.Owned.{owned_in}
 use Rattle.tup_site.specs.declared.fault.SiteFailed.TheVariants.{Memory}
 use Rattle.tup_update.specs.Holding.{Lists}
@@ -54,6 +56,12 @@ pub returns-in_err-owned-clause-crash : goal.returns-in_err-owned-clause-crash
 returns-in_err-owned-clause-crash g c = λ tells. opening_on g.S.Site.moment g.S.Site.left_since c.args.site.now c.open.new.site (c.open.ensures.crash tells)
 
 -- ---- it was opened
+
+pub returns-clause-graph : goal.returns-clause-graph
+returns-clause-graph g c = subst (IsGraphOf (entries_in c.in_ok-graph.graph.table)) c.nodes.ensures.value (c.nodes.ensures.graph c.in_ok-graph.ensures.fresh)
+
+pub returns-clause-reads : goal.returns-clause-reads
+returns-clause-reads g c = λ tells. (c.in_ok-graph.ensures.opens tells).0
 
 pub returns-clause-holds : goal.returns-clause-holds
 returns-clause-holds g c = λ tells. kept_holds (g.S.Site.world c.args.site.now) (g.S.Site.world c.open.new.site) (c.open.ensures.keeps tells)

@@ -1,14 +1,12 @@
 use Rattle.std.proofs.Common.{ℕ, List, ◌++◌, IfSome, Some, Ok, Err, ⊎_elim, inl, inr, sym, ◌∙◌, ap, subst}
 use Rattle.tup_path.specs.Name.{Names}
-use Rattle.tup_graph.specs.Graph.{GraphState}
-use Rattle.tup_graph.specs.Transactions.{forget_edits}
 use Rattle.tup_ledger.specs.Ascending.{ascending}
-use Rattle.tup_ledger.specs.Owned.{own_edits, owned_in}
+use Rattle.tup_ledger.specs.Owned.{owned_in}
 use Rattle.tup_update.specs.Holding.{Lists}
 use Rattle.tup_site.specs.World.{World}
 use Rattle.tup_site.specs.declared.fault.SiteFailed.TheVariants.{Memory}
 use Rattle.tup_update.specs.Log.{with_read}
-use Rattle.tup_update.specs.Outcome.{Keeps, Stays, HasCountedCause, LacksRoom}
+use Rattle.tup_update.specs.Outcome.{HasCommits, Keeps, Stays, HasCountedCause}
 use Rattle.tup_update.specs.Parts.{HasRun, HasMade, SameBesideOutputs}
 use Rattle.tup_update.specs.Ran.{RunsThese, stopped_by, comes_to}
 use Rattle.tup_update.specs.Settled.{IsSettled}
@@ -23,7 +21,7 @@ use Rattle.tup_update.proofs.Begun.{ran_none, ran_all_of, stopped_runs}
 use Rattle.tup_update.specs.Holding.{holding}
 use Rattle.tup_update.proofs.Ending.{vanished_are}
 use Rattle.tup_update.proofs.Known.{given_up, none_left}
-use Rattle.tup_update.proofs.Storing.{stands_on}
+use Rattle.tup_update.proofs.Storing.{bad_commits, claimed_reads, given_reads, halt_commits, late_commits, none_to_give, none_to_own, read_as, stands_on}
 use Rattle.tup_ledger.specs.Sources.{HaveNoFiles}
 use Rattle.tup_update.specs.Parts.{StopsMaking}
 use Rattle.tup_update.proofs.Handed.{err_if}
@@ -98,7 +96,11 @@ returns-in_err-prepare-clause-kept g c = λ tells means.
     subst (Keeps g.R.Runner.next project.rules old mid (with_read project.read log)) (sym (err_is c.from_residual-in_err-prepare.result stop c.from_residual-in_err-prepare.ensures.1))
     (unprepared_keeps project old mid plan.vanished claiming way g.R.Runner.next c.args.log.now.removed log stop
     c.in_err-prepare.ensures.late
-    (λ e. inl (subst (λ (paths : List Names). LacksRoom (λ (g : GraphState). own_edits g paths) mid) c.in_ok-plan.ensures.outputs (c.prepare.ensures.full tells (c.in_err-prepare.was ∙ ap (λ (s : Stop). Err s) e))))
+    (λ e. (
+      c.args.graph.now,
+      read_as g.S.Site.world g.S.Site.moment g.S.Site.left_since c.args.graph.now c.args.site.now (c.requires.stands tells) c.requires.graph,
+      none_to_own project.rules project.owned c.args.graph.now plan.outputs c.in_ok-plan.ensures.outputs (c.prepare.ensures.full (c.in_err-prepare.was ∙ ap (λ (s : Stop). Err s) e)),
+    ))
     c.requires.unused.0 c.prepare.ensures.part c.requires.unused.1 c.requires.unused.2)
 
 pub returns-in_err-prepare-clause-ran : goal.returns-in_err-prepare-clause-ran
@@ -281,7 +283,11 @@ returns-in_err-finish-in-None-clause-kept g c = λ tells means.
     subst (Keeps g.R.Runner.next project.rules old new (with_read project.read log)) (sym (err_is c.from_residual-in_err-finish-in-None.result stop c.from_residual-in_err-finish-in-None.ensures.1))
     (unfinished_keeps project old mid plan.vanished claiming way g.R.Runner.next new c.args.log.now.removed log stop
     c.in_err-finish-in-None.ensures.late
-    (λ e. inr (subst (λ (paths : List Names). LacksRoom (λ (g : GraphState). forget_edits g paths) new) (c.as_slice.ensures ∙ c.in_ok-plan.ensures.left) (c.finish.ensures.full tells (c.in_err-finish-in-None.was ∙ ap (λ (s : Stop). Err s) e))))
+    (λ e. (
+      c.args.graph.now,
+      read_as g.S.Site.world g.S.Site.moment g.S.Site.left_since c.args.graph.now c.args.site.now (c.requires.stands tells) c.requires.graph,
+      none_to_give project.rules project.owned c.args.graph.now plan.outputs c.as_slice.result.now c.prepare.new.graph c.in_ok-plan.ensures.outputs (c.as_slice.ensures ∙ c.in_ok-plan.ensures.left) c.in_ok-prepare.ensures.owns (c.finish.ensures.full (c.in_err-finish-in-None.was ∙ ap (λ (s : Stop). Err s) e)),
+    ))
     c.requires.unused.0 c.in_ok-prepare.ensures.removed (c.in_ok-bad.ensures.noted tells means))
 
 pub returns-in_err-finish-in-None-clause-ran : goal.returns-in_err-finish-in-None-clause-ran
@@ -512,3 +518,55 @@ finish-requires-clause-gone g c κs = λ lives tells.
     } in
     subst (HaveNoFiles ran.tree) (sym (c.as_slice.ensures ∙ c.in_ok-plan.ensures.left))
     (none_left project.owned project.rules mid.tree ran.tree (way_runnable project old mid plan.vanished claiming way (c.in_ok-prepare.ensures.cleared tells)) (c.run.ensures.others tells))
+
+-- ---- which commits were made
+
+pub returns-in_err-plan-clause-commits : goal.returns-in_err-plan-clause-commits
+returns-in_err-plan-clause-commits g c = λ tells.
+    let project = c.args.self.now in
+    subst (HasCommits project.rules project.owned c.args.graph.now (g.S.Site.world c.args.site.now).store) (sym (err_is c.from_residual.result (Outside Memory) c.from_residual.ensures.1)) tt
+
+pub returns-in_err-prepare-clause-commits : goal.returns-in_err-prepare-clause-commits
+returns-in_err-prepare-clause-commits g c = λ tells.
+    let project = c.args.self.now in
+    let bytes = (g.S.Site.world c.prepare.new.site).store in
+    let stop = c.in_err-prepare.field-0.0 in
+    subst (HasCommits project.rules project.owned c.args.graph.now bytes) (sym (err_is c.from_residual-in_err-prepare.result stop c.from_residual-in_err-prepare.ensures.1))
+    (late_commits project.rules project.owned c.args.graph.now bytes stop c.in_err-prepare.ensures.late)
+
+pub returns-in_err-bad-clause-commits : goal.returns-in_err-bad-clause-commits
+returns-in_err-bad-clause-commits g c = λ tells.
+    let project = c.args.self.now in
+    let graph = c.args.graph.now in
+    let ran = g.S.Site.world c.run.new.site in
+    let halt = c.in_err-bad.field-0.0 in
+    subst (HasCommits project.rules project.owned graph ran.store) (sym (err_is c.from_residual-in_err-bad.result (stop_of_halt halt) c.from_residual-in_err-bad.ensures.1))
+    (halt_commits project.rules project.owned graph ran.store halt
+    (claimed_reads g.S.Site.world g.S.Site.moment g.S.Site.left_since project.rules graph c.prepare.new.graph c.in_ok-plan.plan.outputs c.prepare.new.site ran (c.in_ok-prepare.ensures.stands tells) c.in_ok-prepare.ensures.owns c.in_ok-plan.ensures.outputs
+    (c.run.ensures.store tells)))
+
+pub returns-in-Some-clause-commits : goal.returns-in-Some-clause-commits
+returns-in-Some-clause-commits g c = λ tells.
+    let project = c.args.self.now in
+    let graph = c.args.graph.now in
+    let ran = g.S.Site.world c.run.new.site in
+    let bad = c.in-Some.bad in
+    let stop = c.stop_at.result in
+    subst (λ (w : World). HasCommits project.rules project.owned graph w.store (Some stop)) (sym (c.stop_at.ensures.same tells))
+    (bad_commits project.rules project.owned graph ran.store bad.0 bad.1 stop c.stop_at.ensures.stops
+    (claimed_reads g.S.Site.world g.S.Site.moment g.S.Site.left_since project.rules graph c.prepare.new.graph c.in_ok-plan.plan.outputs c.prepare.new.site ran (c.in_ok-prepare.ensures.stands tells) c.in_ok-prepare.ensures.owns c.in_ok-plan.ensures.outputs
+    (c.run.ensures.store tells)))
+
+pub returns-in_err-finish-in-None-clause-commits : goal.returns-in_err-finish-in-None-clause-commits
+returns-in_err-finish-in-None-clause-commits g c = λ tells.
+    let project = c.args.self.now in
+    let bytes = (g.S.Site.world c.finish.new.site).store in
+    let stop = c.in_err-finish-in-None.field-0.0 in
+    subst (HasCommits project.rules project.owned c.args.graph.now bytes) (sym (err_is c.from_residual-in_err-finish-in-None.result stop c.from_residual-in_err-finish-in-None.ensures.1))
+    (late_commits project.rules project.owned c.args.graph.now bytes stop c.in_err-finish-in-None.ensures.late)
+
+pub returns-clause-commits : goal.returns-clause-commits
+returns-clause-commits g c = λ tells.
+    let project = c.args.self.now in
+    given_reads project.rules project.owned c.args.graph.now c.prepare.new.graph c.in_ok-plan.plan.outputs c.as_slice.result.now (g.S.Site.world c.finish.new.site).store c.in_ok-prepare.ensures.owns c.in_ok-plan.ensures.outputs
+    (c.as_slice.ensures ∙ c.in_ok-plan.ensures.left) (c.in_ok-finish-in-None.ensures.reads tells)

@@ -5,7 +5,7 @@ use Rattle.tup_path.proofs.Same.{same_path-decides}
 use Rattle.tup_diff.specs.Sets.{GrowsBy}
 use Rattle.tup_diff.proofs.Named.{name-decides, other_folder, in_folder, not_false, not_true}
 use Rattle.tup_diff.proofs.Sets.{one_key, set_stays}
-use Rattle.tup_diff.proofs.names.add_path.Goals as goal
+use Rattle.tup_diff.proofs.made.add_path.Goals as goal
 
 pub returns-then-ne-clause-names : goal.returns-then-ne-clause-names
 returns-then-ne-clause-names c =

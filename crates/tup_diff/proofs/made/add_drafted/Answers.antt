@@ -4,7 +4,7 @@ use Rattle.tup_path.specs.Order.{by_bytes}
 use Rattle.tup_diff.specs.Names.{IsIn}
 use Rattle.tup_diff.specs.Sets.{GrowsBy}
 use Rattle.tup_diff.proofs.Named.{drafts_more}
-use Rattle.tup_diff.proofs.names.add_drafted.Goals as goal
+use Rattle.tup_diff.proofs.made.add_drafted.Goals as goal
 
 pub loop-draft-preserved : goal.loop-draft-preserved
 loop-draft-preserved c =

@@ -1,5 +1,5 @@
 use Rattle.tup_diff.proofs.Named.{paths_more}
-use Rattle.tup_diff.proofs.names.add_paths.Goals as goal
+use Rattle.tup_diff.proofs.made.add_paths.Goals as goal
 
 pub loop-path-preserved : goal.loop-path-preserved
 loop-path-preserved c =
