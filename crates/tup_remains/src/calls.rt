@@ -29,7 +29,7 @@ pub fn calls_keep_sites<S: Site>(site: &S)
     ensures begin { (next : Next) (language : Language) (known : List Content) (first : World)
         (since : ℕ) (graph : Held) (new : S) (number : ℕ) (rule : Rule) → IsTrue S.tells
         → StandsOver S.Site.own next language known first since graph site.now
-        → IsRuleAt graph.nodes number rule → IsRuleAt graph.nodes number rule
+        → IsRuleAt graph.nodes number rule → is_flagged graph.nodes number ≡ true
         → LeavesEither S.moment S.left_since site.now new graph.nodes (begun graph.nodes number)
         → IsKeptSite next language known first (S.left_since new since) }
     ensures finish { (next : Next) (language : Language) (known : List Content) (first : World)
