@@ -1,5 +1,5 @@
 -- What a call of the ledger that is refused becomes, and what its graph stands for when files are changed.
-use Rattle.std.proofs.Common.{◌≡◌, ◌≢◌, ◌∙◌, ℕ, Bool, List, Option, None, Some, Result, Ok, Err, inl, inr, refl, sym, ap, subst}
+use Rattle.std.proofs.Common.{◌≡◌, ◌≢◌, ◌∙◌, ℕ, Bool, List, Option, None, Some, Result, Ok, Err, ⊎_elim, inl, inr, refl, sym, ap, subst}
 use Rattle.tup_path.specs.Name.{Names}
 use Rattle.tup_path.specs.Tree.{Tree}
 use Rattle.tup_site.specs.Crash.{GoesOn}
@@ -31,10 +31,10 @@ use Rattle.tup_kept.specs.Opening.{OpensAs, opened_in}
 use Rattle.tup_kept.specs.Transaction.{IsFull, Leaves}
 use Rattle.tup_ledger.specs.Given.{GivesUp, without}
 use Rattle.tup_ledger.specs.Owned.{own_edits, with_owned}
-use Rattle.tup_update.specs.Holding.{HoldsOn, Lists}
+use Rattle.tup_update.specs.Holding.{HoldsOn, IsJustOpened, Lists}
 use Rattle.tup_update.specs.Images.{FilesStep}
 use Rattle.tup_update.specs.Opened.{IsUnopened, StopsOpening}
-use Rattle.tup_update.specs.Outcome.{HasCommits, HasCommitted, HasCountedCause, IsTooFull, JustCommits, ReadsAsGraph, once_owned}
+use Rattle.tup_update.specs.Outcome.{HasCommits, HasCommitted, HasCountedCause, IsTooFull, JustCommits, JustOpens, ReadsAsGraph, once_owned}
 use Rattle.tup_update.specs.Parts.{IsLate, StopsAt}
 use Rattle.tup_update.specs.Sources.{left_over, outputs}
 use Rattle.tup_update.specs.Stopped.{stop_of, stop_of_graph, stop_of_halt}
@@ -44,6 +44,7 @@ use Rattle.tup_update.specs.declared.stop.Stop.{Stop}
 use Rattle.tup_update.specs.declared.stop.Unread.{Unread}
 use Rattle.tup_update.specs.declared.stop.Unread.TheVariants.{Sources as NoRules, Outside as Unlucky}
 use Rattle.tup_update.specs.declared.stop.Stop.TheVariants.{NoStore, BadStore, Sources, Bad, Run, Full, Outside}
+use Rattle.tup_update.proofs.Before.{MakesOn}
 use Rattle.tup_update.proofs.Crashing.{still_listed}
 use Rattle.tup_update.proofs.Held.{of_held, opened_holds}
 
@@ -141,31 +142,51 @@ module _ (rules : List Rule) (owned : List Names) (graph : Held) (bytes : List �
   bad_commits name verdict stop (inr (failed, is, small)) reads = subst (λ (s : Stop). HasCommits rules owned graph bytes (Some s)) (sym is) tt
 
 module _ (rules : List Rule) (old new : World) where
-  pub commits_so : (owned : List Names) (graph : Held) (stopped : Option Stop) → ReadsAsGraph graph old → Lists old.store owned → HasCommits rules owned graph new.store stopped → JustCommits rules old new stopped
-  commits_so owned graph stopped is lists has = by stopped (of_held old owned (λ held. (g : Held) × ReadsAsGraph g old × HasCommits rules held.owned g new.store stopped) lists (graph, is, has))
+  pub commits_so : (owned : List Names) (graph : Held) (stopped : Option Stop) → MakesOn stopped → ReadsAsGraph graph old → Lists old.store owned → HasCommits rules owned graph new.store stopped → JustCommits rules old new stopped
+  commits_so owned graph stopped makes is lists has = by stopped makes (of_held old owned (λ held. (g : Held) × ReadsAsGraph g old × HasCommits rules held.owned g new.store stopped) lists (graph, is, has))
     where
-      by : (stopped : Option Stop) → HasCommitted rules old new stopped → JustCommits rules old new stopped
-      by None made = made
-      by (Some NoStore) made = tt
-      by (Some (BadStore offset)) made = tt
-      by (Some (Sources fault)) made = tt
-      by (Some (Bad name verdict)) made = made
-      by (Some Run) made = made
-      by (Some Full) made = tt
-      by (Some (Outside failed)) made = tt
+      by : (stopped : Option Stop) → MakesOn stopped → HasCommitted rules old new stopped → JustCommits rules old new stopped
+      by None makes made = made
+      by (Some NoStore) makes made = absurd makes
+      by (Some (BadStore offset)) makes made = absurd makes
+      by (Some (Sources fault)) makes made = absurd makes
+      by (Some (Bad name verdict)) makes made = made
+      by (Some Run) makes made = made
+      by (Some Full) makes made = tt
+      by (Some (Outside failed)) makes made = tt
 
-  pub opening_commits : (stop : Stop) → StopsOpening stop → JustCommits rules old new (Some stop)
-  opening_commits NoStore stops = tt
-  opening_commits (BadStore offset) stops = tt
-  opening_commits (Sources fault) stops = tt
-  opening_commits (Bad rule verdict) stops = absurd stops
-  opening_commits Run stops = absurd stops
-  opening_commits Full stops = tt
-  opening_commits (Outside failed) stops = tt
+  -- none, where it stops before it makes any
+  pub opening_commits : (stop : Stop) → StopsOpening stop → JustOpens old.store new.store (Some stop) → JustCommits rules old new (Some stop)
+  opening_commits NoStore stops opens = opens
+  opening_commits (BadStore offset) stops opens = opens
+  opening_commits (Sources fault) stops opens = absurd stops
+  opening_commits (Bad rule verdict) stops opens = absurd stops
+  opening_commits Run stops opens = absurd stops
+  opening_commits Full stops opens = tt
+  opening_commits (Outside failed) stops opens = tt
 
-  pub unread_commits : (unread : Unread) → JustCommits rules old new (Some (stop_of unread))
-  unread_commits (NoRules fault) = tt
-  unread_commits (Unlucky failed) = tt
+  pub unread_commits : (unread : Unread) → IsJustOpened old.store new.store → JustCommits rules old new (Some (stop_of unread))
+  unread_commits (NoRules fault) opens = opens
+  unread_commits (Unlucky failed) opens = tt
+
+-- ---- how the store was opened
+
+pub opens_so : (before after : List ℕ) (fault : GraphFault) → OpensAs before after (Err fault) → JustOpens before after (Some (stop_of_graph fault))
+opens_so before after graph.NotThere opens = inl opens.1
+opens_so before after (graph.BadStore offset) opens = ⊎_elim (λ damaged. inl damaged.1) (λ broken. inr (broken.opened, broken.reads, broken.closes)) opens
+opens_so before after graph.Site opens = tt
+opens_so before after graph.Full opens = absurd opens
+opens_so before after graph.Memory opens = tt
+
+pub opened_then : (before after : List ℕ) (stopped : Option Stop) → IsJustOpened before after → JustOpens before after stopped
+opened_then before after None opens = opens
+opened_then before after (Some NoStore) opens = opens
+opened_then before after (Some (BadStore offset)) opens = opens
+opened_then before after (Some (Sources fault)) opens = opens
+opened_then before after (Some (Bad name verdict)) opens = opens
+opened_then before after (Some Run) opens = opens
+opened_then before after (Some Full) opens = opens
+opened_then before after (Some (Outside failed)) opens = tt
 
 -- ---- what stands for a store
 module _ {S : Type 0} (world : S → World) (moment : S → ℕ) (left_since : S → ℕ → World → Type 0) where

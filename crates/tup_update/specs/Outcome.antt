@@ -22,7 +22,7 @@ use Rattle.tup_kept.specs.Opening.{opened_in}
 use Rattle.tup_kept.specs.Transaction.{IsFull, after}
 use Rattle.tup_ledger.specs.Given.{without}
 use Rattle.tup_ledger.specs.Owned.{own_edits, with_owned}
-use Rattle.tup_update.specs.Holding.{Holding, HoldsOn, IsDamaged, Lists, ListsOn, OfHeld, holding}
+use Rattle.tup_update.specs.Holding.{Holding, HoldsOn, IsDamaged, IsJustOpened, Lists, ListsOn, OfHeld, holding}
 use Rattle.tup_update.specs.declared.update.Log.{Log}
 use Rattle.tup_update.specs.declared.stop.Stop.{Stop}
 use Rattle.tup_update.specs.declared.stop.Stop.TheVariants.{NoStore, BadStore, Sources, Bad, Run, Full, Outside}
@@ -97,12 +97,21 @@ HasCommits rules owned graph bytes (Some stop) = ⊤
 abbrev pub HasCommitted : List Rule → World → World → Option Stop → Type 0
 HasCommitted rules old new stopped = OfHeld old (λ held. (graph : Held) × ReadsAsGraph graph old × HasCommits rules held.owned graph new.store stopped)
 
--- the same wherever it came so far
+-- the same wherever it came so far; where it made none the store was just opened
 abbrev pub JustCommits : List Rule → World → World → Option Stop → Type 0
 JustCommits rules old new None = HasCommitted rules old new None
 JustCommits rules old new (Some (Bad name verdict)) = HasCommitted rules old new (Some (Bad name verdict))
 JustCommits rules old new (Some Run) = HasCommitted rules old new (Some Run)
-JustCommits rules old new (Some stop) = ⊤
+JustCommits rules old new (Some NoStore) = IsJustOpened old.store new.store
+JustCommits rules old new (Some (BadStore offset)) = IsJustOpened old.store new.store
+JustCommits rules old new (Some (Sources fault)) = IsJustOpened old.store new.store
+JustCommits rules old new (Some Full) = ⊤
+JustCommits rules old new (Some (Outside failed)) = ⊤
+
+-- a store that is just opened, and no more; where the outside stops that, nothing is said
+abbrev pub JustOpens : List ℕ → List ℕ → Option Stop → Type 0
+JustOpens before after (Some (Outside failed)) = ⊤
+JustOpens before after stopped = IsJustOpened before after
 
 -- Why an update stops, where the site tells. What is too large is a file of the clean build: where no rules were read, a source.
 abbrev pub HasCause : Next → List Rule → World → Option Stop → Type 0
