@@ -272,6 +272,5 @@ fn finish<S: Site>(
     ensures late { IfErr result IsLate }
     ensures counted { HasCountedCause (S.faults site.old) (S.faults site.new) (result_err result) }
 {
-    own(alloc, graph, site, left)?;
     Ok(give_up(alloc, graph, site, left)?)
 }
