@@ -140,7 +140,7 @@ returns-clause-cause g c = λ _ _.
 pub returns-clause-commits : goal.returns-clause-commits
 returns-clause-commits g c = λ _.
     let world = g.S.Site.world c.args.site in
-    memory_of (order c.args.words.now) world (λ rules. JustCommits rules world world) tt
+    memory_of (order c.args.words.now) world (λ rules. JustCommits rules world world) (inl (holds_itself world))
 
 pub returns-clause-begun : goal.returns-clause-begun
 returns-clause-begun g c = λ _ _.

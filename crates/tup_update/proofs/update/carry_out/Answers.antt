@@ -131,14 +131,14 @@ returns-in_err-graph-clause-commits g c = λ tells.
     let old = g.S.Site.world c.args.site.now in
     let new = g.S.Site.world c.opened.new.site in
     let stop = c.in_err-graph.field-0.0 in
-    subst (JustCommits c.args.rules.now old new) (sym (err_is c.from_residual.result stop c.from_residual.ensures.1)) (opening_commits c.args.rules.now old new stop c.in_err-graph.ensures.stops (c.in_err-graph.ensures.opens tells))
+    subst (JustCommits c.args.rules.now old new) (sym (err_is c.from_residual.result stop c.from_residual.ensures.1)) (opening_commits c.args.rules.now old new stop c.in_err-graph.ensures.stops (c.opened.ensures.holds tells) (c.in_err-graph.ensures.opens tells))
 
 pub returns-in_err-project-clause-commits : goal.returns-in_err-project-clause-commits
 returns-in_err-project-clause-commits g c = λ tells.
     let old = g.S.Site.world c.args.site.now in
     let new = g.S.Site.world c.read.new.site in
     let unread = c.in_err-project.field-0.0 in
-    subst (JustCommits c.args.rules.now old new) (sym (err_is c.from_residual-in_err-project.result (stop_of unread) c.from_residual-in_err-project.ensures.1)) (unread_commits c.args.rules.now old new unread (subst (λ (w : World). IsJustOpened old.store w.store) (sym (c.read.ensures.same tells)) (c.in_ok-graph.ensures.opens tells)))
+    subst (JustCommits c.args.rules.now old new) (sym (err_is c.from_residual-in_err-project.result (stop_of unread) c.from_residual-in_err-project.ensures.1)) (unread_commits c.args.rules.now old new unread (subst (HoldsOn old) (sym (c.read.ensures.same tells)) (c.opened.ensures.holds tells)) (subst (λ (w : World). IsJustOpened old.store w.store) (sym (c.read.ensures.same tells)) (c.in_ok-graph.ensures.opens tells)))
 
 pub returns-clause-commits : goal.returns-clause-commits
 returns-clause-commits g c = λ tells.

@@ -21,7 +21,7 @@ use Rattle.tup_update.proofs.Begun.{ran_none, ran_all_of, stopped_runs}
 use Rattle.tup_update.specs.Holding.{holding}
 use Rattle.tup_update.proofs.Ending.{vanished_are}
 use Rattle.tup_update.proofs.Known.{given_up, none_left}
-use Rattle.tup_update.proofs.Storing.{bad_commits, claimed_reads, given_reads, halt_commits, late_commits, none_to_give, none_to_own, read_as, stands_on}
+use Rattle.tup_update.proofs.Storing.{bad_commits, claimed_reads, first_commits, given_reads, halt_commits, last_commits, late_commits, none_to_give, none_to_own, read_as, stand_reads, stands_on, store_of}
 use Rattle.tup_ledger.specs.Sources.{HaveNoFiles}
 use Rattle.tup_update.specs.Parts.{StopsMaking}
 use Rattle.tup_update.proofs.Handed.{err_if}
@@ -524,7 +524,8 @@ finish-requires-clause-gone g c κs = λ lives tells.
 pub returns-in_err-plan-clause-commits : goal.returns-in_err-plan-clause-commits
 returns-in_err-plan-clause-commits g c = λ tells.
     let project = c.args.self.now in
-    subst (HasCommits project.rules project.owned c.args.graph.now (g.S.Site.world c.args.site.now).store) (sym (err_is c.from_residual.result (Outside Memory) c.from_residual.ensures.1)) tt
+    subst (HasCommits project.rules project.owned c.args.graph.now (g.S.Site.world c.args.site.now).store) (sym (err_is c.from_residual.result (Outside Memory) c.from_residual.ensures.1))
+    (inr (inr (inl (store_of c.args.graph.now (g.S.Site.world c.args.site.now).store (stand_reads g.S.Site.world g.S.Site.moment g.S.Site.left_since c.args.graph.now c.args.site.now (c.requires.stands tells)) c.requires.graph))))
 
 pub returns-in_err-prepare-clause-commits : goal.returns-in_err-prepare-clause-commits
 returns-in_err-prepare-clause-commits g c = λ tells.
@@ -532,7 +533,8 @@ returns-in_err-prepare-clause-commits g c = λ tells.
     let bytes = (g.S.Site.world c.prepare.new.site).store in
     let stop = c.in_err-prepare.field-0.0 in
     subst (HasCommits project.rules project.owned c.args.graph.now bytes) (sym (err_is c.from_residual-in_err-prepare.result stop c.from_residual-in_err-prepare.ensures.1))
-    (late_commits project.rules project.owned c.args.graph.now bytes stop c.in_err-prepare.ensures.late)
+    (late_commits project.rules project.owned c.args.graph.now bytes stop c.in_err-prepare.ensures.late
+    (first_commits project.rules project.owned c.args.graph.now c.in_ok-plan.plan.outputs (g.S.Site.world c.prepare.new.site) c.in_ok-plan.ensures.outputs (c.prepare.ensures.either tells)))
 
 pub returns-in_err-bad-clause-commits : goal.returns-in_err-bad-clause-commits
 returns-in_err-bad-clause-commits g c = λ tells.
@@ -563,7 +565,9 @@ returns-in_err-finish-in-None-clause-commits g c = λ tells.
     let bytes = (g.S.Site.world c.finish.new.site).store in
     let stop = c.in_err-finish-in-None.field-0.0 in
     subst (HasCommits project.rules project.owned c.args.graph.now bytes) (sym (err_is c.from_residual-in_err-finish-in-None.result stop c.from_residual-in_err-finish-in-None.ensures.1))
-    (late_commits project.rules project.owned c.args.graph.now bytes stop c.in_err-finish-in-None.ensures.late)
+    (late_commits project.rules project.owned c.args.graph.now bytes stop c.in_err-finish-in-None.ensures.late
+    (last_commits project.rules project.owned c.args.graph.now c.prepare.new.graph c.in_ok-plan.plan.outputs c.as_slice.result.now (g.S.Site.world c.finish.new.site) c.in_ok-prepare.ensures.owns c.in_ok-plan.ensures.outputs
+    (c.as_slice.ensures ∙ c.in_ok-plan.ensures.left) (c.finish.ensures.either tells)))
 
 pub returns-clause-commits : goal.returns-clause-commits
 returns-clause-commits g c = λ tells.
