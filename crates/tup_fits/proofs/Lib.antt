@@ -2,4 +2,4 @@ pub mod Tupfiles
 pub mod Fitting
 pub mod Planned
 pub mod Ordered
-pub mod Begun
+pub mod Beginning

@@ -7,4 +7,4 @@ pub mod Opened
 pub mod Runs
 pub mod Stays
 pub mod Told
-pub mod Start
+pub mod Starting

@@ -1,4 +1,4 @@
-use Rattle.tup_fits.proofs.Begun.{begun_kept}
+use Rattle.tup_fits.proofs.Beginning.{begun_kept}
 use Rattle.tup_fits.proofs.begun.beginnings_are_kept.Goals as goal
 
 pub returns : goal.returns
