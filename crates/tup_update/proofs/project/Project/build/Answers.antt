@@ -1,5 +1,4 @@
 use Rattle.std.proofs.Common.{ℕ, List, ◌++◌, IfSome, Some, Ok, Err, ⊎_elim, inl, inr, sym, ◌∙◌, ap, subst}
-use Rattle.tup_path.specs.Name.{Names}
 use Rattle.tup_ledger.specs.Ascending.{ascending}
 use Rattle.tup_ledger.specs.Owned.{owned_in}
 use Rattle.tup_update.specs.Holding.{Lists}
