@@ -24,7 +24,7 @@ finish_denied-requires-clause-means g c = λ was tells means.
     let rule = c.args.command.now.rule.now in
     let told = c.args.command.now.told.given in
     denied_means c.args.plan.now (g.W.Shared.entries c.args.seat.now) (g.W.Shared.entries c.ask.new.seat) rule (g.W.Shared.number_of c.args.seat.now) c.args.text.now told c.requires.runs c.ask.result c.in-Ok-Denied.verdict
-    (c.in-Ok-Denied.is ∙ ap Ok c.in-Ok-Denied.field-0-is) c.ask.ensures.adds g.W.Shared.Runner.next (g.W.Shared.known c.ask.new.seat)
+    (c.in-Ok-Denied.is ∙ ap Ok c.in-Ok-Denied.field-0-is) c.ask.ensures.adds g.W.Runner.Runner.next (g.W.Shared.known c.ask.new.seat)
     (λ text content has. c.ask.ensures.known tells content (c.requires.known tells text content has)) (c.requires.means means) was
 
 pub returns-in-Ok-Content-clause-plan : goal.returns-in-Ok-Content-clause-plan

@@ -15,5 +15,5 @@ ask-over-requires-clause-known g c κs within = λ tells. subst (AreKnown (g.W.S
 pub ask-over-requires-clause-means : goal.ask-over-requires-clause-means
 ask-over-requires-clause-means g c κs within = λ tells.
     let rule = c.args.command.now.rule.now in
-    subst (λ (told : Asks). AsksAfter (g.W.Shared.Runner.next rule.dir rule.text) told c.in-Some.text) (sym c.take_denied.ensures.given)
+    subst (λ (told : Asks). AsksAfter (g.W.Runner.Runner.next rule.dir rule.text) told c.in-Some.text) (sym c.take_denied.ensures.given)
     (c.requires.next c.in-Some.text (sym c.take_denied.ensures.gives ∙ c.in-Some.is) tells)

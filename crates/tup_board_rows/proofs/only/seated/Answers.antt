@@ -1,3 +1,4 @@
+use denote.Param.Send.{sendable}
 use Rattle.std.proofs.Common.{List, None, sym, ap, ◌∙◌}
 use Rattle.tup_site.specs.declared.memory.MemSite.{MemSite}
 use Rattle.tup_core.specs.declared.event.CoreEvent.{CoreEvent}
@@ -12,3 +13,6 @@ worked-came-requires-clause-plan c κs = c.requires.plan ∙ sym (ap plan_of c.n
 pub worked-came-requires-clause-free : goal.worked-came-requires-clause-free
 worked-came-requires-clause-free c κs =
     ap (λ (events : List CoreEvent). runs_after None (entries_at c.new-seat.result.number events)) (ap (λ (b : BoardState MemSite). b.history) c.new-seat.ensures.board ∙ c.requires.none)
+
+pub worked-came-requires-send-W-Seat : goal.worked-came-requires-send-W-Seat
+worked-came-requires-send-W-Seat c κs = search sendable

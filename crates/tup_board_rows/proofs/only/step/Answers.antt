@@ -1,4 +1,4 @@
-use Rattle.std.proofs.Common.{◌≡◌, sym, ◌∙◌, subst}
+use Rattle.std.proofs.Common.{Err, sym, ap, ◌∙◌, subst}
 use Rattle.tup_runner.specs.Next.{Asks}
 use Rattle.tup_runner.specs.Report.{asks_of}
 use Rattle.tup_board.specs.Calls.{AreKnown}
@@ -26,4 +26,4 @@ pub ask_next-requires-clause-known : goal.ask_next-requires-clause-known
 ask_next-requires-clause-known g c κs within = λ tells. subst (AreKnown (g.W.Shared.known c.args.seat.now)) (sym c.reported.ensures.given) (c.requires.known tells)
 
 pub ask_next-requires-clause-next : goal.ask_next-requires-clause-next
-ask_next-requires-clause-next g c κs within = c.reported.ensures.next c.in-Err-Denied.is
+ask_next-requires-clause-next g c κs within = c.reported.ensures.next (c.in-Err-Denied.is ∙ ap Err c.in-Err-Denied.field-0-is)
