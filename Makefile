@@ -6,7 +6,7 @@ SHIM = crates/tup_shim/out/tup_shim
 MAN = $(DESTDIR)$(PREFIX)/share/man/man1/tup.1
 VERSION = $(shell sed -n 's/^const VERSION: &str = "\(.*\)";/\1/p' crates/tup/src/main.rt)
 
-.PHONY: help build runners demo test edits try shell killed figures fmt times install uninstall clean
+.PHONY: help build runners demo test edits try shell killed model figures fmt times install uninstall clean
 
 help:
 	@echo 'make build      proves and builds the program, and has it print its version'
@@ -16,6 +16,7 @@ help:
 	@echo 'make try        the last part of the gate alone: the program over small projects, full disks, damaged stores'
 	@echo 'make shell      runs shell commands under tup_sh, builds examples/c and runs hostile commands (passed over where there is no strace)'
 	@echo 'make killed     fails and kills each system call of an update in turn, and what else only strace can show (ten minutes)'
+	@echo 'make model      compares the programs with a second reading of the language, in Python, over rows and projects drawn by lot'
 	@echo 'make figures    tells what opening a graph, noting a scan and ending a run cost, over graphs of up to 65,536 rules'
 	@echo 'make install    builds it and puts it at $(PREFIX)/bin/tup, tup_sh and tup_shim beside it, its page where `man tup` finds it'
 	@echo 'make uninstall  takes them away'
@@ -53,6 +54,16 @@ killed: build
 	sh tests/calls.sh $(TUP)
 	sh tests/together.sh $(TUP)
 	sh tests/killed.sh $(TUP)
+
+# SEED=2 draws others, COUNT=10 ten times as many. The programs of rows are built, and so proved, first.
+model: build runners
+	for crate in language core board top; do (cd crates/tup_$${crate}_rows && rt run) || exit 1; done
+	python3 tests/model/compare.py rows crates language=crates/tup_language_rows/out/tup_language_rows \
+	    commands=crates/tup_core_rows/out/tup_core_rows board=crates/tup_board_rows/out/tup_board_rows \
+	    top=crates/tup_top_rows/out/tup_top_rows
+	python3 tests/model/compare.py folders $(TUP)
+	python3 tests/model/compare.py folders $(TUP) --proc $(abspath $(SHIM))
+	python3 tests/model/compare.py killed $(TUP)
 
 # In microseconds of a processor, over a store in memory.
 figures:

@@ -1,6 +1,8 @@
-//! What a board leaves of a kept site, whenever a crash comes.
+//! What a clearing and a board leave of a kept site, whenever a crash comes.
 #![tactic(auto)]
 
+mod clearing;
 mod laws;
 
+pub use clearing::{clearings_keep_sites, unmade_are_not_asked};
 pub use laws::{boards_keep_sites, boards_keep_sources, boards_leave_kept};

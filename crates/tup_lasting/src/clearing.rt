@@ -1,0 +1,49 @@
+//! What a clearing leaves of a kept site.
+ghost use Rattle.std.specs.Prelude.{◌≡◌, ℕ, false, List, Ok, Option, Some, IsTrue};
+ghost use Rattle.std.specs.FinMap as finite;
+ghost use Rattle.tup_path.specs.Name.{Names, Content};
+ghost use Rattle.tup_path.specs.Tree.{Tree};
+ghost use Rattle.tup_site.specs.World.{World};
+ghost use Rattle.tup_stamp.specs.declared.Stamp.{Stamp};
+ghost use Rattle.tup_rule.specs.Rule.{among};
+ghost use Rattle.tup_rule.specs.declared.rule.Rule.{Rule};
+ghost use Rattle.tup_runner.specs.Next.{Next};
+ghost use Rattle.tup_record.specs.declared.run.RunRecord.{RunRecord};
+ghost use Rattle.tup_whole.specs.Project.{ComeTo};
+ghost use Rattle.tup_graph.specs.Graph.{GraphState, source};
+ghost use Rattle.tup_graph.specs.Kept.{Asked, IsKept, IsKeptSite, IsUnflagged};
+ghost use Rattle.tup_graph.specs.Reach.{stamp_in};
+ghost use Rattle.tup_graph.specs.Records.{Language};
+ghost use Rattle.tup_kept.specs.Held.{Held};
+ghost use Rattle.tup_remains.specs.Over.{StandsOver};
+ghost use Rattle.tup_stale.specs.Crash.{ClearStep, LeavesBy};
+ghost use Rattle.tup_stale.specs.Unmade.{standing, unmade};
+
+use tup_site::Site;
+
+/// A law: a clearing of the owned paths that no rule makes any more keeps a kept site, whatever it answers, at every moment,
+/// where no rule that isn't flagged asked one of them.
+pub fn clearings_keep_sites<S: Site>(site: &S)
+    ensures { (next : Next) (language : Language) (known : List Content) (first : World)
+        (since : ℕ) (graph : Held) (new : S) → IsTrue S.tells
+        → StandsOver S.Site.own next language known first since graph site.now
+        → ((number : ℕ) (rule : Rule) (run : RunRecord) (path : Names) (given : Option Stamp)
+        → IsUnflagged graph.nodes number rule → finite.get graph.nodes.runs number ≡ Some run
+        → Asked rule run path given → among path (unmade graph.nodes) ≡ false)
+        → LeavesBy S.moment S.left_since site.now new
+        (ClearStep graph.nodes (unmade graph.nodes)
+        (standing (S.world site.now).tree (unmade graph.nodes)) (S.world site.now).tree)
+        → IsKeptSite next language known first (S.left_since new since) }
+{
+    let _ = site;
+}
+
+/// A law: so it is in a kept graph whose rules are those to which the sources come that it sees.
+pub fn unmade_are_not_asked()
+    ensures { (next : Next) (language : Language) (known : List Content) (g : GraphState)
+        (sources : Tree) (number : ℕ) (rule : Rule) (run : RunRecord) (path : Names)
+        (given : Option Stamp) → IsKept next language known g
+        → ComeTo sources (Ok g.rules) → ((q : Names) → source g q ≡ stamp_in sources q)
+        → IsUnflagged g number rule → finite.get g.runs number ≡ Some run
+        → Asked rule run path given → among path (unmade g) ≡ false }
+{}

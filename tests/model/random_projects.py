@@ -1,0 +1,137 @@
+"""Projects drawn by lot, edited and updated again and again: the calls that a user makes, with what the model says of each."""
+from drawn import Drawn, grown
+from language import show
+from project import World
+from random_rows import path_of, row
+
+FILES = ['a.c', 'b.c', 'h.h', 'lib/l.c', 'lib/m.h', 'src/m.c', 'src/n.c', 'lib/x/y.c', 'k']
+FOLDERS = ['', 'lib', 'src', 'lib/x']
+CONTENTS = [b'', b'int a;\n', b'#include "h.h"\nx\n', b'#include "../h.h"\ny\n', b'#include "../lib/m.h"\n#include "../h.h"\nz', b'1',
+            b'#include "k"\n', b'#include "l.o"\n', b'q\n#include "none"\n']
+OUTPUTS = ['o1', 'o2', 'p.o', 'all', 'x.o', 'g.h', 'log']
+IN_THE_WAY = ['o1/z', 'lib/o2', 'src/all/q', 'x.o']
+CONFIGS = [b'CONFIG_S=1\n', b'CONFIG_S=two\n', b'# CONFIG_S is not set\n', b'', b'S=1\n']
+SHARED = [b'!m = |> ^ M %f^ cp %f %o |> m.o\n', b'V = $(TUP_CWD)/v\n', b'V = r\n!m = | h.h |> incl %f %o |> %B.m\n']
+
+
+def tupfile_line(drawn, folder):
+    one_of, up = drawn.one_of, '../' * len([name for name in folder.split('/') if name])
+    gift = one_of(['', ' {b}', ' %s<g>' % up])
+    to = one_of(OUTPUTS) + gift
+    forms = [
+        (22, lambda: 'foreach *.c%s |> %s %%f %%o |> %%B.o%s' % (one_of(['', '', ' | %sh.h' % up, ' | %s<g>' % up]), one_of(['cp', 'incl', 'incl']), gift)),
+        (12, lambda: '{b} |> cat %f > %o |> ' + one_of(OUTPUTS)),
+        (10, lambda: up + '<g> |> ^ JOIN %o^ cat %<g> > %o |> ' + one_of(OUTPUTS)),
+        (10, lambda: one_of(['*.o', '*.c', '*.h', 'lib/*.o', '../*.o', '../lib/*.c', 'src/*.o']) + ' |> cat %f > %o |> ' + to),
+        (8, lambda: '|> echo ' + one_of(['@(S)', '$(V)', 'x y', '%o', '%d', '$(TUP_CWD)']) + ' > %o |> ' + to),
+        (6, lambda: '|> ifexists ' + one_of(['k', 'h.h', '../k', 'none', 'o1', 'l.o', '%o']) + ' ' + one_of(['a.c', 'h.h', 'k', 'l.c', 'm.c']) + ' %o |> ' + to),
+        (5, lambda: one_of(['a.c', 'l.c', 'm.c', '*.c']) + ' |> fail ' + one_of(['1', '3', '0', '255']) + ' |> ' + to),
+        (6, lambda: '|> ' + one_of(['cat a.c h.h > %o', 'cp k %o', 'cp o1 %o', 'cat o1 o2 > %o', 'cp ' + up + 'lib/l.o %o', 'echo a > o1 && cat o1 o1 > %o',
+                                    'echo 1 > %o && cp %o o2', 'cp a.c %o && fail 2', 'echo z > none']) + ' |> ' + one_of(OUTPUTS) + one_of(['', ' | o2'])),
+        (5, lambda: 'k |> !m |> '),
+        (5, lambda: one_of(['o1', 'p.o', 'x.o', 'all']) + ' |> cp %f %o |> ' + to),
+    ]
+    if drawn.is_drawn(.11):
+        rule = lambda: tupfile_line(drawn, folder)
+        return one_of(['include_rules', one_of(['ifdef S', 'ifndef S', 'ifeq (@(S),1)']) + '\n' + rule() + '\n' + one_of(['else\n' + rule() + '\n', '']) + 'endif',
+                       one_of(['V = v', 'V += w', 'V := @(S)$(V)']), one_of(['nonsense', 'error stop', 'include none', '!m = |> cp %f %o |> m.o'])])
+    return ': ' + drawn.lot.choices([form for _, form in forms], [weight for weight, _ in forms])[0]()
+
+
+class Player:
+    """Somebody who edits a project and calls `tup`; each deed is told to `does`, which carries it out."""
+
+    def __init__(self, lot, does):
+        self.drawn, self.lot, self.does, self.world = Drawn(lot), lot, does, World()
+
+    def begin(self):
+        if self.drawn.is_drawn(.95):
+            self.world.call(['init'])
+        self.does.begin(self.world.owned is not None)
+        for path in FILES:
+            if self.drawn.is_drawn(.6):
+                self.write(path_of(path), self.lot.choice(CONTENTS))
+        if self.drawn.is_drawn(.5):
+            self.write((b'tup.config',), self.lot.choice(CONFIGS[:4]))
+        if self.drawn.is_drawn(.4):
+            self.write((b'Tuprules.tup',), self.lot.choice(SHARED))
+        for folder in FOLDERS:
+            if self.drawn.is_drawn(.6):
+                self.write_tupfile(folder)
+
+    def write(self, path, content):
+        tree = {**self.world.tree, path: content}
+        if not any(len(other) > len(path) and other[:len(path)] == path or len(other) < len(path) and path[:len(other)] == other for other in tree):
+            self.world.tree = tree
+            self.does.write(path, content)
+
+    def write_tupfile(self, folder):
+        path = path_of(folder + '/Tupfile') if folder else (b'Tupfile',)
+
+        def is_refused(content):
+            world = self.world.copy()
+            world.owned = world.owned or set()
+            world.tree[path] = content
+            status, lines = world.call(['upd'])
+            return lines is None or status == 5 or status == 1 and self.lot.random() < .75
+        self.write(path, grown(self.drawn, lambda: tupfile_line(self.drawn, folder).encode() + b'\n', is_refused, self.lot.randint(0, 4), keep=.06))
+
+    def edit(self):
+        drawn, owned = self.lot.random(), sorted(self.world.owned or ())
+        if drawn < .35:
+            self.write(path_of(self.lot.choice(FILES)), self.lot.choice(CONTENTS))
+        elif drawn < .5 and self.world.tree:
+            path = self.lot.choice(sorted(self.world.tree))
+            del self.world.tree[path]
+            self.does.delete(path)
+        elif drawn < .8:
+            self.write_tupfile(self.lot.choice(FOLDERS))
+        elif drawn < .88 and owned:
+            self.write(self.lot.choice(owned), b'mine\n')
+        elif drawn < .94:
+            self.write((b'tup.config',), self.lot.choice(CONFIGS))
+        else:
+            self.write(path_of(self.lot.choice(IN_THE_WAY)), b'new')
+
+    def play(self):
+        self.begin()
+        for turn in range(self.lot.randint(2, 6)):
+            for _ in range(self.lot.randint(0, 2) if turn else 0):
+                self.edit()
+            words = self.lot.choice([['upd'], ['upd'], ['upd'], [], ['verify'], ['init']])
+            before = self.world.copy()
+            status, lines = self.world.call(words)
+            if lines is None or not self.does.call(words, status, lines, before, self.world):
+                return
+
+
+class Rows:
+    """Puts each deed into a row."""
+
+    def __init__(self):
+        self.rows = []
+
+    def begin(self, has_begun):
+        self.rows.append(row('project' if has_begun else 'folder', [], ['ok']))
+
+    def write(self, path, content):
+        self.rows.append(row('write', [show(path), content], ['ok']))
+
+    def delete(self, path):
+        self.rows.append(row('delete', [show(path)], ['ok']))
+
+    def call(self, words, status, lines, before, world):
+        self.rows.append(row('tup', words, [str(status), lines]))
+        self.rows.append(row('begun', [], world.begun))
+        self.rows.append(row('store', [], [show(path) for path in sorted(world.owned or ())]))
+        for path in sorted(set(world.tree) | (world.owned or set())):
+            held = world.tree.get(path)
+            self.rows.append(row('file', [show(path)], ['none'] if held is None else ['holds', held]))
+        return True
+
+
+def project_call_rows(lot, count):
+    for _ in range(count):
+        rows = Rows()
+        Player(lot, rows).play()
+        yield from rows.rows

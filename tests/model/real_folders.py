@@ -1,0 +1,95 @@
+"""The same deeds in a real folder, with the program itself; and what it leaves where it is killed on the way."""
+import os
+import shutil
+import subprocess
+import tempfile
+import time
+
+from commands import outputs_of
+from language import Project, show
+
+
+def tree_of(top):
+    """The visible files below a folder."""
+    tree = {}
+    for folder, folders, names in os.walk(os.fsencode(top)):
+        folders[:] = [name for name in folders if not name.startswith(b'.')]
+        for name in names:
+            if not name.startswith(b'.'):
+                place = os.path.join(folder, name)
+                with open(place, 'rb') as file:
+                    tree[tuple(os.path.relpath(place, os.fsencode(top)).split(b'/'))] = file.read()
+    return tree
+
+
+class Folder:
+    """A project in a folder of its own; `problems` are the calls that came out otherwise."""
+
+    def __init__(self, program, options, lot, kills, problems):
+        self.program, self.options, self.lot = os.path.abspath(program), options, lot
+        self.kills, self.problems = kills, problems
+        self.top, self.calls, self.killed = tempfile.mkdtemp(), 0, 0
+
+    def place(self, path):
+        return os.path.join(os.fsencode(self.top), *path)
+
+    def start(self, words):
+        """A call, with the options behind its words where it is an update."""
+        options = self.options if words in ([], ['upd']) else []
+        return subprocess.Popen([self.program, *words, *options], cwd=self.top, stdout=subprocess.PIPE,
+                                stderr=subprocess.DEVNULL)
+
+    def run(self, words):
+        process = self.start(words)
+        lines, _ = process.communicate()
+        return process.returncode, lines
+
+    def begin(self, has_begun):
+        if has_begun:
+            self.run(['init'])
+
+    def write(self, path, content):
+        if os.path.isdir(self.place(path)):
+            shutil.rmtree(self.place(path))  # it has empty folders alone
+        os.makedirs(os.path.dirname(self.place(path)), exist_ok=True)
+        with open(self.place(path), 'wb') as file:
+            file.write(content)
+
+    def delete(self, path):
+        os.remove(self.place(path))
+        for depth in range(len(path) - 1, 0, -1):
+            if not os.listdir(self.place(path[:depth])):
+                os.rmdir(self.place(path[:depth]))
+
+    def call(self, words, status, lines, before, world):
+        was_killed = self.kills and words != ['verify'] and status in (0, 1) and before.owned is not None and self.kill(words, before)
+        found_status, found_lines = self.run(words)
+        self.calls += 1
+        tree = tree_of(self.top)
+        if was_killed and status == 1:
+            # what the killed one made of rules behind the bad one's, or what an edit left at an output, stays
+            owned = before.owned | outputs_of(Project(before.sources()).rules())
+            same_tree = {path: tree[path] for path in tree if path not in owned} == before.sources()
+        else:
+            same_tree = tree == world.tree
+        if found_status != status or not was_killed and found_lines != lines or not same_tree:
+            differ = [show(path).decode() for path in sorted(set(tree) | set(world.tree)) if tree.get(path) != world.tree.get(path)]
+            self.problems.append((self.top, words, (status, lines), (found_status, found_lines), differ))
+            return False
+        return not (was_killed and status == 1)
+
+    def kill(self, words, before):
+        """Ends a call at some moment; no source may be lost by that."""
+        process = self.start(words)
+        time.sleep(self.lot.random() * .006)
+        process.kill()
+        process.communicate()
+        self.killed += 1
+        tree = tree_of(self.top)
+        lost = [show(path).decode() for path, content in before.sources().items() if tree.get(path) != content]
+        if lost:
+            self.problems.append((self.top, words, 'killed', 'sources lost', lost))
+        return True
+
+    def remove(self):
+        shutil.rmtree(self.top)
