@@ -58,12 +58,12 @@ killed: build
 # SEED=2 draws others, COUNT=10 ten times as many. The programs of rows are built, and so proved, first.
 model: build runners
 	for crate in language core board top; do (cd crates/tup_$${crate}_rows && rt run) || exit 1; done
-	python3 tests/model/compare.py rows crates language=crates/tup_language_rows/out/tup_language_rows \
+	python3 -B tests/model/compare.py rows crates language=crates/tup_language_rows/out/tup_language_rows \
 	    commands=crates/tup_core_rows/out/tup_core_rows board=crates/tup_board_rows/out/tup_board_rows \
 	    top=crates/tup_top_rows/out/tup_top_rows
-	python3 tests/model/compare.py folders $(TUP)
-	python3 tests/model/compare.py folders $(TUP) --proc $(abspath $(SHIM))
-	python3 tests/model/compare.py killed $(TUP)
+	python3 -B tests/model/compare.py folders $(TUP)
+	python3 -B tests/model/compare.py folders $(TUP) --proc $(abspath $(SHIM))
+	python3 -B tests/model/compare.py killed $(TUP)
 
 # In microseconds of a processor, over a store in memory.
 figures:

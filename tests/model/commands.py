@@ -170,8 +170,8 @@ def clean_build(rules, sources, to_first_bad=False):
     tree, verdicts, taken = dict(sources), [None] * len(rules), []
     waits, generated = producers(rules), outputs_of(rules)
     while True:
-        ready = (at for at, given in enumerate(verdicts) if not given and all(verdicts[other] == ('good',) for other in waits[at]))
-        at = next(ready, None)
+        is_ready = lambda at: not verdicts[at] and all(verdicts[other] == ('good',) for other in waits[at])
+        at = next(filter(is_ready, range(len(rules))), None)
         if at is None:
             return tree, verdicts, taken
         verdicts[at], files = verdict(rules[at], generated, tree)

@@ -1,7 +1,8 @@
 """Compares programs with the model over what is drawn by lot, and tells what differs.
 
-    compare.py rows FOLDER NAME=PROGRAM ..   the programs of rows, each in a copy of its crate's data: language, commands, board, top
-    compare.py folders PROGRAM WORD ..       `tup`, with these words behind the others, in real folders
+    compare.py rows CRATES NAME=PROGRAM ..   programs of rows, each in a copy of its crate's data; a NAME is language,
+                                             commands, board or top
+    compare.py folders PROGRAM WORD ..       `tup`, with these words behind those of an update, in real folders
     compare.py killed PROGRAM WORD ..        the same, where updates are killed on the way
 
 SEED and COUNT are taken from the environment: 1, and 1 for so many rows as take some seconds.
@@ -14,12 +15,15 @@ import sys
 import tempfile
 
 from random_projects import Player, project_call_rows
-from random_rows import (board_rows, clean_build_rows, glob_rows, machine_rows, project_rows, reading_rows, small_command_rows)
+from random_rows import glob_rows, project_rows, reading_rows
+from random_runs import board_rows, clean_build_rows, machine_rows, small_command_rows
 from real_folders import Folder
 
 ROWS = {
-    'language': ('tup_language_rows', {'glob': (glob_rows, 5000), 'reader': (reading_rows, 2000), 'project': (project_rows, 1000)}),
-    'commands': ('tup_core_rows', {'mini': (small_command_rows, 10000), 'clean': (clean_build_rows, 10000), 'core': (machine_rows, 5000)}),
+    'language': ('tup_language_rows', {
+        'glob': (glob_rows, 5000), 'reader': (reading_rows, 2000), 'project': (project_rows, 1000)}),
+    'commands': ('tup_core_rows', {
+        'mini': (small_command_rows, 10000), 'clean': (clean_build_rows, 10000), 'core': (machine_rows, 5000)}),
     'board': ('tup_board_rows', {'board': (board_rows, 200)}),
     'top': ('tup_top_rows', {'tup': (project_call_rows, 500)}),
 }

@@ -6,17 +6,17 @@ SHOWN = ['%B.o', '%b.o', '%g.z', '%B-%e', '%d.o', '%O.d', '%b', '%B_1', '%%x', '
 GLOBS = ['*', '*.c', '?.c', '[ab].c', '[^a].c', '*.[ch]', 'd/*', '*_*.?', 'd/*.x', './*.c', '[]a]*', '*b*', '[a-b]*.c',
          '*.*.*', '??', '*.o', '[!-~]*', '*é*', '[d-e-]*']
 OPEN_GLOBS = ['[', '[a', 'a[^', 'd/[]', '*[']
-WRONG_WORDS = ['../x', '/a.c', '.h', 'd', 'd/', 'none', 'd/none', 'a%', '%q', '%f', 'a.c%%', '', '^x', '{', '{}', '<', '<>',
-               'd/<', 'x}', '..', '.', 'é/', 'tup.config', 'Tuprules.tup', 'Tupfile', 'a b']
+WRONG_WORDS = ['../x', '/a.c', '.h', 'd', 'd/', 'none', 'd/none', 'a%', '%q', '%f', 'a.c%%', '', '^x', '{', '{}', '<',
+               '<>', 'd/<', 'x}', '..', '.', 'é/', 'tup.config', 'Tuprules.tup', 'Tupfile', 'a b']
 FLAGS = ['%f', '%b', '%B', '%e', '%o', '%O', '%d', '%g', '%i', '%%']
 WRONG_FLAGS = ['%<x>', '%<y>', '%<z>', '%q', '%', '%<', '%<x', '%.']
 NAMES = ['A', 'B', 'C', 'D_1', 'CFLAGS']
-WRONG_VARIABLES = ['$(', '@(', '$(A', '$()', '$(A-B)', '$(CONFIG_A)', '$(TUP_CWD)', '@(CONFIG_A)', '@(TUP_CWD)', '$', '@',
-                   '$A', '$(A$(B)', '($(A))', '$( A)']
+WRONG_VARIABLES = ['$(', '@(', '$(A', '$()', '$(A-B)', '$(CONFIG_A)', '$(TUP_CWD)', '@(CONFIG_A)', '@(TUP_CWD)', '$',
+                   '@', '$A', '$(A$(B)', '($(A))', '$( A)']
 GROUPS = ['<x>', 'd/<x>', '<y>', '../<x>', './<z>', '<z>']
-OTHERS = ['error bad $(A)', 'error', 'include inc', 'include d/inc2', 'include $(A)', 'include none', 'include', 'include_rules',
-          'include_rules x', 'nonsense', '# c', '#x \\', '', ' \t', 'else', 'endif', 'else x', 'endif x', 'include ../x',
-          'foo: bar', '\\']
+OTHERS = ['error bad $(A)', 'error', 'include inc', 'include d/inc2', 'include $(A)', 'include none', 'include ../x',
+          'include', 'include_rules', 'include_rules x', 'nonsense', '# c', '#x \\', '', ' \t', 'else', 'endif',
+          'else x', 'endif x', 'foo: bar', '\\']
 
 
 class Drawn:
@@ -94,7 +94,8 @@ class Drawn:
         return '!' + name + '=' + self.spaced([''] + right)
 
     def value(self):
-        plain = ['a.c', 'b.c', '*.c', 'x', '-O2', 'a,b', '(', 'o', 'foreach', '|', '|>', 'é', '#', '%f', '{b}', '<x>', '^', '']
+        plain = ['a.c', 'b.c', '*.c', 'x', '-O2', 'a,b', '(', 'o', 'foreach', '|', '|>', 'é', '#', '%f', '{b}', '<x>',
+                 '^', '']
         return ' '.join(self.some(lambda: self.one_of(plain) if self.is_drawn(.6) else self.variable(), [0, 1, 2, 3]))
 
     def assignment(self):
@@ -108,7 +109,8 @@ class Drawn:
             return word + ' ' + self.one_of(NAMES * 5 + ['', 'A-B', 'A B', '$(A)'])
         side = lambda: self.one_of(['', 'a', 'x', self.variable(), ' a', 'a,b'])
         wrong = ['(a', 'a,b)', '(ab)', '', '(,', '()', '((a),(a))', '(a,a) x', '(a,$(A']
-        return word + self.one_of([' '] * 9 + ['  ', '\t', '']) + ('(%s,%s)' % (side(), side()) if self.is_drawn(.85) else self.one_of(wrong))
+        sides = '(%s,%s)' % (side(), side()) if self.is_drawn(.85) else self.one_of(wrong)
+        return word + self.one_of([' '] * 9 + ['  ', '\t', '']) + sides
 
     def lines(self, depth=0):
         """A line, or a whole conditional."""
@@ -134,8 +136,10 @@ class Drawn:
         """Once in a while without its last line feed, or with bytes that are no text."""
         if self.is_drawn(.2) and content.endswith(b'\n'):
             content = content[:-1]
-        at = len(content) // 2
-        return content[:at] + self.one_of([b'\xff', b'\xc3', b'\xed\xa0\x80']) + content[at:] if self.is_drawn(.01) else content
+        if self.is_drawn(.01):
+            at = len(content) // 2
+            content = content[:at] + self.one_of([b'\xff', b'\xc3', b'\xed\xa0\x80']) + content[at:]
+        return content
 
 
 def grown(drawn, lines_of, is_refused, count, keep=.02):

@@ -500,7 +500,8 @@ class Reading:
             if word[1:-1] not in self.bins:
                 raise Wrong('no such bin')
             return [(path, None) for path in sorted(self.bins[word[1:-1]])]
-        bare = {'folder': self.folder, 'inputs': [], 'order': [], 'outputs': [], 'groups': [], 'foreach': False, 'glob': None}
+        bare = {'folder': self.folder, 'inputs': [], 'order': [], 'outputs': [], 'groups': [], 'foreach': False,
+                'glob': None}
         text = b''.join(flagged(word, 'inputs', bare))
         if any(mark in last_name(text) for mark in b'*?['):
             return self.globbed(text)

@@ -1,41 +1,53 @@
-"""Projects drawn by lot, edited and updated again and again: the calls that a user makes, with what the model says of each."""
+"""Projects drawn by lot, edited and updated again and again: a user's calls, with what the model says of each."""
 from drawn import Drawn, grown
 from language import show
 from project import World
-from random_rows import path_of, row
+from random_rows import path_of, row, way_up
 
 FILES = ['a.c', 'b.c', 'h.h', 'lib/l.c', 'lib/m.h', 'src/m.c', 'src/n.c', 'lib/x/y.c', 'k']
 FOLDERS = ['', 'lib', 'src', 'lib/x']
-CONTENTS = [b'', b'int a;\n', b'#include "h.h"\nx\n', b'#include "../h.h"\ny\n', b'#include "../lib/m.h"\n#include "../h.h"\nz', b'1',
-            b'#include "k"\n', b'#include "l.o"\n', b'q\n#include "none"\n']
+CONTENTS = [b'', b'int a;\n', b'#include "h.h"\nx\n', b'#include "../h.h"\ny\n', b'1', b'#include "k"\n',
+            b'#include "../lib/m.h"\n#include "../h.h"\nz', b'#include "l.o"\n', b'q\n#include "none"\n']
+GLOBS = ['*.o', '*.c', '*.h', 'lib/*.o', '../*.o', '../lib/*.c', 'src/*.o']
 OUTPUTS = ['o1', 'o2', 'p.o', 'all', 'x.o', 'g.h', 'log']
 IN_THE_WAY = ['o1/z', 'lib/o2', 'src/all/q', 'x.o']
 CONFIGS = [b'CONFIG_S=1\n', b'CONFIG_S=two\n', b'# CONFIG_S is not set\n', b'', b'S=1\n']
 SHARED = [b'!m = |> ^ M %f^ cp %f %o |> m.o\n', b'V = $(TUP_CWD)/v\n', b'V = r\n!m = | h.h |> incl %f %o |> %B.m\n']
+COMMANDS = ['cat a.c h.h > %o', 'cp k %o', 'cp o1 %o', 'cat o1 o2 > %o', 'cp UPlib/l.o %o',
+            'echo a > o1 && cat o1 o1 > %o', 'echo 1 > %o && cp %o o2', 'cp a.c %o && fail 2', 'echo z > none']
+STATEMENTS = ['include_rules', 'V = v', 'V += w', 'V := @(S)$(V)', 'ifdef S\nRULE\nelse\nRULE\nendif', 'nonsense',
+              'ifndef S\nRULE\nendif', 'ifeq (@(S),1)\nRULE\nelse\nRULE\nendif', 'error stop', 'include none',
+              '!m = |> cp %f %o |> m.o']
 
 
 def tupfile_line(drawn, folder):
-    one_of, up = drawn.one_of, '../' * len([name for name in folder.split('/') if name])
-    gift = one_of(['', ' {b}', ' %s<g>' % up])
-    to = one_of(OUTPUTS) + gift
-    forms = [
-        (22, lambda: 'foreach *.c%s |> %s %%f %%o |> %%B.o%s' % (one_of(['', '', ' | %sh.h' % up, ' | %s<g>' % up]), one_of(['cp', 'incl', 'incl']), gift)),
-        (12, lambda: '{b} |> cat %f > %o |> ' + one_of(OUTPUTS)),
-        (10, lambda: up + '<g> |> ^ JOIN %o^ cat %<g> > %o |> ' + one_of(OUTPUTS)),
-        (10, lambda: one_of(['*.o', '*.c', '*.h', 'lib/*.o', '../*.o', '../lib/*.c', 'src/*.o']) + ' |> cat %f > %o |> ' + to),
-        (8, lambda: '|> echo ' + one_of(['@(S)', '$(V)', 'x y', '%o', '%d', '$(TUP_CWD)']) + ' > %o |> ' + to),
-        (6, lambda: '|> ifexists ' + one_of(['k', 'h.h', '../k', 'none', 'o1', 'l.o', '%o']) + ' ' + one_of(['a.c', 'h.h', 'k', 'l.c', 'm.c']) + ' %o |> ' + to),
-        (5, lambda: one_of(['a.c', 'l.c', 'm.c', '*.c']) + ' |> fail ' + one_of(['1', '3', '0', '255']) + ' |> ' + to),
-        (6, lambda: '|> ' + one_of(['cat a.c h.h > %o', 'cp k %o', 'cp o1 %o', 'cat o1 o2 > %o', 'cp ' + up + 'lib/l.o %o', 'echo a > o1 && cat o1 o1 > %o',
-                                    'echo 1 > %o && cp %o o2', 'cp a.c %o && fail 2', 'echo z > none']) + ' |> ' + one_of(OUTPUTS) + one_of(['', ' | o2'])),
-        (5, lambda: 'k |> !m |> '),
-        (5, lambda: one_of(['o1', 'p.o', 'x.o', 'all']) + ' |> cp %f %o |> ' + to),
-    ]
+    one_of, up = drawn.one_of, way_up(folder)
     if drawn.is_drawn(.11):
-        rule = lambda: tupfile_line(drawn, folder)
-        return one_of(['include_rules', one_of(['ifdef S', 'ifndef S', 'ifeq (@(S),1)']) + '\n' + rule() + '\n' + one_of(['else\n' + rule() + '\n', '']) + 'endif',
-                       one_of(['V = v', 'V += w', 'V := @(S)$(V)']), one_of(['nonsense', 'error stop', 'include none', '!m = |> cp %f %o |> m.o'])])
-    return ': ' + drawn.lot.choices([form for _, form in forms], [weight for weight, _ in forms])[0]()
+        line = one_of(STATEMENTS)
+        while 'RULE' in line:
+            line = line.replace('RULE', tupfile_rule(drawn, up), 1)
+        return line
+    return tupfile_rule(drawn, up)
+
+
+def tupfile_rule(drawn, up):
+    one_of = drawn.one_of
+    out, gift = one_of(OUTPUTS), one_of(['', ' {b}', ' %s<g>' % up])
+    forms = [
+        (22, 'foreach *.c%s |> %s %%f %%o |> %%B.o%s' % (one_of(['', '', ' | %sh.h' % up, ' | %s<g>' % up]),
+                                                        one_of(['cp', 'incl', 'incl']), gift)),
+        (12, '{b} |> cat %f > %o |> ' + out),
+        (10, up + '<g> |> ^ JOIN %o^ cat %<g> > %o |> ' + out),
+        (10, one_of(GLOBS) + ' |> cat %f > %o |> ' + out + gift),
+        (8, '|> echo ' + one_of(['@(S)', '$(V)', 'x y', '%o', '%d', '$(TUP_CWD)']) + ' > %o |> ' + out + gift),
+        (6, '|> ifexists %s %s %%o |> %s%s' % (one_of(['k', 'h.h', '../k', 'none', 'o1', 'l.o', '%o']),
+                                              one_of(['a.c', 'h.h', 'k', 'l.c', 'm.c']), out, gift)),
+        (5, one_of(['a.c', 'l.c', 'm.c', '*.c']) + ' |> fail ' + one_of(['1', '3', '0', '255']) + ' |> ' + out + gift),
+        (6, '|> ' + one_of(COMMANDS).replace('UP', up) + ' |> ' + out + one_of(['', ' | o2'])),
+        (5, 'k |> !m |> '),
+        (5, one_of(['o1', 'p.o', 'x.o', 'all']) + ' |> cp %f %o |> ' + out + gift),
+    ]
+    return ': ' + drawn.lot.choices([form for _, form in forms], [weight for weight, _ in forms])[0]
 
 
 class Player:
@@ -61,7 +73,8 @@ class Player:
 
     def write(self, path, content):
         tree = {**self.world.tree, path: content}
-        if not any(len(other) > len(path) and other[:len(path)] == path or len(other) < len(path) and path[:len(other)] == other for other in tree):
+        is_above = lambda one, other: len(one) < len(other) and other[:len(one)] == one
+        if not any(is_above(path, other) or is_above(other, path) for other in tree):
             self.world.tree = tree
             self.does.write(path, content)
 
@@ -74,7 +87,8 @@ class Player:
             world.tree[path] = content
             status, lines = world.call(['upd'])
             return lines is None or status == 5 or status == 1 and self.lot.random() < .75
-        self.write(path, grown(self.drawn, lambda: tupfile_line(self.drawn, folder).encode() + b'\n', is_refused, self.lot.randint(0, 4), keep=.06))
+        line = lambda: tupfile_line(self.drawn, folder).encode() + b'\n'
+        self.write(path, grown(self.drawn, line, is_refused, self.lot.randint(0, 4), keep=.06))
 
     def edit(self):
         drawn, owned = self.lot.random(), sorted(self.world.owned or ())

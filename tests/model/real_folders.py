@@ -62,7 +62,8 @@ class Folder:
                 os.rmdir(self.place(path[:depth]))
 
     def call(self, words, status, lines, before, world):
-        was_killed = self.kills and words != ['verify'] and status in (0, 1) and before.owned is not None and self.kill(words, before)
+        is_update = words in ([], ['upd']) and status in (0, 1)
+        was_killed = self.kills and is_update and self.kill(words, before)
         found_status, found_lines = self.run(words)
         self.calls += 1
         tree = tree_of(self.top)
@@ -73,7 +74,8 @@ class Folder:
         else:
             same_tree = tree == world.tree
         if found_status != status or not was_killed and found_lines != lines or not same_tree:
-            differ = [show(path).decode() for path in sorted(set(tree) | set(world.tree)) if tree.get(path) != world.tree.get(path)]
+            paths = sorted(set(tree) | set(world.tree))
+            differ = [show(path).decode() for path in paths if tree.get(path) != world.tree.get(path)]
             self.problems.append((self.top, words, (status, lines), (found_status, found_lines), differ))
             return False
         return not (was_killed and status == 1)

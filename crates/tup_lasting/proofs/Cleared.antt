@@ -32,10 +32,10 @@ use Rattle.tup_lasting.proofs.Unmade.{among_filtered}
 
 -- ---- a path that is owned once some were doomed is unsure, or none of them and as it was
 module _ (g : GraphState) (q : Names) (o : Owned) where
-  abbrev IsAfter : List Names → OwnedPaths → Type 0
+  abbrev pub IsAfter : List Names → OwnedPaths → Type 0
   IsAfter paths owned = (o.state ≡ Unsure) ⊎ ((is_owned g q ≡ true → among q paths ≡ false) × (finite.get owned q ≡ Some o))
 
-  doomed_at : (paths : List Names) (owned : OwnedPaths) → finite.get (fold (one_unsure g) owned paths) q ≡ Some o → IsAfter paths owned
+  pub doomed_at : (paths : List Names) (owned : OwnedPaths) → finite.get (fold (one_unsure g) owned paths) q ≡ Some o → IsAfter paths owned
   doomed_at [] owned is = inr (λ has. refl, is)
   doomed_at (path ∷ paths) owned is = by (doomed_at paths (one_unsure g owned path) is)
     where
@@ -100,7 +100,7 @@ module _ {S : Type 0} (site : Site S) (next : Next) (language : Language) (known
   kept_now = is_kept site next language known first since graph old over earlier (site.world old) present
 
   -- ---- which files are cleared
-  stands_among : (path : Names) → among path files ≡ (among path paths && is_some (finite.get tree path))
+  pub stands_among : (path : Names) → among path files ≡ (among path paths && is_some (finite.get tree path))
   stands_among path = among_filtered (λ (p : Names). is_some (finite.get tree p)) paths path
 
   outside : (path : Names) → among path paths ≡ false → among path files ≡ false
@@ -109,7 +109,7 @@ module _ {S : Type 0} (site : Site S) (next : Next) (language : Language) (known
   no_file : (path : Names) → among path paths ≡ true → among path files ≡ false → finite.get tree path ≡ None
   no_file path inside none = none_there (finite.get tree path) (sym (stands_among path ∙ ap (λ (b : Bool). b && is_some (finite.get tree path)) inside) ∙ none)
 
-  is_own : (path : Names) → among path paths ≡ true → is_owned g path ≡ true
+  pub is_own : (path : Names) → among path paths ≡ true → is_owned g path ≡ true
   is_own path inside = ap is_some (unmade path inside).1
 
   unowned_outside : (path : Names) → is_owned g path ≡ false → among path paths ≡ false
@@ -131,7 +131,7 @@ module _ {S : Type 0} (site : Site S) (next : Next) (language : Language) (known
       (λ none. beside path (outside path (unowned_outside path none)))
 
   -- ---- the one that forgot
-  forgotten_at : (path : Names) → finite.get forgotten.owned path ≡ cond (among path paths) None (finite.get g.owned path)
+  pub forgotten_at : (path : Names) → finite.get forgotten.owned path ≡ cond (among path paths) None (finite.get g.owned path)
   forgotten_at path = get_removed paths g.owned path
 
   module _ (w : World) (gone : w.tree ≡ without tree files) (path : Names) where

@@ -5,3 +5,4 @@ pub mod Sites
 pub mod Unmade
 pub mod Unasked
 pub mod Cleared
+pub mod Leaving

@@ -15,8 +15,10 @@ ghost use Rattle.tup_graph.specs.Kept.{Asked, IsKept, IsKeptSite, IsUnflagged};
 ghost use Rattle.tup_graph.specs.Reach.{stamp_in};
 ghost use Rattle.tup_graph.specs.Records.{Language};
 ghost use Rattle.tup_kept.specs.Held.{Held};
-ghost use Rattle.tup_remains.specs.Over.{StandsOver};
+ghost use Rattle.tup_remains.specs.Over.{IsKeptNow, StandsOver};
+ghost use Rattle.tup_stale.specs.Cleared.{SparesUsers};
 ghost use Rattle.tup_stale.specs.Crash.{ClearStep, LeavesBy};
+ghost use Rattle.tup_stale.specs.Files.{SameBeside};
 ghost use Rattle.tup_stale.specs.Unmade.{standing, unmade};
 
 use tup_site::Site;
@@ -38,7 +40,28 @@ pub fn clearings_keep_sites<S: Site>(site: &S)
     let _ = site;
 }
 
-/// A law: so it is in a kept graph whose rules are those to which the sources come that it sees.
+/// A law: and as it is then the site is kept, whatever the clearing answered.
+pub fn clearings_leave_kept<S: Site>(site: &S)
+    ensures { (next : Next) (language : Language) (known : List Content) (graph now : Held)
+        (new : S) → IsTrue S.tells
+        → StandsOver S.Site.own next language known (S.world site.now) (S.moment site.now)
+        graph site.now
+        → ((number : ℕ) (rule : Rule) (run : RunRecord) (path : Names) (given : Option Stamp)
+        → IsUnflagged graph.nodes number rule → finite.get graph.nodes.runs number ≡ Some run
+        → Asked rule run path given → among path (unmade graph.nodes) ≡ false)
+        → SameBeside (standing (S.world site.now).tree (unmade graph.nodes))
+        (S.world site.now).tree (S.world new).tree
+        → SparesUsers S.world S.moment S.left_since (unmade graph.nodes)
+        graph now site.now new
+        → LeavesBy S.moment S.left_since site.now new
+        (ClearStep graph.nodes (unmade graph.nodes)
+        (standing (S.world site.now).tree (unmade graph.nodes)) (S.world site.now).tree)
+        → IsKeptNow S.Site.own next language known new }
+{
+    let _ = site;
+}
+
+/// A law: no rule that isn't flagged asked such a path in a kept graph whose rules are those to which the sources come that it sees.
 pub fn unmade_are_not_asked()
     ensures { (next : Next) (language : Language) (known : List Content) (g : GraphState)
         (sources : Tree) (number : ℕ) (rule : Rule) (run : RunRecord) (path : Names)
