@@ -150,7 +150,7 @@ if cc -O1 -shared -fPIC -o "$work/ignores-case.so" "$tests/ignores-case.c" 2> /d
     same "its rule is gone" "$(ignoring "$tup" 2>&1 | tail -1): $(cat B)" 'done: 1 read, 0 run, 0 removed: mine'
     rows=$(realpath -m "$(dirname "$tup")/../../tup_outside_rows/out/tup_outside_rows")
     if [ -x "$rows" ]; then
-        project && : > memory.rows
+        project && touch memory.rows path.rows stamp.rows rule.rows differing.rows
         sed 's/^ *//' > fs.rows << 'END'
             # a folder above a file was renamed by case: what is in it is another's now
             begin folder = ok
@@ -208,6 +208,18 @@ for files in 4 5 6; do
     same "$files files may be open, the source" "$(cat a)" hi
     same "$files files may be open, the next update" "$("$tup" | tail -1)" 'done: 1 read, 1 run, 0 removed'
 done
+
+# A pipe that nobody reads any more, and a shell that allows no large files: the update is killed, and the next one is done.
+project "$copy"
+{ sleep 0.2; "$tup"; echo "$?" > "$work/ended"; } | true
+same "a pipe that nobody reads" "$(cat "$work/ended") $(cat b)" '9 hi'
+project "$copy"
+"$tup" > /dev/null
+head -c 100000 /dev/zero > a
+(ulimit -c 0; ulimit -f 8; "$tup") > "$work/told" 2>&1
+same "a file that the shell doesn't allow" "$? $(cat b)" '153 hi'
+same "the next update" "$("$tup" | tail -1) $(ls -A . .tup | tr '\n' ' ')" 'done: 1 read, 1 run, 0 removed .: .tup Tupfile a b  .tup: db '
+same "what it makes" "$(cmp a b && wc -c < a)" 100000
 
 if [ "$failures" -gt 0 ]; then
     echo "$failures differ"

@@ -226,7 +226,7 @@ try() {
     what=$1
     [ -s "$work/list" ] || wrong "no call of the update was found"
     case $order in
-        verify) late=$(grep -E '^(rename|unlink|mkdir|rmdir)|O_WRONLY|O_RDWR|O_CREAT' "$work/trace") ;;
+        verify) late=$(grep -v ' = -1 ' "$work/trace" | grep -E '^(rename|unlink|mkdir|rmdir)|O_WRONLY|O_RDWR|O_CREAT') ;;
         *) late=$(unsynced "$stores") ;;
     esac
     [ -z "$late" ] || wrong "$late"

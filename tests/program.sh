@@ -452,6 +452,16 @@ logging "printf 'E 0\n' > log"
 row "an end alone" 1 "read .;bad .: cp a b;fault: .: cp a b: doesn't write b;" upd --proc "$work/logs"
 logging 'echo x > w0' "printf 'W 0 b\nW 0 c\nE 0\n' > log"
 row "a write more" 1 'read .;bad .: cp a b;fault: .: cp a b: writes c;' upd --proc "$work/logs"
+logging 'head -c 16777217 /dev/zero > w0' "printf 'W 0 b\nE 0\n' > log"
+row "a write of more than can be read" 0 "$done_copy" upd --proc "$work/logs"
+same "all of it" "$(wc -c < b)" 16777217
+logging 'rm -rf ../../.tup'
+row "what tup keeps goes in the middle" 8 'read .;fault: the runner failed;' upd --proc "$work/logs"
+row "it has gone" 3 'fault: no tup project here;' upd
+file "the source stays" a hi
+project "X = $(head -c 65000 /dev/zero | tr '\0' x)" ': a |> echo $(X) $(X) $(X) > b |> b'
+row "a text that is too long for a program" 8 'read .;fault: the runner failed;' upd --proc true
+said "true: the program couldn't be started"
 # What was asked counts in its order: the second rule may not read g.
 for text in "R $ho g\nA a=1 read .;run .: cp a g;bad .: cp a h;fault: .: cp a h: reads g;" "A a\nR $ho g=8 read .;run .: cp a g;fault: the runner failed;"; do
     logging 'echo hi > w0' "case \$4 in *g) printf 'W 0 g\nE 0\n' ;; *) printf '${text%%=*}\nW 0 h\nE 0\n' ;; esac > log"
@@ -604,6 +614,68 @@ row "without it" 0 "$done_copy" upd
 rm Tupfile
 row "the Tupfile is deleted" 0 'remove b;done: 0 read, 0 run, 1 removed;' upd
 file "the source stays" a ho
+project "$copy"
+row "one update" 0 "$done_copy" upd
+rm a && mkdir a && echo x > a/x
+row "a source that is a folder now" 5 'fault: Tupfile:1: missing input, read for .;' upd
+file "what was made stands" b hi
+rm -r a && echo ho > a
+row "it is a file again" 0 "$done_copy" upd
+rm b && mkdir b && echo mine > b/x
+row "an output that is a folder now" 5 'fault: Tupfile:1: output is a directory, read for .;' upd
+file "it stays" b/x mine
+: > Tupfile
+row "its rule goes" 0 'read .;done: 1 read, 0 run, 0 removed;' upd
+file "it stays still" b/x mine
+project "$copy"
+row "one update" 0 "$done_copy" upd
+rm b && ln a b && echo ho > a
+row "an output that is its source by another name" 0 "$done_copy" upd
+same "each is a file of its own" "$(stat -c %h a) $(cat a b | tr '\n' ' ')" '1 ho ho '
+echo mine > c && rm b && ln -s c b
+: > Tupfile
+row "a link where an output was, and its rule goes" 0 'read .;done: 1 read, 0 run, 0 removed;' upd
+file "it stays" b mine
+project "$copy"
+row "one update" 0 "$done_copy" upd
+echo mine > b
+: > Tupfile
+row "an output that was edited, and its rule goes" 0 'read .;remove b;done: 1 read, 0 run, 1 removed;' upd
+rm Tupfile && mkdir Tupfile
+row "a folder named Tupfile" 0 'done: 0 read, 0 run, 0 removed;' upd
+project ': a |> cp a b |> b' ': a |> cp pipe c |> c'
+mkfifo pipe
+row "a pipe is no file" 1 'read .;run .: cp a b;bad .: cp pipe c;fault: .: cp pipe c: status 1;' upd
+project
+printf ': a \\\r\n|> cp a b |> b\r\nifdef X\r\n: b |> echo @(X) > c |> c\r\nendif\r\n' > Tupfile
+printf 'CONFIG_X=y\r\n' > tup.config
+row "line ends of another system all through" 0 'read .;run .: cp a b;run .: echo y > c;done: 1 read, 2 run, 0 removed;' upd
+file "a setting without its line end" c y
+project ': foreach *.t |> cp %f %o |> %B.o'
+touch -- '$(X).t' '&&.t' '*.t' '-n.t' '1%.t' '>.t' '\.t' "it's.t" 'x;y.t' '|>.t' "$(printf '\303\251.t')" "$(printf 'a\nb.t')"
+row "names that a shell would take" 0 "read .;$(printf 'run .: cp %s.t %s.o;' '$(X)' '$(X)' '&&' '&&' '*' '*' -n -n 1% 1% '>' '>' '\' '\' "it's" "it's" 'x;y' 'x;y' '|>' '|>' "$(printf '\303\251')" "$(printf '\303\251')")done: 1 read, 11 run, 0 removed;" upd
+project "$copy"
+mkdir sub && cd sub || exit 1
+row "a folder of a project" 3 'fault: no tup project here;' upd
+same "nothing is made there" "$(ls -A)" ''
+echo ho > a && echo "$copy" > Tupfile && "$tup" init > /dev/null
+row "a project in a project" 0 "$done_copy" upd
+cd .. || exit 1
+row "the one around it" 5 'fault: sub/Tupfile:1: output is a source file, read for sub;' upd
+file "what the inner one made stands" sub/b ho
+project "$copy"
+row "one update" 0 "$done_copy" upd
+mv "$work/$count" "$work/moved" && cp -r "$work/moved" "$work/$count" && cd "$work/moved" || exit 1
+row "a project that was moved" 0 'same;' verify
+: > Tupfile
+row "it knows what it made" 0 'read .;remove b;done: 1 read, 0 run, 1 removed;' upd
+cd "$work/$count" || exit 1
+row "one that was copied has its own" 0 "$done_copy" upd
+: > .tup/db
+row "an empty store" 3 'fault: no tup project here;' upd
+row "a project begins there" 0 'initialized;' init
+row "what was made is a source" 5 'fault: Tupfile:1: output is a source file, read for .;' upd
+file "it stays" b hi
 for word in -h Upd '' --help=all; do row "the word '$word'" 2 'fault: usage, word 1;' "$word"; done
 row "two orders" 2 'fault: usage, word 2;' upd demo
 row "an option that isn't known" 2 'fault: usage, word 1;' -k

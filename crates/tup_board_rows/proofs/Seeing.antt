@@ -24,11 +24,13 @@ use Rattle.tup_board_rows.specs.Opening.{HasSeen}
 stamp_found : (tree : Tree) (files : List (Names × Stamp)) (path : Names) (given : Stamp) → All (IsStamped tree) files → finite.find by_names path files ≡ Some given
     → option_map stamp (finite.get tree path) ≡ Some given
 stamp_found tree [] path given all found = absurd (none-some given found)
-stamp_found tree (file ∷ files) path given all found = by (eq_by_cmp by_names path file.0) refl found
+stamp_found tree (file ∷ files) path given all found =
+    by (eq_by_cmp by_names path file.0) refl (stamp_found tree files path given (All-tail (IsStamped tree) file files all)) found
   where
-    by : (same : Bool) → eq_by_cmp by_names path file.0 ≡ same → cond same (Some file.1) (finite.find by_names path files) ≡ Some given → option_map stamp (finite.get tree path) ≡ Some given
-    by true is here = ap (λ (p : Names). option_map stamp (finite.get tree p)) ((by_names-decides path file.0).0 is) ∙ All-head (IsStamped tree) file files all ∙ here
-    by false is there = stamp_found tree files path given (All-tail (IsStamped tree) file files all) there
+    by : (same : Bool) → eq_by_cmp by_names path file.0 ≡ same → (finite.find by_names path files ≡ Some given → option_map stamp (finite.get tree path) ≡ Some given)
+        → cond same (Some file.1) (finite.find by_names path files) ≡ Some given → option_map stamp (finite.get tree path) ≡ Some given
+    by true is rest here = ap (λ (p : Names). option_map stamp (finite.get tree p)) ((by_names-decides path file.0).0 is) ∙ All-head (IsStamped tree) file files all ∙ here
+    by false is rest there = rest there
 
 -- where nothing is there is no stamp
 no_stamp : (content : Option Content) → is_some content ≡ false → option_map stamp content ≡ None

@@ -1,26 +1,31 @@
 -- What a seat runs by its entries, as its command goes on.
-use Rattle.std.proofs.Common.{◌≡◌, ℕ, zero, suc, ◌<◌, List, [], ◌∷◌, ◌++◌, length, Option, None, Some, Result, Ok, Err, refl, sym, ap, ◌∙◌, subst, arith}
-use Rattle.std.specs.Prelude.{Contains, option_map, slice_get, slice_index_or}
+use Rattle.std.proofs.Common.{◌≡◌, ℕ, List, [], ◌∷◌, ◌++◌, Option, None, Some, Result, Ok, refl, sym, ap, ◌∙◌, subst, inl, inr, arith}
+use Rattle.std.specs.Prelude.{Contains, option_map, slice_get}
+use Rattle.std.proofs.lemmas.List.Elements.{Contains-push_cases}
+use Rattle.std.proofs.lemmas.Option.{same_Some}
 use Rattle.tup_path.specs.Name.{Names, Content}
 use Rattle.tup_stamp.specs.declared.Stamp.{Stamp}
 use Rattle.tup_stamp.specs.Stamp.{stamp}
 use Rattle.tup_rule.specs.declared.rule.Rule.{Rule}
-use Rattle.tup_runner.specs.Next.{Asks}
+use Rattle.tup_runner.specs.Honest.{AsksAfter}
+use Rattle.tup_runner.specs.Next.{Asks, Next}
 use Rattle.tup_runner.specs.declared.step.Answer.{Answer}
 use Rattle.tup_runner.specs.declared.step.Answer.TheVariants.{Content as Holds, Absent as Nothing}
 use Rattle.tup_core.specs.declared.event.CoreEvent.{CoreEvent}
-use Rattle.tup_core.specs.declared.event.CoreEvent.TheVariants.{Ask, Claim}
+use Rattle.tup_core.specs.declared.event.CoreEvent.TheVariants.{Ask, Claim, Deny}
 use Rattle.tup_core.specs.declared.plan.Plan.{Plan}
 use Rattle.tup_core.specs.declared.running.Running.{Running}
-use Rattle.tup_core.specs.Step.{asked}
+use Rattle.tup_core.specs.Honest.{EndsHonestly}
+use Rattle.tup_core.specs.Step.{asked, refused}
 use Rattle.tup_course.specs.declared.claimed.Claimed.{Claimed}
 use Rattle.tup_course.specs.declared.claimed.Claimed.TheVariants.{Rule as Gives}
+use Rattle.tup_access.specs.declared.verdict.Verdict.{Verdict}
 use Rattle.tup_ground.specs.declared.fault.BoardFault.{BoardFault}
 use Rattle.tup_board.specs.declared.answers.Asked.{Asked}
 use Rattle.tup_board.specs.declared.answers.Asked.TheVariants as reply_by
 use Rattle.tup_board.specs.Calls.{AreKnown, AreStamped, IsStampOf, ask_events}
-use Rattle.tup_board.specs.Entries.{IsReportBy, after_entry, claim_entries, runs_after}
-use Rattle.tup_board.specs.Seat.{told_by}
+use Rattle.tup_board.specs.Entries.{IsReportBy, WasDeniedBy, after_entry, claim_entries, runs_after}
+use Rattle.tup_board.proofs.Ending.{answered_of}
 use Rattle.tup_board_rows.specs.Told.{RunsTold, just_claimed}
 use Rattle.tup_board_rows.proofs.Told.{stamped_push}
 
@@ -41,8 +46,9 @@ begins plan entries number rule runs placed = record {
 }
 
 -- ---- an ask
-module _ (plan : Plan) (old new : List CoreEvent) (rule : Rule) (seat : ℕ) (text : List ℕ) (runs : RunsTold plan old rule []) where
-  one_more : (answer : Answer) (given : Option Stamp) → new ≡ old ++ Ask seat text given ∷ [] → IsStampOf given answer → RunsTold plan new rule ((text, answer) ∷ [])
+module _ (plan : Plan) (old new : List CoreEvent) (rule : Rule) (seat : ℕ) (text : List ℕ) (told : Asks) (runs : RunsTold plan old rule told) where
+  -- it was answered
+  one_more : (answer : Answer) (given : Option Stamp) → new ≡ old ++ Ask seat text given ∷ [] → IsStampOf given answer → RunsTold plan new rule (told ++ (text, answer) ∷ [])
   one_more answer given adds is = record {
     it = record {
       running = asked text given runs.it.running;
@@ -52,31 +58,77 @@ module _ (plan : Plan) (old new : List CoreEvent) (rule : Rule) (seat : ℕ) (te
       granted = runs.it.granted;
     };
     rule_is = runs.rule_is;
-    asks_are = stamped_push runs.it.running.asks [] (text, given) (text, answer) runs.asks_are refl is;
+    asks_are = stamped_push runs.it.running.asks told (text, given) (text, answer) runs.asks_are refl is;
   }
 
-  pub runs_told : (result : Result Asked BoardFault) → new ≡ old ++ ask_events seat text result → 0 < length (told_by text result) → RunsTold plan new rule (told_by text result)
-  runs_told (Ok (reply_by.Content content)) adds some = one_more (Holds content) (Some (stamp content)) adds refl
-  runs_told (Ok reply_by.Absent) adds some = one_more Nothing None adds refl
-  runs_told (Ok (reply_by.Denied verdict)) adds some = absurd (omega (arith, some))
-  runs_told (Err fault) adds some = absurd (omega (arith, some))
+  pub told_content : (result : Result Asked BoardFault) (content : Content) → result ≡ Ok (reply_by.Content content) → new ≡ old ++ ask_events seat text result → RunsTold plan new rule (told ++ (text, Holds content) ∷ [])
+  told_content result content is adds = one_more (Holds content) (Some (stamp content)) (adds ∙ ap (λ (r : Result Asked BoardFault). old ++ ask_events seat text r) is) refl
+
+  pub told_absent : (result : Result Asked BoardFault) → result ≡ Ok reply_by.Absent → new ≡ old ++ ask_events seat text result → RunsTold plan new rule (told ++ (text, Nothing) ∷ [])
+  told_absent result is adds = one_more Nothing None (adds ∙ ap (λ (r : Result Asked BoardFault). old ++ ask_events seat text r) is) refl
+
+  -- it was denied
+  module _ (result : Result Asked BoardFault) (given : Verdict) (is : result ≡ Ok (reply_by.Denied given)) (adds : new ≡ old ++ ask_events seat text result) where
+    runs_then : runs_after None new ≡ Some (refused text given runs.it.running)
+    runs_then =
+        ap (runs_after None) (adds ∙ ap (λ (r : Result Asked BoardFault). old ++ ask_events seat text r) is) ∙ runs_on None old (Deny seat text given ∷ [])
+        ∙ ap (option_map (refused text given)) runs.it.runs
+
+    pub denied_so : WasDeniedBy plan new
+    denied_so = record {
+      running = refused text given runs.it.running;
+      rule = runs.it.rule;
+      text = text;
+      verdict = given;
+      runs = runs_then;
+      placed = runs.it.placed;
+      denied = refl;
+    }
+
+    -- its runner means to ask that, over what it was told
+    pub denied_means : (next : Next) (known : List Content) → AreKnown known told → AsksAfter (next rule.dir rule.text) told text → (was : WasDeniedBy plan new)
+        → EndsHonestly next known was.rule was.running (Some (was.text, was.verdict)) was.verdict []
+    denied_means next known are after was =
+        subst (λ (r : Rule). EndsHonestly next known r was.running (Some (was.text, was.verdict)) was.verdict []) (sym rule_is)
+        (subst (λ (r : Running). EndsHonestly next known rule r (Some (was.text, was.verdict)) was.verdict []) (sym running_is)
+        (subst (λ (t : List ℕ). EndsHonestly next known rule (refused text given runs.it.running) (Some (t, was.verdict)) was.verdict []) (sym text_is) honest))
+      where
+        running_is : was.running ≡ refused text given runs.it.running
+        running_is = same_Some _ _ (sym was.runs ∙ runs_then)
+
+        rule_is : was.rule ≡ rule
+        rule_is = same_Some _ _ (sym was.placed ∙ ap (λ (r : Running). slice_get plan.rules r.rule) running_is ∙ runs.it.placed) ∙ runs.rule_is
+
+        text_is : was.text ≡ text
+        text_is = ap (λ (d : List ℕ × Verdict). d.0) (same_Some (was.text, was.verdict) (text, given) (sym was.denied ∙ ap (λ (r : Running). r.denied) running_is))
+
+        honest : EndsHonestly next known rule (refused text given runs.it.running) (Some (text, was.verdict)) was.verdict []
+        honest = (record { asks = told; stamps = answered_of known runs.it.running.asks told runs.asks_are are; just = after.before }, after.asks_it)
 
 -- ---- what a command was told is known
-only_one : (one other : List ℕ × Answer) (k : ℕ) → k < 1 → slice_index_or (one ∷ []) k other ≡ other → one ≡ other
-only_one one other zero less is = is
-only_one one other (suc k) less is = absurd (omega (arith, less))
+pub none_told : (known : List Content) → AreKnown known []
+none_told known text content has = absurd (omega (arith, has.1))
 
-pub known_told : (known : List Content) (text : List ℕ) (result : Result Asked BoardFault) → ((content : Content) → result ≡ Ok (reply_by.Content content) → Contains known content) → AreKnown known (told_by text result)
-known_told known text (Ok (reply_by.Content content)) tells other found has =
-    let same : Holds content ≡ Holds found = ap (λ (ask : List ℕ × Answer). ask.1) (only_one (text, Holds content) (other, Holds found) has.0 has.1 has.2) in
-    subst (Contains known) (same_content content found same) (tells content refl)
+pub known_more : (before now : List Content) (told : Asks) (text : List ℕ) (content : Content) → AreKnown before told → ((one : Content) → Contains before one → Contains now one) → Contains now content
+    → AreKnown now (told ++ (text, Holds content) ∷ [])
+known_more before now told text content are more here other found has =
+    elim (Contains-push_cases told (text, Holds content) (other, Holds found) has) [
+      | inl earlier ↦ more found (are other found earlier)
+      | inr last ↦ subst (Contains now) (same_content content found (ap (λ (ask : List ℕ × Answer). ask.1) last)) here
+    ]
   where
     same_content : (one two : Content) → Holds one ≡ Holds two → one ≡ two
     same_content one two is = cc
-known_told known text (Ok reply_by.Absent) tells other found has =
-    let clash : Nothing ≡ Holds found = ap (λ (ask : List ℕ × Answer). ask.1) (only_one (text, Nothing) (other, Holds found) has.0 has.1 has.2) in cc
-known_told known text (Ok (reply_by.Denied verdict)) tells other found has = absurd (omega (arith, has.1))
-known_told known text (Err fault) tells other found has = absurd (omega (arith, has.1))
+
+pub known_still : (before now : List Content) (told : Asks) (text : List ℕ) → AreKnown before told → ((one : Content) → Contains before one → Contains now one) → AreKnown now (told ++ (text, Nothing) ∷ [])
+known_still before now told text are more other found has =
+    elim (Contains-push_cases told (text, Nothing) (other, Holds found) has) [
+      | inl earlier ↦ more found (are other found earlier)
+      | inr last ↦ absurd (apart (ap (λ (ask : List ℕ × Answer). ask.1) last))
+    ]
+  where
+    apart : Nothing ≡ Holds found → ⊥
+    apart is = cc
 
 -- ---- the report
 pub report_is : (plan : Plan) (entries : List CoreEvent) (rule : Rule) (told : Asks) (dir : Names) (text : List ℕ) (asks : Asks) → RunsTold plan entries rule told → dir ≡ rule.dir → text ≡ rule.text → asks ≡ told

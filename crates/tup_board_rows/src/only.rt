@@ -1,32 +1,43 @@
 //! A board at which one seat works, through what seats that share a board are given.
-ghost use Rattle.std.specs.Prelude.{◌≡◌, ◌<◌, [], None, Some, IsTrue};
+ghost use Rattle.std.specs.Prelude.{◌≡◌, ◌<◌, ◌++◌, ◌∷◌, [], None, Some, Ok, false, IsTrue, OnOk};
+ghost use Rattle.tup_runner.specs.Honest.{AsksAfter};
 ghost use Rattle.tup_board.specs.Board.{plan_of};
 ghost use Rattle.tup_board.specs.Calls.{AreKnown};
 ghost use Rattle.tup_board.specs.Entries.{runs_after};
-ghost use Rattle.tup_board_rows.specs.Told.{RunsTold, just_claimed};
+ghost use Rattle.tup_board_rows.specs.Told.{AsksNext, RunsTold, just_claimed};
 
 use crate::opening::board_over;
 use crate::project::{Given, reach_at};
-use crate::report::{note_reply, reported};
+use crate::report::{add, reported};
 use crate::script::{add_all, add_events, add_state, none};
-use crate::shown::{claimed_words, ended_words, reply_words};
+use crate::shown::{claimed_words, ended_words, fault_words, verdict_words};
 use crate::store::site_of;
 use std::alloc::Global;
 use tup_alone::{Alone, OnlySeat};
-use tup_board::{Board, BoardParts, Claimed, Shared};
+use tup_board::{Asked, Board, BoardParts, Claimed, Shared};
 use tup_core::{Cause, Plan};
 use tup_given::Replies;
 use tup_mini::Mini;
 use tup_path::{Items, Text};
 use tup_rows::{RowFault, Words};
 use tup_rule::Rule;
+use tup_runner::{Answer, RunFailed};
 use tup_site::MemSite;
+
+/// The command of a rule, with what it was told, and what a row shows of that.
+#[derive(Drop)]
+struct Command<'r> {
+    rule: &'r Rule,
+    told: Replies,
+    words: Words,
+}
 
 /// What the only seat of a board does, and all that happened; `none` where there is no such seat, or no board may be made.
 pub(crate) fn alone(alloc: Global, given: &Given, said: &Words) -> Result<Words, RowFault> {
     match tried(alloc, given, said) {
+        Ok(words) => Ok(words),
         Err(RowFault::OtherKind) => Ok(none(alloc, said)),
-        came => came,
+        Err(fault) => Err(fault),
     }
 }
 
@@ -38,17 +49,17 @@ fn tried(alloc: Global, given: &Given, said: &Words) -> Result<Words, RowFault> 
         return Err(RowFault::OtherKind);
     }
     match site_of(alloc, &given.project, reach.as_slice()) {
-        Ok(site) => over(alloc, site.into_site(), number, &said.text_at(alloc, 2)),
+        Ok(site) => over(alloc, site.into_site(), number, said.small_at(2)),
         Err(fault) => Err(fault),
     }
 }
 
 /// The same over a site.
-fn over(alloc: Global, site: MemSite, number: u32, text: &Text) -> Result<Words, RowFault>
+fn over(alloc: Global, site: MemSite, number: u32, steps: u32) -> Result<Words, RowFault>
     requires { number < 16 }
 {
     match board_over(alloc, site) {
-        Ok((board, plan)) => seated(alloc, board, plan, number, text),
+        Ok((board, plan)) => seated(alloc, board, plan, number, steps),
         Err(fault) => Err(fault),
     }
 }
@@ -59,14 +70,21 @@ fn seated(
     board: Board<MemSite, Mini>,
     plan: Plan,
     number: u32,
-    text: &Text,
+    steps: u32,
 ) -> Result<Words, RowFault>
     requires within { number < 16 }
     requires plan { plan ≡ plan_of board }
     requires none { board.history ≡ [] }
 {
     let mut seat = OnlySeat::new(board, number);
-    let came = worked(alloc, &Alone, &mut seat, &plan, &mut Mini::new(alloc), text);
+    let came = worked(
+        alloc,
+        &Alone,
+        &mut seat,
+        &plan,
+        &mut Mini::new(alloc),
+        steps,
+    );
     drop(plan);
     shown(alloc, seat.into_board().into_parts(), came)
 }
@@ -98,7 +116,7 @@ fn worked<W: Shared>(
     seat: &mut W::Seat,
     plan: &Plan,
     runner: &mut W::Runner,
-    text: &Text,
+    steps: u32,
 ) -> Result<Words, RowFault>
     requires belongs { W.belongs shared.now seat.old }
     requires plan { plan.now ≡ W.plan_of seat.old }
@@ -108,7 +126,7 @@ fn worked<W: Shared>(
     let claimed = shared.claim(seat, plan);
     add_all(alloc, &mut words, claimed_words(alloc, claimed).as_slice());
     if let Claimed::Rule(rule) = claimed {
-        let came = begun(alloc, shared, seat, plan, runner, rule, text)?;
+        let came = begun(alloc, shared, seat, plan, runner, rule, steps)?;
         add_all(alloc, &mut words, came.as_slice());
     }
     Ok(words)
@@ -122,75 +140,195 @@ fn begun<W: Shared>(
     plan: &Plan,
     runner: &mut W::Runner,
     number: u32,
-    text: &Text,
+    steps: u32,
 ) -> Result<Words, RowFault>
     requires belongs { W.belongs shared.now seat.old }
     requires plan { plan.now ≡ W.plan_of seat.old }
     requires claimed { runs_after None (W.entries seat.old) ≡ Some (just_claimed number) }
 {
     match plan.rules.as_slice().get(number as usize) {
-        Some(rule) => asked(alloc, shared, seat, plan, runner, rule, text),
+        Some(rule) => {
+            let mut command = begin(alloc, rule);
+            run(alloc, shared, seat, plan, runner, &mut command, steps)?;
+            Ok(command.words)
+        }
         None => Err(RowFault::OtherKind),
     }
 }
 
-/// The command of a rule asks for a text. If it is told something it goes on, and else it is stopped.
-fn asked<W: Shared>(
-    alloc: Global,
-    shared: &W,
-    seat: &mut W::Seat,
-    plan: &Plan,
-    runner: &mut W::Runner,
-    rule: &Rule,
-    text: &Text,
-) -> Result<Words, RowFault>
-    requires belongs { W.belongs shared.now seat.old }
-    requires plan { plan.now ≡ W.plan_of seat.old }
-    requires runs { RunsTold plan.now (W.entries seat.old) rule.now [] }
+/// A command that was told nothing yet.
+fn begin(alloc: Global, rule: &Rule) -> Command<'_>
+    ensures rule { result.rule.now ≡ rule.now }
+    ensures told { result.told.given ≡ [] }
 {
-    let reply = shared.ask(alloc, seat, plan, text);
-    let mut told = Replies::new(Items::new(alloc));
-    note_reply(&mut told, text, &reply)?;
-    let came = if told.len() > 0 {
-        ended(alloc, shared, seat, plan, runner, rule, &mut told)
-    } else {
-        stopped(alloc, shared, seat, plan)
-    };
-    let mut words = reply_words(alloc, &reply);
-    add_all(alloc, &mut words, came.as_slice());
-    Ok(words)
-}
-
-/// The command of a rule ends over what it was told, if that is just what it asks for; else it is stopped.
-fn ended<W: Shared>(
-    alloc: Global,
-    shared: &W,
-    seat: &mut W::Seat,
-    plan: &Plan,
-    runner: &mut W::Runner,
-    rule: &Rule,
-    told: &mut Replies,
-) -> Words
-    requires belongs { W.belongs shared.now seat.old }
-    requires plan { plan.now ≡ W.plan_of seat.old }
-    requires runs { RunsTold plan.now (W.entries seat.old) rule.now told.old.given }
-    requires known { IsTrue W.tells → AreKnown (W.known seat.old) told.old.given }
-{
-    match reported(alloc, runner, rule, told) {
-        Ok(report) => {
-            let end = shared.finish(alloc, seat, plan, &report);
-            drop(report);
-            ended_words(alloc, &end)
-        }
-        Err(_) => stopped(alloc, shared, seat, plan),
+    Command {
+        rule,
+        told: Replies::new(Items::new(alloc)),
+        words: Words::new(alloc),
     }
 }
 
-/// The command of a seat is stopped.
-fn stopped<W: Shared>(alloc: Global, shared: &W, seat: &mut W::Seat, plan: &Plan) -> Words
+/// The command of a seat goes on, so many steps at most, until it ends; then it is stopped.
+fn run<W: Shared>(
+    alloc: Global,
+    shared: &W,
+    seat: &mut W::Seat,
+    plan: &Plan,
+    runner: &mut W::Runner,
+    command: &mut Command<'_>,
+    steps: u32,
+) -> Result<(), RowFault>
     requires belongs { W.belongs shared.now seat.old }
     requires plan { plan.now ≡ W.plan_of seat.old }
+    requires runs { RunsTold plan.now (W.entries seat.old)
+        command.old.rule.now command.old.told.given }
+    requires known { IsTrue W.tells → AreKnown (W.known seat.old) command.old.told.given }
 {
+    for _ in 0..steps {
+        if step(alloc, shared, seat, plan, runner, command)? {
+            return Ok(());
+        }
+    }
     shared.stop(seat, plan, Cause::Run);
-    Words::word(alloc, b"stopped")
+    command.words.put(alloc, b"stopped");
+    Ok(())
+}
+
+/// The command of a seat ends, or asks once more: whether it is over.
+fn step<W: Shared>(
+    alloc: Global,
+    shared: &W,
+    seat: &mut W::Seat,
+    plan: &Plan,
+    runner: &mut W::Runner,
+    command: &mut Command<'_>,
+) -> Result<bool, RowFault>
+    requires belongs { W.belongs shared.now seat.old }
+    requires plan { plan.now ≡ W.plan_of seat.old }
+    requires runs { RunsTold plan.now (W.entries seat.old)
+        command.old.rule.now command.old.told.given }
+    requires known { IsTrue W.tells → AreKnown (W.known seat.old) command.old.told.given }
+    ensures belongs { W.belongs shared.now seat.new }
+    ensures plan { plan.now ≡ W.plan_of seat.new }
+    ensures runs { result ≡ Ok false → RunsTold plan.now (W.entries seat.new)
+        command.new.rule.now command.new.told.given }
+    ensures known { result ≡ Ok false → IsTrue W.tells
+        → AreKnown (W.known seat.new) command.new.told.given }
+{
+    match reported(alloc, runner, command.rule, &mut command.told) {
+        Ok(report) => {
+            let end = shared.finish(alloc, seat, plan, &report);
+            drop(report);
+            add_all(
+                alloc,
+                &mut command.words,
+                ended_words(alloc, &end).as_slice(),
+            );
+            Ok(true)
+        }
+        Err(RunFailed::Denied) => ask_next(alloc, shared, seat, plan, command),
+        Err(_) => Err(RowFault::Memory),
+    }
+}
+
+/// The command of a seat asks for the text that its view has refused: whether it is over.
+fn ask_next<W: Shared>(
+    alloc: Global,
+    shared: &W,
+    seat: &mut W::Seat,
+    plan: &Plan,
+    command: &mut Command<'_>,
+) -> Result<bool, RowFault>
+    requires belongs { W.belongs shared.now seat.old }
+    requires plan { plan.now ≡ W.plan_of seat.old }
+    requires runs { RunsTold plan.now (W.entries seat.old)
+        command.old.rule.now command.old.told.given }
+    requires known { IsTrue W.tells → AreKnown (W.known seat.old) command.old.told.given }
+    requires next { AsksNext W.Runner.tells
+        (W.Runner.next command.old.rule.now.dir command.old.rule.now.text) command.old.told }
+    ensures belongs { W.belongs shared.now seat.new }
+    ensures plan { plan.now ≡ W.plan_of seat.new }
+    ensures runs { result ≡ Ok false → RunsTold plan.now (W.entries seat.new)
+        command.new.rule.now command.new.told.given }
+    ensures known { result ≡ Ok false → IsTrue W.tells
+        → AreKnown (W.known seat.new) command.new.told.given }
+{
+    match command.told.take_denied() {
+        Some(text) => {
+            let over = ask(alloc, shared, seat, plan, command, &text);
+            drop(text);
+            over
+        }
+        None => Err(RowFault::OtherKind),
+    }
+}
+
+/// The command of a seat asks for a text, as its runner means: whether it is over.
+fn ask<W: Shared>(
+    alloc: Global,
+    shared: &W,
+    seat: &mut W::Seat,
+    plan: &Plan,
+    command: &mut Command<'_>,
+    text: &Text,
+) -> Result<bool, RowFault>
+    requires belongs { W.belongs shared.now seat.old }
+    requires plan { plan.now ≡ W.plan_of seat.old }
+    requires runs { RunsTold plan.now (W.entries seat.old)
+        command.old.rule.now command.old.told.given }
+    requires known { IsTrue W.tells → AreKnown (W.known seat.old) command.old.told.given }
+    requires means { IsTrue W.Runner.tells
+        → AsksAfter (W.Runner.next command.old.rule.now.dir command.old.rule.now.text)
+        command.old.told.given text.now }
+    ensures belongs { W.belongs shared.now seat.new }
+    ensures plan { plan.now ≡ W.plan_of seat.new }
+    ensures runs { result ≡ Ok false → RunsTold plan.now (W.entries seat.new)
+        command.new.rule.now command.new.told.given }
+    ensures known { result ≡ Ok false → IsTrue W.tells
+        → AreKnown (W.known seat.new) command.new.told.given }
+{
+    match shared.ask(alloc, seat, plan, text) {
+        Ok(Asked::Content(content)) => tell(alloc, command, text, Answer::Content(content)),
+        Ok(Asked::Absent) => tell(alloc, command, text, Answer::Absent),
+        Ok(Asked::Denied(verdict)) => {
+            shared.finish_denied(seat, plan);
+            add_all(
+                alloc,
+                &mut command.words,
+                verdict_words(alloc, &verdict).as_slice(),
+            );
+            Ok(true)
+        }
+        Err(fault) => {
+            add_all(
+                alloc,
+                &mut command.words,
+                fault_words(alloc, fault).as_slice(),
+            );
+            Ok(true)
+        }
+    }
+}
+
+/// A command is told what a text was answered: it isn't over.
+fn tell(
+    alloc: Global,
+    command: &mut Command<'_>,
+    text: &Text,
+    answer: Answer,
+) -> Result<bool, RowFault>
+    ensures rule { command.new.rule.now ≡ command.old.rule.now }
+    ensures told { OnOk result (command.new.told.given
+        ≡ command.old.told.given ++ (text.now, answer) ∷ []) }
+{
+    show_answer(alloc, &mut command.words, &answer);
+    add(&mut command.told, text, answer)?;
+    Ok(false)
+}
+
+fn show_answer(alloc: Global, words: &mut Words, answer: &Answer) {
+    match answer {
+        Answer::Content(content) => words.put(alloc, content.as_slice()),
+        Answer::Absent => words.put(alloc, b"-"),
+    }
 }

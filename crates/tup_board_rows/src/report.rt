@@ -1,34 +1,19 @@
 //! What a command was told, and its report over that.
-ghost use Rattle.std.specs.Prelude.{◌≡◌, ◌++◌, ◌∷◌, [], Ok, IfOk, OnOk};
-ghost use Rattle.tup_board.specs.Seat.{told_by};
+ghost use Rattle.std.specs.Prelude.{◌≡◌, ◌++◌, ◌∷◌, ℕ, List, [], Err, Some, IfOk, IsTrue, OnOk};
 ghost use Rattle.tup_given.specs.Replies.{answered};
+ghost use Rattle.tup_runner.specs.Honest.{AsksAfter};
 ghost use Rattle.tup_runner.specs.Report.{asks_of};
+ghost use Rattle.tup_board_rows.specs.Told.{AsksNext};
 
 use std::alloc::{AllocError, Global};
-use tup_board::{Asked, BoardFault};
+use tup_board::Asked;
 use tup_given::Replies;
 use tup_path::Text;
 use tup_rule::Rule;
 use tup_runner::{Answer, Report, RunFailed, Runner, perform};
 
 /// Notes what a text was answered, if it was.
-pub(crate) fn note_reply(
-    told: &mut Replies,
-    text: &Text,
-    asked: &Result<Asked, BoardFault>,
-) -> Result<(), AllocError>
-    ensures { OnOk result (told.new.given ≡ told.old.given ++ told_by text.now asked.now) }
-{
-    match asked {
-        Ok(asked) => note(told, text, asked),
-        Err(_) => Ok(()),
-    }
-}
-
-/// The same of an ask that wasn't refused.
-pub(crate) fn note(told: &mut Replies, text: &Text, asked: &Asked) -> Result<(), AllocError>
-    ensures { OnOk result (told.new.given ≡ told.old.given ++ told_by text.now (Ok asked.now)) }
-{
+pub(crate) fn note(told: &mut Replies, text: &Text, asked: &Asked) -> Result<(), AllocError> {
     match asked {
         Asked::Content(content) => add(told, text, Answer::Content(content.clone()?)),
         Asked::Absent => add(told, text, Answer::Absent),
@@ -36,15 +21,16 @@ pub(crate) fn note(told: &mut Replies, text: &Text, asked: &Asked) -> Result<(),
     }
 }
 
-fn add(told: &mut Replies, text: &Text, answer: Answer) -> Result<(), AllocError>
+/// Adds what a text was answered.
+pub(crate) fn add(told: &mut Replies, text: &Text, answer: Answer) -> Result<(), AllocError>
     ensures { OnOk result (told.new.given ≡ told.old.given ++ (text.now, answer) ∷ []) }
 {
     told.add(text.clone()?, answer)?;
     Ok(())
 }
 
-/// The report of the command of a rule over all that it was told, in its order. It is `Denied` too where it ends before it
-/// asked for all.
+/// The report of the command of a rule over all that it was told, in its order. Where it asks for a text more, this is
+/// `Denied`; where it asks for others, `View`.
 pub(crate) fn reported<R: Runner>(
     alloc: Global,
     runner: &mut R,
@@ -54,13 +40,16 @@ pub(crate) fn reported<R: Runner>(
     ensures dir { IfOk result (λ report. report.dir ≡ rule.now.dir) }
     ensures text { IfOk result (λ report. report.text ≡ rule.now.text) }
     ensures asks { IfOk result (λ report. asks_of report ≡ told.old.given) }
+    ensures given { told.new.given ≡ told.old.given }
+    ensures next { result ≡ Err RunFailed.Denied
+        → AsksNext R.tells (R.next rule.now.dir rule.now.text) told.new }
 {
-    let report = performed(alloc, runner, rule, told)?;
+    let report = performed(alloc, runner, rule, told);
     if told.asked() < told.len() {
         drop(report);
-        return Err(RunFailed::Denied);
+        return Err(RunFailed::View);
     }
-    Ok(report)
+    report
 }
 
 /// The report of the command of a rule over what it was told.
@@ -74,6 +63,9 @@ pub(crate) fn performed<R: Runner>(
     ensures text { IfOk result (λ report. report.text ≡ rule.now.text) }
     ensures asks { IfOk result (λ report. asks_of report ≡ answered told.new) }
     ensures given { told.new.given ≡ told.old.given }
+    ensures next { result ≡ Err RunFailed.Denied → (asked : List ℕ)
+        → told.new.denied ≡ Some asked → IsTrue R.tells
+        → AsksAfter (R.next rule.now.dir rule.now.text) (answered told.new) asked }
 {
     told.rewind();
     perform(alloc, runner, &rule.dir, &rule.text, told)

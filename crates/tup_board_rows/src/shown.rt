@@ -29,14 +29,6 @@ pub(crate) fn verdict_words(alloc: Global, verdict: &Verdict) -> Words {
     words
 }
 
-/// What came of an ask.
-pub(crate) fn reply_words(alloc: Global, reply: &Result<Asked, BoardFault>) -> Words {
-    match reply {
-        Ok(asked) => asked_words(alloc, asked),
-        Err(fault) => fault_words(alloc, *fault),
-    }
-}
-
 /// What came of the end of a command.
 pub(crate) fn ended_words(alloc: Global, ended: &Result<Verdict, BoardFault>) -> Words {
     match ended {

@@ -3,7 +3,7 @@ use Rattle.tup_board.specs.Board.{BoardState, plan_of}
 use Rattle.tup_board_rows.proofs.opening.made.Goals as goal
 
 pub new-requires-after_bounds : goal.new-requires-after_bounds
-new-requires-after_bounds g c κs = record {
+new-requires-after_bounds g c κs within = record {
   fresh = c.requires.ready.fresh;
   stands = c.requires.ready.stands;
   seen = c.requires.ready.seen;

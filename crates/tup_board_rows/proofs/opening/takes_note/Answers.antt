@@ -1,5 +1,4 @@
 use Rattle.std.proofs.Common.{sym, ◌∙◌, subst}
-use Rattle.tup_path.specs.Tree.{Tree}
 use Rattle.tup_board_rows.specs.Opening.{HasSeen}
 use Rattle.tup_board_rows.proofs.Seeing.{has_seen}
 use Rattle.tup_board_rows.proofs.opening.takes_note.Goals as goal
