@@ -1,8 +1,9 @@
 -- What a seat runs by its entries, as its command goes on.
-use Rattle.std.proofs.Common.{◌≡◌, ℕ, List, [], ◌∷◌, ◌++◌, Option, None, Some, Result, Ok, refl, sym, ap, ◌∙◌, subst, inl, inr, arith}
+use Rattle.std.proofs.Common.{◌≡◌, ℕ, ◌<◌, List, [], ◌∷◌, ◌++◌, length, Option, None, Some, Result, Ok, refl, sym, ap, ◌∙◌, subst, inl, inr, arith}
+use Rattle.std.specs.List.{HoldsAt}
 use Rattle.std.specs.Prelude.{Contains, option_map, slice_get}
 use Rattle.std.proofs.lemmas.List.Elements.{Contains-push_cases}
-use Rattle.std.proofs.lemmas.Option.{same_Some}
+use Rattle.std.proofs.lemmas.Option.{same_Some, slice_get_read}
 use Rattle.tup_path.specs.Name.{Names, Content}
 use Rattle.tup_stamp.specs.declared.Stamp.{Stamp}
 use Rattle.tup_stamp.specs.Stamp.{stamp}
@@ -44,6 +45,9 @@ begins plan entries number rule runs placed = record {
   rule_is = refl;
   asks_are = tt;
 }
+
+pub rule_at : (rules slice : List Rule) (number : ℕ) (rule : Rule) → slice ≡ rules → (number < length slice) × HoldsAt (λ (one : Rule). rule ≡ one) slice number → slice_get rules number ≡ Some rule
+rule_at rules slice number rule same at = ap (λ (l : List Rule). slice_get l number) (sym same) ∙ slice_get_read slice (length slice) number rule refl at.0 (at.1 rule)
 
 -- ---- an ask
 module _ (plan : Plan) (old new : List CoreEvent) (rule : Rule) (seat : ℕ) (text : List ℕ) (told : Asks) (runs : RunsTold plan old rule told) where

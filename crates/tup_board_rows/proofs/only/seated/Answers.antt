@@ -7,8 +7,8 @@ use Rattle.tup_alone.specs.Own.{entries_at}
 use Rattle.tup_board_rows.proofs.only.seated.Goals as goal
 
 pub worked-came-requires-clause-plan : goal.worked-came-requires-clause-plan
-worked-came-requires-clause-plan c κs = c.requires.plan ∙ sym (ap plan_of c.new-seat.ensures.board)
+worked-came-requires-clause-plan c = c.requires.plan ∙ sym (ap plan_of c.new-seat.ensures.board)
 
 pub worked-came-requires-clause-free : goal.worked-came-requires-clause-free
-worked-came-requires-clause-free c κs =
+worked-came-requires-clause-free c =
     ap (λ (events : List CoreEvent). runs_after None (entries_at c.new-seat.result.number events)) (ap (λ (b : BoardState MemSite). b.history) c.new-seat.ensures.board ∙ c.requires.none)

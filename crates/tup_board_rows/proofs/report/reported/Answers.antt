@@ -1,4 +1,4 @@
-use Rattle.std.proofs.Common.{◌≡◌, ◌∙◌, arith, subst}
+use Rattle.std.proofs.Common.{◌∙◌, arith, subst}
 use Rattle.std.proofs.lemmas.List.{take_all}
 use Rattle.std.proofs.lemmas.Result.{IfOk-weaker}
 use Rattle.tup_runner.specs.Honest.{AsksAfter}
