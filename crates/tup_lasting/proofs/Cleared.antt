@@ -71,7 +71,7 @@ both false false x y same files = files refl
 both true false x y same files = absurd (let wrong : true ≡ false = same in cc)
 both false true x y same files = absurd (let wrong : false ≡ true = same in cc)
 
-none_there : (file : Option Content) → is_some file ≡ false → file ≡ None
+pub none_there : (file : Option Content) → is_some file ≡ false → file ≡ None
 none_there None is = refl
 none_there (Some content) is = absurd (let wrong : true ≡ false = is in cc)
 

@@ -6,3 +6,4 @@ pub mod Unmade
 pub mod Unasked
 pub mod Cleared
 pub mod Leaving
+pub mod Seen

@@ -14,11 +14,12 @@ ghost use Rattle.tup_graph.specs.Graph.{GraphState, source};
 ghost use Rattle.tup_graph.specs.Kept.{Asked, IsKept, IsKeptSite, IsUnflagged};
 ghost use Rattle.tup_graph.specs.Reach.{stamp_in};
 ghost use Rattle.tup_graph.specs.Records.{Language};
+ghost use Rattle.tup_graph.specs.Transactions.{with_forgotten};
 ghost use Rattle.tup_kept.specs.Held.{Held};
 ghost use Rattle.tup_remains.specs.Over.{IsKeptNow, StandsOver};
 ghost use Rattle.tup_stale.specs.Cleared.{SparesUsers};
 ghost use Rattle.tup_stale.specs.Crash.{ClearStep, LeavesBy};
-ghost use Rattle.tup_stale.specs.Files.{SameBeside};
+ghost use Rattle.tup_stale.specs.Files.{SameBeside, without};
 ghost use Rattle.tup_stale.specs.Unmade.{standing, unmade};
 
 use tup_site::Site;
@@ -69,4 +70,13 @@ pub fn unmade_are_not_asked()
         → ComeTo sources (Ok g.rules) → ((q : Names) → source g q ≡ stamp_in sources q)
         → IsUnflagged g number rule → finite.get g.runs number ≡ Some run
         → Asked rule run path given → among path (unmade g) ≡ false }
+{}
+
+/// A law: a graph that saw the files of a tree sees those that are left where the files at these paths are cleared, once it
+/// forgot the paths.
+pub fn cleared_are_unseen()
+    ensures { (g : GraphState) (tree : Tree) (path : Names)
+        → ((q : Names) → finite.get g.seen q ≡ stamp_in tree q)
+        → finite.get (with_forgotten g (unmade g)).seen path
+        ≡ stamp_in (without tree (standing tree (unmade g))) path }
 {}

@@ -37,7 +37,9 @@ returns-in_default-clause-cause g c = λ tells means.
 pub returns-in_default-clause-commits : goal.returns-in_default-clause-commits
 returns-in_default-clause-commits g c = λ tells.
     let update = c.update_site-rules in
-    (update.result.rules, untold_rules (g.S.Site.world c.args.site.now) c.update_site-rules.result.rules update.result.stopped (update.ensures.rules tells), untold_commits g.R.Runner.tells g.R.Runner.next _ _ _ update.result.stopped (update.ensures.nothing_forgotten tells) (update.ensures.commits tells))
+    let old = g.S.Site.world c.args.site.now in
+    let new = g.S.Site.world update.new.site in
+    (update.result.rules, untold_rules old update.result.rules update.result.stopped (update.ensures.rules tells), untold_commits g.R.Runner.tells g.R.Runner.next update.result.rules old new update.result.stopped (update.ensures.nothing_forgotten tells) (update.ensures.commits tells))
 
 pub returns-in_default-clause-begun : goal.returns-in_default-clause-begun
 returns-in_default-clause-begun g c = λ tells means.
@@ -121,9 +123,10 @@ pub returns-clause-commits : goal.returns-clause-commits
 returns-clause-commits g c = λ tells.
     let update = c.update_site-rules in
     let old = g.S.Site.world c.args.site.now in
-    answered_of old (λ rules. JustCommits rules old (g.S.Site.world update.new.site)) update.result.rules _ _ _ _ update.result.log update.result.stopped _ _ c.status_of-status.ensures c.print-status.ensures.ends
+    let new = g.S.Site.world update.new.site in
+    answered_of old (λ rules. JustCommits rules old new) update.result.rules _ _ _ _ update.result.log update.result.stopped _ _ c.status_of-status.ensures c.print-status.ensures.ends
     update.ensures.counted_cause (update.ensures.rules tells) (update.ensures.commits tells)
-    (untold_commits g.R.Runner.tells g.R.Runner.next _ _ _ update.result.stopped (update.ensures.nothing_forgotten tells) (update.ensures.commits tells))
+    (untold_commits g.R.Runner.tells g.R.Runner.next update.result.rules old new update.result.stopped (update.ensures.nothing_forgotten tells) (update.ensures.commits tells))
 
 pub returns-clause-begun : goal.returns-clause-begun
 returns-clause-begun g c = λ tells means.
