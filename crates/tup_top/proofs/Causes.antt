@@ -14,7 +14,7 @@ use Rattle.tup_access.specs.declared.verdict.Verdict.TheVariants.{Good, Failed, 
 use Rattle.tup_clean.specs.Taken.{Taken}
 use Rattle.tup_update.specs.Log.{LogFits, RulesFit, OfRules}
 use Rattle.tup_update.specs.Ran.{RunsThese}
-use Rattle.tup_update.specs.Outcome.{ExactlyTheFiles, NothingForgotten, HasRunCause, HasCountedCause as StopHasCountedCause}
+use Rattle.tup_update.specs.Outcome.{ExactlyTheFiles, JustCommits, NothingForgotten, HasRunCause, HasCountedCause as StopHasCountedCause}
 use Rattle.tup_update.specs.Sources.{ends, PassesLimit}
 use Rattle.tup_update.specs.Turns.{names_of, TurnsFit}
 use Rattle.tup_update.proofs.Ending.{no_front, whole_front}
@@ -170,6 +170,17 @@ untold_left tells next rules old new (Some (Outside Fault)) fits left files = le
 untold_left tells next rules old new (Some (Outside (TooLarge number))) fits (inl same) files = inl same
 untold_left tells next rules old new (Some (Outside (TooLarge number))) fits (inr (asks, listed)) files = inr (asks, inr (inl listed))
 untold_left tells next rules old new (Some (Outside NoMemory)) fits left files = left
+
+-- and of the commits that were made
+pub untold_commits : (tells : Bool) (next : Next) (rules : List Rule) (old new : World) (stopped : Option Stop) → NothingForgotten tells next rules old new stopped → JustCommits rules old new stopped → JustCommits rules old new (Some (Outside NoMemory))
+untold_commits tells next rules old new None kept made = inr (λ held shows. let it = made held shows in (it.0, it.1, inl it.2))
+untold_commits tells next rules old new (Some NoStore) kept made = inl kept
+untold_commits tells next rules old new (Some (StoreDamaged offset)) kept made = inl kept
+untold_commits tells next rules old new (Some (Sources fault)) kept made = inl kept
+untold_commits tells next rules old new (Some (Bad rule verdict)) kept made = inr (λ held shows. let it = made held shows in (it.0, it.1, inr (inl it.2)))
+untold_commits tells next rules old new (Some Run) kept made = inr (λ held shows. let it = made held shows in (it.0, it.1, inr (inl it.2)))
+untold_commits tells next rules old new (Some Full) kept made = inr made
+untold_commits tells next rules old new (Some (Outside failed)) kept made = made
 
 -- ---- counts
 

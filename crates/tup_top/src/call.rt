@@ -1,5 +1,6 @@
 //! The top call.
 ghost use Rattle.std.specs.Prelude.{◌≡◌, IsTrue, drop, length, map};
+ghost use Rattle.std.specs.Result.{result_err};
 ghost use Rattle.tup_site.specs.Crash.{GoesOn, LeavesOnly};
 ghost use Rattle.tup_ledger.specs.Begin.{Begins};
 ghost use Rattle.tup_update.specs.Compared.{HasCompared};
@@ -8,7 +9,7 @@ ghost use Rattle.tup_ledger.specs.Sources.{HasSources, Kept};
 ghost use Rattle.tup_update.specs.Images.{UpdateStep, with_outputs};
 ghost use Rattle.tup_update.specs.Log.{OfRules};
 ghost use Rattle.tup_update.specs.Settled.{IsSettled};
-ghost use Rattle.tup_update.specs.Outcome.{ExactlyTheFiles, MadeBeforeBad, SourcesStay, NothingForgotten, HasCause, JustCommits};
+ghost use Rattle.tup_update.specs.Outcome.{ExactlyTheFiles, MadeBeforeBad, SourcesStay, NothingForgotten, HasCause, JustCommits, JustOpens};
 ghost use Rattle.tup_top.specs.Order.{IsUpdate, order};
 ghost use Rattle.tup_top.specs.Crew.{IsCrew, CrewRuns, CrewCompares, RanFits, RanInTurn, NothingRun};
 ghost use Rattle.tup_top.specs.Lines.{last_line as line_of};
@@ -118,6 +119,10 @@ pub fn tup<S: Site, R: Runner, K: Sink>(
         → let before = counts S.faults R.faults K.faults site crew.items out.old in
         let now = counts S.faults R.faults K.faults result.site result.crew.items out.new in
         Initializes (order words.now) (S.world site) before now result.status }
+    // A comparison writes nothing but the end of the store, where no gate stood.
+    ensures opens { IsTrue S.tells → let old = S.world site in let new = S.world result.site in
+        ForVerify (order words.now) result.status
+        (λ compared. JustOpens old.store new.store (result_err compared)) }
     ensures compared { IsTrue S.tells → IsTrue R.tells
         → ForVerify (order words.now) result.status (HasCompared R.next (S.world site)) }
     ensures compared_ran { IsTrue S.tells → IsTrue R.tells → IsTrue R.tells_ran

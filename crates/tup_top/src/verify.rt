@@ -4,6 +4,7 @@ ghost use Rattle.std.specs.Result.{result_err};
 ghost use Rattle.tup_site.specs.Crash.{GoesOn};
 ghost use Rattle.tup_update.specs.Compared.{HasCompared, RunsToCompare};
 ghost use Rattle.tup_update.specs.Holding.{HoldsOn};
+ghost use Rattle.tup_update.specs.Outcome.{JustOpens};
 ghost use Rattle.tup_top.specs.Printed.{PrintsComparison};
 ghost use Rattle.tup_top.specs.Promise.{HasComparedCause, counts};
 ghost use Rattle.tup_top.specs.Status.{IfCompared};
@@ -27,6 +28,8 @@ pub(crate) fn verify<S: Site, R: Runner, K: Sink>(
     ensures compared { IsTrue S.tells → IsTrue R.tells
         → IfCompared result (HasCompared R.next (S.world site.old)) }
     ensures holds { IsTrue S.tells → HoldsOn (S.world site.old) (S.world site.new) }
+    ensures opens { IsTrue S.tells → let old = S.world site.old in let new = S.world site.new in
+        IfCompared result (λ compared. JustOpens old.store new.store (result_err compared)) }
     ensures crash { IsTrue S.tells → GoesOn S.moment S.left_since site.old site.new HoldsOn }
     ensures ran { IsTrue S.tells → IsTrue R.tells → IsTrue R.tells_ran
         → let old = S.world site.old in IfCompared result (λ compared.

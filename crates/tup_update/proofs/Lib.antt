@@ -18,5 +18,6 @@ pub mod Storing
 pub mod Behind
 pub mod Ending
 pub mod Keeping
+pub mod Making
 pub mod Safe
 pub mod Comparing

@@ -1,5 +1,5 @@
 -- What a call of the ledger that is refused becomes, and what its graph stands for when files are changed.
-use Rattle.std.proofs.Common.{◌≡◌, ◌≢◌, ◌∙◌, ℕ, Bool, List, Option, None, Some, Result, Ok, Err, inl, inr, refl, sym, ap, subst}
+use Rattle.std.proofs.Common.{◌≡◌, ◌≢◌, ◌⊎◌, ◌∙◌, ℕ, Bool, List, Option, None, Some, Result, Ok, Err, ⊎_elim, inl, inr, refl, sym, ap, subst}
 use Rattle.tup_path.specs.Name.{Names}
 use Rattle.tup_path.specs.Tree.{Tree}
 use Rattle.tup_site.specs.Crash.{GoesOn}
@@ -21,20 +21,21 @@ use Rattle.tup_table.proofs.Going.{IsEarlier, as_step}
 use Rattle.tup_table.proofs.Stores.{reads_one}
 use Rattle.tup_graph.specs.Graph.{GraphState}
 use Rattle.tup_graph.specs.Opening.{IsGraphOf}
-use Rattle.tup_graph.specs.Transactions.{forget_edits}
+use Rattle.tup_graph.specs.Transactions.{forget_edits, with_forgotten}
 use Rattle.tup_graph.specs.declared.edit.Edit.{Edit}
 use Rattle.tup_graph.specs.declared.fault.GraphFault.{GraphFault}
 use Rattle.tup_graph.specs.declared.fault.GraphFault.TheVariants as graph
 use Rattle.tup_kept.specs.Cause.{CountsFaults}
+use Rattle.tup_kept.specs.Crash.{HasEither, IsStoreOf, LeavesEither}
 use Rattle.tup_kept.specs.Held.{Held, StandsFor}
 use Rattle.tup_kept.specs.Opening.{OpensAs, opened_in}
 use Rattle.tup_kept.specs.Transaction.{IsFull, Leaves}
 use Rattle.tup_ledger.specs.Given.{GivesUp, without}
 use Rattle.tup_ledger.specs.Owned.{own_edits, with_owned}
-use Rattle.tup_update.specs.Holding.{HoldsOn, Lists}
+use Rattle.tup_update.specs.Holding.{HoldsOn, IsJustOpened, Lists}
 use Rattle.tup_update.specs.Images.{FilesStep}
 use Rattle.tup_update.specs.Opened.{IsUnopened, StopsOpening}
-use Rattle.tup_update.specs.Outcome.{HasCommits, HasCommitted, HasCountedCause, IsTooFull, JustCommits, ReadsAsGraph, once_owned}
+use Rattle.tup_update.specs.Outcome.{HasCommits, HasCommitted, HasSomeCommits, HasCountedCause, IsTooFull, JustCommits, JustOpens, ReadsAsGraph, once_owned}
 use Rattle.tup_update.specs.Parts.{IsLate, StopsAt}
 use Rattle.tup_update.specs.Sources.{left_over, outputs}
 use Rattle.tup_update.specs.Stopped.{stop_of, stop_of_graph, stop_of_halt}
@@ -44,6 +45,7 @@ use Rattle.tup_update.specs.declared.stop.Stop.{Stop}
 use Rattle.tup_update.specs.declared.stop.Unread.{Unread}
 use Rattle.tup_update.specs.declared.stop.Unread.TheVariants.{Sources as NoRules, Outside as Unlucky}
 use Rattle.tup_update.specs.declared.stop.Stop.TheVariants.{NoStore, BadStore, Sources, Bad, Run, Full, Outside}
+use Rattle.tup_update.proofs.Before.{MakesOn}
 use Rattle.tup_update.proofs.Crashing.{still_listed}
 use Rattle.tup_update.proofs.Held.{of_held, opened_holds}
 
@@ -120,52 +122,94 @@ given_reads rules owned graph then paths left bytes is same other reads =
     let behind = subst (λ (h : Held). ReadsAs bytes (Ok (opened_in (without h left)))) (is ∙ ap (once_owned graph) same) reads in
     subst (λ (l : List Names). ReadsAs bytes (Ok (opened_in (without (once_owned graph (outputs rules)) l)))) other behind
 
+-- a store that reads as a graph is one of it
+pub store_of : (held : Held) (bytes : List ℕ) → ReadsAs bytes (Ok (opened_in held)) → IsGraphOf (entries_in held.table) held.nodes → IsStoreOf held.nodes bytes
+store_of held bytes reads graph = record { entries = entries_in held.table; leaves = (reads.0, reads.1, ap (λ (o : Opened). o.entries) reads.2); stands = graph }
+
+pub either_on : (g h : GraphState) (v w : World) → StoreStays v w → HasEither g h v → HasEither g h w
+either_on g h v w same either = subst (λ (bytes : List ℕ). IsStoreOf g bytes ⊎ IsStoreOf h bytes) (sym same) either
+
+-- behind the first of the two, or before it
+pub first_commits : (rules : List Rule) (owned : List Names) (graph : Held) (paths : List Names) (w : World) → paths ≡ outputs rules → HasEither graph.nodes (with_owned graph.nodes paths) w → HasSomeCommits rules owned graph w.store
+first_commits rules owned graph paths w same (inl is) = inr (inr (inl is))
+first_commits rules owned graph paths w same (inr is) = inr (inr (inr (inl (subst (λ (l : List Names). IsStoreOf (with_owned graph.nodes l) w.store) same is))))
+
+-- behind the second, or before it
+pub last_commits : (rules : List Rule) (owned : List Names) (graph then : Held) (paths left : List Names) (w : World) → then ≡ once_owned graph paths → paths ≡ outputs rules → left ≡ left_over owned rules
+    → HasEither then.nodes (with_forgotten then.nodes left) w → HasSomeCommits rules owned graph w.store
+last_commits rules owned graph then paths left w is same other either =
+    let behind = subst (λ (h : Held). HasEither h.nodes (with_forgotten h.nodes left) w) (is ∙ ap (once_owned graph) same) either in
+    by (subst (λ (l : List Names). HasEither (once_owned graph (outputs rules)).nodes (with_forgotten (once_owned graph (outputs rules)).nodes l) w) other behind)
+  where
+    by : HasEither (once_owned graph (outputs rules)).nodes (with_forgotten (once_owned graph (outputs rules)).nodes (left_over owned rules)) w → HasSomeCommits rules owned graph w.store
+    by (inl was) = inr (inr (inr (inl was)))
+    by (inr now) = inr (inr (inr (inr now)))
+
 module _ (rules : List Rule) (owned : List Names) (graph : Held) (bytes : List ℕ) where
-  -- nothing is said
-  pub late_commits : (stop : Stop) → IsLate stop → HasCommits rules owned graph bytes (Some stop)
-  late_commits NoStore late = absurd late
-  late_commits (BadStore offset) late = absurd late
-  late_commits (Sources fault) late = absurd late
-  late_commits (Bad rule verdict) late = absurd late
-  late_commits Run late = absurd late
-  late_commits Full late = tt
-  late_commits (Outside failed) late = tt
+  pub late_commits : (stop : Stop) → IsLate stop → HasSomeCommits rules owned graph bytes → HasCommits rules owned graph bytes (Some stop)
+  late_commits NoStore late some = absurd late
+  late_commits (BadStore offset) late some = absurd late
+  late_commits (Sources fault) late some = absurd late
+  late_commits (Bad rule verdict) late some = absurd late
+  late_commits Run late some = absurd late
+  late_commits Full late some = some
+  late_commits (Outside failed) late some = some
 
   -- the first
   pub halt_commits : (halt : Halt) → ReadsAs bytes (Ok (opened_in (once_owned graph (outputs rules)))) → HasCommits rules owned graph bytes (Some (stop_of_halt halt))
   halt_commits RunHalted reads = reads
-  halt_commits (Halted failed) reads = tt
+  halt_commits (Halted failed) reads = inr (inl reads)
 
   pub bad_commits : (name : RuleName) (verdict : Verdict) (stop : Stop) → StopsAt name verdict stop → ReadsAs bytes (Ok (opened_in (once_owned graph (outputs rules)))) → HasCommits rules owned graph bytes (Some stop)
   bad_commits name verdict stop (inl is) reads = subst (λ (s : Stop). HasCommits rules owned graph bytes (Some s)) (sym is) reads
-  bad_commits name verdict stop (inr (failed, is, small)) reads = subst (λ (s : Stop). HasCommits rules owned graph bytes (Some s)) (sym is) tt
+  bad_commits name verdict stop (inr (failed, is, small)) reads = subst (λ (s : Stop). HasCommits rules owned graph bytes (Some s)) (sym is) (inr (inl reads))
 
 module _ (rules : List Rule) (old new : World) where
-  pub commits_so : (owned : List Names) (graph : Held) (stopped : Option Stop) → ReadsAsGraph graph old → Lists old.store owned → HasCommits rules owned graph new.store stopped → JustCommits rules old new stopped
-  commits_so owned graph stopped is lists has = by stopped (of_held old owned (λ held. (g : Held) × ReadsAsGraph g old × HasCommits rules held.owned g new.store stopped) lists (graph, is, has))
+  pub commits_so : (owned : List Names) (graph : Held) (stopped : Option Stop) → MakesOn stopped → ReadsAsGraph graph old → Lists old.store owned → HasCommits rules owned graph new.store stopped → JustCommits rules old new stopped
+  commits_so owned graph stopped makes is lists has = by stopped makes (of_held old owned (λ held. (g : Held) × ReadsAsGraph g old × HasCommits rules held.owned g new.store stopped) lists (graph, is, has))
     where
-      by : (stopped : Option Stop) → HasCommitted rules old new stopped → JustCommits rules old new stopped
-      by None made = made
-      by (Some NoStore) made = tt
-      by (Some (BadStore offset)) made = tt
-      by (Some (Sources fault)) made = tt
-      by (Some (Bad name verdict)) made = made
-      by (Some Run) made = made
-      by (Some Full) made = tt
-      by (Some (Outside failed)) made = tt
+      by : (stopped : Option Stop) → MakesOn stopped → HasCommitted rules old new stopped → JustCommits rules old new stopped
+      by None makes made = made
+      by (Some NoStore) makes made = absurd makes
+      by (Some (BadStore offset)) makes made = absurd makes
+      by (Some (Sources fault)) makes made = absurd makes
+      by (Some (Bad name verdict)) makes made = made
+      by (Some Run) makes made = made
+      by (Some Full) makes made = made
+      by (Some (Outside failed)) makes made = inr made
 
-  pub opening_commits : (stop : Stop) → StopsOpening stop → JustCommits rules old new (Some stop)
-  opening_commits NoStore stops = tt
-  opening_commits (BadStore offset) stops = tt
-  opening_commits (Sources fault) stops = tt
-  opening_commits (Bad rule verdict) stops = absurd stops
-  opening_commits Run stops = absurd stops
-  opening_commits Full stops = tt
-  opening_commits (Outside failed) stops = tt
+  -- none, where it stops before it makes any
+  pub opening_commits : (stop : Stop) → StopsOpening stop → HoldsOn old new → JustOpens old.store new.store (Some stop) → JustCommits rules old new (Some stop)
+  opening_commits NoStore stops on opens = opens
+  opening_commits (BadStore offset) stops on opens = opens
+  opening_commits (Sources fault) stops on opens = absurd stops
+  opening_commits (Bad rule verdict) stops on opens = absurd stops
+  opening_commits Run stops on opens = absurd stops
+  opening_commits Full stops on opens = absurd stops
+  opening_commits (Outside failed) stops on opens = inl on
 
-  pub unread_commits : (unread : Unread) → JustCommits rules old new (Some (stop_of unread))
-  unread_commits (NoRules fault) = tt
-  unread_commits (Unlucky failed) = tt
+  pub unread_commits : (unread : Unread) → HoldsOn old new → IsJustOpened old.store new.store → JustCommits rules old new (Some (stop_of unread))
+  unread_commits (NoRules fault) on opens = opens
+  unread_commits (Unlucky failed) on opens = inl on
+
+-- ---- how the store was opened
+
+pub opens_so : (before after : List ℕ) (fault : GraphFault) → OpensAs before after (Err fault) → JustOpens before after (Some (stop_of_graph fault))
+opens_so before after graph.NotThere opens = inl opens.1
+opens_so before after (graph.BadStore offset) opens = ⊎_elim (λ damaged. inl damaged.1) (λ broken. inr (broken.opened, broken.reads, broken.closes)) opens
+opens_so before after graph.Site opens = tt
+opens_so before after graph.Full opens = absurd opens
+opens_so before after graph.Memory opens = tt
+
+pub opened_then : (before after : List ℕ) (stopped : Option Stop) → IsJustOpened before after → JustOpens before after stopped
+opened_then before after None opens = opens
+opened_then before after (Some NoStore) opens = opens
+opened_then before after (Some (BadStore offset)) opens = opens
+opened_then before after (Some (Sources fault)) opens = opens
+opened_then before after (Some (Bad name verdict)) opens = opens
+opened_then before after (Some Run) opens = opens
+opened_then before after (Some Full) opens = opens
+opened_then before after (Some (Outside failed)) opens = tt
 
 -- ---- what stands for a store
 module _ {S : Type 0} (world : S → World) (moment : S → ℕ) (left_since : S → ℕ → World → Type 0) where
@@ -192,6 +236,10 @@ module _ {S : Type 0} (world : S → World) (moment : S → ℕ) (left_since : S
   claimed_reads rules graph then paths site now stands is same stays =
       subst (λ (bytes : List ℕ). ReadsAs bytes (Ok (opened_in (once_owned graph (outputs rules))))) (sym stays)
       (subst (λ (h : Held). ReadsAs (world site).store (Ok (opened_in h))) (is ∙ ap (once_owned graph) same) (stand_reads then site stands))
+
+  -- one of two graphs stands there now, where a crash leaves none but these
+  pub either_now : (old new : S) (g h : GraphState) → IsEarlier moment left_since new → left_since new (moment new) (world new) → LeavesEither moment left_since old new g h → HasEither g h (world new)
+  either_now old new g h earlier present either = either.only.each (world new) (earlier (moment old) (moment new) (world new) either.only.later present)
 
   -- it does so still where files are changed
   pub stands_on : (held : Held) (old new : S) (agree : Tree → Tree → Type 0) → IsEarlier moment left_since new → StoreStays (world old) (world new) → GoesOn moment left_since old new (FilesStep agree) →

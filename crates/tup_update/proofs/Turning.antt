@@ -13,14 +13,15 @@ use Rattle.tup_access.specs.declared.verdict.Verdict.TheVariants.{Good}
 use Rattle.tup_access.specs.Judge.{Judged}
 use Rattle.tup_access.specs.Verdict.{verdict}
 use Rattle.tup_clean.specs.AnyOrder.{MakeApart}
-use Rattle.tup_clean.specs.Clean.{Build, is_good, first_ready, given, builds_on, start, clean}
-use Rattle.tup_clean.specs.Queue.{Notes}
+use Rattle.tup_clean.specs.Clean.{Build, good_at, is_good, first_ready, given, builds_on, start, clean}
+use Rattle.tup_clean.specs.Queue.{IsNext, Notes}
 use Rattle.tup_clean.specs.declared.queue.Queue.{Queue}
 use Rattle.tup_clean.specs.Taken.{Taken, verdicts_of, AreTaken, AllGood, takes_on, takes, up_to_bad}
 use Rattle.tup_clean.proofs.Agreeing.{Agrees, verdict_same, agrees_more, agrees_whole}
 use Rattle.tup_clean.proofs.Building.{IsUnderWay, step-some, under_way_start, under_way_more, under_way_left, under_way_none, built_clean, took_clean}
 use Rattle.tup_clean.proofs.OneBuild.{missing, missing_all, missing_less}
 use Rattle.tup_clean.proofs.Places.{set_here}
+use Rattle.tup_clean.proofs.Taking.{IsQueued, is_left, taken_at, ready_is}
 use Rattle.tup_clean.proofs.Standing.{ready_untaken, none_is_ready, verdict_stays}
 use Rattle.tup_clean.proofs.Turns.{taken_more, verdicts_more, told_append, told_more, good_more, up_to_bad-good, up_to_bad-bad, all_are_taken, succeeds_all}
 use Rattle.tup_update.specs.Parts.{AreNoted, ArePartNoted, BeginsIt, IsBuilt, IsFirstBad, Leaves}
@@ -35,6 +36,19 @@ pub rule_here : (rules items : List Rule) (at : ℕ) (item : Rule) → items ≡
 rule_here rules items at item same rule here is =
     let within : at < length items = subst (λ (l : List Rule). at < length l) (sym same) (slice_get_within rules at rule here) in
     ap (λ (l : List Rule). slice_get l at) (sym same) ∙ slice_get-get_or items at item within ∙ ap (λ (r : Rule). Some r) (sym is)
+
+-- the rule whose turn it is
+pub record HasTurn (rules : List Rule) (ended : List Taken) (at : ℕ) (rule : Rule) : Type 0 where
+  pub ready : first_ready rules (verdicts_of rules ended) ≡ Some at
+  pub here : slice_get rules at ≡ Some rule
+
+-- the one that the queue of the rules gives has it
+pub turn_of : (rules items : List Rule) (ended : List Taken) (queue left : Queue) (at : ℕ) (rule : Rule) → IsQueued rules (verdicts_of rules ended) queue →
+    IsNext rules (is_left (verdicts_of rules ended)) (good_at (verdicts_of rules ended)) (Some at) left → items ≡ rules → rule ≡ get_or items at rule → HasTurn rules ended at rule
+turn_of rules items ended queue left at rule queued next same is =
+    let verdicts = verdicts_of rules ended in
+    let taken = taken_at rules verdicts at left next in
+    record { ready = ready_is rules verdicts at left next queue queued; here = rule_here rules items at rule same taken.rule taken.here is }
 
 -- the verdicts with one more
 pub verdicts_of_more : (rules : List Rule) (ended : List Taken) (at : ℕ) (outcome : Verdict) (noted : List Taken) → noted ≡ ended ++ (at, outcome) ∷ [] →

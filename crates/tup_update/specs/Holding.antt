@@ -7,6 +7,7 @@ use Rattle.tup_table.specs.Entries.{Standing}
 use Rattle.tup_table.specs.Images.{Leaves}
 use Rattle.tup_graph.specs.declared.fault.GraphFault.TheVariants.{BadStore}
 use Rattle.tup_kept.specs.Opening.{OpensAs}
+use Rattle.tup_ledger.specs.Begin.{IsJustClosed}
 pub use Rattle.tup_ledger.specs.Listing.{Lists}
 
 -- the files of a site, and the paths that its store lists
@@ -35,6 +36,10 @@ HasSameEntries before after = (entries : Standing) × Leaves entries before × L
 pub record HoldsOn (old new : World) : Type 0 where
   pub tree : new.tree ≡ old.tree
   pub store : (new.store ≡ old.store) ⊎ HasSameEntries old.store new.store
+
+-- a store is what it was, or a closed gate was written at its end, where none stood
+abbrev pub IsJustOpened : List ℕ → List ℕ → Type 0
+IsJustOpened before after = (after ≡ before) ⊎ IsJustClosed before after
 
 -- a later world lists what an earlier one did: it has the same files, and its store lists the same
 pub record ListsOn (old new : World) : Type 0 where

@@ -17,12 +17,13 @@ use Rattle.tup_table.specs.Reading.{ReadsAs}
 use Rattle.tup_table.specs.Table.{entries_in}
 use Rattle.tup_graph.specs.Opening.{IsGraphOf}
 use Rattle.tup_graph.specs.Transactions.{forget_edits}
+use Rattle.tup_kept.specs.Crash.{IsStoreOf}
 use Rattle.tup_kept.specs.Held.{Held}
 use Rattle.tup_kept.specs.Opening.{opened_in}
 use Rattle.tup_kept.specs.Transaction.{IsFull, after}
 use Rattle.tup_ledger.specs.Given.{without}
 use Rattle.tup_ledger.specs.Owned.{own_edits, with_owned}
-use Rattle.tup_update.specs.Holding.{Holding, HoldsOn, IsDamaged, Lists, ListsOn, OfHeld, holding}
+use Rattle.tup_update.specs.Holding.{Holding, HoldsOn, IsDamaged, IsJustOpened, Lists, ListsOn, OfHeld, holding}
 use Rattle.tup_update.specs.declared.update.Log.{Log}
 use Rattle.tup_update.specs.declared.stop.Stop.{Stop}
 use Rattle.tup_update.specs.declared.stop.Stop.TheVariants.{NoStore, BadStore, Sources, Bad, Run, Full, Outside}
@@ -84,25 +85,43 @@ IsTooFull rules owned graph =
 abbrev pub HasNoRoom : List Rule → Holding → World → Type 0
 HasNoRoom rules held w = (graph : Held) × ReadsAsGraph graph w × IsTooFull rules held.owned graph
 
--- The bytes of a store that read as this graph once, behind an update that has come so far. It makes two commits at most: one that
--- owns the outputs of its rules, and behind that one that gives up what no rule makes. Both were made at its end, and the first
--- where a rule was bad or couldn't be run. After another stop this says nothing.
+-- Bytes of a store that read as this graph once, behind an update that was stopped somewhere. It makes two commits at most: one
+-- that owns the outputs of its rules, and behind that one that gives up what no rule makes. The store has just these, or the first
+-- alone, or it has the graph of before, or the one behind the first, or behind both.
+abbrev pub HasSomeCommits : List Rule → List Names → Held → List ℕ → Type 0
+HasSomeCommits rules owned graph bytes =
+    ReadsAs bytes (Ok (opened_in (without (once_owned graph (outputs rules)) (left_over owned rules))))
+    ⊎ ReadsAs bytes (Ok (opened_in (once_owned graph (outputs rules))))
+    ⊎ IsStoreOf graph.nodes bytes
+    ⊎ IsStoreOf (once_owned graph (outputs rules)).nodes bytes
+    ⊎ IsStoreOf (without (once_owned graph (outputs rules)) (left_over owned rules)).nodes bytes
+
+-- the same, by how far it came: both commits were made at its end, and the first where a rule was bad or couldn't be run
 abbrev pub HasCommits : List Rule → List Names → Held → List ℕ → Option Stop → Type 0
 HasCommits rules owned graph bytes None = ReadsAs bytes (Ok (opened_in (without (once_owned graph (outputs rules)) (left_over owned rules))))
 HasCommits rules owned graph bytes (Some (Bad name verdict)) = ReadsAs bytes (Ok (opened_in (once_owned graph (outputs rules))))
 HasCommits rules owned graph bytes (Some Run) = ReadsAs bytes (Ok (opened_in (once_owned graph (outputs rules))))
-HasCommits rules owned graph bytes (Some stop) = ⊤
+HasCommits rules owned graph bytes (Some stop) = HasSomeCommits rules owned graph bytes
 
 -- so what a store had before an update it has afterwards, but for what is owned, and these commits alone were added
 abbrev pub HasCommitted : List Rule → World → World → Option Stop → Type 0
 HasCommitted rules old new stopped = OfHeld old (λ held. (graph : Held) × ReadsAsGraph graph old × HasCommits rules held.owned graph new.store stopped)
 
--- the same wherever it came so far
+-- the same of every stop: where it made no commit the store was just opened, or holds what it held
 abbrev pub JustCommits : List Rule → World → World → Option Stop → Type 0
 JustCommits rules old new None = HasCommitted rules old new None
 JustCommits rules old new (Some (Bad name verdict)) = HasCommitted rules old new (Some (Bad name verdict))
 JustCommits rules old new (Some Run) = HasCommitted rules old new (Some Run)
-JustCommits rules old new (Some stop) = ⊤
+JustCommits rules old new (Some Full) = HasCommitted rules old new (Some Full)
+JustCommits rules old new (Some NoStore) = IsJustOpened old.store new.store
+JustCommits rules old new (Some (BadStore offset)) = IsJustOpened old.store new.store
+JustCommits rules old new (Some (Sources fault)) = IsJustOpened old.store new.store
+JustCommits rules old new (Some (Outside failed)) = HoldsOn old new ⊎ HasCommitted rules old new (Some (Outside failed))
+
+-- a store that is just opened, and no more; where the outside stops that, nothing is said
+abbrev pub JustOpens : List ℕ → List ℕ → Option Stop → Type 0
+JustOpens before after (Some (Outside failed)) = ⊤
+JustOpens before after stopped = IsJustOpened before after
 
 -- Why an update stops, where the site tells. What is too large is a file of the clean build: where no rules were read, a source.
 abbrev pub HasCause : Next → List Rule → World → Option Stop → Type 0

@@ -9,14 +9,15 @@ ghost use Rattle.tup_clean.specs.Clean.{is_good};
 ghost use Rattle.tup_table.specs.Reading.{ReadsAs};
 ghost use Rattle.tup_table.specs.Table.{entries_in};
 ghost use Rattle.tup_graph.specs.Opening.{IsGraphOf};
-ghost use Rattle.tup_graph.specs.Transactions.{forget_edits};
+ghost use Rattle.tup_graph.specs.Transactions.{forget_edits, with_forgotten};
+ghost use Rattle.tup_kept.specs.Crash.{HasEither};
 ghost use Rattle.tup_kept.specs.Held.{is_fresh, StandsFor};
 ghost use Rattle.tup_kept.specs.Opening.{opened_in};
 ghost use Rattle.tup_kept.specs.Transaction.{IsFull};
 ghost use Rattle.tup_ledger.specs.Ascending.{ascending};
 ghost use Rattle.tup_ledger.specs.Given.{without};
 ghost use Rattle.tup_ledger.specs.Listing.{ListsEither};
-ghost use Rattle.tup_ledger.specs.Owned.{own_edits, owned_in};
+ghost use Rattle.tup_ledger.specs.Owned.{own_edits, owned_in, with_owned};
 ghost use Rattle.tup_ledger.specs.Sources.{HaveNoFiles};
 ghost use Rattle.tup_rule.specs.Rule.{among};
 ghost use Rattle.tup_update.specs.Holding.{Lists};
@@ -188,6 +189,8 @@ fn prepare<S: Site>(
     ensures full { result ≡ Err Full
         → IsFull graph.old (own_edits graph.old.nodes plan.now.outputs) }
     ensures owns { OnOk result (graph.new ≡ once_owned graph.old plan.now.outputs) }
+    ensures either { IsTrue S.tells → let owned = with_owned graph.old.nodes plan.now.outputs in
+        HasEither graph.old.nodes owned (S.world site.new) }
     ensures removed { OnOk result (removed.new ≡ removed.old ++ plan.now.vanished) }
     ensures part { IsGrownByFront removed.old removed.new plan.now.vanished }
     ensures late { IfErr result IsLate }
@@ -269,6 +272,8 @@ fn finish<S: Site>(
         → IsFull graph.old (forget_edits graph.old.nodes left.now) }
     ensures reads { IsTrue S.tells → OnOk result
         (ReadsAs (S.world site.new).store (Ok (opened_in (without graph.old left.now)))) }
+    ensures either { IsTrue S.tells → let rest = with_forgotten graph.old.nodes left.now in
+        HasEither graph.old.nodes rest (S.world site.new) }
     ensures late { IfErr result IsLate }
     ensures counted { HasCountedCause (S.faults site.old) (S.faults site.new) (result_err result) }
 {

@@ -129,12 +129,12 @@ fn came_to(alloc: Global, refused: Option<(Text, Refused)>) -> Result<(Verdict, 
 /// A rule among those of its project.
 #[derive(Drop)]
 struct Sight<'a> {
-    pub rules: &'a Rules,
+    rules: &'a Rules,
     /// What the rules make.
-    pub made: &'a BTreeSet<Path>,
-    pub rule: &'a Rule,
+    made: &'a BTreeSet<Path>,
+    rule: &'a Rule,
     /// What the rule declares.
-    pub declared: &'a BTreeSet<Path>,
+    declared: &'a BTreeSet<Path>,
 }
 
 impl Sight<'_> {
@@ -179,12 +179,12 @@ enum Refused {
 /// The view of the rule's command.
 #[derive(Drop)]
 struct SiteView<'a, 's, 'r, S: Site> {
-    pub sight: Sight<'a>,
-    pub site: &'s mut S,
+    sight: Sight<'a>,
+    site: &'s mut S,
     /// How many asks were answered.
-    pub asked: u32,
+    asked: u32,
     /// The text that got no answer, and why. The caller keeps it.
-    pub refused: &'r mut Option<(Text, Refused)>,
+    refused: &'r mut Option<(Text, Refused)>,
     ghost knows: { IsGenerated sight.rules.now sight.made.now },
     ghost knows_declared: { IsDeclared sight.rule.now sight.declared.now },
     ghost denies: { (text : List ℕ) (verdict : VerdictValue)

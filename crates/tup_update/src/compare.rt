@@ -11,7 +11,7 @@ ghost use Rattle.tup_clean.specs.Ran.{commands};
 ghost use Rattle.tup_update.specs.Compared as specs;
 ghost use Rattle.tup_update.specs.Compared.{HasCompared, HasBuilt, IsGoodBuild, FindsNotGood, RunsToCompare, RunsBuildOf, compared_at};
 ghost use Rattle.tup_update.specs.Holding.{HoldsOn, Lists};
-ghost use Rattle.tup_update.specs.Outcome.{HasCountedCause, HasRunCause};
+ghost use Rattle.tup_update.specs.Outcome.{HasCountedCause, HasRunCause, JustOpens};
 ghost use Rattle.tup_update.specs.Parts.{NamesALargeFile, NoDamage};
 
 use crate::project::{Found, contents};
@@ -47,6 +47,9 @@ pub fn compare_site<S: Site, R: Runner>(
     ensures compared { IsTrue S.tells → IsTrue R.tells
         → HasCompared R.next (S.world site.old) result }
     ensures holds { IsTrue S.tells → HoldsOn (S.world site.old) (S.world site.new) }
+    // Of the store nothing but its end was written, where no gate stood.
+    ensures opens { IsTrue S.tells → let old = S.world site.old in let new = S.world site.new in
+        JustOpens old.store new.store (result_err result) }
     ensures crash { IsTrue S.tells → GoesOn S.moment S.left_since site.old site.new HoldsOn }
     ensures ran { IsTrue S.tells → IsTrue R.tells → IsTrue R.tells_ran
         → RunsToCompare R.next (S.world site.old) (R.ran runner.old) (R.ran runner.new)

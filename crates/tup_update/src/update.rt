@@ -13,7 +13,7 @@ ghost use Rattle.tup_update.specs.Holding.{HoldsOn, Lists};
 ghost use Rattle.tup_update.specs.Images.{UpdateStep, with_outputs};
 ghost use Rattle.tup_update.specs.Log.{IsEmptyLog, LogFits, RulesFit};
 ghost use Rattle.tup_update.specs.Opened.{IsOpened, IsUnopened, StopsOpening};
-ghost use Rattle.tup_update.specs.Outcome.{Keeps, Stays, ExactlyTheFiles, MadeBeforeBad, SourcesStay, NothingForgotten, HasCause, HasCountedCause, HasRunCause, JustCommits};
+ghost use Rattle.tup_update.specs.Outcome.{Keeps, Stays, ExactlyTheFiles, MadeBeforeBad, SourcesStay, NothingForgotten, HasCause, HasCountedCause, HasRunCause, JustCommits, JustOpens};
 ghost use Rattle.tup_update.specs.Ran.{RunsThese};
 ghost use Rattle.tup_update.specs.Settled.{IsSettled};
 ghost use Rattle.tup_update.specs.Turns.{TurnsFit};
@@ -158,6 +158,8 @@ pub(crate) fn opened<S: Site>(alloc: Global, site: &mut S) -> Result<(Graph, Pat
     ensures lists { IsTrue S.tells
         → IfOk result (λ opened. Lists (S.world site.new).store opened.1) }
     ensures holds { IsTrue S.tells → HoldsOn (S.world site.old) (S.world site.new) }
+    ensures opens { IsTrue S.tells → let old = S.world site.old in let new = S.world site.new in
+        JustOpens old.store new.store (result_err result) }
     ensures cause { IsTrue S.tells → IfErr result (IsUnopened (S.world site.old)) }
     ensures crash { IsTrue S.tells → GoesOn S.moment S.left_since site.old site.new HoldsOn }
     ensures stops { IfErr result StopsOpening }

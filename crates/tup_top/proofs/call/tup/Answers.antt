@@ -1,11 +1,12 @@
 use Rattle.std.proofs.Common.{[], map, inl, refl, sym, subst}
 use Rattle.std.specs.Prelude.{slice_set}
+use Rattle.std.specs.Result.{result_err}
 use Rattle.tup_site.specs.Crash.{GoesOn, LeavesOnly}
 use Rattle.tup_ledger.specs.Sources.{HasSources}
 use Rattle.tup_update.specs.Compared.{HasCompared}
 use Rattle.tup_update.specs.Images.{UpdateStep, with_outputs}
 use Rattle.tup_update.specs.Log.{OfRules}
-use Rattle.tup_update.specs.Outcome.{ExactlyTheFiles, MadeBeforeBad, NothingForgotten, HasCause, JustCommits}
+use Rattle.tup_update.specs.Outcome.{ExactlyTheFiles, MadeBeforeBad, NothingForgotten, HasCause, JustCommits, JustOpens}
 use Rattle.tup_update.specs.Settled.{IsSettled}
 use Rattle.tup_update.specs.Sources.{ends}
 use Rattle.tup_update.specs.Turns.{names_of}
@@ -139,7 +140,7 @@ returns-clause-cause g c = λ _ _.
 pub returns-clause-commits : goal.returns-clause-commits
 returns-clause-commits g c = λ _.
     let world = g.S.Site.world c.args.site in
-    memory_of (order c.args.words.now) world (λ rules. JustCommits rules world world) tt
+    memory_of (order c.args.words.now) world (λ rules. JustCommits rules world world) (inl (holds_itself world))
 
 pub returns-clause-begun : goal.returns-clause-begun
 returns-clause-begun g c = λ _ _.
@@ -161,6 +162,11 @@ pub returns-clause-printed : goal.returns-clause-printed
 returns-clause-printed g c = λ _.
     memory_prints g.S.Site.tells g.R.Runner.tells (order c.args.words.now) g.R.Runner.next (g.S.Site.world c.args.site) c.new-in-Err-Memory.result (g.K.Sink.faults c.args.out.now) (g.K.Sink.held c.args.out.now)
     c.new-in-Err-Memory.ensures
+
+pub returns-clause-opens : goal.returns-clause-opens
+returns-clause-opens g c = λ _.
+    let bytes = (g.S.Site.world c.args.site).store in
+    memory_for_verify (order c.args.words.now) (λ compared. JustOpens bytes bytes (result_err compared)) tt
 
 pub returns-clause-compared : goal.returns-clause-compared
 returns-clause-compared g c = λ _ _. memory_for_verify (order c.args.words.now) (HasCompared g.R.Runner.next (g.S.Site.world c.args.site)) tt

@@ -8,7 +8,7 @@ use Rattle.tup_update.specs.Ran.{RunsThese}
 use Rattle.tup_update.specs.Settled.{IsSettled}
 use Rattle.tup_top.specs.Crew.{RanFits, RanInTurn}
 use Rattle.tup_top.specs.Promise.{CountsAll}
-use Rattle.tup_top.proofs.Causes.{answered, answered_of, told_of, untold_rules, untold_left, untold_ran, untold_turns, untold_runs, ran_fits, counts_all, counted_cause, prints_nothing, prints_update}
+use Rattle.tup_top.proofs.Causes.{answered, answered_of, told_of, untold_rules, untold_commits, untold_left, untold_ran, untold_turns, untold_runs, ran_fits, counts_all, counted_cause, prints_nothing, prints_update}
 use Rattle.tup_top.proofs.update.update.Goals as goal
 
 -- ---- no memory for its lines
@@ -37,7 +37,7 @@ returns-in_default-clause-cause g c = λ tells means.
 pub returns-in_default-clause-commits : goal.returns-in_default-clause-commits
 returns-in_default-clause-commits g c = λ tells.
     let update = c.update_site-rules in
-    (update.result.rules, untold_rules (g.S.Site.world c.args.site.now) c.update_site-rules.result.rules update.result.stopped (update.ensures.rules tells), tt)
+    (update.result.rules, untold_rules (g.S.Site.world c.args.site.now) c.update_site-rules.result.rules update.result.stopped (update.ensures.rules tells), untold_commits g.R.Runner.tells g.R.Runner.next _ _ _ update.result.stopped (update.ensures.nothing_forgotten tells) (update.ensures.commits tells))
 
 pub returns-in_default-clause-begun : goal.returns-in_default-clause-begun
 returns-in_default-clause-begun g c = λ tells means.
@@ -122,7 +122,8 @@ returns-clause-commits g c = λ tells.
     let update = c.update_site-rules in
     let old = g.S.Site.world c.args.site.now in
     answered_of old (λ rules. JustCommits rules old (g.S.Site.world update.new.site)) update.result.rules _ _ _ _ update.result.log update.result.stopped _ _ c.status_of-status.ensures c.print-status.ensures.ends
-    update.ensures.counted_cause (update.ensures.rules tells) (update.ensures.commits tells) tt
+    update.ensures.counted_cause (update.ensures.rules tells) (update.ensures.commits tells)
+    (untold_commits g.R.Runner.tells g.R.Runner.next _ _ _ update.result.stopped (update.ensures.nothing_forgotten tells) (update.ensures.commits tells))
 
 pub returns-clause-begun : goal.returns-clause-begun
 returns-clause-begun g c = λ tells means.

@@ -1,6 +1,7 @@
 use Rattle.std.proofs.Common.{rules}
 use Rattle.std.specs.Result.{result_err}
 use Rattle.tup_update.specs.Compared.{HasCompared, RunsToCompare}
+use Rattle.tup_update.specs.Outcome.{JustOpens}
 use Rattle.tup_top.proofs.Verified.{compared_answered, untold_compared, compared_counts, prints_compared}
 use Rattle.tup_top.proofs.verify.verify.Goals as goal
 
@@ -9,6 +10,12 @@ returns-in-Ok-clause-compared g c = λ tells means.
     let compared = c.compare_site in
     compared_answered (HasCompared g.R.Runner.next (g.S.Site.world c.args.site.now)) _ _ _ _ compared.result _ _ c.status_of_compared-status.ensures c.print.ensures.ends
     compared.ensures.counted_cause (compared.ensures.compared tells means) tt
+
+pub returns-in-Ok-clause-opens : goal.returns-in-Ok-clause-opens
+returns-in-Ok-clause-opens g c = λ tells.
+    let compared = c.compare_site in
+    compared_answered (λ result. JustOpens (g.S.Site.world c.args.site.now).store (g.S.Site.world compared.new.site).store (result_err result)) _ _ _ _ compared.result _ _ c.status_of_compared-status.ensures c.print.ensures.ends
+    compared.ensures.counted_cause (compared.ensures.opens tells) tt
 
 pub returns-in-Ok-clause-ran : goal.returns-in-Ok-clause-ran
 returns-in-Ok-clause-ran g c = λ tells means shows.

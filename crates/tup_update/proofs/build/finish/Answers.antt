@@ -13,7 +13,7 @@ use Rattle.tup_update.specs.declared.stop.Stop.TheVariants.{Full}
 use Rattle.tup_update.proofs.Crashing.{given_so}
 use Rattle.tup_update.proofs.Handed.{err_if}
 use Rattle.tup_update.proofs.Keeping.{err_is}
-use Rattle.tup_update.proofs.Storing.{given_late, given_full, graph_counts, stand_reads}
+use Rattle.tup_update.proofs.Storing.{either_now, given_late, given_full, graph_counts, stand_reads}
 use Rattle.tup_update.proofs.build.finish.Goals as goal
 
 pub returns-in_err-give_up-clause-late : goal.returns-in_err-give_up-clause-late
@@ -57,3 +57,17 @@ returns-clause-reads g c = λ tells.
     let site = c.give_up.new.site in
     subst (λ (h : Held). ReadsAs (g.S.Site.world site).store (Ok (opened_in h))) c.in_ok-give_up.ensures.gives_up.0
     (stand_reads g.S.Site.world g.S.Site.moment g.S.Site.left_since c.give_up.new.graph site (c.give_up.ensures.stands tells c.in_ok-give_up.ensures.owned.0))
+
+pub returns-in_err-give_up-clause-either : goal.returns-in_err-give_up-clause-either
+returns-in_err-give_up-clause-either g c = λ tells.
+    let site_laws = g.met.S.Site g.world.𝓛 g.world.𝓜 g.world.𝓡 ((λ s x. x), (λ x. x), (λ x. x), λ x. x) in
+    let nodes = c.args.graph.now.nodes in
+    let new = c.give_up.new.site in
+    either_now g.S.Site.world g.S.Site.moment g.S.Site.left_since c.args.site.now new nodes (with_forgotten nodes c.args.left.now) (λ t u w le left. site_laws.earlier new t u w tells le left) (site_laws.present new tells) (c.give_up.ensures.crash tells)
+
+pub returns-clause-either : goal.returns-clause-either
+returns-clause-either g c = λ tells.
+    let site_laws = g.met.S.Site g.world.𝓛 g.world.𝓜 g.world.𝓡 ((λ s x. x), (λ x. x), (λ x. x), λ x. x) in
+    let nodes = c.args.graph.now.nodes in
+    let new = c.give_up.new.site in
+    either_now g.S.Site.world g.S.Site.moment g.S.Site.left_since c.args.site.now new nodes (with_forgotten nodes c.args.left.now) (λ t u w le left. site_laws.earlier new t u w tells le left) (site_laws.present new tells) (c.give_up.ensures.crash tells)

@@ -1,6 +1,7 @@
 use Rattle.std.proofs.Common.{◌≡◌, ◌∙◌, ◌++◌, ℕ, ⊎_elim, inl, inr, sym, ap, subst, List, Some, Err}
 use Rattle.std.specs.Result.{result_err}
 use Rattle.tup_path.specs.Name.{Names}
+use Rattle.tup_kept.specs.Crash.{HasEither}
 use Rattle.tup_kept.specs.Transaction.{IsFull}
 use Rattle.tup_ledger.specs.Ascending.{ascending}
 use Rattle.tup_ledger.specs.Owned.{own_edits, owned_in, with_owned}
@@ -13,7 +14,7 @@ use Rattle.tup_ledger.proofs.Keys.{owned_with}
 use Rattle.tup_update.proofs.Crashing.{prepared, still_listed, written_only}
 use Rattle.tup_update.proofs.Handed.{err_if}
 use Rattle.tup_update.proofs.Keeping.{err_is}
-use Rattle.tup_update.proofs.Storing.{committed_late, committed_full, graph_counts, site_late, site_counts, stands_on}
+use Rattle.tup_update.proofs.Storing.{committed_late, committed_full, graph_counts, either_now, either_on, site_late, site_counts, stands_on}
 use Rattle.tup_update.proofs.build.prepare.Goals as goal
 
 -- ---- what couldn't be owned
@@ -132,3 +133,31 @@ returns-clause-stands g c = λ tells.
     let new = c.clear.new.site in
     stands_on g.S.Site.world g.S.Site.moment g.S.Site.left_since c.own.new.graph mid new (SameBeside c.as_slice-2.result.now) (λ t u w le left. site_laws.earlier new t u w tells le left) (c.clear.ensures.store tells) (c.clear.ensures.crash tells)
     (c.own.ensures.stands tells c.in_ok-own.ensures.owned.0)
+
+-- ---- which graph the store has
+
+pub returns-in_err-own-clause-either : goal.returns-in_err-own-clause-either
+returns-in_err-own-clause-either g c = λ tells.
+    let site_laws = g.met.S.Site g.world.𝓛 g.world.𝓜 g.world.𝓡 ((λ s x. x), (λ x. x), (λ x. x), λ x. x) in
+    let nodes = c.args.graph.now.nodes in
+    let mid = c.own.new.site in
+    subst (λ (paths : List Names). HasEither nodes (with_owned nodes paths) (g.S.Site.world mid)) c.as_slice.ensures
+    (either_now g.S.Site.world g.S.Site.moment g.S.Site.left_since c.args.site.now mid nodes (with_owned nodes c.as_slice.result.now) (λ t u w le left. site_laws.earlier mid t u w tells le left) (site_laws.present mid tells) (c.own.ensures.crash tells))
+
+pub returns-in_err-clear-clause-either : goal.returns-in_err-clear-clause-either
+returns-in_err-clear-clause-either g c = λ tells.
+    let site_laws = g.met.S.Site g.world.𝓛 g.world.𝓜 g.world.𝓡 ((λ s x. x), (λ x. x), (λ x. x), λ x. x) in
+    let nodes = c.args.graph.now.nodes in
+    let mid = c.own.new.site in
+    either_on nodes (with_owned nodes c.args.plan.now.outputs) (g.S.Site.world mid) (g.S.Site.world c.clear.new.site) (c.clear.ensures.store tells)
+    (subst (λ (paths : List Names). HasEither nodes (with_owned nodes paths) (g.S.Site.world mid)) c.as_slice.ensures
+    (either_now g.S.Site.world g.S.Site.moment g.S.Site.left_since c.args.site.now mid nodes (with_owned nodes c.as_slice.result.now) (λ t u w le left. site_laws.earlier mid t u w tells le left) (site_laws.present mid tells) (c.own.ensures.crash tells)))
+
+pub returns-clause-either : goal.returns-clause-either
+returns-clause-either g c = λ tells.
+    let site_laws = g.met.S.Site g.world.𝓛 g.world.𝓜 g.world.𝓡 ((λ s x. x), (λ x. x), (λ x. x), λ x. x) in
+    let nodes = c.args.graph.now.nodes in
+    let mid = c.own.new.site in
+    either_on nodes (with_owned nodes c.args.plan.now.outputs) (g.S.Site.world mid) (g.S.Site.world c.clear.new.site) (c.clear.ensures.store tells)
+    (subst (λ (paths : List Names). HasEither nodes (with_owned nodes paths) (g.S.Site.world mid)) c.as_slice.ensures
+    (either_now g.S.Site.world g.S.Site.moment g.S.Site.left_since c.args.site.now mid nodes (with_owned nodes c.as_slice.result.now) (λ t u w le left. site_laws.earlier mid t u w tells le left) (site_laws.present mid tells) (c.own.ensures.crash tells)))

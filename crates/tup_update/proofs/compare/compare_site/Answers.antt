@@ -1,13 +1,21 @@
 use Rattle.std.proofs.Common.{ℕ, sym, subst}
 use Rattle.std.specs.Result.{result_err}
-use Rattle.tup_update.specs.Holding.{HoldsOn}
+use Rattle.tup_site.specs.World.{World}
+use Rattle.tup_update.specs.Holding.{HoldsOn, IsJustOpened}
 use Rattle.tup_update.specs.Outcome.{HasCountedCause}
 use Rattle.tup_update.proofs.Comparing.{compared_before, runs_before}
 use Rattle.tup_update.proofs.Crashing.{then_quiet}
+use Rattle.tup_update.proofs.Storing.{opened_then}
 use Rattle.tup_update.proofs.compare.compare_site.Goals as goal
 
 pub returns-clause-holds : goal.returns-clause-holds
 returns-clause-holds g c = λ tells. subst (HoldsOn (g.S.Site.world c.args.site.now)) (sym (c.compare_beside.ensures.same tells)) (c.opened.ensures.holds tells)
+
+pub returns-clause-opens : goal.returns-clause-opens
+returns-clause-opens g c = λ tells.
+    let before = (g.S.Site.world c.args.site.now).store in
+    opened_then before (g.S.Site.world c.compare_beside.new.site).store (result_err c.compare_beside.result)
+    (subst (λ (w : World). IsJustOpened before w.store) (sym (c.compare_beside.ensures.same tells)) (c.in_ok-owned.ensures.opens tells))
 
 pub returns-clause-crash : goal.returns-clause-crash
 returns-clause-crash g c = λ tells. then_quiet g.S.Site.moment g.S.Site.left_since c.args.site.now c.opened.new.site c.compare_beside.new.site HoldsOn (c.opened.ensures.crash tells) (c.compare_beside.ensures.crash tells)

@@ -3,7 +3,7 @@ use Rattle.std.specs.Result.{result_err}
 use Rattle.tup_path.specs.Tree.{Tree}
 use Rattle.tup_site.specs.World.{World}
 use Rattle.tup_table.specs.Reading.{ReadsAs}
-use Rattle.tup_update.specs.Holding.{HoldsOn, Lists}
+use Rattle.tup_update.specs.Holding.{HoldsOn, IsJustOpened, Lists}
 use Rattle.tup_update.specs.Outcome.{JustCommits, Stays, Keeps}
 use Rattle.tup_update.specs.Parts.{IsUnread}
 use Rattle.tup_update.specs.Settled.{IsSettled}
@@ -131,14 +131,14 @@ returns-in_err-graph-clause-commits g c = λ tells.
     let old = g.S.Site.world c.args.site.now in
     let new = g.S.Site.world c.opened.new.site in
     let stop = c.in_err-graph.field-0.0 in
-    subst (JustCommits c.args.rules.now old new) (sym (err_is c.from_residual.result stop c.from_residual.ensures.1)) (opening_commits c.args.rules.now old new stop c.in_err-graph.ensures.stops)
+    subst (JustCommits c.args.rules.now old new) (sym (err_is c.from_residual.result stop c.from_residual.ensures.1)) (opening_commits c.args.rules.now old new stop c.in_err-graph.ensures.stops (c.opened.ensures.holds tells) (c.in_err-graph.ensures.opens tells))
 
 pub returns-in_err-project-clause-commits : goal.returns-in_err-project-clause-commits
 returns-in_err-project-clause-commits g c = λ tells.
     let old = g.S.Site.world c.args.site.now in
     let new = g.S.Site.world c.read.new.site in
     let unread = c.in_err-project.field-0.0 in
-    subst (JustCommits c.args.rules.now old new) (sym (err_is c.from_residual-in_err-project.result (stop_of unread) c.from_residual-in_err-project.ensures.1)) (unread_commits c.args.rules.now old new unread)
+    subst (JustCommits c.args.rules.now old new) (sym (err_is c.from_residual-in_err-project.result (stop_of unread) c.from_residual-in_err-project.ensures.1)) (unread_commits c.args.rules.now old new unread (subst (HoldsOn old) (sym (c.read.ensures.same tells)) (c.opened.ensures.holds tells)) (subst (λ (w : World). IsJustOpened old.store w.store) (sym (c.read.ensures.same tells)) (c.in_ok-graph.ensures.opens tells)))
 
 pub returns-clause-commits : goal.returns-clause-commits
 returns-clause-commits g c = λ tells.
@@ -147,4 +147,4 @@ returns-clause-commits g c = λ tells.
     let new = g.S.Site.world c.build-built.new.site in
     let project = c.in_ok-project.project in
     let lists = lists_back old opened (c.opened.ensures.holds tells) project.owned (subst (Lists opened.store) (sym c.in_ok-project.ensures.owned) (c.in_ok-graph.ensures.lists tells)) in
-    commits_so project.rules old new project.owned c.in_ok-graph.graph (result_err c.build-built.result) (record { reads = c.in_ok-graph.ensures.reads tells; stands = c.in_ok-graph.ensures.graph }) lists (c.build-built.ensures.commits tells)
+    commits_so project.rules old new project.owned c.in_ok-graph.graph (result_err c.build-built.result) (makes_on c.build-built.result c.build-built.ensures.makes) (record { reads = c.in_ok-graph.ensures.reads tells; stands = c.in_ok-graph.ensures.graph }) lists (c.build-built.ensures.commits tells)

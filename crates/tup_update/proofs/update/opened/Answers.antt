@@ -1,17 +1,18 @@
-use Rattle.std.proofs.Common.{ap, sym, subst, ◌∙◌}
+use Rattle.std.proofs.Common.{inr, ap, sym, subst, ◌∙◌}
 use Rattle.tup_table.specs.Table.{entries_in}
 use Rattle.tup_graph.specs.Opening.{IsGraphOf}
+use Rattle.tup_kept.specs.Opening.{opened_in}
 use Rattle.tup_ledger.specs.Owned.{owned_in}
 use Rattle.tup_site.specs.declared.fault.SiteFailed.TheVariants.{Memory}
 use Rattle.tup_update.specs.Holding.{Lists}
 use Rattle.tup_update.specs.Opened.{IsUnopened, StopsOpening}
-use Rattle.tup_update.specs.Outcome.{HasCountedCause}
+use Rattle.tup_update.specs.Outcome.{HasCountedCause, JustOpens}
 use Rattle.tup_update.specs.Stopped.{stop_of_graph}
 use Rattle.tup_update.specs.declared.stop.Stop.TheVariants.{Outside}
 use Rattle.tup_update.proofs.Handed.{err_if}
 use Rattle.tup_update.proofs.Held.{kept_holds}
 use Rattle.tup_update.proofs.Keeping.{err_is}
-use Rattle.tup_update.proofs.Storing.{graph_counts, opening_on, opening_stops, unopened}
+use Rattle.tup_update.proofs.Storing.{graph_counts, opening_on, opening_stops, opens_so, unopened}
 use Rattle.tup_update.proofs.update.opened.Goals as goal
 
 -- ---- it couldn't be opened
@@ -41,7 +42,18 @@ returns-in_err-graph-clause-counted g c =
     let now = g.S.Site.faults c.open.new.site in
     subst (HasCountedCause before now) (sym (err_is c.from_residual.result (stop_of_graph fault) c.from_residual.ensures.1)) (graph_counts before now c.open.result fault c.in_err-graph.was c.open.ensures.cause)
 
+pub returns-in_err-graph-clause-opens : goal.returns-in_err-graph-clause-opens
+returns-in_err-graph-clause-opens g c = λ tells.
+    let before = (g.S.Site.world c.args.site.now).store in
+    let after = (g.S.Site.world c.open.new.site).store in
+    let fault = c.in_err-graph.field-0.0 in
+    subst (JustOpens before after) (sym (err_is c.from_residual.result (stop_of_graph fault) c.from_residual.ensures.1)) (opens_so before after fault (c.in_err-graph.ensures.opens tells))
+
 -- ---- there was no memory for its paths
+
+pub returns-in_err-owned-clause-opens : goal.returns-in_err-owned-clause-opens
+returns-in_err-owned-clause-opens g c = λ tells.
+    subst (JustOpens (g.S.Site.world c.args.site.now).store (g.S.Site.world c.open.new.site).store) (sym (err_is c.from_residual-in_err-owned.result (Outside Memory) c.from_residual-in_err-owned.ensures.1)) tt
 
 pub returns-in_err-owned-clause-holds : goal.returns-in_err-owned-clause-holds
 returns-in_err-owned-clause-holds g c = λ tells. kept_holds (g.S.Site.world c.args.site.now) (g.S.Site.world c.open.new.site) (c.open.ensures.keeps tells)
@@ -59,6 +71,9 @@ returns-in_err-owned-clause-crash g c = λ tells. opening_on g.S.Site.moment g.S
 
 pub returns-clause-graph : goal.returns-clause-graph
 returns-clause-graph g c = subst (IsGraphOf (entries_in c.in_ok-graph.graph.table)) c.nodes.ensures.value (c.nodes.ensures.graph c.in_ok-graph.ensures.fresh)
+
+pub returns-clause-opens : goal.returns-clause-opens
+returns-clause-opens g c = λ tells. let opens = c.in_ok-graph.ensures.opens tells in inr (opened_in c.in_ok-graph.graph, opens.0, opens.1)
 
 pub returns-clause-reads : goal.returns-clause-reads
 returns-clause-reads g c = λ tells. (c.in_ok-graph.ensures.opens tells).0

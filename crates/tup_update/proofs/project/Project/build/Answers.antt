@@ -1,5 +1,4 @@
 use Rattle.std.proofs.Common.{ℕ, List, ◌++◌, IfSome, Some, Ok, Err, ⊎_elim, inl, inr, sym, ◌∙◌, ap, subst}
-use Rattle.tup_path.specs.Name.{Names}
 use Rattle.tup_ledger.specs.Ascending.{ascending}
 use Rattle.tup_ledger.specs.Owned.{owned_in}
 use Rattle.tup_update.specs.Holding.{Lists}
@@ -18,18 +17,17 @@ use Rattle.tup_update.specs.declared.stop.Stop.{Stop}
 use Rattle.tup_update.specs.declared.stop.Stop.TheVariants.{Outside}
 use Rattle.tup_update.specs.declared.update.Log.{Log}
 use Rattle.tup_update.proofs.Begun.{ran_none, ran_all_of, stopped_runs}
-use Rattle.tup_update.specs.Holding.{holding}
-use Rattle.tup_update.proofs.Ending.{vanished_are}
 use Rattle.tup_update.proofs.Known.{given_up, none_left}
-use Rattle.tup_update.proofs.Storing.{bad_commits, claimed_reads, given_reads, halt_commits, late_commits, none_to_give, none_to_own, read_as, stands_on}
+use Rattle.tup_update.proofs.Storing.{bad_commits, claimed_reads, first_commits, given_reads, halt_commits, last_commits, late_commits, none_to_give, none_to_own, read_as, stand_reads, stands_on, store_of}
 use Rattle.tup_ledger.specs.Sources.{HaveNoFiles}
 use Rattle.tup_update.specs.Parts.{StopsMaking}
 use Rattle.tup_update.proofs.Handed.{err_if}
 use Rattle.tup_update.proofs.Settling.{late_makes, halt_makes, stopped_makes}
-use Rattle.tup_update.proofs.Keeping.{IsUnderWay, all_made, err_is, way_runnable, unplanned_stays, unplanned_keeps, unprepared_stays, unprepared_keeps, unrun_stays, unrun_keeps, stopped_stays, stopped_keeps, unfinished_stays, unfinished_keeps, finished_stays, finished_keeps}
+use Rattle.tup_update.proofs.Keeping.{all_made, err_is, way_runnable, unplanned_stays, unplanned_keeps, unprepared_stays, unprepared_keeps, unrun_stays, unrun_keeps, stopped_stays, stopped_keeps, unfinished_stays, unfinished_keeps, finished_stays, finished_keeps}
 use Rattle.tup_update.proofs.Settling.{halted_unsettled, late_unsettled}
 use Rattle.tup_update.specs.Images.{MakesStep}
-use Rattle.tup_update.proofs.Crashing.{at_rest, then_quiet, still_lists, store_reads, prepared_so, ran_so, finished_so}
+use Rattle.tup_update.proofs.Crashing.{at_rest, then_quiet}
+use Rattle.tup_update.proofs.Making.{under_way, may_be_prepared, may_have_run, may_be_finished}
 use Rattle.tup_update.proofs.project.Project.build.Goals as goal
 
 -- ---- what could not be planned
@@ -66,12 +64,7 @@ returns-in_err-prepare-clause-stays g c = λ tells.
     let project = c.args.self.now in
     let plan = c.in_ok-plan.plan in
     let claiming = ascending (owned_in c.args.graph.now.nodes ++ plan.outputs) in
-    let way : IsUnderWay project old mid plan.vanished claiming = record {
-      is = c.requires.project tells;
-      vanishes = c.in_ok-plan.ensures.vanished ∙ vanished_are project old (c.requires.project tells);
-      claims = λ i. ascending (sym c.requires.opened.owned i ++ c.in_ok-plan.ensures.outputs i);
-      beside = c.prepare.ensures.others tells;
-    } in
+    let way = under_way project old mid plan.vanished (owned_in c.args.graph.now.nodes) plan.outputs (c.requires.project tells) c.in_ok-plan.ensures.vanished c.requires.opened.owned c.in_ok-plan.ensures.outputs (c.prepare.ensures.others tells) in
     let log : Log = record { read = c.args.log.now.read; removed = c.prepare.new.removed; ran = c.args.log.now.ran; ended = c.args.log.now.ended } in
     let stop = c.in_err-prepare.field-0.0 in
     subst (Stays g.R.Runner.tells g.R.Runner.next project.rules old mid (with_read project.read log)) (sym (err_is c.from_residual-in_err-prepare.result stop c.from_residual-in_err-prepare.ensures.1))
@@ -85,12 +78,7 @@ returns-in_err-prepare-clause-kept g c = λ tells means.
     let project = c.args.self.now in
     let plan = c.in_ok-plan.plan in
     let claiming = ascending (owned_in c.args.graph.now.nodes ++ plan.outputs) in
-    let way : IsUnderWay project old mid plan.vanished claiming = record {
-      is = c.requires.project tells;
-      vanishes = c.in_ok-plan.ensures.vanished ∙ vanished_are project old (c.requires.project tells);
-      claims = λ i. ascending (sym c.requires.opened.owned i ++ c.in_ok-plan.ensures.outputs i);
-      beside = c.prepare.ensures.others tells;
-    } in
+    let way = under_way project old mid plan.vanished (owned_in c.args.graph.now.nodes) plan.outputs (c.requires.project tells) c.in_ok-plan.ensures.vanished c.requires.opened.owned c.in_ok-plan.ensures.outputs (c.prepare.ensures.others tells) in
     let log : Log = record { read = c.args.log.now.read; removed = c.prepare.new.removed; ran = c.args.log.now.ran; ended = c.args.log.now.ended } in
     let stop = c.in_err-prepare.field-0.0 in
     subst (Keeps g.R.Runner.next project.rules old mid (with_read project.read log)) (sym (err_is c.from_residual-in_err-prepare.result stop c.from_residual-in_err-prepare.ensures.1))
@@ -123,12 +111,7 @@ returns-in_err-bad-clause-stays g c = λ tells.
     let project = c.args.self.now in
     let plan = c.in_ok-plan.plan in
     let claiming = ascending (owned_in c.args.graph.now.nodes ++ plan.outputs) in
-    let way : IsUnderWay project old mid plan.vanished claiming = record {
-      is = c.requires.project tells;
-      vanishes = c.in_ok-plan.ensures.vanished ∙ vanished_are project old (c.requires.project tells);
-      claims = λ i. ascending (sym c.requires.opened.owned i ++ c.in_ok-plan.ensures.outputs i);
-      beside = c.prepare.ensures.others tells;
-    } in
+    let way = under_way project old mid plan.vanished (owned_in c.args.graph.now.nodes) plan.outputs (c.requires.project tells) c.in_ok-plan.ensures.vanished c.requires.opened.owned c.in_ok-plan.ensures.outputs (c.prepare.ensures.others tells) in
     let log : Log = record { read = c.args.log.now.read; removed = c.prepare.new.removed; ran = c.run.new.ran; ended = c.run.new.ended } in
     let ran = g.S.Site.world c.run.new.site in
     let halt = c.in_err-bad.field-0.0 in
@@ -143,12 +126,7 @@ returns-in_err-bad-clause-kept g c = λ tells means.
     let project = c.args.self.now in
     let plan = c.in_ok-plan.plan in
     let claiming = ascending (owned_in c.args.graph.now.nodes ++ plan.outputs) in
-    let way : IsUnderWay project old mid plan.vanished claiming = record {
-      is = c.requires.project tells;
-      vanishes = c.in_ok-plan.ensures.vanished ∙ vanished_are project old (c.requires.project tells);
-      claims = λ i. ascending (sym c.requires.opened.owned i ++ c.in_ok-plan.ensures.outputs i);
-      beside = c.prepare.ensures.others tells;
-    } in
+    let way = under_way project old mid plan.vanished (owned_in c.args.graph.now.nodes) plan.outputs (c.requires.project tells) c.in_ok-plan.ensures.vanished c.requires.opened.owned c.in_ok-plan.ensures.outputs (c.prepare.ensures.others tells) in
     let log : Log = record { read = c.args.log.now.read; removed = c.prepare.new.removed; ran = c.run.new.ran; ended = c.run.new.ended } in
     let ran = g.S.Site.world c.run.new.site in
     let halt = c.in_err-bad.field-0.0 in
@@ -180,12 +158,7 @@ returns-in-Some-clause-stays g c = λ tells.
     let project = c.args.self.now in
     let plan = c.in_ok-plan.plan in
     let claiming = ascending (owned_in c.args.graph.now.nodes ++ plan.outputs) in
-    let way : IsUnderWay project old mid plan.vanished claiming = record {
-      is = c.requires.project tells;
-      vanishes = c.in_ok-plan.ensures.vanished ∙ vanished_are project old (c.requires.project tells);
-      claims = λ i. ascending (sym c.requires.opened.owned i ++ c.in_ok-plan.ensures.outputs i);
-      beside = c.prepare.ensures.others tells;
-    } in
+    let way = under_way project old mid plan.vanished (owned_in c.args.graph.now.nodes) plan.outputs (c.requires.project tells) c.in_ok-plan.ensures.vanished c.requires.opened.owned c.in_ok-plan.ensures.outputs (c.prepare.ensures.others tells) in
     let log : Log = record { read = c.args.log.now.read; removed = c.prepare.new.removed; ran = c.run.new.ran; ended = c.run.new.ended } in
     let ran = g.S.Site.world c.run.new.site in
     let bad = c.in-Some.bad in
@@ -201,12 +174,7 @@ returns-in-Some-clause-kept g c = λ tells means.
     let project = c.args.self.now in
     let plan = c.in_ok-plan.plan in
     let claiming = ascending (owned_in c.args.graph.now.nodes ++ plan.outputs) in
-    let way : IsUnderWay project old mid plan.vanished claiming = record {
-      is = c.requires.project tells;
-      vanishes = c.in_ok-plan.ensures.vanished ∙ vanished_are project old (c.requires.project tells);
-      claims = λ i. ascending (sym c.requires.opened.owned i ++ c.in_ok-plan.ensures.outputs i);
-      beside = c.prepare.ensures.others tells;
-    } in
+    let way = under_way project old mid plan.vanished (owned_in c.args.graph.now.nodes) plan.outputs (c.requires.project tells) c.in_ok-plan.ensures.vanished c.requires.opened.owned c.in_ok-plan.ensures.outputs (c.prepare.ensures.others tells) in
     let log : Log = record { read = c.args.log.now.read; removed = c.prepare.new.removed; ran = c.run.new.ran; ended = c.run.new.ended } in
     let ran = g.S.Site.world c.run.new.site in
     let bad = c.in-Some.bad in
@@ -245,12 +213,7 @@ returns-in_err-finish-in-None-clause-stays g c = λ tells.
     let project = c.args.self.now in
     let plan = c.in_ok-plan.plan in
     let claiming = ascending (owned_in c.args.graph.now.nodes ++ plan.outputs) in
-    let way : IsUnderWay project old mid plan.vanished claiming = record {
-      is = c.requires.project tells;
-      vanishes = c.in_ok-plan.ensures.vanished ∙ vanished_are project old (c.requires.project tells);
-      claims = λ i. ascending (sym c.requires.opened.owned i ++ c.in_ok-plan.ensures.outputs i);
-      beside = c.prepare.ensures.others tells;
-    } in
+    let way = under_way project old mid plan.vanished (owned_in c.args.graph.now.nodes) plan.outputs (c.requires.project tells) c.in_ok-plan.ensures.vanished c.requires.opened.owned c.in_ok-plan.ensures.outputs (c.prepare.ensures.others tells) in
     let log : Log = record { read = c.args.log.now.read; removed = c.prepare.new.removed; ran = c.run.new.ran; ended = c.run.new.ended } in
     let ran = g.S.Site.world c.run.new.site in
     let new = g.S.Site.world c.finish.new.site in
@@ -271,12 +234,7 @@ returns-in_err-finish-in-None-clause-kept g c = λ tells means.
     let project = c.args.self.now in
     let plan = c.in_ok-plan.plan in
     let claiming = ascending (owned_in c.args.graph.now.nodes ++ plan.outputs) in
-    let way : IsUnderWay project old mid plan.vanished claiming = record {
-      is = c.requires.project tells;
-      vanishes = c.in_ok-plan.ensures.vanished ∙ vanished_are project old (c.requires.project tells);
-      claims = λ i. ascending (sym c.requires.opened.owned i ++ c.in_ok-plan.ensures.outputs i);
-      beside = c.prepare.ensures.others tells;
-    } in
+    let way = under_way project old mid plan.vanished (owned_in c.args.graph.now.nodes) plan.outputs (c.requires.project tells) c.in_ok-plan.ensures.vanished c.requires.opened.owned c.in_ok-plan.ensures.outputs (c.prepare.ensures.others tells) in
     let log : Log = record { read = c.args.log.now.read; removed = c.prepare.new.removed; ran = c.run.new.ran; ended = c.run.new.ended } in
     let new = g.S.Site.world c.finish.new.site in
     let stop = c.in_err-finish-in-None.field-0.0 in
@@ -309,12 +267,7 @@ returns-clause-stays g c = λ tells.
     let project = c.args.self.now in
     let plan = c.in_ok-plan.plan in
     let claiming = ascending (owned_in c.args.graph.now.nodes ++ plan.outputs) in
-    let way : IsUnderWay project old mid plan.vanished claiming = record {
-      is = c.requires.project tells;
-      vanishes = c.in_ok-plan.ensures.vanished ∙ vanished_are project old (c.requires.project tells);
-      claims = λ i. ascending (sym c.requires.opened.owned i ++ c.in_ok-plan.ensures.outputs i);
-      beside = c.prepare.ensures.others tells;
-    } in
+    let way = under_way project old mid plan.vanished (owned_in c.args.graph.now.nodes) plan.outputs (c.requires.project tells) c.in_ok-plan.ensures.vanished c.requires.opened.owned c.in_ok-plan.ensures.outputs (c.prepare.ensures.others tells) in
     let log : Log = record { read = c.args.log.now.read; removed = c.prepare.new.removed; ran = c.run.new.ran; ended = c.run.new.ended } in
     let ran = g.S.Site.world c.run.new.site in
     let new = g.S.Site.world c.finish.new.site in
@@ -329,12 +282,7 @@ returns-clause-kept g c = λ tells means.
     let project = c.args.self.now in
     let plan = c.in_ok-plan.plan in
     let claiming = ascending (owned_in c.args.graph.now.nodes ++ plan.outputs) in
-    let way : IsUnderWay project old mid plan.vanished claiming = record {
-      is = c.requires.project tells;
-      vanishes = c.in_ok-plan.ensures.vanished ∙ vanished_are project old (c.requires.project tells);
-      claims = λ i. ascending (sym c.requires.opened.owned i ++ c.in_ok-plan.ensures.outputs i);
-      beside = c.prepare.ensures.others tells;
-    } in
+    let way = under_way project old mid plan.vanished (owned_in c.args.graph.now.nodes) plan.outputs (c.requires.project tells) c.in_ok-plan.ensures.vanished c.requires.opened.owned c.in_ok-plan.ensures.outputs (c.prepare.ensures.others tells) in
     let log : Log = record { read = c.args.log.now.read; removed = c.prepare.new.removed; ran = c.run.new.ran; ended = c.run.new.ended } in
     let ran = g.S.Site.world c.run.new.site in
     let new = g.S.Site.world c.finish.new.site in
@@ -355,12 +303,7 @@ run-requires-clause-runnable g c κs = λ lives tells.
     let project = c.args.self.now in
     let plan = c.in_ok-plan.plan in
     let claiming = ascending (owned_in c.args.graph.now.nodes ++ plan.outputs) in
-    let way : IsUnderWay project old mid plan.vanished claiming = record {
-      is = c.requires.project tells;
-      vanishes = c.in_ok-plan.ensures.vanished ∙ vanished_are project old (c.requires.project tells);
-      claims = λ i. ascending (sym c.requires.opened.owned i ++ c.in_ok-plan.ensures.outputs i);
-      beside = c.prepare.ensures.others tells;
-    } in
+    let way = under_way project old mid plan.vanished (owned_in c.args.graph.now.nodes) plan.outputs (c.requires.project tells) c.in_ok-plan.ensures.vanished c.requires.opened.owned c.in_ok-plan.ensures.outputs (c.prepare.ensures.others tells) in
     way_runnable project old mid plan.vanished claiming way (c.in_ok-prepare.ensures.cleared tells)
 
 -- ---- what it adds to what a crash may leave
@@ -372,110 +315,102 @@ returns-in_err-plan-clause-crash g c = λ tells.
 pub returns-in_err-prepare-clause-crash : goal.returns-in_err-prepare-clause-crash
 returns-in_err-prepare-clause-crash g c = λ tells.
     let site = c.args.site.now in
-    let mid = c.prepare.new.site in
+    let prepared = c.prepare.new.site in
     let old = g.S.Site.world site in
+    let mid = g.S.Site.world prepared in
     let project = c.args.self.now in
     let plan = c.in_ok-plan.plan in
-    let claiming = ascending (owned_in c.args.graph.now.nodes ++ plan.outputs) in
-    let is = c.requires.project tells in
-    let stands = c.requires.stands tells in
-    let lists = still_lists g.S.Site.moment g.S.Site.left_since site old project.owned stands.rests.durable is.owned in
-    let prepared = prepared_so g.S.Site.moment g.S.Site.left_since g.R.Runner.tells g.R.Runner.next project.rules old (holding old project.owned) (store_reads project old is) is.asked is.buildable site lists mid plan.vanished (owned_in c.args.graph.now.nodes) claiming (c.in_ok-plan.ensures.vanished ∙ vanished_are project old is) c.requires.opened.owned (λ i. ascending (sym c.requires.opened.owned i ++ c.in_ok-plan.ensures.outputs i)) (c.prepare.ensures.crash tells) in
-    prepared
+    let mine = owned_in c.args.graph.now.nodes in
+    let claiming = ascending (mine ++ plan.outputs) in
+    let way = under_way project old mid plan.vanished mine plan.outputs (c.requires.project tells) c.in_ok-plan.ensures.vanished c.requires.opened.owned c.in_ok-plan.ensures.outputs (c.prepare.ensures.others tells) in
+    let durable = (c.requires.stands tells).rests.durable in
+    may_be_prepared g.S.Site.moment g.S.Site.left_since g.R.Runner.tells g.R.Runner.next project old mid plan.vanished claiming way site durable prepared mine c.requires.opened.owned (c.prepare.ensures.crash tells)
 
 pub returns-in_err-bad-clause-crash : goal.returns-in_err-bad-clause-crash
 returns-in_err-bad-clause-crash g c = λ tells.
     let site_laws = g.met.S.Site g.world.𝓛 g.world.𝓜 g.world.𝓡 ((λ s x. x), (λ x. x), (λ x. x), λ x. x) in
     let site = c.args.site.now in
-    let mid = c.prepare.new.site in
+    let prepared = c.prepare.new.site in
     let old = g.S.Site.world site in
+    let mid = g.S.Site.world prepared in
     let project = c.args.self.now in
     let plan = c.in_ok-plan.plan in
-    let claiming = ascending (owned_in c.args.graph.now.nodes ++ plan.outputs) in
-    let is = c.requires.project tells in
-    let stands = c.requires.stands tells in
-    let lists = still_lists g.S.Site.moment g.S.Site.left_since site old project.owned stands.rests.durable is.owned in
-    let prepared = prepared_so g.S.Site.moment g.S.Site.left_since g.R.Runner.tells g.R.Runner.next project.rules old (holding old project.owned) (store_reads project old is) is.asked is.buildable site lists mid plan.vanished (owned_in c.args.graph.now.nodes) claiming (c.in_ok-plan.ensures.vanished ∙ vanished_are project old is) c.requires.opened.owned (λ i. ascending (sym c.requires.opened.owned i ++ c.in_ok-plan.ensures.outputs i)) (c.prepare.ensures.crash tells) in
-    let stored = subst (Lists (g.S.Site.world mid).store) (λ i. ascending (sym c.requires.opened.owned i ++ c.in_ok-plan.ensures.outputs i)) (c.in_ok-prepare.ensures.claimed tells) in
-    let ran = ran_so g.S.Site.moment g.S.Site.left_since g.R.Runner.tells g.R.Runner.next project.rules old (holding old project.owned) (store_reads project old is) is.asked is.buildable site lists mid c.run.new.site (g.S.Site.world mid) (λ t u w le left. site_laws.earlier mid t u w tells le left) (c.in_ok-prepare.ensures.pinned tells) stored prepared (c.run.ensures.crash tells) in
-    ran
+    let mine = owned_in c.args.graph.now.nodes in
+    let claiming = ascending (mine ++ plan.outputs) in
+    let way = under_way project old mid plan.vanished mine plan.outputs (c.requires.project tells) c.in_ok-plan.ensures.vanished c.requires.opened.owned c.in_ok-plan.ensures.outputs (c.prepare.ensures.others tells) in
+    let durable = (c.requires.stands tells).rests.durable in
+    may_have_run g.S.Site.moment g.S.Site.left_since g.R.Runner.tells g.R.Runner.next project old mid plan.vanished claiming way site durable prepared c.run.new.site mine c.requires.opened.owned (c.prepare.ensures.crash tells)
+    (λ t u w le left. site_laws.earlier prepared t u w tells le left) (c.in_ok-prepare.ensures.pinned tells) (c.in_ok-prepare.ensures.claimed tells) (c.run.ensures.crash tells)
 
 pub returns-in-Some-clause-crash : goal.returns-in-Some-clause-crash
 returns-in-Some-clause-crash g c = λ tells.
     let site_laws = g.met.S.Site g.world.𝓛 g.world.𝓜 g.world.𝓡 ((λ s x. x), (λ x. x), (λ x. x), λ x. x) in
     let site = c.args.site.now in
-    let mid = c.prepare.new.site in
+    let prepared = c.prepare.new.site in
     let old = g.S.Site.world site in
+    let mid = g.S.Site.world prepared in
     let project = c.args.self.now in
     let plan = c.in_ok-plan.plan in
-    let claiming = ascending (owned_in c.args.graph.now.nodes ++ plan.outputs) in
-    let is = c.requires.project tells in
-    let stands = c.requires.stands tells in
-    let lists = still_lists g.S.Site.moment g.S.Site.left_since site old project.owned stands.rests.durable is.owned in
-    let prepared = prepared_so g.S.Site.moment g.S.Site.left_since g.R.Runner.tells g.R.Runner.next project.rules old (holding old project.owned) (store_reads project old is) is.asked is.buildable site lists mid plan.vanished (owned_in c.args.graph.now.nodes) claiming (c.in_ok-plan.ensures.vanished ∙ vanished_are project old is) c.requires.opened.owned (λ i. ascending (sym c.requires.opened.owned i ++ c.in_ok-plan.ensures.outputs i)) (c.prepare.ensures.crash tells) in
-    let stored = subst (Lists (g.S.Site.world mid).store) (λ i. ascending (sym c.requires.opened.owned i ++ c.in_ok-plan.ensures.outputs i)) (c.in_ok-prepare.ensures.claimed tells) in
-    let ran = ran_so g.S.Site.moment g.S.Site.left_since g.R.Runner.tells g.R.Runner.next project.rules old (holding old project.owned) (store_reads project old is) is.asked is.buildable site lists mid c.run.new.site (g.S.Site.world mid) (λ t u w le left. site_laws.earlier mid t u w tells le left) (c.in_ok-prepare.ensures.pinned tells) stored prepared (c.run.ensures.crash tells) in
-    then_quiet g.S.Site.moment g.S.Site.left_since site c.run.new.site c.stop_at.new.site (MakesStep g.R.Runner.tells g.R.Runner.next project.rules old) ran (c.stop_at.ensures.crash tells)
+    let mine = owned_in c.args.graph.now.nodes in
+    let claiming = ascending (mine ++ plan.outputs) in
+    let way = under_way project old mid plan.vanished mine plan.outputs (c.requires.project tells) c.in_ok-plan.ensures.vanished c.requires.opened.owned c.in_ok-plan.ensures.outputs (c.prepare.ensures.others tells) in
+    let durable = (c.requires.stands tells).rests.durable in
+    then_quiet g.S.Site.moment g.S.Site.left_since site c.run.new.site c.stop_at.new.site (MakesStep g.R.Runner.tells g.R.Runner.next project.rules old)
+    (may_have_run g.S.Site.moment g.S.Site.left_since g.R.Runner.tells g.R.Runner.next project old mid plan.vanished claiming way site durable prepared c.run.new.site mine c.requires.opened.owned (c.prepare.ensures.crash tells)
+    (λ t u w le left. site_laws.earlier prepared t u w tells le left) (c.in_ok-prepare.ensures.pinned tells) (c.in_ok-prepare.ensures.claimed tells) (c.run.ensures.crash tells))
+    (c.stop_at.ensures.crash tells)
 
 pub returns-in_err-finish-in-None-clause-crash : goal.returns-in_err-finish-in-None-clause-crash
 returns-in_err-finish-in-None-clause-crash g c = λ tells.
     let site_laws = g.met.S.Site g.world.𝓛 g.world.𝓜 g.world.𝓡 ((λ s x. x), (λ x. x), (λ x. x), λ x. x) in
     let site = c.args.site.now in
-    let mid = c.prepare.new.site in
+    let prepared = c.prepare.new.site in
     let old = g.S.Site.world site in
+    let mid = g.S.Site.world prepared in
     let project = c.args.self.now in
     let plan = c.in_ok-plan.plan in
-    let claiming = ascending (owned_in c.args.graph.now.nodes ++ plan.outputs) in
-    let is = c.requires.project tells in
-    let stands = c.requires.stands tells in
-    let lists = still_lists g.S.Site.moment g.S.Site.left_since site old project.owned stands.rests.durable is.owned in
-    let prepared = prepared_so g.S.Site.moment g.S.Site.left_since g.R.Runner.tells g.R.Runner.next project.rules old (holding old project.owned) (store_reads project old is) is.asked is.buildable site lists mid plan.vanished (owned_in c.args.graph.now.nodes) claiming (c.in_ok-plan.ensures.vanished ∙ vanished_are project old is) c.requires.opened.owned (λ i. ascending (sym c.requires.opened.owned i ++ c.in_ok-plan.ensures.outputs i)) (c.prepare.ensures.crash tells) in
-    let stored = subst (Lists (g.S.Site.world mid).store) (λ i. ascending (sym c.requires.opened.owned i ++ c.in_ok-plan.ensures.outputs i)) (c.in_ok-prepare.ensures.claimed tells) in
-    let ran = ran_so g.S.Site.moment g.S.Site.left_since g.R.Runner.tells g.R.Runner.next project.rules old (holding old project.owned) (store_reads project old is) is.asked is.buildable site lists mid c.run.new.site (g.S.Site.world mid) (λ t u w le left. site_laws.earlier mid t u w tells le left) (c.in_ok-prepare.ensures.pinned tells) stored prepared (c.run.ensures.crash tells) in
-    let way : IsUnderWay project old (g.S.Site.world mid) plan.vanished claiming = record {
-      is = is;
-      vanishes = c.in_ok-plan.ensures.vanished ∙ vanished_are project old is;
-      claims = λ i. ascending (sym c.requires.opened.owned i ++ c.in_ok-plan.ensures.outputs i);
-      beside = c.prepare.ensures.others tells;
-    } in
-    let now = g.S.Site.world c.run.new.site in
-    let sources = files_beside project.owned (g.S.Site.world mid).tree in
-    finished_so g.S.Site.moment g.S.Site.left_since g.R.Runner.tells g.R.Runner.next project.rules old (holding old project.owned) (store_reads project old is) is.asked is.buildable site lists c.run.new.site c.finish.new.site (owned_in c.prepare.new.graph.nodes) _ now (λ t u w le left. site_laws.earlier c.run.new.site t u w tells le left)
-    (sym c.in_ok-prepare.ensures.opened.owned ∙ (λ i. ascending (sym c.requires.opened.owned i ++ c.in_ok-plan.ensures.outputs i)))
+    let mine = owned_in c.args.graph.now.nodes in
+    let claiming = ascending (mine ++ plan.outputs) in
+    let way = under_way project old mid plan.vanished mine plan.outputs (c.requires.project tells) c.in_ok-plan.ensures.vanished c.requires.opened.owned c.in_ok-plan.ensures.outputs (c.prepare.ensures.others tells) in
+    let durable = (c.requires.stands tells).rests.durable in
+    let ran = c.run.new.site in
+    let now = g.S.Site.world ran in
+    let sources = files_beside project.owned mid.tree in
+    may_be_finished g.S.Site.moment g.S.Site.left_since g.R.Runner.tells g.R.Runner.next project old mid plan.vanished claiming way site durable ran c.finish.new.site now (owned_in c.prepare.new.graph.nodes) _ c.in_ok-prepare.ensures.opened.owned
+    (may_have_run g.S.Site.moment g.S.Site.left_since g.R.Runner.tells g.R.Runner.next project old mid plan.vanished claiming way site durable prepared c.run.new.site mine c.requires.opened.owned (c.prepare.ensures.crash tells)
+    (λ t u w le left. site_laws.earlier prepared t u w tells le left) (c.in_ok-prepare.ensures.pinned tells) (c.in_ok-prepare.ensures.claimed tells) (c.run.ensures.crash tells))
+    (λ t u w le left. site_laws.earlier ran t u w tells le left)
     (λ w same given.
-    all_made project old (g.S.Site.world mid) plan.vanished claiming way g.R.Runner.tells g.R.Runner.next now w (c.in_ok-prepare.ensures.cleared tells) (c.run.ensures.others tells) same
-    (given_up project.owned project.rules (owned_in c.args.graph.now.nodes) plan.outputs plan.left _ (owned_in c.prepare.new.graph.nodes) w.store c.requires.opened.owned c.in_ok-plan.ensures.outputs c.in_ok-plan.ensures.left c.as_slice.ensures c.in_ok-prepare.ensures.opened.owned given)
-    (λ means. subst (HasRun g.R.Runner.next project.rules sources now.tree) c.in-None.is (c.in_ok-bad.ensures.run tells means))) ran (c.finish.ensures.crash tells)
+    all_made project old mid plan.vanished claiming way g.R.Runner.tells g.R.Runner.next now w (c.in_ok-prepare.ensures.cleared tells) (c.run.ensures.others tells) same
+    (given_up project.owned project.rules mine plan.outputs plan.left _ (owned_in c.prepare.new.graph.nodes) w.store c.requires.opened.owned c.in_ok-plan.ensures.outputs c.in_ok-plan.ensures.left c.as_slice.ensures c.in_ok-prepare.ensures.opened.owned given)
+    (λ means. subst (HasRun g.R.Runner.next project.rules sources now.tree) c.in-None.is (c.in_ok-bad.ensures.run tells means)))
+    (c.finish.ensures.crash tells)
 
 pub returns-clause-crash : goal.returns-clause-crash
 returns-clause-crash g c = λ tells.
     let site_laws = g.met.S.Site g.world.𝓛 g.world.𝓜 g.world.𝓡 ((λ s x. x), (λ x. x), (λ x. x), λ x. x) in
     let site = c.args.site.now in
-    let mid = c.prepare.new.site in
+    let prepared = c.prepare.new.site in
     let old = g.S.Site.world site in
+    let mid = g.S.Site.world prepared in
     let project = c.args.self.now in
     let plan = c.in_ok-plan.plan in
-    let claiming = ascending (owned_in c.args.graph.now.nodes ++ plan.outputs) in
-    let is = c.requires.project tells in
-    let stands = c.requires.stands tells in
-    let lists = still_lists g.S.Site.moment g.S.Site.left_since site old project.owned stands.rests.durable is.owned in
-    let prepared = prepared_so g.S.Site.moment g.S.Site.left_since g.R.Runner.tells g.R.Runner.next project.rules old (holding old project.owned) (store_reads project old is) is.asked is.buildable site lists mid plan.vanished (owned_in c.args.graph.now.nodes) claiming (c.in_ok-plan.ensures.vanished ∙ vanished_are project old is) c.requires.opened.owned (λ i. ascending (sym c.requires.opened.owned i ++ c.in_ok-plan.ensures.outputs i)) (c.prepare.ensures.crash tells) in
-    let stored = subst (Lists (g.S.Site.world mid).store) (λ i. ascending (sym c.requires.opened.owned i ++ c.in_ok-plan.ensures.outputs i)) (c.in_ok-prepare.ensures.claimed tells) in
-    let ran = ran_so g.S.Site.moment g.S.Site.left_since g.R.Runner.tells g.R.Runner.next project.rules old (holding old project.owned) (store_reads project old is) is.asked is.buildable site lists mid c.run.new.site (g.S.Site.world mid) (λ t u w le left. site_laws.earlier mid t u w tells le left) (c.in_ok-prepare.ensures.pinned tells) stored prepared (c.run.ensures.crash tells) in
-    let way : IsUnderWay project old (g.S.Site.world mid) plan.vanished claiming = record {
-      is = is;
-      vanishes = c.in_ok-plan.ensures.vanished ∙ vanished_are project old is;
-      claims = λ i. ascending (sym c.requires.opened.owned i ++ c.in_ok-plan.ensures.outputs i);
-      beside = c.prepare.ensures.others tells;
-    } in
-    let now = g.S.Site.world c.run.new.site in
-    let sources = files_beside project.owned (g.S.Site.world mid).tree in
-    finished_so g.S.Site.moment g.S.Site.left_since g.R.Runner.tells g.R.Runner.next project.rules old (holding old project.owned) (store_reads project old is) is.asked is.buildable site lists c.run.new.site c.finish.new.site (owned_in c.prepare.new.graph.nodes) _ now (λ t u w le left. site_laws.earlier c.run.new.site t u w tells le left)
-    (sym c.in_ok-prepare.ensures.opened.owned ∙ (λ i. ascending (sym c.requires.opened.owned i ++ c.in_ok-plan.ensures.outputs i)))
+    let mine = owned_in c.args.graph.now.nodes in
+    let claiming = ascending (mine ++ plan.outputs) in
+    let way = under_way project old mid plan.vanished mine plan.outputs (c.requires.project tells) c.in_ok-plan.ensures.vanished c.requires.opened.owned c.in_ok-plan.ensures.outputs (c.prepare.ensures.others tells) in
+    let durable = (c.requires.stands tells).rests.durable in
+    let ran = c.run.new.site in
+    let now = g.S.Site.world ran in
+    let sources = files_beside project.owned mid.tree in
+    may_be_finished g.S.Site.moment g.S.Site.left_since g.R.Runner.tells g.R.Runner.next project old mid plan.vanished claiming way site durable ran c.finish.new.site now (owned_in c.prepare.new.graph.nodes) _ c.in_ok-prepare.ensures.opened.owned
+    (may_have_run g.S.Site.moment g.S.Site.left_since g.R.Runner.tells g.R.Runner.next project old mid plan.vanished claiming way site durable prepared c.run.new.site mine c.requires.opened.owned (c.prepare.ensures.crash tells)
+    (λ t u w le left. site_laws.earlier prepared t u w tells le left) (c.in_ok-prepare.ensures.pinned tells) (c.in_ok-prepare.ensures.claimed tells) (c.run.ensures.crash tells))
+    (λ t u w le left. site_laws.earlier ran t u w tells le left)
     (λ w same given.
-    all_made project old (g.S.Site.world mid) plan.vanished claiming way g.R.Runner.tells g.R.Runner.next now w (c.in_ok-prepare.ensures.cleared tells) (c.run.ensures.others tells) same
-    (given_up project.owned project.rules (owned_in c.args.graph.now.nodes) plan.outputs plan.left _ (owned_in c.prepare.new.graph.nodes) w.store c.requires.opened.owned c.in_ok-plan.ensures.outputs c.in_ok-plan.ensures.left c.as_slice.ensures c.in_ok-prepare.ensures.opened.owned given)
-    (λ means. subst (HasRun g.R.Runner.next project.rules sources now.tree) c.in-None.is (c.in_ok-bad.ensures.run tells means))) ran (c.finish.ensures.crash tells)
+    all_made project old mid plan.vanished claiming way g.R.Runner.tells g.R.Runner.next now w (c.in_ok-prepare.ensures.cleared tells) (c.run.ensures.others tells) same
+    (given_up project.owned project.rules mine plan.outputs plan.left _ (owned_in c.prepare.new.graph.nodes) w.store c.requires.opened.owned c.in_ok-plan.ensures.outputs c.in_ok-plan.ensures.left c.as_slice.ensures c.in_ok-prepare.ensures.opened.owned given)
+    (λ means. subst (HasRun g.R.Runner.next project.rules sources now.tree) c.in-None.is (c.in_ok-bad.ensures.run tells means)))
+    (c.finish.ensures.crash tells)
 
 pub returns-in_err-plan-clause-makes : goal.returns-in_err-plan-clause-makes
 returns-in_err-plan-clause-makes g c = err_if c.from_residual.result (Outside Memory) StopsMaking c.from_residual.ensures.1 tt
@@ -510,12 +445,7 @@ finish-requires-clause-gone g c κs = λ lives tells.
     let project = c.args.self.now in
     let plan = c.in_ok-plan.plan in
     let claiming = ascending (owned_in c.args.graph.now.nodes ++ plan.outputs) in
-    let way : IsUnderWay project old mid plan.vanished claiming = record {
-      is = c.requires.project tells;
-      vanishes = c.in_ok-plan.ensures.vanished ∙ vanished_are project old (c.requires.project tells);
-      claims = λ i. ascending (sym c.requires.opened.owned i ++ c.in_ok-plan.ensures.outputs i);
-      beside = c.prepare.ensures.others tells;
-    } in
+    let way = under_way project old mid plan.vanished (owned_in c.args.graph.now.nodes) plan.outputs (c.requires.project tells) c.in_ok-plan.ensures.vanished c.requires.opened.owned c.in_ok-plan.ensures.outputs (c.prepare.ensures.others tells) in
     subst (HaveNoFiles ran.tree) (sym (c.as_slice.ensures ∙ c.in_ok-plan.ensures.left))
     (none_left project.owned project.rules mid.tree ran.tree (way_runnable project old mid plan.vanished claiming way (c.in_ok-prepare.ensures.cleared tells)) (c.run.ensures.others tells))
 
@@ -524,7 +454,8 @@ finish-requires-clause-gone g c κs = λ lives tells.
 pub returns-in_err-plan-clause-commits : goal.returns-in_err-plan-clause-commits
 returns-in_err-plan-clause-commits g c = λ tells.
     let project = c.args.self.now in
-    subst (HasCommits project.rules project.owned c.args.graph.now (g.S.Site.world c.args.site.now).store) (sym (err_is c.from_residual.result (Outside Memory) c.from_residual.ensures.1)) tt
+    subst (HasCommits project.rules project.owned c.args.graph.now (g.S.Site.world c.args.site.now).store) (sym (err_is c.from_residual.result (Outside Memory) c.from_residual.ensures.1))
+    (inr (inr (inl (store_of c.args.graph.now (g.S.Site.world c.args.site.now).store (stand_reads g.S.Site.world g.S.Site.moment g.S.Site.left_since c.args.graph.now c.args.site.now (c.requires.stands tells)) c.requires.graph))))
 
 pub returns-in_err-prepare-clause-commits : goal.returns-in_err-prepare-clause-commits
 returns-in_err-prepare-clause-commits g c = λ tells.
@@ -532,7 +463,8 @@ returns-in_err-prepare-clause-commits g c = λ tells.
     let bytes = (g.S.Site.world c.prepare.new.site).store in
     let stop = c.in_err-prepare.field-0.0 in
     subst (HasCommits project.rules project.owned c.args.graph.now bytes) (sym (err_is c.from_residual-in_err-prepare.result stop c.from_residual-in_err-prepare.ensures.1))
-    (late_commits project.rules project.owned c.args.graph.now bytes stop c.in_err-prepare.ensures.late)
+    (late_commits project.rules project.owned c.args.graph.now bytes stop c.in_err-prepare.ensures.late
+    (first_commits project.rules project.owned c.args.graph.now c.in_ok-plan.plan.outputs (g.S.Site.world c.prepare.new.site) c.in_ok-plan.ensures.outputs (c.prepare.ensures.either tells)))
 
 pub returns-in_err-bad-clause-commits : goal.returns-in_err-bad-clause-commits
 returns-in_err-bad-clause-commits g c = λ tells.
@@ -563,7 +495,9 @@ returns-in_err-finish-in-None-clause-commits g c = λ tells.
     let bytes = (g.S.Site.world c.finish.new.site).store in
     let stop = c.in_err-finish-in-None.field-0.0 in
     subst (HasCommits project.rules project.owned c.args.graph.now bytes) (sym (err_is c.from_residual-in_err-finish-in-None.result stop c.from_residual-in_err-finish-in-None.ensures.1))
-    (late_commits project.rules project.owned c.args.graph.now bytes stop c.in_err-finish-in-None.ensures.late)
+    (late_commits project.rules project.owned c.args.graph.now bytes stop c.in_err-finish-in-None.ensures.late
+    (last_commits project.rules project.owned c.args.graph.now c.prepare.new.graph c.in_ok-plan.plan.outputs c.as_slice.result.now (g.S.Site.world c.finish.new.site) c.in_ok-prepare.ensures.owns c.in_ok-plan.ensures.outputs
+    (c.as_slice.ensures ∙ c.in_ok-plan.ensures.left) (c.finish.ensures.either tells)))
 
 pub returns-clause-commits : goal.returns-clause-commits
 returns-clause-commits g c = λ tells.
