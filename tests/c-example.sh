@@ -175,9 +175,9 @@ all_stopped() {
         stopped $signal 'echo x > made; echo x > a; rm b; mv sub other; sleep 987'
     done
     stopped INT 'mkdir dir && echo x > dir/x && chmod 555 dir && sleep 987'
+    stopped KILL 'mkdir dir && echo x > dir/x && chmod 555 dir && sleep 987'
     at_moments INT
-    # A kill right behind the mount leaves a folder that only root can empty.
-    if [ -z "$user" ]; then at_moments KILL; fi
+    at_moments KILL
 }
 user=
 all_stopped
