@@ -70,4 +70,5 @@ def main(words):
     return False
 
 
-sys.exit(0 if main(sys.argv[1:]) else 1)
+if __name__ == '__main__':
+    sys.exit(0 if main(sys.argv[1:]) else 1)
