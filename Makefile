@@ -11,7 +11,7 @@ VERSION = $(shell sed -n 's/^const VERSION: &str = "\(.*\)";/\1/p' crates/tup/sr
 help:
 	@echo 'make build      proves and builds the program, and has it print its version'
 	@echo 'make demo       builds the programs and shows them on copies of examples/tree, examples/hello and examples/c'
-	@echo 'make test       the gate: every proof, every edit that must be refused, every test, the program as a user meets it'
+	@echo 'make test       the gate: every proof, the edits of must-fail/ that must be refused, every test, the program as a user meets it'
 	@echo 'make edits      the edits that must be refused and that the gate leaves out; CRATES=tup_stamp tries those of that crate alone'
 	@echo 'make try        the last part of the gate alone: the program over small projects, full disks, damaged stores'
 	@echo 'make shell      runs shell commands under tup_sh, builds examples/c and runs hostile commands (passed over where there is no strace)'
