@@ -4,6 +4,7 @@ TUP = crates/tup/out/tup
 SH = crates/tup_sh/out/tup_sh
 SHIM = crates/tup_shim/out/tup_shim
 MAN = $(DESTDIR)$(PREFIX)/share/man/man1/tup.1
+TEXTS = crates.txt HANDLES $(shell find crates -name out -prune -o '(' -name '*.rt' -o -name '*.antt' ')' -print)
 VERSION = $(shell sed -n 's/^const VERSION: &str = "\(.*\)";/\1/p' crates/tup/src/main.rt)
 
 .PHONY: help build runners demo test edits try shell killed model figures fmt times install uninstall clean
@@ -11,7 +12,7 @@ VERSION = $(shell sed -n 's/^const VERSION: &str = "\(.*\)";/\1/p' crates/tup/sr
 help:
 	@echo 'make build      proves and builds the program, and has it print its version'
 	@echo 'make demo       builds the programs and shows them on copies of examples/tree, examples/hello and examples/c'
-	@echo 'make test       the gate: every proof, every edit that must be refused, every test, the program as a user meets it'
+	@echo 'make test       the gate: every proof, the edits of must-fail/ that must be refused, every test, the program as a user meets it'
 	@echo 'make edits      the edits that must be refused and that the gate leaves out; CRATES=tup_stamp tries those of that crate alone'
 	@echo 'make try        the last part of the gate alone: the program over small projects, full disks, damaged stores'
 	@echo 'make shell      runs shell commands under tup_sh, builds examples/c and runs hostile commands (passed over where there is no strace)'
@@ -24,12 +25,21 @@ help:
 	@echo 'make times      measures what each crate costs the gate from nothing (an hour and more)'
 	@echo 'make clean      removes what was built and what checks kept in this checkout'
 
-build:
+build: $(TUP)
+	$(TUP) --version
+
+runners: $(SH) $(SHIM)
+
+# A program that the gate built in this checkout, of the texts that stand here, is taken. Else it is proved and built, with all
+# below it, one crate after another.
+$(TUP): $(TEXTS)
 	cd crates/tup && rt run -- --version
 
-# The programs that run a command. Once it is built, each prints its usage: without words it ends with 2, which tells nothing.
-runners:
+# Once they are built, each prints its usage: without words it ends with 2, which tells nothing.
+$(SH): $(TEXTS)
 	cd crates/tup_sh && rt run | grep '^usage'
+
+$(SHIM): $(TEXTS)
 	cd crates/tup_shim && rt run | grep '^usage'
 
 # The program in C at its end wants tup_sh, and says so where there is no C compiler or no strace.

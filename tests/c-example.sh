@@ -159,11 +159,25 @@ stopped() {
     update "behind one that was $step" 0 'done: 1 read, 1 run, 0 removed'
     [ "$(ls .tup)" = "$(printf 'db\nstage')" ] || wrong "more is left in .tup: $(ls .tup)"
 }
+# at_moments SIGNAL: the program in C, its update stopped at ten moments.
+at_moments() {
+    rm -rf "$work/project" && cp -r "$example" "$work/project" && cd "$work/project" && "$tup" init > /dev/null || exit 1
+    if [ -n "$user" ]; then chown -R 65534:65534 .; fi
+    for moment in 0.02 0.05 0.1 0.15 0.2 0.25 0.3 0.35 0.4 0.5; do
+        $user timeout -s "$1" $moment "$tup" upd --proc "$sh" > "$work/out" 2> "$work/err"
+        flock . true # until it has let go of the project
+        update "behind one that was stopped by $1 at $moment${user:+ and not by root}" 0 "$all"
+        greets 'Hello from version 1.2'
+    done
+}
 all_stopped() {
     for signal in INT TERM KILL; do
         stopped $signal 'echo x > made; echo x > a; rm b; mv sub other; sleep 987'
     done
     stopped INT 'mkdir dir && echo x > dir/x && chmod 555 dir && sleep 987'
+    stopped KILL 'mkdir dir && echo x > dir/x && chmod 555 dir && sleep 987'
+    at_moments INT
+    at_moments KILL
 }
 user=
 all_stopped

@@ -7,12 +7,14 @@ MOST_ASKS = 4095
 
 
 class Asks(Exception):
+    """A command asks for a file by this text, and there is no answer yet."""
     def __init__(self, text):
         super().__init__()
         self.text = text
 
 
 class Ends(Exception):
+    """A command ends with this status, whatever steps are left."""
     def __init__(self, status):
         super().__init__()
         self.status = status

@@ -46,11 +46,11 @@ def compare_rows(crates, name, program):
     return not others and len(totals) == len(files) and all(line.endswith(' 0 differ') for line in totals)
 
 
-def compare_folders(program, kills):
+def compare_folders(command, kills):
     problems, calls, killed = [], 0, 0
     for number in range(max(1, int(100 * COUNT))):
         lot = random.Random('folders %d %d' % (SEED, number))
-        folder = Folder(program[0], program[1:], lot, kills, problems)
+        folder = Folder(command[0], command[1:], lot, kills, problems)
         Player(lot, folder).play()
         calls, killed = calls + folder.calls, killed + folder.killed
         if not problems or problems[-1][0] != folder.top:
@@ -70,4 +70,5 @@ def main(words):
     return False
 
 
-sys.exit(0 if main(sys.argv[1:]) else 1)
+if __name__ == '__main__':
+    sys.exit(0 if main(sys.argv[1:]) else 1)

@@ -20,6 +20,7 @@ OTHERS = ['error bad $(A)', 'error', 'include inc', 'include d/inc2', 'include $
 
 
 class Drawn:
+    """Lines of a Tupfile and their parts, drawn by `lot`, a generator of random numbers."""
     def __init__(self, lot):
         self.lot, self.one_of = lot, lot.choice
 

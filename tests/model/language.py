@@ -14,6 +14,7 @@ class Wrong(Exception):
 
 
 class Fault(Exception):
+    """What is wrong in a line of a file that was read for a folder."""
     def __init__(self, folder, file, line, words):
         super().__init__(words)
         self.folder, self.file, self.line, self.words = folder, file, line, words
@@ -34,6 +35,7 @@ class CommandsCircle(Exception):
 
 
 class NoGroup(Exception):
+    """A rule takes a group to which no rule gives."""
     def __init__(self, group):
         super().__init__()
         self.folder, self.name = group

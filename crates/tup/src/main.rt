@@ -24,7 +24,7 @@ tup makes the files that the Tupfiles of this folder and of those below it ask f
 
   tup init        begin a project in this folder, once
   tup, tup upd    update: remove the files of vanished rules, run every rule behind those that it waits for
-  tup verify      compare the files with a clean build, and change nothing
+  tup verify      compare the files with a clean build, and touch none
   tup demo        show an update of a small project in memory
   tup --proc P    update, each command run through the program P; also tup upd --proc P
   tup --help      print this

@@ -33,7 +33,8 @@ impl<R: Files<File = File> + Clone + Drop> Stage<R> {
         self.at(fs::write(&self.rt, place.as_str(), list.as_slice()))
     }
 
-    /// Makes the stage an empty folder.
+    /// Makes the stage an empty folder. A program that was killed may have left folders in it that let nobody in: those
+    /// the next one has to take away, since it knows them, and the old log goes.
     fn empty(&self, alloc: Global) -> Result<(), Refused>
         ensures { IfErr result (IsMemoryOr ProcFault.NoStage) }
     {
@@ -41,9 +42,21 @@ impl<R: Files<File = File> + Clone + Drop> Stage<R> {
         match fs::remove_dir_all(&runtime, self.folder.as_str()) {
             Ok(()) => {}
             Err(e) if e.kind() == ErrorKind::NotFound => {}
+            Err(e) if e.kind() == ErrorKind::PermissionDenied => self.forget(alloc)?,
             Err(e) => return Err(Refused::of(&e, ProcFault::NoStage)),
         }
         self.at(fs::create_dir_all(&self.rt, self.folder.as_str()))
+    }
+
+    /// Takes the old log away.
+    fn forget(&self, alloc: Global) -> Result<(), Refused>
+        ensures { IfErr result (IsMemoryOr ProcFault.NoStage) }
+    {
+        let place = self.place(alloc, "log")?;
+        match fs::remove_file(&self.rt, place.as_str()) {
+            Err(e) if e.kind() != ErrorKind::NotFound => Err(Refused::of(&e, ProcFault::NoStage)),
+            _ => Ok(()),
+        }
     }
 
     /// The lines of the log that the program left.
