@@ -4,7 +4,8 @@ TUP = crates/tup/out/tup
 SH = crates/tup_sh/out/tup_sh
 SHIM = crates/tup_shim/out/tup_shim
 MAN = $(DESTDIR)$(PREFIX)/share/man/man1/tup.1
-TEXTS = crates.txt HANDLES $(shell find crates -name out -prune -o '(' -name '*.rt' -o -name '*.antt' ')' -print)
+ROWS = $(foreach storey,language core board top,crates/tup_$(storey)_rows/out/tup_$(storey)_rows)
+TEXTS := crates.txt HANDLES $(shell find crates -name out -prune -o '(' -name '*.rt' -o -name '*.antt' ')' -print)
 VERSION = $(shell sed -n 's/^const VERSION: &str = "\(.*\)";/\1/p' crates/tup/src/main.rt)
 
 .PHONY: help build runners demo test edits try shell killed model figures fmt times install uninstall clean
@@ -33,14 +34,14 @@ runners: $(SH) $(SHIM)
 # A program that the gate built in this checkout, of the texts that stand here, is taken. Else it is proved and built, with all
 # below it, one crate after another.
 $(TUP): $(TEXTS)
-	cd crates/tup && rt run -- --version
+	cd $(dir $@).. && rt run -- --version
 
 # Once they are built, each prints its usage: without words it ends with 2, which tells nothing.
-$(SH): $(TEXTS)
-	cd crates/tup_sh && rt run | grep '^usage'
+$(SH) $(SHIM): $(TEXTS)
+	cd $(dir $@).. && rt run | grep '^usage'
 
-$(SHIM): $(TEXTS)
-	cd crates/tup_shim && rt run | grep '^usage'
+$(ROWS): $(TEXTS)
+	cd $(dir $@).. && rt run
 
 # The program in C at its end wants tup_sh, and says so where there is no C compiler or no strace.
 demo: build runners
@@ -65,9 +66,8 @@ killed: build
 	sh tests/together.sh $(TUP)
 	sh tests/killed.sh $(TUP)
 
-# SEED=2 draws others, COUNT=10 ten times as many. The programs of rows are built, and so proved, first.
-model: build runners
-	for crate in language core board top; do (cd crates/tup_$${crate}_rows && rt run) || exit 1; done
+# SEED=2 draws others, COUNT=10 ten times as many.
+model: build runners $(ROWS)
 	python3 -B tests/model/compare.py rows crates language=crates/tup_language_rows/out/tup_language_rows \
 	    commands=crates/tup_core_rows/out/tup_core_rows board=crates/tup_board_rows/out/tup_board_rows \
 	    top=crates/tup_top_rows/out/tup_top_rows
