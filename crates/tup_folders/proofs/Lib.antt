@@ -9,6 +9,7 @@ pub mod Told
 pub mod Lines
 pub mod More
 pub mod Working
+pub mod Making
 pub mod Alike
 pub mod One
 pub mod Leading

@@ -52,13 +52,14 @@ nothing_twice : IsDistinct same_path []
 unfolding IsDistinct
 nothing_twice = tt
 
+-- whether two paths are the same
+pub same_test : (path dir : Names) → eq_by_cmp by_names path dir ≡ same_path dir path
+same_test path dir = (eq_by_cmp_equiv by_names-total).symm path dir ∙ sym (same_path-by_names dir path)
+
 -- a set without one of its paths
 pub taken_out : (path dir : Names) (before : Bool) → cond (eq_by_cmp by_names path dir) false before ≡ (before && not (same_path dir path))
-taken_out path dir before = ap (λ b. cond b false before) test ∙ either (same_path dir path) before
+taken_out path dir before = ap (λ b. cond b false before) (same_test path dir) ∙ either (same_path dir path) before
   where
-    test : eq_by_cmp by_names path dir ≡ same_path dir path
-    test = (eq_by_cmp_equiv by_names-total).symm path dir ∙ sym (same_path-by_names dir path)
-
     either : (b before : Bool) → cond b false before ≡ (before && not b)
     either true true = refl
     either true false = refl

@@ -4,26 +4,30 @@ ghost use Rattle.std.specs.FinMap as finite;
 ghost use Rattle.tup_folders.specs.Answers as specs;
 ghost use Rattle.tup_rule.specs.declared.question.Question.TheVariants as asks;
 ghost use Rattle.tup_rule.specs.declared.question.Told.TheVariants as told;
+ghost use Rattle.tup_draft.specs.Making.{is_made};
 ghost use Rattle.tup_vars.specs.Table.{look};
 ghost use Rattle.tup_folders.specs.Asked.{IsWait};
 
+use crate::done::Done;
 use crate::parted::parted;
 use crate::sources::Sources;
 use std::alloc::{AllocError, AllocFailed, Global};
 use std::collections::BTreeSet;
+use thiserror::Error;
 use tup_ask::Env;
-use tup_draft::{add_made, is_made};
-use tup_map::ByPath;
+use tup_draft::add_made;
 use tup_path::{Bytes, Path, Text, Texts};
-use tup_rule::{Draft, Kind, Question, Reading, Told};
+use tup_rule::{Draft, Kind, Question, Told};
 use tup_vars::{Config, Stopped};
 
 /// Why a question isn't answered.
-#[derive(Drop)]
+#[derive(Debug, Drop, Error)]
 pub enum Stop {
     /// The answer waits for the reading of this folder.
+    #[error("the folder {0} has to be read first")]
     Awaits(Path),
     /// There was no memory.
+    #[error("no memory")]
     Memory,
 }
 
@@ -54,7 +58,7 @@ impl<T: Drop> From<AllocFailed<T>> for Stop {
 pub struct Asked<'a, 'f> {
     pub sources: &'a Sources<'f>,
     pub settings: &'a Config,
-    pub readings: &'a ByPath<Reading>,
+    pub readings: &'a Done,
     pub reader: &'a Path,
     /// Why the last question wasn't answered.
     pub stop: Option<Stop>,
@@ -147,11 +151,20 @@ impl Asked<'_, '_> {
         ensures waits { IfErr result (IsWait (specs.unread self.now.sources.now
             self.now.readings.now self.now.reader.now dir.now)) }
     {
-        Ok(Told::Kind(if is_made(self.seen_drafts(dir)?, path) {
+        self.seen_drafts(dir)?;
+        Ok(Told::Kind(if self.sees_made(dir, path) {
             Kind::File
         } else {
             Kind::Nothing
         }))
+    }
+
+    /// Whether the rules of another folder make a path. They are looked up, not walked.
+    fn sees_made(&self, dir: &Path, path: &Path) -> bool
+        ensures { result ≡ is_made (specs.seen_drafts self.now.readings.now self.now.reader.now
+            dir.now) path.now }
+    {
+        self.reader != dir && self.readings.makes(dir, path)
     }
 
     /// The rules of another folder's reading; of its own the reading knows itself.

@@ -8,12 +8,12 @@ ghost use Rattle.tup_folders.specs.State.{IsWork, IsLast, HasCome, HasStopped, s
 
 use crate::asked::{Asked, Stop};
 use crate::config::settings;
+use crate::done::Done;
 use crate::fault::FoldersFault;
 use crate::sources::Sources;
 use crate::work::Work;
 use std::alloc::Global;
 use tup_ask::ReadEnd;
-use tup_map::ByPath;
 use tup_path::{Files, Items, Path};
 use tup_reader::read_tupfile;
 use tup_rule::Reading;
@@ -67,7 +67,7 @@ fn advance(
     ensures fault { IfErr result (λ fault. AreRead sources.now settings.now (Err fault)) }
 {
     match read(alloc, sources, settings, &work.readings, &dir) {
-        Ok(Came::Read(reading)) => Ok(work.note(dir, reading)?),
+        Ok(Came::Read(reading)) => Ok(work.note(alloc, dir, reading)?),
         Ok(Came::Waits(next)) => work.wait(alloc, next),
         Err(fault) => Err(fault),
     }
@@ -87,7 +87,7 @@ pub fn read(
     alloc: Global,
     sources: &Sources<'_>,
     settings: &Config,
-    readings: &ByPath<Reading>,
+    readings: &Done,
     reader: &Path,
 ) -> Result<Came, FoldersFault>
     ensures { IsTrue (has_tupfile sources.now reader.now)

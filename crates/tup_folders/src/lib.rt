@@ -9,6 +9,7 @@
 
 mod asked;
 mod config;
+mod done;
 mod fault;
 mod folders;
 mod laws;
@@ -18,6 +19,7 @@ mod work;
 
 pub use asked::{Asked, Stop};
 pub use config::settings;
+pub use done::Done;
 pub use fault::FoldersFault;
 pub use folders::{Came, read, read_folders};
 pub use laws::one_outcome;

@@ -2,11 +2,12 @@
 ghost use Rattle.std.specs.Prelude.{◌≡◌, ◌⊎◌, Some, IfOk, IfErr, OnOk};
 ghost use Rattle.tup_folders.specs.State.{IsStart, IsLast, IsNext, Notes, Begins, BeginsFirst, Closes, from_first};
 
+use crate::done::Done;
 use crate::fault::FoldersFault;
 use crate::sources::Sources;
 use std::alloc::{AllocError, Global};
 use std::collections::BTreeSet;
-use tup_map::ByPath;
+use std::mem;
 use tup_path::{Path, Paths};
 use tup_rule::Reading;
 
@@ -18,7 +19,7 @@ pub struct Work {
     /// Those that were begun, each waiting for the one behind it.
     pub(crate) under_way: Vec<Path>,
     /// The readings of the others.
-    pub readings: ByPath<Reading>,
+    pub readings: Done,
 }
 
 impl Work {
@@ -29,7 +30,7 @@ impl Work {
         Ok(Work {
             waiting: sources.tupfiles()?,
             under_way: Vec::new(alloc),
-            readings: ByPath::new(alloc),
+            readings: Done::new(alloc),
         })
     }
 
@@ -59,11 +60,12 @@ impl Work {
     }
 
     /// Notes the reading of the last folder that was begun.
-    pub fn note(&mut self, dir: Path, reading: Reading) -> Result<(), AllocError>
+    pub fn note(&mut self, alloc: Global, dir: Path, reading: Reading) -> Result<(), AllocError>
         requires { IsLast (Some dir) self.old }
         ensures { OnOk result (Notes dir reading self.old self.new) }
     {
-        self.readings.insert(dir, reading)?;
+        let done = mem::replace(&mut self.readings, Done::new(alloc));
+        self.readings = done.with(alloc, dir, reading)?;
         self.under_way.pop();
         Ok(())
     }

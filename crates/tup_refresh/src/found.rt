@@ -14,9 +14,8 @@ use crate::part::Part;
 use crate::standing::all_stand;
 use std::alloc::Global;
 use tup_ask::ReadEnd;
-use tup_folders::{Asked, FoldersFault, Stop};
+use tup_folders::{Asked, Done, FoldersFault, Stop};
 use tup_graph::Nodes;
-use tup_map::ByPath;
 use tup_path::Path;
 use tup_reader::read_tupfile;
 use tup_rule::Reading;
@@ -42,7 +41,7 @@ pub(crate) fn find(
     nodes: &Nodes,
     part: &Part<'_, '_>,
     settings: &Config,
-    readings: &ByPath<Reading>,
+    readings: &Done,
     dir: &Path,
 ) -> Result<Found, FoldersFault>
     ensures found { (sources : Tree) → IsPart sources part.now
@@ -74,7 +73,7 @@ fn find_again(
     alloc: Global,
     part: &Part<'_, '_>,
     settings: &Config,
-    readings: &ByPath<Reading>,
+    readings: &Done,
     dir: &Path,
     reading: &Reading,
 ) -> Result<Found, FoldersFault>
@@ -102,7 +101,7 @@ fn find_compared(
     alloc: Global,
     part: &Part<'_, '_>,
     settings: &Config,
-    readings: &ByPath<Reading>,
+    readings: &Done,
     dir: &Path,
     reading: &Reading,
     stands: bool,
@@ -135,7 +134,7 @@ fn read_anew(
     alloc: Global,
     part: &Part<'_, '_>,
     settings: &Config,
-    readings: &ByPath<Reading>,
+    readings: &Done,
     dir: &Path,
 ) -> Result<Found, FoldersFault>
     ensures found { (sources : Tree) → IsPart sources part.now

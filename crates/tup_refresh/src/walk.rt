@@ -116,11 +116,11 @@ impl Walk {
         };
         match find(alloc, nodes, &part, settings, &self.work.readings, &dir) {
             Ok(Found::Stands(reading)) => {
-                self.work.note(dir, reading)?;
+                self.work.note(alloc, dir, reading)?;
                 Ok(None)
             }
             Ok(Found::Read(reading)) => {
-                self.note_fresh(dir, reading)?;
+                self.note_fresh(alloc, dir, reading)?;
                 Ok(None)
             }
             Ok(Found::Waits(next)) => {
@@ -133,12 +133,12 @@ impl Walk {
     }
 
     /// Notes the fresh reading of the last folder that was begun.
-    fn note_fresh(&mut self, dir: Path, reading: Reading) -> Result<(), AllocError>
+    fn note_fresh(&mut self, alloc: Global, dir: Path, reading: Reading) -> Result<(), AllocError>
         requires { IsLast (Some dir) self.old.work }
         ensures { OnOk result (NotesFresh dir reading self.old self.new) }
     {
         self.fresh.insert(dir.clone()?, reading.clone()?)?;
-        self.work.note(dir, reading)
+        self.work.note(alloc, dir, reading)
     }
 }
 
