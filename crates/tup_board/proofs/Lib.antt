@@ -22,3 +22,4 @@ pub mod Finished
 pub mod Seeing
 pub mod Draining
 pub mod Performed
+pub mod Sent

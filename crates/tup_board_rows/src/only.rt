@@ -1,12 +1,9 @@
 //! A board at which one seat works, through what seats that share a board are given.
-ghost use Rattle.std.specs.Prelude.{◌≡◌, ◌<◌, ◌++◌, ◌∷◌, [], None, Some, Ok, true, false, OnOk};
-ghost use Rattle.tup_site.specs.Memory.{known_in};
+ghost use Rattle.std.specs.Prelude.{◌≡◌, ◌<◌, ◌++◌, ◌∷◌, [], None, Some, Ok, false, IsTrue, OnOk};
 ghost use Rattle.tup_runner.specs.Honest.{AsksAfter};
-ghost use Rattle.tup_mini.specs.Means.{mini_next};
 ghost use Rattle.tup_board.specs.Board.{plan_of};
 ghost use Rattle.tup_board.specs.Calls.{AreKnown};
 ghost use Rattle.tup_board.specs.Entries.{runs_after};
-ghost use Rattle.tup_alone.specs.Own.{entries_at};
 ghost use Rattle.tup_board_rows.specs.Told.{AsksNext, RunsTold, just_claimed};
 
 use crate::opening::board_over;
@@ -26,9 +23,6 @@ use tup_rows::{RowFault, Words};
 use tup_rule::Rule;
 use tup_runner::{Answer, RunFailed};
 use tup_site::MemSite;
-
-/// The seat, with its board.
-type Seat = OnlySeat<MemSite, Mini>;
 
 /// The command of a rule, with what it was told, and what a row shows of that.
 #[derive(Drop)]
@@ -116,16 +110,17 @@ fn with_parts(alloc: Global, mut words: Words, parts: &BoardParts<MemSite>) -> W
 }
 
 /// A seat that runs nothing claims, and works on what it is given: its number, and what came of that.
-fn worked(
+fn worked<W: Shared>(
     alloc: Global,
-    shared: &Alone,
-    seat: &mut Seat,
+    shared: &W,
+    seat: &mut W::Seat,
     plan: &Plan,
-    runner: &mut Mini,
+    runner: &mut W::Runner,
     steps: u32,
 ) -> Result<Words, RowFault>
-    requires plan { plan.now ≡ plan_of seat.old.board }
-    requires free { runs_after None (entries_at seat.old.number seat.old.board.history) ≡ None }
+    requires belongs { W.belongs shared.now seat.old }
+    requires plan { plan.now ≡ W.plan_of seat.old }
+    requires free { runs_after None (W.entries seat.old) ≡ None }
 {
     let mut words = Words::shown(alloc, &shared.number(seat));
     let claimed = shared.claim(seat, plan);
@@ -138,18 +133,18 @@ fn worked(
 }
 
 /// The command of the rule of this number, which a seat has claimed, begins.
-fn begun(
+fn begun<W: Shared>(
     alloc: Global,
-    shared: &Alone,
-    seat: &mut Seat,
+    shared: &W,
+    seat: &mut W::Seat,
     plan: &Plan,
-    runner: &mut Mini,
+    runner: &mut W::Runner,
     number: u32,
     steps: u32,
 ) -> Result<Words, RowFault>
-    requires plan { plan.now ≡ plan_of seat.old.board }
-    requires claimed { runs_after None (entries_at seat.old.number seat.old.board.history)
-        ≡ Some (just_claimed number) }
+    requires belongs { W.belongs shared.now seat.old }
+    requires plan { plan.now ≡ W.plan_of seat.old }
+    requires claimed { runs_after None (W.entries seat.old) ≡ Some (just_claimed number) }
 {
     match plan.rules.as_slice().get(number as usize) {
         Some(rule) => {
@@ -174,19 +169,20 @@ fn begin(alloc: Global, rule: &Rule) -> Command<'_>
 }
 
 /// The command of a seat goes on, so many steps at most, until it ends; then it is stopped.
-fn run(
+fn run<W: Shared>(
     alloc: Global,
-    shared: &Alone,
-    seat: &mut Seat,
+    shared: &W,
+    seat: &mut W::Seat,
     plan: &Plan,
-    runner: &mut Mini,
+    runner: &mut W::Runner,
     command: &mut Command<'_>,
     steps: u32,
 ) -> Result<(), RowFault>
-    requires plan { plan.now ≡ plan_of seat.old.board }
-    requires runs { RunsTold plan.now (entries_at seat.old.number seat.old.board.history)
+    requires belongs { W.belongs shared.now seat.old }
+    requires plan { plan.now ≡ W.plan_of seat.old }
+    requires runs { RunsTold plan.now (W.entries seat.old)
         command.old.rule.now command.old.told.given }
-    requires known { AreKnown (known_in seat.old.board.site) command.old.told.given }
+    requires known { IsTrue W.tells → AreKnown (W.known seat.old) command.old.told.given }
 {
     for _ in 0..steps {
         if step(alloc, shared, seat, plan, runner, command)? {
@@ -199,24 +195,25 @@ fn run(
 }
 
 /// The command of a seat ends, or asks once more: whether it is over.
-fn step(
+fn step<W: Shared>(
     alloc: Global,
-    shared: &Alone,
-    seat: &mut Seat,
+    shared: &W,
+    seat: &mut W::Seat,
     plan: &Plan,
-    runner: &mut Mini,
+    runner: &mut W::Runner,
     command: &mut Command<'_>,
 ) -> Result<bool, RowFault>
-    requires plan { plan.now ≡ plan_of seat.old.board }
-    requires runs { RunsTold plan.now (entries_at seat.old.number seat.old.board.history)
+    requires belongs { W.belongs shared.now seat.old }
+    requires plan { plan.now ≡ W.plan_of seat.old }
+    requires runs { RunsTold plan.now (W.entries seat.old)
         command.old.rule.now command.old.told.given }
-    requires known { AreKnown (known_in seat.old.board.site) command.old.told.given }
-    ensures plan { plan.now ≡ plan_of seat.new.board }
-    ensures runs { result ≡ Ok false
-        → RunsTold plan.now (entries_at seat.new.number seat.new.board.history)
+    requires known { IsTrue W.tells → AreKnown (W.known seat.old) command.old.told.given }
+    ensures belongs { W.belongs shared.now seat.new }
+    ensures plan { plan.now ≡ W.plan_of seat.new }
+    ensures runs { result ≡ Ok false → RunsTold plan.now (W.entries seat.new)
         command.new.rule.now command.new.told.given }
-    ensures known { result ≡ Ok false
-        → AreKnown (known_in seat.new.board.site) command.new.told.given }
+    ensures known { result ≡ Ok false → IsTrue W.tells
+        → AreKnown (W.known seat.new) command.new.told.given }
 {
     match reported(alloc, runner, command.rule, &mut command.told) {
         Ok(report) => {
@@ -235,25 +232,26 @@ fn step(
 }
 
 /// The command of a seat asks for the text that its view has refused: whether it is over.
-fn ask_next(
+fn ask_next<W: Shared>(
     alloc: Global,
-    shared: &Alone,
-    seat: &mut Seat,
+    shared: &W,
+    seat: &mut W::Seat,
     plan: &Plan,
     command: &mut Command<'_>,
 ) -> Result<bool, RowFault>
-    requires plan { plan.now ≡ plan_of seat.old.board }
-    requires runs { RunsTold plan.now (entries_at seat.old.number seat.old.board.history)
+    requires belongs { W.belongs shared.now seat.old }
+    requires plan { plan.now ≡ W.plan_of seat.old }
+    requires runs { RunsTold plan.now (W.entries seat.old)
         command.old.rule.now command.old.told.given }
-    requires known { AreKnown (known_in seat.old.board.site) command.old.told.given }
-    requires next { AsksNext true
-        (mini_next command.old.rule.now.dir command.old.rule.now.text) command.old.told }
-    ensures plan { plan.now ≡ plan_of seat.new.board }
-    ensures runs { result ≡ Ok false
-        → RunsTold plan.now (entries_at seat.new.number seat.new.board.history)
+    requires known { IsTrue W.tells → AreKnown (W.known seat.old) command.old.told.given }
+    requires next { AsksNext W.Runner.tells
+        (W.Runner.next command.old.rule.now.dir command.old.rule.now.text) command.old.told }
+    ensures belongs { W.belongs shared.now seat.new }
+    ensures plan { plan.now ≡ W.plan_of seat.new }
+    ensures runs { result ≡ Ok false → RunsTold plan.now (W.entries seat.new)
         command.new.rule.now command.new.told.given }
-    ensures known { result ≡ Ok false
-        → AreKnown (known_in seat.new.board.site) command.new.told.given }
+    ensures known { result ≡ Ok false → IsTrue W.tells
+        → AreKnown (W.known seat.new) command.new.told.given }
 {
     match command.told.take_denied() {
         Some(text) => {
@@ -266,27 +264,28 @@ fn ask_next(
 }
 
 /// The command of a seat asks for a text, as its runner means: whether it is over.
-fn ask(
+fn ask<W: Shared>(
     alloc: Global,
-    shared: &Alone,
-    seat: &mut Seat,
+    shared: &W,
+    seat: &mut W::Seat,
     plan: &Plan,
     command: &mut Command<'_>,
     text: &Text,
 ) -> Result<bool, RowFault>
-    requires plan { plan.now ≡ plan_of seat.old.board }
-    requires runs { RunsTold plan.now (entries_at seat.old.number seat.old.board.history)
+    requires belongs { W.belongs shared.now seat.old }
+    requires plan { plan.now ≡ W.plan_of seat.old }
+    requires runs { RunsTold plan.now (W.entries seat.old)
         command.old.rule.now command.old.told.given }
-    requires known { AreKnown (known_in seat.old.board.site) command.old.told.given }
-    requires means { AsksAfter
-        (mini_next command.old.rule.now.dir command.old.rule.now.text)
+    requires known { IsTrue W.tells → AreKnown (W.known seat.old) command.old.told.given }
+    requires means { IsTrue W.Runner.tells
+        → AsksAfter (W.Runner.next command.old.rule.now.dir command.old.rule.now.text)
         command.old.told.given text.now }
-    ensures plan { plan.now ≡ plan_of seat.new.board }
-    ensures runs { result ≡ Ok false
-        → RunsTold plan.now (entries_at seat.new.number seat.new.board.history)
+    ensures belongs { W.belongs shared.now seat.new }
+    ensures plan { plan.now ≡ W.plan_of seat.new }
+    ensures runs { result ≡ Ok false → RunsTold plan.now (W.entries seat.new)
         command.new.rule.now command.new.told.given }
-    ensures known { result ≡ Ok false
-        → AreKnown (known_in seat.new.board.site) command.new.told.given }
+    ensures known { result ≡ Ok false → IsTrue W.tells
+        → AreKnown (W.known seat.new) command.new.told.given }
 {
     match shared.ask(alloc, seat, plan, text) {
         Ok(Asked::Content(content)) => tell(alloc, command, text, Answer::Content(content)),

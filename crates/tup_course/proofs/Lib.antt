@@ -3,3 +3,4 @@ pub mod Courses
 pub mod Going
 pub mod Views
 pub mod Kept
+pub mod Sent

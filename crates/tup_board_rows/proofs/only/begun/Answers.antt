@@ -2,20 +2,18 @@ use Rattle.std.proofs.Common.{sym, subst}
 use Rattle.tup_rule.specs.declared.rule.Rule.{Rule}
 use Rattle.tup_runner.specs.Next.{Asks}
 use Rattle.tup_board.specs.Calls.{AreKnown}
-use Rattle.tup_site.specs.Memory.{known_in}
-use Rattle.tup_alone.specs.Own.{entries_at}
 use Rattle.tup_board_rows.specs.Told.{RunsTold}
 use Rattle.tup_board_rows.proofs.Sharing.{begins, none_told, rule_at}
 use Rattle.tup_board_rows.proofs.only.begun.Goals as goal
 
 pub run-requires-clause-runs : goal.run-requires-clause-runs
-run-requires-clause-runs c =
+run-requires-clause-runs g c κs within =
     let plan = c.args.plan.now in
-    let entries = (entries_at c.args.seat.now.number c.args.seat.now.board.history) in
+    let entries = g.W.Shared.entries c.args.seat.now in
     let placed = rule_at plan.rules c.as_slice.result.now c.args.number c.in-Some.rule.now c.as_slice.ensures c.in-Some.ensures.lookup.3 in
     subst (λ (rule : Rule). RunsTold plan entries rule c.begin-command.result.told.given) (sym c.begin-command.ensures.rule)
     (subst (λ (told : Asks). RunsTold plan entries c.in-Some.rule.now told) (sym c.begin-command.ensures.told) (begins plan entries c.args.number c.in-Some.rule.now c.requires.claimed placed))
 
 pub run-requires-clause-known : goal.run-requires-clause-known
-run-requires-clause-known c =
-    subst (AreKnown (known_in c.args.seat.now.board.site)) (sym c.begin-command.ensures.told) (none_told (known_in c.args.seat.now.board.site))
+run-requires-clause-known g c κs within = λ tells.
+    subst (AreKnown (g.W.Shared.known c.args.seat.now)) (sym c.begin-command.ensures.told) (none_told (g.W.Shared.known c.args.seat.now))
