@@ -102,7 +102,8 @@ impl Graph {
             × IsGraphOf (entries_in graph.table) graph.nodes) }
         ensures stands { IsTrue S.tells
             → IfOk result (λ graph. StandsFor S.world S.moment S.left_since graph site.new) }
-        // Whatever it answers, all is as it was, or the store has the same entries.
+        // Whatever it answers, all is as it was, or the store has the same entries, and nothing but
+        // a closed gate that its end lacks was written: one byte, whichever, where that failed.
         ensures keeps { IsTrue S.tells → (S.world site.new ≡ S.world site.old)
             ⊎ OpenStep (S.world site.old) (S.world site.new) }
 

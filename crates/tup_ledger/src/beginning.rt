@@ -26,7 +26,8 @@ pub enum Begun {
 /// A refusal that comes while the store is made, or a crash then, may leave any bytes in it.
 pub fn begin<S: Site>(alloc: Global, site: &mut S) -> Result<Begun, GraphFault>
     ensures begins { IsTrue S.tells → Begins (S.world site.old) (S.world site.new) result }
-    // At every end all is as it was, or the store has the same entries, or there was none.
+    // At every end all is as it was, or the store has the same entries and at most a closed gate was
+    // written at its end, or there was none.
     ensures keeps { IsTrue S.tells → (S.world site.new ≡ S.world site.old)
         ⊎ BeginStep (S.world site.old) (S.world site.old) (S.world site.new) }
     ensures tree { IsTrue S.tells → TreeStays (S.world site.old) (S.world site.new) }

@@ -1,14 +1,26 @@
 -- What a write leaves of bytes at their end, at a gate, and behind a gate: where it succeeds, and where it is torn.
-use Rattle.std.proofs.Common.{◌≡◌, ℕ, ◌+◌, ◌≤◌, List, [], ◌∷◌, ◌++◌, length, get_or, take, drop, refl, sym, ap, ◌∙◌, append_assoc, length-append, length-drop, length-take-le, drop-drop, take-append-drop, arith, inr}
+use Rattle.std.proofs.Common.{◌≡◌, ℕ, ◌+◌, ◌≤◌, List, [], ◌∷◌, ◌++◌, length, get_or, take, drop, refl, sym, ap, subst, ◌∙◌, append_assoc, length-append, length-drop, length-take-le, drop-drop, take-append-drop, arith, inl, inr}
 use Rattle.std.proofs.lemmas.List.{take_at, drop_at, drop_all, drop_more}
 use Rattle.tup_site.specs.Store.{Holds, IsTorn}
+use Rattle.tup_table.specs.Images.{LacksGate, MayClose}
 use Rattle.tup_table.specs.Store.{IsEnd}
 
 -- an end of at most one byte ends a store, whatever the byte
-pub short_end : (rest : List ℕ) → length rest ≤ 1 → IsEnd rest
+short_end : (rest : List ℕ) → length rest ≤ 1 → IsEnd rest
 short_end [] le = tt
 short_end (gate ∷ []) le = inr refl
 short_end (gate ∷ more ∷ rest) le = absurd (omega (arith, le))
+
+-- so does one that a closed gate was to be written at
+pub still_end : (rest left : List ℕ) → IsEnd rest → MayClose rest left → IsEnd left
+still_end rest left ends (inl same) = subst IsEnd (sym same) ends
+still_end rest left ends (inr (lacks, one)) = short_end left (omega (arith, one))
+
+may_close : (rest left : List ℕ) → LacksGate rest → length rest ≤ length left → length left ≤ 1 → MayClose rest left
+may_close rest [] (inl none) long short = inl (sym none)
+may_close rest [] (inr one) long short = absurd (omega (arith, ap length one, long))
+may_close rest (byte ∷ []) lacks long short = inr (lacks, refl)
+may_close rest (byte ∷ more ∷ left) lacks long short = absurd (omega (arith, short))
 
 -- ---- a write of which every part was made
 module _ (at : ℕ) (old bytes new : List ℕ) (inside : at ≤ length old) (holds : Holds old at bytes new) where
@@ -85,8 +97,9 @@ module _ (front : List ℕ) (at : ℕ) (ends : length front ≡ at) where
   pub torn_end : (rest w : List ℕ) → length rest ≤ 1 → IsTorn at 1 (front ++ rest) w → w ≡ front ++ drop at w
   torn_end rest w short torn = same_front rest w torn.before
 
-  pub torn_short : (rest w : List ℕ) → length rest ≤ 1 → IsTorn at 1 (front ++ rest) w → IsEnd (drop at w)
-  torn_short rest w short torn = short_end (drop at w) (omega (arith, length-drop at w, length-whole rest, torn.no_longer))
+  pub torn_closes : (rest w : List ℕ) → LacksGate rest → length rest ≤ 1 → IsTorn at 1 (front ++ rest) w → MayClose rest (drop at w)
+  torn_closes rest w lacks short torn =
+      may_close rest (drop at w) lacks (omega (arith, length-drop at w, length-whole rest, torn.no_shorter)) (omega (arith, length-drop at w, length-whole rest, torn.no_longer, short))
 
   pub written_end : (rest : List ℕ) (gate : ℕ) (new : List ℕ) → length rest ≤ 1 → Holds (front ++ rest) at (gate ∷ []) new → new ≡ front ++ gate ∷ []
   written_end rest gate new short holds =

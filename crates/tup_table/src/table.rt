@@ -83,7 +83,8 @@ impl Table {
             ++ closed_end (drop (gate_of table) (S.world site.old).store)) }
         ensures refused { IsTrue S.tells → IfErr result
             (λ fault. IsOutside fault ⊎ (S.world site.new ≡ S.world site.old)) }
-        // Whatever it answers, all is as it was, or the store has the same entries.
+        // Whatever it answers, all is as it was, or the store has the same entries, and nothing but
+        // a closed gate that its end lacks was written: one byte, whichever, where that failed.
         ensures keeps { IsTrue S.tells → (S.world site.new ≡ S.world site.old)
             ⊎ OpenStep (S.world site.old) (S.world site.new) }
 

@@ -7,6 +7,7 @@ use Rattle.tup_table.specs.Reading.{opened_of}
 use Rattle.tup_table.specs.declared.fault.TableFault.{TableFault}
 use Rattle.tup_table.specs.declared.fault.TableFault.TheVariants as table
 use Rattle.tup_table.specs.declared.opened.Opened.{Opened}
+use Rattle.tup_table.proofs.Ends.{written_then}
 use Rattle.tup_table.proofs.Stores.{reads_one}
 use Rattle.tup_graph.specs.Opening.{IsGraphOf}
 use Rattle.tup_graph.proofs.OneWay.{not_broken}
@@ -38,9 +39,10 @@ holds_same v w same = subst (HoldsOn v) (sym same) (holds_itself v)
 
 same_then : (first mid last : List ℕ) → (mid ≡ first) ⊎ HasSameEntries first mid → (last ≡ mid) ⊎ HasSameEntries mid last → (last ≡ first) ⊎ HasSameEntries first last
 same_then first mid last (inl same) (inl again) = inl (again ∙ same)
-same_then first mid last (inl same) (inr (entries, was, is)) = inr (entries, subst (Leaves entries) same was, is)
-same_then first mid last (inr (entries, was, is)) (inl again) = inr (entries, was, subst (Leaves entries) (sym again) is)
-same_then first mid last (inr (entries, was, is)) (inr (others, then, now)) = inr (entries, was, subst (λ (es : Standing). Leaves es last) (entries_one mid others entries then is) now)
+same_then first mid last (inl same) (inr has) = inr (subst (λ (bytes : List ℕ). HasSameEntries bytes last) same has)
+same_then first mid last (inr has) (inl again) = inr (subst (HasSameEntries first) (sym again) has)
+same_then first mid last (inr (entries, was, is, end)) (inr (others, before, now, later)) =
+    inr (entries, was, subst (λ (es : Standing). Leaves es last) (entries_one mid others entries before is) now, written_then first mid last end later)
 
 pub holds_then : (u v w : World) → HoldsOn u v → HoldsOn v w → HoldsOn u w
 holds_then u v w one two = record { tree = two.tree ∙ one.tree; store = same_then u.store v.store w.store one.store two.store }
@@ -53,7 +55,7 @@ not_store entries (commits, store, is) =
 
 -- as where a store was opened
 pub opened_holds : (v w : World) → OpenStep v w → HoldsOn v w
-opened_holds v w step = record { tree = step.tree; store = inr (step.entries, step.before, step.after) }
+opened_holds v w step = record { tree = step.tree; store = inr (step.entries, step.before, step.after, step.end) }
 
 pub kept_holds : (v w : World) → (w ≡ v) ⊎ OpenStep v w → HoldsOn v w
 kept_holds v w (inl same) = holds_same v w same
@@ -66,14 +68,14 @@ module _ (old mid : World) (on : HoldsOn old mid) where
     where
       by : (mid.store ≡ old.store) ⊎ HasSameEntries old.store mid.store → mid.store ≡ []
       by (inl same) = same ∙ none
-      by (inr (entries, was, is)) = absurd (not_store entries (subst (Leaves entries) none was))
+      by (inr (entries, was, is, end)) = absurd (not_store entries (subst (Leaves entries) none was))
 
   still : StillLists old.store mid.store
   still = by on.store
     where
       by : (mid.store ≡ old.store) ⊎ HasSameEntries old.store mid.store → StillLists old.store mid.store
       by (inl same) = subst (λ (bytes : List ℕ). StillLists old.store bytes) (sym same) (λ paths. ((λ lists. lists), λ lists. lists))
-      by (inr (entries, was, is)) = opened_still old mid (record { tree = on.tree; entries = entries; before = was; after = is })
+      by (inr (entries, was, is, end)) = opened_still old mid (record { tree = on.tree; entries = entries; before = was; after = is; end = end })
 
   pub lists_on : (paths : List Names) → Lists old.store paths → Lists mid.store paths
   lists_on paths lists = (still paths).0 lists

@@ -10,12 +10,13 @@ use Rattle.tup_site.specs.declared.fault.SiteFailed.TheVariants.{Fault, TooLarge
 use Rattle.tup_rule.specs.declared.rule.Rule.{Rule}
 use Rattle.tup_rule.specs.declared.rule.RuleName.{RuleName}
 use Rattle.tup_access.specs.declared.verdict.Verdict.{Verdict}
-use Rattle.tup_table.specs.Images.{OpenStep}
+use Rattle.tup_table.specs.Images.{IsEndWritten, OpenStep}
 use Rattle.tup_table.specs.Reading.{ReadsAs}
 use Rattle.tup_table.specs.Store.{IsStore}
 use Rattle.tup_table.specs.Table.{IsAtRest, entries_in}
 use Rattle.tup_table.specs.declared.fault.TableFault.{TableFault}
 use Rattle.tup_table.specs.declared.opened.Opened.{Opened}
+use Rattle.tup_table.proofs.Ends.{closed_written}
 use Rattle.tup_table.proofs.Appends.{closed_store}
 use Rattle.tup_table.proofs.Going.{IsEarlier, as_step}
 use Rattle.tup_table.proofs.Stores.{reads_one}
@@ -194,12 +195,17 @@ module _ (rules : List Rule) (old new : World) where
 
 -- ---- how the store was opened
 
-pub opens_so : (before after : List ℕ) (fault : GraphFault) → OpensAs before after (Err fault) → JustOpens before after (Some (stop_of_graph fault))
-opens_so before after graph.NotThere opens = inl opens.1
-opens_so before after (graph.BadStore offset) opens = ⊎_elim (λ damaged. inl damaged.1) (λ broken. inr (broken.opened, broken.reads, broken.closes)) opens
-opens_so before after graph.Site opens = tt
-opens_so before after graph.Full opens = absurd opens
-opens_so before after graph.Memory opens = tt
+-- whatever it answered
+pub kept_opens : (v w : World) → (w ≡ v) ⊎ OpenStep v w → (w.store ≡ v.store) ⊎ IsEndWritten v.store w.store
+kept_opens v w (inl same) = inl (ap (λ (u : World). u.store) same)
+kept_opens v w (inr step) = inr step.end
+
+pub opens_so : (before after : List ℕ) (fault : GraphFault) → (after ≡ before) ⊎ IsEndWritten before after → OpensAs before after (Err fault) → JustOpens before after (Some (stop_of_graph fault))
+opens_so before after graph.NotThere kept opens = inl opens.1
+opens_so before after (graph.BadStore offset) kept opens = ⊎_elim (λ damaged. inl damaged.1) (λ broken. inr (broken.opened, broken.reads, broken.closes)) opens
+opens_so before after graph.Site kept opens = kept
+opens_so before after graph.Full kept opens = absurd opens
+opens_so before after graph.Memory kept opens = kept
 
 pub opened_then : (before after : List ℕ) (stopped : Option Stop) → IsJustOpened before after → JustOpens before after stopped
 opened_then before after None opens = opens
@@ -209,7 +215,7 @@ opened_then before after (Some (Sources fault)) opens = opens
 opened_then before after (Some (Bad name verdict)) opens = opens
 opened_then before after (Some Run) opens = opens
 opened_then before after (Some Full) opens = opens
-opened_then before after (Some (Outside failed)) opens = tt
+opened_then before after (Some (Outside failed)) opens = ⊎_elim inl (λ closed. inr (closed_written before after closed.0 closed.1 closed.2)) opens
 
 -- ---- what stands for a store
 module _ {S : Type 0} (world : S → World) (moment : S → ℕ) (left_since : S → ℕ → World → Type 0) where

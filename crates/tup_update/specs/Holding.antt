@@ -4,7 +4,7 @@ use Rattle.tup_path.specs.Name.{Names}
 use Rattle.tup_path.specs.Tree.{Tree}
 use Rattle.tup_site.specs.World.{World}
 use Rattle.tup_table.specs.Entries.{Standing}
-use Rattle.tup_table.specs.Images.{Leaves}
+use Rattle.tup_table.specs.Images.{IsEndWritten, Leaves}
 use Rattle.tup_graph.specs.declared.fault.GraphFault.TheVariants.{BadStore}
 use Rattle.tup_kept.specs.Opening.{OpensAs}
 use Rattle.tup_ledger.specs.Begin.{IsJustClosed}
@@ -28,11 +28,12 @@ holding w paths = record { tree = w.tree; owned = paths }
 abbrev pub OfHeld : World → (Holding → Type 0) → Type 0
 OfHeld w promise = (held : Holding) → Shows w held → promise held
 
--- both are stores, of the same entries
+-- both are stores, of the same entries, and all bytes are the same but a closed gate that the end lacks
 abbrev pub HasSameEntries : List ℕ → List ℕ → Type 0
-HasSameEntries before after = (entries : Standing) × Leaves entries before × Leaves entries after
+HasSameEntries before after = (entries : Standing) × Leaves entries before × Leaves entries after × IsEndWritten before after
 
--- a later world holds what an earlier one did: it has the same files, and the same store, or one of the same entries
+-- a later world holds what an earlier one did: it has the same files, and the same store, or one of the same entries of which
+-- the end alone was written
 pub record HoldsOn (old new : World) : Type 0 where
   pub tree : new.tree ≡ old.tree
   pub store : (new.store ≡ old.store) ⊎ HasSameEntries old.store new.store

@@ -13,6 +13,7 @@ use Rattle.tup_runner.specs.Next.{Next}
 use Rattle.tup_access.specs.declared.verdict.Verdict.{Verdict}
 use Rattle.tup_clean.specs.Clean.{succeeds, is_good}
 use Rattle.tup_ledger.specs.Ascending.{ascending}
+use Rattle.tup_table.specs.Images.{IsEndWritten}
 use Rattle.tup_table.specs.Reading.{ReadsAs}
 use Rattle.tup_table.specs.Table.{entries_in}
 use Rattle.tup_graph.specs.Opening.{IsGraphOf}
@@ -118,9 +119,9 @@ JustCommits rules old new (Some (BadStore offset)) = IsJustOpened old.store new.
 JustCommits rules old new (Some (Sources fault)) = IsJustOpened old.store new.store
 JustCommits rules old new (Some (Outside failed)) = HoldsOn old new ⊎ HasCommitted rules old new (Some (Outside failed))
 
--- a store that is just opened, and no more; where the outside stops that, nothing is said
+-- a store that is just opened, and no more; where the outside stops that, its end may have one byte in place of the closed gate
 abbrev pub JustOpens : List ℕ → List ℕ → Option Stop → Type 0
-JustOpens before after (Some (Outside failed)) = ⊤
+JustOpens before after (Some (Outside failed)) = (after ≡ before) ⊎ IsEndWritten before after
 JustOpens before after stopped = IsJustOpened before after
 
 -- Why an update stops, where the site tells. What is too large is a file of the clean build: where no rules were read, a source.

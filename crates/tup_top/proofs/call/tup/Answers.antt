@@ -166,7 +166,7 @@ returns-clause-printed g c = λ _.
 pub returns-clause-opens : goal.returns-clause-opens
 returns-clause-opens g c = λ _.
     let bytes = (g.S.Site.world c.args.site).store in
-    memory_for_verify (order c.args.words.now) (λ compared. JustOpens bytes bytes (result_err compared)) tt
+    memory_for_verify (order c.args.words.now) (λ compared. JustOpens bytes bytes (result_err compared)) (inl refl)
 
 pub returns-clause-compared : goal.returns-clause-compared
 returns-clause-compared g c = λ _ _. memory_for_verify (order c.args.words.now) (HasCompared g.R.Runner.next (g.S.Site.world c.args.site)) tt

@@ -1,4 +1,4 @@
-use Rattle.std.proofs.Common.{rules}
+use Rattle.std.proofs.Common.{rules, inl, inr, ⊎_elim}
 use Rattle.std.specs.Result.{result_err}
 use Rattle.tup_update.specs.Compared.{HasCompared, RunsToCompare}
 use Rattle.tup_update.specs.Outcome.{JustOpens}
@@ -15,7 +15,7 @@ pub returns-in-Ok-clause-opens : goal.returns-in-Ok-clause-opens
 returns-in-Ok-clause-opens g c = λ tells.
     let compared = c.compare_site in
     compared_answered (λ result. JustOpens (g.S.Site.world c.args.site.now).store (g.S.Site.world compared.new.site).store (result_err result)) _ _ _ _ compared.result _ _ c.status_of_compared-status.ensures c.print.ensures.ends
-    compared.ensures.counted_cause (compared.ensures.opens tells) tt
+    compared.ensures.counted_cause (compared.ensures.opens tells) (⊎_elim inl (λ same. inr same.3) (compared.ensures.holds tells).store)
 
 pub returns-in-Ok-clause-ran : goal.returns-in-Ok-clause-ran
 returns-in-Ok-clause-ran g c = λ tells means shows.
@@ -37,6 +37,9 @@ returns-in-Ok-clause-printed g c = λ shows.
     prints_compared g.S.Site.tells g.R.Runner.tells g.R.Runner.next _ _ _ _ _ compared.result _ _ _ (λ tells means. compared.ensures.compared tells means) c.status_of_compared-status.ensures (search rules) c.print.ensures.ends (c.print.ensures.prints shows)
 
 -- no memory for its line
+pub returns-in-Err-clause-opens : goal.returns-in-Err-clause-opens
+returns-in-Err-clause-opens g c = λ tells. ⊎_elim inl (λ same. inr same.3) (c.compare_site.ensures.holds tells).store
+
 pub returns-in-Err-clause-ran : goal.returns-in-Err-clause-ran
 returns-in-Err-clause-ran g c = λ tells means shows.
     untold_compared g.R.Runner.next (g.S.Site.world c.args.site.now) _ _ (result_err c.compare_site.result) (c.compare_site.ensures.ran tells means shows)

@@ -12,7 +12,7 @@ use Rattle.tup_update.specs.declared.stop.Stop.TheVariants.{Outside}
 use Rattle.tup_update.proofs.Handed.{err_if}
 use Rattle.tup_update.proofs.Held.{kept_holds}
 use Rattle.tup_update.proofs.Keeping.{err_is}
-use Rattle.tup_update.proofs.Storing.{graph_counts, opening_on, opening_stops, opens_so, unopened}
+use Rattle.tup_update.proofs.Storing.{graph_counts, kept_opens, opening_on, opening_stops, opens_so, unopened}
 use Rattle.tup_update.proofs.update.opened.Goals as goal
 
 -- ---- it couldn't be opened
@@ -47,13 +47,14 @@ returns-in_err-graph-clause-opens g c = λ tells.
     let before = (g.S.Site.world c.args.site.now).store in
     let after = (g.S.Site.world c.open.new.site).store in
     let fault = c.in_err-graph.field-0.0 in
-    subst (JustOpens before after) (sym (err_is c.from_residual.result (stop_of_graph fault) c.from_residual.ensures.1)) (opens_so before after fault (c.in_err-graph.ensures.opens tells))
+    subst (JustOpens before after) (sym (err_is c.from_residual.result (stop_of_graph fault) c.from_residual.ensures.1)) (opens_so before after fault (kept_opens (g.S.Site.world c.args.site.now) (g.S.Site.world c.open.new.site) (c.open.ensures.keeps tells)) (c.in_err-graph.ensures.opens tells))
 
 -- ---- there was no memory for its paths
 
 pub returns-in_err-owned-clause-opens : goal.returns-in_err-owned-clause-opens
 returns-in_err-owned-clause-opens g c = λ tells.
-    subst (JustOpens (g.S.Site.world c.args.site.now).store (g.S.Site.world c.open.new.site).store) (sym (err_is c.from_residual-in_err-owned.result (Outside Memory) c.from_residual-in_err-owned.ensures.1)) tt
+    subst (JustOpens (g.S.Site.world c.args.site.now).store (g.S.Site.world c.open.new.site).store) (sym (err_is c.from_residual-in_err-owned.result (Outside Memory) c.from_residual-in_err-owned.ensures.1))
+    (kept_opens (g.S.Site.world c.args.site.now) (g.S.Site.world c.open.new.site) (c.open.ensures.keeps tells))
 
 pub returns-in_err-owned-clause-holds : goal.returns-in_err-owned-clause-holds
 returns-in_err-owned-clause-holds g c = λ tells. kept_holds (g.S.Site.world c.args.site.now) (g.S.Site.world c.open.new.site) (c.open.ensures.keeps tells)
