@@ -16,7 +16,7 @@ for part in main figures store; do
     cp "tests/figures/$part.txt" "$work/crates/tup_figures/src/$part.rt"
 done
 echo '200 rules' > "$work/crates/tup_figures/stdout"
-echo 'tup_figures: tup_path tup_stamp tup_site tup_rule tup_scan tup_record tup_table tup_graph tup_kept tup_note' >> "$work/crates.txt"
+echo 'tup_figures: tup_path tup_stamp tup_site tup_rule tup_scan tup_record tup_table tup_graph tup_stored_graph tup_commit' >> "$work/crates.txt"
 cd "$work/crates/tup_figures"
 rt run > "$work/log" 2>&1 || { tail -20 "$work/log" >&2; exit 1; }
 if [ $# -eq 0 ]; then set -- 1000 10000 65536; fi

@@ -5,14 +5,15 @@
 //! tested, and proved to be safe, but it makes no promise of its own.
 #![tactic(auto)]
 
+mod output;
 mod words;
 
+use output::Output;
 use std::alloc::{AllocError, Global};
 use std::io;
 use std::process::ExitCode;
 use tup_fs::FsSite;
 use tup_mini::Mini;
-use tup_output::Output;
 use tup_path::Text;
 use tup_proc_runner::ProcRunner;
 use tup_runner::Runner;

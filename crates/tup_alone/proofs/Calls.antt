@@ -22,11 +22,11 @@ use Rattle.tup_core.specs.declared.event.CoreEvent.TheVariants.{Claim, Ask, Deny
 use Rattle.tup_core.specs.declared.plan.Plan.{Plan}
 use Rattle.tup_core.specs.declared.running.Running.{Running}
 use Rattle.tup_core.specs.Honest.{EndsHonestly, stamped}
-use Rattle.tup_course.specs.Course.{Claims, CourseState, EndsDenied, GoesOn, RunsRule, Stops, WasDenied}
-use Rattle.tup_course.specs.declared.claimed.Claimed.{Claimed}
-use Rattle.tup_course.specs.declared.claimed.Claimed.TheVariants.{Rule as Gives, Wait, Over}
-use Rattle.tup_ground.specs.declared.fault.BoardFault.{BoardFault}
-use Rattle.tup_ground.specs.declared.fault.BoardFault.TheVariants as fault_by
+use Rattle.tup_schedule.specs.Course.{Claims, CourseState, EndsDenied, GoesOn, RunsRule, Stops, WasDenied}
+use Rattle.tup_schedule.specs.declared.claimed.Claimed.{Claimed}
+use Rattle.tup_schedule.specs.declared.claimed.Claimed.TheVariants.{Rule as Gives, Wait, Over}
+use Rattle.tup_rule_outputs.specs.declared.fault.BoardFault.{BoardFault}
+use Rattle.tup_rule_outputs.specs.declared.fault.BoardFault.TheVariants as fault_by
 use Rattle.tup_board.specs.declared.answers.Asked.{Asked}
 use Rattle.tup_board.specs.declared.answers.Asked.TheVariants as reply_by
 use Rattle.tup_board.specs.Board.{BoardState, course_of, plan_of, start, state}

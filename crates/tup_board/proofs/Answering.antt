@@ -16,20 +16,20 @@ use Rattle.tup_access.specs.Access.{access}
 use Rattle.tup_access.specs.declared.verdict.Access.{Access}
 use Rattle.tup_access.specs.declared.verdict.Access.TheVariants.{Yes}
 use Rattle.tup_access.specs.declared.verdict.Verdict.{Verdict}
-use Rattle.tup_kept.specs.Held.{Held}
+use Rattle.tup_stored_graph.specs.Held.{Held}
 use Rattle.tup_core.specs.declared.event.Cause.{Cause}
 use Rattle.tup_core.specs.declared.event.Cause.TheVariants as cause_by
 use Rattle.tup_core.specs.declared.event.CoreEvent.{CoreEvent}
 use Rattle.tup_core.specs.declared.event.CoreEvent.TheVariants.{Finish, Stop}
 use Rattle.tup_core.specs.declared.running.Running.{Running}
 use Rattle.tup_core.specs.Step.{CanAsk, IsEnabled}
-use Rattle.tup_course.specs.Course.{CourseState, GoesOn, RunsRule, WasDenied, now, with_events}
-use Rattle.tup_ground.specs.Fault.{CountsFaults}
-use Rattle.tup_ground.specs.Ground.{NamesLength, OnlyLarge, ReadsSite}
-use Rattle.tup_ground.specs.Lost.{Lost}
-use Rattle.tup_ground.specs.declared.ground.Ground.{Ground}
-use Rattle.tup_ground.specs.declared.fault.BoardFault.{BoardFault}
-use Rattle.tup_ground.specs.declared.fault.BoardFault.TheVariants as fault_by
+use Rattle.tup_schedule.specs.Course.{CourseState, GoesOn, RunsRule, WasDenied, now, with_events}
+use Rattle.tup_rule_outputs.specs.Fault.{CountsFaults}
+use Rattle.tup_rule_outputs.specs.Ground.{NamesLength, OnlyLarge, ReadsSite}
+use Rattle.tup_rule_outputs.specs.Lost.{Lost}
+use Rattle.tup_rule_outputs.specs.declared.ground.Ground.{Ground}
+use Rattle.tup_rule_outputs.specs.declared.fault.BoardFault.{BoardFault}
+use Rattle.tup_rule_outputs.specs.declared.fault.BoardFault.TheVariants as fault_by
 use Rattle.tup_board.specs.declared.answers.Asked.{Asked}
 use Rattle.tup_board.specs.Board.{BoardState, course_of, plan_of, state, with_history}
 use Rattle.tup_board.specs.Calls.{Asks, AsksFor, AsksForOwn}

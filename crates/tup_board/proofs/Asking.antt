@@ -12,11 +12,11 @@ use Rattle.tup_table.proofs.Going.{nothing_then}
 use Rattle.tup_access.specs.Access.{access}
 use Rattle.tup_access.specs.declared.verdict.Access.TheVariants.{Yes}
 use Rattle.tup_core.specs.declared.running.Running.{Running}
-use Rattle.tup_course.specs.Course.{CourseState, RunsRule}
-use Rattle.tup_ground.specs.declared.fault.BoardFault.{BoardFault}
-use Rattle.tup_ground.specs.declared.fault.BoardFault.TheVariants.{Site as ByVisit, TooLarge, Full, Memory}
-use Rattle.tup_ground.specs.Fault.{CountsFaults}
-use Rattle.tup_ground.specs.Ground.{OnlyLarge, NamesLength}
+use Rattle.tup_schedule.specs.Course.{CourseState, RunsRule}
+use Rattle.tup_rule_outputs.specs.declared.fault.BoardFault.{BoardFault}
+use Rattle.tup_rule_outputs.specs.declared.fault.BoardFault.TheVariants.{Site as ByVisit, TooLarge, Full, Memory}
+use Rattle.tup_rule_outputs.specs.Fault.{CountsFaults}
+use Rattle.tup_rule_outputs.specs.Ground.{OnlyLarge, NamesLength}
 use Rattle.tup_board.specs.declared.answers.Asked.{Asked}
 use Rattle.tup_board.specs.declared.answers.Asked.TheVariants.{Content as Told, Absent, Denied}
 use Rattle.tup_board.specs.Board.{BoardState, course_of, plan_of, with_history}

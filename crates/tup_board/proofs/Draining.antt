@@ -30,15 +30,15 @@ use Rattle.tup_core.proofs.Changed.{changed_here}
 use Rattle.tup_core.proofs.CleanRuns.{files_clean, succeeds_clean}
 use Rattle.tup_core.proofs.NeverStuck.{never_stuck}
 use Rattle.tup_core.proofs.Orderly.{IsOrderly, claimed_ended, finished_is, seats_ended}
-use Rattle.tup_turn.specs.Turn.{IsFirstReady}
-use Rattle.tup_course.specs.Course.{Claims, CourseState, EndsDenied, NoneRuns, Stops}
-use Rattle.tup_course.specs.declared.claimed.Claimed.{Claimed}
-use Rattle.tup_course.specs.declared.claimed.Claimed.TheVariants.{Rule as Gives, Wait, Over}
-use Rattle.tup_course.specs.Room.{unclaimed}
-use Rattle.tup_course.proofs.Rooms.{unclaimed_fewer}
-use Rattle.tup_ground.specs.Fault.{CountsFaults}
-use Rattle.tup_ground.specs.declared.fault.BoardFault.{BoardFault}
-use Rattle.tup_ground.specs.declared.fault.BoardFault.TheVariants as fault_by
+use Rattle.tup_schedule.specs.Turn.{IsFirstReady}
+use Rattle.tup_schedule.specs.Course.{Claims, CourseState, EndsDenied, NoneRuns, Stops}
+use Rattle.tup_schedule.specs.declared.claimed.Claimed.{Claimed}
+use Rattle.tup_schedule.specs.declared.claimed.Claimed.TheVariants.{Rule as Gives, Wait, Over}
+use Rattle.tup_schedule.specs.Room.{unclaimed}
+use Rattle.tup_schedule.proofs.Rooms.{unclaimed_fewer}
+use Rattle.tup_rule_outputs.specs.Fault.{CountsFaults}
+use Rattle.tup_rule_outputs.specs.declared.fault.BoardFault.{BoardFault}
+use Rattle.tup_rule_outputs.specs.declared.fault.BoardFault.TheVariants as fault_by
 use Rattle.tup_board.specs.declared.answers.Drained.{Drained}
 use Rattle.tup_board.specs.declared.answers.Drained.TheVariants.{Done, Left}
 use Rattle.tup_board.specs.Board.{BoardState, Opening, course_of, plan_of, seat_of, start, state, with_history}

@@ -21,12 +21,12 @@ use Rattle.tup_core.specs.declared.event.CoreEvent.{CoreEvent}
 use Rattle.tup_core.specs.declared.event.CoreEvent.TheVariants.{Finish}
 use Rattle.tup_core.specs.declared.running.Running.{Running}
 use Rattle.tup_core.specs.Honest.{stamped}
-use Rattle.tup_ground.specs.declared.fault.BoardFault.{BoardFault}
-use Rattle.tup_ground.specs.declared.fault.BoardFault.TheVariants as fault_by
-use Rattle.tup_ground.specs.declared.ground.Ground.{Ground}
-use Rattle.tup_ground.specs.Fault.{CountsFaults, lost_fault}
-use Rattle.tup_ground.specs.Ground.{LacksRoomFor, MakeStep, Makes, WasTried}
-use Rattle.tup_ground.specs.Lost.{Lost}
+use Rattle.tup_rule_outputs.specs.declared.fault.BoardFault.{BoardFault}
+use Rattle.tup_rule_outputs.specs.declared.fault.BoardFault.TheVariants as fault_by
+use Rattle.tup_rule_outputs.specs.declared.ground.Ground.{Ground}
+use Rattle.tup_rule_outputs.specs.Fault.{CountsFaults, lost_fault}
+use Rattle.tup_rule_outputs.specs.Ground.{LacksRoomFor, MakeStep, Makes, WasTried}
+use Rattle.tup_rule_outputs.specs.Lost.{Lost}
 use Rattle.tup_board.specs.Board.{BoardState, plan_of, state}
 use Rattle.tup_board.specs.Calls.{Ends, Finishes, IsGoodAt, IsRunAt, LacksRoom, LeavesBeside, MayLose, Touches}
 use Rattle.tup_board.specs.Cause.{stops_by}

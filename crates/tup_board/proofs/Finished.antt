@@ -18,19 +18,19 @@ use Rattle.tup_access.specs.declared.verdict.Verdict.TheVariants.{Good}
 use Rattle.tup_record.specs.declared.run.RunRecord.{RunRecord}
 use Rattle.tup_table.specs.Table.{entries_in}
 use Rattle.tup_graph.specs.Opening.{IsGraphOf}
-use Rattle.tup_kept.specs.Held.{Held, is_fresh}
+use Rattle.tup_stored_graph.specs.Held.{Held, is_fresh}
 use Rattle.tup_core.specs.declared.event.CoreEvent.{CoreEvent}
 use Rattle.tup_core.specs.declared.event.CoreEvent.TheVariants.{Finish}
 use Rattle.tup_core.specs.declared.running.Running.{Running}
 use Rattle.tup_core.specs.Honest.{EndsHonestly}
 use Rattle.tup_core.specs.Step.{IsEnabled}
-use Rattle.tup_course.specs.Course.{CourseState, IsGoodEnd, with_events}
-use Rattle.tup_ground.specs.declared.fault.BoardFault.{BoardFault}
-use Rattle.tup_ground.specs.declared.fault.BoardFault.TheVariants as fault_by
-use Rattle.tup_ground.specs.declared.ground.Ground.{Ground}
-use Rattle.tup_ground.specs.Fault.{CountsFaults, lost_fault}
-use Rattle.tup_ground.specs.Ground.{CanMake, Makes}
-use Rattle.tup_ground.specs.Lost.{Lost}
+use Rattle.tup_schedule.specs.Course.{CourseState, IsGoodEnd, with_events}
+use Rattle.tup_rule_outputs.specs.declared.fault.BoardFault.{BoardFault}
+use Rattle.tup_rule_outputs.specs.declared.fault.BoardFault.TheVariants as fault_by
+use Rattle.tup_rule_outputs.specs.declared.ground.Ground.{Ground}
+use Rattle.tup_rule_outputs.specs.Fault.{CountsFaults, lost_fault}
+use Rattle.tup_rule_outputs.specs.Ground.{CanMake, Makes}
+use Rattle.tup_rule_outputs.specs.Lost.{Lost}
 use Rattle.tup_board.specs.Board.{BoardState, course_of, plan_of, state, with_history}
 use Rattle.tup_board.specs.Calls.{AreFilesAt, AreStamped, Ends, IsGoodEndAt, IsReportOf}
 use Rattle.tup_board.specs.Cause.{stops_by}

@@ -12,13 +12,13 @@ use Rattle.tup_rule.proofs.Laws.{writes-at}
 use Rattle.tup_record.specs.declared.run.RunRecord.{RunRecord}
 use Rattle.tup_graph.specs.Graph.{GraphState, is_flagged}
 use Rattle.tup_graph.specs.Transactions.{maker_of, begun, finished}
-use Rattle.tup_kept.specs.Held.{Held}
+use Rattle.tup_stored_graph.specs.Held.{Held}
 use Rattle.tup_core.specs.declared.event.CoreEvent.{CoreEvent}
 use Rattle.tup_core.specs.Step.{changed, is_reached}
 use Rattle.tup_core.specs.Sound.{HasOneMaker}
 use Rattle.tup_core.proofs.Changed.{changed_cases}
 use Rattle.tup_core.proofs.Orderly.{IsOrderly}
-use Rattle.tup_ground.specs.Lost.{Lost}
+use Rattle.tup_rule_outputs.specs.Lost.{Lost}
 use Rattle.tup_board.specs.Board.{BoardState, plan_of, first_graph, start, state}
 use Rattle.tup_board.specs.Come.{HasOf, HasCome, HasComeTo, IsPresent, WasToKeep}
 use Rattle.tup_board.specs.Ends.{HasEnded, IsRecordOf}

@@ -17,7 +17,7 @@ use Rattle.tup_record.specs.declared.owned.OwnedState.TheVariants.{Unsure, Writt
 use Rattle.tup_record.specs.declared.run.RunRecord.{RunRecord}
 use Rattle.tup_graph.specs.Graph.{GraphState, is_flagged}
 use Rattle.tup_graph.specs.Transactions.{maker_of, begun, finished}
-use Rattle.tup_kept.specs.Crash.{IsStoreOf}
+use Rattle.tup_stored_graph.specs.Crash.{IsStoreOf}
 use Rattle.tup_core.specs.declared.plan.Plan.{Plan}
 use Rattle.tup_core.specs.Step.{is_reached}
 use Rattle.tup_board.specs.Board.{BoardState, plan_of, state}

@@ -20,9 +20,9 @@ use Rattle.tup_core.specs.declared.event.CoreEvent.TheVariants.{Finish}
 use Rattle.tup_core.specs.declared.running.Running.{Running}
 use Rattle.tup_core.specs.Honest.{EndsHonestly, stamped}
 use Rattle.tup_core.specs.Step.{IsEnabled}
-use Rattle.tup_course.specs.Course.{GoesOn, RunsRule}
-use Rattle.tup_ground.specs.declared.fault.BoardFault.TheVariants.{Memory}
-use Rattle.tup_ground.specs.Ground.{paths_of}
+use Rattle.tup_schedule.specs.Course.{GoesOn, RunsRule}
+use Rattle.tup_rule_outputs.specs.declared.fault.BoardFault.TheVariants.{Memory}
+use Rattle.tup_rule_outputs.specs.Ground.{paths_of}
 use Rattle.tup_board.specs.Board.{BoardState, course_of, plan_of, state, with_history}
 use Rattle.tup_board.specs.Calls.{AreFilesAt, Ends, IsGoodAt, IsGoodEndAt, IsReportOf, IsRunAt, IsVerdictAt}
 use Rattle.tup_board.specs.Ends.{AreNamed, AreRecorded}

@@ -10,7 +10,7 @@ use Rattle.tup_access.specs.declared.verdict.Verdict.TheVariants.{Good}
 use Rattle.tup_access.proofs.Permitted.{access-No}
 use Rattle.tup_site.specs.declared.site.Site.{Ghosts as Site}
 use Rattle.tup_runner.specs.declared.runner.Runner.{Ghosts as Runner}
-use Rattle.tup_kept.specs.Held.{Held}
+use Rattle.tup_stored_graph.specs.Held.{Held}
 use Rattle.tup_core.specs.declared.event.Cause.{Cause}
 use Rattle.tup_core.specs.declared.event.Cause.TheVariants.{Bad, Run, Memory, Site as ByVisit, TooLarge, Full}
 use Rattle.tup_core.specs.declared.event.CoreEvent.{CoreEvent}
@@ -21,16 +21,16 @@ use Rattle.tup_core.specs.Honest.{EndsHonestly, IsHonest}
 use Rattle.tup_core.specs.Run.{IsRun}
 use Rattle.tup_core.proofs.Counted.{all_counted}
 use Rattle.tup_rule.specs.declared.rule.Rule.{Rule}
-use Rattle.tup_turn.specs.Turn.{IsFirstReady}
+use Rattle.tup_schedule.specs.Turn.{IsFirstReady}
 use Rattle.tup_core.specs.Step.{State, Runs, IsEnabled, after, emptied}
 use Rattle.tup_core.proofs.Orderly.{finished_is}
-use Rattle.tup_course.specs.declared.claimed.Claimed.{Claimed}
-use Rattle.tup_course.specs.declared.claimed.Claimed.TheVariants.{Rule as Gives, Wait, Over}
-use Rattle.tup_course.specs.Course.{CourseState, Claims, Stops, EndsDenied, WasDenied, first, now, with_events}
-use Rattle.tup_course.proofs.Courses.{denied_can, end_more}
-use Rattle.tup_course.proofs.Going.{bad_ended}
-use Rattle.tup_ground.specs.Lost.{Lost}
-use Rattle.tup_ground.specs.declared.fault.BoardFault.TheVariants as fault_by
+use Rattle.tup_schedule.specs.declared.claimed.Claimed.{Claimed}
+use Rattle.tup_schedule.specs.declared.claimed.Claimed.TheVariants.{Rule as Gives, Wait, Over}
+use Rattle.tup_schedule.specs.Course.{CourseState, Claims, Stops, EndsDenied, WasDenied, first, now, with_events}
+use Rattle.tup_schedule.proofs.Courses.{denied_can, end_more}
+use Rattle.tup_schedule.proofs.Going.{bad_ended}
+use Rattle.tup_rule_outputs.specs.Lost.{Lost}
+use Rattle.tup_rule_outputs.specs.declared.fault.BoardFault.TheVariants as fault_by
 use Rattle.tup_board.specs.Board.{BoardState, course_of, plan_of, start, state, with_history}
 use Rattle.tup_board.specs.Calls.{MeansDenied}
 use Rattle.tup_board.specs.Cause.{IsTrueCause}

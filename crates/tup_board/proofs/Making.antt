@@ -27,9 +27,9 @@ use Rattle.tup_table.specs.Table.{entries_in}
 use Rattle.tup_graph.specs.Graph.{GraphState, is_flagged, outputs_of}
 use Rattle.tup_graph.specs.Opening.{IsGraphOf}
 use Rattle.tup_graph.specs.Transactions.{begun, finished, begin_edits, finish_edits}
-use Rattle.tup_kept.specs.Crash.{IsStoreOf}
-use Rattle.tup_kept.specs.Held.{Held, is_fresh}
-use Rattle.tup_kept.specs.Transaction.{IsFull}
+use Rattle.tup_stored_graph.specs.Crash.{IsStoreOf}
+use Rattle.tup_stored_graph.specs.Held.{Held, is_fresh}
+use Rattle.tup_stored_graph.specs.Transaction.{IsFull}
 use Rattle.tup_stale.proofs.Crashes.{stores_now}
 use Rattle.tup_ledger.proofs.Guarding.{one_store}
 use Rattle.tup_core.specs.declared.event.Cause.{Cause}
@@ -43,13 +43,13 @@ use Rattle.tup_core.specs.Sound.{HasOneMaker}
 use Rattle.tup_core.specs.Step.{State, FitsEnd, IsEnabled, Runs, changed, emptied, ended, with_stamps}
 use Rattle.tup_core.proofs.Changed.{changed_cases, with_stamps_apart}
 use Rattle.tup_core.proofs.Orderly.{IsOrderly, finished_is}
-use Rattle.tup_course.proofs.Courses.{end_more, run_more}
-use Rattle.tup_ground.specs.declared.fault.BoardFault.{BoardFault}
-use Rattle.tup_ground.specs.declared.fault.BoardFault.TheVariants as fault_by
-use Rattle.tup_ground.specs.declared.ground.Ground.{Ground}
-use Rattle.tup_ground.specs.Fault.{CountsFaults, lost_fault}
-use Rattle.tup_ground.specs.Ground.{HoldsFiles, MakeStep, MakesFiles, WasTried}
-use Rattle.tup_ground.specs.Lost.{Lost}
+use Rattle.tup_schedule.proofs.Courses.{end_more, run_more}
+use Rattle.tup_rule_outputs.specs.declared.fault.BoardFault.{BoardFault}
+use Rattle.tup_rule_outputs.specs.declared.fault.BoardFault.TheVariants as fault_by
+use Rattle.tup_rule_outputs.specs.declared.ground.Ground.{Ground}
+use Rattle.tup_rule_outputs.specs.Fault.{CountsFaults, lost_fault}
+use Rattle.tup_rule_outputs.specs.Ground.{HoldsFiles, MakeStep, MakesFiles, WasTried}
+use Rattle.tup_rule_outputs.specs.Lost.{Lost}
 use Rattle.tup_board.specs.Board.{BoardState, course_of, plan_of, first_graph, start, state, with_history}
 use Rattle.tup_board.specs.Cause.{IsTrueCause, HasNoRoom, stops_by}
 use Rattle.tup_board.specs.Come.{HasComeTo, IsPresent, WasToKeep}

@@ -16,12 +16,12 @@ use Rattle.tup_site.specs.declared.site.Site.{Ghosts as Site}
 use Rattle.tup_runner.specs.declared.runner.Runner.{Ghosts as Runner}
 use Rattle.tup_table.specs.Table.{entries_in}
 use Rattle.tup_graph.specs.Opening.{IsGraphOf}
-use Rattle.tup_kept.specs.Crash.{IsStoreOf}
-use Rattle.tup_kept.specs.Held.{Held}
-use Rattle.tup_kept.proofs.Crashes.{as_it_was}
+use Rattle.tup_stored_graph.specs.Crash.{IsStoreOf}
+use Rattle.tup_stored_graph.specs.Held.{Held}
+use Rattle.tup_stored_graph.proofs.Crashes.{as_it_was}
 use Rattle.tup_core.specs.declared.event.CoreEvent.{CoreEvent}
 use Rattle.tup_core.specs.declared.plan.Plan.{Plan}
-use Rattle.tup_course.specs.Course.{CourseState}
+use Rattle.tup_schedule.specs.Course.{CourseState}
 use Rattle.tup_core.specs.Step.{with_stamps}
 use Rattle.tup_board.specs.Board.{BoardState}
 use Rattle.tup_board.specs.Calls.{opened_as}

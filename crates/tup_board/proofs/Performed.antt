@@ -20,7 +20,7 @@ use Rattle.tup_runner.specs.declared.runner.Runner.{Ghosts as Runner}
 use Rattle.tup_core.specs.declared.event.Cause.TheVariants as causes
 use Rattle.tup_core.specs.declared.plan.Plan.{Plan}
 use Rattle.tup_core.specs.declared.running.Running.{Running}
-use Rattle.tup_course.specs.Course.{RunsRule}
+use Rattle.tup_schedule.specs.Course.{RunsRule}
 use Rattle.tup_board.specs.Board.{BoardState, Opening, course_of, plan_of, state}
 use Rattle.tup_board.specs.Calls.{AreStamped, IsReportOf, MeansDenied, StartsAlone}
 use Rattle.tup_board.specs.Seat.{CameBy, HasAsked, IsDenial, KeepsSeat, Performs, has_failed}

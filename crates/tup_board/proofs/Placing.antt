@@ -24,7 +24,7 @@ use Rattle.tup_core.specs.Sound.{HasOneMaker}
 use Rattle.tup_core.specs.Step.{State, IsEnabled, after, emptied, is_reached, opening}
 use Rattle.tup_core.proofs.Changed.{changed_cases}
 use Rattle.tup_core.proofs.Orderly.{IsOrderly, claimed_ended, finished_is, orderly_after, orderly_opening}
-use Rattle.tup_ground.specs.Ground.{AreAtOnce, CanMake, HavePlaces, paths_of}
+use Rattle.tup_rule_outputs.specs.Ground.{AreAtOnce, CanMake, HavePlaces, paths_of}
 use Rattle.tup_board.specs.Board.{BoardState, course_of, plan_of, first_graph, state}
 use Rattle.tup_board.specs.Come.{IsPresent}
 use Rattle.tup_board.specs.Ends.{IsRecordOf}

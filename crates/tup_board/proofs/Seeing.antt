@@ -27,9 +27,9 @@ use Rattle.tup_core.specs.declared.running.Running.{Running}
 use Rattle.tup_core.specs.Run.{claims}
 use Rattle.tup_core.specs.Step.{State, after, asked, changed, refused}
 use Rattle.tup_core.proofs.Changed.{changed_cases, changed_here}
-use Rattle.tup_course.proofs.Courses.{end_more}
-use Rattle.tup_ground.specs.declared.fault.BoardFault.{BoardFault}
-use Rattle.tup_ground.specs.declared.fault.BoardFault.TheVariants as fault_by
+use Rattle.tup_schedule.proofs.Courses.{end_more}
+use Rattle.tup_rule_outputs.specs.declared.fault.BoardFault.{BoardFault}
+use Rattle.tup_rule_outputs.specs.declared.fault.BoardFault.TheVariants as fault_by
 use Rattle.tup_board.specs.Board.{BoardState, Opening, plan_of, seat_of, start, state}
 use Rattle.tup_board.specs.declared.answers.Asked.{Asked}
 use Rattle.tup_board.specs.declared.answers.Asked.TheVariants as reply_by

@@ -5,8 +5,8 @@ use denote.Param.SendFields.{declared_send}
 use Rattle.std.proofs.Crossing.{crosses}
 use Rattle.tup_site.specs.declared.site.Site as Site
 use Rattle.tup_runner.specs.declared.runner.Runner as Runner
-use Rattle.tup_ground.proofs.Sent.{ground_send}
-use Rattle.tup_course.proofs.Sent.{course_send}
+use Rattle.tup_rule_outputs.proofs.Sent.{ground_send}
+use Rattle.tup_schedule.proofs.Sent.{course_send}
 use Rattle.tup_board.specs.contracts.board.Board as Board
 use Rattle.tup_board.specs.contracts.board.Board.TheInside as inside
 

@@ -33,9 +33,9 @@ use Rattle.tup_board.specs.Ends.{HasEnded, CouldEnd}
 use Rattle.tup_board.specs.Images.{IsImageOver}
 use Rattle.tup_board.specs.Outputs.{IsPending}
 use Rattle.tup_board.specs.Sound.{IsSound, Since}
-use Rattle.tup_turn.specs.Turn.{IsFirstReady}
-use Rattle.tup_course.proofs.Courses.{end_more, run_more}
-use Rattle.tup_course.proofs.Going.{bad_ended}
+use Rattle.tup_schedule.specs.Turn.{IsFirstReady}
+use Rattle.tup_schedule.proofs.Courses.{end_more, run_more}
+use Rattle.tup_schedule.proofs.Going.{bad_ended}
 
 -- ---- honest histories
 

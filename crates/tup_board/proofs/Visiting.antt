@@ -8,11 +8,11 @@ use Rattle.tup_site.specs.World.{World}
 use Rattle.tup_site.specs.declared.site.Site.{Ghosts as Site}
 use Rattle.tup_runner.specs.declared.runner.Runner.{Ghosts as Runner}
 use Rattle.tup_access.proofs.Permitted.{access-Yes}
-use Rattle.tup_ground.specs.declared.fault.BoardFault.{BoardFault}
-use Rattle.tup_ground.specs.declared.fault.BoardFault.TheVariants.{Site as ByVisit, TooLarge, Full, Memory}
-use Rattle.tup_ground.specs.Fault.{CountsFaults}
-use Rattle.tup_ground.specs.Ground.{OnlyLarge, NamesLength}
-use Rattle.tup_ground.specs.Lost.{Lost, WasLostToSite}
+use Rattle.tup_rule_outputs.specs.declared.fault.BoardFault.{BoardFault}
+use Rattle.tup_rule_outputs.specs.declared.fault.BoardFault.TheVariants.{Site as ByVisit, TooLarge, Full, Memory}
+use Rattle.tup_rule_outputs.specs.Fault.{CountsFaults}
+use Rattle.tup_rule_outputs.specs.Ground.{OnlyLarge, NamesLength}
+use Rattle.tup_rule_outputs.specs.Lost.{Lost, WasLostToSite}
 use Rattle.tup_board.specs.Board.{BoardState, course_of, plan_of, state}
 use Rattle.tup_board.specs.Calls.{AsksFor}
 use Rattle.tup_board.specs.Outputs.{IsPending}

@@ -3,15 +3,15 @@ use Rattle.std.specs.Prelude.{ℕ, List, Option, refl}
 use Rattle.std.specs.Coded.{Coded, code_by, coded×, coded_list, coded_option}
 use Rattle.std.specs.FinMap as finite
 use Rattle.tup_graph.specs.Graph.{GraphState}
-use Rattle.tup_kept.specs.Held.{Held, held_code}
+use Rattle.tup_stored_graph.specs.Held.{Held, held_code}
 use Rattle.tup_core.specs.contracts.event.CoreEvent as of_event
 use Rattle.tup_core.specs.contracts.plan.Plan as of_plan
 use Rattle.tup_core.specs.declared.event.CoreEvent.{CoreEvent}
 use Rattle.tup_core.specs.declared.event.CoreEvent.TheVariants.{Claim, Ask, Deny, Finish, Stop}
 use Rattle.tup_core.specs.declared.plan.Plan.{Plan}
 use Rattle.tup_core.specs.Step.{State}
-use Rattle.tup_ground.specs.Lost.{Lost, lost_code}
-use Rattle.tup_course.specs.Course.{CourseState, first, now}
+use Rattle.tup_rule_outputs.specs.Lost.{Lost, lost_code}
+use Rattle.tup_schedule.specs.Course.{CourseState, first, now}
 
 -- what a board was made of
 pub record Opening (S : Type 0) : Type 0 where

@@ -24,7 +24,7 @@ use Rattle.tup_access.specs.declared.verdict.Access.TheVariants.{Yes}
 use Rattle.tup_access.specs.declared.verdict.Verdict.{Verdict}
 use Rattle.tup_access.specs.declared.verdict.Verdict.TheVariants.{Good}
 use Rattle.tup_record.specs.declared.run.RunRecord.{RunRecord}
-use Rattle.tup_kept.specs.Held.{Held}
+use Rattle.tup_stored_graph.specs.Held.{Held}
 use Rattle.tup_core.specs.declared.event.Cause.{Cause}
 use Rattle.tup_core.specs.declared.event.Cause.TheVariants.{Bad, Run, Memory as StoppedByMemory}
 use Rattle.tup_core.specs.declared.event.CoreEvent.{CoreEvent}
@@ -40,15 +40,15 @@ use Rattle.tup_board.specs.declared.answers.Asked.{Asked}
 use Rattle.tup_board.specs.declared.answers.Asked.TheVariants.{Content as Told, Absent, Denied}
 use Rattle.tup_board.specs.declared.answers.Drained.{Drained}
 use Rattle.tup_board.specs.declared.answers.Drained.TheVariants.{Done, Left}
-use Rattle.tup_ground.specs.declared.fault.BoardFault.{BoardFault}
-use Rattle.tup_ground.specs.declared.fault.BoardFault.TheVariants.{Site as ByVisit, TooLarge, Full, Memory}
+use Rattle.tup_rule_outputs.specs.declared.fault.BoardFault.{BoardFault}
+use Rattle.tup_rule_outputs.specs.declared.fault.BoardFault.TheVariants.{Site as ByVisit, TooLarge, Full, Memory}
 use Rattle.tup_board.specs.Board.{BoardState, course_of, plan_of, seat_of, state, with_history}
-use Rattle.tup_course.specs.Course.{RunsRule, GoesOn, WasDenied, NoneReady, NoneRuns}
+use Rattle.tup_schedule.specs.Course.{RunsRule, GoesOn, WasDenied, NoneReady, NoneRuns}
 use Rattle.tup_board.specs.Cause.{stops_by}
 use Rattle.tup_board.specs.Ends.{IsRecordOf}
-use Rattle.tup_ground.specs.Fault.{CountsFaults, lost_fault}
-use Rattle.tup_ground.specs.Ground.{LacksRoomFor, Loses, MakeStep, WasTried}
-use Rattle.tup_ground.specs.Lost.{Lost}
+use Rattle.tup_rule_outputs.specs.Fault.{CountsFaults, lost_fault}
+use Rattle.tup_rule_outputs.specs.Ground.{LacksRoomFor, Loses, MakeStep, WasTried}
+use Rattle.tup_rule_outputs.specs.Lost.{Lost}
 
 -- ---- new
 -- a board of these on which nothing happened yet

@@ -10,15 +10,15 @@ use Rattle.tup_table.specs.declared.change.Change.{Change}
 use Rattle.tup_record.specs.declared.run.RunRecord.{RunRecord}
 use Rattle.tup_graph.specs.Opening.{IsGraphOf}
 use Rattle.tup_graph.specs.Transactions.{begin_edits, finish_edits}
-use Rattle.tup_kept.specs.Held.{Held}
-use Rattle.tup_kept.specs.Transaction.{IsFull}
+use Rattle.tup_stored_graph.specs.Held.{Held}
+use Rattle.tup_stored_graph.specs.Transaction.{IsFull}
 use Rattle.tup_core.specs.declared.event.Cause.{Cause}
 use Rattle.tup_core.specs.declared.event.Cause.TheVariants.{Bad, Site, TooLarge, Full, Run, Memory}
 use Rattle.tup_core.specs.Run.{end_of}
 use Rattle.tup_core.specs.declared.event.CoreEvent.{CoreEvent}
 use Rattle.tup_core.specs.declared.event.CoreEvent.TheVariants.{Stop}
-use Rattle.tup_ground.specs.declared.fault.BoardFault.{BoardFault}
-use Rattle.tup_ground.specs.declared.fault.BoardFault.TheVariants as board
+use Rattle.tup_rule_outputs.specs.declared.fault.BoardFault.{BoardFault}
+use Rattle.tup_rule_outputs.specs.declared.fault.BoardFault.TheVariants as board
 use Rattle.tup_board.specs.Board.{BoardState, plan_of, start, state}
 use Rattle.tup_board.specs.Outputs.{IsPending}
 use Rattle.tup_board.specs.Ends.{IsRecordOf}

@@ -10,7 +10,7 @@ use Rattle.tup_graph.specs.Graph.{GraphState, is_flagged}
 use Rattle.tup_graph.specs.Transactions.{begun, finished}
 use Rattle.tup_core.specs.declared.plan.Plan.{Plan}
 use Rattle.tup_core.specs.Step.{is_reached}
-use Rattle.tup_ground.specs.Lost.{Lost}
+use Rattle.tup_rule_outputs.specs.Lost.{Lost}
 use Rattle.tup_board.specs.Board.{BoardState, plan_of, first_graph, start, state}
 use Rattle.tup_board.specs.Ends.{HasEnded}
 

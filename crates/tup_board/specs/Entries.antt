@@ -13,10 +13,10 @@ use Rattle.tup_core.specs.declared.plan.Plan.{Plan}
 use Rattle.tup_core.specs.declared.running.Running.{Running}
 use Rattle.tup_core.specs.Honest.{stamped}
 use Rattle.tup_core.specs.Step.{asked, refused}
-use Rattle.tup_course.specs.declared.claimed.Claimed.{Claimed}
-use Rattle.tup_course.specs.declared.claimed.Claimed.TheVariants.{Rule as Gives, Wait, Over}
-use Rattle.tup_ground.specs.declared.fault.BoardFault.{BoardFault}
-use Rattle.tup_ground.specs.declared.fault.BoardFault.TheVariants.{TooLarge}
+use Rattle.tup_schedule.specs.declared.claimed.Claimed.{Claimed}
+use Rattle.tup_schedule.specs.declared.claimed.Claimed.TheVariants.{Rule as Gives, Wait, Over}
+use Rattle.tup_rule_outputs.specs.declared.fault.BoardFault.{BoardFault}
+use Rattle.tup_rule_outputs.specs.declared.fault.BoardFault.TheVariants.{TooLarge}
 use Rattle.tup_board.specs.Calls.{AreStamped}
 use Rattle.tup_board.specs.Cause.{stops_by}
 

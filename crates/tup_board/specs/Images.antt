@@ -10,7 +10,7 @@ use Rattle.tup_record.specs.declared.owned.OwnedState.{OwnedState}
 use Rattle.tup_record.specs.declared.owned.OwnedState.TheVariants.{Unsure, Written}
 use Rattle.tup_graph.specs.declared.owned.Owned.{Owned}
 use Rattle.tup_graph.specs.Graph.{GraphState, is_flagged}
-use Rattle.tup_kept.specs.Crash.{IsStoreOf}
+use Rattle.tup_stored_graph.specs.Crash.{IsStoreOf}
 use Rattle.tup_board.specs.Board.{BoardState, plan_of, state}
 use Rattle.tup_core.specs.Step.{is_reached}
 use Rattle.tup_board.specs.Outputs.{IsClaimed, Makes}

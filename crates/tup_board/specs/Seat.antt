@@ -19,8 +19,8 @@ use Rattle.tup_core.specs.declared.event.Cause.TheVariants.{Run, Site as Failed}
 use Rattle.tup_core.specs.declared.event.CoreEvent.{CoreEvent}
 use Rattle.tup_core.specs.declared.running.Running.{Running}
 use Rattle.tup_core.specs.Run.{claims}
-use Rattle.tup_ground.specs.declared.fault.BoardFault.{BoardFault}
-use Rattle.tup_ground.specs.declared.fault.BoardFault.TheVariants as fault_by
+use Rattle.tup_rule_outputs.specs.declared.fault.BoardFault.{BoardFault}
+use Rattle.tup_rule_outputs.specs.declared.fault.BoardFault.TheVariants as fault_by
 use Rattle.tup_board.specs.Board.{BoardState, seat_of, state}
 use Rattle.tup_board.specs.Calls.{AreStamped, AreKnown, MeansDenied}
 

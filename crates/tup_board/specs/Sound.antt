@@ -11,14 +11,14 @@ use Rattle.tup_site.specs.declared.site.Site.{Ghosts as Site}
 use Rattle.tup_runner.specs.declared.runner.Runner.{Ghosts as Runner}
 use Rattle.tup_record.specs.declared.run.RunRecord.{RunRecord}
 use Rattle.tup_graph.specs.Graph.{GraphState}
-use Rattle.tup_kept.specs.Held.{is_fresh, StandsFor}
+use Rattle.tup_stored_graph.specs.Held.{is_fresh, StandsFor}
 use Rattle.tup_core.specs.declared.event.Cause.{Cause}
 use Rattle.tup_core.specs.Honest.{IsHonest, EndsHonestly}
 use Rattle.tup_core.specs.Run.{IsRun}
-use Rattle.tup_ground.specs.Lost.{Lost}
+use Rattle.tup_rule_outputs.specs.Lost.{Lost}
 use Rattle.tup_board.specs.Board.{BoardState, plan_of, first_graph, start, state, with_history}
-use Rattle.tup_ground.specs.declared.fault.BoardFault.{BoardFault}
-use Rattle.tup_ground.specs.declared.fault.BoardFault.TheVariants.{Site as ByVisit, TooLarge, Full, Memory}
+use Rattle.tup_rule_outputs.specs.declared.fault.BoardFault.{BoardFault}
+use Rattle.tup_rule_outputs.specs.declared.fault.BoardFault.TheVariants.{Site as ByVisit, TooLarge, Full, Memory}
 use Rattle.tup_board.specs.Cause.{IsTrueCause, HasLargeFile, HasNoRoom, stops_by}
 use Rattle.tup_board.specs.Come.{IsPresent}
 use Rattle.tup_board.specs.Ends.{CouldEnd}

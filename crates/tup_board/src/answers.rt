@@ -1,10 +1,10 @@
 //! What the calls of a board answer.
 use tup_access::Verdict;
 use tup_core::Cause;
-use tup_course::Events;
-use tup_kept::Graph;
 use tup_path::Bytes;
+use tup_schedule::Events;
 use tup_site::Site;
+use tup_stored_graph::Graph;
 
 /// What a command is told about a file that it asks for.
 #[derive(Drop)]

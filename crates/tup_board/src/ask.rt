@@ -8,17 +8,17 @@ use crate::board::Board;
 use crate::desk::{Desk, rule_run};
 use std::alloc::Global;
 use tup_core::Plan;
-use tup_ground::BoardFault;
 use tup_path::Text;
 use tup_rule::Rule;
+use tup_rule_outputs::BoardFault;
 use tup_runner::Runner;
 use tup_site::Site;
 
 impl<S: Site, R: Runner> Board<S, R> {
     ghost use Rattle.tup_board.specs.Board.{course_of, plan_of};
-    ghost use Rattle.tup_course.specs.Course.{GoesOn, RunsRule, WasDenied};
+    ghost use Rattle.tup_schedule.specs.Course.{GoesOn, RunsRule, WasDenied};
     ghost use Rattle.tup_board.specs.Calls.{AsksFor, IsAsked, IsToldOf, HasAskedFor};
-    ghost use Rattle.tup_ground.specs.Fault.{CountsFaults};
+    ghost use Rattle.tup_rule_outputs.specs.Fault.{CountsFaults};
 
     /// Answers what the command of a seat asks for: the file's content, or that there is none; an output of its own rule is
     /// absent. `Denied` comes just where the command may not ask for it.

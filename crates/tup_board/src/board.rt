@@ -15,13 +15,13 @@ use std::marker::{Model, PhantomData};
 use std::snapshot::Snapshot;
 use tup_access::Verdict;
 use tup_core::{Cause, CoreEvent, Plan, Running, Stamps};
-use tup_course::{Claimed, Course};
 use tup_graph::Nodes;
-use tup_ground::{BoardFault, Ground};
-use tup_kept::Graph;
 use tup_path::Items;
+use tup_rule_outputs::{BoardFault, Ground};
 use tup_runner::Runner;
+use tup_schedule::{Claimed, Course};
 use tup_site::Site;
+use tup_stored_graph::Graph;
 
 /// An update under way: a site with its graph, and all that happened.
 #[derive(Drop)]
@@ -71,7 +71,7 @@ impl<S: Site, R: Runner> Model for Board<S, R> {
 
 impl<S: Site, R: Runner> Board<S, R> {
     ghost use Rattle.tup_board.specs.Board.{course_of, plan_of, start, state, with_history};
-    ghost use Rattle.tup_course.specs.Course.{Claims, Stops, EndsDenied, EndsWithFinish, IsLastVerdict};
+    ghost use Rattle.tup_schedule.specs.Course.{Claims, Stops, EndsDenied, EndsWithFinish, IsLastVerdict};
     ghost use Rattle.tup_board.specs.Calls.{MeansDenied, opened_as};
     ghost use Rattle.tup_board.specs.Sound.{IsSound, IsOpening};
 

@@ -22,13 +22,13 @@ use crate::seat::SeatView;
 use std::alloc::Global;
 use tup_access::Verdict;
 use tup_core::{Cause, Plan};
-use tup_course::Claimed;
-use tup_ground::BoardFault;
+use tup_rule_outputs::BoardFault;
 use tup_runner::{Report, RunFailed, Runner, perform};
+use tup_schedule::Claimed;
 use tup_site::Site;
 
 impl<S: Site, R: Runner> Board<S, R> {
-    ghost use Rattle.tup_course.specs.Course.{NoneRuns};
+    ghost use Rattle.tup_schedule.specs.Course.{NoneRuns};
     ghost use Rattle.tup_board.specs.Calls.{BuildsClean, Drains, HasFailed, HasRun, HasRunCause, IsOver, RanAll, RunsOne};
 
     /// Runs all that can be run, one rule after another, at seat 0, while no seat runs a rule.

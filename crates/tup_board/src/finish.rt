@@ -10,8 +10,8 @@ use crate::record::record_of;
 use std::alloc::{AllocError, Global};
 use tup_access::{Verdict, judge};
 use tup_core::{CoreEvent, Plan, Stamps};
-use tup_ground::{BoardFault, GoodEnd};
 use tup_path::Files;
+use tup_rule_outputs::{BoardFault, GoodEnd};
 use tup_runner::{Report, Runner};
 use tup_site::Site;
 
@@ -19,9 +19,9 @@ impl<S: Site, R: Runner> Board<S, R> {
     ghost use Rattle.tup_runner.specs.Report.{asks_of, ended_of};
     ghost use Rattle.tup_board.specs.Board.{course_of, plan_of};
     ghost use Rattle.tup_board.specs.Calls.{AreFilesAt, Ends, IsGoodEndAt, IsReportOf, IsVerdictAt, Finishes, MayLose, Touches};
-    ghost use Rattle.tup_course.specs.Course.{GoesOn, RunsRule};
-    ghost use Rattle.tup_ground.specs.Ground.{paths_of};
-    ghost use Rattle.tup_ground.specs.Fault.{CountsFaults};
+    ghost use Rattle.tup_schedule.specs.Course.{GoesOn, RunsRule};
+    ghost use Rattle.tup_rule_outputs.specs.Ground.{paths_of};
+    ghost use Rattle.tup_rule_outputs.specs.Fault.{CountsFaults};
 
     /// Ends the command of a seat: judges what came of it, and if that is Good takes it into the tree and the store. A
     /// verdict that isn't Good touches neither, and stops unless the plan keeps going.

@@ -22,5 +22,5 @@ mod shared;
 pub use answers::{Asked, BoardParts, Drained};
 pub use board::Board;
 pub use shared::Shared;
-pub use tup_course::{Claimed, Events};
-pub use tup_ground::BoardFault;
+pub use tup_rule_outputs::BoardFault;
+pub use tup_schedule::{Claimed, Events};

@@ -8,9 +8,9 @@ use crate::desk::Desk;
 use std::alloc::Global;
 use std::snapshot::Snapshot;
 use tup_core::Plan;
-use tup_ground::BoardFault;
 use tup_path::{Path, Text};
 use tup_rule::Rule;
+use tup_rule_outputs::BoardFault;
 use tup_runner::{Answer, View, ViewFailed};
 
 /// A text that wasn't answered, for contracts alone.

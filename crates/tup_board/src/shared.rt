@@ -14,10 +14,10 @@ use crate::answers::Asked;
 use std::alloc::Global;
 use tup_access::Verdict;
 use tup_core::{Cause, Plan};
-use tup_course::Claimed;
-use tup_ground::BoardFault;
 use tup_path::Text;
+use tup_rule_outputs::BoardFault;
 use tup_runner::{Report, Runner};
+use tup_schedule::Claimed;
 
 /// A board that seats share: each call is one of the board at the seat's number, and adds its entries to those of the seat.
 /// What other seats do meanwhile isn't seen.

@@ -10,7 +10,7 @@ use Rattle.tup_core.specs.declared.plan.Plan.{Plan}
 use Rattle.tup_core.specs.declared.event.CoreEvent.{CoreEvent}
 use Rattle.tup_core.specs.declared.event.CoreEvent.TheVariants.{Finish}
 use Rattle.tup_core.specs.declared.running.Running.{Running}
-use Rattle.tup_course.specs.Course.{CourseState, EndsDenied, EndsWithFinish, GoesOn, RunsRule, WasDenied, last_event, now}
+use Rattle.tup_schedule.specs.Course.{CourseState, EndsDenied, EndsWithFinish, GoesOn, RunsRule, WasDenied, last_event, now}
 use Rattle.tup_board_rows.specs.Desk.{MayRun}
 
 -- what runs at a seat is what stands there

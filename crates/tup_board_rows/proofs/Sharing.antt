@@ -18,10 +18,10 @@ use Rattle.tup_core.specs.declared.plan.Plan.{Plan}
 use Rattle.tup_core.specs.declared.running.Running.{Running}
 use Rattle.tup_core.specs.Honest.{EndsHonestly}
 use Rattle.tup_core.specs.Step.{asked, refused}
-use Rattle.tup_course.specs.declared.claimed.Claimed.{Claimed}
-use Rattle.tup_course.specs.declared.claimed.Claimed.TheVariants.{Rule as Gives}
+use Rattle.tup_schedule.specs.declared.claimed.Claimed.{Claimed}
+use Rattle.tup_schedule.specs.declared.claimed.Claimed.TheVariants.{Rule as Gives}
 use Rattle.tup_access.specs.declared.verdict.Verdict.{Verdict}
-use Rattle.tup_ground.specs.declared.fault.BoardFault.{BoardFault}
+use Rattle.tup_rule_outputs.specs.declared.fault.BoardFault.{BoardFault}
 use Rattle.tup_board.specs.declared.answers.Asked.{Asked}
 use Rattle.tup_board.specs.declared.answers.Asked.TheVariants as reply_by
 use Rattle.tup_board.specs.Calls.{AreKnown, AreStamped, IsStampOf, ask_events}

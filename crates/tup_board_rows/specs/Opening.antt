@@ -7,7 +7,7 @@ use Rattle.tup_path.specs.Tree.{Tree}
 use Rattle.tup_stamp.specs.Stamp.{stamp}
 use Rattle.tup_site.specs.declared.site.Site.{Ghosts as Site}
 use Rattle.tup_graph.specs.Graph.{GraphState}
-use Rattle.tup_kept.specs.Held.{Held, StandsFor, is_fresh}
+use Rattle.tup_stored_graph.specs.Held.{Held, StandsFor, is_fresh}
 
 -- the stamps that a graph has seen are those of a tree
 abbrev pub HasSeen : GraphState → Tree → Type 0

@@ -1,7 +1,7 @@
 //! A board whose seats are driven by hand.
 ghost use Rattle.std.specs.Prelude.{◌≡◌, IfOk, IsTrue};
 ghost use Rattle.tup_board.specs.Board.{course_of, plan_of};
-ghost use Rattle.tup_course.specs.Course.{GoesOn, RunsRule, WasDenied};
+ghost use Rattle.tup_schedule.specs.Course.{GoesOn, RunsRule, WasDenied};
 
 use crate::order::Order;
 use crate::quiet::Quiet;

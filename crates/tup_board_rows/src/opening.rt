@@ -2,7 +2,7 @@
 ghost use Rattle.std.specs.Prelude.{◌≡◌, ◌↔◌, true, [], All, IfOk, IsTrue};
 ghost use Rattle.tup_scan.specs.Seen.{IsSeen};
 ghost use Rattle.tup_graph.specs.Graph.{is_flagged};
-ghost use Rattle.tup_kept.specs.Held.{is_fresh, StandsFor};
+ghost use Rattle.tup_stored_graph.specs.Held.{is_fresh, StandsFor};
 ghost use Rattle.tup_board.specs.Board.{plan_of as planned_at};
 ghost use Rattle.tup_board.specs.Outputs.{AreApart, IsPlanOf};
 ghost use Rattle.tup_board_rows.specs.Opening.{IsReady};
@@ -13,18 +13,18 @@ use crate::project::{Given, reach_at};
 use crate::quiet::Quiet;
 use crate::store::site_of;
 use std::alloc::Global;
-use tup_above::runs_are_of_rules;
 use tup_board::Board;
+use tup_closure::runs_are_of_rules;
+use tup_commit::note_scan;
 use tup_core::Plan;
 use tup_graph::Nodes;
-use tup_kept::Graph;
-use tup_note::note_scan;
 use tup_partial::{flags_are_of_rules, plan_of};
 use tup_path::Path;
 use tup_rows::{RowFault, Words};
 use tup_runner::Runner;
 use tup_scan::{Seen, Still, scan};
 use tup_site::{MemSite, Site};
+use tup_stored_graph::Graph;
 
 /// The board of a row at its opening, whose site lets so many calls pass. `OtherKind` where no board may be made.
 pub(crate) fn board_of(

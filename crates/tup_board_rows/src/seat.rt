@@ -4,7 +4,7 @@ ghost use Rattle.std.specs.Option.{option_copied};
 ghost use Rattle.tup_rule.specs.declared.rule.Rule.{Rule as RuleValue};
 ghost use Rattle.tup_board.specs.Board.{course_of, plan_of};
 ghost use Rattle.tup_board.specs.Calls.{AreStamped, IsStampOf};
-ghost use Rattle.tup_course.specs.Course.{RunsRule};
+ghost use Rattle.tup_schedule.specs.Course.{RunsRule};
 ghost use Rattle.tup_board_rows.specs.Desk.{MayRun};
 ghost use Rattle.tup_runner.specs.Report.{asks_of};
 

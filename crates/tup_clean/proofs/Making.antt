@@ -6,7 +6,7 @@ use Rattle.std.specs.List.{filter_map, cons_option}
 use Rattle.tup_path.specs.Name.{Names}
 use Rattle.tup_rule.specs.declared.rule.Rule.{Rule}
 use Rattle.tup_rule.specs.Rule.{writes, maker}
-use Rattle.tup_makers.specs.Makers.{producers}
+use Rattle.tup_rule.specs.Makers.{producers}
 use Rattle.tup_clean.specs.Queue.{count_of}
 use Rattle.tup_clean.proofs.Counting.{one_if, one_if-other}
 use Rattle.tup_clean.proofs.Places.{position_found}

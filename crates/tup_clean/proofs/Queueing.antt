@@ -8,9 +8,9 @@ use Rattle.std.specs.BTreeSet.{BTreeSet, contains}
 use Rattle.std.specs.Ordering.{nat_cmp}
 use Rattle.tup_rule.specs.declared.rule.Rule.{Rule}
 use Rattle.tup_clean.specs.declared.queue.Queue.{Queue}
-use Rattle.tup_makers.specs.Makers.{MakerMap, HasMakers, producers, producers_in}
+use Rattle.tup_rule.specs.Makers.{MakerMap, HasMakers, producers, producers_in}
 use Rattle.tup_clean.specs.Queue.{count_of, waits_for, waits_for_none, IsQueue, is_ready, AreWaiting, CanRelease, IsReleased, IsFilled, AreBelow, IsNoted}
-use Rattle.tup_makers.proofs.Making.{producers_in-is}
+use Rattle.tup_rule.proofs.Making.{producers_in-is}
 use Rattle.tup_clean.proofs.Making.{producers-below}
 use Rattle.tup_clean.proofs.Places.{set_here, set_apart}
 use Rattle.tup_clean.proofs.Counting.{at_number, one_if-same, one_if-other, count_of-push, count_of-take, count_of-take-le, waits_for-none, waits_for-good, waits_for-count}

@@ -14,7 +14,7 @@ use Rattle.tup_access.specs.Verdict.{verdict}
 use Rattle.tup_runner.specs.Next.{Next}
 use Rattle.tup_clean.specs.declared.queue.Queue.{Queue}
 use Rattle.tup_clean.specs.Clean.{Build, is_good, good_at, first_ready, given, with_files, builds_on}
-use Rattle.tup_makers.specs.Makers.{producers}
+use Rattle.tup_rule.specs.Makers.{producers}
 use Rattle.tup_clean.specs.Ran.{command_of, commands_of}
 use Rattle.tup_clean.specs.Queue.{waits_for, IsQueue, is_ready, IsNext, CanRelease, Notes}
 use Rattle.tup_clean.specs.Ready.{is_made, makers_good, next_ready, IsGrown}

@@ -4,7 +4,7 @@ use Rattle.std.specs.Ordering.{nat_cmp}
 use Rattle.std.specs.BTreeSet.{BTreeSet, contains}
 use Rattle.tup_rule.specs.declared.rule.Rule.{Rule}
 use Rattle.tup_clean.specs.declared.queue.Queue.{Queue}
-use Rattle.tup_makers.specs.Makers.{MakerMap, HasMakers, producers, producers_in}
+use Rattle.tup_rule.specs.Makers.{MakerMap, HasMakers, producers, producers_in}
 
 -- how often a number stands in a list
 abbrev pub count_of : ℕ → List ℕ → ℕ

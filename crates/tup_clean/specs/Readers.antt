@@ -1,7 +1,7 @@
 -- For each rule, the rules that declare what it makes (own).
 use Rattle.std.specs.Prelude.{◌≡◌, ℕ, List, length, None, Some, slice_get}
 use Rattle.tup_rule.specs.declared.rule.Rule.{Rule}
-use Rattle.tup_makers.specs.Makers.{producers}
+use Rattle.tup_rule.specs.Makers.{producers}
 use Rattle.tup_clean.specs.Queue.{count_of}
 
 -- a list for each rule, which has each rule as often as that one declares such a path

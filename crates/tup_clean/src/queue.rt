@@ -8,9 +8,8 @@ ghost use Rattle.tup_clean.specs.Queue.{IsQueue, IsWhole, IsNext, CanRelease, Ar
 use std::alloc::{AllocError, Global};
 use std::collections::BTreeSet;
 use tup_access::Verdict;
-use tup_makers::{Makers, makers, producers_of};
 use tup_path::Items;
-use tup_rule::Rule;
+use tup_rule::{Makers, Rule, makers, producers_of};
 
 /// The rules of a build that were not taken yet, with what they wait for.
 #[derive(Drop)]

@@ -12,7 +12,7 @@ use Rattle.tup_path.proofs.Same.{same_path-decides}
 use Rattle.tup_rule.specs.declared.rule.Rule.{Rule}
 use Rattle.tup_rule.specs.Rule.{among, maker}
 use Rattle.tup_rule.specs.Producer.{MakesFor, ProducerOver, DeclaredProducer}
-use Rattle.tup_makers.specs.Makers.{producers}
+use Rattle.tup_rule.specs.Makers.{producers}
 use Rattle.tup_clean.specs.Queue.{count_of}
 use Rattle.tup_clean.specs.Readers.{AreReaders}
 use Rattle.tup_clean.proofs.Counting.{one_if-same, one_if-other, count_of-take, count_of-take-le}

@@ -14,7 +14,7 @@ use Rattle.tup_core.specs.declared.event.CoreEvent.{CoreEvent}
 use Rattle.tup_core.specs.declared.event.CoreEvent.TheVariants.{Finish}
 use Rattle.tup_core.specs.declared.running.Running.{Running}
 use Rattle.tup_core.specs.Step.{FitsEnd, IsEnabled}
-use Rattle.tup_course.specs.Course.{CourseState, RunsRule, WasDenied, EndsDenied, EndsWithFinish, IsGoodEnd, last_event, now}
+use Rattle.tup_schedule.specs.Course.{CourseState, RunsRule, WasDenied, EndsDenied, EndsWithFinish, IsGoodEnd, last_event, now}
 use Rattle.tup_core_rows.specs.Desk.{RunsPlanned, Goes, names_in}
 
 runs_here : (course : CourseState) (seat : ℕ) (running : Running) → seat < 16 → RunsPlanned course seat running → RunsRule course seat

@@ -7,7 +7,7 @@ use Rattle.tup_access.specs.Access.{access}
 use Rattle.tup_access.specs.declared.verdict.Verdict.{Verdict}
 use Rattle.tup_access.specs.declared.verdict.Access.TheVariants.{Yes, No}
 use Rattle.tup_core.specs.declared.running.Running.{Running}
-use Rattle.tup_course.specs.Course.{CourseState, now, GoesOn}
+use Rattle.tup_schedule.specs.Course.{CourseState, now, GoesOn}
 
 -- a seat that runs nothing
 abbrev pub IsFree : CourseState → ℕ → Type 0

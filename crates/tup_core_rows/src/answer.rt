@@ -2,8 +2,8 @@
 use std::alloc::Global;
 use tup_access::Verdict;
 use tup_core::CoreEvent;
-use tup_course::Claimed;
 use tup_rows::Words;
+use tup_schedule::Claimed;
 
 /// What a seat is to do next: the number of a rule, `wait` or `over`.
 pub(crate) fn claimed_word(alloc: Global, claimed: Claimed) -> Words {

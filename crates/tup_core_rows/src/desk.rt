@@ -4,16 +4,16 @@ ghost use Rattle.std.specs.Option.{option_copied};
 ghost use Rattle.tup_rule.specs.declared.rule.Rule.{Rule as RuleValue};
 ghost use Rattle.tup_core.specs.declared.running.Running.{Running as RunningValue};
 ghost use Rattle.tup_core.specs.Step.{told};
-ghost use Rattle.tup_course.specs.Course.{now, WasDenied, EndsWithFinish};
+ghost use Rattle.tup_schedule.specs.Course.{now, WasDenied, EndsWithFinish};
 ghost use Rattle.tup_core_rows.specs.Desk.{IsFree, RunsPlanned, Goes, MayBeTold, MayBeDenied, names_in};
 
 use crate::opening::is_in_range;
 use std::alloc::{AllocError, Global};
 use tup_access::{Access, Verdict};
 use tup_core::{Cause, CoreEvent, Plan, Running, Stamps};
-use tup_course::{Claimed, Course};
 use tup_path::{Items, Path, Text};
 use tup_rows::RowFault;
+use tup_schedule::{Claimed, Course};
 use tup_stamp::Stamp;
 
 /// How many seats there are.

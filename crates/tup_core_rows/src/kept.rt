@@ -5,8 +5,8 @@ use std::io::Read;
 use std::{io, str};
 use tup_path::{Bytes, Path};
 use tup_rows::{Answers, RowFault, Words};
+use tup_strace::{Account, Act, Step, acts_of};
 use tup_trace::{Call, calls};
-use tup_watch::{Account, Act, Step, acts_of};
 
 /// Knows the kept traces, and what their commands ask for and write.
 #[derive(Drop)]

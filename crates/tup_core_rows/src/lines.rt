@@ -2,8 +2,8 @@
 use std::alloc::Global;
 use tup_path::Items;
 use tup_rows::{Answers, RowFault, Words};
+use tup_strace::{Act, acts_of};
 use tup_trace::{Call, Token, calls, unquoted};
-use tup_watch::{Act, acts_of};
 
 /// Knows the calls of tup_trace, and what calls do.
 #[derive(Drop)]

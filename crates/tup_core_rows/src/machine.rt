@@ -8,7 +8,7 @@ use tup_access::Access;
 use tup_core::{Core, CoreEvent, CoreFault, Plan, Stamps};
 use tup_path::Text;
 use tup_rows::{RowFault, Words};
-use tup_turn::Turn;
+use tup_schedule::Turn;
 
 /// A core, and the plan that it is told at each call.
 #[derive(Drop)]

@@ -2,7 +2,7 @@
 use std::alloc::Global;
 use tup_path::{Path, PathFault};
 use tup_rows::{Answers, RowFault, Words};
-use tup_watch::{Account, Step};
+use tup_strace::{Account, Step};
 
 /// Knows the account of steps.
 #[derive(Drop)]

@@ -1,3 +1,6 @@
 pub mod Files
 mod Stamps
 mod Standing
+pub mod Passing
+pub mod Reading
+pub mod Building

@@ -1,1 +1,4 @@
 pub mod Project
+pub mod Calm
+pub mod Steady
+pub mod Build

@@ -9,7 +9,7 @@ use Rattle.std.proofs.lemmas.List.{take_more, map-append}
 use Rattle.std.proofs.lemmas.List.Elements.{All-more}
 use Rattle.std.proofs.lemmas.List.Sums.{fold_push}
 use Rattle.tup_path.specs.Order.{by_bytes}
-use Rattle.tup_site.proofs.Trees.{from_entries-set, entries-of_sorted}
+use Rattle.tup_path.proofs.Maps.{from_entries-set, entries-of_sorted}
 use Rattle.tup_table.specs.declared.change.Change.{Change}
 use Rattle.tup_table.specs.Entries.{key_of}
 use Rattle.tup_graph.proofs.Maps.{by_bytes-antisymmetric}

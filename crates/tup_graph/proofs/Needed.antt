@@ -12,7 +12,7 @@ use Rattle.std.specs.FinMap.{FinMap, get, insert, empty, entries, find, is_sorte
 use Rattle.std.specs.FinMap.Entries.{same_entries, by_order, below_all}
 use Rattle.std.proofs.lemmas.Cmp.{tied_itself}
 use Rattle.std.specs.Cmp.Lexicographic.{bytes_decides}
-use Rattle.tup_site.proofs.Trees.{entries-of_sorted}
+use Rattle.tup_path.proofs.Maps.{entries-of_sorted}
 use Rattle.tup_graph.proofs.Maps.{equal_of, by_bytes-antisymmetric}
 use Rattle.std.specs.Cmp.Lexicographic.{nat_list_cmp_total}
 use Rattle.tup_path.specs.Order.{by_bytes}

@@ -8,7 +8,7 @@ use Rattle.tup_site.specs.World.{World}
 use Rattle.tup_site.specs.declared.refused.MemRefused.{MemRefused}
 use Rattle.tup_runner.specs.Next.{Next}
 use Rattle.tup_clean.specs.Clean.{clean, succeeds}
-use Rattle.tup_whole.specs.Project.{ComeTo}
+use Rattle.tup_project.specs.Project.{ComeTo}
 use Rattle.tup_ledger.specs.Ascending.{ascending}
 use Rattle.tup_ledger.proofs.Listing.{lists_one}
 use Rattle.tup_update.specs.Holding.{holding}

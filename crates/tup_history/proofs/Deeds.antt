@@ -12,7 +12,7 @@ use Rattle.tup_site.specs.declared.choice.Choice.{Choice}
 use Rattle.tup_site.specs.declared.memory.MemSite.{MemSite}
 use Rattle.tup_site.proofs.Moments.{now_or_step}
 use Rattle.tup_graph.specs.Graph.{GraphState, is_owned}
-use Rattle.tup_kept.specs.Crash.{IsStoreOf}
+use Rattle.tup_stored_graph.specs.Crash.{IsStoreOf}
 use Rattle.tup_ledger.specs.Sources.{sources_of, Kept, HasSources}
 use Rattle.tup_ledger.proofs.Guarding.{one_store}
 use Rattle.tup_history.specs.Deed.{IsEdited, IsCrashed}

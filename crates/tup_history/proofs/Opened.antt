@@ -10,7 +10,7 @@ use Rattle.tup_table.specs.Images.{OpenStep}
 use Rattle.tup_table.specs.Store.{header}
 use Rattle.tup_table.proofs.Going.{as_step}
 use Rattle.tup_graph.specs.Graph.{empty_graph}
-use Rattle.tup_kept.specs.Crash.{IsStoreOf}
+use Rattle.tup_stored_graph.specs.Crash.{IsStoreOf}
 use Rattle.tup_ledger.specs.Begin.{BeginStep}
 use Rattle.tup_ledger.specs.Listing.{IsSafe}
 use Rattle.tup_ledger.specs.Owned.{owned_in}

@@ -11,7 +11,7 @@ use Rattle.tup_site.proofs.Sound.{gone}
 use Rattle.tup_table.specs.Store.{header}
 use Rattle.tup_graph.specs.declared.owned.Owned.{Owned}
 use Rattle.tup_graph.specs.Graph.{GraphState, empty_graph, is_owned}
-use Rattle.tup_kept.specs.Crash.{IsStoreOf}
+use Rattle.tup_stored_graph.specs.Crash.{IsStoreOf}
 use Rattle.tup_ledger.specs.Sources.{sources_of}
 use Rattle.tup_ledger.proofs.Trees.{own_same}
 

@@ -7,7 +7,7 @@ use Rattle.tup_site.specs.Memory.{world_in, store_in, moment_of, left_since}
 use Rattle.tup_site.specs.World.{World}
 use Rattle.tup_site.specs.declared.memory.MemSite.{MemSite}
 use Rattle.tup_graph.specs.Graph.{GraphState, is_owned}
-use Rattle.tup_kept.specs.Crash.{IsStoreOf}
+use Rattle.tup_stored_graph.specs.Crash.{IsStoreOf}
 use Rattle.tup_ledger.specs.Listing.{IsSafe}
 use Rattle.tup_ledger.specs.Sources.{Kept, IsDurable}
 

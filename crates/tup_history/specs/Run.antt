@@ -8,7 +8,7 @@ use Rattle.tup_rule.specs.declared.rule.Rule.{Rule}
 use Rattle.tup_rule.specs.declared.rule.RuleName.{RuleName}
 use Rattle.tup_runner.specs.Next.{Next}
 use Rattle.tup_clean.specs.Clean.{succeeds}
-use Rattle.tup_whole.specs.Project.{ComeTo}
+use Rattle.tup_project.specs.Project.{ComeTo}
 use Rattle.tup_ledger.specs.Ascending.{ascending}
 use Rattle.tup_ledger.specs.Begin.{Begins}
 use Rattle.tup_ledger.specs.Listing.{IsSafe}

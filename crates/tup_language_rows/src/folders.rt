@@ -7,11 +7,10 @@ use crate::linked::linked;
 use crate::readings::shown;
 use std::alloc::{AllocError, Global};
 use std::{fs, io, mem};
-use tup_folders::read_folders;
-use tup_map::ByPath;
-use tup_path::{Bytes, Files};
+use tup_path::{ByPath, Bytes, Files};
+use tup_project::read_all;
+use tup_readings::read_folders;
 use tup_rows::{Answers, RowFault, Words, try_file_by};
-use tup_whole::read_all;
 
 pub(crate) fn try_rows<R: fs::Files + Print>(rt: &R, alloc: Global, name: &str) -> io::Result<()> {
     try_file_by(rt, alloc, name, Folders::new(alloc))

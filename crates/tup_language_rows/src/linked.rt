@@ -1,9 +1,9 @@
 //! Rules as words.
 use std::alloc::Global;
 use tup_link::{RuleNames, What};
+use tup_project::ProjectFault;
 use tup_rows::Words;
 use tup_rule::{GroupRef, Rule, Rules};
-use tup_whole::ProjectFault;
 
 /// The rules, one after another, or why there are none.
 pub(crate) fn linked(alloc: Global, found: &Result<Rules, ProjectFault>) -> Words {

@@ -5,11 +5,11 @@ use crate::sources::Sources;
 use std::alloc::{AllocError, Global};
 use std::fs::Files;
 use std::io;
-use tup_ask::ReadEnd;
 use tup_path::{Bytes, Path, Text};
-use tup_reader::read_tupfile;
+use tup_query::ReadEnd;
 use tup_rows::{Answers, RowFault, Words, set, try_file_by};
 use tup_rule::Reading;
+use tup_tupfile::read_tupfile;
 
 pub(crate) fn try_rows<R: Files + Print>(rt: &R, alloc: Global) -> io::Result<()> {
     try_file_by(rt, alloc, "reader.rows", Session::new(alloc))

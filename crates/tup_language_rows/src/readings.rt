@@ -1,7 +1,7 @@
 //! Readings as words.
 use std::alloc::Global;
-use tup_folders::FoldersFault;
 use tup_path::{Items, Path};
+use tup_readings::FoldersFault;
 use tup_rows::Words;
 use tup_rule::{Draft, Reading};
 

@@ -1,12 +1,12 @@
 //! Sources in memory, which answer what a reading asks.
 ghost use Rattle.std.specs.Prelude.{◌≡◌, false, IfOk, IsTrue};
 ghost use Rattle.tup_rule.specs.declared.question.Question.TheVariants as asked;
-ghost use Rattle.tup_ask.specs.Log.{fits};
+ghost use Rattle.tup_query.specs.Log.{fits};
 
 use std::alloc::{AllocError, Global};
 use std::collections::BTreeMap;
-use tup_ask::Env;
 use tup_path::{Bytes, Path, Text, Texts};
+use tup_query::Env;
 use tup_rule::{Kind, Question, Told};
 use tup_vars::Stopped;
 

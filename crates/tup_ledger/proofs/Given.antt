@@ -11,8 +11,8 @@ use Rattle.tup_graph.specs.declared.edit.Edit.{Edit}
 use Rattle.tup_graph.specs.Transactions.{forget_edits, with_forgotten}
 use Rattle.tup_graph.specs.declared.fault.GraphFault.{GraphFault}
 use Rattle.tup_graph.specs.declared.fault.GraphFault.TheVariants.{NotThere, BadStore, Site, Full, Memory}
-use Rattle.tup_kept.specs.Held.{Held, is_fresh}
-use Rattle.tup_kept.specs.Transaction.{Leaves, to_write, with_changes}
+use Rattle.tup_stored_graph.specs.Held.{Held, is_fresh}
+use Rattle.tup_stored_graph.specs.Transaction.{Leaves, to_write, with_changes}
 use Rattle.tup_ledger.specs.Given.{GivesUp}
 
 module _ (tells : Bool) (paths : List Names) (old : Held) (v w : World) (same : IsTrue tells → w ≡ v) where

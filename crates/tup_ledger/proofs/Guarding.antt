@@ -18,8 +18,8 @@ use Rattle.tup_graph.specs.Graph.{GraphState, is_owned}
 use Rattle.tup_graph.specs.Opening.{IsGraphOf}
 use Rattle.tup_graph.specs.Transactions.{with_forgotten}
 use Rattle.tup_graph.proofs.OneWay.{one_graph}
-use Rattle.tup_kept.specs.Crash.{IsStoreOf, GraphStep, LeavesEither}
-use Rattle.tup_kept.proofs.Crashes.{as_it_was}
+use Rattle.tup_stored_graph.specs.Crash.{IsStoreOf, GraphStep, LeavesEither}
+use Rattle.tup_stored_graph.proofs.Crashes.{as_it_was}
 use Rattle.tup_ledger.specs.Owned.{with_owned}
 use Rattle.tup_ledger.specs.Sources.{sources_of, Kept, HasSources, HaveNoFiles, Guards, IsDurable, OwnedStep, OwnsOnly}
 use Rattle.tup_ledger.proofs.Trees.{own_more, own_less, own_same, owns_more, owns_less}

@@ -13,8 +13,8 @@ use Rattle.tup_table.proofs.Going.{IsEarlier, as_step, nothing_then}
 use Rattle.tup_graph.specs.Graph.{GraphState}
 use Rattle.tup_graph.specs.Opening.{IsGraphOf}
 use Rattle.tup_graph.specs.declared.fault.GraphFault.{GraphFault}
-use Rattle.tup_kept.specs.Crash.{GraphStep, HasEither, LeavesEither}
-use Rattle.tup_kept.specs.Held.{Held, is_fresh}
+use Rattle.tup_stored_graph.specs.Crash.{GraphStep, HasEither, LeavesEither}
+use Rattle.tup_stored_graph.specs.Held.{Held, is_fresh}
 use Rattle.tup_ledger.specs.Listing.{Lists, ListsEither, StillLists, SettledStep}
 use Rattle.tup_ledger.specs.Owned.{owned_in}
 use Rattle.tup_ledger.specs.Sources.{Guards, HasSources, Kept}

@@ -11,10 +11,10 @@ use Rattle.tup_table.proofs.Going.{IsEarlier, as_step, then_on}
 use Rattle.tup_graph.specs.Opening.{IsGraphOf}
 use Rattle.tup_graph.specs.declared.fault.GraphFault.{GraphFault}
 use Rattle.tup_graph.specs.declared.fault.GraphFault.TheVariants.{NotThere, BadStore, Site, Full, Memory}
-use Rattle.tup_kept.specs.Cause.{OnlyOutside}
-use Rattle.tup_kept.specs.Crash.{IsStoreOf}
-use Rattle.tup_kept.specs.Held.{Held}
-use Rattle.tup_kept.specs.Opening.{OpensAs}
+use Rattle.tup_stored_graph.specs.Cause.{OnlyOutside}
+use Rattle.tup_stored_graph.specs.Crash.{IsStoreOf}
+use Rattle.tup_stored_graph.specs.Held.{Held}
+use Rattle.tup_stored_graph.specs.Opening.{OpensAs}
 use Rattle.tup_ledger.specs.Begin.{Begins, BeginStep}
 use Rattle.tup_ledger.specs.declared.beginning.Begun.{Begun}
 use Rattle.tup_ledger.specs.declared.beginning.Begun.TheVariants.{Made, WasThere}

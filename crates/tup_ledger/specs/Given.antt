@@ -5,8 +5,8 @@ use Rattle.tup_site.specs.World.{World}
 use Rattle.tup_graph.specs.Transactions.{forget_edits, with_forgotten}
 use Rattle.tup_graph.specs.declared.fault.GraphFault.{GraphFault}
 use Rattle.tup_graph.specs.declared.fault.GraphFault.TheVariants.{Site, Full, Memory}
-use Rattle.tup_kept.specs.Held.{Held, is_fresh, stale}
-use Rattle.tup_kept.specs.Transaction.{after, to_write, IsFull}
+use Rattle.tup_stored_graph.specs.Held.{Held, is_fresh, stale}
+use Rattle.tup_stored_graph.specs.Transaction.{after, to_write, IsFull}
 
 -- a graph that owns these paths no longer
 abbrev pub without : Held → List Names → Held

@@ -6,7 +6,7 @@ use Rattle.tup_path.specs.Tree.{Tree}
 use Rattle.tup_site.specs.Crash.{LeavesOnly}
 use Rattle.tup_site.specs.World.{World, StoreStays}
 use Rattle.tup_graph.specs.Graph.{GraphState, is_owned}
-use Rattle.tup_kept.specs.Crash.{IsStoreOf}
+use Rattle.tup_stored_graph.specs.Crash.{IsStoreOf}
 
 -- the sources of a tree: the files that a graph doesn't own
 abbrev pub sources_of : GraphState → Tree → Tree

@@ -3,13 +3,13 @@ ghost use Rattle.std.specs.Prelude.{◌≡◌, ◌⊎◌, ◌++◌, ◌∷◌, [
 ghost use Rattle.tup_site.specs.Crash.{GoesOn, PinsStore, WriteStep};
 ghost use Rattle.tup_site.specs.World.{TreeStays};
 ghost use Rattle.tup_table.specs.Store.{header};
-ghost use Rattle.tup_kept.specs.Cause.{CountsFaults, OnlyOutside};
+ghost use Rattle.tup_stored_graph.specs.Cause.{CountsFaults, OnlyOutside};
 ghost use Rattle.tup_ledger.specs.Begin.{Begins, BeginStep};
 
 use std::alloc::Global;
 use tup_graph::GraphFault;
-use tup_kept::Graph;
 use tup_site::Site;
+use tup_stored_graph::Graph;
 
 /// How a project began.
 #[derive(Clone, Copy, PartialEq, Eq)]

@@ -4,10 +4,10 @@ ghost use Rattle.tup_site.specs.Crash.{GoesOn, NoStep, PinsTree};
 ghost use Rattle.tup_site.specs.World.{TreeStays};
 ghost use Rattle.tup_rule.specs.Rule.{among};
 ghost use Rattle.tup_graph.specs.Transactions.{forget_edits, with_forgotten};
-ghost use Rattle.tup_kept.specs.Cause.{CountsFaults, OnlyOutside};
-ghost use Rattle.tup_kept.specs.Crash.{LeavesEither};
-ghost use Rattle.tup_kept.specs.Held.{is_fresh, StandsFor};
-ghost use Rattle.tup_kept.specs.Transaction.{IsFull};
+ghost use Rattle.tup_stored_graph.specs.Cause.{CountsFaults, OnlyOutside};
+ghost use Rattle.tup_stored_graph.specs.Crash.{LeavesEither};
+ghost use Rattle.tup_stored_graph.specs.Held.{is_fresh, StandsFor};
+ghost use Rattle.tup_stored_graph.specs.Transaction.{IsFull};
 ghost use Rattle.tup_ledger.specs.Given.{GivesUp, IsRefused};
 ghost use Rattle.tup_ledger.specs.Listing.{Lists, ListsEither, SettledStep};
 ghost use Rattle.tup_ledger.specs.Owned.{owned_in};
@@ -15,9 +15,9 @@ ghost use Rattle.tup_ledger.specs.Sources.{Guards, HaveNoFiles, IsDurable, Kept,
 
 use std::alloc::Global;
 use tup_graph::GraphFault;
-use tup_kept::Graph;
 use tup_path::Path;
 use tup_site::Site;
+use tup_stored_graph::Graph;
 use tup_table::TableFault;
 
 /// Owns some paths no longer, in one commit: no file stands there any more. The files of the tree are settled first, so

@@ -3,17 +3,17 @@ ghost use Rattle.std.specs.Prelude.{◌≡◌, ◌≢◌, ◌⊎◌, IsTrue, IfO
 ghost use Rattle.tup_site.specs.Crash.{GoesOn, LeavesOnly};
 ghost use Rattle.tup_site.specs.World.{TreeStays};
 ghost use Rattle.tup_table.specs.Images.{OpenStep};
-ghost use Rattle.tup_kept.specs.Cause.{CountsFaults};
-ghost use Rattle.tup_kept.specs.Held.{is_fresh, StandsFor};
-ghost use Rattle.tup_kept.specs.Opening.{OpensAs};
+ghost use Rattle.tup_stored_graph.specs.Cause.{CountsFaults};
+ghost use Rattle.tup_stored_graph.specs.Held.{is_fresh, StandsFor};
+ghost use Rattle.tup_stored_graph.specs.Opening.{OpensAs};
 ghost use Rattle.tup_ledger.specs.Listing.{IsSafe, Lists, StillLists};
 ghost use Rattle.tup_ledger.specs.Owned.{owned_in};
 ghost use Rattle.tup_ledger.specs.Sources.{Guards, HasSources, Kept};
 
 use std::alloc::Global;
 use tup_graph::GraphFault;
-use tup_kept::Graph;
 use tup_site::Site;
+use tup_stored_graph::Graph;
 
 /// Opens the store of a project: whatever it answers, the store lists what it listed, and no file
 /// of the tree is touched. Whichever sources a crash before leaves, one meanwhile or later leaves

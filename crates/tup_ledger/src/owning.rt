@@ -2,10 +2,10 @@
 ghost use Rattle.std.specs.Prelude.{◌≡◌, ◌++◌, true, All, IsTrue, IfOk, OnOk, Ok, Err};
 ghost use Rattle.tup_path.specs.Gives.{GivesUnless};
 ghost use Rattle.tup_site.specs.World.{TreeStays};
-ghost use Rattle.tup_kept.specs.Cause.{CountsFaults};
-ghost use Rattle.tup_kept.specs.Crash.{LeavesEither};
-ghost use Rattle.tup_kept.specs.Held.{is_fresh, StandsFor};
-ghost use Rattle.tup_kept.specs.Transaction.{Leaves, IsFull};
+ghost use Rattle.tup_stored_graph.specs.Cause.{CountsFaults};
+ghost use Rattle.tup_stored_graph.specs.Crash.{LeavesEither};
+ghost use Rattle.tup_stored_graph.specs.Held.{is_fresh, StandsFor};
+ghost use Rattle.tup_stored_graph.specs.Transaction.{Leaves, IsFull};
 ghost use Rattle.tup_ledger.specs.Ascending.{ascending};
 ghost use Rattle.tup_ledger.specs.Listing.{Lists, ListsEither};
 ghost use Rattle.tup_ledger.specs.Owned.{owned_in, maker_in, owning as owning_of, own_edits, with_owned};
@@ -13,10 +13,10 @@ ghost use Rattle.tup_ledger.specs.Sources.{Guards, HaveNoFiles, Kept, KeepsSourc
 
 use std::alloc::{AllocError, Global};
 use tup_graph::{Edit, Edits, GraphFault, Nodes};
-use tup_kept::Graph;
 use tup_path::{Items, Path, Paths};
 use tup_record::{OwnedState, Record};
 use tup_site::Site;
+use tup_stored_graph::Graph;
 
 /// The owned paths, in their order.
 pub fn owned_paths(alloc: Global, nodes: &Nodes) -> Result<Paths, AllocError>

@@ -14,7 +14,7 @@ use Rattle.tup_rule.specs.Producer.{MakesFor, ProducerOver}
 use Rattle.tup_rule.proofs.Laws.{maker-Some}
 use Rattle.tup_link.specs.Circle.{WaitsFor, InTurn, IsRound, NoneWaitsForItself}
 use Rattle.tup_link.specs.Graph.{led_to, Leads, LeadsOver, IsWithin, HasNoCircle}
-use Rattle.tup_makers.specs.Makers.{producers}
+use Rattle.tup_rule.specs.Makers.{producers}
 use Rattle.tup_link.specs.Makers.{all_producers}
 
 -- ---- members of a list, by recursion

@@ -4,9 +4,8 @@ ghost use Rattle.tup_link.specs.Makers.{all_producers};
 
 use crate::places::Places;
 use std::alloc::{AllocError, Global};
-use tup_makers::{makers, producers_of};
 use tup_path::Items;
-use tup_rule::Rule;
+use tup_rule::{Rule, makers, producers_of};
 
 /// For each rule, the makers of the paths that it declares.
 pub(crate) fn producers(alloc: Global, rules: &[Rule]) -> Result<Vec<Places>, AllocError>

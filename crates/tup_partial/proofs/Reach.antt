@@ -12,7 +12,7 @@ use Rattle.tup_graph.specs.Above.{AboveOver, IsAbove}
 use Rattle.tup_graph.specs.Graph.{GraphState, is_rule, is_flagged}
 use Rattle.tup_graph.specs.Kept.{IsKept}
 use Rattle.tup_graph.specs.Records.{Language}
-use Rattle.tup_above.specs.Readers.{AreRunsOfRules}
+use Rattle.tup_closure.specs.Readers.{AreRunsOfRules}
 use Rattle.tup_partial.specs.Plan.{AreFlagsOfRules, IsToRun}
 
 -- other roots, which take these in

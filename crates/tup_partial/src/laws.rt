@@ -7,7 +7,7 @@ ghost use Rattle.tup_graph.specs.Graph.{GraphState, is_flagged};
 ghost use Rattle.tup_graph.specs.Kept.{IsKept};
 ghost use Rattle.tup_graph.specs.Opening.{IsGraphOf};
 ghost use Rattle.tup_graph.specs.Records.{Language};
-ghost use Rattle.tup_above.specs.Readers.{AreRunsOfRules};
+ghost use Rattle.tup_closure.specs.Readers.{AreRunsOfRules};
 ghost use Rattle.tup_partial.specs.Plan.{AreFlagsOfRules, IsToRun};
 
 /// A law: where the entries of a table stand for a graph, each flag is that of a rule.

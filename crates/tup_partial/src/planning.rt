@@ -5,15 +5,15 @@ ghost use Rattle.std.specs.Ordering.{nat_cmp};
 ghost use Rattle.tup_graph.specs.Above.{IsAbove};
 ghost use Rattle.tup_graph.specs.Graph.{is_rule, is_flagged};
 ghost use Rattle.tup_core.specs.Sound.{IsInRange};
-ghost use Rattle.tup_above.specs.Readers.{AreRunsOfRules};
+ghost use Rattle.tup_closure.specs.Readers.{AreRunsOfRules};
 ghost use Rattle.tup_partial.specs.Plan.{AreFlagsOfRules, IsToRun};
 
 use crate::fault::PartialFault;
 use std::alloc::{AllocError, Global};
-use tup_above::rule_count;
+use tup_closure::rule_count;
 use tup_core::{Numbers, Plan};
 use tup_graph::Nodes;
-use tup_index::Indexed;
+use tup_readers::Indexed;
 use tup_rule::{Rule, Rules};
 
 /// These rules and all that recorded reads lead to from them, over any number of reads, in ascending order: the rules that
@@ -27,7 +27,7 @@ pub fn above(alloc: Global, graph: &Indexed, roots: &[u32]) -> Result<Numbers, P
     ensures ascending { IfOk result (λ numbers. IsStrictlySortedBy nat_cmp numbers) }
     ensures memory { IfErr result (λ fault. fault ≡ PartialFault.Memory) }
 {
-    Ok(tup_above::above(alloc, graph, roots)?)
+    Ok(tup_closure::above(alloc, graph, roots)?)
 }
 
 /// The plan of an update: the rules of the graph in their order, and of these the flagged ones and all above them are to be

@@ -4,3 +4,4 @@ pub mod Walks
 pub mod Cuts
 pub mod Written
 pub mod Shown
+pub mod Maps

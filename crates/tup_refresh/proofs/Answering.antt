@@ -16,15 +16,15 @@ use Rattle.tup_rule.specs.declared.question.Reading.{Reading}
 use Rattle.tup_rule.specs.declared.question.Told.{Told}
 use Rattle.tup_rule.specs.declared.question.Told.TheVariants as told
 use Rattle.tup_vars.specs.Table.{Entries}
-use Rattle.tup_ask.specs.Log.{Log, Halts, fits, told_before, noted_log}
-use Rattle.tup_reader.specs.Reading.{reading}
-use Rattle.tup_folders.specs.Answers.{Readings, awaited, answer}
-use Rattle.tup_folders.specs.Readings.{IsAnswered, IsReadingOver, WaitsFor}
-use Rattle.tup_folders.specs.Asked.{IsWait}
-use Rattle.tup_folders.specs.Sources.{has_tupfile}
-use Rattle.tup_folders.specs.declared.asked.Stop.{Stop}
-use Rattle.tup_folders.specs.declared.asked.Stop.TheVariants.{Awaits, Memory}
-use Rattle.tup_folders.proofs.Logs.{AllFit, fit_from_start, fit_where_it_stands}
+use Rattle.tup_query.specs.Log.{Log, Halts, fits, told_before, noted_log}
+use Rattle.tup_tupfile.specs.Reading.{reading}
+use Rattle.tup_readings.specs.Answers.{Readings, awaited, answer}
+use Rattle.tup_readings.specs.Readings.{IsAnswered, IsReadingOver, WaitsFor}
+use Rattle.tup_readings.specs.Asked.{IsWait}
+use Rattle.tup_readings.specs.Sources.{has_tupfile}
+use Rattle.tup_readings.specs.declared.asked.Stop.{Stop}
+use Rattle.tup_readings.specs.declared.asked.Stop.TheVariants.{Awaits, Memory}
+use Rattle.tup_readings.proofs.Logs.{AllFit, fit_from_start, fit_where_it_stands}
 use Rattle.tup_refresh.specs.Refresh.{IsTrueBeside}
 use Rattle.tup_refresh.specs.Standing.{Stands, IsOther, AllStand, OneIsOther, StandUpTo, HasCompared}
 use Rattle.tup_refresh.proofs.Halting.{told_by, cut_before, halted_from_start}

@@ -6,9 +6,9 @@ use Rattle.tup_site.specs.Cause.{NamesLength as SiteNames}
 use Rattle.tup_site.specs.declared.fault.SiteFailed.{SiteFailed}
 use Rattle.tup_site.specs.declared.fault.SiteFailed.TheVariants as site
 use Rattle.tup_vars.specs.Table.{Entries}
-use Rattle.tup_folders.specs.Readings.{AreRead}
-use Rattle.tup_folders.specs.declared.fault.FoldersFault.{FoldersFault}
-use Rattle.tup_folders.specs.declared.fault.FoldersFault.TheVariants as folders
+use Rattle.tup_readings.specs.Readings.{AreRead}
+use Rattle.tup_readings.specs.declared.fault.FoldersFault.{FoldersFault}
+use Rattle.tup_readings.specs.declared.fault.FoldersFault.TheVariants as folders
 use Rattle.tup_refresh.specs.declared.fault.RefreshFault.{RefreshFault}
 use Rattle.tup_refresh.specs.Cause.{NamesLength, IsFaultOf, of_folders, of_site}
 

@@ -14,13 +14,13 @@ use Rattle.tup_rule.specs.Rule.{among}
 use Rattle.tup_rule.specs.declared.question.Reading.{Reading}
 use Rattle.tup_vars.specs.Table.{Entries}
 use Rattle.tup_vars.specs.declared.fault.ConfigFault.{ConfigFault}
-use Rattle.tup_folders.specs.Answers.{Readings}
-use Rattle.tup_folders.specs.Readings.{AreReadWith, IsConfig, IsOutcome}
-use Rattle.tup_folders.specs.Sources.{has_tupfile, settings_of}
-use Rattle.tup_folders.specs.State.{IsLast}
-use Rattle.tup_folders.specs.declared.fault.FoldersFault.{FoldersFault}
-use Rattle.tup_folders.specs.declared.fault.FoldersFault.TheVariants.{Memory}
-use Rattle.tup_folders.proofs.Working.{all_listed, finished, from_test}
+use Rattle.tup_readings.specs.Answers.{Readings}
+use Rattle.tup_readings.specs.Readings.{AreReadWith, IsConfig, IsOutcome}
+use Rattle.tup_readings.specs.Sources.{has_tupfile, settings_of}
+use Rattle.tup_readings.specs.State.{IsLast}
+use Rattle.tup_readings.specs.declared.fault.FoldersFault.{FoldersFault}
+use Rattle.tup_readings.specs.declared.fault.FoldersFault.TheVariants.{Memory}
+use Rattle.tup_readings.proofs.Working.{all_listed, finished, from_test}
 use Rattle.tup_graph.specs.Graph.{GraphState, is_created}
 use Rattle.tup_graph.specs.Swap.{reading_now}
 use Rattle.tup_refresh.specs.declared.refreshed.Refreshed.{Refreshed}

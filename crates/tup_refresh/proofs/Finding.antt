@@ -5,13 +5,13 @@ use Rattle.tup_path.specs.Name.{Names}
 use Rattle.tup_path.specs.Tree.{Tree}
 use Rattle.tup_rule.specs.declared.question.Reading.{Reading}
 use Rattle.tup_vars.specs.Table.{Entries}
-use Rattle.tup_folders.specs.Answers.{Readings}
-use Rattle.tup_folders.specs.Sources.{has_tupfile}
-use Rattle.tup_folders.specs.declared.asked.Stop.{Stop}
-use Rattle.tup_folders.specs.declared.asked.Stop.TheVariants.{Awaits, Memory as NoMemory}
-use Rattle.tup_folders.specs.State.{HasCome}
-use Rattle.tup_folders.specs.declared.fault.FoldersFault.{FoldersFault}
-use Rattle.tup_folders.specs.declared.fault.FoldersFault.TheVariants.{Parse, Circular, Memory}
+use Rattle.tup_readings.specs.Answers.{Readings}
+use Rattle.tup_readings.specs.Sources.{has_tupfile}
+use Rattle.tup_readings.specs.declared.asked.Stop.{Stop}
+use Rattle.tup_readings.specs.declared.asked.Stop.TheVariants.{Awaits, Memory as NoMemory}
+use Rattle.tup_readings.specs.State.{HasCome}
+use Rattle.tup_readings.specs.declared.fault.FoldersFault.{FoldersFault}
+use Rattle.tup_readings.specs.declared.fault.FoldersFault.TheVariants.{Parse, Circular, Memory}
 use Rattle.tup_refresh.specs.declared.found.Found.{Found}
 use Rattle.tup_refresh.specs.declared.fetched.Fetched.{Fetched}
 use Rattle.tup_refresh.specs.declared.found.Found.TheVariants.{Stands, Read, Waits, Lacks}

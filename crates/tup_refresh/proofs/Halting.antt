@@ -2,10 +2,10 @@
 use Rattle.std.proofs.Common.{◌≡◌, ◌⊎◌, inl, inr, true, false, cond, Bool, List, [], ◌∷◌, ◌++◌, length, map, Some, None, Result, refl, sym, ap, ◌∙◌, subst, arith, append_assoc, append-nil, length-append}
 use Rattle.tup_rule.specs.declared.question.Question.{Question}
 use Rattle.tup_rule.specs.declared.question.Told.{Told}
-use Rattle.tup_ask.specs.Reads.{Reads, Ends, Asks}
-use Rattle.tup_ask.specs.Log.{Log, same_question, told_before, Step, Ran, Halts}
-use Rattle.tup_ask.proofs.Asking.{told_push}
-use Rattle.tup_folders.proofs.Logs.{one_step}
+use Rattle.tup_query.specs.Reads.{Reads, Ends, Asks}
+use Rattle.tup_query.specs.Log.{Log, same_question, told_before, Step, Ran, Halts}
+use Rattle.tup_query.proofs.Asking.{told_push}
+use Rattle.tup_readings.proofs.Logs.{one_step}
 
 -- ---- lists
 

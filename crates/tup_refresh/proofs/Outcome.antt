@@ -6,10 +6,10 @@ use Rattle.tup_path.specs.Tree.{Tree}
 use Rattle.tup_vars.specs.Config.{config_of}
 use Rattle.tup_vars.specs.Table.{Entries}
 use Rattle.tup_vars.specs.declared.fault.ConfigFault.{ConfigFault}
-use Rattle.tup_folders.specs.Readings.{IsConfig}
-use Rattle.tup_folders.specs.Sources.{settings_of}
-use Rattle.tup_folders.specs.declared.fault.FoldersFault.{FoldersFault}
-use Rattle.tup_folders.specs.declared.fault.FoldersFault.TheVariants as folders
+use Rattle.tup_readings.specs.Readings.{IsConfig}
+use Rattle.tup_readings.specs.Sources.{settings_of}
+use Rattle.tup_readings.specs.declared.fault.FoldersFault.{FoldersFault}
+use Rattle.tup_readings.specs.declared.fault.FoldersFault.TheVariants as folders
 use Rattle.tup_graph.specs.Graph.{GraphState}
 use Rattle.tup_refresh.specs.declared.fault.RefreshFault.{RefreshFault}
 use Rattle.tup_refresh.specs.declared.fault.RefreshFault.TheVariants.{Parse, Circular, Site, TooLarge, Memory}

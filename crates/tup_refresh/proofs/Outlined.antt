@@ -19,12 +19,12 @@ use Rattle.tup_rule.specs.declared.question.Question.TheVariants as asks
 use Rattle.tup_rule.specs.declared.question.Told.{Told}
 use Rattle.tup_rule.specs.declared.question.Told.TheVariants as told
 use Rattle.tup_vars.specs.Table.{Entries}
-use Rattle.tup_draft.specs.Glob.{names_among, in_order}
-use Rattle.tup_draft.specs.State.{made_by}
-use Rattle.tup_folders.specs.Answers.{Readings, seen_drafts, made_kind, unread, awaited, answer}
-use Rattle.tup_folders.specs.Asked.{IsWait, misfit, answer_or_misfit}
-use Rattle.tup_folders.specs.Sources.{is_source, has_below, has_tupfile, tupfile}
-use Rattle.tup_folders.specs.declared.asked.Stop.{Stop}
+use Rattle.tup_rule_line.specs.Glob.{names_among, in_order}
+use Rattle.tup_rule_line.specs.State.{made_by}
+use Rattle.tup_readings.specs.Answers.{Readings, seen_drafts, made_kind, unread, awaited, answer}
+use Rattle.tup_readings.specs.Asked.{IsWait, misfit, answer_or_misfit}
+use Rattle.tup_readings.specs.Sources.{is_source, has_below, has_tupfile, tupfile}
+use Rattle.tup_readings.specs.declared.asked.Stop.{Stop}
 use Rattle.tup_refresh.specs.Part.{HasPaths}
 
 -- a question that isn't about a content

@@ -14,8 +14,8 @@ use Rattle.tup_path.proofs.Same.{same_path-decides}
 use Rattle.tup_stamp.specs.Stamp.{stamp}
 use Rattle.tup_stamp.specs.declared.Stamp.{Stamp}
 use Rattle.tup_rule.specs.Rule.{among}
-use Rattle.tup_folders.proofs.Indexed.{keys_sorted}
-use Rattle.tup_folders.proofs.Working.{from_test}
+use Rattle.tup_readings.proofs.Indexed.{keys_sorted}
+use Rattle.tup_readings.proofs.Working.{from_test}
 use Rattle.tup_graph.specs.Answers.{tup_config}
 use Rattle.tup_graph.specs.Graph.{GraphState, is_owned, source}
 use Rattle.tup_ledger.specs.Sources.{sources_of}

@@ -11,14 +11,14 @@ use Rattle.tup_rule.specs.declared.question.Noted.{Noted}
 use Rattle.tup_rule.specs.declared.question.Question.{Question}
 use Rattle.tup_rule.specs.declared.question.Reading.{Reading}
 use Rattle.tup_vars.specs.Table.{Entries}
-use Rattle.tup_ask.specs.Log.{Log}
-use Rattle.tup_ask.proofs.Asking.{told_push}
-use Rattle.tup_ask.proofs.Runs.{told_new}
+use Rattle.tup_query.specs.Log.{Log}
+use Rattle.tup_query.proofs.Asking.{told_push}
+use Rattle.tup_query.proofs.Runs.{told_new}
 use Rattle.tup_rule.specs.declared.question.Told.{Told}
-use Rattle.tup_folders.specs.Answers.{Readings, awaited, answer}
-use Rattle.tup_folders.specs.Readings.{IsAnswered}
-use Rattle.tup_folders.specs.Sources.{has_tupfile}
-use Rattle.tup_folders.proofs.More.{get_more, awaited_more, answered_more}
+use Rattle.tup_readings.specs.Answers.{Readings, awaited, answer}
+use Rattle.tup_readings.specs.Readings.{IsAnswered}
+use Rattle.tup_readings.specs.Sources.{has_tupfile}
+use Rattle.tup_readings.proofs.More.{get_more, awaited_more, answered_more}
 use Rattle.tup_graph.specs.Graph.{GraphState}
 use Rattle.tup_refresh.specs.Found.{StandsNot}
 use Rattle.tup_refresh.specs.Refresh.{kept_reading}

@@ -19,11 +19,11 @@ use Rattle.tup_rule.specs.declared.question.Question.TheVariants as asks
 use Rattle.tup_rule.specs.declared.question.Reading.{Reading}
 use Rattle.tup_rule.specs.declared.question.Told.{Told}
 use Rattle.tup_rule.specs.declared.question.Told.TheVariants as told
-use Rattle.tup_ask.specs.declared.fault.ParseFault.{ParseFault}
-use Rattle.tup_ask.specs.Log.{Log, fits, told_before, Step, Ran}
-use Rattle.tup_ask.specs.Reads.{Reads, Ends, Asks}
-use Rattle.tup_ask.proofs.Runs.{told_more, told_new}
-use Rattle.tup_reader.specs.Reading.{reading}
+use Rattle.tup_query.specs.declared.fault.ParseFault.{ParseFault}
+use Rattle.tup_query.specs.Log.{Log, fits, told_before, Step, Ran}
+use Rattle.tup_query.specs.Reads.{Reads, Ends, Asks}
+use Rattle.tup_query.proofs.Runs.{told_more, told_new}
+use Rattle.tup_tupfile.specs.Reading.{reading}
 use Rattle.tup_graph.specs.Graph.{GraphState}
 use Rattle.tup_graph.specs.Records.{Language, GoesOnReading, IsToldKnown, IsTrueReading}
 use Rattle.tup_refresh.specs.Language.{known_or, stands_at, all_fit, ReadsTupfiles}

@@ -18,17 +18,17 @@ use Rattle.tup_rule.specs.declared.question.Told.{Told}
 use Rattle.tup_rule.specs.declared.question.Told.TheVariants as told
 use Rattle.tup_vars.specs.Table.{Entries}
 use Rattle.tup_vars.specs.declared.fault.ConfigFault.{ConfigFault}
-use Rattle.tup_ask.specs.declared.fault.ParseFault.{ParseFault}
-use Rattle.tup_ask.specs.Log.{Log, fits, told_before, Ran, Halts}
-use Rattle.tup_ask.specs.Reads.{Reads, Ends, Asks}
-use Rattle.tup_ask.proofs.Runs.{told_new, ran_keeps}
-use Rattle.tup_reader.specs.Reading.{reading}
-use Rattle.tup_folders.specs.Answers.{Readings, answer}
-use Rattle.tup_folders.specs.Readings.{IsReadingOver, AreReadWith, IsOutcome}
-use Rattle.tup_folders.specs.Sources.{settings_of}
-use Rattle.tup_folders.proofs.Alike.{halts_keeps}
-use Rattle.tup_folders.proofs.Logs.{one_step, fit_from_start, fit_where_it_stands}
-use Rattle.tup_folders.proofs.One.{reading_in}
+use Rattle.tup_query.specs.declared.fault.ParseFault.{ParseFault}
+use Rattle.tup_query.specs.Log.{Log, fits, told_before, Ran, Halts}
+use Rattle.tup_query.specs.Reads.{Reads, Ends, Asks}
+use Rattle.tup_query.proofs.Runs.{told_new, ran_keeps}
+use Rattle.tup_tupfile.specs.Reading.{reading}
+use Rattle.tup_readings.specs.Answers.{Readings, answer}
+use Rattle.tup_readings.specs.Readings.{IsReadingOver, AreReadWith, IsOutcome}
+use Rattle.tup_readings.specs.Sources.{settings_of}
+use Rattle.tup_readings.proofs.Alike.{halts_keeps}
+use Rattle.tup_readings.proofs.Logs.{one_step, fit_from_start, fit_where_it_stands}
+use Rattle.tup_readings.proofs.One.{reading_in}
 use Rattle.tup_graph.specs.Records.{Language, GoesOnReading, IsToldKnown, IsTrueReading}
 use Rattle.tup_refresh.specs.Language.{known_or, stands_at, all_fit, ReadsTupfiles}
 use Rattle.tup_refresh.proofs.Halting.{halted_from_start}

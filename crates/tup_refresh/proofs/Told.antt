@@ -14,19 +14,19 @@ use Rattle.tup_rule.specs.declared.question.Reading.{Reading}
 use Rattle.tup_rule.specs.declared.question.Told.{Told}
 use Rattle.tup_rule.specs.declared.question.Told.TheVariants as told
 use Rattle.tup_vars.specs.Table.{Entries}
-use Rattle.tup_ask.specs.declared.fault.ParseFault.{ParseFault}
-use Rattle.tup_ask.specs.Log.{Log, Ran, Halts, Says, StopsAt, fits, noted_log}
-use Rattle.tup_reader.specs.Read.{IsToldBy}
-use Rattle.tup_reader.specs.Reading.{reading}
-use Rattle.tup_folders.specs.Answers.{Readings, awaited, answer}
-use Rattle.tup_folders.specs.Asked.{misfit, answer_or_misfit, waits_for}
-use Rattle.tup_folders.specs.Readings.{IsReadingOver, IsFaultOver}
-use Rattle.tup_folders.specs.Sources.{has_tupfile}
-use Rattle.tup_folders.specs.declared.fault.FoldersFault.{FoldersFault}
-use Rattle.tup_folders.proofs.Answered.{answer_fits, answered, told_where_ready, waits_for-refl}
-use Rattle.tup_folders.proofs.Logs.{AllFit, fit_from_start, fit_where_it_stands}
-use Rattle.tup_folders.proofs.Stops.{read_over, fault_over}
-use Rattle.tup_folders.proofs.Waits.{awaited_is, one_folder}
+use Rattle.tup_query.specs.declared.fault.ParseFault.{ParseFault}
+use Rattle.tup_query.specs.Log.{Log, Ran, Halts, Says, StopsAt, fits, noted_log}
+use Rattle.tup_tupfile.specs.Read.{IsToldBy}
+use Rattle.tup_tupfile.specs.Reading.{reading}
+use Rattle.tup_readings.specs.Answers.{Readings, awaited, answer}
+use Rattle.tup_readings.specs.Asked.{misfit, answer_or_misfit, waits_for}
+use Rattle.tup_readings.specs.Readings.{IsReadingOver, IsFaultOver}
+use Rattle.tup_readings.specs.Sources.{has_tupfile}
+use Rattle.tup_readings.specs.declared.fault.FoldersFault.{FoldersFault}
+use Rattle.tup_readings.proofs.Answered.{answer_fits, answered, told_where_ready, waits_for-refl}
+use Rattle.tup_readings.proofs.Logs.{AllFit, fit_from_start, fit_where_it_stands}
+use Rattle.tup_readings.proofs.Stops.{read_over, fault_over}
+use Rattle.tup_readings.proofs.Waits.{awaited_is, one_folder}
 use Rattle.tup_refresh.specs.declared.asking.Halt.{Halt}
 use Rattle.tup_refresh.specs.declared.asking.Halt.TheVariants.{Lacks, Awaits, Memory}
 use Rattle.tup_refresh.specs.declared.fetched.Fetched.{Fetched}

@@ -38,28 +38,28 @@ use Rattle.tup_vars.specs.Config.{config_of, settings as lines_set}
 use Rattle.tup_vars.specs.Table.{Entries, look}
 use Rattle.tup_vars.specs.declared.fault.ConfigFault.{ConfigFault}
 use Rattle.tup_vars.specs.declared.fault.ConfigFault.TheVariants.{At}
-use Rattle.tup_ask.specs.declared.fault.ParseFault.{ParseFault}
-use Rattle.tup_ask.specs.Log.{noted_log}
-use Rattle.tup_draft.specs.Glob.{names_among, in_order}
-use Rattle.tup_draft.specs.Making.{made_by, is_made}
-use Rattle.tup_reader.specs.Reading.{reading}
-use Rattle.tup_folders.specs.Answers.{Readings, seen_drafts, names_in, made_kind, kind_at, is_unread, unread, folder_told, awaited, answer}
-use Rattle.tup_folders.specs.Readings.{IsReadingOver, AreReadings, AreAllReadings}
-use Rattle.tup_folders.specs.Sources.{is_source, is_below, has_below, has_tupfile, settings_of, tupfile}
-use Rattle.tup_folders.proofs.Alike.{ToldAlike, runs_alike}
-use Rattle.tup_folders.proofs.Below.{last_item, above_named}
-use Rattle.tup_folders.proofs.Logs.{fit_from_start}
-use Rattle.tup_folders.proofs.More.{get_more}
-use Rattle.tup_folders.proofs.One.{AreOfTupfiles, of_tupfiles}
+use Rattle.tup_query.specs.declared.fault.ParseFault.{ParseFault}
+use Rattle.tup_query.specs.Log.{noted_log}
+use Rattle.tup_rule_line.specs.Glob.{names_among, in_order}
+use Rattle.tup_rule_line.specs.Making.{made_by, is_made}
+use Rattle.tup_tupfile.specs.Reading.{reading}
+use Rattle.tup_readings.specs.Answers.{Readings, seen_drafts, names_in, made_kind, kind_at, is_unread, unread, folder_told, awaited, answer}
+use Rattle.tup_readings.specs.Readings.{IsReadingOver, AreReadings, AreAllReadings}
+use Rattle.tup_readings.specs.Sources.{is_source, is_below, has_below, has_tupfile, settings_of, tupfile}
+use Rattle.tup_readings.proofs.Alike.{ToldAlike, runs_alike}
+use Rattle.tup_readings.proofs.Below.{last_item, above_named}
+use Rattle.tup_readings.proofs.Logs.{fit_from_start}
+use Rattle.tup_readings.proofs.More.{get_more}
+use Rattle.tup_readings.proofs.One.{AreOfTupfiles, of_tupfiles}
 use Rattle.tup_runner.specs.Next.{Next}
 use Rattle.tup_graph.specs.Answers.{tup_config, IsSource, IsDrafted, IsOutputOf, IsFileFor, HasSourceBelow, IsKind, IsSetTo, IsAnswer}
 use Rattle.tup_graph.specs.Graph.{GraphState, is_created, source}
 use Rattle.tup_graph.specs.Kept.{IsKept}
 use Rattle.tup_graph.specs.Records.{Language}
 use Rattle.tup_graph.proofs.Maps.{by_bytes-antisymmetric}
-use Rattle.tup_above.proofs.Members.{listed, in_list}
-use Rattle.tup_diff.proofs.Answered.{one_kind}
-use Rattle.tup_diff.proofs.Ordered.{none_in, same_members}
+use Rattle.tup_closure.proofs.Members.{listed, in_list}
+use Rattle.tup_scan_diff.proofs.Answered.{one_kind}
+use Rattle.tup_scan_diff.proofs.Ordered.{none_in, same_members}
 use Rattle.tup_refresh.specs.declared.refreshed.Refreshed.{Refreshed}
 use Rattle.tup_refresh.specs.Language.{ReadsTupfiles}
 use Rattle.tup_refresh.specs.Refresh.{IsDue, AreRefreshed, IsRefresh, IsRefreshWith, IsTrueBeside}

@@ -8,13 +8,13 @@ use Rattle.tup_path.specs.Tree.{Tree}
 use Rattle.tup_rule.specs.Rule.{among}
 use Rattle.tup_rule.specs.declared.question.Reading.{Reading}
 use Rattle.tup_vars.specs.Table.{Entries}
-use Rattle.tup_folders.specs.Readings.{AreRead, WaitsFor}
-use Rattle.tup_folders.specs.Sources.{has_tupfile}
-use Rattle.tup_folders.specs.State.{IsLast, IsNext, IsStart as IsWorkStart, Notes, Begins, Closes}
-use Rattle.tup_folders.specs.declared.fault.FoldersFault.{FoldersFault}
-use Rattle.tup_folders.specs.declared.work.Work.{Work}
-use Rattle.tup_folders.proofs.Lines.{among_last}
-use Rattle.tup_folders.proofs.Working.{started, last_has, noted, goes_on, first_fault, closes_circle}
+use Rattle.tup_readings.specs.Readings.{AreRead, WaitsFor}
+use Rattle.tup_readings.specs.Sources.{has_tupfile}
+use Rattle.tup_readings.specs.State.{IsLast, IsNext, IsStart as IsWorkStart, Notes, Begins, Closes}
+use Rattle.tup_readings.specs.declared.fault.FoldersFault.{FoldersFault}
+use Rattle.tup_readings.specs.declared.work.Work.{Work}
+use Rattle.tup_readings.proofs.Lines.{among_last}
+use Rattle.tup_readings.proofs.Working.{started, last_has, noted, goes_on, first_fault, closes_circle}
 use Rattle.tup_graph.specs.Graph.{GraphState}
 use Rattle.tup_refresh.specs.declared.fetched.Fetched.{Fetched}
 use Rattle.tup_refresh.specs.declared.walk.Walk.{Walk}

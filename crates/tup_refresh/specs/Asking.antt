@@ -11,8 +11,8 @@ use Rattle.tup_rule.specs.declared.question.Question.TheVariants as asks
 use Rattle.tup_rule.specs.declared.question.Told.{Told}
 use Rattle.tup_rule.specs.declared.question.Told.TheVariants as told
 use Rattle.tup_vars.specs.Table.{Entries}
-use Rattle.tup_folders.specs.Answers.{Readings, awaited}
-use Rattle.tup_folders.specs.Asked.{answer_or_misfit, waits_for}
+use Rattle.tup_readings.specs.Answers.{Readings, awaited}
+use Rattle.tup_readings.specs.Asked.{answer_or_misfit, waits_for}
 use Rattle.tup_refresh.specs.declared.asking.Halt.{Halt}
 use Rattle.tup_refresh.specs.declared.asking.Halt.TheVariants.{Lacks, Awaits, Memory}
 use Rattle.tup_refresh.specs.declared.fetched.Fetched.{Fetched}

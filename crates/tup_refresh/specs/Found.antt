@@ -6,12 +6,12 @@ use Rattle.tup_path.specs.Order.{by_names}
 use Rattle.tup_path.specs.Tree.{Tree}
 use Rattle.tup_rule.specs.declared.question.Reading.{Reading}
 use Rattle.tup_vars.specs.Table.{Entries}
-use Rattle.tup_folders.specs.Answers.{Readings}
-use Rattle.tup_folders.specs.Readings.{IsReadingOver, IsFaultOver, WaitsFor}
-use Rattle.tup_folders.specs.declared.asked.Stop.{Stop}
-use Rattle.tup_folders.specs.declared.asked.Stop.TheVariants.{Awaits, Memory as NoMemory}
-use Rattle.tup_folders.specs.declared.fault.FoldersFault.{FoldersFault}
-use Rattle.tup_folders.specs.declared.fault.FoldersFault.TheVariants.{Parse, Circular, Memory}
+use Rattle.tup_readings.specs.Answers.{Readings}
+use Rattle.tup_readings.specs.Readings.{IsReadingOver, IsFaultOver, WaitsFor}
+use Rattle.tup_readings.specs.declared.asked.Stop.{Stop}
+use Rattle.tup_readings.specs.declared.asked.Stop.TheVariants.{Awaits, Memory as NoMemory}
+use Rattle.tup_readings.specs.declared.fault.FoldersFault.{FoldersFault}
+use Rattle.tup_readings.specs.declared.fault.FoldersFault.TheVariants.{Parse, Circular, Memory}
 use Rattle.tup_refresh.specs.declared.asking.Halt.{Halt}
 use Rattle.tup_refresh.specs.declared.asking.Halt.TheVariants as halt
 use Rattle.tup_refresh.specs.declared.fetched.Fetched.{Fetched}

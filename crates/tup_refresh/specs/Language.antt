@@ -6,10 +6,10 @@ use Rattle.tup_path.specs.Name.{Names}
 use Rattle.tup_rule.specs.declared.draft.Draft.{Draft}
 use Rattle.tup_rule.specs.declared.question.Question.{Question}
 use Rattle.tup_rule.specs.declared.question.Told.{Told}
-use Rattle.tup_ask.specs.declared.fault.ParseFault.{ParseFault}
-use Rattle.tup_ask.specs.Log.{Log, fits, told_before}
-use Rattle.tup_ask.specs.Reads.{Reads, Ends, Asks}
-use Rattle.tup_reader.specs.Reading.{reading}
+use Rattle.tup_query.specs.declared.fault.ParseFault.{ParseFault}
+use Rattle.tup_query.specs.Log.{Log, fits, told_before}
+use Rattle.tup_query.specs.Reads.{Reads, Ends, Asks}
+use Rattle.tup_tupfile.specs.Reading.{reading}
 use Rattle.tup_graph.specs.Records.{Language}
 
 -- what follows an answer that was told, or else this

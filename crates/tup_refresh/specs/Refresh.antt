@@ -14,13 +14,13 @@ use Rattle.tup_rule.specs.declared.question.Reading.{Reading}
 use Rattle.tup_rule.specs.declared.question.Told.TheVariants as told
 use Rattle.tup_vars.specs.Table.{Entries}
 use Rattle.tup_vars.specs.declared.fault.ConfigFault.{ConfigFault}
-use Rattle.tup_ask.specs.Log.{Log, Ran, noted_log}
-use Rattle.tup_reader.specs.Reading.{reading}
-use Rattle.tup_folders.specs.Answers.{Readings, answer}
-use Rattle.tup_folders.specs.Readings.{AreRead, config_fault}
-use Rattle.tup_folders.specs.Sources.{has_tupfile, settings_of}
-use Rattle.tup_folders.specs.declared.fault.FoldersFault.{FoldersFault}
-use Rattle.tup_folders.specs.declared.fault.FoldersFault.TheVariants.{Memory}
+use Rattle.tup_query.specs.Log.{Log, Ran, noted_log}
+use Rattle.tup_tupfile.specs.Reading.{reading}
+use Rattle.tup_readings.specs.Answers.{Readings, answer}
+use Rattle.tup_readings.specs.Readings.{AreRead, config_fault}
+use Rattle.tup_readings.specs.Sources.{has_tupfile, settings_of}
+use Rattle.tup_readings.specs.declared.fault.FoldersFault.{FoldersFault}
+use Rattle.tup_readings.specs.declared.fault.FoldersFault.TheVariants.{Memory}
 use Rattle.tup_graph.specs.Graph.{GraphState, is_created}
 use Rattle.tup_graph.specs.Swap.{reading_now}
 use Rattle.tup_refresh.specs.declared.refreshed.Refreshed.{Refreshed}

@@ -6,9 +6,9 @@ use Rattle.tup_rule.specs.Question.{noted as kept_as}
 use Rattle.tup_rule.specs.declared.question.Noted.{Noted}
 use Rattle.tup_rule.specs.declared.question.Question.{Question}
 use Rattle.tup_vars.specs.Table.{Entries}
-use Rattle.tup_folders.specs.Answers.{Readings, awaited, answer}
-use Rattle.tup_folders.specs.declared.asked.Stop.{Stop}
-use Rattle.tup_folders.specs.declared.asked.Stop.TheVariants.{Awaits, Memory}
+use Rattle.tup_readings.specs.Answers.{Readings, awaited, answer}
+use Rattle.tup_readings.specs.declared.asked.Stop.{Stop}
+use Rattle.tup_readings.specs.declared.asked.Stop.TheVariants.{Awaits, Memory}
 
 module _ (sources : Tree) (settings : Entries) (readings : Readings) (dir : Names) where
   -- an answer waits for no reading, and is as it was told

@@ -7,7 +7,7 @@ use Rattle.tup_stamp.specs.Stamp.{stamp}
 use Rattle.tup_rule.specs.declared.question.Noted.{Noted}
 use Rattle.tup_rule.specs.declared.question.Question.{Question}
 use Rattle.tup_rule.specs.declared.question.Reading.{Reading}
-use Rattle.tup_folders.specs.Answers.{folder_told}
+use Rattle.tup_readings.specs.Answers.{folder_told}
 use Rattle.tup_graph.specs.Graph.{GraphState, is_created, source}
 
 -- a graph sees these sources, each with its stamp, and no others

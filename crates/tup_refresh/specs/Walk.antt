@@ -7,8 +7,8 @@ use Rattle.tup_path.specs.Order.{by_names}
 use Rattle.tup_path.specs.Tree.{Tree}
 use Rattle.tup_rule.specs.declared.question.Reading.{Reading}
 use Rattle.tup_vars.specs.Table.{Entries}
-use Rattle.tup_folders.specs.Answers.{Readings}
-use Rattle.tup_folders.specs.State.{IsWork, IsStart as IsWorkStart, Notes, steps_left as steps_of}
+use Rattle.tup_readings.specs.Answers.{Readings}
+use Rattle.tup_readings.specs.State.{IsWork, IsStart as IsWorkStart, Notes, steps_left as steps_of}
 use Rattle.tup_graph.specs.Graph.{GraphState}
 use Rattle.tup_refresh.specs.declared.fetched.Fetched.{Fetched}
 use Rattle.tup_refresh.specs.declared.walk.Walk.{Walk}

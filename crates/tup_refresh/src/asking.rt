@@ -1,15 +1,15 @@
 //! Who answers what the reading of a folder asks, where contents are fetched first.
 ghost use Rattle.std.specs.Prelude.{◌≡◌, IsTrue, IfOk, IfErr};
 ghost use Rattle.tup_rule.specs.declared.question.Question.TheVariants as asks;
-ghost use Rattle.tup_ask.specs.Log.{fits};
-ghost use Rattle.tup_folders.specs.Asked.{answer_or_misfit};
+ghost use Rattle.tup_query.specs.Log.{fits};
+ghost use Rattle.tup_readings.specs.Asked.{answer_or_misfit};
 ghost use Rattle.tup_refresh.specs.Asking.{told_or_misfit, IsHalt};
 
 use crate::fetched::Fetched;
 use std::alloc::{AllocError, AllocFailed, Global};
-use tup_ask::Env;
-use tup_folders::{Asked, Stop};
 use tup_path::Path;
+use tup_query::Env;
+use tup_readings::{Asked, Stop};
 use tup_rule::{Question, Told};
 use tup_vars::Stopped;
 

@@ -1,9 +1,9 @@
 //! Why the readings of a project aren't refreshed.
 use std::alloc::{AllocError, AllocFailed};
 use thiserror::Error;
-use tup_ask::ParseFault;
-use tup_folders::FoldersFault;
 use tup_path::Paths;
+use tup_query::ParseFault;
+use tup_readings::FoldersFault;
 use tup_site::SiteFailed;
 
 /// Why the readings of a project aren't refreshed. Nothing is changed then.

@@ -11,8 +11,7 @@ ghost use Rattle.tup_refresh.specs.Part.{AddsPath, AreFetched, IsUnfetched};
 
 use std::alloc::{AllocError, Global};
 use std::collections::BTreeSet;
-use tup_map::ByPath;
-use tup_path::{Bytes, Path};
+use tup_path::{ByPath, Bytes, Path};
 use tup_site::{Site, SiteFailed};
 
 /// The contents of sources that were asked for so far.

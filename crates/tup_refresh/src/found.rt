@@ -2,7 +2,7 @@
 ghost use Rattle.std.specs.Prelude.{◌≡◌, Ok, Some, IsTrue, IfOk};
 ghost use Rattle.std.specs.Option.{option_copied};
 ghost use Rattle.tup_path.specs.Tree.{Tree};
-ghost use Rattle.tup_folders.specs.Sources.{has_tupfile};
+ghost use Rattle.tup_readings.specs.Sources.{has_tupfile};
 ghost use Rattle.tup_rule.specs.declared.question.Reading.{Reading as ReadingValue};
 ghost use Rattle.tup_refresh.specs.Found.{HasFound, HasRead, IsLack, come_of, come_of_halt};
 ghost use Rattle.tup_refresh.specs.Part.{IsPart};
@@ -13,12 +13,12 @@ use crate::asking::{Asking, Halt};
 use crate::part::Part;
 use crate::standing::all_stand;
 use std::alloc::Global;
-use tup_ask::ReadEnd;
-use tup_folders::{Asked, Done, FoldersFault, Stop};
 use tup_graph::Nodes;
 use tup_path::Path;
-use tup_reader::read_tupfile;
+use tup_query::ReadEnd;
+use tup_readings::{Asked, Done, FoldersFault, Stop};
 use tup_rule::Reading;
+use tup_tupfile::read_tupfile;
 use tup_vars::Config;
 
 /// What is found of a folder.

@@ -4,9 +4,9 @@ ghost use Rattle.std.specs.FinMap as finite;
 ghost use Rattle.tup_refresh.specs.Refresh.{gone_among};
 
 use std::alloc::{AllocError, Global};
-use tup_folders::Sources;
 use tup_graph::Nodes;
 use tup_path::Paths;
+use tup_readings::Sources;
 
 /// The folders of kept readings that have no Tupfile any more, in their order.
 pub(crate) fn gone(alloc: Global, nodes: &Nodes, sources: &Sources<'_>) -> Result<Paths, AllocError>

@@ -8,8 +8,7 @@ ghost use Rattle.tup_refresh.specs.Untouched.{SeesSources};
 
 use std::alloc::{AllocError, Global};
 use tup_graph::Nodes;
-use tup_map::ByPath;
-use tup_path::{Bytes, Path};
+use tup_path::{ByPath, Bytes, Path};
 
 /// The paths of the sources that a graph sees, and of their contents that of tup.config, which is
 /// given.

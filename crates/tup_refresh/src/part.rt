@@ -1,7 +1,7 @@
 //! The sources of a project, as far as they are known.
 use crate::fetched::Fetched;
-use tup_folders::Sources;
 use tup_graph::Nodes;
+use tup_readings::Sources;
 
 /// The sources of a project, as far as they are known.
 #[derive(Drop)]

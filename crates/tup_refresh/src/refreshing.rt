@@ -17,9 +17,9 @@ use crate::outline::outline;
 use crate::refreshed::Refreshed;
 use crate::walk::{Walk, done};
 use std::alloc::Global;
-use tup_folders::{Sources, settings};
 use tup_graph::Nodes;
 use tup_path::{Bytes, Files};
+use tup_readings::{Sources, settings};
 use tup_site::Site;
 use tup_vars::Config;
 

@@ -4,17 +4,17 @@ ghost use Rattle.std.specs.Bool.{Decides};
 ghost use Rattle.tup_path.specs.Tree.{Tree};
 ghost use Rattle.tup_rule.specs.Question.{noted as kept_as};
 ghost use Rattle.tup_rule.specs.declared.question.Noted.TheVariants as kept;
-ghost use Rattle.tup_folders.specs.Answers.{answer, awaited};
-ghost use Rattle.tup_folders.specs.Asked.{IsWait};
+ghost use Rattle.tup_readings.specs.Answers.{answer, awaited};
+ghost use Rattle.tup_readings.specs.Asked.{IsWait};
 ghost use Rattle.tup_graph.specs.Graph.{source as source_of};
 ghost use Rattle.tup_refresh.specs.Part.{HasPaths};
 ghost use Rattle.tup_refresh.specs.Standing.{HasCompared};
 ghost use Rattle.tup_refresh.specs.Untouched.{SeesSources};
 
 use std::alloc::Global;
-use tup_folders::{Asked, Stop};
 use tup_graph::Nodes;
 use tup_path::Path;
+use tup_readings::{Asked, Stop};
 use tup_rule::{Noted, Question};
 use tup_stamp::Stamp;
 

@@ -1,3 +1,4 @@
 pub mod Rule
 pub mod Producer
 pub mod Question
+pub mod Makers

@@ -1,8 +1,8 @@
 //! What stands in the upper folder.
 use std::alloc::Global;
 use std::str;
+use tup_child::Failure;
 use tup_path::{Path, PathFault};
-use tup_started::Failure;
 
 /// Something that stands in the upper folder.
 #[derive(Drop)]

@@ -9,11 +9,11 @@ use std::fs::File;
 use std::process::{Command, Processes};
 use std::rt::Files;
 use std::{fs, str};
+use tup_child::{Failure, Tree, Words, path_of};
 use tup_path::{Items, Path, Text};
 use tup_proc::LogLine;
-use tup_started::{Failure, Tree, Words, path_of};
+use tup_strace::{Account, Act, acts_of};
 use tup_trace::{Call, Token, TraceFault, calls};
-use tup_watch::{Account, Act, acts_of};
 
 /// What a command is run by.
 #[derive(Drop)]

@@ -2,10 +2,10 @@
 use std::alloc::Global;
 use std::fs::File;
 use std::rt::Files;
+use tup_child::{Failure, Standing, Tree};
 use tup_path::{Items, Path, Text};
 use tup_proc::LogLine;
 use tup_stamp::stamp_of;
-use tup_started::{Failure, Standing, Tree};
 
 /// The lines of what a command asked for. A folder says nothing; a link is no file.
 pub(crate) fn asks<R: Files<File = File> + Clone + Drop>(

@@ -2,7 +2,7 @@
 //!
 //! The command runs under `strace` in namespaces of its own and sees the project through an overlay: whatever it writes
 //! goes into the stage, and no source changes. What stands here is tested, and proved to be safe; what a trace says is read
-//! by `tup_trace` and followed by `tup_watch`, whose contracts are exact. Who starts it checks its log.
+//! by `tup_trace` and followed by `tup_strace`, whose contracts are exact. Who starts it checks its log.
 #![tactic(auto)]
 
 mod entries;
@@ -16,7 +16,7 @@ mod writes;
 
 use job::{Job, run};
 use std::process::ExitCode;
-use tup_started::{Failure, read_words};
+use tup_child::{Failure, read_words};
 
 fn main(rt: HostRuntime) -> ExitCode {
     let alloc = rt.alloc();

@@ -5,9 +5,9 @@ use std::alloc::Global;
 use std::fs::File;
 use std::rt::Files;
 use std::str;
+use tup_child::{Failure, Standing, Tree};
 use tup_path::{Bytes, Path};
-use tup_started::{Failure, Standing, Tree};
-use tup_watch::{Account, Act, Step};
+use tup_strace::{Account, Act, Step};
 
 /// How many interpreters of interpreters the system starts.
 const MAX_INTERPRETERS: usize = 4;

@@ -2,8 +2,8 @@
 use std::fs;
 use std::fs::File;
 use std::rt::Files;
+use tup_child::{Failure, Tree};
 use tup_path::Path;
-use tup_started::{Failure, Tree};
 
 /// The place of what was written at a path.
 pub(crate) fn written<R: Files<File = File> + Clone + Drop>(

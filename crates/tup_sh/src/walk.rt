@@ -1,7 +1,7 @@
 //! How a place is found: name by name, through the links on the way.
 use std::alloc::Global;
+use tup_child::Failure;
 use tup_path::{Path, PathFault};
-use tup_started::Failure;
 
 /// How many names are walked at most. A place behind more isn't one of the project.
 pub(crate) const MAX_NAMES: usize = 4096;

@@ -6,10 +6,10 @@ use std::alloc::Global;
 use std::fs;
 use std::fs::File;
 use std::rt::Files;
+use tup_child::{Failure, Standing, Tree};
 use tup_path::{Items, Path, Text};
 use tup_proc::LogLine;
-use tup_started::{Failure, Standing, Tree};
-use tup_watch::Account;
+use tup_strace::Account;
 
 /// What an entry is to the log.
 #[derive(Clone, Copy)]

@@ -3,11 +3,11 @@ use crate::project::Project;
 use std::alloc::Global;
 use std::fs::File;
 use std::rt::Files;
+use tup_child::{Failure, Tree, Words, path_of};
 use tup_mini::Mini;
 use tup_path::{Bytes, Items, Text};
 use tup_proc::LogLine;
 use tup_runner::{Ended, Runner};
-use tup_started::{Failure, Tree, Words, path_of};
 
 /// Does a command and leaves its log.
 pub(crate) fn run<R: Files<File = File> + Clone + Drop>(

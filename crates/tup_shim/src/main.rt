@@ -9,7 +9,7 @@ mod project;
 
 use job::run;
 use std::process::ExitCode;
-use tup_started::{Failure, read_words};
+use tup_child::{Failure, read_words};
 
 fn main(rt: HostRuntime) -> ExitCode {
     let alloc = rt.alloc();

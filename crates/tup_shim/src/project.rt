@@ -4,11 +4,11 @@ ghost use Rattle.std.specs.Prelude.{◌≡◌};
 use std::alloc::Global;
 use std::fs::File;
 use std::rt::Files;
+use tup_child::{Failure, Standing, Tree};
 use tup_path::{Bytes, Items, Path, PathFault, Text};
 use tup_proc::LogLine;
 use tup_runner::{Answer, View, ViewFailed};
 use tup_stamp::stamp_of;
-use tup_started::{Failure, Standing, Tree};
 
 /// The files below a root as a command in a folder sees them: its own outputs aren't there.
 #[derive(Drop)]

@@ -12,7 +12,8 @@ use Rattle.tup_site.specs.Edit.{MayAdd}
 use Rattle.std.specs.Result.{is_err}
 use Rattle.tup_site.specs.Memory.{removal}
 use Rattle.tup_site.specs.declared.change.Change.TheVariants.{Removed}
-use Rattle.tup_site.proofs.Trees.{get-of_entries, from_entries-set, from_entries-unset, removed_tree}
+use Rattle.tup_path.proofs.Maps.{get-of_entries, from_entries-set, from_entries-unset}
+use Rattle.tup_site.proofs.Trees.{removed_tree}
 
 -- what is found is what the tree has
 pub found_in_tree : (m : BTreeMap Names Content) (path : Names) (found : Option Content) → found ≡ get by_names m path → found ≡ finite.get (tree_of_files m.entries) path

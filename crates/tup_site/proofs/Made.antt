@@ -14,7 +14,8 @@ use Rattle.tup_path.specs.Order.{by_names, by_names-total, by_names-antisymmetri
 use Rattle.tup_path.proofs.Same.{by_names-decides}
 use Rattle.tup_path.specs.Tree.{IsTree, tree_of_files}
 use Rattle.tup_site.specs.Edit.{MayAdd, AreATree}
-use Rattle.tup_site.proofs.Trees.{all_keys-from_some, place_from_tree, keys-of_sorted}
+use Rattle.tup_path.proofs.Maps.{keys-of_sorted}
+use Rattle.tup_site.proofs.Trees.{all_keys-from_some, place_from_tree}
 
 no_some : {X : Type 0} (found : Option X) → found ≡ None → IsSome found → ⊥
 no_some found e s = let no : false ≡ true = sym (ap is_some e) ∙ s in cc

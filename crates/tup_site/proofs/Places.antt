@@ -17,7 +17,7 @@ use Rattle.tup_path.specs.Name.{Names, Content}
 use Rattle.tup_path.specs.Tree.{IsTree, IsBelow, tree_of_files}
 use Rattle.tup_path.specs.Order.{by_bytes, by_names, by_names-total}
 use Rattle.tup_site.specs.Edit.{NoneAbove, NoneBelow}
-use Rattle.tup_site.proofs.Trees.{get-of_entries}
+use Rattle.tup_path.proofs.Maps.{get-of_entries}
 
 module _ {K : Type 0} {R : K → K → Ordering} (o : IsTotalOrder R) where
   -- what stands between a list and one that goes on from it goes on from it too

@@ -13,7 +13,8 @@ use Rattle.tup_path.specs.Order.{by_names, by_names-total}
 use Rattle.tup_path.specs.Tree.{Tree, IsTree, tree_of_files}
 use Rattle.tup_path.proofs.Same.{by_names-decides}
 use Rattle.tup_site.specs.Edit.{Stands}
-use Rattle.tup_site.proofs.Trees.{some-from_all_keys, keys-of_sorted}
+use Rattle.tup_path.proofs.Maps.{keys-of_sorted}
+use Rattle.tup_site.proofs.Trees.{some-from_all_keys}
 
 no_file : (found : Option Content) → (IsSome found → ⊥) → found ≡ None
 no_file None apart = refl

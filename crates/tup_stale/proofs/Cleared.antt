@@ -15,8 +15,8 @@ use Rattle.tup_graph.specs.Edits.{HasSpelling}
 use Rattle.tup_graph.specs.Transactions.{doom_edits, with_doomed, forget_edits, with_forgotten}
 use Rattle.tup_graph.specs.declared.fault.GraphFault.{GraphFault}
 use Rattle.tup_graph.specs.declared.fault.GraphFault.TheVariants.{Full as GraphFull, Memory as GraphMemory}
-use Rattle.tup_kept.specs.Held.{Held, is_fresh}
-use Rattle.tup_kept.specs.Transaction.{to_write, with_changes, after, IsFull, Leaves as TransactionLeaves}
+use Rattle.tup_stored_graph.specs.Held.{Held, is_fresh}
+use Rattle.tup_stored_graph.specs.Transaction.{to_write, with_changes, after, IsFull, Leaves as TransactionLeaves}
 use Rattle.tup_stale.specs.declared.fault.StaleFault.{StaleFault}
 use Rattle.tup_stale.specs.declared.fault.StaleFault.TheVariants.{UserFile, Site, TooLarge, Full, Memory}
 use Rattle.tup_stale.specs.Cleared.{doomed, forgotten, AtFirst, Removing, Committing, AtLast, Leaves, AllAreMade}

@@ -10,8 +10,8 @@ use Rattle.tup_table.proofs.Going.{IsEarlier, as_step}
 use Rattle.tup_graph.specs.Graph.{GraphState}
 use Rattle.tup_graph.specs.Opening.{IsGraphOf}
 use Rattle.tup_graph.specs.Transactions.{with_doomed, with_forgotten}
-use Rattle.tup_kept.specs.Crash.{IsStoreOf, GraphStep, LeavesEither}
-use Rattle.tup_kept.proofs.Crashes.{as_it_was}
+use Rattle.tup_stored_graph.specs.Crash.{IsStoreOf, GraphStep, LeavesEither}
+use Rattle.tup_stored_graph.proofs.Crashes.{as_it_was}
 use Rattle.tup_stale.specs.Crash.{IsUntouched, IsDoomed, IsForgotten, ClearStep, LeavesBy}
 use Rattle.tup_stale.specs.Files.{without, SameBeside, FilesStep}
 use Rattle.tup_stale.proofs.Forgotten.{doomed_then_forgotten}

@@ -8,8 +8,8 @@ use Rattle.tup_site.specs.World.{World, TreeStays}
 use Rattle.tup_graph.specs.Graph.{GraphState}
 use Rattle.tup_graph.specs.Transactions.{doom_edits, with_doomed, forget_edits, with_forgotten}
 use Rattle.tup_graph.specs.declared.owned.Owned.{Owned}
-use Rattle.tup_kept.specs.Held.{Held, is_fresh}
-use Rattle.tup_kept.specs.Transaction.{after, IsFull}
+use Rattle.tup_stored_graph.specs.Held.{Held, is_fresh}
+use Rattle.tup_stored_graph.specs.Transaction.{after, IsFull}
 use Rattle.tup_stale.specs.Files.{without, IsPart}
 use Rattle.tup_stale.specs.Unmade.{HasNoUsers}
 use Rattle.tup_stale.specs.declared.fault.StaleFault.{StaleFault}

@@ -6,7 +6,7 @@ use Rattle.tup_site.specs.Crash.{Follows, GoesOn}
 use Rattle.tup_site.specs.World.{World, TreeStays}
 use Rattle.tup_graph.specs.Graph.{GraphState}
 use Rattle.tup_graph.specs.Transactions.{with_doomed, with_forgotten}
-use Rattle.tup_kept.specs.Crash.{IsStoreOf}
+use Rattle.tup_stored_graph.specs.Crash.{IsStoreOf}
 use Rattle.tup_stale.specs.Files.{without, SameBeside}
 
 -- What a clearing of paths adds to what a crash may leave, with these files in this tree: the graph that was, beside the tree

@@ -2,7 +2,7 @@
 ghost use Rattle.std.specs.Prelude.{◌≡◌, [], IsTrue, IfOk};
 ghost use Rattle.tup_site.specs.Crash.{GoesOn};
 ghost use Rattle.tup_site.specs.Known.{Keeps};
-ghost use Rattle.tup_kept.specs.Held.{is_fresh, StandsFor};
+ghost use Rattle.tup_stored_graph.specs.Held.{is_fresh, StandsFor};
 ghost use Rattle.tup_stale.specs.Cause.{CountsFaults, OnlyLarge, IsStopped};
 ghost use Rattle.tup_stale.specs.Cleared.{Leaves, AllAreMade, SparesUsers};
 ghost use Rattle.tup_stale.specs.Crash.{ClearStep, LeavesBy};
@@ -13,9 +13,9 @@ use crate::fault::StaleFault;
 use crate::looking::{look, unmade};
 use crate::removing::remove;
 use std::alloc::Global;
-use tup_kept::Graph;
 use tup_path::{Path, Paths};
 use tup_site::Site;
+use tup_stored_graph::Graph;
 
 /// Removes the files at owned paths that no rule makes any more, and owns these paths no longer. It gives the paths at which
 /// a file was removed, in their order. Where there is no such path it does nothing at all.

@@ -12,8 +12,8 @@ use Rattle.tup_path.proofs.Same.{same_path-decides}
 use Rattle.tup_rule.specs.Rule.{among}
 use Rattle.tup_site.specs.declared.site.Site.{Ghosts as Site}
 use Rattle.tup_graph.specs.Graph.{GraphState, is_rule, outputs_of}
-use Rattle.tup_ground.specs.declared.ground.Ground.{Ground}
-use Rattle.tup_ground.specs.Ground.{AreAtOnce, CanMake, HavePlaces, IsGround, paths_of}
+use Rattle.tup_rule_outputs.specs.declared.ground.Ground.{Ground}
+use Rattle.tup_rule_outputs.specs.Ground.{AreAtOnce, CanMake, HavePlaces, IsGround, paths_of}
 use Rattle.tup_store_rows.specs.Making.{AreFilesOf, IsFlat}
 
 none_long : (path : Names) → length path ≡ 0 → path ≡ []

@@ -7,7 +7,7 @@ use Rattle.tup_path.specs.Name.{Names}
 use Rattle.tup_path.specs.Order.{by_names, same_path}
 use Rattle.tup_rule.specs.declared.question.Reading.{Reading}
 use Rattle.tup_rule.specs.declared.rule.Rule.{Rule}
-use Rattle.tup_swap.specs.Edits.{dir_of}
+use Rattle.tup_rule_diff.specs.Edits.{dir_of}
 
 pub once : (fresh : List (Names × Reading)) → length fresh < 2 → IsDistinct same_path (map dir_of fresh)
 unfolding IsDistinct

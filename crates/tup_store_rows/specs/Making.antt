@@ -2,7 +2,7 @@
 use Rattle.std.specs.Prelude.{◌≡◌, ℕ, true, List, All, length}
 use Rattle.tup_path.specs.Name.{Names, Content}
 use Rattle.tup_graph.specs.Graph.{GraphState, is_rule, outputs_of}
-use Rattle.tup_ground.specs.Ground.{paths_of, AreAtOnce}
+use Rattle.tup_rule_outputs.specs.Ground.{paths_of, AreAtOnce}
 
 -- a path of one name
 abbrev pub IsFlat : Names → Type 0

@@ -1,16 +1,16 @@
 //! The calls of `stale.rows`.
 ghost use Rattle.std.specs.Prelude.{IsTrue};
-ghost use Rattle.tup_kept.specs.Held.{is_fresh, StandsFor};
+ghost use Rattle.tup_stored_graph.specs.Held.{is_fresh, StandsFor};
 ghost use Rattle.tup_site.specs.Memory.{world_in, moment_of, left_since};
 
 use crate::left::{add_left, add_refusal};
 use crate::project::Project;
 use std::alloc::Global;
-use tup_kept::Graph;
 use tup_path::{Bytes, Path, Paths};
 use tup_rows::{Answers, RowFault, Words, set};
 use tup_site::{Changed, Choice, MemSite};
 use tup_stale::{StaleFault, clear};
+use tup_stored_graph::Graph;
 
 /// How many calls of a site an opening makes: the store is synced, measured and read.
 const OPENING: u64 = 3;

@@ -14,13 +14,13 @@ use crate::sites::site_with;
 use crate::swap::{are_by_folder, is_one, news};
 use crate::transaction::{number, numbers, paths, run};
 use std::alloc::{AllocError, Global};
+use tup_commit::{note_scan, swap_rules};
 use tup_graph::GraphFault;
-use tup_kept::Graph;
 use tup_ledger::{Begun, begin as begin_project, give_up, open, own, owned_paths, sorted};
-use tup_note::{note_scan, swap_rules};
 use tup_path::{Path, Paths};
 use tup_rows::{Answers, RowFault, Words, set};
 use tup_site::MemSite;
+use tup_stored_graph::Graph;
 
 /// How many calls a site has answered when a graph of it makes a transaction: the store is written
 /// and synced, and then synced, measured and read.

@@ -2,10 +2,10 @@
 use crate::project::Project;
 use std::alloc::Global;
 use tup_graph::{GraphFault, Nodes};
-use tup_kept::Graph;
 use tup_record::OwnedState;
 use tup_rows::{RowFault, Words};
 use tup_site::MemSite;
+use tup_stored_graph::Graph;
 
 /// Adds the files that are left of a project's, and the paths that the store owns.
 pub(crate) fn add_left(alloc: Global, words: &mut Words, project: &Project, site: &mut MemSite) {

@@ -2,21 +2,21 @@
 ghost use Rattle.std.specs.Prelude.{◌≡◌, ◌↔◌, All, List, None, Ok, Some, IfSome, IsTrue};
 ghost use Rattle.std.specs.FinMap as finite;
 ghost use Rattle.tup_path.specs.Name.{Names, Content};
-ghost use Rattle.tup_ground.specs.Ground.{IsGround, paths_of};
-ghost use Rattle.tup_ground.specs.declared.ground.GoodEnd.{GoodEnd as GoodEndValue};
+ghost use Rattle.tup_rule_outputs.specs.Ground.{IsGround, paths_of};
+ghost use Rattle.tup_rule_outputs.specs.declared.ground.GoodEnd.{GoodEnd as GoodEndValue};
 ghost use Rattle.tup_store_rows.specs.Making.{IsFlat, AreFilesOf};
 
 use crate::left::add_left;
 use crate::project::Project;
 use std::alloc::{AllocError, Global};
 use tup_graph::Nodes;
-use tup_ground::{BoardFault, GoodEnd, Ground, Reads};
-use tup_kept::Graph;
 use tup_path::{Bytes, Files, Items, Path};
 use tup_record::RunRecord;
 use tup_rows::{Answers, RowFault, Words, set};
+use tup_rule_outputs::{BoardFault, GoodEnd, Ground, Reads};
 use tup_site::{MemSite, Site};
 use tup_stamp::stamp_of;
+use tup_stored_graph::Graph;
 
 /// How many calls of a site come before a rule is made: its files are listed, and the store is synced, measured and
 /// read.

@@ -1,20 +1,20 @@
 //! The calls of `partial.rows`.
 ghost use Rattle.std.specs.Prelude.{◌≡◌, ◌↔◌, true, All, IsTrue};
 ghost use Rattle.tup_graph.specs.Graph.{is_rule as is_rule_of};
-ghost use Rattle.tup_above.specs.Readers.{AreRunsOfRules};
-ghost use Rattle.tup_kept.specs.Held.{is_fresh};
+ghost use Rattle.tup_closure.specs.Readers.{AreRunsOfRules};
+ghost use Rattle.tup_stored_graph.specs.Held.{is_fresh};
 ghost use Rattle.tup_partial.specs.Plan.{AreFlagsOfRules};
 
 use crate::project::Project;
 use std::alloc::Global;
-use tup_above::runs_are_of_rules;
+use tup_closure::runs_are_of_rules;
 use tup_core::Plan;
 use tup_graph::GraphFault;
-use tup_index::Indexed;
-use tup_kept::Graph;
 use tup_partial::{PartialFault, above, flags_are_of_rules, plan_of};
+use tup_readers::Indexed;
 use tup_rows::{Answers, RowFault, Words, set};
 use tup_site::MemSite;
+use tup_stored_graph::Graph;
 
 /// A project whose graph is asked what is to be run.
 #[derive(Drop)]

@@ -2,8 +2,8 @@
 use crate::shown::{shown, shown_alone};
 use crate::tree::Tree;
 use std::alloc::Global;
-use tup_folders::read_folders;
 use tup_path::{Bytes, Path};
+use tup_readings::read_folders;
 use tup_record::{OwnedState, Record};
 use tup_refresh::{RefreshFault, Refreshed};
 use tup_rows::{Answers, RowFault, Words, set};

@@ -1,13 +1,13 @@
 //! What a scan found, as a row says it.
-ghost use Rattle.tup_above.specs.Readers.{AreRunsOfRules};
+ghost use Rattle.tup_closure.specs.Readers.{AreRunsOfRules};
 
 use std::alloc::Global;
-use tup_diff::note_scan;
 use tup_graph::{Edits, GraphFault};
-use tup_index::Indexed;
 use tup_path::{Bytes, Items, Path};
+use tup_readers::Indexed;
 use tup_rows::Words;
 use tup_scan::Seen;
+use tup_scan_diff::note_scan;
 use tup_stamp::{Stamp, stamp_of};
 
 /// The edits of a scan that found the files that so many words say, each a path and its content.

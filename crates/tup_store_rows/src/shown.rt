@@ -1,8 +1,8 @@
 //! What a refresh gave, as words.
 use std::alloc::Global;
-use tup_ask::ParseFault;
-use tup_folders::FoldersFault;
 use tup_path::{Items, Path};
+use tup_query::ParseFault;
+use tup_readings::FoldersFault;
 use tup_refresh::{RefreshFault, Refreshed};
 use tup_rows::Words;
 use tup_rule::{Draft, Reading};

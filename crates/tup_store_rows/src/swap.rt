@@ -3,8 +3,8 @@ ghost use Rattle.std.specs.Prelude.{◌≡◌, ◌↔◌, IsTrue, map};
 ghost use Rattle.std.specs.List.{IsDistinct};
 ghost use Rattle.std.specs.declared.cmp.Ordering.TheVariants.{Greater};
 ghost use Rattle.tup_path.specs.Order.{by_names, same_path};
-ghost use Rattle.tup_swap.specs.Edits.{dir_of};
-ghost use Rattle.tup_swap.specs.Order.{AreByFolder};
+ghost use Rattle.tup_rule_diff.specs.Edits.{dir_of};
+ghost use Rattle.tup_rule_diff.specs.Order.{AreByFolder};
 
 use crate::record::record_of;
 use std::alloc::Global;
@@ -14,7 +14,7 @@ use tup_path::Items;
 use tup_record::Record;
 use tup_rows::{RowFault, Words};
 use tup_rule::{Rule, Rules};
-use tup_swap::{Refreshed, swap_rules};
+use tup_rule_diff::{Refreshed, swap_rules};
 
 /// The edits of a swap to the readings and rules that pairs of words spell as records.
 pub fn swapped(

@@ -1,5 +1,5 @@
 //! The calls of `graph.rows` that are transactions.
-ghost use Rattle.tup_above.specs.Readers.{AreRunsOfRules};
+ghost use Rattle.tup_closure.specs.Readers.{AreRunsOfRules};
 
 use crate::changes::add_changes;
 use crate::field::joined;
@@ -7,11 +7,11 @@ use crate::graph::{add_commit, add_graph, store};
 use crate::scan::scanned;
 use crate::swap::swapped;
 use std::alloc::Global;
-use tup_above::runs_are_of_rules;
+use tup_closure::runs_are_of_rules;
 use tup_field::{Field, Reader};
 use tup_graph::{Edits, GraphFault, Nodes, changes, read_graph};
-use tup_index::Indexed;
 use tup_path::Path;
+use tup_readers::Indexed;
 use tup_record::RunRecord;
 use tup_rows::{RowFault, Words};
 use tup_table::{Change, Entries, read};

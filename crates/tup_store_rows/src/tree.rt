@@ -5,8 +5,7 @@ ghost use Rattle.tup_path.specs.Order.{by_names};
 
 use std::alloc::{AllocError, Global};
 use tup_graph::{Edit, Edits, GraphFault, Nodes};
-use tup_map::ByPath;
-use tup_path::{Bytes, Files, Items, Path};
+use tup_path::{ByPath, Bytes, Files, Items, Path};
 use tup_record::Record;
 use tup_refresh::{RefreshFault, Refreshed, refresh};
 use tup_rule::Reading;

@@ -9,9 +9,9 @@ use Rattle.tup_table.proofs.Stores.{reads_one}
 use Rattle.tup_graph.specs.Graph.{GraphState}
 use Rattle.tup_graph.specs.declared.fault.GraphFault.{GraphFault}
 use Rattle.tup_graph.specs.declared.fault.GraphFault.TheVariants as graph
-use Rattle.tup_kept.specs.Cause.{CountsFaults}
-use Rattle.tup_kept.specs.Crash.{IsStoreOf}
-use Rattle.tup_kept.specs.Opening.{OpensAs}
+use Rattle.tup_stored_graph.specs.Cause.{CountsFaults}
+use Rattle.tup_stored_graph.specs.Crash.{IsStoreOf}
+use Rattle.tup_stored_graph.specs.Opening.{OpensAs}
 use Rattle.tup_ledger.specs.Begin.{Begins}
 use Rattle.tup_ledger.specs.Owned.{owned_in}
 use Rattle.tup_ledger.specs.declared.beginning.Begun.{Begun}

@@ -17,16 +17,16 @@ use Rattle.tup_link.specs.declared.fault.What.TheVariants.{Commands, Links}
 use Rattle.tup_graph.specs.Graph.{empty_graph}
 use Rattle.tup_graph.specs.declared.owned.Owned.{Owned}
 use Rattle.tup_ledger.specs.Listing.{Lists}
-use Rattle.tup_whole.specs.Laws.{AreAlike}
-use Rattle.tup_whole.specs.Project.{ComeTo}
-use Rattle.tup_whole.specs.declared.fault.ProjectFault.{ProjectFault}
-use Rattle.tup_whole.specs.declared.fault.ProjectFault.TheVariants as project
-use Rattle.tup_whole.proofs.Alike.{projects_alike}
+use Rattle.tup_project.specs.Laws.{AreAlike}
+use Rattle.tup_project.specs.Project.{ComeTo}
+use Rattle.tup_project.specs.declared.fault.ProjectFault.{ProjectFault}
+use Rattle.tup_project.specs.declared.fault.ProjectFault.TheVariants as project
+use Rattle.tup_project.proofs.Alike.{projects_alike}
 use Rattle.tup_demo.specs.Project.{demo_files, demo_source, demo_tree}
 use Rattle.tup_demo.proofs.Files.{demo_entries, of_each}
-use Rattle.tup_demo_build.specs.Build.{demo_build, demo_built, demo_rules}
-use Rattle.tup_demo_build.proofs.Building.{builds, taken}
-use Rattle.tup_demo_build.proofs.Reading.{come_to}
+use Rattle.tup_demo.specs.Build.{demo_build, demo_built, demo_rules}
+use Rattle.tup_demo.proofs.Building.{builds, taken}
+use Rattle.tup_demo.proofs.Reading.{come_to}
 use Rattle.tup_update.specs.Holding.{Holding, Shows, holding}
 use Rattle.tup_update.specs.Log.{OfRules, whole_log}
 use Rattle.tup_update.specs.Outcome.{HasCause, HasNoRoom, once_owned}

@@ -19,9 +19,9 @@ use Rattle.tup_graph.specs.Changes.{changes_it}
 use Rattle.tup_graph.specs.Edits.{change_of, HasSpelling}
 use Rattle.tup_graph.specs.declared.edit.Edit.{Edit}
 use Rattle.tup_graph.specs.declared.edit.Edit.TheVariants.{Put}
-use Rattle.tup_kept.specs.Held.{Held}
-use Rattle.tup_kept.specs.Opening.{opened_in}
-use Rattle.tup_kept.specs.Transaction.{IsFull, to_write}
+use Rattle.tup_stored_graph.specs.Held.{Held}
+use Rattle.tup_stored_graph.specs.Opening.{opened_in}
+use Rattle.tup_stored_graph.specs.Transaction.{IsFull, to_write}
 use Rattle.tup_ledger.specs.Owned.{maker_in, own_edits}
 use Rattle.tup_site.specs.World.{World}
 use Rattle.tup_update.specs.Outcome.{ReadsAsGraph}

@@ -12,7 +12,7 @@ use Rattle.tup_access.specs.declared.verdict.Verdict.{Verdict}
 use Rattle.tup_lex.specs.ParseKind.{kind_text}
 use Rattle.tup_clean.specs.Clean.{is_good}
 use Rattle.tup_clean.specs.Taken.{Taken}
-use Rattle.tup_ask.specs.declared.fault.ParseFault.{ParseFault}
+use Rattle.tup_query.specs.declared.fault.ParseFault.{ParseFault}
 use Rattle.tup_update.specs.Compared.{first_of}
 use Rattle.tup_update.specs.declared.update.Log.{Log}
 use Rattle.tup_top.specs.declared.status.Status.{Status}

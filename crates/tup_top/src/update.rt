@@ -1,7 +1,7 @@
 //! An update, and what is told of it.
 ghost use Rattle.std.specs.Prelude.{◌≡◌, [], ◌∷◌, ◌++◌, IsTrue, IfOk, IfErr};
 ghost use Rattle.tup_site.specs.Crash.{GoesOn, LeavesOnly};
-ghost use Rattle.tup_steady.specs.Steady.{world_in, tree_in, store_in};
+ghost use Rattle.tup_demo.specs.Steady.{world_in, tree_in, store_in};
 ghost use Rattle.tup_table.specs.Store.{header};
 ghost use Rattle.tup_ledger.specs.Listing.{IsSafe};
 ghost use Rattle.tup_ledger.specs.Sources.{HasSources, Kept};
@@ -18,7 +18,7 @@ ghost use Rattle.tup_top.specs.Status.{IfCame};
 use crate::print::{lines, print, tell};
 use crate::status::{Status, status_of, status_of_begun};
 use std::alloc::Global;
-use tup_demo::demo_project;
+use tup_demo::{SteadySite, demo_project};
 use tup_graph::GraphFault;
 use tup_ledger::begin;
 use tup_mini::Mini;
@@ -26,7 +26,6 @@ use tup_path::Items;
 use tup_rule::RuleName;
 use tup_runner::Runner;
 use tup_site::{MemRefused, Site};
-use tup_steady::SteadySite;
 use tup_tell::Sink;
 use tup_update::{Update, update_site};
 

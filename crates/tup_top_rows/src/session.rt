@@ -2,12 +2,12 @@
 use crate::failing::Failing;
 use std::alloc::Global;
 use tup_graph::GraphFault;
-use tup_kept::Graph;
 use tup_ledger::{begin, open, owned_paths};
 use tup_path::{Bytes, Items, Path, Paths};
 use tup_rows::{Answers, RowFault, Words, set};
 use tup_rule::RuleName;
 use tup_site::{MemSite, Site};
+use tup_stored_graph::Graph;
 use tup_tell::{MemSink, Sink};
 use tup_top::{Ran, Status, Word, tup};
 

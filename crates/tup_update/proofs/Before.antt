@@ -7,7 +7,7 @@ use Rattle.tup_rule.specs.declared.rule.Rule.{Rule}
 use Rattle.tup_runner.specs.Next.{Next}
 use Rattle.tup_table.specs.Reading.{ReadsAs}
 use Rattle.tup_table.specs.declared.opened.Opened.{Opened}
-use Rattle.tup_kept.specs.Opening.{opened_in}
+use Rattle.tup_stored_graph.specs.Opening.{opened_in}
 use Rattle.tup_ledger.specs.Ascending.{ascending}
 use Rattle.std.specs.FinMap as finite
 use Rattle.std.specs.Result.{result_err}

@@ -19,7 +19,7 @@ use Rattle.tup_rule.proofs.Laws.{writes-at}
 use Rattle.tup_runner.specs.Next.{Next}
 use Rattle.tup_clean.specs.Buildable.{IsBuildable}
 use Rattle.tup_graph.specs.Graph.{GraphState}
-use Rattle.tup_kept.specs.Crash.{GraphStep, HasEither}
+use Rattle.tup_stored_graph.specs.Crash.{GraphStep, HasEither}
 use Rattle.tup_ledger.specs.Listing.{SettledStep}
 use Rattle.tup_ledger.specs.Owned.{owned_in}
 use Rattle.tup_ledger.proofs.Listing.{either_lists}

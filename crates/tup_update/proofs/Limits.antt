@@ -17,9 +17,9 @@ use Rattle.tup_link.specs.Faults.{HasCause, early_fault, fault_in, too_many_comm
 use Rattle.tup_link.specs.Groups.{members}
 use Rattle.tup_link.specs.Linked.{Members, rules_in}
 use Rattle.tup_link.specs.Placed.{Placed, placed, drafts_of}
-use Rattle.tup_whole.specs.Project.{ComeTo}
-use Rattle.tup_whole.specs.declared.fault.ProjectFault.{ProjectFault}
-use Rattle.tup_whole.specs.declared.fault.ProjectFault.TheVariants as project
+use Rattle.tup_project.specs.Project.{ComeTo}
+use Rattle.tup_project.specs.declared.fault.ProjectFault.{ProjectFault}
+use Rattle.tup_project.specs.declared.fault.ProjectFault.TheVariants as project
 use Rattle.tup_update.specs.Parts.{IsOfRules}
 use Rattle.tup_update.specs.Stopped.{unread_of_project}
 

@@ -21,9 +21,9 @@ use Rattle.tup_rule.specs.Rule.{among}
 use Rattle.tup_rule.specs.declared.rule.Rule.{Rule}
 use Rattle.tup_site.specs.World.{World}
 use Rattle.tup_link.specs.declared.fault.What.TheVariants.{Commands, Links}
-use Rattle.tup_whole.specs.Project.{ComeTo}
-use Rattle.tup_whole.specs.declared.fault.ProjectFault.{ProjectFault}
-use Rattle.tup_whole.specs.declared.fault.ProjectFault.TheVariants as project
+use Rattle.tup_project.specs.Project.{ComeTo}
+use Rattle.tup_project.specs.declared.fault.ProjectFault.{ProjectFault}
+use Rattle.tup_project.specs.declared.fault.ProjectFault.TheVariants as project
 use Rattle.tup_site.specs.Cause.{IsTooLarge}
 use Rattle.tup_site.specs.declared.fault.SiteFailed.{SiteFailed}
 use Rattle.tup_site.specs.declared.fault.SiteFailed.TheVariants.{Fault, TooLarge, Memory}

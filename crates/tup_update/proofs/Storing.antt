@@ -26,11 +26,11 @@ use Rattle.tup_graph.specs.Transactions.{forget_edits, with_forgotten}
 use Rattle.tup_graph.specs.declared.edit.Edit.{Edit}
 use Rattle.tup_graph.specs.declared.fault.GraphFault.{GraphFault}
 use Rattle.tup_graph.specs.declared.fault.GraphFault.TheVariants as graph
-use Rattle.tup_kept.specs.Cause.{CountsFaults}
-use Rattle.tup_kept.specs.Crash.{HasEither, IsStoreOf, LeavesEither}
-use Rattle.tup_kept.specs.Held.{Held, StandsFor}
-use Rattle.tup_kept.specs.Opening.{OpensAs, opened_in}
-use Rattle.tup_kept.specs.Transaction.{IsFull, Leaves}
+use Rattle.tup_stored_graph.specs.Cause.{CountsFaults}
+use Rattle.tup_stored_graph.specs.Crash.{HasEither, IsStoreOf, LeavesEither}
+use Rattle.tup_stored_graph.specs.Held.{Held, StandsFor}
+use Rattle.tup_stored_graph.specs.Opening.{OpensAs, opened_in}
+use Rattle.tup_stored_graph.specs.Transaction.{IsFull, Leaves}
 use Rattle.tup_ledger.specs.Given.{GivesUp, without}
 use Rattle.tup_ledger.specs.Owned.{own_edits, with_owned}
 use Rattle.tup_update.specs.Holding.{HoldsOn, IsJustOpened, Lists}

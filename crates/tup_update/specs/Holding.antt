@@ -6,7 +6,7 @@ use Rattle.tup_site.specs.World.{World}
 use Rattle.tup_table.specs.Entries.{Standing}
 use Rattle.tup_table.specs.Images.{IsEndWritten, Leaves}
 use Rattle.tup_graph.specs.declared.fault.GraphFault.TheVariants.{BadStore}
-use Rattle.tup_kept.specs.Opening.{OpensAs}
+use Rattle.tup_stored_graph.specs.Opening.{OpensAs}
 use Rattle.tup_ledger.specs.Begin.{IsJustClosed}
 pub use Rattle.tup_ledger.specs.Listing.{Lists}
 

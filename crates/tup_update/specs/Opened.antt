@@ -3,7 +3,7 @@ use Rattle.std.specs.Prelude.{◌≡◌, ⊤, List, [], IsTrue}
 use Rattle.tup_path.specs.Name.{Names}
 use Rattle.tup_site.specs.World.{World}
 use Rattle.tup_site.specs.declared.fault.SiteFailed.TheVariants.{Fault, Memory}
-use Rattle.tup_kept.specs.Held.{Held, is_fresh}
+use Rattle.tup_stored_graph.specs.Held.{Held, is_fresh}
 use Rattle.tup_ledger.specs.Owned.{owned_in}
 use Rattle.tup_update.specs.Holding.{IsDamaged}
 use Rattle.tup_update.specs.declared.stop.Stop.{Stop}

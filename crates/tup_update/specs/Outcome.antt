@@ -18,10 +18,10 @@ use Rattle.tup_table.specs.Reading.{ReadsAs}
 use Rattle.tup_table.specs.Table.{entries_in}
 use Rattle.tup_graph.specs.Opening.{IsGraphOf}
 use Rattle.tup_graph.specs.Transactions.{forget_edits}
-use Rattle.tup_kept.specs.Crash.{IsStoreOf}
-use Rattle.tup_kept.specs.Held.{Held}
-use Rattle.tup_kept.specs.Opening.{opened_in}
-use Rattle.tup_kept.specs.Transaction.{IsFull, after}
+use Rattle.tup_stored_graph.specs.Crash.{IsStoreOf}
+use Rattle.tup_stored_graph.specs.Held.{Held}
+use Rattle.tup_stored_graph.specs.Opening.{opened_in}
+use Rattle.tup_stored_graph.specs.Transaction.{IsFull, after}
 use Rattle.tup_ledger.specs.Given.{without}
 use Rattle.tup_ledger.specs.Owned.{own_edits, with_owned}
 use Rattle.tup_update.specs.Holding.{Holding, HoldsOn, IsDamaged, IsJustOpened, Lists, ListsOn, OfHeld, holding}

@@ -11,9 +11,9 @@ use Rattle.tup_access.specs.declared.verdict.Verdict.{Verdict}
 use Rattle.tup_clean.specs.Clean.{Build, clean, good_at}
 use Rattle.tup_clean.specs.Taken.{Taken, takes, up_to_bad, verdicts_of}
 use Rattle.tup_link.specs.declared.fault.What.TheVariants.{Commands, Links}
-use Rattle.tup_whole.specs.Project.{ComeTo}
-use Rattle.tup_whole.specs.declared.fault.ProjectFault.{ProjectFault}
-use Rattle.tup_whole.specs.declared.fault.ProjectFault.TheVariants as project
+use Rattle.tup_project.specs.Project.{ComeTo}
+use Rattle.tup_project.specs.declared.fault.ProjectFault.{ProjectFault}
+use Rattle.tup_project.specs.declared.fault.ProjectFault.TheVariants as project
 use Rattle.tup_ledger.specs.Ascending.{ascending}
 use Rattle.tup_site.specs.World.{World}
 use Rattle.tup_update.specs.Holding.{Holding, Shows}

@@ -3,8 +3,8 @@ use Rattle.std.specs.Prelude.{ℕ}
 use Rattle.tup_site.specs.declared.fault.SiteFailed.TheVariants.{Fault, Memory}
 use Rattle.tup_link.specs.declared.fault.What.{What}
 use Rattle.tup_link.specs.declared.fault.What.TheVariants.{Commands, Links}
-use Rattle.tup_whole.specs.declared.fault.ProjectFault.{ProjectFault}
-use Rattle.tup_whole.specs.declared.fault.ProjectFault.TheVariants as project
+use Rattle.tup_project.specs.declared.fault.ProjectFault.{ProjectFault}
+use Rattle.tup_project.specs.declared.fault.ProjectFault.TheVariants as project
 use Rattle.tup_graph.specs.declared.fault.GraphFault.{GraphFault}
 use Rattle.tup_graph.specs.declared.fault.GraphFault.TheVariants as graph
 use Rattle.tup_update.specs.declared.fault.SourcesFault.{SourcesFault}

@@ -10,10 +10,10 @@ ghost use Rattle.tup_table.specs.Reading.{ReadsAs};
 ghost use Rattle.tup_table.specs.Table.{entries_in};
 ghost use Rattle.tup_graph.specs.Opening.{IsGraphOf};
 ghost use Rattle.tup_graph.specs.Transactions.{forget_edits, with_forgotten};
-ghost use Rattle.tup_kept.specs.Crash.{HasEither};
-ghost use Rattle.tup_kept.specs.Held.{is_fresh, StandsFor};
-ghost use Rattle.tup_kept.specs.Opening.{opened_in};
-ghost use Rattle.tup_kept.specs.Transaction.{IsFull};
+ghost use Rattle.tup_stored_graph.specs.Crash.{HasEither};
+ghost use Rattle.tup_stored_graph.specs.Held.{is_fresh, StandsFor};
+ghost use Rattle.tup_stored_graph.specs.Opening.{opened_in};
+ghost use Rattle.tup_stored_graph.specs.Transaction.{IsFull};
 ghost use Rattle.tup_ledger.specs.Ascending.{ascending};
 ghost use Rattle.tup_ledger.specs.Given.{without};
 ghost use Rattle.tup_ledger.specs.Listing.{ListsEither};
@@ -37,12 +37,12 @@ use crate::stop::Stop;
 use crate::update::Log;
 use std::alloc::{AllocError, Global};
 use std::collections::BTreeSet;
-use tup_kept::Graph;
 use tup_ledger::{give_up, own};
 use tup_path::{Path, Paths};
 use tup_rule::Rule;
 use tup_runner::Runner;
 use tup_site::{Site, SiteFailed};
+use tup_stored_graph::Graph;
 
 /// What is to be done for a project, made before anything is touched.
 #[derive(Drop)]

@@ -1,8 +1,8 @@
 //! Why the sources of a site ask for no rules.
 use thiserror::Error;
-use tup_ask::ParseFault;
 use tup_link::RuleNames;
 use tup_path::Paths;
+use tup_query::ParseFault;
 use tup_rule::GroupRef;
 
 /// Why the sources of a site ask for no rules.

@@ -25,12 +25,11 @@ use crate::stop::Unread;
 use std::alloc::{AllocError, Global};
 use std::collections::BTreeSet;
 use tup_ledger::sorted;
-use tup_map::ByPath;
-use tup_path::{Bytes, Files, Path, Paths};
+use tup_path::{ByPath, Bytes, Files, Path, Paths};
+use tup_project::read_all;
 use tup_rule::Rules;
 use tup_scan::MAX_FILES;
 use tup_site::{Site, SiteFailed};
-use tup_whole::read_all;
 
 /// What a site asks for.
 #[derive(Drop)]

@@ -8,9 +8,9 @@ use thiserror::Error;
 use tup_access::Verdict;
 use tup_graph::GraphFault;
 use tup_link::What;
+use tup_project::ProjectFault;
 use tup_rule::RuleName;
 use tup_site::SiteFailed;
-use tup_whole::ProjectFault;
 
 /// Why an update stopped.
 #[derive(Debug, Drop, Error)]

@@ -5,8 +5,8 @@ ghost use Rattle.tup_site.specs.Crash.{GoesOn, LeavesOnly};
 ghost use Rattle.tup_table.specs.Reading.{ReadsAs};
 ghost use Rattle.tup_table.specs.Table.{entries_in};
 ghost use Rattle.tup_graph.specs.Opening.{IsGraphOf};
-ghost use Rattle.tup_kept.specs.Held.{StandsFor};
-ghost use Rattle.tup_kept.specs.Opening.{opened_in};
+ghost use Rattle.tup_stored_graph.specs.Held.{StandsFor};
+ghost use Rattle.tup_stored_graph.specs.Opening.{opened_in};
 ghost use Rattle.tup_ledger.specs.Listing.{IsSafe};
 ghost use Rattle.tup_ledger.specs.Sources.{HasSources, Kept};
 ghost use Rattle.tup_update.specs.Holding.{HoldsOn, Lists};
@@ -22,12 +22,12 @@ use crate::project::Project;
 use crate::stop::Stop;
 use std::alloc::Global;
 use tup_access::Verdict;
-use tup_kept::Graph;
 use tup_ledger::{open, owned_paths};
 use tup_path::{Items, Paths};
 use tup_rule::{RuleName, Rules};
 use tup_runner::Runner;
 use tup_site::Site;
+use tup_stored_graph::Graph;
 
 /// What an update did, in the order in which it did it.
 #[derive(Drop)]

@@ -1,7 +1,7 @@
 use Rattle.std.proofs.Common.{Result, subst}
 use Rattle.std.specs.Result.{IfOk}
 use Rattle.tup_graph.specs.declared.fault.GraphFault.{GraphFault}
-use Rattle.tup_kept.specs.Held.{Held, StandsFor}
+use Rattle.tup_stored_graph.specs.Held.{Held, StandsFor}
 use Rattle.tup_board_rows.proofs.opening.noted.Goals as goal
 
 pub note-requires-clause-stands : goal.note-requires-clause-stands

@@ -5,8 +5,8 @@ use Rattle.tup_table.specs.Table.{entries_in}
 use Rattle.tup_graph.specs.Opening.{IsGraphOf}
 use Rattle.tup_graph.specs.declared.fault.GraphFault.{GraphFault}
 use Rattle.tup_graph.specs.declared.fault.GraphFault.TheVariants.{NotThere}
-use Rattle.tup_kept.specs.Held.{Held, is_fresh, StandsFor}
-use Rattle.tup_kept.specs.Opening.{OpensAs, opened_in}
+use Rattle.tup_stored_graph.specs.Held.{Held, is_fresh, StandsFor}
+use Rattle.tup_stored_graph.specs.Opening.{OpensAs, opened_in}
 use Rattle.tup_ledger.specs.Begin.{Begins, BeginStep}
 use Rattle.tup_ledger.specs.declared.beginning.Begun.{Begun}
 use Rattle.tup_ledger.specs.declared.beginning.Begun.TheVariants.{WasThere}

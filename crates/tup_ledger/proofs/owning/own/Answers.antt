@@ -2,8 +2,8 @@ use Rattle.std.proofs.Common.{◌++◌, inl, ap, subst, ◌∙◌}
 use Rattle.tup_table.specs.Table.{entries_in}
 use Rattle.tup_graph.specs.Graph.{GraphState}
 use Rattle.tup_graph.specs.Opening.{IsGraphOf}
-use Rattle.tup_kept.proofs.Edited.{ok_given, as_read, as_left, as_crashed}
-use Rattle.tup_kept.proofs.Crashes.{as_it_was}
+use Rattle.tup_stored_graph.proofs.Edited.{ok_given, as_read, as_left, as_crashed}
+use Rattle.tup_stored_graph.proofs.Crashes.{as_it_was}
 use Rattle.tup_ledger.specs.Ascending.{ascending}
 use Rattle.tup_ledger.specs.Owned.{own_edits, owned_in, with_owned}
 use Rattle.tup_ledger.proofs.Given.{ok_after}

@@ -1,8 +1,8 @@
 use Rattle.std.proofs.Common.{List, ℕ, ◌∷◌, ◌++◌, [], ap, sym, ◌∙◌, map, take}
 use Rattle.std.proofs.lemmas.List.{map_more}
 use Rattle.tup_rule.specs.declared.rule.Rule.{Rule}
-use Rattle.tup_makers.specs.Makers.{producers}
-use Rattle.tup_makers.proofs.Making.{producers_in-is}
+use Rattle.tup_rule.specs.Makers.{producers}
+use Rattle.tup_rule.proofs.Making.{producers_in-is}
 use Rattle.tup_link.proofs.makers.producers.Goals as goal
 
 pub loop-rule-preserved : goal.loop-rule-preserved

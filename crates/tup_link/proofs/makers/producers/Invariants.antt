@@ -1,5 +1,5 @@
 use Rattle.std.proofs.Common.{◌≡◌, map, take}
-use Rattle.tup_makers.specs.Makers.{producers}
+use Rattle.tup_rule.specs.Makers.{producers}
 use Rattle.tup_link.proofs.makers.producers.Given as goal
 
 abbrev pub invariant-loop-rule : goal.invariant-loop-rule

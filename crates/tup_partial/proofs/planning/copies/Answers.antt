@@ -1,6 +1,6 @@
 use Rattle.std.proofs.Common.{◌∙◌, ◌∷◌, [], ◌++◌, sym}
-use Rattle.tup_above.proofs.Asked.{taken}
-use Rattle.tup_above.proofs.Copied.{same_rule}
+use Rattle.tup_closure.proofs.Asked.{taken}
+use Rattle.tup_closure.proofs.Copied.{same_rule}
 use Rattle.tup_partial.proofs.planning.copies.Goals as goal
 
 pub loop-rule-preserved : goal.loop-rule-preserved

@@ -2,7 +2,7 @@ use Rattle.std.proofs.Common.{Option, subst, sym, ◌∙◌, refl}
 use Rattle.std.proofs.lemmas.Result.{err_from_is_err_and}
 use Rattle.tup_path.specs.Name.{Names}
 use Rattle.tup_site.specs.World.{World}
-use Rattle.tup_folders.specs.State.{IsLast}
+use Rattle.tup_readings.specs.State.{IsLast}
 use Rattle.tup_refresh.specs.Part.{AreFilesOf}
 use Rattle.tup_refresh.proofs.Staying.{at_rest, goes_then}
 use Rattle.tup_refresh.proofs.Walking.{walk_started, walk_next}

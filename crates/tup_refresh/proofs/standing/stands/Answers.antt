@@ -4,7 +4,7 @@ use Rattle.tup_rule.specs.Question.{noted as kept_as}
 use Rattle.tup_rule.specs.declared.question.Noted.{Noted}
 use Rattle.tup_rule.specs.declared.question.Noted.TheVariants as noted
 use Rattle.tup_rule.specs.declared.question.Question.{Question}
-use Rattle.tup_folders.specs.Answers.{answer, awaited}
+use Rattle.tup_readings.specs.Answers.{answer, awaited}
 use Rattle.tup_refresh.proofs.Outlined.{IsOfPaths, stand_alike, ready_alike, wait_alike}
 use Rattle.tup_refresh.proofs.standing.stands.Goals as goal
 

@@ -4,7 +4,7 @@ use Rattle.tup_table.specs.Table.{entries_in}
 use Rattle.tup_table.proofs.Stands.{stands_on}
 use Rattle.tup_graph.specs.Opening.{IsGraphOf}
 use Rattle.tup_graph.specs.Transactions.{with_doomed}
-use Rattle.tup_kept.specs.Held.{Held}
+use Rattle.tup_stored_graph.specs.Held.{Held}
 use Rattle.tup_stale.specs.Cleared.{doomed}
 use Rattle.tup_stale.specs.Files.{without, FilesStep}
 use Rattle.tup_stale.proofs.Cleared.{doomed_is_fresh, has_room, forget_done}

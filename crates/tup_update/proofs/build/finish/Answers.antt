@@ -2,8 +2,8 @@ use Rattle.std.proofs.Common.{◌≡◌, ◌∙◌, sym, ap, subst, Ok, Some}
 use Rattle.std.specs.Result.{result_err}
 use Rattle.tup_table.specs.Reading.{ReadsAs}
 use Rattle.tup_graph.specs.Transactions.{with_forgotten}
-use Rattle.tup_kept.specs.Held.{Held}
-use Rattle.tup_kept.specs.Opening.{opened_in}
+use Rattle.tup_stored_graph.specs.Held.{Held}
+use Rattle.tup_stored_graph.specs.Opening.{opened_in}
 use Rattle.tup_ledger.proofs.Keys.{owned_without}
 use Rattle.tup_update.specs.Outcome.{HasCountedCause}
 use Rattle.tup_update.specs.Parts.{IsLate}

@@ -1,8 +1,8 @@
 use Rattle.std.proofs.Common.{◌≡◌, ◌∙◌, ◌++◌, ℕ, ⊎_elim, inl, inr, sym, ap, subst, List, Some, Err}
 use Rattle.std.specs.Result.{result_err}
 use Rattle.tup_path.specs.Name.{Names}
-use Rattle.tup_kept.specs.Crash.{HasEither}
-use Rattle.tup_kept.specs.Transaction.{IsFull}
+use Rattle.tup_stored_graph.specs.Crash.{HasEither}
+use Rattle.tup_stored_graph.specs.Transaction.{IsFull}
 use Rattle.tup_ledger.specs.Ascending.{ascending}
 use Rattle.tup_ledger.specs.Owned.{own_edits, owned_in, with_owned}
 use Rattle.tup_update.specs.Holding.{Lists}

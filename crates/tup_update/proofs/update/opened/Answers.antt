@@ -1,7 +1,7 @@
 use Rattle.std.proofs.Common.{inr, ap, sym, subst, ◌∙◌}
 use Rattle.tup_table.specs.Table.{entries_in}
 use Rattle.tup_graph.specs.Opening.{IsGraphOf}
-use Rattle.tup_kept.specs.Opening.{opened_in}
+use Rattle.tup_stored_graph.specs.Opening.{opened_in}
 use Rattle.tup_ledger.specs.Owned.{owned_in}
 use Rattle.tup_site.specs.declared.fault.SiteFailed.TheVariants.{Memory}
 use Rattle.tup_update.specs.Holding.{Lists}

@@ -1,5 +1,5 @@
 use Rattle.std.proofs.Common.{◌≡◌, None}
-use Rattle.tup_course.specs.Course.{Claims, now}
+use Rattle.tup_schedule.specs.Course.{Claims, now}
 use Rattle.tup_board.proofs.Kept.{plan_here, to_course, claim_kept, both_seen, rest_seen}
 use Rattle.tup_board.proofs.board.Board.claim.Goals as goal
 

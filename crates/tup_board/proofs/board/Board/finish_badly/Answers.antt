@@ -2,7 +2,7 @@ use Rattle.std.proofs.Common.{[], sym, subst}
 use Rattle.tup_core.specs.declared.event.CoreEvent.TheVariants.{Finish}
 use Rattle.tup_core.specs.declared.plan.Plan.{Plan}
 use Rattle.tup_core.specs.Step.{IsEnabled}
-use Rattle.tup_course.specs.Course.{GoesOn, now}
+use Rattle.tup_schedule.specs.Course.{GoesOn, now}
 use Rattle.tup_runner.specs.Report.{asks_of, ended_of}
 use Rattle.tup_board.proofs.Answering.{bad_kept, enabled_there}
 use Rattle.tup_board.proofs.Judging.{bad_can, bad_sound}

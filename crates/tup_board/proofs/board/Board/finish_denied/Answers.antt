@@ -1,4 +1,4 @@
-use Rattle.tup_course.specs.Course.{EndsDenied, WasDenied}
+use Rattle.tup_schedule.specs.Course.{EndsDenied, WasDenied}
 use Rattle.tup_board.proofs.Kept.{plan_here, to_course, denied_kept, both_seen, rest_seen}
 use Rattle.tup_board.proofs.board.Board.finish_denied.Goals as goal
 

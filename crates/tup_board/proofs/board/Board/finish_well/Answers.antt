@@ -2,7 +2,7 @@ use Rattle.std.proofs.Common.{◌≡◌, Result, Err, arith, sym, ap, ◌∙◌,
 use Rattle.tup_access.specs.declared.verdict.Verdict.{Verdict}
 use Rattle.tup_table.specs.Table.{entries_in}
 use Rattle.tup_graph.specs.Opening.{IsGraphOf}
-use Rattle.tup_ground.specs.declared.fault.BoardFault.{BoardFault}
+use Rattle.tup_rule_outputs.specs.declared.fault.BoardFault.{BoardFault}
 use Rattle.tup_runner.specs.Report.{asks_of, ended_of}
 use Rattle.tup_board.specs.Calls.{Ends}
 use Rattle.tup_board.proofs.Finished.{can_make_seen, early_seen, end_here, board_more, end_of_course, made_kept_here, made_seen, more_kept, refused_kept_here, refused_seen, refused_true_here}

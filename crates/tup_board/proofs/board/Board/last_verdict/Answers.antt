@@ -1,7 +1,7 @@
-use Rattle.tup_course.specs.Course.{EndsWithFinish}
+use Rattle.tup_schedule.specs.Course.{EndsWithFinish}
 use Rattle.tup_board.proofs.Kept.{to_course, course_is}
 use Rattle.std.proofs.Common.{subst}
-use Rattle.tup_course.specs.Course.{CourseState, IsLastVerdict}
+use Rattle.tup_schedule.specs.Course.{CourseState, IsLastVerdict}
 use Rattle.tup_board.proofs.board.Board.last_verdict.Goals as goal
 
 pub last_verdict-requires : goal.last_verdict-requires

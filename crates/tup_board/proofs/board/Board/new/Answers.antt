@@ -1,6 +1,6 @@
 use Rattle.std.proofs.Common.{sym, ap, subst}
 use Rattle.tup_core.specs.declared.plan.Plan.{Plan}
-use Rattle.tup_course.specs.Course.{CourseState}
+use Rattle.tup_schedule.specs.Course.{CourseState}
 use Rattle.tup_board.specs.Calls.{opened_as}
 use Rattle.tup_board.specs.Sound.{IsOpening}
 use Rattle.tup_board.proofs.board.Board.new.Goals as goal

@@ -1,4 +1,4 @@
-use Rattle.tup_course.specs.Course.{Stops}
+use Rattle.tup_schedule.specs.Course.{Stops}
 use Rattle.tup_board.proofs.Kept.{other_cause, plan_here, stop_kept, both_seen, rest_seen}
 use Rattle.tup_board.proofs.board.Board.stop.Goals as goal
 

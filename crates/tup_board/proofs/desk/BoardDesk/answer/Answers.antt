@@ -3,10 +3,10 @@ use Rattle.std.specs.Prelude.{IsTrue}
 use Rattle.tup_access.specs.Access.{access}
 use Rattle.tup_access.specs.declared.verdict.Access.TheVariants.{Yes}
 use Rattle.tup_core.specs.declared.plan.Plan.{Plan}
-use Rattle.tup_ground.specs.declared.fault.BoardFault.{BoardFault}
-use Rattle.tup_ground.specs.declared.fault.BoardFault.TheVariants.{Full}
-use Rattle.tup_ground.specs.Fault.{CountsFaults}
-use Rattle.tup_ground.specs.Ground.{NamesLength, OnlyLarge}
+use Rattle.tup_rule_outputs.specs.declared.fault.BoardFault.{BoardFault}
+use Rattle.tup_rule_outputs.specs.declared.fault.BoardFault.TheVariants.{Full}
+use Rattle.tup_rule_outputs.specs.Fault.{CountsFaults}
+use Rattle.tup_rule_outputs.specs.Ground.{NamesLength, OnlyLarge}
 use Rattle.tup_board.specs.Board.{BoardState}
 use Rattle.tup_board.specs.Calls.{Asks}
 use Rattle.tup_board.proofs.Answering.{asks_after, asks_for, asks_for_own, fault_after, fault_true, read_sound, rule_seen, told_after}

@@ -2,7 +2,7 @@ use Rattle.std.proofs.Common.{◌≡◌, true, sym, ◌∙◌, subst, arith}
 use Rattle.tup_core.specs.declared.event.CoreEvent.TheVariants.{Ask}
 use Rattle.tup_core.specs.declared.plan.Plan.{Plan}
 use Rattle.tup_core.specs.Step.{IsEnabled}
-use Rattle.tup_course.specs.Course.{now}
+use Rattle.tup_schedule.specs.Course.{now}
 use Rattle.tup_board.proofs.Answering.{can_ask, enabled_there, files_seen}
 use Rattle.tup_board.proofs.Kept.{ask_kept, plan_here}
 use Rattle.tup_board.proofs.desk.BoardDesk.tell.Goals as goal

@@ -1,6 +1,6 @@
 use Rattle.std.proofs.Common.{◌≡◌, sym, subst}
 use Rattle.tup_board.specs.Board.{BoardState, course_of}
-use Rattle.tup_course.specs.Course.{RunsRule}
+use Rattle.tup_schedule.specs.Course.{RunsRule}
 use Rattle.tup_board_rows.specs.declared.quiet.Quiet.{Quiet}
 use Rattle.tup_board_rows.proofs.desk.Desk.step.Goals as goal
 

@@ -1,7 +1,7 @@
 use Rattle.std.proofs.Common.{◌∙◌, ap, sym}
 use Rattle.std.specs.FinMap as finite
 use Rattle.std.specs.Cmp.{nat_cmp_total}
-use Rattle.tup_site.proofs.Trees.{get-of_entries}
+use Rattle.tup_path.proofs.Maps.{get-of_entries}
 use Rattle.tup_graph.proofs.by_number.ByNumber.get.Goals as goal
 
 pub returns : goal.returns

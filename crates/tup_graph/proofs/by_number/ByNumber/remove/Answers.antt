@@ -2,7 +2,7 @@ use Rattle.std.proofs.Common.{◌∙◌, ap}
 use Rattle.std.specs.FinMap as finite
 use Rattle.std.specs.Cmp.{nat_cmp_total}
 use Rattle.std.specs.FinMap.{nat_cmp-IsAntisymmetric}
-use Rattle.tup_site.proofs.Trees.{from_entries-unset}
+use Rattle.tup_path.proofs.Maps.{from_entries-unset}
 use Rattle.tup_graph.proofs.by_number.ByNumber.remove.Goals as goal
 
 pub returns : goal.returns

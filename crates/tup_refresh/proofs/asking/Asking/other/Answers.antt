@@ -1,6 +1,6 @@
 use Rattle.std.proofs.Common.{ap, sym, ◌∙◌}
-use Rattle.tup_ask.specs.Log.{fits}
-use Rattle.tup_folders.proofs.Answered.{answer_fits, told_where_ready}
+use Rattle.tup_query.specs.Log.{fits}
+use Rattle.tup_readings.proofs.Answered.{answer_fits, told_where_ready}
 use Rattle.tup_refresh.proofs.asking.Asking.other.Goals as goal
 
 pub returns-in-Ok-clause-told : goal.returns-in-Ok-clause-told

@@ -1,7 +1,7 @@
 use Rattle.std.proofs.Common.{IsTrue, ⊎_elim, sym, subst}
 use Rattle.std.specs.Result.{IfOk}
 use Rattle.tup_rule.specs.declared.question.Question.{Question}
-use Rattle.tup_ask.specs.Log.{fits}
+use Rattle.tup_query.specs.Log.{fits}
 use Rattle.tup_refresh.proofs.Outlined.{IsOfPaths}
 use Rattle.tup_refresh.proofs.Told.{told_by_paths}
 use Rattle.tup_refresh.proofs.asking.Asking.told.Goals as goal

@@ -1,7 +1,7 @@
 use Rattle.std.proofs.Common.{sym, ◌∙◌}
 use Rattle.std.specs.BTreeSet.{contains}
 use Rattle.tup_path.specs.Order.{by_names}
-use Rattle.tup_folders.proofs.Working.{taken_out}
+use Rattle.tup_readings.proofs.Working.{taken_out}
 use Rattle.tup_refresh.proofs.Fetching.{one_fetched, none_missing}
 use Rattle.tup_refresh.proofs.fetched.Fetched.note.Goals as goal
 

@@ -3,7 +3,7 @@ use Rattle.std.specs.FinMap as finite
 use Rattle.std.proofs.lemmas.Result.{MatchResult-weaker}
 use Rattle.tup_path.specs.Name.{Names, Content}
 use Rattle.tup_path.specs.Order.{by_names}
-use Rattle.tup_folders.proofs.Working.{from_test}
+use Rattle.tup_readings.proofs.Working.{from_test}
 use Rattle.tup_store_rows.proofs.tree.Tree.sources.Goals as goal
 
 pub returns : goal.returns

@@ -3,7 +3,7 @@ use Rattle.std.specs.FinMap as finite
 use Rattle.tup_path.specs.Order.{by_names}
 use Rattle.tup_path.specs.Tree.{Tree, IsTree}
 use Rattle.tup_clean.specs.Buildable.{IsBuildable}
-use Rattle.tup_whole.specs.Project.{ComeTo}
+use Rattle.tup_project.specs.Project.{ComeTo}
 use Rattle.tup_update.specs.Stopped.{unread_of_project}
 use Rattle.tup_update.proofs.Handed.{err_if}
 use Rattle.tup_update.proofs.Limits.{of_rules}

@@ -1,6 +1,0 @@
-use Rattle.std.proofs.Common.{◌≡◌, ◌++◌}
-use Rattle.tup_ask.specs.Log.{noted_log}
-use Rattle.tup_ask.proofs.log.Log.noted.Given as goal
-
-abbrev pub invariant-loop-key : goal.invariant-loop-key
-invariant-loop-key l = l.asked ++ noted_log l.key-iterator ≡ noted_log l.fn.self

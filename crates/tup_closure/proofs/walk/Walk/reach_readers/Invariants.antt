@@ -1,0 +1,7 @@
+use Rattle.std.proofs.Common.{take}
+use Rattle.tup_closure.specs.Readers.{HasAskedOneOf}
+use Rattle.tup_closure.specs.Walk.{GoesTo}
+use Rattle.tup_closure.proofs.walk.Walk.reach_readers.Given as goal
+
+abbrev pub invariant-loop-path : goal.invariant-loop-path
+invariant-loop-path l = GoesTo (HasAskedOneOf l.graph (take l.path-index l.paths)) l.fn.self l.self

@@ -1,0 +1,46 @@
+use Rattle.std.proofs.Common.{subst}
+use Rattle.tup_graph.specs.Edits.{edited_by}
+use Rattle.tup_graph.specs.Graph.{GraphState}
+use Rattle.tup_graph.specs.Opening.{IsGraphOf}
+use Rattle.tup_table.specs.Table.{entries_in}
+use Rattle.tup_graph.specs.Swap.{IsSwapped}
+use Rattle.tup_rule_diff.specs.Edits.{AreSwapEdits}
+use Rattle.tup_commit.proofs.Noting.{notes, stands_so}
+use Rattle.tup_commit.proofs.Crashes.{by_commit, by_nothing}
+use Rattle.tup_commit.proofs.swap.swap_rules.Goals as goal
+
+pub commit_edits-requires-clause-read : goal.commit_edits-requires-clause-read
+commit_edits-requires-clause-read g c κs within = λ origin up is spelled.
+    let old = c.args.graph.now in
+    let edits = c.in_ok-edits.edits in
+    let are = subst (λ (nodes : GraphState). AreSwapEdits nodes c.args.fresh.now.readings c.args.fresh.now.gone c.args.rules.now edits) c.nodes.ensures.value c.in_ok-edits.ensures.edits in
+    c.swap_edits_are_read.ensures (entries_in old.table) old.nodes c.args.fresh.now.readings c.args.fresh.now.gone c.args.rules.now edits origin up is are c.requires.order spelled
+
+pub returns-clause-swaps : goal.returns-clause-swaps
+returns-clause-swaps g c =
+    let old = c.args.graph.now in
+    let edits = c.in_ok-edits.edits in
+    let are = subst (λ (nodes : GraphState). AreSwapEdits nodes c.args.fresh.now.readings c.args.fresh.now.gone c.args.rules.now edits) c.nodes.ensures.value c.in_ok-edits.ensures.edits in
+    notes (AreSwapEdits old.nodes c.args.fresh.now.readings c.args.fresh.now.gone c.args.rules.now) (IsSwapped old.nodes c.args.fresh.now.readings c.args.fresh.now.gone c.args.rules.now) old edits are c.commit_edits.new.self c.args.site.now c.commit_edits.new.site c.commit_edits.result c.commit_edits.ensures.leaves c.commit_edits.ensures.full
+
+pub returns-clause-swapped : goal.returns-clause-swapped
+returns-clause-swapped g c =
+    let old = c.args.graph.now in
+    let edits = c.in_ok-edits.edits in
+    let are = subst (λ (nodes : GraphState). AreSwapEdits nodes c.args.fresh.now.readings c.args.fresh.now.gone c.args.rules.now edits) c.nodes.ensures.value c.in_ok-edits.ensures.edits in
+    stands_so (AreSwapEdits old.nodes c.args.fresh.now.readings c.args.fresh.now.gone c.args.rules.now) (IsSwapped old.nodes c.args.fresh.now.readings c.args.fresh.now.gone c.args.rules.now) old edits are c.commit_edits.new.self c.args.site.now c.commit_edits.new.site
+    (c.swap_edits_leave.ensures (entries_in old.table) old.nodes c.args.fresh.now.readings c.args.fresh.now.gone c.args.rules.now edits (subst (λ (nodes : GraphState). IsGraphOf (entries_in old.table) nodes) c.nodes.ensures.value (c.nodes.ensures.graph c.requires.fresh)) are c.requires.once) c.commit_edits.result c.commit_edits.ensures.leaves
+
+pub returns-clause-crash : goal.returns-clause-crash
+returns-clause-crash g c = λ tells.
+    let old = c.args.graph.now in
+    let edits = c.in_ok-edits.edits in
+    let are = subst (λ (nodes : GraphState). AreSwapEdits nodes c.args.fresh.now.readings c.args.fresh.now.gone c.args.rules.now edits) c.nodes.ensures.value c.in_ok-edits.ensures.edits in
+    by_commit g.S.Site.world g.S.Site.moment g.S.Site.left_since old.table old.nodes (IsSwapped old.nodes c.args.fresh.now.readings c.args.fresh.now.gone c.args.rules.now) (edited_by old.nodes edits)
+    (c.swap_edits_leave.ensures (entries_in old.table) old.nodes c.args.fresh.now.readings c.args.fresh.now.gone c.args.rules.now edits (subst (λ (nodes : GraphState). IsGraphOf (entries_in old.table) nodes) c.nodes.ensures.value (c.nodes.ensures.graph c.requires.fresh)) are c.requires.once) c.args.site.now c.commit_edits.new.site (c.commit_edits.ensures.crash tells)
+
+pub returns-in_err-edits-clause-crash : goal.returns-in_err-edits-clause-crash
+returns-in_err-edits-clause-crash g c = λ tells.
+    let old = c.args.graph.now in
+    by_nothing g.S.Site.world g.S.Site.moment g.S.Site.left_since old.table old.nodes (IsSwapped old.nodes c.args.fresh.now.readings c.args.fresh.now.gone c.args.rules.now) c.args.site.now (c.requires.stands tells)
+    (subst (λ (nodes : GraphState). IsGraphOf (entries_in old.table) nodes) c.nodes.ensures.value (c.nodes.ensures.graph c.requires.fresh))

@@ -1,6 +1,0 @@
-pub mod Rooms
-pub mod Courses
-pub mod Going
-pub mod Views
-pub mod Kept
-pub mod Sent

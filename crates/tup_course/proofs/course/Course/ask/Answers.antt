@@ -1,5 +1,0 @@
-use Rattle.tup_course.proofs.Going.{ask_keeps}
-use Rattle.tup_course.proofs.course.Course.ask.Goals as goal
-
-pub try_take-requires-clause-beside : goal.try_take-requires-clause-beside
-try_take-requires-clause-beside c = ask_keeps c.args.self.now c.args.seat c.in_ok-text.text c.args.answer

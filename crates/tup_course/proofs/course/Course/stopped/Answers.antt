@@ -1,7 +1,0 @@
-use Rattle.std.proofs.Common.{ap, ◌∙◌}
-use Rattle.tup_core.specs.Step.{State}
-use Rattle.tup_course.proofs.Views.{now_is}
-use Rattle.tup_course.proofs.course.Course.stopped.Goals as goal
-
-pub returns : goal.returns
-returns c = c.stopped.ensures ∙ ap (λ (s : State). s.stopped) (now_is _ _ _ _ _ _ c.self.invariant c.self.view_is)

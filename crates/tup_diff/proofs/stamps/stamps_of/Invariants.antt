@@ -1,6 +1,0 @@
-use Rattle.std.proofs.Common.{◌≡◌, take}
-use Rattle.std.specs.FinMap as finite
-use Rattle.tup_diff.proofs.stamps.stamps_of.Given as goal
-
-abbrev pub invariant-loop-path : goal.invariant-loop-path
-invariant-loop-path l = l.stamps ≡ finite.from_entries (take l.path-index l.files)

@@ -1,7 +1,0 @@
-use Rattle.tup_draft.proofs.Sets.{knows_more}
-use Rattle.tup_draft.proofs.made.Made.with.Goals as goal
-
-pub invariant_of-result : goal.invariant_of-result
-invariant_of-result c =
-    let kept = c.self.inside in
-    rw (c.in_ok-push.ensures.ok, c.in_ok-add_paths.ensures, c.as_slice.ensures) (knows_more kept.outputs.keys kept.drafts c.args.draft c.self.invariant)

@@ -1,5 +1,0 @@
-use Rattle.tup_draft.proofs.Sets.{places_of}
-use Rattle.tup_draft.proofs.places.Places.of.Goals as goal
-
-pub invariant_of-result : goal.invariant_of-result
-invariant_of-result c = rw (c.in_ok-add_paths.ensures, c.as_slice.ensures, c.new-set.ensures.empty) (places_of c.in_ok-paths.paths)

@@ -1,5 +1,0 @@
-use Rattle.tup_fits.proofs.Tupfiles.{is_language}
-use Rattle.tup_fits.proofs.language.tupfiles_are_a_language.Goals as goal
-
-pub returns : goal.returns
-returns c = is_language

@@ -1,5 +1,0 @@
-use Rattle.tup_fits.proofs.Planned.{kept_for_core}
-use Rattle.tup_fits.proofs.planning.kept_for_core.Goals as goal
-
-pub returns : goal.returns
-returns c = λ next language known g links kept flags. kept_for_core next language known g kept links flags

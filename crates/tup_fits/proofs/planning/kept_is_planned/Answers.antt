@@ -1,6 +1,0 @@
-use Rattle.tup_fits.proofs.Planned.{planned}
-use Rattle.tup_fits.proofs.planning.kept_is_planned.Goals as goal
-
-pub returns : goal.returns
-returns c = λ next language known g tree plan files links kept flags seen made rules reach stamps is_known contents.
-    planned next language known g kept links flags tree plan files seen made rules reach stamps is_known contents

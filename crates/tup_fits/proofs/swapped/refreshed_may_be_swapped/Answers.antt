@@ -1,5 +1,0 @@
-use Rattle.tup_fits.proofs.Ordered.{may_be_swapped}
-use Rattle.tup_fits.proofs.swapped.refreshed_may_be_swapped.Goals as goal
-
-pub returns : goal.returns
-returns c = λ g sources given rules refreshed linked. may_be_swapped g sources given rules refreshed linked

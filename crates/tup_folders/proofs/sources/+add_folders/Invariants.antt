@@ -1,5 +1,0 @@
-use Rattle.std.proofs.Common.{length}
-use Rattle.tup_folders.proofs.sources.+add_folders.Given as goal
-
-abbrev pub decreases-add_folders : goal.decreases-add_folders
-decreases-add_folders l = length l.path.now

@@ -1,7 +1,0 @@
-use Rattle.std.proofs.Common.{◌≡◌, drop}
-use Rattle.tup_folders.specs.State.{from_first}
-use Rattle.tup_folders.proofs.Lines.{from_here}
-use Rattle.tup_folders.proofs.work.from.Given as goal
-
-abbrev pub invariant-loop-path : goal.invariant-loop-path
-invariant-loop-path l = from_here l.found l.first (drop l.path-index l.paths) ≡ from_first l.first l.paths

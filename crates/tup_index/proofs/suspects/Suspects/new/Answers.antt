@@ -1,6 +1,0 @@
-use Rattle.std.specs.FinMap as finite
-use Rattle.tup_index.proofs.Suspecting.{nobody_runs}
-use Rattle.tup_index.proofs.suspects.Suspects.new.Goals as goal
-
-pub returns : goal.returns
-returns c = nobody_runs finite.empty c.new.result

@@ -1,6 +1,0 @@
-use Rattle.std.proofs.Common.{take}
-use Rattle.tup_index.specs.Suspects.{AskedOther}
-use Rattle.tup_index.proofs.suspects.asked_other.Given as goal
-
-abbrev pub invariant-loop-path : goal.invariant-loop-path
-invariant-loop-path l = AskedOther l.nodes.seen (take l.path-index l.asks) → ⊥

@@ -1,6 +1,0 @@
-use Rattle.std.proofs.Common.{take}
-use Rattle.tup_index.specs.Suspects.{WroteOther}
-use Rattle.tup_index.proofs.suspects.wrote_other.Given as goal
-
-abbrev pub invariant-loop-path : goal.invariant-loop-path
-invariant-loop-path l = WroteOther l.nodes.seen (take l.path-index l.files) → ⊥

@@ -1,5 +1,0 @@
-use Rattle.tup_keeps.proofs.Scanning.{scan_agrees}
-use Rattle.tup_keeps.proofs.transactions.scan_agrees.Goals as goal
-
-pub returns : goal.returns
-returns c = λ known g new files config knows is. scan_agrees known g new files config is knows

@@ -1,0 +1,107 @@
+-- A kept site stays kept while a board works on it.
+use Rattle.std.proofs.Common.{◌≡◌, ⊎_elim, ℕ, ◌≤◌, None, Some, IsTrue, sym, ap, subst, ◌∙◌}
+use Rattle.std.specs.FinMap as finite
+use Rattle.std.specs.Prelude.{Contains}
+use Rattle.tup_path.specs.Name.{Names, Content}
+use Rattle.tup_site.specs.World.{World}
+use Rattle.tup_site.specs.declared.site.Site.{Ghosts as Site}
+use Rattle.tup_runner.specs.declared.runner.Runner.{Ghosts as Runner}
+use Rattle.tup_record.specs.declared.run.RunRecord.{RunRecord}
+use Rattle.tup_table.specs.Table.{entries_in}
+use Rattle.tup_graph.specs.Graph.{GraphState}
+use Rattle.tup_graph.specs.declared.owned.Owned.{Owned}
+use Rattle.tup_graph.specs.Kept.{HoldsItsOwn, IsGraphIn, IsKept, IsKeptSite, IsKeptWorld, file_beside}
+use Rattle.tup_graph.specs.Opening.{IsGraphOf}
+use Rattle.tup_graph.specs.Records.{Language}
+use Rattle.tup_stored_graph.specs.Crash.{IsStoreOf}
+use Rattle.tup_stored_graph.proofs.Crashes.{as_it_was}
+use Rattle.tup_core.specs.Honest.{EndsHonestly}
+use Rattle.tup_rule_outputs.specs.Lost.{Lost}
+use Rattle.tup_law_graph.proofs.Edited.{kept_more}
+use Rattle.tup_board.specs.Board.{BoardState, plan_of, first_graph, start}
+use Rattle.tup_board.specs.Come.{HasComeTo}
+use Rattle.tup_board.specs.Ends.{CouldEnd}
+use Rattle.tup_board.specs.Images.{IsImageOver}
+use Rattle.tup_board.specs.Sound.{Before, IsSound, Since}
+use Rattle.tup_board.proofs.Known.{keeps_all}
+use Rattle.tup_law_site.specs.Over.{IsKeptNow, LeftNow}
+use Rattle.tup_law_site.proofs.Remaining.{has_graph}
+use Rattle.tup_law_site.proofs.Stores.{in_bytes, one_in_bytes}
+use Rattle.tup_law_board.specs.Kept.{HoldsTogether}
+use Rattle.tup_law_board.proofs.Lasting.{come_kept, image_own, image_stays, over}
+
+module _ {S R : Type 0} (site : Site S) (runner : Runner R) (b : BoardState S) (sound : IsSound site runner b) (tells : IsTrue site.tells) (told : IsTrue runner.tells) (language : Language)
+    (kept : IsKeptNow site runner.next language (site.known b.opening.site) b.opening.site) (is_graph : IsGraphOf (entries_in b.opening.graph.table) (first_graph b)) (held : HoldsTogether b)
+    (earlier : (t u : ℕ) (w : World) → t ≤ u → site.left_since b.opening.site u w → site.left_since b.opening.site t w) (present : Before site b (site.world b.opening.site)) where
+  also : (content : Content) → Contains (site.known b.opening.site) content → Contains (site.known b.site) content
+  also = keeps_all (site.known b.opening.site) (site.known b.site) (sound.known tells)
+
+  could_end : (commit : Lost) → b.lost ≡ Some commit → (run : RunRecord) → commit.run ≡ Some run
+      → CouldEnd (plan_of b) (start b) b.history commit.rule run (Unit {0}) (EndsHonestly runner.next (site.known b.site))
+  could_end commit is run keeps =
+      let could = (sound.lost commit is).run run keeps in
+      record { before = could.before; after = could.after; seat = could.seat; whole = could.whole; kept = could.kept; ended = λ any. could.ended (tells, told) }
+
+  graph_kept : (g : GraphState) → HasComeTo b g → IsKept runner.next language (site.known b.site) g
+  graph_kept g come =
+      come_kept site runner b sound tells runner.next language (site.known b.opening.site) kept is_graph earlier present (site.known b.site) also (sound.honest tells told) could_end held g come
+
+  first_graph_is : first_graph b ≡ kept.now.graph
+  first_graph_is =
+      one_in_bytes (site.world b.opening.site).store (first_graph b) kept.now.graph
+      (has_graph site runner.next language (site.known b.opening.site) (site.world b.opening.site) (site.moment b.opening.site) b.opening.graph b.opening.site
+      (over site runner b sound tells runner.next language (site.known b.opening.site) kept is_graph earlier present) earlier (site.world b.opening.site) present)
+      kept.now.reads
+
+  pub site_kept : IsKeptSite runner.next language (site.known b.site) (site.world b.opening.site) (Since site b)
+  site_kept = record {
+    now = record { graph = kept.now.graph; reads = kept.now.reads; kept = kept_more (site.known b.opening.site) (site.known b.site) also runner.next language kept.now.graph kept.now.kept };
+    later = λ w left. (let image = sound.images tells w left in record { graph = image.2; reads = in_bytes image.2 w.store image.3.store; kept = graph_kept image.2 image.3.come });
+    sources = λ w k left reads path.
+        (let image = sound.images tells w left in
+        (image_stays site runner b sound tells runner.next language (site.known b.opening.site) kept is_graph earlier present image.0 w image.1 image.2 image.3 k reads).sources path
+        ∙ ap (λ (x : GraphState). file_beside (site.world b.opening.site) x path) first_graph_is);
+    own = λ w k path owned left reads is.
+        (let image = sound.images tells w left in
+        (image_stays site runner b sound tells runner.next language (site.known b.opening.site) kept is_graph earlier present image.0 w image.1 image.2 image.3 k reads).own path owned is);
+  }
+
+  -- ---- beside the site as it is, where no commit was lost
+  module _ (none : b.lost ≡ None) (graph_now : IsGraphOf (entries_in b.graph.table) b.graph.nodes)
+      (earlier_now : (t u : ℕ) (w : World) → t ≤ u → site.left_since b.site u w → site.left_since b.site t w) (present_now : LeftNow site b.site (site.world b.site)) where
+    since : (w : World) → LeftNow site b.site w → Since site b w
+    since w left = earlier_now (site.moment b.opening.site) (site.moment b.site) w (sound.later tells) left
+
+    -- each world that a crash now may leave has the board's graph
+    has_now : (w : World) → LeftNow site b.site w → IsGraphIn w.store b.graph.nodes
+    has_now w left =
+        in_bytes b.graph.nodes w.store
+        (⊎_elim (λ (is : IsStoreOf b.graph.nodes w.store). is) (λ (is : IsStoreOf b.graph.nodes w.store). is)
+        ((as_it_was site.world site.moment site.left_since b.graph.table b.graph.nodes b.site (sound.stands tells none) graph_now b.graph.nodes).only.each w left))
+
+    now_is : (sound.now tells).0 ≡ b.graph.nodes
+    now_is = one_in_bytes (site.world b.site).store (sound.now tells).0 b.graph.nodes (in_bytes (sound.now tells).0 (site.world b.site).store (sound.now tells).1.store) (has_now (site.world b.site) present_now)
+
+    image_now : (g : GraphState) → b.graph.nodes ≡ g → IsImageOver b (site.world b.opening.site) (site.world b.site) g
+    image_now g same = subst (IsImageOver b (site.world b.opening.site) (site.world b.site)) (now_is ∙ same) (sound.now tells).1
+
+    holds_now : (w : World) (k : GraphState) (path : Names) (owned : Owned) → LeftNow site b.site w → IsGraphIn w.store k → finite.get k.owned path ≡ Some owned → HoldsItsOwn (site.world b.site) w path owned
+    holds_now w k path owned left reads is =
+        let image = sound.images tells w (since w left) in
+        let mine : b.graph.nodes ≡ image.2 = one_in_bytes w.store b.graph.nodes image.2 (has_now w left) (in_bytes image.2 w.store image.3.store) in
+        let theirs : k ≡ image.2 = one_in_bytes w.store k image.2 reads (in_bytes image.2 w.store image.3.store) in
+        let present_image = image_now image.2 mine in
+        image_own site runner b sound tells runner.next language (site.known b.opening.site) kept is_graph earlier present image.0 w image.1 image.2 image.3 (site.world b.site)
+        (λ q free. present_image.others q free) (λ number q makes flagged. present_image.unmade number q makes flagged) path owned
+        (subst (λ (x : GraphState). finite.get x.owned path ≡ Some owned) theirs is)
+
+    here : IsKeptWorld runner.next language (site.known b.site) (site.world b.site)
+    here = site_kept.later (site.world b.site) (since (site.world b.site) present_now)
+
+    pub kept_now : IsKeptNow site runner.next language (site.known b.site) b.site
+    kept_now = record {
+      now = here;
+      later = λ w left. site_kept.later w (since w left);
+      sources = λ w k left reads path. site_kept.sources w k (since w left) reads path ∙ sym (site_kept.sources (site.world b.site) here.graph (since (site.world b.site) present_now) here.reads path);
+      own = holds_now;
+    }

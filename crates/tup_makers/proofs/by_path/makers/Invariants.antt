@@ -1,6 +1,0 @@
-use Rattle.std.proofs.Common.{take}
-use Rattle.tup_makers.specs.Makers.{HasMakers}
-use Rattle.tup_makers.proofs.by_path.makers.Given as goal
-
-abbrev pub invariant-loop-at : goal.invariant-loop-at
-invariant-loop-at l = HasMakers (take l.at l.rules) l.makers

@@ -1,0 +1,34 @@
+//! The rules of a project.
+ghost use Rattle.std.specs.Prelude.{IfOk, IsTrue};
+ghost use Rattle.std.specs.FinMap as finite;
+ghost use Rattle.tup_path.specs.Order.{by_names};
+ghost use Rattle.tup_path.specs.Tree.{IsTree};
+ghost use Rattle.tup_clean.specs.Buildable.{IsBuildable};
+ghost use Rattle.tup_project.specs.Project.{ComeTo};
+
+use crate::fault::ProjectFault;
+use crate::paths::know_outputs;
+use std::alloc::Global;
+use tup_link::link;
+use tup_path::Files;
+use tup_readings::read_folders;
+use tup_rule::Rules;
+
+/// The rules of the project that these sources are, which stand in the order of their paths. The
+/// rules stand in the order of their folders and of their lines.
+///
+/// Faults are looked for in this order: `Parse` of tup.config; `Parse` and `CircularDirs` where
+/// folders are read in the order of their paths, but one that another asks about before that one;
+/// `TooMany` commands; `NoSuchGroup`; `TooMany` declared inputs; `Parse` of a command that stands
+/// twice; `CircularCommands`. A `Memory` may come at any time. Nothing is kept of a refused call.
+pub fn read_all(alloc: Global, sources: &Files) -> Result<Rules, ProjectFault>
+    requires { IsTrue (finite.is_sorted by_names sources.now) }
+    ensures come_to { ComeTo (finite.from_sorted sources.now) result }
+    ensures buildable { IfOk result (λ rules. IsTree (finite.from_sorted sources.now)
+        → IsBuildable (finite.from_sorted sources.now) rules) }
+{
+    let readings = read_folders(alloc, sources)?;
+    let rules = link(alloc, readings.as_slice())?;
+    know_outputs(rules.as_slice());
+    Ok(rules)
+}

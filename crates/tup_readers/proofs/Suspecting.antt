@@ -1,0 +1,153 @@
+-- Rules whose records tell other stamps than those that are seen, while files and records change.
+use Rattle.std.specs.Prelude.{◌≡◌, ◌⊎◌, ◌↔◌, ℕ, ◌<◌, ◌≤◌, Bool, true, false, cond, List, [], ◌∷◌, ◌++◌, Option, None, Some, Contains, Decides, length}
+use Rattle.std.proofs.Common.{refl, sym, ap, subst, ◌∙◌, inl, inr, take, get_or}
+use Rattle.std.proofs.lemmas.List.{get_or_default, take_all}
+use Rattle.std.proofs.lemmas.List.Elements.{Contains-push, Contains-push_cases, Contains-append_left}
+use Rattle.std.specs.BTreeSet.{BTreeSet}
+use Rattle.std.specs.Cmp.{nat_cmp_total}
+use Rattle.std.specs.FinMap as finite
+use Rattle.std.specs.FinMap.{nat_cmp-IsAntisymmetric}
+use Rattle.std.specs.Ordering.{eq_by_cmp, nat_cmp}
+use Rattle.tup_path.specs.Name.{Names}
+use Rattle.tup_path.specs.Order.{by_names, by_names-antisymmetric, by_names-total}
+use Rattle.tup_stamp.specs.declared.Stamp.{Stamp}
+use Rattle.tup_record.specs.declared.run.RunRecord.{RunRecord}
+use Rattle.tup_readers.specs.Changes.{Adds, Takes}
+use Rattle.tup_readers.specs.Index.{AreUsers, IsUser}
+use Rattle.tup_readers.specs.Suspects.{AskedOther, HasAllOthers, HasOthersOf, IsAmong, Runs, Stamps, TellsOther, WroteOther}
+use Rattle.tup_readers.specs.Sets.{is_in}
+use Rattle.tup_readers.specs.declared.users.Users.{Users}
+use Rattle.tup_readers.proofs.Adding.{added_twice}
+use Rattle.tup_readers.proofs.Answering.{all_listed}
+use Rattle.tup_readers.proofs.Entries.{entry_found, exact-decides, none_in}
+use Rattle.tup_readers.proofs.Keeping.{none_some, some_same, true_false}
+
+same_path : (q path : Names) → eq_by_cmp by_names q path ≡ true → q ≡ path
+same_path q path e = (exact-decides by_names-total by_names-antisymmetric q path).0 e
+
+other_path : (q path : Names) → eq_by_cmp by_names q path ≡ false → q ≡ path → ⊥
+other_path q path e same = true_false (sym ((exact-decides by_names-total by_names-antisymmetric q path).1 same) ∙ e)
+
+same_number : (n number : ℕ) → eq_by_cmp nat_cmp n number ≡ true → n ≡ number
+same_number n number e = (exact-decides nat_cmp_total nat_cmp-IsAntisymmetric n number).0 e
+
+other_number : (n number : ℕ) → eq_by_cmp nat_cmp n number ≡ false → n ≡ number → ⊥
+other_number n number e same = true_false (sym ((exact-decides nat_cmp_total nat_cmp-IsAntisymmetric n number).1 same) ∙ e)
+
+-- ---- an ask was told another stamp
+
+module _ (seen : Stamps) (asks : List (Names × Option Stamp)) where
+  pub other_here : (i : ℕ) (ask d : Names × Option Stamp) → i < length asks → ask ≡ get_or asks i d → (ask.1 ≡ finite.get seen ask.0 → ⊥) → Decides true (AskedOther seen asks)
+  other_here i ask d less here other = (λ _. (ask.0, ask.1, (i, less, get_or_default asks i ask d less ∙ sym here), other), λ _. refl)
+
+  pub none_other : (i : ℕ) → length asks ≤ i → (AskedOther seen (take i asks) → ⊥) → Decides false (AskedOther seen asks)
+  none_other i whole none = (λ e. absurd (true_false (sym e)), λ h. absurd (none (subst (AskedOther seen) (sym (take_all i asks whole)) h)))
+
+-- ---- a file has another stamp
+
+pub put_elsewhere : (seen : Stamps) (path : Names) (stamp : Stamp) (q : Names) → (q ≡ path → ⊥) → finite.get (finite.insert seen path stamp) q ≡ finite.get seen q
+put_elsewhere seen path stamp q apart = finite.get-insert by_names-total seen path stamp q ∙ either (eq_by_cmp by_names q path) refl
+  where
+    either : (b : Bool) → eq_by_cmp by_names q path ≡ b → cond b (Some stamp) (finite.get seen q) ≡ finite.get seen q
+    either true e = absurd (apart (same_path q path e))
+    either false e = refl
+
+pub gone_elsewhere : (seen : Stamps) (path q : Names) → (q ≡ path → ⊥) → finite.get (finite.remove seen path) q ≡ finite.get seen q
+gone_elsewhere seen path q apart = finite.get-remove by_names-total seen path q ∙ either (eq_by_cmp by_names q path) refl
+  where
+    either : (b : Bool) → eq_by_cmp by_names q path ≡ b → cond b None (finite.get seen q) ≡ finite.get seen q
+    either true e = absurd (apart (same_path q path e))
+    either false e = refl
+
+module _ (seen later : Stamps) (runs : Runs) (users : Users) (path : Names) (old new : BTreeSet ℕ) where
+  pub seen_moved : ((q : Names) → (q ≡ path → ⊥) → finite.get later q ≡ finite.get seen q) → AreUsers runs users → HasAllOthers seen runs old → Adds (IsUser users path) (IsAmong old) (IsAmong new) → HasAllOthers later runs new
+  seen_moved elsewhere are all added number run here other = elim other [ inl asks ↦ asked asks | inr wrote ↦ written wrote ]
+    where
+      asked : AskedOther later run.asks → IsAmong new number
+      asked (q, given, in_it, differs) = either (eq_by_cmp by_names q path) refl
+        where
+          either : (b : Bool) → eq_by_cmp by_names q path ≡ b → IsAmong new number
+          either true e = (added number).1 (inr (inl ((are.0 (path, number)).1 (run, here, (q, given), in_it, same_path q path e))))
+          either false e = (added number).1 (inl (all number run here (inl (q, given, in_it, λ is. differs (is ∙ sym (elsewhere q (other_path q path e)))))))
+
+      written : WroteOther later run.writes → IsAmong new number
+      written (q, given, in_it, differs) = either (eq_by_cmp by_names q path) refl
+        where
+          either : (b : Bool) → eq_by_cmp by_names q path ≡ b → IsAmong new number
+          either true e = (added number).1 (inr (inr ((are.1 (path, number)).1 (run, here, (q, given), in_it, same_path q path e))))
+          either false e = (added number).1 (inl (all number run here (inr (q, given, in_it, λ is. differs (is ∙ sym (elsewhere q (other_path q path e)))))))
+
+-- ---- a record goes, or comes
+
+module _ (seen : Stamps) (runs : Runs) (number : ℕ) (old new : BTreeSet ℕ) where
+  without : (n : ℕ) (b : Bool) → eq_by_cmp nat_cmp n number ≡ b → finite.get (finite.remove runs number) n ≡ cond b None (finite.get runs n)
+  without n b e = finite.get-remove nat_cmp_total runs number n ∙ ap (λ c. cond c None (finite.get runs n)) e
+
+  pub run_gone : HasAllOthers seen runs old → Takes (λ n. n ≡ number) (IsAmong old) (IsAmong new) → HasAllOthers seen (finite.remove runs number) new
+  run_gone all takes n run here other = either (eq_by_cmp nat_cmp n number) refl
+    where
+      either : (b : Bool) → eq_by_cmp nat_cmp n number ≡ b → IsAmong new n
+      either true e = absurd (none_some run (sym (without n true e) ∙ here))
+      either false e = (takes n).1 (all n run (sym (without n false e) ∙ here) other, other_number n number e)
+
+  pub run_put : (fresh : RunRecord) → HasAllOthers seen (finite.remove runs number) old → Adds (λ n. (n ≡ number) × TellsOther seen fresh) (IsAmong old) (IsAmong new) → HasAllOthers seen (finite.insert runs number fresh) new
+  run_put fresh all added n run here other = either (eq_by_cmp nat_cmp n number) refl
+    where
+      within : (b : Bool) → eq_by_cmp nat_cmp n number ≡ b → finite.get (finite.insert runs number fresh) n ≡ cond b (Some fresh) (finite.get runs n)
+      within b e = finite.get-insert nat_cmp_total runs number fresh n ∙ ap (λ c. cond c (Some fresh) (finite.get runs n)) e
+
+      either : (b : Bool) → eq_by_cmp nat_cmp n number ≡ b → IsAmong new n
+      either true e = (added n).1 (inr (same_number n number e, subst (TellsOther seen) (some_same run fresh (sym here ∙ within true e)) other))
+      either false e = (added n).1 (inl (all n run (without n false e ∙ sym (within false e) ∙ here) other))
+
+-- ---- one record after another
+
+pub entry_looked : (seen : Stamps) (entries : List (ℕ × RunRecord)) (number : ℕ) (run : RunRecord) (old new : BTreeSet ℕ) → HasOthersOf seen entries old → Adds (λ n. (n ≡ number) × TellsOther seen run) (IsAmong old) (IsAmong new)
+    → HasOthersOf seen (entries ++ (number, run) ∷ []) new
+entry_looked seen entries number run old new all added n r h other = elim (Contains-push_cases entries (number, run) (n, r) h) [
+  | inl before ↦ (added n).1 (inl (all n r before other))
+  | inr last ↦ (added n).1 (inr (ap (λ (x : ℕ × RunRecord). x.0) (sym last), subst (TellsOther seen) (ap (λ (x : ℕ × RunRecord). x.1) (sym last)) other))
+]
+
+pub none_looked : (seen : Stamps) (numbers : BTreeSet ℕ) → HasOthersOf seen [] numbers
+none_looked seen numbers n r h other = absurd (none_in (n, r) h)
+
+pub all_looked : (seen : Stamps) (runs : Runs) (entries : List (ℕ × RunRecord)) (numbers : BTreeSet ℕ) → entries ≡ finite.entries runs → HasOthersOf seen entries numbers → HasAllOthers seen runs numbers
+all_looked seen runs entries numbers are of n run here other =
+    of n run (subst (λ (l : List (ℕ × RunRecord)). Contains l (n, run)) (sym are) (entry_found nat_cmp_total nat_cmp-IsAntisymmetric runs n run here)) other
+
+pub nobody_runs : (seen : Stamps) (numbers : BTreeSet ℕ) → HasAllOthers seen finite.empty numbers
+nobody_runs seen numbers n run here other = absurd (none_some run (sym (finite.get-empty nat_cmp n) ∙ here))
+
+-- ---- numbers are added
+
+pub no_numbers : (Old : ℕ → Type 0) → Adds (λ n. Contains [] n) Old Old
+no_numbers Old n = (λ now. inl now, λ e. elim e [ inl old ↦ old | inr h ↦ absurd (none_in n h) ])
+
+pub number_added : {Old Mid New : ℕ → Type 0} → (list : List ℕ) (number : ℕ) → Adds (Contains list) Old Mid → Adds (λ n. n ≡ number) Mid New → Adds (Contains (list ++ number ∷ [])) Old New
+number_added list number = added_twice both
+  where
+    both : (n : ℕ) → Contains (list ++ number ∷ []) n ↔ (Contains list n ⊎ (n ≡ number))
+    both n = (
+      λ h. elim (Contains-push_cases list number n h) [ inl before ↦ inl before | inr last ↦ inr (sym last) ],
+      λ e. elim e [
+        | inl before ↦ Contains-append_left list (number ∷ []) n before
+        | inr is ↦ subst (Contains (list ++ number ∷ [])) (sym is) (Contains-push list number)
+      ],
+    )
+
+-- those of a set, if there is one
+member : (set : BTreeSet ℕ) (n : ℕ) → Contains set.keys n ↔ (is_in nat_cmp (Some set) n ≡ true)
+member set n = all_listed nat_cmp nat_cmp_total nat_cmp-IsAntisymmetric set.keys (Some set) refl n
+
+pub set_added : {Old New : ℕ → Type 0} → (found : Option (BTreeSet ℕ)) (set : BTreeSet ℕ) → found ≡ Some set → Adds (Contains set.keys) Old New → Adds (λ n. is_in nat_cmp found n ≡ true) Old New
+set_added {Old} {New} found set is added n = subst (λ (o : Option (BTreeSet ℕ)). New n ↔ (Old n ⊎ (is_in nat_cmp o n ≡ true))) (sym is) (
+  λ now. elim ((added n).0 now) [ inl old ↦ inl old | inr h ↦ inr ((member set n).0 h) ],
+  λ e. elim e [ inl old ↦ (added n).1 (inl old) | inr h ↦ (added n).1 (inr ((member set n).1 h)) ],
+)
+
+pub none_added : (Old : ℕ → Type 0) (found : Option (BTreeSet ℕ)) → found ≡ None → Adds (λ n. is_in nat_cmp found n ≡ true) Old Old
+none_added Old found is n = (
+  λ now. inl now,
+  λ e. elim e [ inl old ↦ old | inr h ↦ absurd (true_false (sym h ∙ ap (λ (o : Option (BTreeSet ℕ)). is_in nat_cmp o n) is)) ],
+)

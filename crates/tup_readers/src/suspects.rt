@@ -1,0 +1,216 @@
+//! Rules whose records may no longer tell what is seen.
+ghost use Rattle.std.specs.Prelude.{◌≡◌, true, Contains, IfOk, OnOk};
+ghost use Rattle.std.specs.Bool.{Decides};
+ghost use Rattle.std.specs.FinMap as finite;
+ghost use Rattle.std.specs.Option.{option_copied};
+ghost use Rattle.std.specs.Ordering.{nat_cmp};
+ghost use Rattle.tup_graph.specs.Edits.{edited, without};
+ghost use Rattle.tup_graph.specs.Opening.{put as put_of};
+ghost use Rattle.tup_readers.specs.Changes.{Adds, Takes};
+ghost use Rattle.tup_readers.specs.Index.{AreUsers, IsUser};
+ghost use Rattle.tup_readers.specs.Sets.{is_in};
+ghost use Rattle.tup_readers.specs.Suspects.{AreSuspects, AskedOther, IsAmong, TellsOther, WroteOther};
+
+use crate::users::Users;
+use std::alloc::{AllocError, Global};
+use std::collections::BTreeSet;
+use tup_graph::{Edit, Nodes};
+use tup_path::Path;
+use tup_record::{Record, RunRecord};
+use tup_stamp::Stamp;
+
+/// Rules whose records may tell other stamps than those that are seen; all that do are among them.
+#[derive(Drop)]
+pub(crate) struct Suspects {
+    pub(crate) numbers: BTreeSet<u32>,
+}
+
+impl Suspects {
+    /// None; it takes no memory.
+    pub(crate) fn new(alloc: Global) -> Suspects
+        ensures { AreSuspects finite.empty finite.empty result }
+    {
+        Suspects {
+            numbers: BTreeSet::new(alloc),
+        }
+    }
+
+    /// The rules whose records tell other stamps than those that are seen, in one pass over the records.
+    pub(crate) fn of_nodes(alloc: Global, nodes: &Nodes) -> Result<Suspects, AllocError>
+        ensures { IfOk result (AreSuspects nodes.now.seen nodes.now.runs) }
+    {
+        let mut suspects = Suspects::new(alloc);
+        for (number, run) in nodes.runs() {
+            suspects.look(nodes, *number, run)?;
+        }
+        Ok(suspects)
+    }
+
+    /// Takes in what an edit does to a graph, which is given as it is before, with the users of its paths.
+    pub(crate) fn edit(
+        &mut self,
+        nodes: &Nodes,
+        users: &Users,
+        edit: &Edit,
+    ) -> Result<(), AllocError>
+        requires suspects { AreSuspects nodes.now.seen nodes.now.runs self.old }
+        requires users { AreUsers nodes.now.runs users.now }
+        ensures { OnOk result (AreSuspects (edited nodes.now edit.now).seen
+            (edited nodes.now edit.now).runs self.new) }
+    {
+        match edit {
+            Edit::Put(found) => self.put(nodes, users, found),
+            Edit::Remove(gone) => self.leave_out(nodes, users, gone),
+        }
+    }
+
+    /// Takes in that a record stands, in the place of the one that stood under its key.
+    fn put(&mut self, nodes: &Nodes, users: &Users, found: &Record) -> Result<(), AllocError>
+        requires suspects { AreSuspects nodes.now.seen nodes.now.runs self.old }
+        requires users { AreUsers nodes.now.runs users.now }
+        ensures { OnOk result (AreSuspects (put_of nodes.now found.now).seen
+            (put_of nodes.now found.now).runs self.new) }
+    {
+        match found {
+            Record::Seen { path, .. } => self.add_users(users, path),
+            Record::Run { number, run } => self.renew(nodes, *number, run),
+            _ => Ok(()),
+        }
+    }
+
+    /// Takes in that what stands under the key of a record goes.
+    fn leave_out(&mut self, nodes: &Nodes, users: &Users, gone: &Record) -> Result<(), AllocError>
+        requires suspects { AreSuspects nodes.now.seen nodes.now.runs self.old }
+        requires users { AreUsers nodes.now.runs users.now }
+        ensures { OnOk result (AreSuspects (without nodes.now gone.now).seen
+            (without nodes.now gone.now).runs self.new) }
+    {
+        match gone {
+            Record::Seen { path, .. } => self.add_users(users, path),
+            Record::Run { number, .. } => {
+                self.acquit(nodes, *number);
+                Ok(())
+            }
+            _ => Ok(()),
+        }
+    }
+
+    /// A rule has this record from now on.
+    fn renew(&mut self, nodes: &Nodes, number: u32, run: &RunRecord) -> Result<(), AllocError>
+        requires { AreSuspects nodes.now.seen nodes.now.runs self.old }
+        ensures { OnOk result (AreSuspects nodes.now.seen
+            (finite.insert nodes.now.runs number run.now) self.new) }
+    {
+        self.acquit(nodes, number);
+        self.look(nodes, number, run)
+    }
+
+    /// A rule has no record from now on.
+    fn acquit(&mut self, nodes: &Nodes, number: u32)
+        requires { AreSuspects nodes.now.seen nodes.now.runs self.old }
+        ensures { AreSuspects nodes.now.seen (finite.remove nodes.now.runs number) self.new }
+    {
+        self.remove(number);
+    }
+
+    /// Adds a rule, if its record tells another stamp than that which is seen.
+    fn look(&mut self, nodes: &Nodes, number: u32, run: &RunRecord) -> Result<(), AllocError>
+        ensures { OnOk result (Adds (λ other. (other ≡ number) × TellsOther nodes.now.seen run.now)
+            (IsAmong self.old.numbers) (IsAmong self.new.numbers)) }
+    {
+        if tells_other(nodes, run) {
+            return self.add(number);
+        }
+        Ok(())
+    }
+
+    /// Adds the rules whose records ask or wrote a path.
+    fn add_users(&mut self, users: &Users, path: &Path) -> Result<(), AllocError>
+        ensures { OnOk result (Adds (IsUser users.now path.now)
+            (IsAmong self.old.numbers) (IsAmong self.new.numbers)) }
+    {
+        self.add_all(users.readers(path))?;
+        self.add_all(users.writers(path))
+    }
+
+    /// Adds the rules of a set, if there is one.
+    fn add_all(&mut self, numbers: Option<&BTreeSet<u32>>) -> Result<(), AllocError>
+        ensures { OnOk result
+            (Adds (λ number. is_in nat_cmp (option_copied numbers.entry) number ≡ true)
+            (IsAmong self.old.numbers) (IsAmong self.new.numbers)) }
+    {
+        match numbers {
+            Some(set) => self.add_set(set),
+            None => Ok(()),
+        }
+    }
+
+    /// Adds the rules of a set.
+    fn add_set(&mut self, set: &BTreeSet<u32>) -> Result<(), AllocError>
+        ensures { OnOk result (Adds (Contains set.now.keys)
+            (IsAmong self.old.numbers) (IsAmong self.new.numbers)) }
+    {
+        for number in set {
+            self.add(*number)?;
+        }
+        Ok(())
+    }
+
+    /// Adds a rule.
+    fn add(&mut self, number: u32) -> Result<(), AllocError>
+        ensures { OnOk result (Adds (λ other. other ≡ number)
+            (IsAmong self.old.numbers) (IsAmong self.new.numbers)) }
+    {
+        self.numbers.insert(number)?;
+        Ok(())
+    }
+
+    /// Takes a rule away, if it is there.
+    fn remove(&mut self, number: u32)
+        ensures { Takes (λ other. other ≡ number)
+            (IsAmong self.old.numbers) (IsAmong self.new.numbers) }
+    {
+        self.numbers.remove(&number);
+    }
+}
+
+/// Whether a record tells another stamp of a path than that which is seen.
+fn tells_other(nodes: &Nodes, run: &RunRecord) -> bool
+    ensures { Decides result (TellsOther nodes.now.seen run.now) }
+{
+    if asked_other(nodes, run.asks.as_slice()) {
+        return true;
+    }
+    wrote_other(nodes, run.writes.as_slice())
+}
+
+/// Whether one of some asks was told another stamp than that which is seen.
+fn asked_other(nodes: &Nodes, asks: &[(Path, Option<Stamp>)]) -> bool
+    ensures { Decides result (AskedOther nodes.now.seen asks.now) }
+{
+    for (path, given) in asks {
+        if !sees(nodes, path, *given) {
+            return true;
+        }
+    }
+    false
+}
+
+/// Whether one of some files was written with another stamp than that which is seen.
+fn wrote_other(nodes: &Nodes, files: &[(Path, Stamp)]) -> bool
+    ensures { Decides result (WroteOther nodes.now.seen files.now) }
+{
+    for (path, given) in files {
+        if !sees(nodes, path, Some(*given)) {
+            return true;
+        }
+    }
+    false
+}
+
+/// Whether a path is seen with this stamp, or with no file.
+fn sees(nodes: &Nodes, path: &Path, given: Option<Stamp>) -> bool
+    ensures { Decides result (given ≡ finite.get nodes.now.seen path.now) }
+{
+    given == nodes.seen(path)
+}

@@ -1,0 +1,183 @@
+-- The records and the flags that rules keep, and the rules that are to be run.
+use Rattle.std.specs.Prelude.{◌≡◌, ◌⊎◌, ◌↔◌, ℕ, Bool, true, false, List, [], ◌∷◌, ◌++◌, Option, None, Some, Contains, is_none, length, map, option_map, option_to_list, slice_get, unwrap_or, if◌then◌else◌}
+use Rattle.std.proofs.Common.{refl, sym, ap, subst, ◌∙◌, inl, inr}
+use Rattle.std.specs.Ordering.{nat_cmp}
+use Rattle.std.specs.Cmp.{nat_cmp_total}
+use Rattle.std.specs.FinMap as finite
+use Rattle.std.specs.FinMap.{nat_cmp-IsAntisymmetric}
+use Rattle.std.proofs.lemmas.Bool.{lt-ltb}
+use Rattle.std.proofs.lemmas.List.Elements.{Contains-append_left, Contains-append_right, Contains-append_cases}
+use Rattle.std.proofs.lemmas.Option.{none-some, slice_get_within}
+use Rattle.tup_path.specs.Name.{Names}
+use Rattle.tup_rule.specs.declared.rule.Rule.{Rule}
+use Rattle.tup_rule.specs.declared.question.Reading.{Reading}
+use Rattle.tup_rule.proofs.Laws.{among-decides}
+use Rattle.tup_record.specs.declared.run.RunRecord.{RunRecord}
+use Rattle.tup_graph.specs.declared.edit.Edit.{Edit}
+use Rattle.tup_graph.specs.Above.{IsAbove}
+use Rattle.tup_graph.specs.Graph.{GraphState, is_rule, is_flagged}
+use Rattle.tup_graph.specs.Swap.{WasAt, IsNew, IsFlaggedYet, ReadsNew}
+use Rattle.tup_graph.specs.Transactions.{flag_edits}
+use Rattle.tup_closure.specs.Readers.{AreRunsOfRules}
+use Rattle.tup_closure.proofs.Members.{number-decides}
+use Rattle.tup_scan_diff.proofs.Noting.{above_as}
+use Rattle.tup_scan_diff.proofs.Ordered.{in_front, none_in, front_or_behind}
+use Rattle.tup_rule_diff.specs.Before.{AreNumbersBefore, IsNumberBefore}
+use Rattle.tup_rule_diff.specs.Edits.{AreSwapEdits, IsRunNow, IsToRun, clear_edits, led_by, less_edits, more_edits, own_so, reading_edits, run_so}
+use Rattle.tup_rule_diff.specs.Numbered.{numbered}
+use Rattle.tup_rule_diff.specs.Owners.{AreOwned}
+use Rattle.tup_rule_diff.specs.Running.{ReadsOneNew, flag_at, is_new_at, run_at, was_flagged}
+use Rattle.tup_rule_diff.proofs.Leaving.{Owners, led_graph, led_is}
+use Rattle.tup_rule_diff.proofs.Looked.{before_of, rule_of}
+use Rattle.tup_rule_diff.proofs.Numbered.{had_at, is_had_at}
+use Rattle.tup_rule_diff.proofs.Puts.{put_there}
+use Rattle.tup_rule_diff.proofs.Swapping.{one_before}
+
+-- ---- members of short lists, and of lists one behind another
+in_one : {Y : Type 0} (x y : Y) → Contains (x ∷ []) y → x ≡ y
+in_one x y h = elim (front_or_behind x y [] h) [
+  | inl same ↦ same
+  | inr later ↦ absurd (none_in y later)
+]
+
+in_chosen : (b : Bool) (n number : ℕ) → Contains (if b then n ∷ [] else []) number → (b ≡ true) × (n ≡ number)
+in_chosen true n number inside = (refl, in_one n number inside)
+in_chosen false n number inside = absurd (none_in number inside)
+
+in_found : (found : Option RunRecord) (n number : ℕ) (run : RunRecord) → Contains {X = ℕ × RunRecord} (option_to_list (option_map (λ (r : RunRecord). (n, r)) found)) (number, run) → (n ≡ number) × (found ≡ Some run)
+in_found None n number run inside = absurd (none_in (number, run) inside)
+in_found (Some one) n number run inside = let same = in_one (n, one) (number, run) inside in ((λ k. (same k).0), (λ k. Some (same k).1))
+
+-- ---- a rule and the number that it had
+module _ (g : GraphState) (rule : Rule) where
+  abbrev IsFlaggedSo : Type 0
+  IsFlaggedSo = IsNew g rule ⊎ ((before : ℕ) × WasAt g rule before × (is_flagged g before ≡ true))
+
+  yet : (before : Option ℕ) → IsNumberBefore g rule before → was_flagged g before ≡ true → IsFlaggedSo
+  yet None new is = inl new
+  yet (Some before) was is = inr (before, was, is)
+
+  still : (before : Option ℕ) → IsNumberBefore g rule before → IsFlaggedSo → was_flagged g before ≡ true
+  still None new why = refl
+  still (Some before) was (inl new) = absurd (new before was.0)
+  still (Some before) was (inr (other, there, flagged)) = ap (is_flagged g) (one_before g rule before other was there) ∙ flagged
+
+  new_so : (before : Option ℕ) → IsNumberBefore g rule before → is_none before ≡ true → IsNew g rule
+  new_so None new e = new
+  new_so (Some before) was e = absurd (let wrong : false ≡ true = e in cc)
+
+  none_so : (before : Option ℕ) → IsNumberBefore g rule before → IsNew g rule → is_none before ≡ true
+  none_so None is new = refl
+  none_so (Some before) was new = absurd (new before was.0)
+
+  run_so_at : (number before : ℕ) (run : RunRecord) (one : Option ℕ) → IsNumberBefore g rule one → WasAt g rule before → finite.get g.runs before ≡ Some run → Contains (run_at g number one) (number, run)
+  run_so_at number before run None new was ran = absurd (new before was.0)
+  run_so_at number before run (Some other) is was ran =
+      subst (λ (found : Option RunRecord). Contains {X = ℕ × RunRecord} (option_to_list (option_map (λ (r : RunRecord). (number, r)) found)) (number, run))
+      (sym (ap (finite.get g.runs) (one_before g rule other before is was) ∙ ran)) (in_front (number, run) [])
+
+module _ (g : GraphState) (rules : List Rule) (befores : List (Option ℕ)) (are : AreNumbersBefore g rules befores) where
+  -- ---- records
+  ran_so : (number : ℕ) (run : RunRecord) (i : ℕ) (rule : Rule) → slice_get rules i ≡ Some rule → (before : Option ℕ) → IsNumberBefore g rule before → Contains (run_at g i before) (number, run) → IsRunNow g rules number run
+  ran_so number run i rule here None new inside = absurd (none_in (number, run) inside)
+  ran_so number run i rule here (Some before) was inside =
+      let is = in_found (finite.get g.runs before) i number run inside in
+      (rule, before, subst (λ (n : ℕ). slice_get rules n ≡ Some rule) is.0 here, was, is.1)
+
+  pub run_to : (number : ℕ) (run : RunRecord) → Contains (numbered (run_at g) 0 befores) (number, run) → IsRunNow g rules number run
+  run_to number run h =
+      let had = had_at (run_at g) befores (number, run) h in
+      let rule = rule_of g rules befores had.0 had.1 are had.2 in
+      ran_so number run had.0 rule.0 rule.1 had.1 rule.2 had.3
+
+  pub run_from : (number : ℕ) (run : RunRecord) → IsRunNow g rules number run → Contains (numbered (run_at g) 0 befores) (number, run)
+  run_from number run is =
+      let before = before_of g rules befores number is.0 are is.2 in
+      is_had_at (run_at g) befores number before.0 (number, run) before.1 (run_so_at g is.0 number is.1 run before.0 before.2 is.3 is.4)
+
+  -- ---- flags that stay
+  module _ (led : GraphState) (same : led.rules ≡ rules) where
+    flag_to : (number : ℕ) → Contains (numbered (flag_at g) 0 befores) number → IsFlaggedYet g led number
+    flag_to number h =
+        let had = had_at (flag_at g) befores number h in
+        let rule = rule_of g rules befores had.0 had.1 are had.2 in
+        let is = in_chosen (was_flagged g had.1) had.0 number had.3 in
+        (rule.0, ap (λ (l : List Rule). slice_get l number) same ∙ ap (slice_get rules) (sym is.1) ∙ rule.1, yet g rule.0 had.1 rule.2 is.0)
+
+    flag_from : (number : ℕ) → IsFlaggedYet g led number → Contains (numbered (flag_at g) 0 befores) number
+    flag_from number is =
+        let before = before_of g rules befores number is.0 are (ap (λ (l : List Rule). slice_get l number) (sym same) ∙ is.1) in
+        is_had_at (flag_at g) befores number before.0 number before.1
+        (subst (λ (b : Bool). Contains (if b then number ∷ [] else []) number) (sym (still g is.0 before.0 before.2 is.2)) (in_front number []))
+
+    -- ---- readers of what new rules make
+    is_new_to : (i : ℕ) (rule : Rule) → slice_get led.rules i ≡ Some rule → is_new_at befores i ≡ true → IsNew g rule
+    is_new_to i rule here new =
+        let before = before_of g rules befores i rule are (ap (λ (l : List Rule). slice_get l i) (sym same) ∙ here) in
+        new_so g rule before.0 before.2 (sym (ap (λ (o : Option (Option ℕ)). unwrap_or (option_map is_none o) false) before.1) ∙ new)
+
+    is_new_from : (i : ℕ) (rule : Rule) → slice_get led.rules i ≡ Some rule → IsNew g rule → is_new_at befores i ≡ true
+    is_new_from i rule here new =
+        let before = before_of g rules befores i rule are (ap (λ (l : List Rule). slice_get l i) (sym same) ∙ here) in
+        ap (λ (o : Option (Option ℕ)). unwrap_or (option_map is_none o) false) before.1 ∙ none_so g rule before.0 before.2 new
+
+    reads_to : (number : ℕ) → ReadsOneNew led befores number → ReadsNew g led number
+    reads_to number (i, rule, here, (new, (path, inside, asked))) = (i, rule, here, is_new_to i rule here new, (path, asked, (among-decides path rule.outputs).1 inside))
+
+    reads_from : (number : ℕ) → ReadsNew g led number → ReadsOneNew led befores number
+    reads_from number (i, rule, here, new, (path, asked, wrote)) = (i, rule, here, (is_new_from i rule here new, (path, (among-decides path rule.outputs).0 wrote, asked)))
+
+    module _ (runs : AreRunsOfRules led) where
+      pub is_root : (number : ℕ) → ReadsOneNew led befores number → is_rule led number ≡ true
+      is_root number (i, rule, here, (new, (path, inside, asked))) = runs number asked.0 asked.2
+
+      -- ---- all that are to be run
+      pub to_run_are : (roots above flags : List ℕ) → ((n : ℕ) → Contains roots n ↔ ReadsOneNew led befores n) → ((n : ℕ) → Contains above n ↔ IsAbove led (Contains roots) n) → flags ≡ above ++ numbered (flag_at g) 0 befores
+          → (n : ℕ) → Contains flags n ↔ IsToRun g led n
+      to_run_are roots above flags rooted over is n = (
+        λ h. elim (Contains-append_cases above (numbered (flag_at g) 0 befores) n (subst (λ (l : List ℕ). Contains l n) is h)) [
+          | inl there ↦ let up = (over n).0 there in inr (up.0, above_as led led (Contains roots) (ReadsNew g led) refl refl (λ root h. reads_to root ((rooted root).0 h)) up.0 n up.1)
+          | inr there ↦ inl (flag_to n there)
+        ],
+        λ to. subst (λ (l : List ℕ). Contains l n) (sym is) (from to),
+      )
+        where
+          from : IsToRun g led n → Contains (above ++ numbered (flag_at g) 0 befores) n
+          from (inl yet) = Contains-append_right above (numbered (flag_at g) 0 befores) n (flag_from n yet)
+          from (inr up) =
+              Contains-append_left above (numbered (flag_at g) 0 befores) n
+              ((over n).1 (up.0, above_as led led (ReadsNew g led) (Contains roots) refl refl (λ root reads. (rooted root).1 (reads_from root reads)) up.0 n up.1))
+
+  -- ---- the graph of the rules and of the records that they keep
+  module _ (runs : List (ℕ × RunRecord)) (kept : runs ≡ numbered (run_at g) 0 befores) where
+    ran_in : (number : ℕ) (run : RunRecord) → Contains runs (number, run) ⊎ (finite.get {R = nat_cmp} finite.empty number ≡ Some run) → is_rule (led_graph rules runs) number ≡ true
+    ran_in number run (inl there) =
+        let is = run_to number run (subst (λ (l : List (ℕ × RunRecord)). Contains l (number, run)) kept there) in
+        lt-ltb number (length rules) (slice_get_within rules number is.0 is.2)
+    ran_in number run (inr none) = absurd (none-some run (sym (finite.get-empty nat_cmp number) ∙ none))
+
+    pub led_runs : AreRunsOfRules (led_by rules runs)
+    led_runs = subst AreRunsOfRules (sym (led_is rules runs)) (λ number run e.
+        ran_in number run (put_there nat_cmp_total nat_cmp-IsAntisymmetric number-decides runs finite.empty number run e))
+
+    pub led_rules : (led_by rules runs).rules ≡ rules
+    led_rules = ap (λ (l : GraphState). l.rules) (led_is rules runs)
+
+    -- ---- all edits
+    pub are_edits : (fresh : List (Names × Reading)) (gone : List Names) (owned : Owners) (flags : List ℕ) (start away edits : List Edit) → AreOwned rules g.owned owned → ((n : ℕ) → Contains flags n ↔ IsToRun g (led_by rules runs) n)
+        → start ≡ [] → away ≡ start ++ clear_edits g ++ reading_edits g fresh gone ++ less_edits 0 g.rules
+        → edits ≡ away ++ more_edits [] rules ++ map run_so runs ++ map own_so (finite.entries owned) ++ flag_edits flags → AreSwapEdits g fresh gone rules edits
+    are_edits fresh gone owned flags start away edits owners to_run none first second = record {
+      runs = runs;
+      owned = owned;
+      flags = flags;
+      runs_are = λ number run. (
+        λ h. run_to number run (subst (λ (l : List (ℕ × RunRecord)). Contains l (number, run)) kept h),
+        λ is. subst (λ (l : List (ℕ × RunRecord)). Contains l (number, run)) (sym kept) (run_from number run is),
+      );
+      owned_are = owners;
+      flags_are = to_run;
+      all =
+          second ∙ (λ i. first i ++ more_edits [] rules ++ map run_so runs ++ map own_so (finite.entries owned) ++ flag_edits flags)
+          ∙ (λ i. none i ++ clear_edits g ++ reading_edits g fresh gone ++ less_edits 0 g.rules ++ more_edits [] rules ++ map run_so runs ++ map own_so (finite.entries owned) ++ flag_edits flags);
+    }

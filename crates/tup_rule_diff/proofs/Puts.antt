@@ -1,0 +1,132 @@
+-- Finite maps into which entries are put one after another, and from which they are taken.
+use Rattle.std.specs.Prelude.{◌≡◌, ◌⊎◌, ◌&&◌, Bool, true, false, cond, List, [], ◌∷◌, Option, None, Some, Contains, Decides, fold, is_some}
+use Rattle.std.proofs.Common.{refl, sym, ap, subst, ◌∙◌, inl, inr}
+use Rattle.std.specs.declared.cmp.Ordering.{Ordering}
+use Rattle.std.specs.declared.cmp.Ordering.TheVariants.{Less, Equal, Greater}
+use Rattle.std.specs.Ordering.{eq_by_cmp, is_eq, is_lt}
+use Rattle.std.specs.Cmp.{IsTotalOrder}
+use Rattle.std.specs.FinMap as finite
+use Rattle.std.specs.FinMap.{FinMap, IsAntisymmetric, find, is_sorted}
+use Rattle.std.specs.FinMap.Entries.{below_all}
+use Rattle.std.proofs.Math.Dec.{T}
+use Rattle.tup_scan_diff.proofs.Ordered.{in_front, behind_front, front_or_behind, none_in}
+
+t_true : (b : Bool) → T b → b ≡ true
+t_true true t = refl
+t_true false t = absurd t
+
+both_true : (a b : Bool) → (a && b) ≡ true → (a ≡ true) × (b ≡ true)
+both_true true b e = (refl, e)
+both_true false b e = absurd (let wrong : false ≡ true = e in cc)
+
+not_same : {K : Type 0} (R : K → K → Ordering) (a b : K) → is_lt (R a b) ≡ true → eq_by_cmp R a b ≡ false
+not_same R a b less = by (R a b) less
+  where
+    by : (r : Ordering) → is_lt r ≡ true → is_eq r ≡ false
+    by Less e = refl
+    by Equal e = absurd (let wrong : false ≡ true = e in cc)
+    by Greater e = refl
+
+module _ {K X : Type 0} {R : K → K → Ordering} (o : IsTotalOrder R) (exact : IsAntisymmetric R) (decides : (x y : K) → Decides (eq_by_cmp R x y) (x ≡ y)) where
+  abbrev pub put_one : FinMap R X → K × X → FinMap R X
+  put_one m e = finite.insert m e.0 e.1
+
+  abbrev pub take_one : FinMap R X → K × X → FinMap R X
+  take_one m e = finite.remove m e.0
+
+  -- ---- all is taken
+  still_none : (f b : Bool) (x : X) (found got : Option X) → cond (is_some found) None (cond b None got) ≡ cond (is_some (cond b (Some x) found)) None got
+  still_none f true x None got = refl
+  still_none f true x (Some y) got = refl
+  still_none f false x found got = refl
+
+  get_taken : (es : List (K × X)) (m : FinMap R X) (q : K) → finite.get (fold take_one m es) q ≡ cond (is_some (find R q es)) None (finite.get m q)
+  get_taken [] m q = refl
+  get_taken (e ∷ es) m q =
+      get_taken es (take_one m e) q
+      ∙ ap (cond (is_some (find R q es)) None) (finite.get-remove o m e.0 q)
+      ∙ still_none true (eq_by_cmp R q e.0) e.1 (find R q es) (finite.get m q)
+
+  nothing_left : (found : Option X) → cond (is_some found) None found ≡ None
+  nothing_left None = refl
+  nothing_left (Some x) = refl
+
+  pub all_taken : (m : FinMap R X) → fold take_one m (finite.entries m) ≡ finite.empty
+  all_taken m = finite.same_map o exact _ _ (λ q.
+      get_taken (finite.entries m) m q ∙ ap (cond (is_some (find R q (finite.entries m))) None) (finite.get-entries m q)
+      ∙ nothing_left (find R q (finite.entries m)) ∙ sym (finite.get-empty R q))
+
+  -- ---- each key is put once
+  abbrev pub Once : List (K × X) → Type 0
+  Once [] = Unit {0}
+  Once (e ∷ es) = (find R e.0 es ≡ None) × Once es
+
+  abbrev pub first_or : Option X → Option X → Option X
+  first_or (Some x) got = Some x
+  first_or None got = got
+
+  later_or : (b : Bool) (x : X) (found got : Option X) → (b ≡ true → found ≡ None) → first_or found (cond b (Some x) got) ≡ first_or (cond b (Some x) found) got
+  later_or true x found got none = ap (λ (f : Option X). first_or f (Some x)) (none refl)
+  later_or false x found got none = refl
+
+  pub get_put : (es : List (K × X)) → Once es → (m : FinMap R X) (q : K) → finite.get (fold put_one m es) q ≡ first_or (find R q es) (finite.get m q)
+  get_put [] once m q = refl
+  get_put (e ∷ es) once m q =
+      get_put es once.1 (put_one m e) q
+      ∙ ap (first_or (find R q es)) (finite.get-insert o m e.0 e.1 q)
+      ∙ later_or (eq_by_cmp R q e.0) e.1 (find R q es) (finite.get m q) (λ same. ap (λ (k : K). find R k es) ((decides q e.0).0 same) ∙ once.0)
+
+  none_below : (k : K) (es : List (K × X)) → below_all R k es ≡ true → find R k es ≡ None
+  none_below k [] up = refl
+  none_below k (e ∷ es) up =
+      let parts = both_true (is_lt (R k e.0)) (below_all R k es) up in
+      ap (λ (b : Bool). cond b (Some e.1) (find R k es)) (not_same R k e.0 parts.0) ∙ none_below k es parts.1
+
+  sorted_once : (es : List (K × X)) → is_sorted R es ≡ true → Once es
+  sorted_once [] up = tt
+  sorted_once (e ∷ es) up =
+      let parts = both_true (below_all R e.0 es) (is_sorted R es) up in
+      (none_below e.0 es parts.0, sorted_once es parts.1)
+
+  pub once_sorted : (m : FinMap R X) → Once (finite.entries m)
+  once_sorted m = sorted_once (finite.entries m) (t_true (is_sorted R (finite.entries m)) (finite.entries_sorted m))
+
+  pub or_none : (found : Option X) → first_or found None ≡ found
+  or_none None = refl
+  or_none (Some x) = refl
+
+  pub all_put : (m : FinMap R X) → fold put_one finite.empty (finite.entries m) ≡ m
+  all_put m = finite.same_map o exact _ _ (λ q.
+      get_put (finite.entries m) (once_sorted m) finite.empty q
+      ∙ ap (first_or (find R q (finite.entries m))) (finite.get-empty R q) ∙ or_none (find R q (finite.entries m)) ∙ sym (finite.get-entries m q))
+
+  -- ---- what was put is there
+  pub put_there : (es : List (K × X)) (m : FinMap R X) (q : K) (x : X) → finite.get (fold put_one m es) q ≡ Some x → Contains es (q, x) ⊎ (finite.get m q ≡ Some x)
+  put_there [] m q x e = inr e
+  put_there (first ∷ es) m q x e = elim (put_there es (put_one m first) q x e) [
+    | inl later ↦ inl (behind_front first (q, x) es later)
+    | inr here ↦ by (eq_by_cmp R q first.0) refl (sym (finite.get-insert o m first.0 first.1 q) ∙ here)
+  ]
+    where
+      by : (b : Bool) → eq_by_cmp R q first.0 ≡ b → cond b (Some first.1) (finite.get m q) ≡ Some x → Contains (first ∷ es) (q, x) ⊎ (finite.get m q ≡ Some x)
+      by true same e =
+          let value : first.1 ≡ x = cc in
+          inl (subst (Contains (first ∷ es)) (λ i. (sym ((decides q first.0).0 same) i, value i)) (in_front first es))
+      by false apart e = inr e
+
+  still_there : (es : List (K × X)) (m : FinMap R X) (q : K) (x : X) → finite.get m q ≡ Some x → (y : X) × (finite.get (fold put_one m es) q ≡ Some y)
+  still_there [] m q x e = (x, e)
+  still_there (first ∷ es) m q x e = by (still_there es (put_one m first) q) (eq_by_cmp R q first.0) refl
+    where
+      by : ((z : X) → finite.get (put_one m first) q ≡ Some z → (y : X) × (finite.get (fold put_one (put_one m first) es) q ≡ Some y)) → (b : Bool) → eq_by_cmp R q first.0 ≡ b
+          → (y : X) × (finite.get (fold put_one (put_one m first) es) q ≡ Some y)
+      by next true same = next first.1 (finite.get-insert o m first.0 first.1 q ∙ ap (λ (b : Bool). cond b (Some first.1) (finite.get m q)) same)
+      by next false apart = next x (finite.get-insert o m first.0 first.1 q ∙ ap (λ (b : Bool). cond b (Some first.1) (finite.get m q)) apart ∙ e)
+
+  pub there_put : (es : List (K × X)) (m : FinMap R X) (q : K) (x : X) → Contains es (q, x) → (y : X) × (finite.get (fold put_one m es) q ≡ Some y)
+  there_put [] m q x h = absurd (none_in (q, x) h)
+  there_put (first ∷ es) m q x h = elim (front_or_behind first (q, x) es h) [
+    | inl same ↦ still_there es (put_one m first) q x (finite.get-insert o m first.0 first.1 q
+        ∙ ap (λ (b : Bool). cond b (Some first.1) (finite.get m q)) ((decides q first.0).1 (λ i. (sym same i).0)) ∙ (λ i. Some (same i).1))
+    | inr later ↦ there_put es (put_one m first) q x later
+  ]

@@ -1,0 +1,33 @@
+-- What rules keep by the numbers that they had, and who reads what new ones make (own).
+use Rattle.std.specs.Prelude.{◌≡◌, ℕ, Bool, true, false, List, [], ◌∷◌, Option, None, Some, is_none, option_map, option_to_list, unwrap_or, slice_get, if◌then◌else◌}
+use Rattle.std.specs.FinMap as finite
+use Rattle.tup_rule.specs.declared.rule.Rule.{Rule}
+use Rattle.tup_record.specs.declared.run.RunRecord.{RunRecord}
+use Rattle.tup_graph.specs.Graph.{GraphState, is_flagged}
+use Rattle.tup_closure.specs.Readers.{HasAskedOneOf}
+
+-- the record of a rule of this number, by the number that it had
+abbrev pub run_at : GraphState → ℕ → Option ℕ → List (ℕ × RunRecord)
+run_at g number None = []
+run_at g number (Some before) = option_to_list (option_map (λ (run : RunRecord). (number, run)) (finite.get g.runs before))
+
+-- whether a rule that had this number is new, or was flagged
+abbrev pub was_flagged : GraphState → Option ℕ → Bool
+was_flagged g None = true
+was_flagged g (Some before) = is_flagged g before
+
+-- the number of a rule, if it is so
+abbrev pub flag_at : GraphState → ℕ → Option ℕ → List ℕ
+flag_at g number before = if was_flagged g before then number ∷ [] else []
+
+-- whether the rule of a number is new
+abbrev pub is_new_at : List (Option ℕ) → ℕ → Bool
+is_new_at befores number = unwrap_or (option_map is_none (slice_get befores number)) false
+
+-- the record of a rule asks an output of the rule at a place, if that is new
+abbrev pub ReadsIfNew : GraphState → List (Option ℕ) → ℕ → Rule → ℕ → Type 0
+ReadsIfNew led befores at rule number = (is_new_at befores at ≡ true) × HasAskedOneOf led rule.outputs number
+
+-- the record of a rule asks an output of a new rule
+abbrev pub ReadsOneNew : GraphState → List (Option ℕ) → ℕ → Type 0
+ReadsOneNew led befores number = (at : ℕ) × (rule : Rule) × (slice_get led.rules at ≡ Some rule) × ReadsIfNew led befores at rule number

@@ -1,0 +1,126 @@
+//! What a swap puts in: readings, rules, records of runs, owned paths and flags.
+ghost use Rattle.std.specs.Prelude.{◌≡◌, ◌++◌, ◌+◌, [], Ok, map, IfOk, IfErr, OnOk};
+ghost use Rattle.std.specs.FinMap as finite;
+ghost use Rattle.std.specs.Option.{unwrap_or};
+ghost use Rattle.tup_path.specs.Gives.{GivesUnless};
+ghost use Rattle.tup_graph.specs.Transactions.{flag_edits};
+ghost use Rattle.tup_rule_diff.specs.Edits.{more_edits, rule_more, own_so as own_of, read_so as read_of, run_so as run_of};
+
+use crate::before::number_of;
+use std::alloc::Global;
+use tup_graph::{Edit, Edits, GraphFault, Owned};
+use tup_path::{ByPath, Path};
+use tup_record::{Record, RunRecord};
+use tup_rule::{Reading, Rule};
+
+/// Readings are new.
+pub(crate) fn push_fresh(edits: &mut Edits, fresh: &[(Path, Reading)]) -> Result<(), GraphFault>
+    ensures ok { OnOk result (edits.new ≡ edits.old ++ map read_of fresh.now) }
+    ensures err { IfErr result (λ fault. fault ≡ GraphFault.Memory) }
+{
+    for (dir, reading) in fresh {
+        edits.push(read(dir, reading)?)?;
+    }
+    Ok(())
+}
+
+fn read(dir: &Path, reading: &Reading) -> Result<Edit, GraphFault>
+    ensures { GivesUnless result GraphFault.Memory (Ok (read_of (dir.now, reading.now))) }
+{
+    Ok(Edit::Put(Record::Reading {
+        dir: dir.clone()?,
+        reading: reading.clone()?,
+    }))
+}
+
+/// Rules come, the first one first, each with its place among those of its folder.
+pub(crate) fn push_more(alloc: Global, edits: &mut Edits, rules: &[Rule]) -> Result<(), GraphFault>
+    ensures ok { OnOk result (edits.new ≡ edits.old ++ more_edits [] rules.now) }
+    ensures err { IfErr result (λ fault. fault ≡ GraphFault.Memory) }
+{
+    let mut places = ByPath::new(alloc);
+    for (at, rule) in rules.iter().enumerate() {
+        let place = next_place(&mut places, &rule.dir)?;
+        edits.push(more(at, place, rule)?)?;
+    }
+    Ok(())
+}
+
+/// The rule at a place in the list comes, with its place among those of its folder.
+fn more(at: usize, place: u32, rule: &Rule) -> Result<Edit, GraphFault>
+    ensures { GivesUnless result GraphFault.Memory (Ok
+        (rule_more at place rule.now)) }
+{
+    Ok(Edit::Put(Record::Rule {
+        number: number_of(at)?,
+        place,
+        rule: rule.clone()?,
+    }))
+}
+
+/// How many rules a folder had so far, and one more now.
+fn next_place(places: &mut ByPath<u32>, dir: &Path) -> Result<u32, GraphFault>
+    ensures place { IfOk result (λ place. place ≡ unwrap_or (finite.get places.old dir.now) 0) }
+    ensures ok { OnOk result (places.new ≡ finite.insert places.old dir.now
+        (unwrap_or (finite.get places.old dir.now) 0 + 1)) }
+    ensures err { IfErr result (λ fault. fault ≡ GraphFault.Memory) }
+{
+    let place = places.get(dir).copied().unwrap_or(0);
+    let Some(next) = place.checked_add(1) else {
+        return Err(GraphFault::Memory);
+    };
+    places.insert(dir.clone()?, next)?;
+    Ok(place)
+}
+
+/// Rules have these records.
+pub(crate) fn push_runs(edits: &mut Edits, runs: &[(u32, RunRecord)]) -> Result<(), GraphFault>
+    ensures ok { OnOk result (edits.new ≡ edits.old ++ map run_of runs.now) }
+    ensures err { IfErr result (λ fault. fault ≡ GraphFault.Memory) }
+{
+    for (number, run) in runs {
+        edits.push(recorded(*number, run)?)?;
+    }
+    Ok(())
+}
+
+fn recorded(number: u32, run: &RunRecord) -> Result<Edit, GraphFault>
+    ensures { GivesUnless result GraphFault.Memory (Ok (run_of (number, run.now))) }
+{
+    Ok(Edit::Put(Record::Run {
+        number,
+        run: run.clone()?,
+    }))
+}
+
+/// Paths are owned so.
+pub(crate) fn push_owned(edits: &mut Edits, owned: &ByPath<Owned>) -> Result<(), GraphFault>
+    ensures ok { OnOk result (edits.new ≡ edits.old ++ map own_of (finite.entries owned.now)) }
+    ensures err { IfErr result (λ fault. fault ≡ GraphFault.Memory) }
+{
+    for (path, one) in owned.iter() {
+        edits.push(own(path, one)?)?;
+    }
+    Ok(())
+}
+
+fn own(path: &Path, owned: &Owned) -> Result<Edit, GraphFault>
+    ensures { GivesUnless result GraphFault.Memory (Ok (own_of (path.now, owned.now))) }
+{
+    Ok(Edit::Put(Record::Owned {
+        path: path.clone()?,
+        maker: owned.maker,
+        state: owned.state,
+    }))
+}
+
+/// Rules are to be run.
+pub(crate) fn push_flags(edits: &mut Edits, numbers: &[u32]) -> Result<(), GraphFault>
+    ensures ok { OnOk result (edits.new ≡ edits.old ++ flag_edits numbers.now) }
+    ensures err { IfErr result (λ fault. fault ≡ GraphFault.Memory) }
+{
+    for number in numbers {
+        edits.push(Edit::Put(Record::Modify { number: *number }))?;
+    }
+    Ok(())
+}

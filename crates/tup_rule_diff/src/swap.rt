@@ -1,0 +1,88 @@
+//! A swap of rules.
+ghost use Rattle.std.specs.Prelude.{◌≡◌, ◌++◌, [], map, IfOk, IfErr, OnOk};
+ghost use Rattle.std.specs.FinMap as finite;
+ghost use Rattle.tup_graph.specs.Transactions.{flag_edits};
+ghost use Rattle.tup_rule_diff.specs.Edits.{AreSwapEdits, clear_edits, less_edits, more_edits, own_so, reading_edits, run_so};
+
+use crate::before::numbers_before;
+use crate::clearing::{push_cleared, push_less, push_unread};
+use crate::owners::owned_now;
+use crate::putting::{push_flags, push_fresh, push_more, push_owned, push_runs};
+use crate::running::{flags_now, runs_now};
+use std::alloc::Global;
+use tup_graph::{Edits, GraphFault, Nodes, Owned};
+use tup_path::{ByPath, Items, Path, Paths};
+use tup_record::RunRecord;
+use tup_rule::{Reading, Rule};
+
+/// What the folders that were to be read left: their readings, and those that have no Tupfile any more.
+#[derive(Drop)]
+pub struct Refreshed {
+    pub readings: Items<(Path, Reading)>,
+    pub gone: Paths,
+}
+
+/// What a swap does to a graph: the readings of some folders are new or gone, the create list is empty, and the rules are
+/// these. A rule that is the same as one before keeps its record and its flag. New rules are to be run, and so are all
+/// whose records ask an output of a new one, and all that recorded reads lead to from these. An output is owned by the
+/// first rule that has it, and other owned paths have no maker; states stay, and what is newly owned was never written.
+///
+/// What was there is taken away, and what is there now is put in: of each key the last edit counts.
+pub fn swap_rules(
+    alloc: Global,
+    nodes: &Nodes,
+    fresh: &Refreshed,
+    rules: &[Rule],
+) -> Result<Edits, GraphFault>
+    ensures edits { IfOk result
+        (AreSwapEdits nodes.now fresh.now.readings fresh.now.gone rules.now) }
+    ensures memory { IfErr result (λ fault. fault ≡ GraphFault.Memory) }
+{
+    let befores = numbers_before(alloc, nodes, rules)?;
+    let runs = runs_now(alloc, nodes, befores.as_slice())?;
+    let flags = flags_now(alloc, nodes, rules, runs.as_slice(), befores.as_slice())?;
+    let owned = owned_now(alloc, nodes, rules)?;
+    let mut edits = Items::new(alloc);
+    push_away(&mut edits, nodes, fresh)?;
+    push_now(
+        alloc,
+        &mut edits,
+        rules,
+        runs.as_slice(),
+        &owned,
+        flags.as_slice(),
+    )?;
+    Ok(edits)
+}
+
+/// What goes: all but files and the readings that stay.
+fn push_away(edits: &mut Edits, nodes: &Nodes, fresh: &Refreshed) -> Result<(), GraphFault>
+    ensures ok { OnOk result (edits.new ≡ edits.old ++ clear_edits nodes.now
+        ++ reading_edits nodes.now fresh.now.readings fresh.now.gone
+        ++ less_edits 0 nodes.now.rules) }
+    ensures err { IfErr result (λ fault. fault ≡ GraphFault.Memory) }
+{
+    push_cleared(edits, nodes)?;
+    push_unread(edits, nodes, fresh.gone.as_slice())?;
+    push_fresh(edits, fresh.readings.as_slice())?;
+    push_less(edits, nodes.rules())
+}
+
+/// What is there now: rules, their records, owned paths and flags.
+fn push_now(
+    alloc: Global,
+    edits: &mut Edits,
+    rules: &[Rule],
+    runs: &[(u32, RunRecord)],
+    owned: &ByPath<Owned>,
+    flags: &[u32],
+) -> Result<(), GraphFault>
+    ensures ok { OnOk result (edits.new ≡ edits.old ++ more_edits [] rules.now
+        ++ map run_so runs.now ++ map own_so (finite.entries owned.now) ++ flag_edits flags.now) }
+    ensures err { IfErr result (λ fault. fault ≡ GraphFault.Memory) }
+{
+    push_more(alloc, edits, rules)?;
+    push_runs(edits, runs)?;
+    push_owned(edits, owned)?;
+    push_flags(edits, flags)
+}

@@ -1,0 +1,5 @@
+use Rattle.tup_rule_line.proofs.Sets.{places_of}
+use Rattle.tup_rule_line.proofs.places.Places.of.Goals as goal
+
+pub invariant_of-result : goal.invariant_of-result
+invariant_of-result c = rw (c.in_ok-add_paths.ensures, c.as_slice.ensures, c.new-set.ensures.empty) (places_of c.in_ok-paths.paths)

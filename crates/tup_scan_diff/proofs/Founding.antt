@@ -1,0 +1,31 @@
+-- What a scan found, of its parts.
+use Rattle.std.specs.Prelude.{◌≡◌, List, [], ◌⊎◌, Ok, Result, Err, codes, Option}
+use Rattle.std.proofs.Common.{sym, subst, inl, inr}
+use Rattle.std.specs.FinMap as finite
+use Rattle.tup_path.specs.Name.{Names, Content}
+use Rattle.tup_path.specs.Order.{by_names}
+use Rattle.tup_path.specs.Resolve.{resolve}
+use Rattle.tup_path.specs.declared.fault.PathFault.{PathFault}
+use Rattle.tup_path.specs.declared.fault.PathFault.TheVariants.{Memory}
+use Rattle.tup_stamp.specs.declared.Stamp.{Stamp}
+use Rattle.tup_graph.specs.Answers.{IsSource, tup_config}
+use Rattle.tup_graph.specs.Graph.{source}
+use Rattle.tup_scan_diff.specs.Index.{IsIndexOf, IsSourceAmong}
+use Rattle.tup_scan_diff.specs.Made.{AreMade}
+use Rattle.tup_scan_diff.specs.Present.{seeing, graph_of, IsPresent}
+use Rattle.tup_scan_diff.specs.Settings.{AreSettings}
+use Rattle.tup_scan_diff.specs.declared.present.Present.{Present}
+use Rattle.tup_scan_diff.proofs.Indexed.{index_of_sources}
+
+-- the path that its text names
+pub config_path_is : (path : Names) → ◌≡◌ {A = Result Names PathFault} (Ok path) (Err Memory) ⊎ (Ok path ≡ resolve [] (codes "tup.config")) → path ≡ tup_config
+config_path_is path (inl e) = absurd (cc)
+config_path_is path (inr e) = let same : Ok path ≡ Ok tup_config = e in cc
+
+pub present_is : (present : Present) (files : List (Names × Stamp)) (config : Option Content) (stamp : Option Stamp) → present.stamps ≡ finite.from_entries files
+    → IsIndexOf (IsSourceAmong present.nodes.now files) present.index → AreMade present.nodes.now.readings present.made → stamp ≡ source (graph_of present) tup_config → AreSettings config stamp present.settings → IsPresent config present
+present_is present files config stamp stamps index made seen settings = record {
+  index = subst (λ (m : finite.FinMap by_names Stamp). IsIndexOf (IsSource (source (seeing present.nodes.now m))) present.index) (sym stamps) (index_of_sources present.nodes.now files present.index index);
+  made = made;
+  settings = subst (λ (s : Option Stamp). AreSettings config s present.settings) seen settings;
+}

@@ -1,0 +1,207 @@
+//! Whether what a reading was told is still so.
+ghost use Rattle.std.specs.Prelude.{◌≡◌, ◌++◌, ◌∷◌, [], Option, IfOk, IfErr};
+ghost use Rattle.std.specs.Bool.{Decides};
+ghost use Rattle.tup_path.specs.Name.{Names, Content};
+ghost use Rattle.tup_rule.specs.declared.question.Question.TheVariants as asks;
+ghost use Rattle.tup_graph.specs.Answers.{IsKind, IsMadeElsewhere, IsOutputOf};
+ghost use Rattle.tup_graph.specs.Graph.{source};
+ghost use Rattle.tup_scan_diff.specs.Present.{IsPresent, IsWhole, graph_of};
+ghost use Rattle.tup_scan_diff.specs.Told.{AreNames, AreToldSo, IsToldOtherwise, IsToldSo, Tells};
+
+use crate::index::parted;
+use crate::present::Present;
+use std::alloc::Global;
+use tup_graph::GraphFault;
+use tup_path::{Path, Text, Texts};
+use tup_rule::{Kind, Noted, Question};
+
+impl Present<'_> {
+    /// Whether all that the reading of a folder was told is still so.
+    pub(crate) fn all_stand(
+        &self,
+        alloc: Global,
+        reader: &Path,
+        asked: &[(Question, Noted)],
+    ) -> Result<bool, GraphFault>
+        requires present { IsWhole self.now }
+        ensures stand { (config : Option Content) → IsPresent config self.now
+            → IfOk result (λ stand. Tells stand (AreToldSo config self.now reader.now asked.now)
+            (IsToldOtherwise config self.now reader.now asked.now)) }
+        ensures memory { IfErr result (λ fault. fault ≡ GraphFault.Memory) }
+    {
+        for (question, noted) in asked {
+            let stands = self.stands(alloc, reader, question, noted)?;
+            if !stands {
+                return Ok(false);
+            }
+        }
+        Ok(true)
+    }
+
+    /// Whether what the reading of a folder was told to a question is still so.
+    fn stands(
+        &self,
+        alloc: Global,
+        reader: &Path,
+        question: &Question,
+        noted: &Noted,
+    ) -> Result<bool, GraphFault>
+        requires present { IsWhole self.now }
+        ensures stands { (config : Option Content) → IsPresent config self.now
+            → IfOk result (λ stands. Decides stands
+            (IsToldSo config self.now reader.now question.now noted.now)) }
+        ensures memory { IfErr result (λ fault. fault ≡ GraphFault.Memory) }
+    {
+        match question {
+            Question::Content(path) => Ok(self.content_stands(path, noted)),
+            Question::Config(name) => Ok(self.setting_stands(name, noted)),
+            Question::Names(dir) => self.names_stand(alloc, reader, dir, noted),
+            Question::Kind(path) => self.kind_stands(alloc, reader, path, noted),
+        }
+    }
+
+    /// Whether what was told of a content is still so.
+    fn content_stands(&self, path: &Path, noted: &Noted) -> bool
+        ensures { (config : Option Content) (reader : Names)
+            → Decides result (IsToldSo config self.now reader (asks.Content path.now) noted.now) }
+    {
+        match noted {
+            Noted::Content(seen) => self.source(path) == *seen,
+            Noted::Config(_) | Noted::Names(_) | Noted::Kind(_) => false,
+        }
+    }
+
+    /// Whether what was told of a setting is still so.
+    fn setting_stands(&self, name: &Text, noted: &Noted) -> bool
+        ensures { (config : Option Content) (reader : Names) → IsPresent config self.now
+            → Decides result (IsToldSo config self.now reader (asks.Config name.now) noted.now) }
+    {
+        match noted {
+            Noted::Config(value) => self.settings.sets_to(name, value),
+            Noted::Content(_) | Noted::Names(_) | Noted::Kind(_) => false,
+        }
+    }
+
+    /// Whether what was told of the files in a folder is still so.
+    fn names_stand(
+        &self,
+        alloc: Global,
+        reader: &Path,
+        dir: &Path,
+        noted: &Noted,
+    ) -> Result<bool, GraphFault>
+        requires present { IsWhole self.now }
+        ensures stand { IfOk result (λ stand. (config : Option Content)
+            → Decides stand (IsToldSo config self.now reader.now (asks.Names dir.now) noted.now)) }
+        ensures memory { IfErr result (λ fault. fault ≡ GraphFault.Memory) }
+    {
+        match noted {
+            Noted::Names(names) => self.are_names(alloc, reader, dir, names),
+            Noted::Content(_) | Noted::Config(_) | Noted::Kind(_) => Ok(false),
+        }
+    }
+
+    /// Whether what was told of what stands at a path is still so.
+    fn kind_stands(
+        &self,
+        alloc: Global,
+        reader: &Path,
+        path: &Path,
+        noted: &Noted,
+    ) -> Result<bool, GraphFault>
+        requires present { IsWhole self.now }
+        ensures stands { IfOk result (λ stands. (config : Option Content)
+            → Decides stands (IsToldSo config self.now reader.now (asks.Kind path.now) noted.now)) }
+        ensures memory { IfErr result (λ fault. fault ≡ GraphFault.Memory) }
+    {
+        match noted {
+            Noted::Kind(kind) => self.is_kind(alloc, reader, path, *kind),
+            Noted::Content(_) | Noted::Config(_) | Noted::Names(_) => Ok(false),
+        }
+    }
+
+    /// Whether these are the names of the files in a folder, in byte order.
+    fn are_names(
+        &self,
+        alloc: Global,
+        reader: &Path,
+        dir: &Path,
+        names: &Texts,
+    ) -> Result<bool, GraphFault>
+        requires present { IsWhole self.now }
+        ensures names { IfOk result (λ are. Decides are
+            (AreNames self.now reader.now dir.now names.now)) }
+        ensures memory { IfErr result (λ fault. fault ≡ GraphFault.Memory) }
+    {
+        let found = self.names(alloc, reader, dir)?;
+        Ok(found == *names)
+    }
+
+    /// Whether this stands at a path.
+    fn is_kind(
+        &self,
+        alloc: Global,
+        reader: &Path,
+        path: &Path,
+        kind: Kind,
+    ) -> Result<bool, GraphFault>
+        requires present { IsWhole self.now }
+        ensures kind { IfOk result (λ is. Decides is (IsKind (source (graph_of self.now))
+            self.now.nodes.now.readings reader.now path.now kind)) }
+        ensures memory { IfErr result (λ fault. fault ≡ GraphFault.Memory) }
+    {
+        Ok(self.kind(alloc, reader, path)? == kind)
+    }
+
+    /// What stands at a path, as the reading of a folder is told it.
+    fn kind(&self, alloc: Global, reader: &Path, path: &Path) -> Result<Kind, GraphFault>
+        requires present { IsWhole self.now }
+        ensures kind { IfOk result (IsKind (source (graph_of self.now))
+            self.now.nodes.now.readings reader.now path.now) }
+        ensures memory { IfErr result (λ fault. fault ≡ GraphFault.Memory) }
+    {
+        if self.source(path).is_some() {
+            return Ok(Kind::File);
+        }
+        if self.index.folders.contains(path) {
+            return Ok(Kind::Dir);
+        }
+        if self.is_made_elsewhere(alloc, reader, path)? {
+            return Ok(Kind::File);
+        }
+        Ok(Kind::Nothing)
+    }
+
+    /// Whether a path is an output of the reading of its folder, which is another one than the one that is read.
+    fn is_made_elsewhere(
+        &self,
+        alloc: Global,
+        reader: &Path,
+        path: &Path,
+    ) -> Result<bool, GraphFault>
+        requires present { IsWhole self.now }
+        ensures made { IfOk result (λ made. Decides made (IsMadeElsewhere
+            (source (graph_of self.now)) self.now.nodes.now.readings reader.now path.now)) }
+        ensures memory { IfErr result (λ fault. fault ≡ GraphFault.Memory) }
+    {
+        let Some((dir, name)) = parted(alloc, path)? else {
+            return Ok(false);
+        };
+        if dir == *reader {
+            return Ok(false);
+        }
+        Ok(self.has_output(&dir, &name))
+    }
+
+    /// Whether the reading of a folder, which has a Tupfile, has an output of this name in the folder.
+    fn has_output(&self, dir: &Path, name: &Text) -> bool
+        requires present { IsWhole self.now }
+        ensures { Decides result (IsOutputOf (source (graph_of self.now))
+            self.now.nodes.now.readings dir.now (dir.now ++ name.now ∷ [])) }
+    {
+        if !self.index.tupfiles.contains(dir) {
+            return false;
+        }
+        self.made.has(dir, name)
+    }
+}

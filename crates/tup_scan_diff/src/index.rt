@@ -1,0 +1,136 @@
+//! The sources by their folders.
+ghost use Rattle.std.specs.Prelude.{◌≡◌, IfOk, IfErr, OnOk, codes};
+ghost use Rattle.tup_path.specs.Order.{by_names};
+ghost use Rattle.tup_path.specs.Tree.{IsBelow};
+ghost use Rattle.tup_closure.specs.Grows.{Grows};
+ghost use Rattle.tup_graph.specs.Graph.{is_owned};
+ghost use Rattle.tup_closure.specs.Lists.{IsListed};
+ghost use Rattle.tup_scan_diff.specs.Sets.{Has};
+ghost use Rattle.tup_scan_diff.specs.Index.{AddsFile, HasBelow, HasTupfile, IsAddedIf, IsIndexOf, IsLastOf, IsParted, IsSourceAmong};
+
+use std::alloc::Global;
+use std::collections::BTreeSet;
+use tup_closure::Lists;
+use tup_graph::{GraphFault, Nodes};
+use tup_path::{Path, Text};
+use tup_stamp::Stamp;
+
+/// The sources by their folders.
+#[derive(Drop)]
+pub(crate) struct Index {
+    /// For each folder the names of the files in it.
+    pub(crate) names: Lists<Text>,
+    /// The folders that have a Tupfile.
+    pub(crate) tupfiles: BTreeSet<Path>,
+    /// The folders that have a file below them, at whatever depth.
+    pub(crate) folders: BTreeSet<Path>,
+}
+
+impl Index {
+    /// The sources among some files: those that the graph doesn't own.
+    pub(crate) fn new(
+        alloc: Global,
+        nodes: &Nodes,
+        files: &[(Path, Stamp)],
+    ) -> Result<Index, GraphFault>
+        ensures index { IfOk result (IsIndexOf (IsSourceAmong nodes.now files.now)) }
+        ensures memory { IfErr result (λ fault. fault ≡ GraphFault.Memory) }
+    {
+        let mut index = Index::empty(alloc);
+        for (path, _) in files {
+            index.add_source(alloc, nodes, path)?;
+        }
+        Ok(index)
+    }
+
+    /// No files.
+    fn empty(alloc: Global) -> Index
+        ensures { IsIndexOf (λ path. ⊥) result }
+    {
+        Index {
+            names: Lists::new(alloc),
+            tupfiles: BTreeSet::new(alloc),
+            folders: BTreeSet::new(alloc),
+        }
+    }
+
+    /// Adds a file, if it is a source.
+    fn add_source(&mut self, alloc: Global, nodes: &Nodes, path: &Path) -> Result<(), GraphFault>
+        ensures added { OnOk result (IsAddedIf (is_owned nodes.now path.now) path.now
+            self.old self.new) }
+        ensures memory { IfErr result (λ fault. fault ≡ GraphFault.Memory) }
+    {
+        match nodes.owner(path) {
+            Some(_) => Ok(()),
+            None => self.add(alloc, path),
+        }
+    }
+
+    /// Adds a file.
+    fn add(&mut self, alloc: Global, path: &Path) -> Result<(), GraphFault>
+        ensures added { OnOk result (AddsFile path.now self.old self.new) }
+        ensures memory { IfErr result (λ fault. fault ≡ GraphFault.Memory) }
+    {
+        add_above(alloc, &mut self.folders, path)?;
+        let Some((dir, name)) = parted(alloc, path)? else {
+            return Ok(());
+        };
+        self.add_name(alloc, dir, name)?;
+        Ok(())
+    }
+
+    /// Adds a name to a folder.
+    fn add_name(&mut self, alloc: Global, dir: Path, name: Text) -> Result<(), GraphFault>
+        ensures folders { OnOk result (self.new.folders ≡ self.old.folders) }
+        ensures names { OnOk result (Grows (λ place. place ≡ (dir, name))
+            (IsListed self.old.names) (IsListed self.new.names)) }
+        ensures tupfiles { OnOk result (Grows (λ folder. (folder ≡ dir) × (name ≡ codes "Tupfile"))
+            (HasTupfile self.old) (HasTupfile self.new)) }
+        ensures memory { IfErr result (λ fault. fault ≡ GraphFault.Memory) }
+    {
+        let is_tupfile = name.as_str() == "Tupfile";
+        self.names.add(alloc, &dir, name)?;
+        if is_tupfile {
+            self.tupfiles.insert(dir)?;
+        }
+        Ok(())
+    }
+}
+
+/// Adds all folders above a path.
+fn add_above(alloc: Global, folders: &mut BTreeSet<Path>, path: &Path) -> Result<(), GraphFault>
+    ensures added { OnOk result (Grows (λ dir. IsBelow dir path.now)
+        (Has by_names folders.old) (Has by_names folders.new)) }
+    ensures memory { IfErr result (λ fault. fault ≡ GraphFault.Memory) }
+{
+    let Some((dir, _)) = parted(alloc, path)? else {
+        return Ok(());
+    };
+    add_above(alloc, folders, &dir)?;
+    folders.insert(dir)?;
+    Ok(())
+}
+
+/// The folder of a path, and its name there; none for the top.
+pub(crate) fn parted(alloc: Global, path: &Path) -> Result<Option<(Path, Text)>, GraphFault>
+    ensures parted { IfOk result (IsParted path.now) }
+    ensures memory { IfErr result (λ fault. fault ≡ GraphFault.Memory) }
+{
+    let Some(name) = path.names().last() else {
+        return Ok(None);
+    };
+    with_parent(alloc, path, name.clone()?)
+}
+
+/// The folder of a path that isn't the top, and its last name, which is given.
+fn with_parent(alloc: Global, path: &Path, name: Text) -> Result<Option<(Path, Text)>, GraphFault>
+    requires { IsLastOf path.now name }
+    ensures parted { IfOk result (IsParted path.now) }
+    ensures memory { IfErr result (λ fault. fault ≡ GraphFault.Memory) }
+{
+    match path.parent(alloc) {
+        Ok(Some(dir)) => Ok(Some((dir, name))),
+        Ok(None) => Ok(None),
+        Err(_) => Err(GraphFault::Memory),
+    }
+}

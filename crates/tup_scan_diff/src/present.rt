@@ -1,0 +1,88 @@
+//! What a scan found, beside the graph that it is compared with.
+ghost use Rattle.std.specs.Prelude.{◌≡◌, IfOk, IfErr};
+ghost use Rattle.std.specs.FinMap as finite;
+ghost use Rattle.tup_graph.specs.Answers.{tup_config};
+ghost use Rattle.tup_graph.specs.Graph.{source};
+ghost use Rattle.tup_scan_diff.specs.Present.{IsPresent, graph_of, seeing};
+
+use crate::index::Index;
+use crate::made::Made;
+use crate::settings::Settings;
+use crate::stamps::stamps_of;
+use std::alloc::Global;
+use tup_graph::{GraphFault, Nodes};
+use tup_path::{ByPath, Path};
+use tup_scan::Seen;
+use tup_stamp::Stamp;
+
+/// What a scan found, beside the graph that it is compared with.
+#[derive(Drop)]
+pub(crate) struct Present<'g> {
+    pub(crate) nodes: &'g Nodes,
+    /// The stamps of all files.
+    pub(crate) stamps: ByPath<Stamp>,
+    /// The sources by their folders.
+    pub(crate) index: Index,
+    /// The outputs of the readings by their folders.
+    pub(crate) made: Made,
+    pub(crate) settings: Settings,
+}
+
+impl<'g> Present<'g> {
+    pub(crate) fn new(
+        alloc: Global,
+        nodes: &'g Nodes,
+        seen: &Seen,
+    ) -> Result<Present<'g>, GraphFault>
+        ensures nodes { IfOk result (λ present. present.nodes.now ≡ nodes.now) }
+        ensures stamps { IfOk result
+            (λ present. present.stamps ≡ finite.from_entries seen.now.files) }
+        ensures present { IfOk result (IsPresent seen.now.config) }
+        ensures memory { IfErr result (λ fault. fault ≡ GraphFault.Memory) }
+    {
+        let stamps = stamps_of(alloc, seen.files.as_slice())?;
+        let index = Index::new(alloc, nodes, seen.files.as_slice())?;
+        let made = Made::new(alloc, nodes)?;
+        let stamp = config_stamp(alloc, nodes, &stamps)?;
+        let settings = Settings::new(alloc, stamp, &seen.config)?;
+        Ok(Present {
+            nodes,
+            stamps,
+            index,
+            made,
+            settings,
+        })
+    }
+
+    /// The stamp of the source at a path.
+    pub(crate) fn source(&self, path: &Path) -> Option<Stamp>
+        ensures { result ≡ source (graph_of self.now) path.now }
+    {
+        source_at(self.nodes, &self.stamps, path)
+    }
+}
+
+/// The stamp of the source at a path: that of the file there, which isn't owned.
+fn source_at(nodes: &Nodes, stamps: &ByPath<Stamp>, path: &Path) -> Option<Stamp>
+    ensures { result ≡ source (seeing nodes.now stamps.now) path.now }
+{
+    match nodes.owner(path) {
+        Some(_) => None,
+        None => stamps.get(path).copied(),
+    }
+}
+
+/// The stamp of tup.config at the top, where it is a source.
+fn config_stamp(
+    alloc: Global,
+    nodes: &Nodes,
+    stamps: &ByPath<Stamp>,
+) -> Result<Option<Stamp>, GraphFault>
+    ensures stamp { IfOk result (λ stamp. stamp ≡ source (seeing nodes.now stamps.now) tup_config) }
+    ensures memory { IfErr result (λ fault. fault ≡ GraphFault.Memory) }
+{
+    match Path::from_top(alloc, "tup.config") {
+        Ok(path) => Ok(source_at(nodes, stamps, &path)),
+        Err(_) => Err(GraphFault::Memory),
+    }
+}

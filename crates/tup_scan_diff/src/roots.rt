@@ -1,0 +1,191 @@
+//! The rules to begin with after a scan, and those above them.
+ghost use Rattle.std.specs.Prelude.{◌≡◌, ◌↔◌, ℕ, true, Contains, IfErr, IfOk, OnOk};
+ghost use Rattle.std.specs.List.Sorted.{IsStrictlySortedBy};
+ghost use Rattle.std.specs.Option.{option_copied};
+ghost use Rattle.std.specs.Ordering.{nat_cmp};
+ghost use Rattle.tup_graph.specs.Above.{IsAbove};
+ghost use Rattle.tup_graph.specs.Graph.{is_flagged};
+ghost use Rattle.tup_closure.specs.Grows.{Grows};
+ghost use Rattle.tup_closure.specs.Readers.{AreRunsOfRules};
+ghost use Rattle.tup_scan_diff.specs.Edits.{seen_edits};
+ghost use Rattle.tup_scan_diff.specs.Present.{graph_of};
+ghost use Rattle.tup_scan_diff.specs.Touched.{FindsRoots, IsScanRoot, IsUserOf, SeesOtherwise, UsesOneOf};
+ghost use Rattle.tup_scan_diff.specs.Touched.{file_of as file_in, record_of as record_in};
+ghost use Rattle.tup_readers.specs.Sets.{is_in};
+ghost use Rattle.tup_path.specs.Name.{Names};
+
+use crate::present::Present;
+use std::alloc::Global;
+use std::collections::BTreeSet;
+use tup_closure::above;
+use tup_graph::{Edit, GraphFault};
+use tup_path::{Items, Path};
+use tup_readers::Indexed;
+use tup_record::Record;
+
+impl Present<'_> {
+    /// The rules that are to be run, in ascending order: those that are flagged or touched, and all that recorded reads
+    /// lead to from them. The edits are those by which files are seen as they stand now.
+    pub(crate) fn to_run(
+        &self,
+        alloc: Global,
+        graph: &Indexed,
+        edits: &[Edit],
+    ) -> Result<Items<u32>, GraphFault>
+        requires same { graph.now ≡ self.now.nodes.now }
+        requires runs { AreRunsOfRules graph.now }
+        requires seen { edits.now ≡ seen_edits self.now.nodes.now self.now.stamps }
+        ensures above { IfOk result (λ numbers. (number : ℕ) → Contains numbers number
+            ↔ IsAbove (graph_of self.now) (IsScanRoot (graph_of self.now)) number) }
+        ensures ascending { IfOk result (λ numbers. IsStrictlySortedBy nat_cmp numbers) }
+        ensures memory { IfErr result (λ fault. fault ≡ GraphFault.Memory) }
+    {
+        let roots = self.roots(alloc, graph, edits)?;
+        above(alloc, graph, roots.as_slice())
+    }
+
+    /// The rules that are flagged or touched. It looks at those that are flagged, at those that may have been touched
+    /// before, and at those that use a path which these edits have seen otherwise.
+    fn roots(
+        &self,
+        alloc: Global,
+        graph: &Indexed,
+        edits: &[Edit],
+    ) -> Result<Items<u32>, GraphFault>
+        requires same { graph.now ≡ self.now.nodes.now }
+        requires seen { edits.now ≡ seen_edits self.now.nodes.now self.now.stamps }
+        ensures roots { IfOk result (λ roots. (number : ℕ)
+            → Contains roots number ↔ IsScanRoot (graph_of self.now) number) }
+        ensures memory { IfErr result (λ fault. fault ≡ GraphFault.Memory) }
+    {
+        let mut roots = Items::new(alloc);
+        self.push_flagged(&mut roots)?;
+        self.push_set(&mut roots, graph.suspects())?;
+        self.push_users_of(&mut roots, graph, edits)?;
+        Ok(roots)
+    }
+
+    /// Adds the rules that are flagged.
+    fn push_flagged(&self, roots: &mut Items<u32>) -> Result<(), GraphFault>
+        ensures roots { OnOk result (FindsRoots (graph_of self.now)
+            (λ number. is_flagged self.now.nodes.now number ≡ true) roots.old roots.new) }
+        ensures memory { IfErr result (λ fault. fault ≡ GraphFault.Memory) }
+    {
+        for (number, _) in self.nodes.flags() {
+            self.push_root(roots, *number)?;
+        }
+        Ok(())
+    }
+
+    /// Adds the rules that use a path which one of some edits has seen otherwise, if they are flagged or touched.
+    fn push_users_of(
+        &self,
+        roots: &mut Items<u32>,
+        graph: &Indexed,
+        edits: &[Edit],
+    ) -> Result<(), GraphFault>
+        ensures roots { OnOk result (FindsRoots (graph_of self.now)
+            (UsesOneOf graph.now edits.now) roots.old roots.new) }
+        ensures memory { IfErr result (λ fault. fault ≡ GraphFault.Memory) }
+    {
+        for edit in edits {
+            self.push_users_at(roots, graph, edit)?;
+        }
+        Ok(())
+    }
+
+    /// Adds those that use a path which an edit has seen otherwise.
+    fn push_users_at(
+        &self,
+        roots: &mut Items<u32>,
+        graph: &Indexed,
+        edit: &Edit,
+    ) -> Result<(), GraphFault>
+        ensures roots { OnOk result (FindsRoots (graph_of self.now)
+            (λ number. (path : Names) × SeesOtherwise edit.now path
+            × IsUserOf graph.now path number) roots.old roots.new) }
+        ensures memory { IfErr result (λ fault. fault ≡ GraphFault.Memory) }
+    {
+        match file_of(record_of(edit)) {
+            Some(path) => self.push_users(roots, graph, path),
+            None => Ok(()),
+        }
+    }
+
+    /// Adds the rules whose records ask or wrote a path, if they are flagged or touched.
+    fn push_users(
+        &self,
+        roots: &mut Items<u32>,
+        graph: &Indexed,
+        path: &Path,
+    ) -> Result<(), GraphFault>
+        ensures roots { OnOk result (FindsRoots (graph_of self.now)
+            (IsUserOf graph.now path.now) roots.old roots.new) }
+        ensures memory { IfErr result (λ fault. fault ≡ GraphFault.Memory) }
+    {
+        self.push_found(roots, graph.readers(path))?;
+        self.push_found(roots, graph.writers(path))
+    }
+
+    /// Adds the rules of a set, if there is one, that are flagged or touched.
+    fn push_found(
+        &self,
+        roots: &mut Items<u32>,
+        numbers: Option<&BTreeSet<u32>>,
+    ) -> Result<(), GraphFault>
+        ensures roots { OnOk result (FindsRoots (graph_of self.now)
+            (λ number. is_in nat_cmp (option_copied numbers.entry) number ≡ true)
+            roots.old roots.new) }
+        ensures memory { IfErr result (λ fault. fault ≡ GraphFault.Memory) }
+    {
+        match numbers {
+            Some(set) => self.push_set(roots, set),
+            None => Ok(()),
+        }
+    }
+
+    /// Adds the rules of a set that are flagged or touched.
+    fn push_set(&self, roots: &mut Items<u32>, set: &BTreeSet<u32>) -> Result<(), GraphFault>
+        ensures roots { OnOk result (FindsRoots (graph_of self.now)
+            (Contains set.now.keys) roots.old roots.new) }
+        ensures memory { IfErr result (λ fault. fault ≡ GraphFault.Memory) }
+    {
+        for number in set {
+            self.push_root(roots, *number)?;
+        }
+        Ok(())
+    }
+
+    /// Adds a rule, if it is flagged or touched.
+    fn push_root(&self, roots: &mut Items<u32>, number: u32) -> Result<(), GraphFault>
+        ensures roots { OnOk result (Grows
+            (λ root. (root ≡ number) × IsScanRoot (graph_of self.now) number)
+            (Contains roots.old) (Contains roots.new)) }
+        ensures memory { IfErr result (λ fault. fault ≡ GraphFault.Memory) }
+    {
+        if self.is_root(number) {
+            roots.push(number)?;
+        }
+        Ok(())
+    }
+}
+
+/// The record of an edit.
+fn record_of(edit: &Edit) -> &Record
+    ensures { result.now ≡ record_in edit.now }
+{
+    match edit {
+        Edit::Put(record) => record,
+        Edit::Remove(record) => record,
+    }
+}
+
+/// The path of a record of a file that is seen.
+fn file_of(record: &Record) -> Option<&Path>
+    ensures { option_copied result ≡ file_in record.now }
+{
+    match record {
+        Record::Seen { path, .. } => Some(path),
+        _ => None,
+    }
+}

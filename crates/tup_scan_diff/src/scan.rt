@@ -1,0 +1,33 @@
+//! What a scan changes.
+ghost use Rattle.std.specs.Prelude.{◌≡◌, IfOk, IfErr};
+ghost use Rattle.tup_closure.specs.Readers.{AreRunsOfRules};
+ghost use Rattle.tup_scan_diff.specs.Edits.{AreScanEdits};
+
+use crate::present::Present;
+use std::alloc::Global;
+use tup_graph::{Edits, GraphFault};
+use tup_readers::Indexed;
+use tup_scan::Seen;
+
+/// What taking note of a scan does to a graph: files are seen with the stamps that the scan found, and no others are;
+/// rules that recorded reads lead to from one that is flagged, or whose run asked (own outputs aside) or wrote another
+/// content, are to be run; and folders are to be read that have a Tupfile and no reading, or a reading and no Tupfile, or
+/// whose reading was told what isn't so any more. What tup.config sets is read in the one that the scan found, and where
+/// that has a fault each folder that asked it is to be read.
+///
+/// Of each key there is one edit, and none that changes nothing. It looks at the files, at the readings, at the rules that
+/// are flagged or whose records may not tell what was seen before, and at those that use a path which has another stamp
+/// now: a rule that is none of these isn't looked at. The outputs of the readings are put into a map once, so that what a
+/// reading asked about a path takes one lookup.
+pub fn note_scan(alloc: Global, graph: &Indexed, seen: &Seen) -> Result<Edits, GraphFault>
+    requires runs { AreRunsOfRules graph.now }
+    ensures edits { IfOk result (AreScanEdits graph.now seen.now.files seen.now.config) }
+    ensures memory { IfErr result (λ fault. fault ≡ GraphFault.Memory) }
+{
+    let present = Present::new(alloc, graph.nodes(), seen)?;
+    let dirs = present.stale(alloc)?;
+    let mut edits = present.seen_edits(alloc)?;
+    let numbers = present.to_run(alloc, graph, edits.as_slice())?;
+    present.push_marks(&mut edits, &dirs, numbers.as_slice())?;
+    Ok(edits)
+}

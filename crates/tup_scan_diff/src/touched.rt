@@ -1,0 +1,94 @@
+//! Whether the run of a rule asked or wrote another content.
+ghost use Rattle.std.specs.Prelude.{◌≡◌, ◌≢◌, false};
+ghost use Rattle.std.specs.Bool.{Decides};
+ghost use Rattle.std.specs.FinMap as finite;
+ghost use Rattle.tup_rule.specs.Rule.{writes};
+ghost use Rattle.tup_graph.specs.Graph.{is_rule};
+ghost use Rattle.tup_graph.specs.Scan.{IsTouched};
+ghost use Rattle.tup_scan_diff.specs.Present.{graph_of};
+ghost use Rattle.tup_scan_diff.specs.Touched.{AsksOther, WroteOther, IsScanRoot};
+
+use crate::present::Present;
+use tup_path::Path;
+use tup_rule::Rule;
+use tup_stamp::Stamp;
+
+impl Present<'_> {
+    /// Whether a rule is flagged or touched.
+    pub(crate) fn is_root(&self, number: u32) -> bool
+        ensures { Decides result (IsScanRoot (graph_of self.now) number) }
+    {
+        if !self.is_rule(number) {
+            return false;
+        }
+        if self.nodes.flagged(number) {
+            return true;
+        }
+        self.is_touched(number)
+    }
+
+    /// Whether a rule has this number.
+    fn is_rule(&self, number: u32) -> bool
+        ensures { result ≡ is_rule self.now.nodes.now number }
+    {
+        (number as usize) < self.nodes.rules().len()
+    }
+
+    /// Whether the run of a rule asked or wrote other contents than those that are seen now.
+    fn is_touched(&self, number: u32) -> bool
+        ensures { Decides result (IsTouched (graph_of self.now) number) }
+    {
+        let Some(rule) = self.nodes.rules().get(number as usize) else {
+            return false;
+        };
+        let Some(run) = self.nodes.run_of(number) else {
+            return false;
+        };
+        if self.asks_other(rule, run.asks.as_slice()) {
+            return true;
+        }
+        self.wrote_other(run.writes.as_slice())
+    }
+
+    /// Whether one of some asks, outputs of the rule aside, was told another content than that of now.
+    fn asks_other(&self, rule: &Rule, asks: &[(Path, Option<Stamp>)]) -> bool
+        ensures { Decides result (AsksOther (graph_of self.now) rule.now asks.now) }
+    {
+        for (path, given) in asks {
+            if self.is_other(rule, path, *given) {
+                return true;
+            }
+        }
+        false
+    }
+
+    /// Whether a path is no output of a rule, and has another stamp now.
+    fn is_other(&self, rule: &Rule, path: &Path, given: Option<Stamp>) -> bool
+        ensures { Decides result ((writes rule.now path.now ≡ false)
+            × (given ≢ finite.get self.now.stamps path.now)) }
+    {
+        if rule.writes(path) {
+            return false;
+        }
+        !self.sees(path, given)
+    }
+
+    /// Whether one of some files was written with another content than that of now.
+    fn wrote_other(&self, writes: &[(Path, Stamp)]) -> bool
+        ensures { Decides result (WroteOther (graph_of self.now) writes.now) }
+    {
+        for (path, given) in writes {
+            if !self.sees(path, Some(*given)) {
+                return true;
+            }
+        }
+        false
+    }
+
+    /// Whether a path has this stamp now, or no file.
+    fn sees(&self, path: &Path, given: Option<Stamp>) -> bool
+        ensures { Decides result (given ≡ finite.get self.now.stamps path.now) }
+    {
+        given == self.stamps.get(path).copied()
+    }
+}

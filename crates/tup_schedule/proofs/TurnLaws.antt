@@ -1,0 +1,327 @@
+-- Which rules may be claimed: in a core, once one is claimed, and once one is done.
+use Rattle.std.proofs.Common.{◌≡◌, ◌↔◌, ℕ, zero, suc, ◌+◌, ◌<◌, ◌≤◌, ◌^◌, ◌⊎◌, ◌==◌, Bool, true, false, not, ◌&&◌, List, [], Option, None, Some, length, get_or, take, refl, sym, ap, ◌∙◌, subst, inl, inr, arith}
+use Rattle.std.specs.Prelude.{if◌then◌else◌, IsTrue, is_some, nat_lt, slice_get}
+use Rattle.std.proofs.lemmas.Bool.{true≢false, not-true, and_parts, and_from, eq-eqb, eqb-true, lt-ltb, le-ltb, ltb-true, ltb-false}
+use Rattle.std.proofs.lemmas.List.{take_all}
+use Rattle.std.proofs.lemmas.Option.{slice_get_within}
+use Rattle.tup_rule.specs.declared.rule.Rule.{Rule}
+use Rattle.tup_rule.specs.Producer.{MakesFor, DeclaredProducer, ProducerOver}
+use Rattle.tup_clean.specs.Queue.{count_of}
+use Rattle.tup_clean.proofs.Counting.{one_if-same, one_if-other, count_of-take}
+use Rattle.tup_clean.proofs.Places.{some_place}
+use Rattle.tup_core.specs.declared.event.Cause.{Cause}
+use Rattle.tup_core.specs.declared.machine.Core.{Core}
+use Rattle.tup_schedule.specs.declared.marks.Marks.{Marks}
+use Rattle.tup_core.specs.declared.plan.Plan.{Plan}
+use Rattle.tup_schedule.specs.declared.turn.Turn.{Turn}
+use Rattle.tup_core.specs.Machine.{state_of, IsCore}
+use Rattle.tup_core.specs.Reading.{open_test}
+use Rattle.tup_schedule.specs.Marks.{IsMarks, IsFirstMark, is_marked}
+use Rattle.tup_core.specs.Step.{State, IsClear, IsReady, is_reached, changed}
+use Rattle.tup_schedule.specs.Turn.{IsOpen, IsFirstReady, IsTurn, IsSettledIn, Frees, Takes, IsSameTurn}
+use Rattle.tup_core.specs.Waiting.{flag, number, times}
+use Rattle.tup_core.proofs.Changed.{changed_cases}
+use Rattle.tup_core.proofs.ItemLaws.{flag_within}
+use Rattle.tup_core.proofs.WaitingLaws.{clear_waits, waits_clear}
+
+-- ---- an open rule of a core is told by its flags and its count
+open_by_test : (plan : Plan) (core : Core) (at : ℕ) → IsCore plan core → open_test core at ≡ true → IsOpen plan (state_of core) at
+open_by_test plan core at is passes =
+    let last = and_parts (flag core.pending.items at && not (flag core.claimed.items at)) (number core.waiting.waits.items at == 0) passes in
+    let both = and_parts (flag core.pending.items at) (not (flag core.claimed.items at)) last.0 in
+    let none : number core.waiting.waits.items at ≡ 0 = eqb-true (number core.waiting.waits.items at) 0 last.1 in
+    let found = some_place plan.rules at (subst (λ (n : ℕ). at < n) is.pending (flag_within core.pending.items at both.0)) in
+    record {
+      pending = both.0;
+      unclaimed = not-true (flag core.claimed.items at) both.1;
+      clear = (found.0, found.1, λ other produced. clear_waits plan.rules (is_reached plan) core.pending.items core.waiting is.waiting is.reached is.settled at other found.0 found.1 none produced);
+    }
+
+test_by_open : (plan : Plan) (core : Core) (at : ℕ) → IsCore plan core → IsOpen plan (state_of core) at → open_test core at ≡ true
+test_by_open plan core at is opened =
+    let none = waits_clear plan.rules (is_reached plan) core.pending.items core.waiting at opened.clear.0 is.waiting opened.clear.1 opened.clear.2 in
+    let unclaimed : not (flag core.claimed.items at) ≡ true = ap not opened.unclaimed in
+    and_from _ _ (and_from _ _ opened.pending unclaimed) (eq-eqb (number core.waiting.waits.items at) 0 none)
+
+-- a rule that is open is one of the plan
+pub open_within : (plan : Plan) (state : State) (at : ℕ) → IsOpen plan state at → at < length plan.rules
+open_within plan state at opened = slice_get_within plan.rules at opened.clear.0 opened.clear.1
+
+-- ---- the marks of a core
+pub turn_of : (plan : Plan) (core : Core) (marks : Marks) → IsCore plan core → IsMarks marks → length plan.rules ≤ marks.places → length plan.rules ≤ 2 ^ 32
+    → ((at : ℕ) → is_marked marks at ≡ (nat_lt at (length plan.rules) && open_test core at)) → IsTurn plan (state_of core) (record { marks = marks })
+turn_of plan core marks is kept places few set = record {
+  marks = kept;
+  places = places;
+  few = few;
+  each = λ at. (
+    λ marked. open_by_test plan core at is (and_parts (nat_lt at (length plan.rules)) (open_test core at) (sym (set at) ∙ marked)).1,
+    λ opened. set at ∙ and_from _ _ (lt-ltb at (length plan.rules) (open_within plan (state_of core) at opened)) (test_by_open plan core at is opened),
+  );
+}
+
+-- ---- what is open, if what is pending and claimed is the same
+same_open : (plan : Plan) (before after : State) (at : ℕ) → IsSameTurn before after → IsOpen plan before at → IsOpen plan after at
+same_open plan before after at same opened = record {
+  pending = same.pending at ∙ opened.pending;
+  unclaimed = same.claimed at ∙ opened.unclaimed;
+  clear = (opened.clear.0, opened.clear.1, λ other produced. same.pending other ∙ opened.clear.2 other produced);
+}
+
+back : (before after : State) → IsSameTurn before after → IsSameTurn after before
+back before after same = record { pending = λ at. sym (same.pending at); claimed = λ at. sym (same.claimed at) }
+
+pub turn_stays : (plan : Plan) (before after : State) (turn : Turn) → IsSameTurn before after → IsTurn plan before turn → IsTurn plan after turn
+turn_stays plan before after turn same is = record {
+  marks = is.marks;
+  places = is.places;
+  few = is.few;
+  each = λ at. (λ marked. same_open plan before after at same ((is.each at).0 marked), λ opened. (is.each at).1 (same_open plan after before at (back before after same) opened));
+}
+
+-- ---- a rule is claimed
+one_or_other : (at place : ℕ) → ((at ≡ place) × ((at == place) ≡ true)) ⊎ ((at ≡ place → ⊥) × ((at == place) ≡ false))
+one_or_other at place = split (at == place) refl
+  where
+    split : (b : Bool) → (at == place) ≡ b → ((at ≡ place) × ((at == place) ≡ true)) ⊎ ((at ≡ place → ⊥) × ((at == place) ≡ false))
+    split true e = inl (eqb-true at place e, e)
+    split false e = inr ((λ same. true≢false (sym (eq-eqb at place same) ∙ e)), e)
+
+pub turn_claims : (plan : Plan) (before after : State) (rule : ℕ) (old new : Turn) → IsTurn plan before old → Takes before rule after → IsMarks new.marks → new.marks.places ≡ old.marks.places
+    → ((at : ℕ) → is_marked new.marks at ≡ (if at == rule then false else is_marked old.marks at)) → IsTurn plan after new
+turn_claims plan before after rule old new is takes kept places set = record {
+  marks = kept;
+  places = subst (λ (n : ℕ). length plan.rules ≤ n) (sym places) is.places;
+  few = is.few;
+  each = λ at. each at (one_or_other at rule) (changed_cases before.claimed rule true at);
+}
+  where
+    each : (at : ℕ) → ((at ≡ rule) × ((at == rule) ≡ true)) ⊎ ((at ≡ rule → ⊥) × ((at == rule) ≡ false))
+        → ((at ≡ rule) × (changed before.claimed rule true at ≡ true)) ⊎ ((at ≡ rule → ⊥) × (changed before.claimed rule true at ≡ before.claimed at))
+        → IsTrue (is_marked new.marks at) ↔ IsOpen plan after at
+    each at (inl same) was = (
+      λ marked. absurd (true≢false (sym marked ∙ set at ∙ ap (λ (b : Bool). if b then false else is_marked old.marks at) same.1)),
+      λ opened. absurd (true≢false (sym (claimed_now at same.0 was) ∙ opened.unclaimed)),
+    )
+      where
+        claimed_now : (n : ℕ) → n ≡ rule → ((n ≡ rule) × (changed before.claimed rule true n ≡ true)) ⊎ ((n ≡ rule → ⊥) × (changed before.claimed rule true n ≡ before.claimed n)) → after.claimed n ≡ true
+        claimed_now n here (inl one) = takes.claimed n ∙ one.1
+        claimed_now n here (inr other) = absurd (other.0 here)
+    each at (inr apart) (inl one) = absurd (apart.0 one.0)
+    each at (inr apart) (inr other) =
+        let unmarked = set at ∙ ap (λ (b : Bool). if b then false else is_marked old.marks at) apart.1 in (
+          λ marked. let opened = (is.each at).0 (sym unmarked ∙ marked) in record {
+            pending = takes.pending at ∙ opened.pending;
+            unclaimed = takes.claimed at ∙ other.1 ∙ opened.unclaimed;
+            clear = (opened.clear.0, opened.clear.1, λ producer produced. takes.pending producer ∙ opened.clear.2 producer produced);
+          },
+          λ opened. unmarked ∙ (is.each at).1 (record {
+            pending = sym (takes.pending at) ∙ opened.pending;
+            unclaimed = sym other.1 ∙ sym (takes.claimed at) ∙ opened.unclaimed;
+            clear = (opened.clear.0, opened.clear.1, λ producer produced. sym (takes.pending producer) ∙ opened.clear.2 producer produced);
+          }),
+        )
+
+-- ---- a rule is done: those that waited for it alone stand in its list
+
+-- what a rule that is clear waits for is clear
+clear_behind : (plan : Plan) (state : State) (rule other : Rule) (next : ℕ) → IsClear plan state rule → MakesFor plan.rules rule next → slice_get plan.rules next ≡ Some other → IsClear plan state other
+clear_behind plan state rule other next clear makes here = λ q produced. clear q (suc produced.0, (next, other, makes, here, produced.1))
+
+-- a rule that waits for one which stands in the list
+waits_on : (plan : Plan) (before : State) (core : Core) (done : ℕ) → IsCore plan core → Frees plan before done (state_of core) → before.pending done ≡ true
+    → (between x next : ℕ) (rule other : Rule) → slice_get plan.rules x ≡ Some rule → IsClear plan (state_of core) rule → MakesFor plan.rules rule next → slice_get plan.rules next ≡ Some other
+    → ProducerOver between plan.rules other done → 0 < times core.waiting.waiters.items done next → (b : Bool) → is_reached plan next ≡ b → 0 < times core.waiting.waiters.items done x
+waits_on plan before core done is frees was between x next rule other placed clear makes here rest further false unreached = is.waiting.onward done next x rule further unreached placed makes
+waits_on plan before core done is frees was between x next rule other placed clear makes here rest further true reached = elim (changed_cases before.pending done false next) [
+  | inl one ↦ is.waiting.first done x rule (frees.reached was) placed (subst (λ (n : ℕ). MakesFor plan.rules rule n) one.0 makes)
+  | inr apart ↦ absurd (true≢false (sym was ∙ frees.settled next other reached (sym apart.1 ∙ sym (frees.pending next) ∙ clear next (zero, makes)) here done (between, rest)))
+]
+
+waits_for : (plan : Plan) (before : State) (core : Core) (done : ℕ) → IsCore plan core → Frees plan before done (state_of core) → before.pending done ≡ true
+    → (between x : ℕ) (rule : Rule) → slice_get plan.rules x ≡ Some rule → IsClear plan (state_of core) rule → ProducerOver between plan.rules rule done
+    → 0 < times core.waiting.waiters.items done x
+waits_for plan before core done is frees was zero x rule placed clear makes = is.waiting.first done x rule (frees.reached was) placed makes
+waits_for plan before core done is frees was (suc between) x rule placed clear (next, other, makes, here, rest) =
+    waits_on plan before core done is frees was between x next rule other placed clear makes here rest
+    (waits_for plan before core done is frees was between next other here (clear_behind plan (state_of core) rule other next clear makes here) rest) (is_reached plan next) refl
+
+-- what was open stays so, the rule itself aside
+stays_open : (plan : Plan) (before : State) (core : Core) (done at : ℕ) → Frees plan before done (state_of core) → (at ≡ done → ⊥) → IsOpen plan before at → IsOpen plan (state_of core) at
+stays_open plan before core done at frees apart opened = record {
+  pending = elim (changed_cases before.pending done false at) [ inl one ↦ absurd (apart one.0) | inr other ↦ frees.pending at ∙ other.1 ∙ opened.pending ];
+  unclaimed = frees.claimed at ∙ opened.unclaimed;
+  clear = (
+    opened.clear.0,
+    opened.clear.1,
+    λ producer produced. elim (changed_cases before.pending done false producer) [
+      | inl one ↦ frees.pending producer ∙ one.1
+      | inr other ↦ frees.pending producer ∙ other.1 ∙ opened.clear.2 producer produced
+    ],
+  );
+}
+
+-- and what is open and not in the list was so
+was_open : (plan : Plan) (before : State) (core : Core) (done at : ℕ) → IsCore plan core → Frees plan before done (state_of core) → times core.waiting.waiters.items done at ≡ 0
+    → IsOpen plan (state_of core) at → IsOpen plan before at
+was_open plan before core done at is frees none opened = record {
+  pending = elim (changed_cases before.pending done false at) [
+    | inl one ↦ absurd (true≢false (sym opened.pending ∙ frees.pending at ∙ one.1))
+    | inr other ↦ sym other.1 ∙ sym (frees.pending at) ∙ opened.pending
+  ];
+  unclaimed = sym (frees.claimed at) ∙ opened.unclaimed;
+  clear = (opened.clear.0, opened.clear.1, λ producer produced. unpending producer produced (before.pending producer) refl (changed_cases before.pending done false producer));
+}
+  where
+    unpending : (producer : ℕ) → DeclaredProducer plan.rules opened.clear.0 producer → (b : Bool) → before.pending producer ≡ b
+        → ((producer ≡ done) × (changed before.pending done false producer ≡ false)) ⊎ ((producer ≡ done → ⊥) × (changed before.pending done false producer ≡ before.pending producer))
+        → before.pending producer ≡ false
+    unpending producer produced false was cases = was
+    unpending producer produced true was (inr other) = sym other.1 ∙ sym (frees.pending producer) ∙ opened.clear.2 producer produced
+    unpending producer produced true was (inl one) =
+        let some = waits_for plan before core done is frees (ap before.pending (sym one.0) ∙ was) produced.0 at opened.clear.0 opened.clear.1 opened.clear.2 (subst (λ (n : ℕ). ProducerOver produced.0 plan.rules opened.clear.0 n) one.0 produced.1) in
+        absurd (omega (arith, none, some))
+
+pub turn_frees : (plan : Plan) (before : State) (core : Core) (done : ℕ) (places : List ℕ) (old new : Turn) → IsCore plan core → IsTurn plan before old → Frees plan before done (state_of core)
+    → ((at : ℕ) → count_of at places ≡ times core.waiting.waiters.items done at) → IsMarks new.marks → new.marks.places ≡ old.marks.places
+    → ((at : ℕ) → is_marked new.marks at ≡ (if count_of at places == 0 then (if at == done then false else is_marked old.marks at) else open_test core at))
+    → IsTurn plan (state_of core) new
+turn_frees plan before core done places old new is turn frees counts kept same set = record {
+  marks = kept;
+  places = subst (λ (n : ℕ). length plan.rules ≤ n) (sym same) turn.places;
+  few = turn.few;
+  each = λ at. each at (one_or_other (count_of at places) 0) (one_or_other at done);
+}
+  where
+    each : (at : ℕ) → ((count_of at places ≡ 0) × ((count_of at places == 0) ≡ true)) ⊎ ((count_of at places ≡ 0 → ⊥) × ((count_of at places == 0) ≡ false))
+        → ((at ≡ done) × ((at == done) ≡ true)) ⊎ ((at ≡ done → ⊥) × ((at == done) ≡ false)) → IsTrue (is_marked new.marks at) ↔ IsOpen plan (state_of core) at
+    each at (inr some) which =
+        let tested = set at ∙ ap (λ (b : Bool). if b then (if at == done then false else is_marked old.marks at) else open_test core at) some.1 in
+        (λ marked. open_by_test plan core at is (sym tested ∙ marked), λ opened. tested ∙ test_by_open plan core at is opened)
+    each at (inl none) (inl one) =
+        let unmarked = set at ∙ ap (λ (b : Bool). if b then (if at == done then false else is_marked old.marks at) else open_test core at) none.1
+        ∙ ap (λ (b : Bool). if b then false else is_marked old.marks at) one.1 in (
+          λ marked. absurd (true≢false (sym marked ∙ unmarked)),
+          λ opened. absurd (true≢false (sym opened.pending ∙ gone at one.0)),
+        )
+      where
+        gone : (n : ℕ) → n ≡ done → (state_of core).pending n ≡ false
+        gone n here = elim (changed_cases before.pending done false n) [ inl it ↦ frees.pending n ∙ it.1 | inr other ↦ absurd (other.0 here) ]
+    each at (inl none) (inr apart) =
+        let as_before = set at ∙ ap (λ (b : Bool). if b then (if at == done then false else is_marked old.marks at) else open_test core at) none.1
+        ∙ ap (λ (b : Bool). if b then false else is_marked old.marks at) apart.1 in (
+          λ marked. stays_open plan before core done at frees apart.0 ((turn.each at).0 (sym as_before ∙ marked)),
+          λ opened. as_before ∙ (turn.each at).1 (was_open plan before core done at is frees (sym (counts at) ∙ none.0) opened),
+        )
+
+-- ---- the first rule that is ready
+pub first_of : (plan : Plan) (state : State) (turn : Turn) (at : ℕ) → IsTurn plan state turn → state.stopped ≡ None → IsFirstMark turn.marks at → IsFirstReady plan state at
+first_of plan state turn at is going first =
+    let opened = (is.each at).0 first.marked in
+    record {
+      ready = record { pending = opened.pending; unclaimed = opened.unclaimed; going = going; clear = opened.clear };
+      first = λ before less ready. true≢false (sym ((is.each before).1 (record { pending = ready.pending; unclaimed = ready.unclaimed; clear = ready.clear })) ∙ first.first before less);
+    }
+
+pub none_of : (plan : Plan) (state : State) (turn : Turn) → IsTurn plan state turn → ((at : ℕ) → is_marked turn.marks at ≡ false) → (at : ℕ) → IsReady plan state at → ⊥
+none_of plan state turn is none at ready = true≢false (sym ((is.each at).1 (record { pending = ready.pending; unclaimed = ready.unclaimed; clear = ready.clear })) ∙ none at)
+
+-- none is ready where all is stopped
+pub stopped_none : (plan : Plan) (state : State) (found : Option Cause) → found ≡ state.stopped → is_some found ≡ true → (at : ℕ) → IsReady plan state at → ⊥
+stopped_none plan state found is some at ready = go found (is ∙ ready.going) some
+  where
+    go : (cause : Option Cause) → cause ≡ None → is_some cause ≡ true → ⊥
+    go None none up = true≢false (sym up)
+    go (Some cause) none up = cc
+
+-- ---- the rules that wait for one
+pub waiters_here : (plan : Plan) (core : Core) (rule : ℕ) → IsCore plan core → rule < length plan.rules → rule < length core.waiting.waiters.items
+waiters_here plan core rule is within = let many = is.waiting.many in omega (arith, many, within)
+
+pub waiters_marked : (plan : Plan) (core : Core) (done : ℕ) (places : List ℕ) (marks : Marks) → IsCore plan core → ((other : ℕ) → count_of other places ≡ times core.waiting.waiters.items done other)
+    → length plan.rules ≤ marks.places → (at : ℕ) → 0 < count_of at places → at < marks.places
+waiters_marked plan core done places marks is counts enough at some =
+    let same = counts at in
+    let led = is.waiting.led done at (omega (arith, some, same)) in
+    let within = slice_get_within plan.rules at led.0 led.1 in
+    omega (arith, within, enough)
+
+-- a core has settled: what was reached and is pending no longer waits for none
+pub settled_of : (plan : Plan) (core : Core) → IsCore plan core → IsSettledIn plan (state_of core)
+settled_of plan core is = λ at rule reached down placed other produced.
+    clear_waits plan.rules (is_reached plan) core.pending.items core.waiting is.waiting is.reached is.settled at other rule placed (is.settled at reached down) produced
+
+-- ---- marks that are set one after another
+-- the first so many rules were looked at
+pub record AreOpened (core : Core) (old new : Marks) (count : ℕ) : Type 0 where
+  pub marks : IsMarks new
+  pub places : new.places ≡ old.places
+  pub set : (at : ℕ) → is_marked new at ≡ (nat_lt at count && open_test core at)
+
+pub opened_none : (core : Core) (marks : Marks) → IsMarks marks → ((at : ℕ) → is_marked marks at ≡ false) → AreOpened core marks marks 0
+opened_none core marks is none = record {
+  marks = is;
+  places = refl;
+  set = λ at. none at ∙ sym (ap (λ (b : Bool). b && open_test core at) (le-ltb at 0 (omega arith)));
+}
+
+pub opened_more : (core : Core) (old mid new : Marks) (count : ℕ) → AreOpened core old mid count → IsMarks new → new.places ≡ mid.places
+    → ((at : ℕ) → is_marked new at ≡ (if at == count then open_test core count else is_marked mid at)) → AreOpened core old new (count + 1)
+opened_more core old mid new count are kept places set = record {
+  marks = kept;
+  places = places ∙ are.places;
+  set = λ at. one at (one_or_other at count);
+}
+  where
+    next : (at : ℕ) → (at ≡ count → ⊥) → nat_lt at count ≡ nat_lt at (count + 1)
+    next at other = go (nat_lt at count) refl
+      where
+        go : (b : Bool) → nat_lt at count ≡ b → nat_lt at count ≡ nat_lt at (count + 1)
+        go true e = let less = ltb-true at count e in e ∙ sym (lt-ltb at (count + 1) (omega (arith, less)))
+        go false e = let past = ltb-false at count e in e ∙ sym (le-ltb at (count + 1) (omega (arith, past, other)))
+
+    one : (at : ℕ) → ((at ≡ count) × ((at == count) ≡ true)) ⊎ ((at ≡ count → ⊥) × ((at == count) ≡ false)) → is_marked new at ≡ (nat_lt at (count + 1) && open_test core at)
+    one at (inl same) =
+        set at ∙ ap (λ (b : Bool). if b then open_test core count else is_marked mid at) same.1 ∙ ap (open_test core) (sym same.0)
+        ∙ ap (λ (b : Bool). b && open_test core at) (sym (lt-ltb at (count + 1) (let here = same.0 in omega (arith, here))))
+    one at (inr apart) =
+        set at ∙ ap (λ (b : Bool). if b then open_test core count else is_marked mid at) apart.1 ∙ are.set at
+        ∙ ap (λ (b : Bool). b && open_test core at) (next at apart.0)
+
+-- the marks of some places are those of a core, and all others stay
+pub record AreTold (core : Core) (old new : Marks) (places : List ℕ) : Type 0 where
+  pub marks : IsMarks new
+  pub same : new.places ≡ old.places
+  pub set : (at : ℕ) → is_marked new at ≡ (if count_of at places == 0 then is_marked old at else open_test core at)
+
+pub told_none : (core : Core) (marks : Marks) → IsMarks marks → AreTold core marks marks []
+told_none core marks is = record { marks = is; same = refl; set = λ at. refl }
+
+pub told_more : (core : Core) (old mid new : Marks) (places : List ℕ) (i place : ℕ) → i < length places → place ≡ get_or places i 0 → AreTold core old mid (take i places) → IsMarks new → new.places ≡ mid.places
+    → ((at : ℕ) → is_marked new at ≡ (if at == place then open_test core place else is_marked mid at)) → AreTold core old new (take (i + 1) places)
+told_more core old mid new places i place within is are kept same set = record {
+  marks = kept;
+  same = same ∙ are.same;
+  set = λ at. one at (one_or_other at place);
+}
+  where
+    not_zero : (n : ℕ) → 0 < n → (n == 0) ≡ false
+    not_zero n less = elim (one_or_other n 0) [ inl is ↦ absurd (let none = is.0 in omega (arith, less, none)) | inr other ↦ other.1 ]
+
+    some : (at : ℕ) → at ≡ place → (count_of at (take (i + 1) places) == 0) ≡ false
+    some at here = not_zero (count_of at (take (i + 1) places)) (let more = count_of-take at places i place within is in let one_more = one_if-same place at (sym here) in omega (arith, more, one_more))
+
+    none : (at : ℕ) → (at ≡ place → ⊥) → count_of at (take (i + 1) places) ≡ count_of at (take i places)
+    none at apart = let more = count_of-take at places i place within is in let no_more = one_if-other place at (λ e. apart (sym e)) in omega (arith, more, no_more)
+
+    one : (at : ℕ) → ((at ≡ place) × ((at == place) ≡ true)) ⊎ ((at ≡ place → ⊥) × ((at == place) ≡ false))
+        → is_marked new at ≡ (if count_of at (take (i + 1) places) == 0 then is_marked old at else open_test core at)
+    one at (inl here) =
+        set at ∙ ap (λ (b : Bool). if b then open_test core place else is_marked mid at) here.1 ∙ ap (open_test core) (sym here.0)
+        ∙ sym (ap (λ (b : Bool). if b then is_marked old at else open_test core at) (some at here.0))
+    one at (inr apart) =
+        set at ∙ ap (λ (b : Bool). if b then open_test core place else is_marked mid at) apart.1 ∙ are.set at
+        ∙ ap (λ (n : ℕ). if n == 0 then is_marked old at else open_test core at) (sym (none at apart.0))
+
+pub told_all : (core : Core) (old new : Marks) (places : List ℕ) (i : ℕ) → length places ≤ i → AreTold core old new (take i places) → AreTold core old new places
+told_all core old new places i past are = subst (AreTold core old new) (take_all i places past) are

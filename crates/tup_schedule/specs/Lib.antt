@@ -1,0 +1,4 @@
+pub mod Room
+pub mod Course
+pub mod Marks
+pub mod Turn

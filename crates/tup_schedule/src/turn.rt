@@ -1,0 +1,98 @@
+//! Which rule may be claimed first.
+ghost use Rattle.std.specs.Prelude.{◌≡◌, ◌<◌, ◌≤◌, ◌&&◌, ◌==◌, ℕ, false, if◌then◌else◌, IfOk, MatchOption, length, nat_lt};
+ghost use Rattle.tup_clean.specs.Queue.{count_of};
+ghost use Rattle.tup_core.specs.Machine.{state_of, IsCore};
+ghost use Rattle.tup_core.specs.Reading.{open_test};
+ghost use Rattle.tup_schedule.specs.Marks.{IsMarks, is_marked};
+ghost use Rattle.tup_core.specs.Step.{State, IsReady};
+ghost use Rattle.tup_schedule.specs.Turn.{IsFirstReady, IsTurn, HasTurn, Takes, Frees};
+
+use crate::marks::Marks;
+use std::alloc::{AllocError, Global};
+use tup_core::{Core, Plan};
+
+/// The rules of a plan that may be claimed as soon as nothing is stopped, kept beside its core.
+#[derive(Drop)]
+pub struct Turn {
+    marks: Marks,
+}
+
+impl Turn {
+    /// Those of a core. It takes the memory for all that comes.
+    pub fn new(alloc: Global, plan: &Plan, core: &Core) -> Result<Turn, AllocError>
+        requires { IsCore plan.now core.now }
+        ensures { IfOk result (IsTurn plan.now (state_of core.now)) }
+    {
+        let count = plan.rules.len();
+        let mut marks = Marks::new(alloc, count)?;
+        mark_open(&mut marks, core, count);
+        Ok(Turn { marks })
+    }
+
+    /// The first rule that may be claimed. It takes no memory, and as many steps as the number of rules has digits.
+    pub fn first_ready(&self, plan: &Plan, core: &Core) -> Option<u32>
+        requires core { IsCore plan.now core.now }
+        requires turn { IsTurn plan.now (state_of core.now) self.now }
+        ensures { MatchOption result ((at : ℕ) → IsReady plan.now (state_of core.now) at → ⊥)
+            (IsFirstReady plan.now (state_of core.now)) }
+    {
+        if core.stopped().is_some() {
+            return None;
+        }
+        match self.marks.first() {
+            Some(at) => Some(at as u32),
+            None => None,
+        }
+    }
+
+    /// A rule of the plan was claimed.
+    pub fn claim(&mut self, plan: &Plan, rule: u32)
+        requires rule { rule < length plan.now.rules }
+        requires before { HasTurn plan.now self.old }
+        ensures { (before now : State) → IsTurn plan.now before self.old → Takes before rule now
+            → IsTurn plan.now now self.new }
+    {
+        self.marks.set(rule as usize, false);
+    }
+
+    /// A rule of the plan is pending no longer in a core: those that waited for it alone may be claimed.
+    pub fn free(&mut self, plan: &Plan, core: &Core, rule: u32)
+        requires core { IsCore plan.now core.now }
+        requires rule { rule < length plan.now.rules }
+        requires before { HasTurn plan.now self.old }
+        ensures { (before : State) → IsTurn plan.now before self.old
+            → Frees plan.now before rule (state_of core.now)
+            → IsTurn plan.now (state_of core.now) self.new }
+    {
+        self.marks.set(rule as usize, false);
+        mark_all(&mut self.marks, core, core.waiters(rule as usize));
+    }
+}
+
+/// Marks the first rules that are open in a core.
+fn mark_open(marks: &mut Marks, core: &Core, count: usize)
+    requires marks { IsMarks marks.old }
+    requires count { count ≤ marks.old.places }
+    requires none { (at : ℕ) → is_marked marks.old at ≡ false }
+    ensures marks { IsMarks marks.new }
+    ensures places { marks.new.places ≡ marks.old.places }
+    ensures set { (at : ℕ) → is_marked marks.new at ≡ (nat_lt at count && open_test core.now at) }
+{
+    for at in 0..count {
+        marks.set(at, core.is_open(at));
+    }
+}
+
+/// Marks those of some rules that are open in a core, and takes the marks of the others away.
+fn mark_all(marks: &mut Marks, core: &Core, places: &[usize])
+    requires marks { IsMarks marks.old }
+    requires places { (at : ℕ) → 0 < count_of at places.now → at < marks.old.places }
+    ensures marks { IsMarks marks.new }
+    ensures places { marks.new.places ≡ marks.old.places }
+    ensures set { (at : ℕ) → is_marked marks.new at
+        ≡ (if count_of at places.now == 0 then is_marked marks.old at else open_test core.now at) }
+{
+    for at in places {
+        marks.set(*at, core.is_open(*at));
+    }
+}

@@ -1,0 +1,42 @@
+-- What edits leave of a graph, and what is known of one that was opened by its fields.
+use Rattle.std.proofs.Common.{◌≡◌, ℕ, ◌&&◌, Bool, true, false, List, [], map, IsTrue, refl, sym, ap, subst, ◌∙◌}
+use Rattle.tup_table.specs.Entries.{Standing, IsAscending, committed}
+use Rattle.tup_table.specs.Table.{entries_in, is_fresh as is_fresh_table}
+use Rattle.tup_table.specs.declared.change.Change.{Change}
+use Rattle.tup_graph.specs.Changes.{needed, once_made}
+use Rattle.tup_graph.specs.Edits.{change_of, edited_by}
+use Rattle.tup_graph.specs.Opening.{IsGraphOf}
+use Rattle.tup_graph.specs.declared.edit.Edit.{Edit}
+use Rattle.tup_graph.proofs.OneWay.{one_graph}
+use Rattle.tup_stored_graph.specs.Held.{Held, IsSound, is_fresh}
+use Rattle.tup_stored_graph.specs.Transaction.{to_write, with_changes, after}
+
+first_true : (a b : Bool) → IsTrue (a && b) → a ≡ true
+first_true true b is = refl
+first_true false b is = is
+
+whole_if_fresh : (graph : Held) → IsTrue (is_fresh graph) → graph.whole ≡ true
+whole_if_fresh graph fresh = first_true graph.whole (is_fresh_table graph.table) fresh
+
+-- edits that change nothing leave the graph as it is
+module _ (old : Held) (edits : List Edit) (fresh : IsTrue (is_fresh old)) where
+  pub unchanged : ((origin : ℕ) → IsGraphOf (once_made origin (entries_in old.table) edits) (edited_by old.nodes edits)) → IsGraphOf (entries_in old.table) old.nodes → to_write old edits ≡ [] → old ≡ after old edits (edited_by old.nodes edits)
+  unchanged read is none =
+      let nodes = edited_by old.nodes edits in
+      let same : old.nodes ≡ nodes = one_graph (entries_in old.table) old.nodes nodes is (subst (λ (cs : List Change). IsGraphOf (committed 0 (entries_in old.table) cs) nodes) none (read 0)) in
+      let kept : old.table ≡ with_changes old.table (to_write old edits) = sym (ap (with_changes old.table) none) in
+      λ i. record { table = kept i; nodes = same i; whole = whole_if_fresh old fresh i }
+
+-- ---- what is known of a graph that was opened by its fields
+module _ (old inside : Held) (view : inside ≡ old) where
+  pub sound_now : IsSound inside → IsTrue (is_fresh old) → IsGraphOf (entries_in old.table) old.nodes
+  sound_now sound fresh = subst IsSound view sound (whole_if_fresh old fresh)
+
+  pub entries_now : (es : Standing) → es ≡ entries_in inside.table → es ≡ entries_in old.table
+  entries_now es is = is ∙ ap (λ (h : Held). entries_in h.table) view
+
+  pub ascending_now : (es : Standing) → es ≡ entries_in inside.table → IsAscending es → IsAscending (entries_in old.table)
+  ascending_now es is up = subst (λ (es : Standing). IsAscending es) (entries_now es is) up
+
+  pub written_now : (edits : List Edit) (es : Standing) (cs : List Change) → es ≡ entries_in inside.table → cs ≡ needed es (map change_of edits) → cs ≡ to_write old edits
+  written_now edits es cs is cs_are = cs_are ∙ ap (λ (es : Standing). needed es (map change_of edits)) (entries_now es is)

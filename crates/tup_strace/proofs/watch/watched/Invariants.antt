@@ -1,0 +1,7 @@
+use Rattle.std.proofs.Common.{◌≡◌, drop}
+use Rattle.std.specs.List.{fold}
+use Rattle.tup_strace.specs.Watch.{followed, watch_begun}
+use Rattle.tup_strace.proofs.watch.watched.Given as goal
+
+abbrev pub invariant-loop-call : goal.invariant-loop-call
+invariant-loop-call l = fold (followed l.births l.dir) l.watch (drop l.call-index l.calls) ≡ fold (followed l.births l.dir) watch_begun l.calls

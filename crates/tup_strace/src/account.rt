@@ -1,0 +1,136 @@
+//! The account of a command.
+ghost use Rattle.std.specs.Prelude.{◌≡◌, OnOk, IfOk};
+ghost use Rattle.tup_strace.specs.Account as specs;
+ghost use Rattle.tup_strace.specs.Account.{with_step, account_of};
+
+use std::alloc::{AllocError, Global};
+use tup_path::{Path, Paths};
+
+/// What a command does to a path.
+#[derive(Drop)]
+pub enum Step {
+    /// It asks for what is there.
+    Ask(Path),
+    /// It makes or overwrites what is there.
+    Write(Path),
+    /// It asks for what is there, and may have changed it.
+    Change(Path),
+    /// It removes what is there.
+    Remove(Path),
+    /// It moves what is there.
+    Move { from: Path, to: Path },
+}
+
+/// What a command asks for and writes.
+#[derive(Drop)]
+pub struct Account {
+    /// What it asks for, in order, each path once.
+    pub asks: Paths,
+    /// What it wrote, made, removed or may have changed, in the order in which it first did.
+    pub touched: Paths,
+    /// What it surely wrote, made or removed; it isn't asked for afterwards.
+    pub own: Paths,
+}
+
+/// The account of what was done, step by step.
+pub fn accounted(alloc: Global, steps: &[Step]) -> Result<Account, AllocError>
+    ensures { IfOk result (λ account. account ≡ account_of steps.now) }
+{
+    let mut account = Account::new(alloc);
+    for step in steps {
+        account.add(step)?;
+    }
+    Ok(account)
+}
+
+impl Account {
+    /// Nothing was done yet.
+    pub fn new(alloc: Global) -> Account
+        ensures { result ≡ specs.nothing }
+    {
+        Account {
+            asks: Paths::new(alloc),
+            touched: Paths::new(alloc),
+            own: Paths::new(alloc),
+        }
+    }
+
+    /// Adds what was done to a path.
+    pub fn add(&mut self, step: &Step) -> Result<(), AllocError>
+        ensures { OnOk result (self.new ≡ with_step self.old step.now) }
+    {
+        match step {
+            Step::Ask(path) => self.ask(path),
+            Step::Write(path) => self.write(path),
+            Step::Change(path) => self.change(path),
+            Step::Remove(path) => self.remove(path),
+            Step::Move { from, to } => self.rename(from, to),
+        }
+    }
+
+    /// Whether the command wrote, made or removed a path itself.
+    pub fn is_own(&self, path: &Path) -> bool
+        ensures { result ≡ specs.is_among path.now self.now.own }
+    {
+        self.own.as_slice().contains(path)
+    }
+
+    /// Adds an ask.
+    fn ask(&mut self, path: &Path) -> Result<(), AllocError>
+        ensures { OnOk result (self.new ≡ specs.asked self.old path.now) }
+    {
+        if self.is_own(path) {
+            Ok(())
+        } else {
+            add_path(&mut self.asks, path)
+        }
+    }
+
+    /// Adds a write.
+    fn write(&mut self, path: &Path) -> Result<(), AllocError>
+        ensures { OnOk result (self.new ≡ specs.written self.old path.now) }
+    {
+        add_path(&mut self.touched, path)?;
+        add_path(&mut self.own, path)
+    }
+
+    /// Adds an ask, and what may be a write.
+    fn change(&mut self, path: &Path) -> Result<(), AllocError>
+        ensures { OnOk result (self.new ≡ specs.touched (specs.asked self.old path.now) path.now) }
+    {
+        self.ask(path)?;
+        add_path(&mut self.touched, path)
+    }
+
+    /// Adds a removal.
+    fn remove(&mut self, path: &Path) -> Result<(), AllocError>
+        ensures { OnOk result (self.new ≡ specs.written (specs.asked self.old path.now) path.now) }
+    {
+        self.ask(path)?;
+        self.write(path)
+    }
+
+    /// Adds a move.
+    fn rename(&mut self, from: &Path, to: &Path) -> Result<(), AllocError>
+        ensures { OnOk result (self.new ≡ specs.moved self.old from.now to.now) }
+    {
+        if *from == *to {
+            return self.ask(from);
+        }
+        self.ask(from)?;
+        self.write(to)?;
+        self.write(from)
+    }
+}
+
+/// Adds a path to others, where it isn't there.
+fn add_path(paths: &mut Paths, path: &Path) -> Result<(), AllocError>
+    ensures { OnOk result (paths.new ≡ specs.with_path paths.old path.now) }
+{
+    if paths.as_slice().contains(path) {
+        return Ok(());
+    }
+    let path = path.clone()?;
+    paths.push(path)?;
+    Ok(())
+}

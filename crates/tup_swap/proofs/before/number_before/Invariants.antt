@@ -1,6 +1,0 @@
-use Rattle.std.proofs.Common.{ℕ, ◌<◌, slice_index}
-use Rattle.tup_graph.specs.Kept.{IsRuleAt}
-use Rattle.tup_swap.proofs.before.number_before.Given as goal
-
-abbrev pub invariant-loop-number : goal.invariant-loop-number
-invariant-loop-number l = (k : ℕ) → k < l.number-index → IsRuleAt l.nodes (slice_index l.number-items k) l.rule → ⊥

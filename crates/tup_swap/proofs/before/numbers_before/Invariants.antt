@@ -1,6 +1,0 @@
-use Rattle.std.proofs.Common.{take}
-use Rattle.tup_swap.specs.Before.{AreNumbersBefore}
-use Rattle.tup_swap.proofs.before.numbers_before.Given as goal
-
-abbrev pub invariant-loop-rule : goal.invariant-loop-rule
-invariant-loop-rule l = AreNumbersBefore l.nodes (take l.rule-index l.rules) l.befores

@@ -1,6 +1,0 @@
-use Rattle.std.proofs.Common.{take}
-use Rattle.tup_swap.specs.Before.{AreNumbersByPath}
-use Rattle.tup_swap.proofs.before.numbers_by_path.Given as goal
-
-abbrev pub invariant-loop-at : goal.invariant-loop-at
-invariant-loop-at l = AreNumbersByPath (take l.at l.rules) l.numbers

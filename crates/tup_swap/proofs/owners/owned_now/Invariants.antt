@@ -1,6 +1,0 @@
-use Rattle.std.proofs.Common.{take}
-use Rattle.tup_swap.specs.Owners.{AreOwned}
-use Rattle.tup_swap.proofs.owners.owned_now.Given as goal
-
-abbrev pub invariant-loop-at : goal.invariant-loop-at
-invariant-loop-at l = AreOwned (take l.at l.rules) l.nodes.owned l.owned

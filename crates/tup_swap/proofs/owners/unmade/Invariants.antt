@@ -1,7 +1,0 @@
-use Rattle.std.proofs.Common.{◌≡◌, map}
-use Rattle.std.specs.Map.Iter.{deref_pair}
-use Rattle.tup_swap.proofs.Owning.{unmade_of}
-use Rattle.tup_swap.proofs.owners.unmade.Given as goal
-
-abbrev pub invariant-loop-path : goal.invariant-loop-path
-invariant-loop-path l = l.owned ≡ unmade_of (map deref_pair l.yielded)

@@ -1,7 +1,0 @@
-use Rattle.std.proofs.Common.{◌≡◌, ◌++◌, take}
-use Rattle.tup_swap.specs.Numbered.{numbered}
-use Rattle.tup_swap.specs.Running.{flag_at}
-use Rattle.tup_swap.proofs.running.push_flagged.Given as goal
-
-abbrev pub invariant-loop-at : goal.invariant-loop-at
-invariant-loop-at l = l.flags ≡ l.fn.flags ++ numbered (flag_at l.nodes) 0 (take l.at l.befores)

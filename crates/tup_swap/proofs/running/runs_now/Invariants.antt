@@ -1,7 +1,0 @@
-use Rattle.std.proofs.Common.{◌≡◌, take}
-use Rattle.tup_swap.specs.Numbered.{numbered}
-use Rattle.tup_swap.specs.Running.{run_at}
-use Rattle.tup_swap.proofs.running.runs_now.Given as goal
-
-abbrev pub invariant-loop-at : goal.invariant-loop-at
-invariant-loop-at l = l.runs ≡ numbered (run_at l.nodes) 0 (take l.at l.befores)

@@ -1,2 +1,0 @@
-mod MarksLaws
-pub mod TurnLaws

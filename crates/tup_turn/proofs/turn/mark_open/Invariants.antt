@@ -1,5 +1,0 @@
-use Rattle.tup_turn.proofs.TurnLaws.{AreOpened}
-use Rattle.tup_turn.proofs.turn.mark_open.Given as goal
-
-abbrev pub invariant-loop-at : goal.invariant-loop-at
-invariant-loop-at l = AreOpened l.core l.fn.marks l.marks l.at

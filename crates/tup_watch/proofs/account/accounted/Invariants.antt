@@ -1,7 +1,0 @@
-use Rattle.std.proofs.Common.{◌≡◌, drop}
-use Rattle.std.specs.List.{fold}
-use Rattle.tup_watch.specs.Account.{with_step, nothing}
-use Rattle.tup_watch.proofs.account.accounted.Given as goal
-
-abbrev pub invariant-loop-step : goal.invariant-loop-step
-invariant-loop-step l = fold with_step l.account (drop l.step-index l.steps) ≡ fold with_step nothing l.steps
