@@ -182,7 +182,7 @@ fn is_noted<S: Site>(alloc: Global, site: &mut S, graph: &mut Graph) -> bool
         → StandsFor S.world S.moment S.left_since graph.old site.old }
     ensures { IsTrue result → IsReady S.Site.own graph.new site.new }
 {
-    match scan(alloc, site, 1, &Still) {
+    match scan(alloc, site, &Still) {
         Ok(seen) => takes_note(alloc, site, graph, &seen),
         Err(_) => false,
     }

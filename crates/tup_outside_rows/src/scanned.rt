@@ -9,7 +9,7 @@ use tup_stamp::hex;
 
 /// What a scan of a site sees.
 pub(crate) fn scanned<S: Site>(alloc: Global, site: &mut S) -> Words {
-    match scan(alloc, site, 1, &Still) {
+    match scan(alloc, site, &Still) {
         Ok(seen) => shown(alloc, &seen),
         Err(fault) => refused(alloc, fault),
     }
@@ -34,7 +34,7 @@ pub(crate) fn passes<S: Site>(alloc: Global, site: &mut S) -> Words {
     let pulse = Digits {
         told: AtomicU64::new(0),
     };
-    let _ = scan(alloc, site, 1, &pulse);
+    let _ = scan(alloc, site, &pulse);
     Words::shown(alloc, &pulse.told.load(Ordering::SeqCst))
 }
 

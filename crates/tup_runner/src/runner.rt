@@ -11,7 +11,7 @@ use std::alloc::Global;
 use tup_path::{Path, Text};
 
 /// What runs commands. Its meaning belongs to its type: all runners of one type mean the same.
-pub trait Runner: Drop + Send {
+pub trait Runner: Drop {
     /// Whether runners of this type tell their meaning.
     ghost tells: { Bool };
 

@@ -21,18 +21,11 @@ pub const MAX_FILES: u64 = 65_536;
 /// What the tree of a site holds: the stamp of each file, in the order of paths, and the content of tup.config.
 ///
 /// Files are read one at a time, so memory is that of the longest and of the list. The pulse is told of each before it
-/// is digested. One worker is all it takes so far.
+/// is digested.
 ///
 /// `TooManyFiles` comes before any file is read, and names their number; `TooLarge` names the length of one
 /// that is longer than a file may be. The site is as it was, whatever the answer.
-pub fn scan<S: Site, P: Pulse>(
-    alloc: Global,
-    site: &mut S,
-    workers: u32,
-    pulse: &P,
-) -> Result<Seen, ScanFault>
-    requires { workers ≡ 1 }
-
+pub fn scan<S: Site, P: Pulse>(alloc: Global, site: &mut S, pulse: &P) -> Result<Seen, ScanFault>
     ensures seen { IsTrue S.tells → IfOk result (IsSeen (S.world site.old).tree) }
     ensures few { IfOk result (λ seen. length seen.files ≤ 65536) }
     ensures within { IsTrue S.tells → IfOk result (λ seen. IsWithinLimits (S.world site.old).tree) }
@@ -46,7 +39,6 @@ pub fn scan<S: Site, P: Pulse>(
     ensures crash { IsTrue S.tells → GoesOn S.moment S.left_since site.old site.new NoStep }
     ensures known { IsTrue S.tells → S.known site.new ≡ S.known site.old }
 {
-    let _ = workers;
     let paths = site.list(alloc)?;
     let found = paths.len() as u64;
     if found > MAX_FILES {

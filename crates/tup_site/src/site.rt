@@ -24,7 +24,7 @@ use tup_path::{Bytes, Path, Paths};
 /// A crash may leave another world than the present one: each call says what it adds to what a
 /// crash since an earlier moment may leave, whatever it answers, and a `settle` or `db_sync` that
 /// succeeds says what every crash from then on leaves.
-pub trait Site: Drop + Send {
+pub trait Site: Drop {
     /// Whether the site tells its world.
     ghost tells: { Bool };
 

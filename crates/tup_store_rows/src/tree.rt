@@ -38,7 +38,7 @@ impl Tree {
 
     /// Notes the files with their stamps, as a scan sees them, and gives what it sees of tup.config.
     pub(crate) fn note(&mut self, alloc: Global) -> Result<Option<Bytes>, GraphFault> {
-        match scan(alloc, &mut self.site, 1, &Still) {
+        match scan(alloc, &mut self.site, &Still) {
             Ok(seen) => self.note_seen(alloc, seen),
             Err(_) => Err(GraphFault::Memory),
         }

@@ -2,8 +2,8 @@ use Rattle.std.proofs.Common.{sym, ap}
 use Rattle.tup_board.specs.Board.{BoardState, plan_of}
 use Rattle.tup_board_rows.proofs.opening.made.Goals as goal
 
-pub new-requires-after_bounds : goal.new-requires-after_bounds
-new-requires-after_bounds g c κs within = record {
+pub new-requires : goal.new-requires
+new-requires g c = record {
   fresh = c.requires.ready.fresh;
   stands = c.requires.ready.stands;
   seen = c.requires.ready.seen;

@@ -15,7 +15,7 @@ note_scan-requires g c = record {
 }
 
 pub commit_edits-requires-clause-read : goal.commit_edits-requires-clause-read
-commit_edits-requires-clause-read g c κs within = λ origin up is spelled.
+commit_edits-requires-clause-read g c = λ origin up is spelled.
     let old = c.args.graph.now in
     let edits = c.in_ok-edits.edits in
     let are = subst (λ (nodes : GraphState). AreScanEdits nodes c.args.seen.now.files c.args.seen.now.config edits) c.indexed.ensures.value c.in_ok-edits.ensures.edits in

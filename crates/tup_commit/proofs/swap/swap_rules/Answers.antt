@@ -10,7 +10,7 @@ use Rattle.tup_commit.proofs.Crashes.{by_commit, by_nothing}
 use Rattle.tup_commit.proofs.swap.swap_rules.Goals as goal
 
 pub commit_edits-requires-clause-read : goal.commit_edits-requires-clause-read
-commit_edits-requires-clause-read g c κs within = λ origin up is spelled.
+commit_edits-requires-clause-read g c = λ origin up is spelled.
     let old = c.args.graph.now in
     let edits = c.in_ok-edits.edits in
     let are = subst (λ (nodes : GraphState). AreSwapEdits nodes c.args.fresh.now.readings c.args.fresh.now.gone c.args.rules.now edits) c.nodes.ensures.value c.in_ok-edits.ensures.edits in

@@ -3,6 +3,6 @@ use Rattle.tup_law_board.proofs.laws.boards_keep_sites.Goals as goal
 
 pub returns : goal.returns
 returns g c = λ language board tells told sound is_graph held kept.
-    let site_laws = g.met.S.Site g.world.𝓛 g.world.𝓜 g.world.𝓡 ((λ s x. x), (λ x. x), (λ x. x), λ x. x) in
+    let site_laws = g.met.S.Site in
     site_kept g.S.Site g.R.Runner board sound tells told language kept is_graph held (λ t u w within left. site_laws.earlier board.opening.site t u w tells within left)
     (site_laws.present board.opening.site tells)

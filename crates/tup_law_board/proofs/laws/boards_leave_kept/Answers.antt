@@ -3,6 +3,6 @@ use Rattle.tup_law_board.proofs.laws.boards_leave_kept.Goals as goal
 
 pub returns : goal.returns
 returns g c = λ language board tells told sound none is_graph graph_now held kept.
-    let site_laws = g.met.S.Site g.world.𝓛 g.world.𝓜 g.world.𝓡 ((λ s x. x), (λ x. x), (λ x. x), λ x. x) in
+    let site_laws = g.met.S.Site in
     kept_now g.S.Site g.R.Runner board sound tells told language kept is_graph held (λ t u w within left. site_laws.earlier board.opening.site t u w tells within left)
     (site_laws.present board.opening.site tells) none graph_now (λ t u w within left. site_laws.earlier board.site t u w tells within left) (site_laws.present board.site tells)

@@ -4,5 +4,5 @@ use Rattle.tup_law_site.proofs.calls.openings_keep_sites.Goals as goal
 
 pub returns : goal.returns
 returns g c = λ next language known first since new tells began kept on.
-    let site_laws = g.met.S.Site g.world.𝓛 g.world.𝓜 g.world.𝓡 ((λ s x. x), (λ x. x), (λ x. x), λ x. x) in
+    let site_laws = g.met.S.Site in
     opened_remains g.S.Site next language known first since c.args.site.now new began kept (before g.S.Site tells site_laws.earlier site_laws.present c.args.site.now) on

@@ -17,7 +17,7 @@ use Rattle.tup_ledger.proofs.beginning.begin.Goals.{in-Ok, in-Err-NotThere, in-E
 
 pub returns-clause-begins : goal.returns-clause-begins
 returns-clause-begins g c = λ tells.
-    let site_laws = g.met.S.Site g.world.𝓛 g.world.𝓜 g.world.𝓡 ((λ s x. x), (λ x. x), (λ x. x), λ x. x) in
+    let site_laws = g.met.S.Site in
     let world = g.S.Site.world in
     let v = world c.args.site.now in
     let mid = c.open.new.site in
@@ -45,7 +45,7 @@ returns-clause-begins g c = λ tells.
 
 pub returns-clause-crash : goal.returns-clause-crash
 returns-clause-crash g c = λ tells.
-    let site_laws = g.met.S.Site g.world.𝓛 g.world.𝓜 g.world.𝓡 ((λ s x. x), (λ x. x), (λ x. x), λ x. x) in
+    let site_laws = g.met.S.Site in
     let first = g.S.Site.world c.args.site.now in
     let mid = c.open.new.site in
     let opened = opened_on g.S.Site.moment g.S.Site.left_since first c.args.site.now mid (c.open.ensures.crash tells) in

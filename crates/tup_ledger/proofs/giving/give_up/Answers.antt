@@ -16,7 +16,7 @@ use Rattle.tup_ledger.proofs.giving.give_up.Goals as goal
 
 pub returns-in_err-settle-clause-stands : goal.returns-in_err-settle-clause-stands
 returns-in_err-settle-clause-stands g c = λ tells fresh.
-    let site_laws = g.met.S.Site g.world.𝓛 g.world.𝓜 g.world.𝓡 ((λ s x. x), (λ x. x), (λ x. x), λ x. x) in
+    let site_laws = g.met.S.Site in
     let mid = c.settle.new.site in
     stands_on g.S.Site.world g.S.Site.moment g.S.Site.left_since c.args.graph.now.table c.args.site.now mid NoStep (λ v w none. absurd none)
     (λ t u w le left. site_laws.earlier mid t u w tells le left) (c.settle.ensures.crash tells) (ap (λ (w : World). w.store) (c.settle.ensures.same tells)) (c.requires.stands tells)
@@ -29,7 +29,7 @@ returns-in_err-settle-clause-crash g c = λ tells.
 
 pub returns-in_err-settle-clause-sources : goal.returns-in_err-settle-clause-sources
 returns-in_err-settle-clause-sources g c = λ tells kept guards.
-    let site_laws = g.met.S.Site g.world.𝓛 g.world.𝓜 g.world.𝓡 ((λ s x. x), (λ x. x), (λ x. x), λ x. x) in
+    let site_laws = g.met.S.Site in
     let old = c.args.graph.now in
     let mid = c.settle.new.site in
     let is = subst (IsGraphOf (entries_in old.table)) c.nodes.ensures.value (c.nodes.ensures.graph c.requires.fresh) in
@@ -44,15 +44,15 @@ returns-in_err-settle-clause-sources g c = λ tells kept guards.
     }
 
 pub forget-ended-requires-clause-stands : goal.forget-ended-requires-clause-stands
-forget-ended-requires-clause-stands g c κs within = λ tells.
-    let site_laws = g.met.S.Site g.world.𝓛 g.world.𝓜 g.world.𝓡 ((λ s x. x), (λ x. x), (λ x. x), λ x. x) in
+forget-ended-requires-clause-stands g c = λ tells.
+    let site_laws = g.met.S.Site in
     let mid = c.settle.new.site in
     stands_on g.S.Site.world g.S.Site.moment g.S.Site.left_since c.args.graph.now.table c.args.site.now mid NoStep (λ v w none. absurd none)
     (λ t u w le left. site_laws.earlier mid t u w tells le left) (c.settle.ensures.crash tells) (ap (λ (w : World). w.store) (c.settle.ensures.same tells)) (c.requires.stands tells)
 
 pub returns-clause-durable : goal.returns-clause-durable
 returns-clause-durable g c = λ tells.
-    let site_laws = g.met.S.Site g.world.𝓛 g.world.𝓜 g.world.𝓡 ((λ s x. x), (λ x. x), (λ x. x), λ x. x) in
+    let site_laws = g.met.S.Site in
     let old = c.args.graph.now in
     let paths = c.args.paths.now in
     let mid = c.settle.new.site in
@@ -74,7 +74,7 @@ returns-clause-owned g c =
 
 pub returns-clause-lists : goal.returns-clause-lists
 returns-clause-lists g c = λ tells.
-    let site_laws = g.met.S.Site g.world.𝓛 g.world.𝓜 g.world.𝓡 ((λ s x. x), (λ x. x), (λ x. x), λ x. x) in
+    let site_laws = g.met.S.Site in
     let old = c.args.graph.now in
     let paths = c.args.paths.now in
     let new = c.forget-ended.new.self in
@@ -85,7 +85,7 @@ returns-clause-lists g c = λ tells.
 
 pub returns-in_err-settle-clause-keeps : goal.returns-in_err-settle-clause-keeps
 returns-in_err-settle-clause-keeps g c = λ tells.
-    let site_laws = g.met.S.Site g.world.𝓛 g.world.𝓜 g.world.𝓡 ((λ s x. x), (λ x. x), (λ x. x), λ x. x) in
+    let site_laws = g.met.S.Site in
     let old = c.args.graph.now in
     let site = c.args.site.now in
     let is = subst (IsGraphOf (entries_in old.table)) c.nodes.ensures.value (c.nodes.ensures.graph c.requires.fresh) in
@@ -94,7 +94,7 @@ returns-in_err-settle-clause-keeps g c = λ tells.
 
 pub returns-clause-keeps : goal.returns-clause-keeps
 returns-clause-keeps g c = λ tells.
-    let site_laws = g.met.S.Site g.world.𝓛 g.world.𝓜 g.world.𝓡 ((λ s x. x), (λ x. x), (λ x. x), λ x. x) in
+    let site_laws = g.met.S.Site in
     let old = c.args.graph.now in
     let paths = c.args.paths.now in
     let end = c.forget-ended.new.site in
@@ -107,7 +107,7 @@ returns-in_err-settle-clause-settled g c = λ tells.
 
 pub returns-clause-settled : goal.returns-clause-settled
 returns-clause-settled g c = λ tells.
-    let site_laws = g.met.S.Site g.world.𝓛 g.world.𝓜 g.world.𝓡 ((λ s x. x), (λ x. x), (λ x. x), λ x. x) in
+    let site_laws = g.met.S.Site in
     let old = c.args.graph.now in
     let mid = c.settle.new.site in
     settled_first g.S.Site.world g.S.Site.moment g.S.Site.left_since (g.S.Site.world c.args.site.now) c.args.site.now mid c.forget-ended.new.site old.nodes (with_forgotten old.nodes c.args.paths.now)
@@ -115,7 +115,7 @@ returns-clause-settled g c = λ tells.
 
 pub returns-clause-crash : goal.returns-clause-crash
 returns-clause-crash g c = λ tells.
-    let site_laws = g.met.S.Site g.world.𝓛 g.world.𝓜 g.world.𝓡 ((λ s x. x), (λ x. x), (λ x. x), λ x. x) in
+    let site_laws = g.met.S.Site in
     let old = c.args.graph.now in
     let mid = c.settle.new.site in
     let is = subst (IsGraphOf (entries_in old.table)) c.nodes.ensures.value (c.nodes.ensures.graph c.requires.fresh) in
@@ -124,7 +124,7 @@ returns-clause-crash g c = λ tells.
 
 pub returns-clause-sources : goal.returns-clause-sources
 returns-clause-sources g c = λ tells kept guards.
-    let site_laws = g.met.S.Site g.world.𝓛 g.world.𝓜 g.world.𝓡 ((λ s x. x), (λ x. x), (λ x. x), λ x. x) in
+    let site_laws = g.met.S.Site in
     let old = c.args.graph.now in
     let mid = c.settle.new.site in
     let new = c.forget-ended.new.self in

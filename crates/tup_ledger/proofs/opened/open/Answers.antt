@@ -4,7 +4,7 @@ use Rattle.tup_ledger.proofs.opened.open.Goals as goal
 
 pub returns-clause-lists : goal.returns-clause-lists
 returns-clause-lists g c = λ tells.
-    let site_laws = g.met.S.Site g.world.𝓛 g.world.𝓜 g.world.𝓡 ((λ s x. x), (λ x. x), (λ x. x), λ x. x) in
+    let site_laws = g.met.S.Site in
     let new = c.open.new.site in
     opened_lists g.S.Site.world g.S.Site.moment g.S.Site.left_since new (site_laws.present new tells) c.open.result c.open.ensures.graph (c.open.ensures.stands tells)
 
@@ -16,7 +16,7 @@ returns-clause-images g c = λ tells kept safe. opening_keeps g.S.Site.world g.S
 
 pub returns-clause-guards : goal.returns-clause-guards
 returns-clause-guards g c = λ tells kept safe.
-    let site_laws = g.met.S.Site g.world.𝓛 g.world.𝓜 g.world.𝓡 ((λ s x. x), (λ x. x), (λ x. x), λ x. x) in
+    let site_laws = g.met.S.Site in
     let old = c.args.site.now in
     let new = c.open.new.site in
     opened_guards g.S.Site.world g.S.Site.moment g.S.Site.left_since new (site_laws.present new tells) kept old c.open.result (λ t u w le left. site_laws.earlier new t u w tells le left)

@@ -14,7 +14,7 @@ use Rattle.tup_ledger.proofs.Listing.{committed_lists, lists_now}
 use Rattle.tup_ledger.proofs.owning.own.Goals as goal
 
 pub commit_edits-ended-requires-clause-read : goal.commit_edits-ended-requires-clause-read
-commit_edits-ended-requires-clause-read g c κs within = λ origin up is spelled.
+commit_edits-ended-requires-clause-read g c = λ origin up is spelled.
     let old = c.args.graph.now in
     let paths = c.args.paths.now in
     let same = ok_given c.in_ok-edits.edits (own_edits c.nodes.result.now paths) c.in_ok-edits.ensures ∙ ap (λ (n : GraphState). own_edits n paths) c.nodes.ensures.value in
@@ -41,7 +41,7 @@ returns-clause-owned g c =
 
 pub returns-clause-lists : goal.returns-clause-lists
 returns-clause-lists g c = λ tells.
-    let site_laws = g.met.S.Site g.world.𝓛 g.world.𝓜 g.world.𝓡 ((λ s x. x), (λ x. x), (λ x. x), λ x. x) in
+    let site_laws = g.met.S.Site in
     let old = c.args.graph.now in
     let new = c.commit_edits-ended.new.self in
     let end = c.commit_edits-ended.new.site in
@@ -62,7 +62,7 @@ returns-clause-crash g c = λ tells.
 
 pub returns-clause-keeps : goal.returns-clause-keeps
 returns-clause-keeps g c = λ tells.
-    let site_laws = g.met.S.Site g.world.𝓛 g.world.𝓜 g.world.𝓡 ((λ s x. x), (λ x. x), (λ x. x), λ x. x) in
+    let site_laws = g.met.S.Site in
     let old = c.args.graph.now in
     let end = c.commit_edits-ended.new.site in
     let paths = c.args.paths.now in
@@ -74,7 +74,7 @@ returns-clause-keeps g c = λ tells.
 
 pub returns-clause-sources : goal.returns-clause-sources
 returns-clause-sources g c = λ tells kept guards none may.
-    let site_laws = g.met.S.Site g.world.𝓛 g.world.𝓜 g.world.𝓡 ((λ s x. x), (λ x. x), (λ x. x), λ x. x) in
+    let site_laws = g.met.S.Site in
     let old = c.args.graph.now in
     let new = c.commit_edits-ended.new.self in
     let end = c.commit_edits-ended.new.site in
@@ -100,7 +100,7 @@ returns-in_err-edits-clause-crash g c = λ tells.
 
 pub returns-in_err-edits-clause-keeps : goal.returns-in_err-edits-clause-keeps
 returns-in_err-edits-clause-keeps g c = λ tells.
-    let site_laws = g.met.S.Site g.world.𝓛 g.world.𝓜 g.world.𝓡 ((λ s x. x), (λ x. x), (λ x. x), λ x. x) in
+    let site_laws = g.met.S.Site in
     let old = c.args.graph.now in
     let site = c.args.site.now in
     let is = subst (IsGraphOf (entries_in old.table)) c.nodes.ensures.value (c.nodes.ensures.graph c.requires.fresh) in

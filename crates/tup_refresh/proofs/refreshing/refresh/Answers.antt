@@ -7,8 +7,8 @@ use Rattle.tup_refresh.specs.Part.{HasConfig, HasPaths, IsUnfetched}
 use Rattle.tup_refresh.proofs.Outlining.{files_of, listed_map, listed_sorted, none_fetched}
 use Rattle.tup_refresh.proofs.refreshing.refresh.Goals as goal
 
-pub refresh_outlined-requires-clause-sorted : goal.refresh_outlined-requires-clause-sorted
-refresh_outlined-requires-clause-sorted g c κs within = listed_sorted c.in_ok-outline.outline c.in_ok-files.files c.in_ok-files.ensures
+pub refresh_outlined-requires : goal.refresh_outlined-requires
+refresh_outlined-requires g c = record { sorted = listed_sorted c.in_ok-outline.outline c.in_ok-files.files c.in_ok-files.ensures }
 
 pub returns-clause-refreshed : goal.returns-clause-refreshed
 returns-clause-refreshed g c = λ tells sees config trues.

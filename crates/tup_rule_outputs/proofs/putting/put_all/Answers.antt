@@ -16,14 +16,14 @@ returns-in_err-put-clause-beside g c = λ tells.
 
 pub returns-in_err-put-clause-crash : goal.returns-in_err-put-clause-crash
 returns-in_err-put-clause-crash g c = λ tells.
-    let site_laws = g.met.S.Site g.world.𝓛 g.world.𝓜 g.world.𝓡 ((λ s x. x), (λ x. x), (λ x. x), λ x. x) in
+    let site_laws = g.met.S.Site in
     let mid = c.loop-file.site in
     one_more g.S.Site.moment g.S.Site.left_since (paths_of c.args.files.now) c.args.site.now mid c.put.new.self c.file-item.result.0 _ (λ t u w le left. site_laws.earlier mid t u w tells le left)
     (path_among c.args.files.now c.loop-file.file-index c.file-item.result (omega arith) (sym c.file-item.is)) (c.loop-file.invariant.crash tells) (c.put.ensures.crash tells)
 
 pub loop-file-preserved : goal.loop-file-preserved
 loop-file-preserved g c =
-    let site_laws = g.met.S.Site g.world.𝓛 g.world.𝓜 g.world.𝓡 ((λ s x. x), (λ x. x), (λ x. x), λ x. x) in
+    let site_laws = g.met.S.Site in
     let mid = c.loop-file.site in
     let files = c.args.files.now in
     let i = c.loop-file.file-index in

@@ -14,14 +14,14 @@ use Rattle.tup_stale.proofs.clearing.clear_paths.Goals as goal
 
 pub returns-in_err-files-clause-stands : goal.returns-in_err-files-clause-stands
 returns-in_err-files-clause-stands g c = λ tells fresh.
-    let site_laws = g.met.S.Site g.world.𝓛 g.world.𝓜 g.world.𝓡 ((λ s x. x), (λ x. x), (λ x. x), λ x. x) in
+    let site_laws = g.met.S.Site in
     let end = c.look.new.site in
     stands_on g.S.Site.world g.S.Site.moment g.S.Site.left_since c.args.graph.now.table c.args.site.now end NoStep (λ v w none. absurd none)
     (λ t u w le left. site_laws.earlier end t u w tells le left) (c.look.ensures.crash tells) (ap (λ (w : World). w.store) (c.look.ensures.same tells)) (c.requires.stands tells)
 
 pub give_up-requires-clause-stands : goal.give_up-requires-clause-stands
-give_up-requires-clause-stands g c κs within = λ tells.
-    let site_laws = g.met.S.Site g.world.𝓛 g.world.𝓜 g.world.𝓡 ((λ s x. x), (λ x. x), (λ x. x), λ x. x) in
+give_up-requires-clause-stands g c = λ tells.
+    let site_laws = g.met.S.Site in
     let end = c.look.new.site in
     stands_on g.S.Site.world g.S.Site.moment g.S.Site.left_since c.args.graph.now.table c.args.site.now end NoStep (λ v w none. absurd none)
     (λ t u w le left. site_laws.earlier end t u w tells le left) (c.look.ensures.crash tells) (ap (λ (w : World). w.store) (c.look.ensures.same tells)) (c.requires.stands tells)
@@ -42,7 +42,7 @@ returns-clause-sees g c = λ tells.
 
 pub returns-in_err-give_up-clause-crash : goal.returns-in_err-give_up-clause-crash
 returns-in_err-give_up-clause-crash g c = λ tells.
-    let site_laws = g.met.S.Site g.world.𝓛 g.world.𝓜 g.world.𝓡 ((λ s x. x), (λ x. x), (λ x. x), λ x. x) in
+    let site_laws = g.met.S.Site in
     let nodes = c.args.graph.now.nodes in
     let tree = (g.S.Site.world c.args.site.now).tree in
     let paths = c.args.paths.now in
@@ -56,7 +56,7 @@ returns-in_err-give_up-clause-crash g c = λ tells.
 
 pub returns-clause-crash : goal.returns-clause-crash
 returns-clause-crash g c = λ tells.
-    let site_laws = g.met.S.Site g.world.𝓛 g.world.𝓜 g.world.𝓡 ((λ s x. x), (λ x. x), (λ x. x), λ x. x) in
+    let site_laws = g.met.S.Site in
     let nodes = c.args.graph.now.nodes in
     let tree = (g.S.Site.world c.args.site.now).tree in
     let paths = c.args.paths.now in

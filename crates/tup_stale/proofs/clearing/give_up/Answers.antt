@@ -17,14 +17,14 @@ returns-in_err-doom-clause-crash g c = λ tells.
 
 pub returns-in_err-remove-clause-stands : goal.returns-in_err-remove-clause-stands
 returns-in_err-remove-clause-stands g c = λ tells fresh.
-    let site_laws = g.met.S.Site g.world.𝓛 g.world.𝓜 g.world.𝓡 ((λ s x. x), (λ x. x), (λ x. x), λ x. x) in
+    let site_laws = g.met.S.Site in
     let end = c.remove.new.site in
     stands_on g.S.Site.world g.S.Site.moment g.S.Site.left_since c.doom.new.self.table c.doom.new.site end (FilesStep c.args.files.now) (λ v w step. step.store)
     (λ t u w le left. site_laws.earlier end t u w tells le left) (c.remove.ensures.crash tells) (c.remove.ensures.store tells) (c.doom.ensures.stands tells fresh)
 
 pub forget-requires-clause-stands : goal.forget-requires-clause-stands
-forget-requires-clause-stands g c κs within = λ tells.
-    let site_laws = g.met.S.Site g.world.𝓛 g.world.𝓜 g.world.𝓡 ((λ s x. x), (λ x. x), (λ x. x), λ x. x) in
+forget-requires-clause-stands g c = λ tells.
+    let site_laws = g.met.S.Site in
     let end = c.remove.new.site in
     let fresh = doomed_is_fresh c.args.graph.now c.doom.new.self c.args.paths.now c.requires.fresh c.in_ok-doom.ensures.leaves.0 in
     stands_on g.S.Site.world g.S.Site.moment g.S.Site.left_since c.doom.new.self.table c.doom.new.site end (FilesStep c.args.files.now) (λ v w step. step.store)
@@ -32,7 +32,7 @@ forget-requires-clause-stands g c κs within = λ tells.
 
 pub returns-in_err-remove-clause-crash : goal.returns-in_err-remove-clause-crash
 returns-in_err-remove-clause-crash g c = λ tells.
-    let site_laws = g.met.S.Site g.world.𝓛 g.world.𝓜 g.world.𝓡 ((λ s x. x), (λ x. x), (λ x. x), λ x. x) in
+    let site_laws = g.met.S.Site in
     let mid = c.doom.new.site in
     let old = c.args.graph.now in
     let is : c.doom.new.self ≡ doomed old c.args.paths.now = c.in_ok-doom.ensures.leaves.0 in
@@ -45,7 +45,7 @@ returns-in_err-remove-clause-crash g c = λ tells.
 
 pub returns-in_err-forget-clause-crash : goal.returns-in_err-forget-clause-crash
 returns-in_err-forget-clause-crash g c = λ tells.
-    let site_laws = g.met.S.Site g.world.𝓛 g.world.𝓜 g.world.𝓡 ((λ s x. x), (λ x. x), (λ x. x), λ x. x) in
+    let site_laws = g.met.S.Site in
     let mid = c.doom.new.site in
     let old = c.args.graph.now in
     let files = c.args.files.now in
@@ -62,7 +62,7 @@ returns-in_err-forget-clause-crash g c = λ tells.
 
 pub returns-clause-crash : goal.returns-clause-crash
 returns-clause-crash g c = λ tells.
-    let site_laws = g.met.S.Site g.world.𝓛 g.world.𝓜 g.world.𝓡 ((λ s x. x), (λ x. x), (λ x. x), λ x. x) in
+    let site_laws = g.met.S.Site in
     let mid = c.doom.new.site in
     let old = c.args.graph.now in
     let files = c.args.files.now in

@@ -25,7 +25,7 @@ returns-in_err-has_file-clause-sees g c = λ tells.
 
 pub loop-path-preserved : goal.loop-path-preserved
 loop-path-preserved g c =
-    let site_laws = g.met.S.Site g.world.𝓛 g.world.𝓜 g.world.𝓡 ((λ s x. x), (λ x. x), (λ x. x), λ x. x) in
+    let site_laws = g.met.S.Site in
     let nodes = c.args.nodes.now in
     let tree = (g.S.Site.world c.args.site.now).tree in
     let paths = c.args.paths.now in

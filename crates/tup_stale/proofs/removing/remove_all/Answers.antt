@@ -9,14 +9,14 @@ returns-in_err-remove-clause-part g c = λ tells.
 
 pub returns-in_err-remove-clause-crash : goal.returns-in_err-remove-clause-crash
 returns-in_err-remove-clause-crash g c = λ tells.
-    let site_laws = g.met.S.Site g.world.𝓛 g.world.𝓜 g.world.𝓡 ((λ s x. x), (λ x. x), (λ x. x), λ x. x) in
+    let site_laws = g.met.S.Site in
     let mid = c.loop-path.site in
     one_more g.S.Site.moment g.S.Site.left_since c.args.files.now c.args.site.now mid c.remove.new.self c.path-item.result _ (λ t u w le left. site_laws.earlier mid t u w tells le left)
     (among_at c.args.files.now c.loop-path.path-index c.path-item.result (omega arith) (sym c.path-item.is)) (c.loop-path.invariant.crash tells) (c.remove.ensures.crash tells)
 
 pub loop-path-preserved : goal.loop-path-preserved
 loop-path-preserved g c =
-    let site_laws = g.met.S.Site g.world.𝓛 g.world.𝓜 g.world.𝓡 ((λ s x. x), (λ x. x), (λ x. x), λ x. x) in
+    let site_laws = g.met.S.Site in
     let mid = c.loop-path.site in
     let files = c.args.files.now in
     let i = c.loop-path.path-index in

@@ -5,7 +5,7 @@ use Rattle.tup_table.proofs.writing.durable_bytes.Goals as goal
 
 pub returns-clause-durable : goal.returns-clause-durable
 returns-clause-durable g c = λ tells.
-    let site_laws = g.met.S.Site g.world.𝓛 g.world.𝓜 g.world.𝓡 ((λ s x. x), (λ x. x), (λ x. x), λ x. x) in
+    let site_laws = g.met.S.Site in
     let moment = g.S.Site.moment in
     let left_since = g.S.Site.left_since in
     let synced = c.db_sync.new.self in

@@ -18,7 +18,7 @@ returns-clause-rests g c = λ tells commits changes rests next.
 
 pub returns-clause-crash : goal.returns-clause-crash
 returns-clause-crash g c = λ tells commits changes rests next.
-    let site_laws = g.met.S.Site g.world.𝓛 g.world.𝓜 g.world.𝓡 ((λ s x. x), (λ x. x), (λ x. x), λ x. x) in
+    let site_laws = g.met.S.Site in
     let mid = c.write_through.new.site in
     commit_goes g.S.Site.world g.S.Site.moment g.S.Site.left_since commits changes c.args.gate c.args.bytes.now c.args.site.now rests next mid
     (c.in_ok-write_through.ensures.written tells) (c.in_ok-write_through.ensures.durable tells) c.write_through-2.new.site (λ t u w le left. site_laws.earlier mid t u w tells le left)

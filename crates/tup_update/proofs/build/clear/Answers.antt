@@ -36,19 +36,19 @@ returns-in_err-push-clause-part g c =
 
 pub returns-in_err-remove-clause-crash : goal.returns-in_err-remove-clause-crash
 returns-in_err-remove-clause-crash g c = λ tells.
-    let site_laws = g.met.S.Site g.world.𝓛 g.world.𝓜 g.world.𝓡 ((λ s x. x), (λ x. x), (λ x. x), λ x. x) in
+    let site_laws = g.met.S.Site in
     removed_on g.S.Site.moment g.S.Site.left_since c.args.site.now c.loop-path.site c.remove.new.self c.args.vanished.now c.loop-path.path-index c.path-item.result _ (λ t u w le left. site_laws.earlier c.loop-path.site t u w tells le left)
     (omega arith) (sym c.path-item.is) (c.loop-path.invariant.crash tells) (c.remove.ensures.crash tells)
 
 pub returns-in_err-clone-clause-crash : goal.returns-in_err-clone-clause-crash
 returns-in_err-clone-clause-crash g c = λ tells.
-    let site_laws = g.met.S.Site g.world.𝓛 g.world.𝓜 g.world.𝓡 ((λ s x. x), (λ x. x), (λ x. x), λ x. x) in
+    let site_laws = g.met.S.Site in
     removed_on g.S.Site.moment g.S.Site.left_since c.args.site.now c.loop-path.site c.remove.new.self c.args.vanished.now c.loop-path.path-index c.path-item.result _ (λ t u w le left. site_laws.earlier c.loop-path.site t u w tells le left)
     (omega arith) (sym c.path-item.is) (c.loop-path.invariant.crash tells) (c.remove.ensures.crash tells)
 
 pub returns-in_err-push-clause-crash : goal.returns-in_err-push-clause-crash
 returns-in_err-push-clause-crash g c = λ tells.
-    let site_laws = g.met.S.Site g.world.𝓛 g.world.𝓜 g.world.𝓡 ((λ s x. x), (λ x. x), (λ x. x), λ x. x) in
+    let site_laws = g.met.S.Site in
     removed_on g.S.Site.moment g.S.Site.left_since c.args.site.now c.loop-path.site c.remove.new.self c.args.vanished.now c.loop-path.path-index c.path-item.result _ (λ t u w le left. site_laws.earlier c.loop-path.site t u w tells le left)
     (omega arith) (sym c.path-item.is) (c.loop-path.invariant.crash tells) (c.remove.ensures.crash tells)
 
@@ -73,7 +73,7 @@ loop-path-preserved g c =
           (cleared_one paths i path old _ (omega arith) (sym c.path-item.is) (c.loop-path.invariant.cleared tells));
       store = λ tells. c.remove.ensures.store tells ∙ c.loop-path.invariant.store tells;
       crash = λ tells.
-          let site_laws = g.met.S.Site g.world.𝓛 g.world.𝓜 g.world.𝓡 ((λ s x. x), (λ x. x), (λ x. x), λ x. x) in
+          let site_laws = g.met.S.Site in
           removed_on g.S.Site.moment g.S.Site.left_since c.args.site.now c.loop-path.site c.remove.new.self c.args.vanished.now c.loop-path.path-index c.path-item.result _ (λ t u w le left. site_laws.earlier c.loop-path.site t u w tells le left)
           (omega arith) (sym c.path-item.is) (c.loop-path.invariant.crash tells) (c.remove.ensures.crash tells);
       removed = grown_one paths i path c.in_ok-clone.field-0 _ _ _ (omega arith) (sym c.path-item.is) c.in_ok-clone.ensures.cases c.loop-path.invariant.removed c.in_ok-push.ensures.ok;

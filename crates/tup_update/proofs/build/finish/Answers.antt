@@ -60,14 +60,14 @@ returns-clause-reads g c = λ tells.
 
 pub returns-in_err-give_up-clause-either : goal.returns-in_err-give_up-clause-either
 returns-in_err-give_up-clause-either g c = λ tells.
-    let site_laws = g.met.S.Site g.world.𝓛 g.world.𝓜 g.world.𝓡 ((λ s x. x), (λ x. x), (λ x. x), λ x. x) in
+    let site_laws = g.met.S.Site in
     let nodes = c.args.graph.now.nodes in
     let new = c.give_up.new.site in
     either_now g.S.Site.world g.S.Site.moment g.S.Site.left_since c.args.site.now new nodes (with_forgotten nodes c.args.left.now) (λ t u w le left. site_laws.earlier new t u w tells le left) (site_laws.present new tells) (c.give_up.ensures.crash tells)
 
 pub returns-clause-either : goal.returns-clause-either
 returns-clause-either g c = λ tells.
-    let site_laws = g.met.S.Site g.world.𝓛 g.world.𝓜 g.world.𝓡 ((λ s x. x), (λ x. x), (λ x. x), λ x. x) in
+    let site_laws = g.met.S.Site in
     let nodes = c.args.graph.now.nodes in
     let new = c.give_up.new.site in
     either_now g.S.Site.world g.S.Site.moment g.S.Site.left_since c.args.site.now new nodes (with_forgotten nodes c.args.left.now) (λ t u w le left. site_laws.earlier new t u w tells le left) (site_laws.present new tells) (c.give_up.ensures.crash tells)

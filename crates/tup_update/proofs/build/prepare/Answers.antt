@@ -63,7 +63,7 @@ returns-in_err-clear-clause-unclaimed g c = λ tells.
 
 pub returns-in_err-clear-clause-crash : goal.returns-in_err-clear-clause-crash
 returns-in_err-clear-clause-crash g c = λ tells.
-    let site_laws = g.met.S.Site g.world.𝓛 g.world.𝓜 g.world.𝓡 ((λ s x. x), (λ x. x), (λ x. x), λ x. x) in
+    let site_laws = g.met.S.Site in
     let plan = c.args.plan.now in
     let mid = c.own.new.site in
     let claiming = ascending (owned_in c.args.graph.now.nodes ++ plan.outputs) in
@@ -102,9 +102,15 @@ returns-in_err-clear-clause-counted g c =
 pub returns-clause-owns : goal.returns-clause-owns
 returns-clause-owns g c = c.in_ok-own.ensures.leaves.0 ∙ ap (once_owned c.args.graph.now) c.as_slice.ensures
 
+pub returns-clause-claimed : goal.returns-clause-claimed
+returns-clause-claimed g c = λ tells.
+    subst (λ (b : List ℕ). Lists b (ascending (owned_in c.args.graph.now.nodes ++ c.args.plan.now.outputs))) (sym (c.clear.ensures.store tells))
+    (subst (Lists (g.S.Site.world c.own.new.site).store) (c.in_ok-own.ensures.owned.1 ∙ ap (λ (paths : List Names). ascending (owned_in c.args.graph.now.nodes ++ paths)) c.as_slice.ensures)
+    (c.in_ok-own.ensures.lists tells))
+
 pub returns-clause-crash : goal.returns-clause-crash
 returns-clause-crash g c = λ tells.
-    let site_laws = g.met.S.Site g.world.𝓛 g.world.𝓜 g.world.𝓡 ((λ s x. x), (λ x. x), (λ x. x), λ x. x) in
+    let site_laws = g.met.S.Site in
     let plan = c.args.plan.now in
     let mid = c.own.new.site in
     let claiming = ascending (owned_in c.args.graph.now.nodes ++ plan.outputs) in
@@ -119,7 +125,7 @@ returns-clause-crash g c = λ tells.
 
 pub returns-clause-pinned : goal.returns-clause-pinned
 returns-clause-pinned g c = λ tells.
-    let site_laws = g.met.S.Site g.world.𝓛 g.world.𝓜 g.world.𝓡 ((λ s x. x), (λ x. x), (λ x. x), λ x. x) in
+    let site_laws = g.met.S.Site in
     let mid = c.own.new.site in
     let new = c.clear.new.site in
     let stands = c.own.ensures.stands tells c.in_ok-own.ensures.owned.0 in
@@ -128,7 +134,7 @@ returns-clause-pinned g c = λ tells.
 
 pub returns-clause-stands : goal.returns-clause-stands
 returns-clause-stands g c = λ tells.
-    let site_laws = g.met.S.Site g.world.𝓛 g.world.𝓜 g.world.𝓡 ((λ s x. x), (λ x. x), (λ x. x), λ x. x) in
+    let site_laws = g.met.S.Site in
     let mid = c.own.new.site in
     let new = c.clear.new.site in
     stands_on g.S.Site.world g.S.Site.moment g.S.Site.left_since c.own.new.graph mid new (SameBeside c.as_slice-2.result.now) (λ t u w le left. site_laws.earlier new t u w tells le left) (c.clear.ensures.store tells) (c.clear.ensures.crash tells)
@@ -138,7 +144,7 @@ returns-clause-stands g c = λ tells.
 
 pub returns-in_err-own-clause-either : goal.returns-in_err-own-clause-either
 returns-in_err-own-clause-either g c = λ tells.
-    let site_laws = g.met.S.Site g.world.𝓛 g.world.𝓜 g.world.𝓡 ((λ s x. x), (λ x. x), (λ x. x), λ x. x) in
+    let site_laws = g.met.S.Site in
     let nodes = c.args.graph.now.nodes in
     let mid = c.own.new.site in
     subst (λ (paths : List Names). HasEither nodes (with_owned nodes paths) (g.S.Site.world mid)) c.as_slice.ensures
@@ -146,7 +152,7 @@ returns-in_err-own-clause-either g c = λ tells.
 
 pub returns-in_err-clear-clause-either : goal.returns-in_err-clear-clause-either
 returns-in_err-clear-clause-either g c = λ tells.
-    let site_laws = g.met.S.Site g.world.𝓛 g.world.𝓜 g.world.𝓡 ((λ s x. x), (λ x. x), (λ x. x), λ x. x) in
+    let site_laws = g.met.S.Site in
     let nodes = c.args.graph.now.nodes in
     let mid = c.own.new.site in
     either_on nodes (with_owned nodes c.args.plan.now.outputs) (g.S.Site.world mid) (g.S.Site.world c.clear.new.site) (c.clear.ensures.store tells)
@@ -155,7 +161,7 @@ returns-in_err-clear-clause-either g c = λ tells.
 
 pub returns-clause-either : goal.returns-clause-either
 returns-clause-either g c = λ tells.
-    let site_laws = g.met.S.Site g.world.𝓛 g.world.𝓜 g.world.𝓡 ((λ s x. x), (λ x. x), (λ x. x), λ x. x) in
+    let site_laws = g.met.S.Site in
     let nodes = c.args.graph.now.nodes in
     let mid = c.own.new.site in
     either_on nodes (with_owned nodes c.args.plan.now.outputs) (g.S.Site.world mid) (g.S.Site.world c.clear.new.site) (c.clear.ensures.store tells)

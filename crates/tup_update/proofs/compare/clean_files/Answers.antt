@@ -41,7 +41,7 @@ pub returns-clause-clean : goal.returns-clause-clean
 returns-clause-clean g c = λ tells means.
     let w = g.S.Site.world c.args.site.now in
     let found = c.in_ok-found.ensures.found tells in
-    let site_laws = g.met.S.Site g.world.𝓛 g.world.𝓜 g.world.𝓡 ((λ s x. x), (λ x. x), (λ x. x), λ x. x) in
+    let site_laws = g.met.S.Site in
     built_compared g.R.Runner.next w (holding w c.in_ok-found.found.owned) c.in_ok-rules.rules _ c.good_build.result (record { lists = found.owned; tree = refl }) (c.in_ok-rules.ensures.asked w found)
     (c.in_ok-rules.ensures.buildable w (site_laws.is_tree c.args.site.now tells) found) (sources_read w c.in_ok-found.found found)
     (subst (λ (l : List Rule). IsGoodBuild l (clean g.R.Runner.next l (finite.from_sorted {R = by_names} c.in_ok-found.found.sources)) c.good_build.result) c.as_slice.ensures (c.good_build.ensures.built means))

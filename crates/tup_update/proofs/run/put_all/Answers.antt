@@ -15,7 +15,7 @@ returns-in_err-put-clause-others g c = λ tells.
 
 pub returns-in_err-put-clause-crash : goal.returns-in_err-put-clause-crash
 returns-in_err-put-clause-crash g c = λ tells.
-    let site_laws = g.met.S.Site g.world.𝓛 g.world.𝓜 g.world.𝓡 ((λ s x. x), (λ x. x), (λ x. x), λ x. x) in
+    let site_laws = g.met.S.Site in
     put_on g.S.Site.moment g.S.Site.left_since c.args.site.now c.loop-path.site c.put.new.self c.args.files.now c.loop-path.path-index c.loop-path-item.result _ (λ t u w le left. site_laws.earlier c.loop-path.site t u w tells le left)
     (omega arith) (sym c.loop-path-item.is) (c.loop-path.invariant.crash tells) (c.put.ensures.crash tells)
 
@@ -32,7 +32,7 @@ loop-path-preserved g c = record {
   put = λ tells. c.in_ok-put.ensures.put tells ∙ put_one c.args.files.now c.loop-path.path-index c.loop-path-item.result _ _ (omega arith) (sym c.loop-path-item.is) (c.loop-path.invariant.put tells);
   store = λ tells. c.put.ensures.store tells ∙ c.loop-path.invariant.store tells;
   crash = λ tells.
-      let site_laws = g.met.S.Site g.world.𝓛 g.world.𝓜 g.world.𝓡 ((λ s x. x), (λ x. x), (λ x. x), λ x. x) in
+      let site_laws = g.met.S.Site in
       put_on g.S.Site.moment g.S.Site.left_since c.args.site.now c.loop-path.site c.put.new.self c.args.files.now c.loop-path.path-index c.loop-path-item.result _ (λ t u w le left. site_laws.earlier c.loop-path.site t u w tells le left)
       (omega arith) (sym c.loop-path-item.is) (c.loop-path.invariant.crash tells) (c.put.ensures.crash tells);
   counted = c.put.ensures.cause.steady (λ e. cc (c.in_ok-put.was, e)) ∙ c.loop-path.invariant.counted;

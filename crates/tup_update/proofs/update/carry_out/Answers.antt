@@ -106,7 +106,7 @@ returns-clause-kept g c = λ tells means.
 
 pub returns-clause-crash : goal.returns-clause-crash
 returns-clause-crash g c = λ tells.
-    let site_laws = g.met.S.Site g.world.𝓛 g.world.𝓜 g.world.𝓡 ((λ s x. x), (λ x. x), (λ x. x), λ x. x) in
+    let site_laws = g.met.S.Site in
     let old = c.args.site.now in
     let mid = c.read.new.site in
     let new = c.build-built.new.site in
@@ -116,8 +116,8 @@ returns-clause-crash g c = λ tells.
     (then_quiet g.S.Site.moment g.S.Site.left_since old c.opened.new.site mid HoldsOn (c.opened.ensures.crash tells) (c.read.ensures.crash tells)) (c.build-built.ensures.crash tells)
 
 pub build-built-requires-clause-stands : goal.build-built-requires-clause-stands
-build-built-requires-clause-stands g c κs within = λ tells.
-    let site_laws = g.met.S.Site g.world.𝓛 g.world.𝓜 g.world.𝓡 ((λ s x. x), (λ x. x), (λ x. x), λ x. x) in
+build-built-requires-clause-stands g c = λ tells.
+    let site_laws = g.met.S.Site in
     let mid = c.opened.new.site in
     let new = c.read.new.site in
     let agree : Tree → Tree → Type 0 = λ _ _. Unit {0} in

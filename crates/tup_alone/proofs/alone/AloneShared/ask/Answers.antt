@@ -4,7 +4,7 @@ use Rattle.tup_alone.proofs.Calls.{goes_by, told_known}
 use Rattle.tup_alone.proofs.alone.AloneShared.ask.Goals as goal
 
 pub ask-requires-clause-runs : goal.ask-requires-clause-runs
-ask-requires-clause-runs c κs = goes_by c.args.seat.now.number c.args.seat.now.board c.args.seat.now.within c.args.plan.now c.requires.plan c.requires.runs
+ask-requires-clause-runs c = goes_by c.args.seat.now.number c.args.seat.now.board c.args.seat.now.within c.args.plan.now c.requires.plan c.requires.runs
 
 pub returns-clause-told : goal.returns-clause-told
 returns-clause-told c = λ tells content is.

@@ -4,7 +4,7 @@ use Rattle.tup_alone.proofs.Calls.{ends_by, report_by}
 use Rattle.tup_alone.proofs.alone.AloneShared.finish.Goals as goal
 
 pub finish-requires-clause-report : goal.finish-requires-clause-report
-finish-requires-clause-report c κs =
+finish-requires-clause-report c =
     report_by c.args.seat.now.number c.args.seat.now.board c.args.seat.now.within c.args.plan.now c.requires.plan memory.ghosts c.args.report.now.dir c.args.report.now.text (asks_of c.args.report.now) c.requires.report
     c.requires.known
 

@@ -4,7 +4,7 @@ use Rattle.tup_alone.proofs.Calls.{denied_adds, means_by}
 use Rattle.tup_alone.proofs.alone.AloneShared.finish_denied.Goals as goal
 
 pub finish_denied-requires-clause-denied : goal.finish_denied-requires-clause-denied
-finish_denied-requires-clause-denied c κs =
+finish_denied-requires-clause-denied c =
     means_by c.args.seat.now.number c.args.seat.now.board c.args.seat.now.within c.args.plan.now c.requires.plan memory.ghosts mini.ghosts c.requires.denied c.requires.means
 
 pub returns-clause-adds : goal.returns-clause-adds

@@ -12,16 +12,16 @@ pub rules-init : goal.rules-init
 rules-init g c = (drained_none g.R.Runner.tells_ran c.args.self.now (g.R.Runner.ran c.args.runner.now) (g.R.Runner.faults c.args.runner.now) c.requires.none_runs, λ _. refl)
 
 pub claim-requires-clause-plan : goal.claim-requires-clause-plan
-claim-requires-clause-plan g c κs within = c.requires.plan ∙ sym (ap (λ o. o.plan) c.rules.invariant.0.opening)
+claim-requires-clause-plan g c = c.requires.plan ∙ sym (ap (λ o. o.plan) c.rules.invariant.0.opening)
 
 pub claim-requires-clause-free : goal.claim-requires-clause-free
-claim-requires-clause-free g c κs within = c.rules.invariant.0.none_runs 0
+claim-requires-clause-free g c = c.rules.invariant.0.none_runs 0
 
 pub run-requires-clause-plan : goal.run-requires-clause-plan
-run-requires-clause-plan g c κs within = c.requires.plan ∙ sym (plan_there g.S.Site g.R.Runner g.R.Runner.tells_ran c.args.self.now c.rules.self c.claim.new.self (g.R.Runner.ran c.args.runner.now) (g.R.Runner.ran c.rules.runner) (g.R.Runner.faults c.args.runner.now) (g.R.Runner.faults c.rules.runner) c.rules.invariant.0 c.claim.result c.claim.ensures.claims c.claim.ensures.rest)
+run-requires-clause-plan g c = c.requires.plan ∙ sym (plan_there g.S.Site g.R.Runner g.R.Runner.tells_ran c.args.self.now c.rules.self c.claim.new.self (g.R.Runner.ran c.args.runner.now) (g.R.Runner.ran c.rules.runner) (g.R.Runner.faults c.args.runner.now) (g.R.Runner.faults c.rules.runner) c.rules.invariant.0 c.claim.result c.claim.ensures.claims c.claim.ensures.rest)
 
 pub run-requires-clause-starts : goal.run-requires-clause-starts
-run-requires-clause-starts g c κs within = starts_there g.S.Site g.R.Runner g.R.Runner.tells_ran c.args.self.now c.rules.self c.claim.new.self (g.R.Runner.ran c.args.runner.now) (g.R.Runner.ran c.rules.runner) (g.R.Runner.faults c.args.runner.now) (g.R.Runner.faults c.rules.runner) c.rules.invariant.0 c.claim.result c.claim.ensures.claims c.claim.ensures.rest c.in-Rule.rule c.in-Rule.is
+run-requires-clause-starts g c = starts_there g.S.Site g.R.Runner g.R.Runner.tells_ran c.args.self.now c.rules.self c.claim.new.self (g.R.Runner.ran c.args.runner.now) (g.R.Runner.ran c.rules.runner) (g.R.Runner.faults c.args.runner.now) (g.R.Runner.faults c.rules.runner) c.rules.invariant.0 c.claim.result c.claim.ensures.claims c.claim.ensures.rest c.in-Rule.rule c.in-Rule.is
 
 pub rules-preserved : goal.rules-preserved
 rules-preserved g c = (

@@ -10,10 +10,10 @@ use Rattle.tup_board.proofs.Judging.{outputs_at}
 use Rattle.tup_board.proofs.board.Board.finish_well.Goals as goal
 
 pub good_end-requires-clause-runs : goal.good_end-requires-clause-runs
-good_end-requires-clause-runs g c κs within = c.requires.report.it
+good_end-requires-clause-runs g c = c.requires.report.it
 
 pub good_end-requires-clause-outputs : goal.good_end-requires-clause-outputs
-good_end-requires-clause-outputs g c κs within = outputs_at c.args.self.now c.args.seat (ended_of c.args.report.now) c.args.files.now c.requires.judged
+good_end-requires-clause-outputs g c = outputs_at c.args.self.now c.args.seat (ended_of c.args.report.now) c.args.files.now c.requires.judged
 
 pub returns-in_err-end : goal.returns-in_err-end
 returns-in_err-end g c =
@@ -23,14 +23,14 @@ returns-in_err-end g c =
     (early_seen g.S.Site g.R.Runner _ c.args.self.now c.self.invariant.1 c.self.view_is c.args.seat c.args.report.now.dir c.args.report.now.text (asks_of c.args.report.now) (ended_of c.args.report.now) c.requires.report c.args.report.now.means) in
     record { ends = ends }
 
-pub make-requires-after_bounds : goal.make-requires-after_bounds
-make-requires-after_bounds g c κs within =
+pub make-requires : goal.make-requires
+make-requires g c =
     can_make_seen g.S.Site g.R.Runner _ c.args.self.now c.self.invariant.1 c.self.view_is c.args.seat c.args.report.now.dir c.args.report.now.text (asks_of c.args.report.now) (ended_of c.args.report.now) c.requires.report c.args.report.now.means
     c.args.files.now c.requires.judged c.in_ok-end.end.rule c.in_ok-end.end.run c.in_ok-end.event c.in_ok-end.ensures.end
 
 pub finish_well-requires-clause-end : goal.finish_well-requires-clause-end
 finish_well-requires-clause-end g c =
-    let site_laws = g.met.S.Site g.world.𝓛 g.world.𝓜 g.world.𝓡 ((λ s x. x), (λ x. x), (λ x. x), λ x. x) in
+    let site_laws = g.met.S.Site in
     end_of_course c.self.inside.course c.self.inside.first_graph.value c.in_ok-end.end.rule c.in_ok-end.event c.self.invariant.0
     (end_here g.S.Site g.R.Runner _ c.args.self.now c.self.invariant.1 c.self.view_is c.args.seat c.args.report.now.dir c.args.report.now.text (asks_of c.args.report.now) (ended_of c.args.report.now) c.requires.report c.args.report.now.means
     c.args.files.now c.requires.judged c.in_ok-end.end.rule c.in_ok-end.end.run c.in_ok-end.event c.in_ok-end.ensures.end
@@ -39,7 +39,7 @@ finish_well-requires-clause-end g c =
 
 pub invariant_of-self : goal.invariant_of-self
 invariant_of-self g c =
-    let site_laws = g.met.S.Site g.world.𝓛 g.world.𝓜 g.world.𝓡 ((λ s x. x), (λ x. x), (λ x. x), λ x. x) in
+    let site_laws = g.met.S.Site in
     more_kept g.S.Site g.R.Runner _ _ _ _ _ c.self.inside.course _ c.in_ok-end.event c.finish_well.ensures c.self.invariant.0
     (made_kept_here g.S.Site g.R.Runner _ c.args.self.now c.self.invariant.1 c.self.view_is c.args.seat c.args.report.now.dir c.args.report.now.text (asks_of c.args.report.now) (ended_of c.args.report.now) c.requires.report c.args.report.now.means
     c.args.files.now c.requires.judged c.in_ok-end.end.rule c.in_ok-end.end.run c.in_ok-end.event c.in_ok-end.ensures.end
@@ -48,7 +48,7 @@ invariant_of-self g c =
 
 pub returns-in-Ok : goal.returns-in-Ok
 returns-in-Ok g c =
-    let site_laws = g.met.S.Site g.world.𝓛 g.world.𝓜 g.world.𝓡 ((λ s x. x), (λ x. x), (λ x. x), λ x. x) in
+    let site_laws = g.met.S.Site in
     let ends = made_seen g.S.Site g.R.Runner _ c.args.self.now c.self.invariant.1 c.self.view_is c.args.seat c.args.report.now.dir c.args.report.now.text (asks_of c.args.report.now) (ended_of c.args.report.now) c.requires.report c.args.report.now.means
     c.args.files.now c.requires.judged c.in_ok-end.end.rule c.in_ok-end.end.run c.in_ok-end.event c.in_ok-end.ensures.end
     (λ fresh. subst (IsGraphOf (entries_in c.self.inside.ground.graph.table)) c.nodes.ensures.value (c.nodes.ensures.graph fresh)) site_laws.present site_laws.earlier site_laws.knows_tree
@@ -58,7 +58,7 @@ returns-in-Ok g c =
 
 pub invariant_of-self-in-Err : goal.invariant_of-self-in-Err
 invariant_of-self-in-Err g c =
-    let site_laws = g.met.S.Site g.world.𝓛 g.world.𝓜 g.world.𝓡 ((λ s x. x), (λ x. x), (λ x. x), λ x. x) in (
+    let site_laws = g.met.S.Site in (
       c.self.invariant.0,
       refused_kept_here g.S.Site g.R.Runner _ c.args.self.now c.self.invariant.1 c.self.view_is c.args.seat c.args.report.now.dir c.args.report.now.text (asks_of c.args.report.now) (ended_of c.args.report.now) c.requires.report c.args.report.now.means
           c.args.files.now c.requires.judged c.in_ok-end.end.rule c.in_ok-end.end.run c.in_ok-end.event c.in_ok-end.ensures.end
@@ -68,7 +68,7 @@ invariant_of-self-in-Err g c =
 
 pub fail-requires-clause-true_cause : goal.fail-requires-clause-true_cause
 fail-requires-clause-true_cause g c =
-    let site_laws = g.met.S.Site g.world.𝓛 g.world.𝓜 g.world.𝓡 ((λ s x. x), (λ x. x), (λ x. x), λ x. x) in
+    let site_laws = g.met.S.Site in
     refused_true_here g.S.Site g.R.Runner _ c.args.self.now c.self.invariant.1 c.self.view_is c.args.seat c.args.report.now.dir c.args.report.now.text (asks_of c.args.report.now) (ended_of c.args.report.now) c.requires.report c.args.report.now.means
     c.args.files.now c.requires.judged c.in_ok-end.end.rule c.in_ok-end.end.run c.in_ok-end.event c.in_ok-end.ensures.end
     (λ fresh. subst (IsGraphOf (entries_in c.self.inside.ground.graph.table)) c.nodes.ensures.value (c.nodes.ensures.graph fresh)) site_laws.present site_laws.earlier site_laws.knows_tree
@@ -77,7 +77,7 @@ fail-requires-clause-true_cause g c =
 
 pub returns-in-Err : goal.returns-in-Err
 returns-in-Err g c =
-    let site_laws = g.met.S.Site g.world.𝓛 g.world.𝓜 g.world.𝓡 ((λ s x. x), (λ x. x), (λ x. x), λ x. x) in
+    let site_laws = g.met.S.Site in
     let ends = subst (λ (f : BoardFault). Ends g.S.Site c.args.seat (ended_of c.args.report.now) c.args.self.now (Err f) c.fail.new.self) (sym c.fail.ensures.same)
     (refused_seen g.S.Site g.R.Runner _ c.args.self.now c.self.invariant.1 c.self.view_is c.args.seat c.args.report.now.dir c.args.report.now.text (asks_of c.args.report.now) (ended_of c.args.report.now) c.requires.report c.args.report.now.means
     c.args.files.now c.requires.judged c.in_ok-end.end.rule c.in_ok-end.end.run c.in_ok-end.event c.in_ok-end.ensures.end

@@ -9,5 +9,5 @@ pub opened-requires : goal.opened-requires
 opened-requires g c = c.requires.plan.in_range
 
 pub of-requires-clause-opening : goal.of-requires-clause-opening
-of-requires-clause-opening g c κs within =
+of-requires-clause-opening g c =
     subst (λ (p : Plan). IsOpening g.S.Site (opened_as p c.args.graph c.args.site)) (sym (ap (λ (it : CourseState). it.plan) c.in-Ok.ensures)) c.requires

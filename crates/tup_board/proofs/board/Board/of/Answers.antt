@@ -3,7 +3,7 @@ use Rattle.tup_board.proofs.board.Board.of.Goals as goal
 
 pub invariant_of-result : goal.invariant_of-result
 invariant_of-result g c =
-    let site_laws = g.met.S.Site g.world.𝓛 g.world.𝓜 g.world.𝓡 ((λ s x. x), (λ x. x), (λ x. x), λ x. x) in (
+    let site_laws = g.met.S.Site in (
       made_files g.S.Site g.R.Runner c.args.course c.args.graph c.of.result.value c.args.site c.of-2.result.value c.of.ensures c.of-2.ensures c.requires.none c.requires.files,
       made_sound g.S.Site g.R.Runner c.args.course c.args.graph c.of.result.value c.args.site c.of-2.result.value c.of.ensures c.of-2.ensures c.requires.none c.requires.opening c.requires.graph (site_laws.present c.args.site),
     )

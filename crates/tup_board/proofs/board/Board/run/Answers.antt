@@ -7,7 +7,7 @@ use Rattle.tup_board.proofs.Draining.{denied_left, failed_so, for_memory, never_
 use Rattle.tup_board.proofs.board.Board.run.Goals as goal
 
 pub finish_denied-requires-clause-denied : goal.finish_denied-requires-clause-denied
-finish_denied-requires-clause-denied g c κs within =
+finish_denied-requires-clause-denied g c =
     let is : c.performed.result ≡ Err by_run.Denied = grind arith in
     c.performed.ensures.performs.denied is
 

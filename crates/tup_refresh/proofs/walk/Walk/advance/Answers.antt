@@ -5,10 +5,10 @@ use Rattle.tup_refresh.proofs.Causes.{named_on, none_told, told_on}
 use Rattle.tup_refresh.proofs.Walking.{walk_fetched, lacks_one}
 use Rattle.tup_refresh.proofs.walk.Walk.advance.Goals as goal
 
-pub fetch-requires-clause-missing : goal.fetch-requires-clause-missing
-fetch-requires-clause-missing g c κs within =
+pub fetch-requires : goal.fetch-requires
+fetch-requires g c =
     let gone = subst (HasGone c.args.self.now c.go_on.new.self) c.in-Some.is c.in_ok-path.ensures.gone in
-    lacks_one c.args.self.now c.go_on.new.self c.in-Some.path gone
+    record { missing = lacks_one c.args.self.now c.go_on.new.self c.in-Some.path gone }
 
 pub returns-in_ok-fetch-in-Some-clause-walk : goal.returns-in_ok-fetch-in-Some-clause-walk
 returns-in_ok-fetch-in-Some-clause-walk g c = λ tells sources outlined files trues is.

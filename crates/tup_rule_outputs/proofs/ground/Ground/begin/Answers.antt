@@ -9,10 +9,10 @@ use Rattle.tup_rule_outputs.proofs.Faults.{counts_told}
 use Rattle.tup_rule_outputs.proofs.ground.Ground.begin.Goals as goal
 
 pub begin-answer-requires-clause-fresh : goal.begin-answer-requires-clause-fresh
-begin-answer-requires-clause-fresh g c κs within = c.requires.ground.fresh ∙ ap is_none c.requires.none_lost
+begin-answer-requires-clause-fresh g c = c.requires.ground.fresh ∙ ap is_none c.requires.none_lost
 
 pub begin-answer-requires-clause-stands : goal.begin-answer-requires-clause-stands
-begin-answer-requires-clause-stands g c κs within = λ tells. c.requires.ground.stands tells c.requires.none_lost
+begin-answer-requires-clause-stands g c = λ tells. c.requires.ground.stands tells c.requires.none_lost
 
 pub returns-clause-commits : goal.returns-clause-commits
 returns-clause-commits g c =

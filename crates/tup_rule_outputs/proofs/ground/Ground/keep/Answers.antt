@@ -10,10 +10,10 @@ use Rattle.tup_rule_outputs.proofs.Faults.{counts_told}
 use Rattle.tup_rule_outputs.proofs.ground.Ground.keep.Goals as goal
 
 pub finish-answer-requires-clause-fresh : goal.finish-answer-requires-clause-fresh
-finish-answer-requires-clause-fresh g c κs within = c.requires.ground.fresh ∙ ap is_none c.requires.none_lost
+finish-answer-requires-clause-fresh g c = c.requires.ground.fresh ∙ ap is_none c.requires.none_lost
 
 pub finish-answer-requires-clause-stands : goal.finish-answer-requires-clause-stands
-finish-answer-requires-clause-stands g c κs within = λ tells. c.requires.ground.stands tells c.requires.none_lost
+finish-answer-requires-clause-stands g c = λ tells. c.requires.ground.stands tells c.requires.none_lost
 
 pub returns-clause-commits : goal.returns-clause-commits
 returns-clause-commits g c =

@@ -13,23 +13,23 @@ use Rattle.tup_rule_outputs.proofs.ground.Ground.make_files.Goals as goal
 
 pub returns-in_err-begin-clause-makes : goal.returns-in_err-begin-clause-makes
 returns-in_err-begin-clause-makes g c =
-    let site_laws = g.met.S.Site g.world.𝓛 g.world.𝓜 g.world.𝓡 ((λ s x. x), (λ x. x), (λ x. x), λ x. x) in
+    let site_laws = g.met.S.Site in
     let fault = c.in_err-begin.field-0.0 in
     let is : c.from_residual.result ≡ Err fault = grind arith in
     subst (λ (r : Result (Unit {0}) BoardFault). MakesFiles g.S.Site c.args.end.rule c.args.end.run c.args.files.now c.args.self.now r c.begin.new.self) (sym is)
     (begin_refused g.S.Site c.args.end.rule c.args.end.run c.args.files.now c.args.self.now site_laws.present site_laws.earlier c.begin.new.self fault c.in_err-begin.ensures.commits)
 
 pub put_files-requires-clause-places : goal.put_files-requires-clause-places
-put_files-requires-clause-places g c κs within = λ tells.
+put_files-requires-clause-places g c = λ tells.
     subst (λ (fs : List (Names × Content)). HavePlaces (paths_of fs) (g.S.Site.world c.begin.new.self.site).tree) (sym c.as_slice.ensures)
     (subst (HavePlaces (paths_of c.args.files.now)) (sym (c.in_ok-begin.ensures.commits.tree tells)) (c.requires.can.places tells))
 
 pub put_files-requires-clause-at_once : goal.put_files-requires-clause-at_once
-put_files-requires-clause-at_once g c κs within = subst AreAtOnce (sym c.as_slice.ensures) c.requires.can.at_once
+put_files-requires-clause-at_once g c = subst AreAtOnce (sym c.as_slice.ensures) c.requires.can.at_once
 
 pub returns-in_err-put_files-clause-makes : goal.returns-in_err-put_files-clause-makes
 returns-in_err-put_files-clause-makes g c =
-    let site_laws = g.met.S.Site g.world.𝓛 g.world.𝓜 g.world.𝓡 ((λ s x. x), (λ x. x), (λ x. x), λ x. x) in
+    let site_laws = g.met.S.Site in
     let own = g.S.Site in
     let old = c.args.self.now in
     let rule = c.args.end.rule in
@@ -49,8 +49,8 @@ returns-in_err-put_files-clause-makes g c =
     c.put_files.ensures.beside c.put_files.ensures.store c.put_files.ensures.crash c.put_files.ensures.known failed (λ bytes e. c.in_err-put_files.ensures.never_too_large bytes (ap Err e))))
 
 pub keep-requires-clause-ground : goal.keep-requires-clause-ground
-keep-requires-clause-ground g c κs within =
-    let site_laws = g.met.S.Site g.world.𝓛 g.world.𝓜 g.world.𝓡 ((λ s x. x), (λ x. x), (λ x. x), λ x. x) in
+keep-requires-clause-ground g c =
+    let site_laws = g.met.S.Site in
     let own = g.S.Site in
     let fs = c.as_slice.result.now in
     let mid = c.begin.new.self in
@@ -62,14 +62,14 @@ keep-requires-clause-ground g c κs within =
     c.put_files.ensures.beside c.put_files.ensures.store c.put_files.ensures.crash c.put_files.ensures.known
 
 pub keep-requires-clause-none_lost : goal.keep-requires-clause-none_lost
-keep-requires-clause-none_lost g c κs within = (c.in_ok-begin.ensures.commits.ok _ refl).0
+keep-requires-clause-none_lost g c = (c.in_ok-begin.ensures.commits.ok _ refl).0
 
 pub keep-requires-clause-rule : goal.keep-requires-clause-rule
-keep-requires-clause-rule g c κs within = subst (λ (h : Held). is_rule h.nodes c.args.end.rule ≡ true) (sym (c.in_ok-begin.ensures.commits.ok _ refl).1) c.requires.can.rule
+keep-requires-clause-rule g c = subst (λ (h : Held). is_rule h.nodes c.args.end.rule ≡ true) (sym (c.in_ok-begin.ensures.commits.ok _ refl).1) c.requires.can.rule
 
 pub returns-clause-makes : goal.returns-clause-makes
 returns-clause-makes g c =
-    let site_laws = g.met.S.Site g.world.𝓛 g.world.𝓜 g.world.𝓡 ((λ s x. x), (λ x. x), (λ x. x), λ x. x) in
+    let site_laws = g.met.S.Site in
     let own = g.S.Site in
     let old = c.args.self.now in
     let rule = c.args.end.rule in

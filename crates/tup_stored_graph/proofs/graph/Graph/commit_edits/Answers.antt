@@ -24,7 +24,7 @@ returns-then-is_empty-clause-leaves g c =
     (unchanged old c.args.edits c.requires.fresh (λ origin. c.requires.read origin up is c.in_ok-changes.ensures.1) is (sym written ∙ none), λ no. refl)
 
 pub commit-requires-clause-keys : goal.commit-requires-clause-keys
-commit-requires-clause-keys g c κs within =
+commit-requires-clause-keys g c =
     let old = c.args.self.now in
     let inside : Held = record { table = c.self.inside.table; nodes = c.self.inside.nodes; whole = c.self.inside.whole } in
     let written = written_now old inside c.self.view_is c.args.edits c.entries-2.result.now c.in_ok-changes.changes.items c.entries-2.ensures c.in_ok-changes.ensures.0 in

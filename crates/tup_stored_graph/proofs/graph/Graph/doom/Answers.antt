@@ -8,7 +8,7 @@ use Rattle.tup_stored_graph.proofs.Edited.{ok_given, as_read, as_left, as_crashe
 use Rattle.tup_stored_graph.proofs.graph.Graph.doom.Goals as goal
 
 pub commit_edits-requires-clause-read : goal.commit_edits-requires-clause-read
-commit_edits-requires-clause-read g c κs within = λ origin up is spelled.
+commit_edits-requires-clause-read g c = λ origin up is spelled.
     let old = c.args.self.now in
     let same = ok_given c.in_ok-edits.edits (doom_edits c.nodes.result.now c.args.paths.now) c.in_ok-edits.ensures ∙ ap (λ (h : GraphState). doom_edits h c.args.paths.now) c.nodes.ensures.value in
     as_read c.in_ok-edits.edits (doom_edits old.nodes c.args.paths.now) old.nodes (with_doomed old.nodes c.args.paths.now) same (doom_leaves old.nodes c.args.paths.now) (entries_in old.table) origin (doom_commits (entries_in old.table) old.nodes origin up is c.args.paths.now) spelled

@@ -8,7 +8,7 @@ use Rattle.tup_stored_graph.proofs.Edited.{ok_given, as_read, as_left, as_crashe
 use Rattle.tup_stored_graph.proofs.graph.Graph.finish.Goals as goal
 
 pub commit_edits-requires-clause-read : goal.commit_edits-requires-clause-read
-commit_edits-requires-clause-read g c κs within = λ origin up is spelled.
+commit_edits-requires-clause-read g c = λ origin up is spelled.
     let old = c.args.self.now in
     let same = ok_given c.in_ok-edits.edits (finish_edits c.nodes.result.now c.args.rule c.args.run) c.in_ok-edits.ensures ∙ ap (λ (h : GraphState). finish_edits h c.args.rule c.args.run) c.nodes.ensures.value in
     as_read c.in_ok-edits.edits (finish_edits old.nodes c.args.rule c.args.run) old.nodes (finished old.nodes c.args.rule c.args.run) same (finish_leaves old.nodes c.args.rule c.args.run) (entries_in old.table) origin (finish_commits (entries_in old.table) old.nodes origin up is c.args.rule c.args.run c.requires.rule) spelled

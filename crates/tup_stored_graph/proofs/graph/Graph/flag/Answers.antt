@@ -6,7 +6,7 @@ use Rattle.tup_stored_graph.proofs.Edited.{ok_given, as_read, as_left, as_crashe
 use Rattle.tup_stored_graph.proofs.graph.Graph.flag.Goals as goal
 
 pub commit_edits-requires-clause-read : goal.commit_edits-requires-clause-read
-commit_edits-requires-clause-read g c κs within = λ origin up is spelled.
+commit_edits-requires-clause-read g c = λ origin up is spelled.
     let old = c.args.self.now in
     let same = ok_given c.in_ok-edits.edits (flag_edits c.args.rules.now) c.in_ok-edits.ensures in
     as_read c.in_ok-edits.edits (flag_edits c.args.rules.now) old.nodes (with_flagged old.nodes c.args.rules.now) same (flag_leaves old.nodes c.args.rules.now) (entries_in old.table) origin (flag_commits (entries_in old.table) old.nodes origin up is c.args.rules.now c.requires.rules) spelled

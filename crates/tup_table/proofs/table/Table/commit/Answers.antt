@@ -55,7 +55,7 @@ returns-in_err-make_room-clause-keeps g c = λ tells.
 
 pub returns-in_err-write_commit-clause-keeps : goal.returns-in_err-write_commit-clause-keeps
 returns-in_err-write_commit-clause-keeps g c = λ tells.
-    let site_laws = g.met.S.Site g.world.𝓛 g.world.𝓜 g.world.𝓡 ((λ s x. x), (λ x. x), (λ x. x), λ x. x) in
+    let site_laws = g.met.S.Site in
     let table = c.args.self.now in
     let changes = c.args.changes.now in
     let stands = c.requires.stands tells in
@@ -69,7 +69,7 @@ returns-in_err-write_commit-clause-keeps g c = λ tells.
 
 pub returns-clause-keeps : goal.returns-clause-keeps
 returns-clause-keeps g c = λ tells.
-    let site_laws = g.met.S.Site g.world.𝓛 g.world.𝓜 g.world.𝓡 ((λ s x. x), (λ x. x), (λ x. x), λ x. x) in
+    let site_laws = g.met.S.Site in
     let table = c.args.self.now in
     let changes = c.args.changes.now in
     let stands = c.requires.stands tells in

@@ -7,7 +7,7 @@ use Rattle.tup_table.proofs.table.Table.open.Goals as goal
 
 pub returns-in_err-close_end-clause-crash : goal.returns-in_err-close_end-clause-crash
 returns-in_err-close_end-clause-crash g c = λ tells.
-    let site_laws = g.met.S.Site g.world.𝓛 g.world.𝓜 g.world.𝓡 ((λ s x. x), (λ x. x), (λ x. x), λ x. x) in
+    let site_laws = g.met.S.Site in
     let mid = c.durable_bytes.new.site in
     let opened = c.in_ok-entries.field-0 in
     let again = c.deref-2.result.now in
@@ -18,7 +18,7 @@ returns-in_err-close_end-clause-crash g c = λ tells.
 
 pub returns-clause-crash : goal.returns-clause-crash
 returns-clause-crash g c = λ tells.
-    let site_laws = g.met.S.Site g.world.𝓛 g.world.𝓜 g.world.𝓡 ((λ s x. x), (λ x. x), (λ x. x), λ x. x) in
+    let site_laws = g.met.S.Site in
     let mid = c.durable_bytes.new.site in
     let opened = c.in_ok-entries.field-0 in
     let again = c.deref-2.result.now in

@@ -297,7 +297,7 @@ returns-clause-ran g c = λ tells.
     subst (RunsThese c.run.new.ran (g.R.Runner.ran c.args.runner.now) (g.R.Runner.ran c.run.new.runner)) (ap (λ r. stopped_by r) c.in_ok-bad.was) (c.run.ensures.ran tells)
 
 pub run-requires-clause-runnable : goal.run-requires-clause-runnable
-run-requires-clause-runnable g c κs = λ lives tells.
+run-requires-clause-runnable g c = λ tells.
     let old = g.S.Site.world c.args.site.now in
     let mid = g.S.Site.world c.prepare.new.site in
     let project = c.args.self.now in
@@ -328,7 +328,7 @@ returns-in_err-prepare-clause-crash g c = λ tells.
 
 pub returns-in_err-bad-clause-crash : goal.returns-in_err-bad-clause-crash
 returns-in_err-bad-clause-crash g c = λ tells.
-    let site_laws = g.met.S.Site g.world.𝓛 g.world.𝓜 g.world.𝓡 ((λ s x. x), (λ x. x), (λ x. x), λ x. x) in
+    let site_laws = g.met.S.Site in
     let site = c.args.site.now in
     let prepared = c.prepare.new.site in
     let old = g.S.Site.world site in
@@ -344,7 +344,7 @@ returns-in_err-bad-clause-crash g c = λ tells.
 
 pub returns-in-Some-clause-crash : goal.returns-in-Some-clause-crash
 returns-in-Some-clause-crash g c = λ tells.
-    let site_laws = g.met.S.Site g.world.𝓛 g.world.𝓜 g.world.𝓡 ((λ s x. x), (λ x. x), (λ x. x), λ x. x) in
+    let site_laws = g.met.S.Site in
     let site = c.args.site.now in
     let prepared = c.prepare.new.site in
     let old = g.S.Site.world site in
@@ -362,7 +362,7 @@ returns-in-Some-clause-crash g c = λ tells.
 
 pub returns-in_err-finish-in-None-clause-crash : goal.returns-in_err-finish-in-None-clause-crash
 returns-in_err-finish-in-None-clause-crash g c = λ tells.
-    let site_laws = g.met.S.Site g.world.𝓛 g.world.𝓜 g.world.𝓡 ((λ s x. x), (λ x. x), (λ x. x), λ x. x) in
+    let site_laws = g.met.S.Site in
     let site = c.args.site.now in
     let prepared = c.prepare.new.site in
     let old = g.S.Site.world site in
@@ -388,7 +388,7 @@ returns-in_err-finish-in-None-clause-crash g c = λ tells.
 
 pub returns-clause-crash : goal.returns-clause-crash
 returns-clause-crash g c = λ tells.
-    let site_laws = g.met.S.Site g.world.𝓛 g.world.𝓜 g.world.𝓡 ((λ s x. x), (λ x. x), (λ x. x), λ x. x) in
+    let site_laws = g.met.S.Site in
     let site = c.args.site.now in
     let prepared = c.prepare.new.site in
     let old = g.S.Site.world site in
@@ -430,15 +430,15 @@ returns-in-Some-clause-makes g c = stopped_makes c.in-Some.bad.0 c.in-Some.bad.1
 -- ---- what the giving up asks
 
 pub finish-requires-clause-stands : goal.finish-requires-clause-stands
-finish-requires-clause-stands g c κs = λ lives tells.
-    let site_laws = g.met.S.Site g.world.𝓛 g.world.𝓜 g.world.𝓡 ((λ s x. x), (λ x. x), (λ x. x), λ x. x) in
+finish-requires-clause-stands g c = λ tells.
+    let site_laws = g.met.S.Site in
     let mid = c.prepare.new.site in
     let ran = c.run.new.site in
     stands_on g.S.Site.world g.S.Site.moment g.S.Site.left_since c.prepare.new.graph mid ran (SameBesideOutputs c.args.self.now.rules) (λ t u w le left. site_laws.earlier ran t u w tells le left) (c.run.ensures.store tells) (c.run.ensures.crash tells)
     (c.in_ok-prepare.ensures.stands tells)
 
 pub finish-requires-clause-gone : goal.finish-requires-clause-gone
-finish-requires-clause-gone g c κs = λ lives tells.
+finish-requires-clause-gone g c = λ tells.
     let old = g.S.Site.world c.args.site.now in
     let mid = g.S.Site.world c.prepare.new.site in
     let ran = g.S.Site.world c.run.new.site in

@@ -8,7 +8,7 @@ use Rattle.tup_update.proofs.project.Project.read.Goals as goal
 
 pub returns-clause-project : goal.returns-clause-project
 returns-clause-project g c = λ tells.
-    let site_laws = g.met.S.Site g.world.𝓛 g.world.𝓜 g.world.𝓡 ((λ s x. x), (λ x. x), (λ x. x), λ x. x) in
+    let site_laws = g.met.S.Site in
     let old = g.S.Site.world c.args.site.now in
     let found = c.in_ok-found.ensures.found tells in
     record {

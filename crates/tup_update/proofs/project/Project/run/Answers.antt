@@ -82,7 +82,7 @@ offset_bounds-rules-at g c =
     search (rules, within)
 
 pub take-requires-clause-room : goal.take-requires-clause-room
-take-requires-clause-room g c κs = λ lives tells.
+take-requires-clause-room g c = λ tells.
     let all = c.args.self.now.rules in
     let at = c.in-Some.at in
     let rule = c.index-rules-at.result in
@@ -286,7 +286,7 @@ loop-preserved g c =
           (verdicts_of_more all c.loop.ended at ends.verdict c.take.new.ended ends.noted) good (c.loop.invariant.made tells) (c.take.ensures.others tells);
       store = λ tells. c.take.ensures.store tells ∙ c.loop.invariant.store tells;
       crash = λ tells.
-          let site_laws = g.met.S.Site g.world.𝓛 g.world.𝓜 g.world.𝓡 ((λ s x. x), (λ x. x), (λ x. x), λ x. x) in
+          let site_laws = g.met.S.Site in
           ran_on g.S.Site.moment g.S.Site.left_since c.args.site.now c.loop.site c.take.new.site all at rule (λ t u w le left. site_laws.earlier c.loop.site t u w tells le left) turn.here (c.loop.invariant.crash tells) (c.take.ensures.crash tells);
       runs = λ tells. subst (λ r. RunsThese c.take.new.ran (g.R.Runner.ran c.args.runner.now) (g.R.Runner.ran c.take.new.runner) (stopped_by r)) c.in_ok-bad.was (c.take.ensures.ran tells (g.R.Runner.ran c.args.runner.now) (c.loop.invariant.runs tells));
       counted = c.take.ensures.cause.steady (λ e. cc (c.in_ok-bad.was, e)) ∙ c.loop.invariant.counted;
@@ -358,7 +358,7 @@ returns-in_err-bad-clause-crash g c = λ tells.
     let at = c.in-Some.at in
     let rule = c.index-rules-at.result in
     let turn = turn_of all c.as_slice-rules.result.now c.loop.ended c.loop.queue _ at rule c.loop.invariant.queued (c.in-Some.ensures all (is_left (verdicts_of all c.loop.ended)) (good_at (verdicts_of all c.loop.ended)) c.loop.invariant.queued.waiting) c.as_slice-rules.ensures c.index-rules-at.is in
-    let site_laws = g.met.S.Site g.world.𝓛 g.world.𝓜 g.world.𝓡 ((λ s x. x), (λ x. x), (λ x. x), λ x. x) in
+    let site_laws = g.met.S.Site in
     ran_on g.S.Site.moment g.S.Site.left_since c.args.site.now c.loop.site c.take.new.site all at rule (λ t u w le left. site_laws.earlier c.loop.site t u w tells le left) turn.here (c.loop.invariant.crash tells) (c.take.ensures.crash tells)
 
 pub returns-then-is_some-clause-crash : goal.returns-then-is_some-clause-crash
@@ -367,7 +367,7 @@ returns-then-is_some-clause-crash g c = λ tells.
     let at = c.in-Some.at in
     let rule = c.index-rules-at.result in
     let turn = turn_of all c.as_slice-rules.result.now c.loop.ended c.loop.queue _ at rule c.loop.invariant.queued (c.in-Some.ensures all (is_left (verdicts_of all c.loop.ended)) (good_at (verdicts_of all c.loop.ended)) c.loop.invariant.queued.waiting) c.as_slice-rules.ensures c.index-rules-at.is in
-    let site_laws = g.met.S.Site g.world.𝓛 g.world.𝓜 g.world.𝓡 ((λ s x. x), (λ x. x), (λ x. x), λ x. x) in
+    let site_laws = g.met.S.Site in
     ran_on g.S.Site.moment g.S.Site.left_since c.args.site.now c.loop.site c.take.new.site all at rule (λ t u w le left. site_laws.earlier c.loop.site t u w tells le left) turn.here (c.loop.invariant.crash tells) (c.take.ensures.crash tells)
 
 pub returns-in_err-note-clause-crash : goal.returns-in_err-note-clause-crash
@@ -376,7 +376,7 @@ returns-in_err-note-clause-crash g c = λ tells.
     let at = c.in-Some.at in
     let rule = c.index-rules-at.result in
     let turn = turn_of all c.as_slice-rules.result.now c.loop.ended c.loop.queue _ at rule c.loop.invariant.queued (c.in-Some.ensures all (is_left (verdicts_of all c.loop.ended)) (good_at (verdicts_of all c.loop.ended)) c.loop.invariant.queued.waiting) c.as_slice-rules.ensures c.index-rules-at.is in
-    let site_laws = g.met.S.Site g.world.𝓛 g.world.𝓜 g.world.𝓡 ((λ s x. x), (λ x. x), (λ x. x), λ x. x) in
+    let site_laws = g.met.S.Site in
     ran_on g.S.Site.moment g.S.Site.left_since c.args.site.now c.loop.site c.take.new.site all at rule (λ t u w le left. site_laws.earlier c.loop.site t u w tells le left) turn.here (c.loop.invariant.crash tells) (c.take.ensures.crash tells)
 
 pub returns-in_err-queue-clause-crash : goal.returns-in_err-queue-clause-crash

@@ -6,8 +6,8 @@ use Rattle.tup_update.proofs.Crashing.{put_own, quiet_files}
 use Rattle.tup_update.proofs.Running.{own_places, room_for_places, beside_places}
 use Rattle.tup_update.proofs.project.Project.run_rule.Goals as goal
 
-pub put_all-requires-after_bounds : goal.put_all-requires-after_bounds
-put_all-requires-after_bounds g c κs = λ lives tells.
+pub put_all-requires : goal.put_all-requires
+put_all-requires g c = λ tells.
     let tree = (g.S.Site.world c.args.site.now).tree in
     room_for_places c.args.rule.now _ tree _
     (own_places c.args.rule.now c.in_ok-verdict.files _ c.as_slice.ensures c.in_ok-verdict.ensures.own)
@@ -37,13 +37,13 @@ returns-clause-leaves g c = λ tells means.
 
 pub returns-in_err-put_all-clause-crash : goal.returns-in_err-put_all-clause-crash
 returns-in_err-put_all-clause-crash g c = λ tells.
-    let site_laws = g.met.S.Site g.world.𝓛 g.world.𝓜 g.world.𝓡 ((λ s x. x), (λ x. x), (λ x. x), λ x. x) in
+    let site_laws = g.met.S.Site in
     put_own g.S.Site.moment g.S.Site.left_since c.args.site.now c.run.new.site c.put_all.new.site c.args.rule.now _ (λ t u w le left. site_laws.earlier c.run.new.site t u w tells le left)
     (own_places c.args.rule.now c.in_ok-verdict.files _ c.as_slice.ensures c.in_ok-verdict.ensures.own) (c.in_ok-verdict.ensures.crash tells) (c.put_all.ensures.crash tells)
 
 pub returns-clause-crash : goal.returns-clause-crash
 returns-clause-crash g c = λ tells.
-    let site_laws = g.met.S.Site g.world.𝓛 g.world.𝓜 g.world.𝓡 ((λ s x. x), (λ x. x), (λ x. x), λ x. x) in
+    let site_laws = g.met.S.Site in
     put_own g.S.Site.moment g.S.Site.left_since c.args.site.now c.run.new.site c.put_all.new.site c.args.rule.now _ (λ t u w le left. site_laws.earlier c.run.new.site t u w tells le left)
     (own_places c.args.rule.now c.in_ok-verdict.files _ c.as_slice.ensures c.in_ok-verdict.ensures.own) (c.in_ok-verdict.ensures.crash tells) (c.put_all.ensures.crash tells)
 
