@@ -2,6 +2,5 @@ pub mod Going
 pub mod Openings
 pub mod Placed
 pub mod Putting
-pub mod Seeing
 pub mod Sharing
 pub mod Told

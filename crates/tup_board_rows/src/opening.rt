@@ -197,7 +197,7 @@ fn takes_note<S: Site>(alloc: Global, site: &mut S, graph: &mut Graph, seen: &Se
     ensures { IsTrue result → IsReady S.Site.own graph.new site.new }
 {
     match note_scan(alloc, graph, site, seen) {
-        Ok(()) => graph.fresh(),
+        Ok(()) => true,
         Err(_) => false,
     }
 }

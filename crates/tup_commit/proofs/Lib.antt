@@ -1,2 +1,3 @@
 mod Noting
 mod Crashes
+pub mod Seeing

@@ -1,5 +1,5 @@
 -- What committing edits does.
-use Rattle.std.proofs.Common.{◌≡◌, List, Result, Ok, Err, ⊎_elim, ap, sym, subst}
+use Rattle.std.proofs.Common.{◌≡◌, List, Result, Ok, Err, inl, inr, ⊎_elim, ap, sym, subst}
 use Rattle.std.specs.Result.{OnOk}
 use Rattle.tup_path.specs.Gives.{GivesUnless}
 use Rattle.tup_graph.specs.Edits.{edited_by}
@@ -29,7 +29,7 @@ module _ {S : Type 0} (Are : List Edit → Type 0) (Is : GraphState → Type 0) 
   notes (Err (BadStore offset)) leaves full = absurd leaves
   notes (Err Site) leaves full = made (Err Site) (λ e. cc) leaves full
   notes (Err Full) leaves full = made (Err Full) (λ e. cc) leaves full
-  notes (Err Memory) leaves full = leaves
+  notes (Err Memory) leaves full = ⊎_elim inl (λ lost. inr (edits, are, lost)) leaves
 
   pub stands_so : Is (edited_by old.nodes edits) → (result : Answer) → Leaves edits (edited_by old.nodes edits) old new before now result → OnOk result (Is new.nodes)
   stands_so is (Ok done) leaves = subst Is (sym (ap (λ (h : Held). h.nodes) leaves.0)) is

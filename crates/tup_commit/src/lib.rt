@@ -4,8 +4,10 @@
 //! does so with what new readings and new rules change.
 #![tactic(auto)]
 
+mod laws;
 mod note;
 mod swap;
 
+pub use laws::scans_see;
 pub use note::note_scan;
 pub use swap::swap_rules;

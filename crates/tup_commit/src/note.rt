@@ -32,6 +32,7 @@ pub fn note_scan<S: Site>(
         graph.old graph.new site.old site.new result }
     ensures scanned { OnOk result
         (IsScanned graph.old.nodes seen.now.files seen.now.config graph.new.nodes) }
+    ensures fresh { OnOk result (IsTrue (is_fresh graph.new)) }
     ensures stands { IsTrue S.tells → IsTrue (is_fresh graph.new)
         → StandsFor S.world S.moment S.left_since graph.new site.new }
     ensures tree { IsTrue S.tells → TreeStays (S.world site.old) (S.world site.new) }

@@ -39,6 +39,7 @@ pub fn swap_rules<S: Site>(
         graph.old graph.new site.old site.new result }
     ensures swapped { OnOk result
         (IsSwapped graph.old.nodes fresh.now.readings fresh.now.gone rules.now graph.new.nodes) }
+    ensures fresh { OnOk result (IsTrue (is_fresh graph.new)) }
     ensures stands { IsTrue S.tells → IsTrue (is_fresh graph.new)
         → StandsFor S.world S.moment S.left_since graph.new site.new }
     ensures tree { IsTrue S.tells → TreeStays (S.world site.old) (S.world site.new) }

@@ -1,18 +1,16 @@
 -- Giving up paths, by how the settling and the commit ended.
-use Rattle.std.proofs.Common.{◌≡◌, ◌⊎◌, ◌&&◌, Bool, true, false, List, [], ◌∷◌, IsTrue, Result, Ok, Err, inl, inr, ⊎_elim, refl, sym, ap, subst, ◌∙◌}
+use Rattle.std.proofs.Common.{◌≡◌, ◌⊎◌, Bool, List, IsTrue, Result, Ok, Err, inl, inr, ⊎_elim, refl, sym, ap, subst, ◌∙◌}
 use Rattle.std.specs.Result.{OnOk}
 use Rattle.tup_path.specs.Name.{Names}
 use Rattle.tup_site.specs.World.{World}
-use Rattle.tup_table.specs.Table.{is_fresh as is_fresh_table}
-use Rattle.tup_table.specs.declared.change.Change.{Change}
-use Rattle.tup_table.specs.declared.table.Table.{Table}
 use Rattle.tup_graph.specs.Graph.{GraphState}
 use Rattle.tup_graph.specs.declared.edit.Edit.{Edit}
 use Rattle.tup_graph.specs.Transactions.{forget_edits, with_forgotten}
 use Rattle.tup_graph.specs.declared.fault.GraphFault.{GraphFault}
 use Rattle.tup_graph.specs.declared.fault.GraphFault.TheVariants.{NotThere, BadStore, Site, Full, Memory}
 use Rattle.tup_stored_graph.specs.Held.{Held, is_fresh}
-use Rattle.tup_stored_graph.specs.Transaction.{Leaves, to_write, with_changes}
+use Rattle.tup_stored_graph.specs.Transaction.{Leaves}
+use Rattle.tup_stored_graph.proofs.Fresh.{after_is_fresh, lost_is_unfresh}
 use Rattle.tup_ledger.specs.Given.{GivesUp}
 
 module _ (tells : Bool) (paths : List Names) (old : Held) (v w : World) (same : IsTrue tells → w ≡ v) where
@@ -33,20 +31,12 @@ module _ {S : Type 0} (world : S → World) (tells : Bool) (paths : List Names) 
   settled (Err (BadStore offset)) leaves = absurd leaves
   settled (Err Site) leaves = inr leaves
   settled (Err Full) leaves = (leaves.0, (leaves.1, again leaves.2))
-  settled (Err Memory) leaves = ⊎_elim (λ none. inl (none.0, again none.1)) inr leaves
+  settled (Err Memory) leaves = ⊎_elim (λ none. inl (none.0, again none.1)) (λ lost. inr (lost_is_unfresh (forget_edits old.nodes paths) old new lost)) leaves
 
 -- ---- a commit that was done leaves a fresh graph
-second : (a b : Bool) → IsTrue (a && b) → IsTrue b
-second true b is = is
-second false b is = absurd (cc)
-
-changed_is_fresh : (table : Table) (changes : List Change) → IsTrue (is_fresh_table table) → IsTrue (is_fresh_table (with_changes table changes))
-changed_is_fresh table [] fresh = fresh
-changed_is_fresh table (change ∷ changes) fresh = refl
-
 module _ (edits : List Edit) (nodes : GraphState) (old new : Held) (fresh : IsTrue (is_fresh old)) where
   pub ok_after : {S : Type 0} (before now : S) {P : Type 0} (result : Result (Unit {0}) GraphFault) → Leaves edits nodes old new before now result → (IsTrue (is_fresh new) → new.nodes ≡ nodes → P) → OnOk result P
   ok_after before now (Ok done) leaves then =
-      then (subst (λ (h : Held). IsTrue (is_fresh h)) (sym leaves.0) (changed_is_fresh old.table (to_write old edits) (second old.whole (is_fresh_table old.table) fresh)))
+      then (subst (λ (h : Held). IsTrue (is_fresh h)) (sym leaves.0) (after_is_fresh old edits nodes fresh))
       (ap (λ (h : Held). h.nodes) leaves.0)
   ok_after before now (Err fault) leaves then = tt

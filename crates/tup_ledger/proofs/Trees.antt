@@ -86,7 +86,7 @@ pub owns_less : (g : GraphState) (paths : List Names) (may : Names → Bool) →
 owns_less g paths may only path is = only path (still_owned paths g.owned path is)
 
 -- ---- what is a source
-get_source : (g : GraphState) (tree : Tree) (q : Names) → finite.get (sources_of g tree) q ≡ cond (not (is_owned g q)) (finite.get tree q) None
+pub get_source : (g : GraphState) (tree : Tree) (q : Names) → finite.get (sources_of g tree) q ≡ cond (not (is_owned g q)) (finite.get tree q) None
 get_source g tree q =
     finite.get-retain_keys tree (λ p. not (is_owned g p)) q (λ other tied. ap (λ (p : Names). not (is_owned g p)) (sym (by_names-antisymmetric q other tied)))
 

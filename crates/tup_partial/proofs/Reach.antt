@@ -1,7 +1,6 @@
 -- The rules that recorded reads lead to are rules; in a kept graph the flagged ones have all of them.
-use Rattle.std.proofs.Common.{◌≡◌, ◌==◌, ◌↔◌, ℕ, zero, suc, ◌<◌, true, List, length, Some, Result, Ok, Err, Contains, get_or, slice_get, slice_index_or, sym, subst}
+use Rattle.std.proofs.Common.{◌≡◌, ◌==◌, ◌↔◌, ℕ, zero, suc, ◌<◌, true, List, length, Some, Contains, get_or, slice_get, slice_index_or, sym, subst}
 use Rattle.std.specs.List.{list_any}
-use Rattle.std.specs.Result.{IfOk}
 use Rattle.std.proofs.lemmas.Bool.{ltb-true, eqb-true}
 use Rattle.std.proofs.lemmas.List.Folds.{Any-from_list_any}
 use Rattle.std.proofs.lemmas.Option.{slice_get-get_or}
@@ -23,11 +22,6 @@ module _ (g : GraphState) (Root Other : ℕ → Type 0) (also : (n : ℕ) → Ro
 
   pub above_others : (number : ℕ) → IsAbove g Root number → IsAbove g Other number
   above_others number is = (is.0, over_others is.0 number is.1)
-
--- what holds of an answer holds of it in other words
-pub in_other_words : {T E : Type 0} (P Q : T → Type 0) (result : Result T E) → ((value : T) → P value → Q value) → IfOk result P → IfOk result Q
-in_other_words P Q (Ok value) same is = same value is
-in_other_words P Q (Err fault) same is = tt
 
 module _ (g : GraphState) (runs : AreRunsOfRules g) where
   over_rule : (Root : ℕ → Type 0) → ((n : ℕ) → Root n → is_rule g n ≡ true) → (reads number : ℕ) → AboveOver reads g Root number → is_rule g number ≡ true

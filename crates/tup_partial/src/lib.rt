@@ -1,7 +1,7 @@
 //! What an update has to run.
 //!
-//! `above` gives some rules and all that recorded reads lead to from them; `plan_of` the plan of an update: the rules of a
-//! graph, and of these the flagged ones with all above them.
+//! `plan_of` gives the plan of an update: the rules of a graph, and of these the flagged ones with all that recorded reads
+//! lead to from them.
 #![tactic(auto)]
 
 mod fault;
@@ -10,4 +10,4 @@ mod planning;
 
 pub use fault::PartialFault;
 pub use laws::{flags_are_of_rules, kept_reach_is_flagged};
-pub use planning::{above, plan_of};
+pub use planning::plan_of;

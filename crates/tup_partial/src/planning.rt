@@ -2,33 +2,18 @@
 ghost use Rattle.std.specs.Prelude.{◌≡◌, ◌↔◌, ℕ, true, Contains, IfOk, IfErr};
 ghost use Rattle.std.specs.List.Sorted.{IsStrictlySortedBy};
 ghost use Rattle.std.specs.Ordering.{nat_cmp};
-ghost use Rattle.tup_graph.specs.Above.{IsAbove};
-ghost use Rattle.tup_graph.specs.Graph.{is_rule, is_flagged};
+ghost use Rattle.tup_graph.specs.Graph.{is_flagged};
 ghost use Rattle.tup_core.specs.Sound.{IsInRange};
 ghost use Rattle.tup_closure.specs.Readers.{AreRunsOfRules};
 ghost use Rattle.tup_partial.specs.Plan.{AreFlagsOfRules, IsToRun};
 
 use crate::fault::PartialFault;
 use std::alloc::{AllocError, Global};
-use tup_closure::rule_count;
+use tup_closure::{above, rule_count};
 use tup_core::{Numbers, Plan};
 use tup_graph::Nodes;
 use tup_readers::Indexed;
 use tup_rule::{Rule, Rules};
-
-/// These rules and all that recorded reads lead to from them, over any number of reads, in ascending order: the rules that
-/// asked an output of one of these, those that asked an output of such a one, and so on.
-pub fn above(alloc: Global, graph: &Indexed, roots: &[u32]) -> Result<Numbers, PartialFault>
-    requires runs { AreRunsOfRules graph.now }
-    requires roots { (root : ℕ) → Contains roots.now root → is_rule graph.now root ≡ true }
-
-    ensures above { IfOk result (λ numbers. (number : ℕ)
-        → Contains numbers number ↔ IsAbove graph.now (Contains roots.now) number) }
-    ensures ascending { IfOk result (λ numbers. IsStrictlySortedBy nat_cmp numbers) }
-    ensures memory { IfErr result (λ fault. fault ≡ PartialFault.Memory) }
-{
-    Ok(tup_closure::above(alloc, graph, roots)?)
-}
 
 /// The plan of an update: the rules of the graph in their order, and of these the flagged ones and all above them are to be
 /// run.
@@ -64,7 +49,8 @@ fn reach(alloc: Global, graph: &Indexed) -> Result<Numbers, PartialFault>
     ensures memory { IfErr result (λ fault. fault ≡ PartialFault.Memory) }
 {
     let flagged = flagged(alloc, graph.nodes())?;
-    above(alloc, graph, flagged.as_slice())
+    let numbers = above(alloc, graph, flagged.as_slice())?;
+    Ok(numbers)
 }
 
 /// The flagged rules.

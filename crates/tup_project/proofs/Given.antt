@@ -71,8 +71,8 @@ module _ (sources : Tree) (group_has : Members) where
   folder_new : (before : List Rule) (dir : Names) (made drafts : List Draft) → IsApart before dir → has_tupfile sources dir ≡ true → AllMakeHere sources dir made drafts
       → AreNew sources (before ++ rules_here dir made) (rules_here dir drafts)
   folder_new before dir made [] none has all = tt
-  folder_new before dir made (draft ∷ more) none has (here, rest) = (
-    All-weaker (MakesHere sources dir made) (IsNew sources (before ++ rules_here dir made) (rule_of group_has (placed_in dir draft))) new draft.outputs here,
+  folder_new before dir made (draft ∷ more) none has ((here, once), rest) = (
+    (All-weaker (MakesHere sources dir made) (IsNew sources (before ++ rules_here dir made) (rule_of group_has (placed_in dir draft))) new draft.outputs here, once),
     subst (λ (rules : List Rule). AreNew sources rules (rules_here dir more)) (one_more before dir made draft) (folder_new before dir (made ++ draft ∷ []) more none has rest),
   )
     where
@@ -91,7 +91,7 @@ module _ (sources : Tree) (group_has : Members) where
 
   elsewhere : (dir other : Names) → same_path dir other ≡ false → (made drafts : List Draft) → AllMakeHere sources dir made drafts → IsApart (rules_here dir drafts) other
   elsewhere dir other far made [] all name = refl
-  elsewhere dir other far made (draft ∷ more) (here, rest) name =
+  elsewhere dir other far made (draft ∷ more) ((here, once), rest) name =
       ap (λ b. b || is_generated (rules_here dir more) (other ++ name ∷ []))
       (list_any_none (same_path (other ++ name ∷ [])) draft.outputs (All-weaker (MakesHere sources dir made) (λ path. same_path (other ++ name ∷ []) path ≡ false) not_there draft.outputs here))
       ∙ elsewhere dir other far (made ++ draft ∷ []) more rest name

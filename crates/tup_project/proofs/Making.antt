@@ -2,7 +2,7 @@
 use Rattle.std.proofs.Common.{◌≡◌, ℕ, Bool, true, false, cond, List, [], ◌∷◌, ◌++◌, get_or, Option, Some, None, Ok, All, refl, sym, ap, ◌∙◌, subst}
 use Rattle.std.specs.Cmp.{eq_by_cmp_equiv}
 use Rattle.std.specs.FinMap as finite
-use Rattle.std.specs.List.{cons_option, Contains}
+use Rattle.std.specs.List.{cons_option, Contains, IsDistinct}
 use Rattle.std.specs.Result.{result_ok}
 use Rattle.std.proofs.lemmas.List.Elements.{All-nil, All-cons, All-head, All-tail, All-append, All-weaker, All-contains_itself}
 use Rattle.std.proofs.lemmas.Map.Views.{list_any-from_Contains}
@@ -61,7 +61,7 @@ module _ (sources : Tree) where
   -- and so does each of some rules behind others
   abbrev pub AllMakeHere : Names → List Draft → List Draft → Type 0
   AllMakeHere dir before [] = Unit {0}
-  AllMakeHere dir before (draft ∷ more) = All (MakesHere dir before) draft.outputs × AllMakeHere dir (before ++ draft ∷ []) more
+  AllMakeHere dir before (draft ∷ more) = (All (MakesHere dir before) draft.outputs × IsDistinct same_path draft.outputs) × AllMakeHere dir (before ++ draft ∷ []) more
 
   -- the readings of folders keep to that
   abbrev pub AllKeepTo : Readings → Type 0
@@ -73,7 +73,7 @@ module _ (sources : Tree) where
 
   all_free : (dir : Names) (before drafts : List Draft) → AllMakeHere dir before drafts → All IsFree (made_by drafts)
   all_free dir before [] all = All-nil IsFree
-  all_free dir before (draft ∷ more) (here, rest) =
+  all_free dir before (draft ∷ more) ((here, once), rest) =
       All-append IsFree draft.outputs (made_by more) (All-weaker (MakesHere dir before) IsFree (λ path makes. (makes.no_source, makes.no_folder)) draft.outputs here)
       (all_free dir (before ++ draft ∷ []) more rest)
 
@@ -90,7 +90,10 @@ module _ (sources : Tree) (settings : Entries) where
 
     all_make : (before drafts : List Draft) → AreSound answers reader before drafts → AllMakeHere sources reader before drafts
     all_make before [] sound = tt
-    all_make before (draft ∷ more) (is, rest) = (All-weaker (MayMake answers reader before) (MakesHere sources reader before) (makes_here before) draft.outputs is.outputs, all_make (before ++ draft ∷ []) more rest)
+    all_make before (draft ∷ more) (is, rest) = (
+      (All-weaker (MayMake answers reader before) (MakesHere sources reader before) (makes_here before) draft.outputs is.outputs, is.once),
+      all_make (before ++ draft ∷ []) more rest,
+    )
 
     -- ---- names that are told are those of files
 

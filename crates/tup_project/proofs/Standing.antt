@@ -1,7 +1,7 @@
 -- Rules of which each makes what no rule before it makes, in its own folder, where nothing stands.
 use Rattle.std.proofs.Common.{◌≡◌, ◌≢◌, ◌⊎◌, inl, inr, ℕ, zero, suc, ◌+◌, ◌<◌, Bool, true, false, ◌||◌, List, [], ◌∷◌, ◌++◌, length, take, get_or, codes, Option, Some, None, IsSome, is_some, All, refl, sym, ap, ◌∙◌, subst, append_assoc, append-nil, arith, length-append}
 use Rattle.std.specs.FinMap as finite
-use Rattle.std.specs.List.{Contains, slice_get}
+use Rattle.std.specs.List.{Contains, IsDistinct, slice_get}
 use Rattle.std.specs.Ordering.{eq_by_cmp}
 use Rattle.std.specs.Str.{bytes_eq}
 use Rattle.std.proofs.lemmas.Bool.{and_from, both_ways, cases_order}
@@ -9,10 +9,10 @@ use Rattle.std.proofs.lemmas.List.{append_cancel_right, get_or-take, length-take
 use Rattle.std.proofs.lemmas.List.Elements.{All-contains}
 use Rattle.std.proofs.lemmas.List.Folds.{list_any_at}
 use Rattle.std.proofs.lemmas.Map.Views.{Contains-from_any}
-use Rattle.std.proofs.lemmas.Option.{get_or_from_slice_get, slice_get_within}
+use Rattle.std.proofs.lemmas.Option.{get_or_from_slice_get, none-some, same_Some, slice_get_within}
 use Rattle.std.proofs.lemmas.Slice.Eq.{bytes_eq-Decides}
 use Rattle.tup_path.specs.Name.{Names, IsPath}
-use Rattle.tup_path.specs.Order.{by_names, same_path-by_names}
+use Rattle.tup_path.specs.Order.{by_names, same_path, same_path-by_names}
 use Rattle.tup_path.specs.Tree.{Tree, IsTree, IsBelow}
 use Rattle.tup_path.proofs.Same.{same_path-decides}
 use Rattle.tup_rule.specs.declared.rule.Rule.{Rule}
@@ -77,7 +77,7 @@ module _ (sources : Tree) where
   -- each of some rules behind others makes only such
   abbrev pub AreNew : List Rule → List Rule → Type 0
   AreNew before [] = Unit {0}
-  AreNew before (rule ∷ more) = All (IsNew before rule) rule.outputs × AreNew (before ++ rule ∷ []) more
+  AreNew before (rule ∷ more) = (All (IsNew before rule) rule.outputs × IsDistinct same_path rule.outputs) × AreNew (before ++ rule ∷ []) more
 
   pub new_append : (before rules more : List Rule) → AreNew before rules → AreNew (before ++ rules) more → AreNew before (rules ++ more)
   new_append before [] more are rest = subst (λ (b : List Rule). AreNew b more) (append-nil before) rest
@@ -90,11 +90,17 @@ module _ (sources : Tree) where
       nowhere : (at : ℕ) → slice_get {X = Rule} [] at ≡ Some rule → ⊥
       nowhere zero e = cc
       nowhere (suc at) e = cc
-  at_place before (first ∷ rules) zero rule (here, are) e =
+  at_place before (first ∷ rules) zero rule ((here, once), are) e =
       let same : first ≡ rule = cc in
       subst (λ (b : List Rule). All (IsNew b rule) rule.outputs) (sym (append-nil before)) (subst (λ (r : Rule). All (IsNew before r) r.outputs) same here)
   at_place before (first ∷ rules) (suc at) rule (here, are) e =
       subst (λ (b : List Rule). All (IsNew b rule) rule.outputs) (append_assoc before (first ∷ []) (take at rules)) (at_place (before ++ first ∷ []) rules at rule are e)
+
+  once_at : (before rules : List Rule) (at : ℕ) (rule : Rule) → AreNew before rules → slice_get rules at ≡ Some rule → IsDistinct same_path rule.outputs
+  once_at before [] zero rule are e = absurd (none-some rule e)
+  once_at before [] (suc at) rule are e = absurd (none-some rule e)
+  once_at before (first ∷ rules) zero rule ((here, once), are) e = subst (λ (r : Rule). IsDistinct same_path r.outputs) (same_Some first rule e) once
+  once_at before (first ∷ rules) (suc at) rule (here, are) e = once_at (before ++ first ∷ []) rules at rule are e
 
   module _ (rules : List Rule) (are : AreNew [] rules) where
     new_at : (at : ℕ) (path : Names) (output : IsOutputAt rules at path) → IsNew (take at rules) output.0 path
@@ -131,6 +137,7 @@ module _ (sources : Tree) where
     pub can_stand : IsTree sources → HavePaths rules → NoneWaitsForItself rules → IsBuildable sources rules
     can_stand tree have order = record {
       paths = λ at path output. let new = new_at at path output in (path_at have at path output, λ top. not_top (output.0).dir new.name (sym new.own ∙ top));
+      once = λ at rule here. once_at [] rules at rule are here;
       no_source = λ at path output. none_there (finite.get sources path) (new_at at path output).no_source;
       one_maker = one_place;
       not_above_source = above_no_source;

@@ -1,9 +1,13 @@
 -- The faults of a project: those of reading its folders, and those of linking what they read as (own).
+use Rattle.std.specs.Prelude.{◌≡◌, List}
+use Rattle.tup_path.specs.Name.{Names}
 use Rattle.tup_lex.specs.declared.kind.ParseKind.TheVariants.{DuplicateCommand}
+use Rattle.tup_rule.specs.declared.question.Reading.{Reading}
 use Rattle.tup_readings.specs.declared.fault.FoldersFault.{FoldersFault}
 use Rattle.tup_readings.specs.declared.fault.FoldersFault.TheVariants as folders
 use Rattle.tup_link.specs.declared.fault.LinkFault.{LinkFault}
 use Rattle.tup_link.specs.declared.fault.LinkFault.TheVariants as linking
+use Rattle.tup_link.specs.Faults.{HasCause}
 use Rattle.tup_project.specs.declared.fault.ProjectFault.{ProjectFault}
 use Rattle.tup_project.specs.declared.fault.ProjectFault.TheVariants.{Parse, CircularDirs, CircularCommands, NoSuchGroup, TooMany, Memory}
 
@@ -20,3 +24,7 @@ of_linking (linking.NoSuchGroup group) = NoSuchGroup group
 of_linking (linking.DuplicateCommand dir file line) = Parse (record { dir = dir; file = file; line = line; kind = DuplicateCommand })
 of_linking (linking.CircularCommands names) = CircularCommands names
 of_linking linking.Memory = Memory
+
+-- a fault of linking these readings, as one of the project, with its cause
+abbrev pub IsOfLinking : List (Names × Reading) → ProjectFault → Type 0
+IsOfLinking readings told = (fault : LinkFault) × HasCause readings fault × (told ≡ of_linking fault)

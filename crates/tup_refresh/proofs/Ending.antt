@@ -71,6 +71,10 @@ kept_is g dir left e = by (is_created g dir) e
     by true e = cc
     by false e = e
 
+-- what a map lists stands in the order of its keys
+pub listed_up : (m : Readings) (list : List (Names × Reading)) → list ≡ finite.entries m → IsTrue (finite.is_sorted by_names list)
+listed_up m list are = from_test (finite.is_sorted by_names list) (subst (λ (l : List (Names × Reading)). T (finite.is_sorted by_names l)) (sym are) (finite.entries_sorted m))
+
 module _ (g : GraphState) (sources : Tree) (settings : Entries) (walk : Walk) (is : IsWalk g sources settings walk) (last : IsLast None walk.work) where
   abbrev now : Readings
   now = walk.work.readings
@@ -194,7 +198,7 @@ module _ (g : GraphState) (sources : Tree) (settings : Entries) (walk : Walk) (i
     pub are_refreshed : AreRefreshed g sources settings given
     are_refreshed = record {
       read = all_listed sources settings walk.work given.all is.work last all;
-      sorted = from_test (finite.is_sorted by_names given.fresh) (up walk.fresh given.fresh fresh);
+      sorted = listed_up walk.fresh given.fresh fresh;
       due = λ dir. (to dir, from dir);
       gone = gone;
       together = λ dir. ap (λ m. finite.get m dir) (same now given.all all) ∙ together dir;

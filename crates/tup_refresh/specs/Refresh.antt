@@ -59,6 +59,11 @@ IsDue g sources settings readings dir =
 
 -- ---- what it gives
 
+-- the readings stand in the order of their folders, each once, and so do the fresh ones
+pub record AreSorted (given : Refreshed) : Type 0 where
+  pub all : IsTrue (finite.is_sorted by_names given.all)
+  pub fresh : IsTrue (finite.is_sorted by_names given.fresh)
+
 -- the folders among these that have no Tupfile
 abbrev pub gone_among : Tree → List (Names × Reading) → List Names
 gone_among sources kept = filter (λ dir. not (has_tupfile sources dir)) (map (λ (one : Names × Reading). one.0) kept)

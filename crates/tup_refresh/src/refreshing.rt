@@ -8,7 +8,7 @@ ghost use Rattle.tup_graph.specs.Answers.{tup_config};
 ghost use Rattle.tup_ledger.specs.Sources.{sources_of};
 ghost use Rattle.tup_refresh.specs.Cause.{CountsFaults, IsRefreshOf, IsWalkedOf, NamesLength, OnlyLarge};
 ghost use Rattle.tup_refresh.specs.Part.{AreFetched, AreFilesOf, HasConfig, HasPaths, IsOutlined};
-ghost use Rattle.tup_refresh.specs.Refresh.{AreTrue};
+ghost use Rattle.tup_refresh.specs.Refresh.{AreSorted, AreTrue};
 ghost use Rattle.tup_refresh.specs.Untouched.{SeesSources};
 
 use crate::fault::RefreshFault;
@@ -46,6 +46,8 @@ pub fn refresh<S: Site>(
         IsTrue S.tells → SeesSources sources nodes.now
         → config.now ≡ finite.get (S.world site.old).tree tup_config → AreTrue sources nodes.now
         → IsRefreshOf nodes.now sources result }
+    // Whatever the site is, readings stand in the order of their folders.
+    ensures sorted { IfOk result AreSorted }
 
     ensures large { OnlyLarge result }
     ensures named { IsTrue S.tells → NamesLength (S.world site.old).tree result }
@@ -75,6 +77,7 @@ fn refresh_outlined<S: Site>(
         → HasConfig sources (finite.from_sorted files.now) → AreFetched sources fetched
         → AreFilesOf (S.world site.old).tree sources → AreTrue sources nodes.now
         → IsRefreshOf nodes.now sources result }
+    ensures sorted { IfOk result AreSorted }
 
     ensures large { OnlyLarge result }
     ensures named { IsTrue S.tells → NamesLength (S.world site.old).tree result }
@@ -105,6 +108,7 @@ fn all_found<S: Site>(
         → IsOutlined sources outline.now nodes.now → AreFetched sources fetched
         → AreFilesOf (S.world site.old).tree sources → AreTrue sources nodes.now
         → IsWalkedOf nodes.now sources settings.now result }
+    ensures sorted { IfOk result AreSorted }
 
     ensures large { OnlyLarge result }
     ensures named { IsTrue S.tells → NamesLength (S.world site.old).tree result }

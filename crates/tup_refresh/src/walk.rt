@@ -6,7 +6,7 @@ ghost use Rattle.tup_readings.specs.Readings.{AreRead};
 ghost use Rattle.tup_readings.specs.State.{IsLast};
 ghost use Rattle.tup_refresh.specs.Cause.{CountsFaults, IsFaultOf, NamesLength, OnlyLarge};
 ghost use Rattle.tup_refresh.specs.Part.{AreFilesOf, HasPaths, IsOutlined};
-ghost use Rattle.tup_refresh.specs.Refresh.{AreRefreshed, AreTrue};
+ghost use Rattle.tup_refresh.specs.Refresh.{AreRefreshed, AreSorted, AreTrue};
 ghost use Rattle.tup_refresh.specs.Walk.{IsWalk, IsStart, NotesFresh, HasGone, steps_left};
 
 use crate::fault::RefreshFault;
@@ -149,9 +149,10 @@ pub(crate) fn done(
     walk: Walk,
 ) -> Result<Refreshed, AllocError>
     requires { IsLast None walk.work }
-    ensures { (sources : Tree) (settings : _) → HasPaths sources outline.now
+    ensures refreshed { (sources : Tree) (settings : _) → HasPaths sources outline.now
         → IsWalk nodes.now sources settings walk
         → IfOk result (AreRefreshed nodes.now sources settings) }
+    ensures sorted { IfOk result AreSorted }
 {
     let gone = gone(alloc, nodes, outline)?;
     let Walk { work, fresh, .. } = walk;

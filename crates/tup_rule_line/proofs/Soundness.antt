@@ -1,6 +1,6 @@
 -- The rules that a line adds can be run in their order, behind those of the lines before.
 use Rattle.std.proofs.Common.{◌≡◌, ◌⊎◌, inl, inr, ℕ, ◌+◌, Bool, true, false, ◌||◌, cond, if◌then◌else◌, List, [], ◌∷◌, ◌++◌, length, get_or, map, fold, Option, Some, None, option_map, Result, Ok, Err, All, bytes_eq, refl, sym, ap, ◌∙◌, subst, append_assoc, append-nil, arith, length-append, not}
-use Rattle.std.specs.List.{filter_map, cons_option}
+use Rattle.std.specs.List.{AllByRecursion, IsDistinct, filter_map, cons_option}
 use Rattle.std.specs.Map.{set_value}
 use Rattle.std.specs.BTreeSet.{insert_key}
 use Rattle.std.specs.Option.{option_map_or}
@@ -92,6 +92,10 @@ or_left : (a b : Bool) → (a || b) ≡ false → a ≡ false
 or_left true b e = absurd (cc)
 or_left false b e = refl
 
+or_behind : (a b : Bool) → (a || b) ≡ false → b ≡ false
+or_behind true b e = absurd (cc)
+or_behind false b e = e
+
 or_true : (a b : Bool) → a ≡ true → (a || b) ≡ true
 or_true true b e = refl
 or_true false b e = absurd (cc)
@@ -129,6 +133,27 @@ ok_of (Err refusal) path e = absurd (cc)
 
 below-own : (dir : Names) (name : List ℕ) (path : Names) → result_ok (below dir name) ≡ Some path → path ≡ dir ++ name ∷ []
 below-own dir name path e = below-ok dir name path (inr (ok_of (below dir name) path e))
+
+-- ---- paths that are named once
+other_way : (one other : Names) → same_path one other ≡ false → same_path other one ≡ false
+other_way one other apart = by (same_path other one) refl
+  where
+    by : (same : Bool) → same_path other one ≡ same → same ≡ false
+    by true is = let wrong : true ≡ false = sym ((same_path-decides one other).1 (sym ((same_path-decides other one).0 is))) ∙ apart in wrong
+    by false is = refl
+
+behind_all : (P : Names → Type 0) (paths : List Names) (path : Names) → AllByRecursion P paths → P path → AllByRecursion P (paths ++ path ∷ [])
+behind_all P [] path all is = (is, tt)
+behind_all P (first ∷ paths) path (here, all) is = (here, behind_all P paths path all is)
+
+-- one more behind others
+once_more : (paths : List Names) (path : Names) → IsDistinct same_path paths → among path paths ≡ false → IsDistinct same_path (paths ++ path ∷ [])
+unfolding IsDistinct
+once_more [] path once new = (tt, tt)
+once_more (first ∷ paths) path (others, once) new = (
+  behind_all (λ other. same_path first other ≡ false) paths path others (other_way path first (or_left (same_path path first) (among path paths) new)),
+  once_more paths path once (or_behind (same_path path first) (among path paths) new),
+)
 
 -- ---- what rules make
 made_more : (drafts : List Draft) (draft : Draft) (path : Names) → is_made drafts path ≡ true → is_made (drafts ++ draft ∷ []) path ≡ true
@@ -214,19 +239,28 @@ pub record IsSoundState (answers : Question → Told) (dir : Names) (state : Sta
 abbrev by_kind : Spot → Names → Kind → Reads ParseFault Names
 by_kind at path kind = elim kind as (λ _. Reads ParseFault Names) [ File ↦ refused at fault.OutputIsSource | Dir ↦ refused at fault.OutputIsDir | Nothing ↦ gives path ]
 
-abbrev IsFree : List Draft → Names → Kind → Names → Type 0
-IsFree drafts path kind found = (path ≡ found) × (kind ≡ Nothing) × (is_made drafts path ≡ false)
+abbrev IsFree : List Draft → List Names → Names → Kind → Names → Type 0
+IsFree drafts outputs path kind found = (path ≡ found) × (kind ≡ Nothing) × (is_made drafts path ≡ false) × (among path outputs ≡ false)
+
+-- a path may be one more output of a rule
+abbrev MayMakeMore : (Question → Told) → Names → List Draft → List Names → Names → Type 0
+MayMakeMore answers dir drafts outputs path = MayMake answers dir drafts path × (among path outputs ≡ false)
+
+-- paths may be the outputs of a rule
+abbrev MayMakeAll : (Question → Told) → Names → List Draft → List Names → Type 0
+MayMakeAll answers dir drafts outputs = All (MayMake answers dir drafts) outputs × IsDistinct same_path outputs
 
 brings_new : (answers : Question → Told) (at : Spot) (drafts : List Draft) (outputs : List Names) (path : Names) (kind : Kind)
-    → Brings answers (new_output at drafts outputs path kind) (IsFree drafts path kind)
+    → Brings answers (new_output at drafts outputs path kind) (IsFree drafts outputs path kind)
 brings_new answers at drafts outputs path kind = by (is_made drafts path || among path outputs) kind refl
   where
     by : (there : Bool) (kind : Kind) → (is_made drafts path || among path outputs) ≡ there
-        → Brings answers (if there then refused at fault.DuplicateOutput else by_kind at path kind) (IsFree drafts path kind)
-    by true kind e = brings_refused Names answers at fault.DuplicateOutput (IsFree drafts path kind)
-    by false File e = brings_refused Names answers at fault.OutputIsSource (IsFree drafts path File)
-    by false Dir e = brings_refused Names answers at fault.OutputIsDir (IsFree drafts path Dir)
-    by false Nothing e = brings_gives answers path (IsFree drafts path Nothing) (refl, refl, or_left (is_made drafts path) (among path outputs) e)
+        → Brings answers (if there then refused at fault.DuplicateOutput else by_kind at path kind) (IsFree drafts outputs path kind)
+    by true kind e = brings_refused Names answers at fault.DuplicateOutput (IsFree drafts outputs path kind)
+    by false File e = brings_refused Names answers at fault.OutputIsSource (IsFree drafts outputs path File)
+    by false Dir e = brings_refused Names answers at fault.OutputIsDir (IsFree drafts outputs path Dir)
+    by false Nothing e =
+        brings_gives answers path (IsFree drafts outputs path Nothing) (refl, refl, or_left (is_made drafts path) (among path outputs) e, or_behind (is_made drafts path) (among path outputs) e)
 
 -- a path that a rule may make stands in the folder itself
 own_name : (dir path : Names) → may_make dir path ≡ true → (name : List ℕ) × (path ≡ dir ++ name ∷ [])
@@ -237,53 +271,57 @@ own_name dir path e = by (name_in dir path) refl e
     by (Some name) is e = (name, name_in-own dir path name is)
 
 brings_known : (answers : Question → Told) (at : Spot) (drafts : List Draft) (outputs : List Names) (path : Names)
-    → Brings answers (known_output at drafts outputs path) (MayMake answers at.dir drafts)
+    → Brings answers (known_output at drafts outputs path) (MayMakeMore answers at.dir drafts outputs)
 unfolding known_output
 brings_known answers at drafts outputs path = by (may_make at.dir path) refl
   where
-    made : may_make at.dir path ≡ true → (kind : Kind) → kind ≡ told_at answers path → Brings answers (new_output at drafts outputs path kind) (MayMake answers at.dir drafts)
+    made : may_make at.dir path ≡ true → (kind : Kind) → kind ≡ told_at answers path → Brings answers (new_output at drafts outputs path kind) (MayMakeMore answers at.dir drafts outputs)
     made own kind is found e =
         let free = brings_new answers at drafts outputs path kind found e in
         let name = own_name at.dir path own in
-        subst (MayMake answers at.dir drafts) free.0 (record { name = name.0; own = name.1; free = sym is ∙ free.1; new = free.2 })
+        subst (MayMakeMore answers at.dir drafts outputs) free.0 (record { name = name.0; own = name.1; free = sym is ∙ free.1; new = free.2 }, free.3)
 
     by : (own : Bool) → may_make at.dir path ≡ own
-        → Brings answers (if own then and_then (kind_at path) (λ kind. new_output at drafts outputs path kind) else refused at fault.ForeignOutput) (MayMake answers at.dir drafts)
-    by true own = brings_then answers (kind_at path) (λ kind. new_output at drafts outputs path kind) (λ kind. kind ≡ told_at answers path) (MayMake answers at.dir drafts) (brings_kind answers path) (made own)
-    by false own = brings_refused Names answers at fault.ForeignOutput (MayMake answers at.dir drafts)
+        → Brings answers (if own then and_then (kind_at path) (λ kind. new_output at drafts outputs path kind) else refused at fault.ForeignOutput) (MayMakeMore answers at.dir drafts outputs)
+    by true own = brings_then answers (kind_at path) (λ kind. new_output at drafts outputs path kind) (λ kind. kind ≡ told_at answers path) (MayMakeMore answers at.dir drafts outputs) (brings_kind answers path) (made own)
+    by false own = brings_refused Names answers at fault.ForeignOutput (MayMakeMore answers at.dir drafts outputs)
 
 brings_output : (answers : Question → Told) (at : Spot) (parts : FlagParts) (drafts : List Draft) (outputs : List Names) (word : List ℕ)
-    → Brings answers (from_output at parts drafts outputs word) (MayMake answers at.dir drafts)
+    → Brings answers (from_output at parts drafts outputs word) (MayMakeMore answers at.dir drafts outputs)
 unfolding from_output
 brings_output answers at parts drafts outputs word =
-    brings_behind answers (flagged_text at parts word) (λ text. and_then (led at fault.ForeignOutput at.dir text) (λ path. known_output at drafts outputs path)) (MayMake answers at.dir drafts)
-    (λ text. brings_behind answers (led at fault.ForeignOutput at.dir text) (λ path. known_output at drafts outputs path) (MayMake answers at.dir drafts)
+    brings_behind answers (flagged_text at parts word) (λ text. and_then (led at fault.ForeignOutput at.dir text) (λ path. known_output at drafts outputs path)) (MayMakeMore answers at.dir drafts outputs)
+    (λ text. brings_behind answers (led at fault.ForeignOutput at.dir text) (λ path. known_output at drafts outputs path) (MayMakeMore answers at.dir drafts outputs)
     (λ path. brings_known answers at drafts outputs path))
 
-brings_outputs : (answers : Question → Told) (at : Spot) (parts : FlagParts) (drafts : List Draft) (outputs : List Names) (words : List (List ℕ)) → All (MayMake answers at.dir drafts) outputs
-    → Brings answers (from_outputs at parts drafts outputs words) (All (MayMake answers at.dir drafts))
+brings_outputs : (answers : Question → Told) (at : Spot) (parts : FlagParts) (drafts : List Draft) (outputs : List Names) (words : List (List ℕ)) → MayMakeAll answers at.dir drafts outputs
+    → Brings answers (from_outputs at parts drafts outputs words) (MayMakeAll answers at.dir drafts)
 unfolding from_outputs
-brings_outputs answers at parts drafts outputs [] all = brings_gives answers outputs (All (MayMake answers at.dir drafts)) all
+brings_outputs answers at parts drafts outputs [] all = brings_gives answers outputs (MayMakeAll answers at.dir drafts) all
 brings_outputs answers at parts drafts outputs (word ∷ more) all =
-    brings_then answers (from_output at parts drafts outputs word) (λ path. from_outputs at parts drafts (outputs ++ path ∷ []) more) (MayMake answers at.dir drafts) (All (MayMake answers at.dir drafts))
+    brings_then answers (from_output at parts drafts outputs word) (λ path. from_outputs at parts drafts (outputs ++ path ∷ []) more) (MayMakeMore answers at.dir drafts outputs) (MayMakeAll answers at.dir drafts)
     (brings_output answers at parts drafts outputs word)
-    (λ path may. brings_outputs answers at parts drafts (outputs ++ path ∷ []) more (All-push (MayMake answers at.dir drafts) outputs path all may))
+    (λ path may. brings_outputs answers at parts drafts (outputs ++ path ∷ []) more (All-push (MayMake answers at.dir drafts) outputs path all.0 may.0, once_more outputs path all.1 may.1))
+
+no_outputs : (answers : Question → Told) (dir : Names) (drafts : List Draft) → MayMakeAll answers dir drafts []
+unfolding IsDistinct
+no_outputs answers dir drafts = (All-nil (MayMake answers dir drafts), tt)
 
 -- a command keeps to it, whatever it says
 brings_text : (answers : Question → Told) (at : Spot) (words : Words) (group : Option GroupRef) (drafts : List Draft) (parts : FlagParts) (outputs : List Names)
-    → All (MayTake answers drafts) parts.inputs → All (MayTake answers drafts) parts.order → All (MayMake answers at.dir drafts) outputs
+    → All (MayTake answers drafts) parts.inputs → All (MayTake answers drafts) parts.order → MayMakeAll answers at.dir drafts outputs
     → Brings answers (with_text at words group parts outputs) (IsSound answers at.dir drafts)
 unfolding with_text
 brings_text answers at words group drafts parts outputs takes order makes =
     brings_behind answers (spoken at parts words.command) (λ said. gives (draft_of at group parts outputs said)) (IsSound answers at.dir drafts)
-    (λ said. brings_gives answers (draft_of at group parts outputs said) (IsSound answers at.dir drafts) (record { inputs = takes; order = order; outputs = makes }))
+    (λ said. brings_gives answers (draft_of at group parts outputs said) (IsSound answers at.dir drafts) (record { inputs = takes; order = order; outputs = makes.0; once = makes.1 }))
 
 brings_extra : (answers : Question → Told) (at : Spot) (words : Words) (group : Option GroupRef) (drafts : List Draft) (parts : FlagParts)
-    → All (MayTake answers drafts) parts.inputs → All (MayTake answers drafts) parts.order → All (MayMake answers at.dir drafts) parts.outputs
+    → All (MayTake answers drafts) parts.inputs → All (MayTake answers drafts) parts.order → MayMakeAll answers at.dir drafts parts.outputs
     → Brings answers (with_extra at words group drafts parts) (IsSound answers at.dir drafts)
 unfolding with_extra
 brings_extra answers at words group drafts parts takes order some =
-    brings_then answers (from_outputs at parts drafts parts.outputs words.extra) (λ all. with_text at words group (in_command parts) all) (All (MayMake answers at.dir drafts)) (IsSound answers at.dir drafts)
+    brings_then answers (from_outputs at parts drafts parts.outputs words.extra) (λ all. with_text at words group (in_command parts) all) (MayMakeAll answers at.dir drafts) (IsSound answers at.dir drafts)
     (brings_outputs answers at parts drafts parts.outputs words.extra some)
     (λ all makes. brings_text answers at words group drafts (in_command parts) all takes order makes)
 
@@ -293,8 +331,8 @@ brings_drafted : (answers : Question → Told) (at : Spot) (words : Words) (sour
 unfolding drafted with_outputs
 brings_drafted answers at words sources drafts job takes order =
     let parts = flag_parts at words.foreach sources job in
-    brings_then answers (from_outputs at parts drafts [] words.outputs) (λ plain. with_extra at words sources.gives drafts (in_extra parts plain)) (All (MayMake answers at.dir drafts)) (IsSound answers at.dir drafts)
-    (brings_outputs answers at parts drafts [] words.outputs (All-nil (MayMake answers at.dir drafts)))
+    brings_then answers (from_outputs at parts drafts [] words.outputs) (λ plain. with_extra at words sources.gives drafts (in_extra parts plain)) (MayMakeAll answers at.dir drafts) (IsSound answers at.dir drafts)
+    (brings_outputs answers at parts drafts [] words.outputs (no_outputs answers at.dir drafts))
     (λ plain some. brings_extra answers at words sources.gives drafts (in_extra parts plain) takes order some)
 
 -- ---- inputs

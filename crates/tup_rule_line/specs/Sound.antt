@@ -1,6 +1,8 @@
 -- What is true of the rules of every reading (own), whoever answers: they can be run in the order of their lines.
 use Rattle.std.specs.Prelude.{◌≡◌, ◌⊎◌, ℕ, true, false, List, [], ◌∷◌, ◌++◌, All}
+use Rattle.std.specs.List.{IsDistinct}
 use Rattle.tup_path.specs.Name.{Names}
+use Rattle.tup_path.specs.Order.{same_path}
 use Rattle.tup_rule.specs.declared.draft.Draft.{Draft}
 use Rattle.tup_rule.specs.declared.question.Kind.{Kind}
 use Rattle.tup_rule.specs.declared.question.Kind.TheVariants.{File, Nothing}
@@ -34,6 +36,8 @@ pub record IsSound (answers : Question → Told) (dir : Names) (before : List Dr
   pub inputs : All (MayTake answers before) draft.inputs
   pub order : All (MayTake answers before) draft.order
   pub outputs : All (MayMake answers dir before) draft.outputs
+  -- no output is named twice
+  pub once : IsDistinct same_path draft.outputs
 
 -- and so does each of some rules behind others
 abbrev pub AreSound : (Question → Told) → Names → List Draft → List Draft → Type 0

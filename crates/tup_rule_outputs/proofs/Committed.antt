@@ -1,46 +1,25 @@
 -- What a commit leaves of a ground, by what it leaves of the graph.
-use Rattle.std.proofs.Common.{◌≡◌, ℕ, Bool, true, false, ◌&&◌, List, [], ◌∷◌, Option, None, Some, Result, Ok, Err, ⊎_elim, refl, sym, ap, ◌∙◌}
+use Rattle.std.proofs.Common.{◌≡◌, ℕ, Bool, true, false, List, Option, None, Some, Result, Ok, Err, ⊎_elim, refl, sym, ap, ◌∙◌}
 use Rattle.std.specs.Prelude.{if◌then◌else◌, IsTrue, is_none}
 use Rattle.std.proofs.lemmas.Option.{same_Some}
 use Rattle.tup_path.specs.Gives.{GivesUnless}
 use Rattle.tup_site.specs.World.{TreeStays}
 use Rattle.tup_site.specs.declared.site.Site.{Ghosts as Site}
 use Rattle.tup_record.specs.declared.run.RunRecord.{RunRecord}
-use Rattle.tup_table.specs.Table.{is_fresh as is_fresh_table}
-use Rattle.tup_table.specs.declared.change.Change.{Change}
-use Rattle.tup_table.specs.declared.table.Table.{Table}
 use Rattle.tup_graph.specs.Graph.{GraphState}
 use Rattle.tup_graph.specs.declared.edit.Edit.{Edit}
 use Rattle.tup_graph.specs.declared.fault.GraphFault.{GraphFault}
 use Rattle.tup_graph.specs.declared.fault.GraphFault.TheVariants as graph
 use Rattle.tup_stored_graph.specs.Crash.{LeavesEither}
-use Rattle.tup_stored_graph.specs.Held.{Held, is_fresh, stale, StandsFor}
-use Rattle.tup_stored_graph.specs.Transaction.{to_write, with_changes, after, IsFull, Leaves}
+use Rattle.tup_stored_graph.specs.Held.{Held, is_fresh, StandsFor}
+use Rattle.tup_stored_graph.specs.Transaction.{IsFull, Leaves}
+use Rattle.tup_stored_graph.proofs.Fresh.{after_is_fresh, lost_is_unfresh, stale_is_unfresh}
 use Rattle.tup_rule_outputs.specs.declared.fault.BoardFault.{BoardFault}
 use Rattle.tup_rule_outputs.specs.declared.fault.BoardFault.TheVariants as board
 use Rattle.tup_rule_outputs.specs.declared.ground.Ground.{Ground}
 use Rattle.tup_rule_outputs.specs.Fault.{of_graph, told, by_site, lost_now, lost_fault}
 use Rattle.tup_rule_outputs.specs.Ground.{Commits}
 use Rattle.tup_rule_outputs.specs.Lost.{Lost}
-
--- ---- a graph that took a transaction stands for its store, and one of which nothing is known doesn't
-second : (a b : Bool) → (a && b) ≡ true → b ≡ true
-second true b is = is
-second false b is = absurd (cc)
-
-changed_is_fresh : (table : Table) (changes : List Change) → is_fresh_table table ≡ true → is_fresh_table (with_changes table changes) ≡ true
-changed_is_fresh table [] fresh = fresh
-changed_is_fresh table (change ∷ changes) fresh = refl
-
-after_is_fresh : (old : Held) (edits : List Edit) (nodes : GraphState) → is_fresh old ≡ true → is_fresh (after old edits nodes) ≡ true
-after_is_fresh old edits nodes fresh = changed_is_fresh old.table (to_write old edits) (second old.whole (is_fresh_table old.table) fresh)
-
-none_fresh : (b : Bool) → (b && false) ≡ false
-none_fresh true = refl
-none_fresh false = refl
-
-stale_is : (old : Held) → is_fresh (stale old) ≡ false
-stale_is old = none_fresh old.whole
 
 pub some_none : (commit : Lost) → Some commit ≡ None → ⊥
 some_none commit e = cc
@@ -130,6 +109,6 @@ module _ {S : Type 0} (site : Site S) (number : ℕ) (run : Option RunRecord) (e
       fresh_now = ap is_fresh leaves.0 ∙ after_is_fresh old.graph edits nodes fresh
   committed (Err graph.NotThere) leaves room = absurd leaves
   committed (Err (graph.BadStore offset)) leaves room = absurd leaves
-  committed (Err graph.Site) leaves room = lost graph.Site (ap is_fresh leaves ∙ stale_is old.graph) refl (λ e. cc) (λ bytes e. cc)
+  committed (Err graph.Site) leaves room = lost graph.Site (ap is_fresh leaves ∙ stale_is_unfresh old.graph) refl (λ e. cc) (λ bytes e. cc)
   committed (Err graph.Full) leaves room = refused graph.Full leaves.1 leaves.2 (λ _. leaves.0) (λ bytes e. cc)
-  committed (Err graph.Memory) leaves room = ⊎_elim (λ same. refused graph.Memory same.0 same.1 (λ e. absurd (cc)) (λ bytes e. cc)) (λ unfresh. lost graph.Memory unfresh refl (λ e. cc) (λ bytes e. cc)) leaves
+  committed (Err graph.Memory) leaves room = ⊎_elim (λ same. refused graph.Memory same.0 same.1 (λ e. absurd (cc)) (λ bytes e. cc)) (λ is. lost graph.Memory (lost_is_unfresh edits old.graph graph_now is) refl (λ e. cc) (λ bytes e. cc)) leaves

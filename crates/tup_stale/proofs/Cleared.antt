@@ -1,7 +1,7 @@
 -- What a clearing leaves, by what its parts answer.
 use Rattle.std.proofs.Common.{◌≡◌, ℕ, Bool, true, false, ◌&&◌, ◌⊎◌, List, [], ◌∷◌, length, map, filter, IsTrue, Result, Ok, Err, ⊎_elim, refl, sym, ap, subst, ◌∙◌, arith}
 use Rattle.std.specs.FinMap as finite
-use Rattle.std.specs.Result.{IfOk}
+use Rattle.std.specs.Result.{IfOk, OnOk}
 use Rattle.std.proofs.lemmas.List.Elements.{All-nil}
 use Rattle.tup_path.specs.Order.{by_bytes}
 use Rattle.tup_path.specs.Gives.{GivesUnless}
@@ -9,7 +9,6 @@ use Rattle.tup_path.specs.Name.{Names}
 use Rattle.tup_site.specs.World.{World}
 use Rattle.tup_table.specs.Table.{entries_in, is_fresh as is_fresh_table}
 use Rattle.tup_table.specs.declared.change.Change.{Change}
-use Rattle.tup_table.specs.declared.table.Table.{Table}
 use Rattle.tup_graph.specs.Changes.{changes_it}
 use Rattle.tup_graph.specs.Edits.{HasSpelling}
 use Rattle.tup_graph.specs.Transactions.{doom_edits, with_doomed, forget_edits, with_forgotten}
@@ -17,6 +16,7 @@ use Rattle.tup_graph.specs.declared.fault.GraphFault.{GraphFault}
 use Rattle.tup_graph.specs.declared.fault.GraphFault.TheVariants.{Full as GraphFull, Memory as GraphMemory}
 use Rattle.tup_stored_graph.specs.Held.{Held, is_fresh}
 use Rattle.tup_stored_graph.specs.Transaction.{to_write, with_changes, after, IsFull, Leaves as TransactionLeaves}
+use Rattle.tup_stored_graph.proofs.Fresh.{after_is_fresh}
 use Rattle.tup_stale.specs.declared.fault.StaleFault.{StaleFault}
 use Rattle.tup_stale.specs.declared.fault.StaleFault.TheVariants.{UserFile, Site, TooLarge, Full, Memory}
 use Rattle.tup_stale.specs.Cleared.{doomed, forgotten, AtFirst, Removing, Committing, AtLast, Leaves, AllAreMade}
@@ -25,18 +25,15 @@ use Rattle.tup_stale.specs.Unmade.{unmade}
 use Rattle.tup_stale.proofs.Forgotten.{doomed_then_forgotten, all_are_made}
 use Rattle.tup_stale.proofs.Removals.{beside_same, beside_without, beside_part}
 
--- ---- a graph whose paths were doomed stands for its store
-second : (a b : Bool) → IsTrue (a && b) → IsTrue b
-second true b is = is
-second false b is = absurd (cc)
-
-changed_is_fresh : (table : Table) (changes : List Change) → IsTrue (is_fresh_table table) → IsTrue (is_fresh_table (with_changes table changes))
-changed_is_fresh table [] fresh = fresh
-changed_is_fresh table (change ∷ changes) fresh = refl
-
+-- ---- a graph whose paths were doomed stands for its store, and so does one that forgot them
 pub doomed_is_fresh : (old new : Held) (paths : List Names) → IsTrue (is_fresh old) → new ≡ doomed old paths → IsTrue (is_fresh new)
 doomed_is_fresh old new paths fresh is =
-    subst (λ (h : Held). IsTrue (is_fresh h)) (sym is) (changed_is_fresh old.table (to_write old (doom_edits old.nodes paths)) (second old.whole (is_fresh_table old.table) fresh))
+    subst (λ (h : Held). IsTrue (is_fresh h)) (sym is) (after_is_fresh old (doom_edits old.nodes paths) (with_doomed old.nodes paths) fresh)
+
+pub forgotten_is_fresh : (old new : Held) (paths : List Names) → IsTrue (is_fresh old) → new ≡ forgotten old paths → IsTrue (is_fresh new)
+forgotten_is_fresh old new paths fresh is =
+    subst (λ (h : Held). IsTrue (is_fresh h)) (sym is)
+    (after_is_fresh (doomed old paths) (forget_edits (with_doomed old.nodes paths) paths) (with_forgotten old.nodes paths) (after_is_fresh old (doom_edits old.nodes paths) (with_doomed old.nodes paths) fresh))
 
 -- a transaction that was done isn't one for which there is no room
 pub has_room : {X : Type 0} (result : Result (Unit {0}) GraphFault) (done : Unit {0}) → result ≡ Ok done → (X → GivesUnless result GraphMemory (Err GraphFull)) → X → ⊥
@@ -69,7 +66,7 @@ module _ (paths files : List Names) (old new : Held) (v w : World) where
     stopped : AtFirst tells paths files old new v w ⊎ Removing tells paths files old new v w ⊎ Committing tells paths files old new v w → SameBeside files v.tree w.tree
     stopped left =
         ⊎_elim untouched
-        (λ later. ⊎_elim (λ removing. beside_part files v.tree w.tree (removing.1 told)) (λ committing. ⊎_elim at_first all_gone (committing.1 told)) later) left
+        (λ later. ⊎_elim (λ removing. beside_part files v.tree w.tree (removing.1 told)) (λ committing. ⊎_elim (λ doom. at_first (doom.1 told)) (λ forget. all_gone (forget.1 told)) committing) later) left
 
     pub leaves_beside : {T : Type 0} (result : Result T StaleFault) → Leaves tells paths files old new v w result → SameBeside files v.tree w.tree
     leaves_beside (Ok value) left = all_gone (left.1 told)
@@ -118,3 +115,9 @@ pub made_if_done : {T : Type 0} (tells : Bool) (files : List Names) (old new : H
     → Leaves tells (unmade old.nodes) files old new v w result → IfOk result (λ value. AllAreMade new.nodes)
 made_if_done tells files old new v w (Ok value) left = all_made_after old new left.0
 made_if_done tells files old new v w (Err fault) left = tt
+
+-- and the graph is fresh
+pub fresh_if_done : {T : Type 0} (tells : Bool) (paths files : List Names) (old new : Held) (v w : World) (result : Result T StaleFault) → IsTrue (is_fresh old)
+    → Leaves tells paths files old new v w result → OnOk result (IsTrue (is_fresh new))
+fresh_if_done tells paths files old new v w (Ok value) fresh left = forgotten_is_fresh old new paths fresh left.0
+fresh_if_done tells paths files old new v w (Err fault) fresh left = tt

@@ -1,6 +1,6 @@
 -- What a clearing leaves of a graph and of the files (own). It dooms the paths, removes the files that stand there,
 -- settles, and forgets the paths.
-use Rattle.std.specs.Prelude.{◌≡◌, ◌≢◌, ◌⊎◌, ℕ, Bool, false, List, None, Some, All, IsTrue, Result, Ok, Err}
+use Rattle.std.specs.Prelude.{◌≡◌, ◌≢◌, ◌⊎◌, ℕ, Bool, List, None, Some, All, IsTrue, Result, Ok, Err}
 use Rattle.std.specs.FinMap as finite
 use Rattle.tup_path.specs.Name.{Names}
 use Rattle.tup_site.specs.Crash.{GoesOn, NoStep}
@@ -8,8 +8,8 @@ use Rattle.tup_site.specs.World.{World, TreeStays}
 use Rattle.tup_graph.specs.Graph.{GraphState}
 use Rattle.tup_graph.specs.Transactions.{doom_edits, with_doomed, forget_edits, with_forgotten}
 use Rattle.tup_graph.specs.declared.owned.Owned.{Owned}
-use Rattle.tup_stored_graph.specs.Held.{Held, is_fresh}
-use Rattle.tup_stored_graph.specs.Transaction.{after, IsFull}
+use Rattle.tup_stored_graph.specs.Held.{Held}
+use Rattle.tup_stored_graph.specs.Transaction.{after, IsFull, IsLost}
 use Rattle.tup_stale.specs.Files.{without, IsPart}
 use Rattle.tup_stale.specs.Unmade.{HasNoUsers}
 use Rattle.tup_stale.specs.declared.fault.StaleFault.{StaleFault}
@@ -50,9 +50,17 @@ module _ (tells : Bool) (paths files : List Names) (old new : Held) (v w : World
   abbrev pub Removed : Type 0
   Removed = (new ≡ doomed old paths) × (IsTrue tells → w.tree ≡ without v.tree files)
 
-  -- one of the two commits was begun, and its store is opened again
+  -- the commit that dooms failed under way
+  abbrev pub Dooming : Type 0
+  Dooming = IsLost (doom_edits old.nodes paths) old new × (IsTrue tells → TreeStays v w)
+
+  -- the files are gone, and the commit that forgets failed under way
+  abbrev pub Forgetting : Type 0
+  Forgetting = IsLost (forget_edits (with_doomed old.nodes paths) paths) (doomed old paths) new × (IsTrue tells → w.tree ≡ without v.tree files)
+
+  -- one of the two commits failed under way: its store is opened again
   abbrev pub Committing : Type 0
-  Committing = (is_fresh new ≡ false) × (IsTrue tells → TreeStays v w ⊎ (w.tree ≡ without v.tree files))
+  Committing = Dooming ⊎ Forgetting
 
   -- all is done, and there was room for both commits
   abbrev pub AtLast : Type 0

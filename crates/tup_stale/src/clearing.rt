@@ -1,5 +1,5 @@
 //! The clearing itself.
-ghost use Rattle.std.specs.Prelude.{◌≡◌, [], IsTrue, IfOk};
+ghost use Rattle.std.specs.Prelude.{◌≡◌, [], IsTrue, IfOk, OnOk};
 ghost use Rattle.tup_site.specs.Crash.{GoesOn};
 ghost use Rattle.tup_site.specs.Known.{Keeps};
 ghost use Rattle.tup_stored_graph.specs.Held.{is_fresh, StandsFor};
@@ -42,6 +42,7 @@ pub fn clear<S: Site>(alloc: Global, graph: &mut Graph, site: &mut S) -> Result<
         IsTrue S.tells → SameBeside (standing tree (unmade_in graph.old.nodes))
         tree (S.world site.new).tree }
     ensures all_made { IfOk result (λ _. AllAreMade graph.new.nodes) }
+    ensures fresh { OnOk result (IsTrue (is_fresh graph.new)) }
     ensures nothing { unmade_in graph.old.nodes ≡ []
         → (graph.new ≡ graph.old) × (site.new ≡ site.old) }
     ensures stands { IsTrue S.tells → IsTrue (is_fresh graph.new)

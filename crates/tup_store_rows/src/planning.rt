@@ -7,10 +7,10 @@ ghost use Rattle.tup_partial.specs.Plan.{AreFlagsOfRules};
 
 use crate::project::Project;
 use std::alloc::Global;
-use tup_closure::runs_are_of_rules;
+use tup_closure::{above, runs_are_of_rules};
 use tup_core::Plan;
 use tup_graph::GraphFault;
-use tup_partial::{PartialFault, above, flags_are_of_rules, plan_of};
+use tup_partial::{PartialFault, flags_are_of_rules, plan_of};
 use tup_readers::Indexed;
 use tup_rows::{Answers, RowFault, Words, set};
 use tup_site::MemSite;
@@ -94,7 +94,7 @@ fn above_of(alloc: Global, said: &Words, graph: &Indexed) -> Words
     }
     match above(alloc, graph, &roots) {
         Ok(numbers) => Words::all(alloc, numbers.as_slice()),
-        Err(PartialFault::Memory) => Words::none(alloc, RowFault::Memory),
+        Err(_) => Words::none(alloc, RowFault::Memory),
     }
 }
 

@@ -5,11 +5,11 @@ use Rattle.tup_table.specs.declared.change.Change.{Change}
 use Rattle.tup_table.specs.declared.table.Table.{Table}
 use Rattle.tup_graph.specs.Changes.{needed}
 use Rattle.tup_graph.specs.Edits.{change_of, HasSpelling}
-use Rattle.tup_graph.specs.Graph.{GraphState}
+use Rattle.tup_graph.specs.Graph.{GraphState, empty_graph}
 use Rattle.tup_graph.specs.declared.edit.Edit.{Edit}
 use Rattle.tup_graph.specs.declared.fault.GraphFault.{GraphFault}
 use Rattle.tup_graph.specs.declared.fault.GraphFault.TheVariants.{Site, Full, Memory}
-use Rattle.tup_stored_graph.specs.Held.{Held, is_fresh, stale}
+use Rattle.tup_stored_graph.specs.Held.{Held, stale}
 
 -- the changes of the table that a transaction with these edits writes
 abbrev pub to_write : Held → List Edit → List Change
@@ -24,6 +24,14 @@ with_changes table (change ∷ changes) = after_commit table (change ∷ changes
 abbrev pub after : Held → List Edit → GraphState → Held
 after graph edits nodes = record { table = with_changes graph.table (to_write graph edits); nodes = nodes; whole = true }
 
+-- a graph whose changes are in its store, and whose nodes were lost while they took them
+abbrev pub emptied : Held → List Edit → Held
+emptied graph edits = record { table = with_changes graph.table (to_write graph edits); nodes = empty_graph; whole = false }
+
+-- what a transaction leaves that failed under way: nothing is known of the store, or the nodes are lost
+abbrev pub IsLost : List Edit → Held → Held → Type 0
+IsLost edits old new = (new ≡ stale old) ⊎ (new ≡ emptied old edits)
+
 -- the store has no room for these edits: a record has no spelling, or the store would be too large
 abbrev pub IsFull : Held → List Edit → Type 0
 IsFull graph edits = (¬ All HasSpelling edits) ⊎ ((to_write graph edits ≢ []) × IsOver graph.table (to_write graph edits))
@@ -35,5 +43,5 @@ abbrev pub Leaves : {S : Type 0} → List Edit → GraphState → Held → Held 
 Leaves edits nodes old new before now (Ok done) = (new ≡ after old edits nodes) × (to_write old edits ≡ [] → now ≡ before)
 Leaves edits nodes old new before now (Err Full) = IsFull old edits × (new ≡ old) × (now ≡ before)
 Leaves edits nodes old new before now (Err Site) = new ≡ stale old
-Leaves edits nodes old new before now (Err Memory) = ((new ≡ old) × (now ≡ before)) ⊎ (is_fresh new ≡ false)
+Leaves edits nodes old new before now (Err Memory) = ((new ≡ old) × (now ≡ before)) ⊎ IsLost edits old new
 Leaves edits nodes old new before now (Err other) = ⊥

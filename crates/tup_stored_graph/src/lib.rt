@@ -5,6 +5,8 @@
 #![tactic(auto)]
 
 mod graph;
+mod laws;
 mod transactions;
 
 pub use graph::Graph;
+pub use laws::reads_keep_graphs;

@@ -5,6 +5,7 @@ use Rattle.tup_graph.specs.Opening.{IsGraphOf}
 use Rattle.tup_table.specs.Table.{entries_in}
 use Rattle.tup_graph.specs.Scan.{IsScanned}
 use Rattle.tup_scan_diff.specs.Edits.{AreScanEdits}
+use Rattle.tup_stored_graph.proofs.Fresh.{ok_is_fresh}
 use Rattle.tup_commit.proofs.Noting.{notes, stands_so}
 use Rattle.tup_commit.proofs.Crashes.{by_commit, by_nothing}
 use Rattle.tup_commit.proofs.note.note_scan.Goals as goal
@@ -35,6 +36,12 @@ returns-clause-scanned g c =
     let are = subst (λ (nodes : GraphState). AreScanEdits nodes c.args.seen.now.files c.args.seen.now.config edits) c.indexed.ensures.value c.in_ok-edits.ensures.edits in
     stands_so (AreScanEdits old.nodes c.args.seen.now.files c.args.seen.now.config) (IsScanned old.nodes c.args.seen.now.files c.args.seen.now.config) old edits are c.commit_edits.new.self c.args.site.now c.commit_edits.new.site
     (c.scan_edits_leave.ensures old.nodes c.args.seen.now.files c.args.seen.now.config edits are) c.commit_edits.result c.commit_edits.ensures.leaves
+
+pub returns-clause-fresh : goal.returns-clause-fresh
+returns-clause-fresh g c =
+    let old = c.args.graph.now in
+    let edits = c.in_ok-edits.edits in
+    ok_is_fresh edits (edited_by old.nodes edits) old c.commit_edits.new.self c.args.site.now c.commit_edits.new.site c.commit_edits.result c.requires.fresh c.commit_edits.ensures.leaves
 
 pub returns-clause-crash : goal.returns-clause-crash
 returns-clause-crash g c = λ tells.

@@ -5,6 +5,7 @@ use Rattle.tup_graph.specs.Opening.{IsGraphOf}
 use Rattle.tup_table.specs.Table.{entries_in}
 use Rattle.tup_graph.specs.Swap.{IsSwapped}
 use Rattle.tup_rule_diff.specs.Edits.{AreSwapEdits}
+use Rattle.tup_stored_graph.proofs.Fresh.{ok_is_fresh}
 use Rattle.tup_commit.proofs.Noting.{notes, stands_so}
 use Rattle.tup_commit.proofs.Crashes.{by_commit, by_nothing}
 use Rattle.tup_commit.proofs.swap.swap_rules.Goals as goal
@@ -30,6 +31,12 @@ returns-clause-swapped g c =
     let are = subst (λ (nodes : GraphState). AreSwapEdits nodes c.args.fresh.now.readings c.args.fresh.now.gone c.args.rules.now edits) c.nodes.ensures.value c.in_ok-edits.ensures.edits in
     stands_so (AreSwapEdits old.nodes c.args.fresh.now.readings c.args.fresh.now.gone c.args.rules.now) (IsSwapped old.nodes c.args.fresh.now.readings c.args.fresh.now.gone c.args.rules.now) old edits are c.commit_edits.new.self c.args.site.now c.commit_edits.new.site
     (c.swap_edits_leave.ensures (entries_in old.table) old.nodes c.args.fresh.now.readings c.args.fresh.now.gone c.args.rules.now edits (subst (λ (nodes : GraphState). IsGraphOf (entries_in old.table) nodes) c.nodes.ensures.value (c.nodes.ensures.graph c.requires.fresh)) are c.requires.once) c.commit_edits.result c.commit_edits.ensures.leaves
+
+pub returns-clause-fresh : goal.returns-clause-fresh
+returns-clause-fresh g c =
+    let old = c.args.graph.now in
+    let edits = c.in_ok-edits.edits in
+    ok_is_fresh edits (edited_by old.nodes edits) old c.commit_edits.new.self c.args.site.now c.commit_edits.new.site c.commit_edits.result c.requires.fresh c.commit_edits.ensures.leaves
 
 pub returns-clause-crash : goal.returns-clause-crash
 returns-clause-crash g c = λ tells.

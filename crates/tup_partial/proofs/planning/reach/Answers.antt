@@ -1,8 +1,7 @@
 use Rattle.std.proofs.Common.{◌≡◌, ◌↔◌, ℕ, true, List, Contains, sym, subst}
-use Rattle.tup_graph.specs.Above.{IsAbove}
 use Rattle.tup_graph.specs.Graph.{GraphState, is_flagged}
-use Rattle.tup_partial.specs.Plan.{AreFlagsOfRules, IsToRun}
-use Rattle.tup_partial.proofs.Reach.{above_others, in_other_words}
+use Rattle.tup_partial.specs.Plan.{AreFlagsOfRules}
+use Rattle.tup_partial.proofs.Reach.{above_others}
 use Rattle.tup_partial.proofs.planning.reach.Goals as goal
 
 -- the flagged rules of the same graph
@@ -21,8 +20,8 @@ returns-clause-reach c =
     let g = c.args.graph.now in
     let roots = c.as_slice.result.now in
     let flagged = flagged_of c.in_ok-flagged.flagged c.nodes.result.now g c.nodes.ensures c.in_ok-flagged.ensures.flagged in
-    in_other_words (λ (numbers : List ℕ). (n : ℕ) → Contains numbers n ↔ IsAbove g (Contains roots) n) (λ (numbers : List ℕ). (n : ℕ) → Contains numbers n ↔ IsToRun g n) c.above.result
-    (λ numbers are n. (
+    let are = c.in_ok-numbers.ensures.above in
+    λ n. (
       λ inside. above_others g (Contains roots) (λ root. is_flagged g root ≡ true) (λ root there. (flagged root).0 (subst (λ (ns : List ℕ). Contains ns root) c.as_slice.ensures there)) n ((are n).0 inside),
       λ is. (are n).1 (above_others g (λ root. is_flagged g root ≡ true) (Contains roots) (λ root up. subst (λ (ns : List ℕ). Contains ns root) (sym c.as_slice.ensures) ((flagged root).1 up)) n is),
-    )) c.above.ensures.above
+    )

@@ -38,7 +38,7 @@ pub returns-clause-refreshed : goal.returns-clause-refreshed
 returns-clause-refreshed g c = λ tells sources outlined are files trues.
     let a = c.args in
     let start = walk_started a.nodes.now sources a.settings.now a.outline.now a.fetched _ outlined.paths are c.in_ok-walk.ensures in
-    c.in_ok-done.ensures sources a.settings.now outlined.paths
+    c.in_ok-done.ensures.refreshed sources a.settings.now outlined.paths
     (walk_next a.nodes.now sources a.settings.now c.loop-walk.walk c.next.new.self _ (c.loop-walk.invariant.walk tells sources outlined files trues start) c.in_ok-dir.ensures)
 
 pub returns-in_err-advance-clause-refreshed : goal.returns-in_err-advance-clause-refreshed

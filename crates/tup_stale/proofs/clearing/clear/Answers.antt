@@ -7,7 +7,7 @@ use Rattle.tup_stale.specs.Cleared.{AtLast, Leaves, SparesUsers}
 use Rattle.tup_stale.specs.Crash.{ClearStep}
 use Rattle.tup_stale.specs.Files.{SameBeside}
 use Rattle.tup_stale.specs.Unmade.{unmade, standing}
-use Rattle.tup_stale.proofs.Cleared.{no_items, nothing_to_clear, all_made_after, made_if_done, leaves_beside}
+use Rattle.tup_stale.proofs.Cleared.{no_items, nothing_to_clear, all_made_after, made_if_done, fresh_if_done, leaves_beside}
 use Rattle.tup_stale.proofs.Crashes.{leaves_since}
 use Rattle.tup_stale.proofs.Going.{at_rest}
 use Rattle.tup_stale.proofs.clearing.clear.Goals as goal
@@ -93,3 +93,11 @@ returns-clause-users g c = λ tells.
     let are : c.as_slice.result.now ≡ unmade old.nodes = c.as_slice.ensures ∙ c.in_ok-paths.ensures ∙ ap unmade c.nodes.ensures.value in
     subst (λ (qs : List Names). SparesUsers g.S.Site.world g.S.Site.moment g.S.Site.left_since qs old c.clear_paths.new.graph c.args.site.now c.clear_paths.new.site) are
     (c.clear_paths.ensures.users tells)
+
+pub returns-clause-fresh : goal.returns-clause-fresh
+returns-clause-fresh g c =
+    let old = c.args.graph.now in
+    let before = g.S.Site.world c.args.site.now in
+    let now = g.S.Site.world c.clear_paths.new.site in
+    let ps = c.as_slice.result.now in
+    fresh_if_done g.S.Site.tells ps (standing before.tree ps) old c.clear_paths.new.graph before now c.clear_paths.result c.requires.fresh c.clear_paths.ensures.leaves

@@ -17,8 +17,8 @@ use Rattle.tup_stamp.specs.declared.Stamp.{Stamp}
 use Rattle.tup_scan.specs.Seen.{IsSeen, IsStamped}
 use Rattle.tup_scan.specs.declared.seen.Seen.{Seen}
 use Rattle.tup_graph.specs.Graph.{GraphState}
+use Rattle.tup_graph.specs.Reach.{stamp_in}
 use Rattle.tup_graph.specs.Scan.{IsScanned}
-use Rattle.tup_board_rows.specs.Opening.{HasSeen}
 
 -- a stamp that is found at a path is that of the file there
 stamp_found : (tree : Tree) (files : List (Names × Stamp)) (path : Names) (given : Stamp) → All (IsStamped tree) files → finite.find by_names path files ≡ Some given
@@ -48,6 +48,6 @@ stamps_are tree files paths all path = finite.get-from_entries by_names-total fi
         is ∙ sym (no_stamp (finite.get tree path)
         (finite.contains_key-keys tree path ∙ ap (list_any (eq_by_cmp by_names path)) (sym paths) ∙ sym (is_some-find by_names path files) ∙ ap is_some is))
 
-pub has_seen : (old new : GraphState) (tree : Tree) (seen : Seen) → IsSeen tree seen → IsScanned old seen.files seen.config new → HasSeen new tree
+pub has_seen : (old new : GraphState) (tree : Tree) (seen : Seen) → IsSeen tree seen → IsScanned old seen.files seen.config new → (path : Names) → finite.get new.seen path ≡ stamp_in tree path
 has_seen old new tree seen is scanned path =
     ap (λ (m : finite.FinMap by_names Stamp). finite.get m path) scanned.seen ∙ stamps_are tree seen.files is.paths is.stamps path
