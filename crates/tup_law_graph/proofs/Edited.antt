@@ -102,6 +102,17 @@ module _ (known more : List Content) (also : (content : Content) → Contains kn
     kept = kept_more next language kept.graph kept.kept;
   }
 
+-- more contents are known
+pub site_more : (next : Next) (language : Language) (known more : List Content) → ((content : Content) → Contains known content → Contains more content) → (first : World) (Left : World → Type 0)
+    → IsKeptSite next language known first Left → IsKeptSite next language more first Left
+unfolding world_more
+site_more next language known more also first Left kept = record {
+  now = world_more known more also next language first first refl kept.now;
+  later = λ left is. world_more known more also next language left left refl (kept.later left is);
+  sources = kept.sources;
+  own = kept.own;
+}
+
 -- ---- a file is another one
 module _ (path : Names) (now : Option Content) where
   at_it : (tree : Tree) → finite.get (edited tree path now) path ≡ now

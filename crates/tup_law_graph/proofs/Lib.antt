@@ -8,4 +8,5 @@ pub mod Lists
 pub mod Named
 pub mod Declared
 pub mod Flagging
+pub mod Touched
 pub mod Reaching

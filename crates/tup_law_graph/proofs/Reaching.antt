@@ -8,14 +8,16 @@ use Rattle.tup_rule.specs.declared.question.Reading.{Reading}
 use Rattle.tup_rule.specs.declared.rule.Rule.{Rule}
 use Rattle.tup_runner.specs.Next.{Next}
 use Rattle.tup_project.specs.Project.{ComeTo}
-use Rattle.tup_graph.specs.Graph.{GraphState, is_flagged, source}
+use Rattle.tup_graph.specs.Graph.{GraphState, is_flagged, is_rule, source}
 use Rattle.tup_graph.specs.Kept.{IsKept}
 use Rattle.tup_graph.specs.Reach.{stamp_in, IsReached}
 use Rattle.tup_graph.specs.Records.{Language}
 use Rattle.tup_graph.specs.Scan.{IsScanned}
 use Rattle.tup_graph.specs.Swap.{IsSwapped}
+use Rattle.tup_closure.specs.Readers.{AreRunsOfRules}
 use Rattle.tup_law_graph.specs.Linking.{HaveOwnNames, LinksReadings}
 use Rattle.tup_law_graph.proofs.Declared.{come_there}
+use Rattle.tup_law_graph.proofs.Touched.{reached_scan, scan_reached}
 use Rattle.tup_law_graph.proofs.Flagging.{flagged_reached, reached_flagged}
 use Rattle.tup_law_graph.proofs.Named.{linked_names}
 
@@ -32,4 +34,14 @@ flags_are_reach next language known g scanned swapped files config fresh gone ru
     let there = come_there sources rules come in (
       flagged_reached next language known g scanned swapped files config fresh gone rules tree sources kept scan swap as_seen sees names there number,
       reached_flagged next language known g scanned swapped files config fresh gone rules tree sources kept scan swap as_seen sees names there number,
+    )
+
+-- the same of a scan alone
+pub scan_flags_are_reach : (next : Next) (language : Language) (known : List Content) (g scanned : GraphState) (files : List (Names × Stamp)) (config : Option Content) (tree : Tree) (number : ℕ)
+    → LinksReadings language → IsKept next language known g → ((at : ℕ) → is_flagged g at ≡ true → is_rule g at ≡ true) → AreRunsOfRules g → IsScanned g files config scanned
+    → ((path : Names) → finite.get scanned.seen path ≡ stamp_in tree path) → (is_flagged scanned number ≡ true) ↔ IsReached g tree g.rules number
+scan_flags_are_reach next language known g scanned files config tree number links kept flags runs scan as_seen =
+    let names = kept_names next language known g links kept in (
+      scan_reached next language known g scanned files config tree kept scan as_seen names flags runs number,
+      reached_scan next language known g scanned files config tree kept scan as_seen names number,
     )

@@ -21,7 +21,7 @@ use Rattle.tup_record.specs.declared.owned.OwnedState.TheVariants.{Never}
 use Rattle.tup_record.specs.declared.run.RunRecord.{RunRecord}
 use Rattle.tup_graph.specs.Above.{IsAbove}
 use Rattle.tup_graph.specs.Answers.{tupfile, Readings, Sources, IsAnswer, IsSource}
-use Rattle.tup_graph.specs.Graph.{GraphState, is_flagged, is_owned, source}
+use Rattle.tup_graph.specs.Graph.{GraphState, is_created, is_flagged, is_owned, source}
 use Rattle.tup_graph.specs.Kept.{Asked, HasSeenStamps, IsKept, IsRuleAt, IsUnflagged}
 use Rattle.tup_graph.specs.Records.{Language}
 use Rattle.tup_graph.specs.Swap.{IsFlaggedYet, IsNew, IsSwapped, ReadsNew, WasAt, owned_now}
@@ -154,7 +154,7 @@ module _ (language : Language) (known : List Content) (g new : GraphState) (fres
   owned_if path found makes = owned_are path ∙ ap (λ (m : Option ℕ). owned_by m (finite.get g.owned path)) makes
 
   -- the same files are sources
-  source_stays : (path : Names) → source new path ≡ source g path
+  pub source_stays : (path : Names) → source new path ≡ source g path
   source_stays path =
       ap₂ (λ (o : Option Owned) (s : Option Stamp). cond (is_some o) None s) (owned_are path) (ap (λ (m : finite.FinMap by_names Stamp). finite.get m path) is.seen)
       ∙ by (maker path rules) refl (finite.get g.owned path) refl
@@ -291,3 +291,18 @@ module _ (language : Language) (known : List Content) (g new : GraphState) (fres
           let now = still_owned (slice_index_or run.writes at d).0 one.0 one.1 in
           (now.0, now.1, now.2 ∙ one.2));
     }
+
+-- ---- where nothing is to be read
+pub unread_fits : (next : Next) (language : Language) (known : List Content) (g : GraphState) → IsKept next language known g → g.created ≡ finite.empty → FitsTogether language known g
+unread_fits next language known g kept none = record {
+  created = none;
+  stand = record {
+    read = λ dir there. kept.agrees.read dir there (unread dir);
+    told = λ dir reading here. kept.agrees.told dir reading here (unread dir);
+  };
+  owners = kept.owners;
+  linked = kept.linked;
+}
+  where
+    unread : (dir : Names) → is_created g dir ≡ false
+    unread dir = ap (λ (m : finite.FinMap by_names (Unit {0})). finite.contains_key m dir) none ∙ ap is_some (finite.get-empty by_names dir)

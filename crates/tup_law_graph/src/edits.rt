@@ -31,3 +31,13 @@ pub fn edits_keep_sites<S: Site>(site: &S)
 {
     let _ = site;
 }
+
+/// A law: a kept site is kept where more contents are known.
+pub fn more_is_kept<S: Site>(site: &S)
+    ensures { (next : Next) (language : Language) (known more : List Content) (first : World)
+        (since : ℕ) → ((content : Content) → Contains known content → Contains more content)
+        → IsKeptSite next language known first (S.left_since site.now since)
+        → IsKeptSite next language more first (S.left_since site.now since) }
+{
+    let _ = site;
+}

@@ -8,7 +8,9 @@ mod linked;
 mod reach;
 mod transactions;
 
-pub use edits::{edits_keep_sites, edits_keep_worlds};
+pub use edits::{edits_keep_sites, edits_keep_worlds, more_is_kept};
 pub use linked::{declared_are_there, linked_have_own_names};
-pub use reach::{flagged_is_reached, nothing_is_left, nothing_is_reached};
-pub use transactions::{scan_agrees, scan_keeps, swap_fits, swap_keeps};
+pub use reach::{flagged_is_reached, nothing_is_left, nothing_is_reached, scanned_is_reached};
+pub use transactions::{
+    kept_fits, scan_agrees, scan_keeps, swap_fits, swap_keeps, swap_sees_sources,
+};

@@ -3,3 +3,5 @@ pub mod Fitting
 pub mod Planned
 pub mod Ordered
 pub mod Beginning
+pub mod Seen
+pub mod Unchanged

@@ -29,7 +29,7 @@ use Rattle.tup_rule_diff.specs.Edits.{dir_of}
 use Rattle.tup_rule_diff.specs.Order.{AreByFolder}
 use Rattle.tup_scan_diff.proofs.Ordered.{front_or_behind, none_in}
 use Rattle.tup_refresh.specs.declared.refreshed.Refreshed.{Refreshed}
-use Rattle.tup_refresh.specs.Refresh.{IsRefresh, IsRefreshWith}
+use Rattle.tup_refresh.specs.Refresh.{AreSorted, IsRefresh, IsRefreshWith}
 use Rattle.tup_law_graph.proofs.Lists.{at_place, in_flat_map, in_map}
 
 -- ---- folders in order
@@ -102,10 +102,13 @@ linked_by_folder : (list : List (Names × Reading)) (rules : List Rule) → fini
 unfolding rules_of
 linked_by_folder list rules up linked = subst AreByFolder (sym linked.are) (by_folder (members (drafts_of (placed list))) list up)
 
+pub sorted_may_be_swapped : (given : Refreshed) (rules : List Rule) → AreSorted given → AreLinked given.all rules → IsDistinct same_path (map dir_of given.fresh) × AreByFolder rules
+sorted_may_be_swapped given rules up linked = (distinct given.fresh up.fresh, linked_by_folder given.all rules up.all linked)
+
 pub may_be_swapped : (g : GraphState) (sources : Tree) (given : Refreshed) (rules : List Rule) → IsRefresh g sources (Ok given) → AreLinked given.all rules → IsDistinct same_path (map dir_of given.fresh) × AreByFolder rules
 may_be_swapped g sources given rules refreshed linked = by (settings_of sources) refreshed
   where
     by : (found : Result Entries ConfigFault) → IsRefreshWith g sources found (Ok given) → IsDistinct same_path (map dir_of given.fresh) × AreByFolder rules
-    by (Ok settings) is = (distinct given.fresh is.sorted, linked_by_folder given.all rules is.read.0 linked)
+    by (Ok settings) is = sorted_may_be_swapped given rules (record { all = is.read.0; fresh = is.sorted }) linked
     by (Err fault) (inl wrong) = absurd (cc)
     by (Err fault) (inr wrong) = absurd (cc)

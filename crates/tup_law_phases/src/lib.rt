@@ -9,10 +9,14 @@ mod begun;
 mod brought;
 mod language;
 mod planning;
+mod skipped;
+mod sources;
 mod swapped;
 
 pub use begun::beginnings_are_kept;
 pub use brought::refreshed_fits;
 pub use language::tupfiles_are_a_language;
 pub use planning::{kept_for_core, kept_is_planned};
-pub use swapped::refreshed_may_be_swapped;
+pub use skipped::kept_comes_to;
+pub use sources::{known_for_core, seen_are_sources, sources_are_one};
+pub use swapped::{refreshed_may_be_swapped, sorted_may_be_swapped};
