@@ -36,7 +36,7 @@ pub record IsSpent (plan : Plan) (state : State) : Type 0 where
   pub claimed : (at : ℕ) → is_reached plan at ≡ true → state.pending at ≡ false → state.claimed at ≡ true
   pub bad : (at : ℕ) (given : Verdict) → state.bad at ≡ Some given → given ≢ Good
 
-spent_opening : (plan : Plan) (files : List (Names × Stamp)) → IsSpent plan (opening plan files)
+pub spent_opening : (plan : Plan) (files : List (Names × Stamp)) → IsSpent plan (opening plan files)
 spent_opening plan files = record {
   claimed = λ at reached quiet. absurd (true≢false (sym reached ∙ quiet));
   bad = λ at given is. absurd (none-some given is);
@@ -69,7 +69,7 @@ module _ (plan : Plan) (state : State) (spent : IsSpent plan state) (place : ℕ
   ended_spent (Unwritten path) written = bad_spent (Unwritten path) (λ e. cc e) _ refl refl refl
   ended_spent TooManyReads written = bad_spent TooManyReads (λ e. cc e) _ refl refl refl
 
-spent_after : (plan : Plan) (state : State) (event : CoreEvent) → IsOrderly plan state → IsSpent plan state → IsEnabled plan state event → IsSpent plan (after plan state event)
+pub spent_after : (plan : Plan) (state : State) (event : CoreEvent) → IsOrderly plan state → IsSpent plan state → IsEnabled plan state event → IsSpent plan (after plan state event)
 spent_after plan state (Claim seat rule) orderly spent enabled = record {
   claimed = λ at reached quiet. claimed_stays plan state (Claim seat rule) enabled at (spent.claimed at reached quiet);
   bad = spent.bad;

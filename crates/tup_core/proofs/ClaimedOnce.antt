@@ -1,8 +1,9 @@
 -- In a run each rule is claimed at most once, and only rules of the reach are.
-use Rattle.std.proofs.Common.{◌≡◌, ℕ, zero, suc, ◌<◌, Bool, true, false, List, [], ◌∷◌, length, refl, sym, ap, ◌∙◌, arith}
+use Rattle.std.proofs.Common.{◌≡◌, ℕ, zero, suc, Bool, true, false, List, [], ◌∷◌, get_or, refl, sym, ap, ◌∙◌}
 use Rattle.std.specs.Prelude.{nat_eq, ◌==◌, All}
-use Rattle.std.specs.List.{IsDistinct, AllByRecursion, slice_index_or}
+use Rattle.std.specs.List.{IsDistinct, AllByRecursion}
 use Rattle.std.proofs.lemmas.Bool.{true≢false, eqb-true}
+use Rattle.std.proofs.lemmas.Option.{same_Some, none-some, slice_get-get_or}
 use Rattle.tup_path.specs.Name.{Names}
 use Rattle.tup_stamp.specs.declared.Stamp.{Stamp}
 use Rattle.tup_core.specs.declared.event.CoreEvent.{CoreEvent}
@@ -10,6 +11,7 @@ use Rattle.tup_core.specs.declared.event.CoreEvent.TheVariants.{Claim, Ask, Deny
 use Rattle.tup_core.specs.declared.plan.Plan.{Plan}
 use Rattle.tup_core.specs.Step.{State, opening, is_reached, after}
 use Rattle.tup_core.specs.Run.{IsRun, claims}
+use Rattle.tup_core.specs.Laws.{IsClaimed}
 use Rattle.tup_core.proofs.Changed.{changed_here}
 use Rattle.tup_core.proofs.Orderly.{pending_shrinks, claimed_stays}
 
@@ -43,18 +45,16 @@ claimed_once plan (Finish seat verdict written ∷ events) state (enabled, run) 
 claimed_once plan (Stop seat cause ∷ events) state (enabled, run) = claimed_once plan events (after plan state (Stop seat cause)) run
 
 -- what is claimed was pending at the start
-pub claimed_pending : (plan : Plan) (events : List CoreEvent) (state : State) → IsRun plan state events → (k d : ℕ) → k < length (claims events) →
-    state.pending (slice_index_or (claims events) k d) ≡ true
-claimed_pending plan [] state run k d below = absurd (omega arith)
-claimed_pending plan (Claim seat rule ∷ events) state (enabled, run) zero d below = enabled.2.pending
-claimed_pending plan (Claim seat rule ∷ events) state (enabled, run) (suc k) d below =
-    claimed_pending plan events (after plan state (Claim seat rule)) run k d (omega arith)
-claimed_pending plan (Ask seat text answer ∷ events) state (enabled, run) k d below = claimed_pending plan events (after plan state (Ask seat text answer)) run k d below
-claimed_pending plan (Deny seat text verdict ∷ events) state (enabled, run) k d below = claimed_pending plan events (after plan state (Deny seat text verdict)) run k d below
-claimed_pending plan (Finish seat verdict written ∷ events) state (enabled, run) k d below =
-    pending_shrinks plan state (Finish seat verdict written) enabled (slice_index_or (claims events) k d)
-    (claimed_pending plan events (after plan state (Finish seat verdict written)) run k d below)
-claimed_pending plan (Stop seat cause ∷ events) state (enabled, run) k d below = claimed_pending plan events (after plan state (Stop seat cause)) run k d below
+pub claim_waits : (plan : Plan) (events : List CoreEvent) (state : State) → IsRun plan state events → (place at : ℕ) → IsClaimed events place at → state.pending at ≡ true
+claim_waits plan [] state run place at is = absurd (none-some at is)
+claim_waits plan (Claim seat rule ∷ events) state (enabled, run) zero at is = ap state.pending (sym (same_Some rule at is)) ∙ enabled.2.pending
+claim_waits plan (Claim seat rule ∷ events) state (enabled, run) (suc place) at is = claim_waits plan events (after plan state (Claim seat rule)) run place at is
+claim_waits plan (Ask seat text answer ∷ events) state (enabled, run) place at is = claim_waits plan events (after plan state (Ask seat text answer)) run place at is
+claim_waits plan (Deny seat text verdict ∷ events) state (enabled, run) place at is = claim_waits plan events (after plan state (Deny seat text verdict)) run place at is
+claim_waits plan (Finish seat verdict written ∷ events) state (enabled, run) place at is =
+    pending_shrinks plan state (Finish seat verdict written) enabled at (claim_waits plan events (after plan state (Finish seat verdict written)) run place at is)
+claim_waits plan (Stop seat cause ∷ events) state (enabled, run) place at is = claim_waits plan events (after plan state (Stop seat cause)) run place at is
 
 pub claimed_reached : (plan : Plan) (files : List (Names × Stamp)) (events : List CoreEvent) → IsRun plan (opening plan files) events → All (λ at. is_reached plan at ≡ true) (claims events)
-claimed_reached plan files events run = λ k d below. claimed_pending plan events (opening plan files) run k d below
+claimed_reached plan files events run = λ k d below.
+    claim_waits plan events (opening plan files) run k (get_or (claims events) k d) (slice_get-get_or (claims events) k d below)

@@ -1,6 +1,6 @@
 -- In an honest run from a planned opening each command ends with the verdict that its rule has in the clean build.
 use Rattle.std.proofs.Common.{◌≡◌, ℕ, zero, suc, ◌<◌, Bool, true, false, cond, List, [], ◌∷◌, length, map, Option, Some, refl, sym, ap, ◌∙◌, subst, inl, inr, arith}
-use Rattle.std.specs.Prelude.{slice_get}
+use Rattle.std.specs.Prelude.{slice_get, Contains}
 use Rattle.std.specs.FinMap as finite
 use Rattle.std.specs.Option.{option_map}
 use Rattle.std.specs.List.{list_all}
@@ -33,14 +33,15 @@ use Rattle.tup_core.specs.Honest.{EndsHonestly, IsHonest, stamped}
 use Rattle.tup_core.specs.Kept.{Kept}
 use Rattle.tup_core.specs.Planned.{IsPlanned, sources_of, clean_of}
 use Rattle.tup_core.specs.Laws.{EndAsIn}
+use Rattle.tup_core.specs.Settled.{IsSettled}
 use Rattle.tup_clean.proofs.Acyclic.{placed, by_producers}
 use Rattle.tup_core.proofs.Changed.{changed_cases}
 use Rattle.tup_core.proofs.Orderly.{IsOrderly, orderly_after, orderly_opening, finished_is}
 use Rattle.tup_core.proofs.Counted.{AreCounted, counted_after}
 use Rattle.tup_core.proofs.Standing.{AllStand, stand_after, writes_own, files_ended}
 use Rattle.tup_core.proofs.Verdicts.{IsAsOver, IsEndOver, end_over}
-use Rattle.tup_core.proofs.Settled.{IsSettled, IsSameAt, settled_same, stamps_each, settled_from}
-use Rattle.tup_core.proofs.Opening.{acyclic, apart, one_maker, elsewhere, whole, plain_at, read_same, unreached_settled}
+use Rattle.tup_core.proofs.Settled.{IsSameAt, settled_same, stamps_each, settled_from}
+use Rattle.tup_core.proofs.Opening.{acyclic, apart, one_maker, elsewhere, whole, plain_same, read_same, unreached_settled}
 
 -- what a state of such a run has in common with the clean build
 pub record IsFaithful (known : List Content) (plan : Plan) (sources : Tree) (build : Build) (begun : Names → Option Stamp) (state : State) : Type 0 where
@@ -297,6 +298,16 @@ module _ (next : Next) (known : List Content) (kept : Kept) (tree : Tree) (plan 
       (at : ℕ) (given : Verdict) → (end_of plan (opening plan files) events).bad at ≡ Some given → slice_get (clean_of next kept tree plan).verdicts at ≡ Some (Some given)
   bad_clean events run honest = (sound_at events run honest).faithful.bad
 
+  -- a rule that was run and isn't pending is settled
+  pub done_clean : (events : List CoreEvent) → IsRun plan (opening plan files) events → IsHonest next known plan (opening plan files) events → (at : ℕ) (rule : Rule) → slice_get plan.rules at ≡ Some rule →
+      is_reached plan at ≡ true → (end_of plan (opening plan files) events).pending at ≡ false → Settled (end_of plan (opening plan files) events) at rule
+  done_clean events run honest = (sound_at events run honest).faithful.done
+
+  -- and so is each that neither is pending nor waits for one that is
+  pub clear_clean : (events : List CoreEvent) → IsRun plan (opening plan files) events → IsHonest next known plan (opening plan files) events → (at : ℕ) (rule : Rule) → slice_get plan.rules at ≡ Some rule →
+      (end_of plan (opening plan files) events).pending at ≡ false → IsClear plan (end_of plan (opening plan files) events) rule → Settled (end_of plan (opening plan files) events) at rule
+  clear_clean events run honest = settled_state (end_of plan (opening plan files) events) (sound_at events run honest).faithful
+
   -- ---- an end with nothing pending
 
   all_good : (verdicts : List (Option Verdict)) → ((at : ℕ) → at < length verdicts → good_at verdicts at ≡ true) → list_all is_good verdicts ≡ true
@@ -320,14 +331,20 @@ module _ (next : Next) (known : List Content) (kept : Kept) (tree : Tree) (plan 
         let rule = some_place plan.rules at (subst (λ (n : ℕ). at < n) (whole next known kept tree plan files planned).many below) in
         (all_settled at rule.0 rule.1).good)
 
-    pub files_clean : (path : Names) → (end_of plan (opening plan files) events).files path ≡ option_map stamp (finite.get (clean_of next kept tree plan).tree path)
-    files_clean path =
+    same_clean : (path : Names) → IsSameAt known (end_of plan (opening plan files) events).files (clean_of next kept tree plan).tree path
+    same_clean path =
         elim (cases_Bool (is_generated plan.rules path)) [
           | inr plain ↦
-              (sound_at events run honest).faithful.elsewhere path plain
-              ∙ ap (option_map stamp) (sym (plain_at next known kept tree plan files planned path plain))
+              plain_same next known kept tree plan files planned (end_of plan (opening plan files) events).files path plain
+              ((sound_at events run honest).faithful.elsewhere path plain)
           | inl generated ↦
               let made = is_generated-maker plan.rules path generated in
               let found = maker-Some plan.rules path made.0 made.1 in
-              (settled_same known (clean_of next kept tree plan) (end_of plan (opening plan files) events).files made.0 found.rule path (all_settled made.0 found.rule found.here) found.writes_it).same
+              settled_same known (clean_of next kept tree plan) (end_of plan (opening plan files) events).files made.0 found.rule path (all_settled made.0 found.rule found.here) found.writes_it
         ]
+
+    pub files_clean : (path : Names) → (end_of plan (opening plan files) events).files path ≡ option_map stamp (finite.get (clean_of next kept tree plan).tree path)
+    files_clean path = (same_clean path).same
+
+    pub contents_clean : (path : Names) (content : Content) → finite.get (clean_of next kept tree plan).tree path ≡ Some content → Contains known content
+    contents_clean path = (same_clean path).contents

@@ -10,6 +10,8 @@ pub mod NeverStuck
 pub mod Verdicts
 pub mod CleanRuns
 pub mod AllClaimed
+mod InOrder
+mod BadLast
 pub mod Example
 pub mod ItemLaws
 mod WalkLaws

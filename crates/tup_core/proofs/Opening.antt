@@ -34,8 +34,9 @@ use Rattle.tup_core.specs.Sound.{HasOneMaker, IsAcyclic}
 use Rattle.tup_core.specs.Honest.{AreAnswered, stamped}
 use Rattle.tup_core.specs.Kept.{Kept, Owner, AreRecorded, IsTrueRecord, IsCurrent, IsKept}
 use Rattle.tup_core.specs.Planned.{IsPlanned, sources_of, clean_of}
+use Rattle.tup_core.specs.Settled.{IsSettled}
 use Rattle.tup_clean.proofs.Acyclic.{by_producers}
-use Rattle.tup_core.proofs.Settled.{IsSettled, IsSameAt, settled_same, each_at, stamped_each, settled_from}
+use Rattle.tup_core.proofs.Settled.{IsSameAt, settled_same, each_at, stamped_each, settled_from}
 use Rattle.tup_core.proofs.Verdicts.{IsAsOver, as_many, goes_to}
 
 -- ---- what may be read
@@ -148,6 +149,14 @@ module _ (next : Next) (known : List Content) (kept : Kept) (tree : Tree) (plan 
   pub plain_at : (path : Names) → is_generated plan.rules path ≡ false → finite.get (clean_of next kept tree plan).tree path ≡ finite.get (sources_of kept tree) path
   plain_at path plain = whole.elsewhere path (λ at rule here own. absurd (false≢true (sym (writes-at plan.rules path at rule plain here) ∙ own)))
 
+  -- a path that no rule makes has there what the files have, where they have the source
+  pub plain_same : (now : Names → Option Stamp) (path : Names) → is_generated plan.rules path ≡ false → now path ≡ option_map stamp (finite.get (sources_of kept tree) path) →
+      IsSameAt known now (clean_of next kept tree plan).tree path
+  plain_same now path plain source = record {
+    same = source ∙ ap (option_map stamp) (sym (plain_at path plain));
+    contents = λ content there. planned.contents path content (sym (source_at path plain) ∙ sym (plain_at path plain) ∙ there);
+  }
+
   -- where a rule may read, files have what the clean build has, if they do so at sources and the makers among its producers are settled
   pub read_same : (now : Names → Option Stamp) (rule : Rule) (path : Names) → may_read plan.rules rule path ≡ true → writes rule path ≡ false →
       (is_generated plan.rules path ≡ false → now path ≡ option_map stamp (finite.get (sources_of kept tree) path)) →
@@ -155,10 +164,7 @@ module _ (next : Next) (known : List Content) (kept : Kept) (tree : Tree) (plan 
       IsSameAt known now (clean_of next kept tree plan).tree path
   read_same now rule path readable foreign plain_so settled =
       elim (cases_Bool (is_generated plan.rules path)) [
-        | inr plain ↦ record {
-          same = plain_so plain ∙ ap (option_map stamp) (sym (plain_at path plain));
-          contents = λ content there. planned.contents path content (sym (source_at path plain) ∙ sym (plain_at path plain) ∙ there);
-        }
+        | inr plain ↦ plain_same now path plain (plain_so plain)
         | inl generated ↦
             let made = is_generated-maker plan.rules path generated in
             let found = maker-Some plan.rules path made.0 made.1 in

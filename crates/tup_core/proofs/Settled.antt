@@ -1,4 +1,4 @@
--- A rule that is settled: it is Good in the clean build, and the files have the stamps of what it leaves there.
+-- A Good rule is settled where the files have the stamps of what it leaves.
 use Rattle.std.proofs.Common.{◌≡◌, ℕ, Bool, true, false, cond, List, [], ◌∷◌, map, Option, None, Some, refl, sym, ap, ◌∙◌, subst, inl, inr}
 use Rattle.std.specs.Prelude.{if◌then◌else◌, slice_get, All, Contains}
 use Rattle.std.specs.FinMap as finite
@@ -25,10 +25,7 @@ use Rattle.tup_clean.proofs.VerdictLaws.{verdict-leaves}
 use Rattle.tup_clean.proofs.Whole.{is_good_at}
 use Rattle.tup_core.specs.Step.{with_stamps}
 use Rattle.tup_core.specs.Honest.{stamped}
-
-pub record IsSettled (known : List Content) (build : Build) (files : Names → Option Stamp) (at : ℕ) (rule : Rule) : Type 0 where
-  pub good : good_at build.verdicts at ≡ true
-  pub made : (path : Names) → writes rule path ≡ true → (content : Content) × (finite.get build.tree path ≡ Some content) × Contains known content × (files path ≡ Some (stamp content))
+use Rattle.tup_core.specs.Settled.{IsSettled}
 
 -- a path has the same in the files, by its stamp, and in a tree, and what it has is known
 pub record IsSameAt (known : List Content) (files : Names → Option Stamp) (tree : Tree) (path : Names) : Type 0 where

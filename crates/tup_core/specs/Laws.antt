@@ -1,5 +1,5 @@
 -- What every run of the core keeps, whichever seats make the claims and in whichever order (own).
-use Rattle.std.specs.Prelude.{◌≡◌, ℕ, true, false, List, [], ◌∷◌, Some, All, length, nat_eq, slice_get}
+use Rattle.std.specs.Prelude.{◌≡◌, ℕ, ◌<◌, true, false, List, [], ◌∷◌, ◌++◌, Some, All, Contains, length, nat_eq, slice_get}
 use Rattle.std.specs.FinMap as finite
 use Rattle.std.specs.List.{IsDistinct}
 use Rattle.std.specs.Option.{option_map}
@@ -9,6 +9,7 @@ use Rattle.tup_stamp.specs.declared.Stamp.{Stamp}
 use Rattle.tup_stamp.specs.Stamp.{stamp}
 use Rattle.tup_rule.specs.declared.rule.Rule.{Rule}
 use Rattle.tup_rule.specs.Rule.{writes}
+use Rattle.tup_rule.specs.Producer.{DeclaredProducer}
 use Rattle.tup_runner.specs.Next.{Next}
 use Rattle.tup_access.specs.declared.verdict.Verdict.{Verdict}
 use Rattle.tup_clean.specs.Clean.{Build, good_at, succeeds}
@@ -17,11 +18,12 @@ use Rattle.tup_core.specs.declared.event.CoreEvent.{CoreEvent}
 use Rattle.tup_core.specs.declared.event.CoreEvent.TheVariants.{Finish}
 use Rattle.tup_core.specs.declared.plan.Plan.{Plan}
 use Rattle.tup_core.specs.declared.running.Running.{Running}
-use Rattle.tup_core.specs.Step.{State, opening, is_reached, Runs, FitsEnd, after}
-use Rattle.tup_core.specs.Run.{IsRun, end_of, claims}
+use Rattle.tup_core.specs.Step.{State, opening, is_reached, IsClear, Runs, FitsEnd, after}
+use Rattle.tup_core.specs.Run.{IsRun, end_of, claims, seat_of}
 use Rattle.tup_core.specs.Honest.{IsKnown, EndsHonestly, IsHonest, IsTreeOf, IsVerdictOver}
 use Rattle.tup_core.specs.Kept.{Kept}
 use Rattle.tup_core.specs.Planned.{IsPlanned, clean_of}
+use Rattle.tup_core.specs.Settled.{IsSettled}
 use Rattle.tup_core.specs.Sound.{HasOneMaker, IsAcyclic, IsInRange, Stands, IsQuiet, IsStuck}
 
 -- the same of the end of each run from an opening, whose premise on the plan holds
@@ -38,6 +40,28 @@ ClaimsOnce = (plan : Plan) (files : List (Names × Stamp)) (events : List CoreEv
 abbrev pub ClaimsReached : Type 0
 ClaimsReached =
     (plan : Plan) (files : List (Names × Stamp)) (events : List CoreEvent) → IsRun plan (opening plan files) events → All (λ at. is_reached plan at ≡ true) (claims events)
+
+-- a rule at this place among those that were claimed, in their order
+abbrev pub IsClaimed : List CoreEvent → ℕ → ℕ → Type 0
+IsClaimed events place at = slice_get (claims events) place ≡ Some at
+
+-- a declared producer that is claimed is claimed before
+abbrev pub ClaimsInOrder : Type 0
+ClaimsInOrder = (plan : Plan) (files : List (Names × Stamp)) (events : List CoreEvent) → IsRun plan (opening plan files) events
+    → (sooner later at other : ℕ) (rule : Rule) → IsClaimed events later at → slice_get plan.rules at ≡ Some rule → DeclaredProducer plan.rules rule other
+    → IsClaimed events sooner other → sooner < later
+
+-- and each that is to be run is claimed
+abbrev pub ProducersClaimed : Type 0
+ProducersClaimed = (plan : Plan) (files : List (Names × Stamp)) (events : List CoreEvent) → IsRun plan (opening plan files) events
+    → (later at other : ℕ) (rule : Rule) → IsClaimed events later at → slice_get plan.rules at ≡ Some rule → DeclaredProducer plan.rules rule other
+    → is_reached plan other ≡ true → (sooner : ℕ) × (sooner < later) × IsClaimed events sooner other
+
+-- where one seat alone makes the claims, and the plan doesn't keep going, nothing is claimed after a bad rule
+abbrev pub BadIsLast : Type 0
+BadIsLast = (plan : Plan) (files : List (Names × Stamp)) (events : List CoreEvent) (seat : ℕ) → IsRun plan (opening plan files) events
+    → All (λ event. seat_of event ≡ seat) events → plan.keep_going ≡ false
+    → (at : ℕ) (given : Verdict) → (end_of plan (opening plan files) events).bad at ≡ Some given → (front : List ℕ) × (claims events ≡ front ++ at ∷ [])
 
 -- what a seat's command was answered stands; a seat keeps its asks until its Finish or a Stop
 abbrev pub AsksStand : Type 0
@@ -86,6 +110,23 @@ abbrev pub EndsInClean : Type 0
 EndsInClean = InHonestRuns (λ next known kept tree plan files events. ((at : ℕ) → (end_of plan (opening plan files) events).pending at ≡ false)
     → (succeeds (clean_of next kept tree plan) ≡ true)
     × ((path : Names) → (end_of plan (opening plan files) events).files path ≡ option_map stamp (finite.get (clean_of next kept tree plan).tree path)))
+
+-- and the contents of its tree are known
+abbrev pub CleanIsKnown : Type 0
+CleanIsKnown = InHonestRuns (λ next known kept tree plan files events. ((at : ℕ) → (end_of plan (opening plan files) events).pending at ≡ false)
+    → (path : Names) (content : Content) → finite.get (clean_of next kept tree plan).tree path ≡ Some content → Contains known content)
+
+-- a rule that was to be run and isn't pending any more is settled in the clean build of the sources
+abbrev pub SettledAreClean : Type 0
+SettledAreClean = InHonestRuns (λ next known kept tree plan files events. (at : ℕ) (rule : Rule) → slice_get plan.rules at ≡ Some rule
+    → is_reached plan at ≡ true → (end_of plan (opening plan files) events).pending at ≡ false
+    → IsSettled known (clean_of next kept tree plan) (end_of plan (opening plan files) events).files at rule)
+
+-- and so is any rule, if neither it nor a declared producer of it is pending
+abbrev pub ClearAreClean : Type 0
+ClearAreClean = InHonestRuns (λ next known kept tree plan files events. (at : ℕ) (rule : Rule) → slice_get plan.rules at ≡ Some rule
+    → (end_of plan (opening plan files) events).pending at ≡ false → IsClear plan (end_of plan (opening plan files) events) rule
+    → IsSettled known (clean_of next kept tree plan) (end_of plan (opening plan files) events).files at rule)
 
 -- there are such runs: over a project with a rule that needn't be run and one that must be, to an end with nothing pending
 abbrev pub SomeHonestRun : Type 0

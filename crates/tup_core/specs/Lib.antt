@@ -4,6 +4,7 @@ pub mod Sound
 pub mod Honest
 pub mod Kept
 pub mod Planned
+pub mod Settled
 pub mod Laws
 pub mod Files
 pub mod Waiting

@@ -1,7 +1,7 @@
 -- Runs of the core, and what is claimed in them (own).
 use Rattle.std.specs.Prelude.{ℕ, List, [], ◌∷◌}
 use Rattle.tup_core.specs.declared.event.CoreEvent.{CoreEvent}
-use Rattle.tup_core.specs.declared.event.CoreEvent.TheVariants.{Claim}
+use Rattle.tup_core.specs.declared.event.CoreEvent.TheVariants.{Claim, Ask, Deny, Finish, Stop}
 use Rattle.tup_core.specs.declared.plan.Plan.{Plan}
 use Rattle.tup_core.specs.Step.{State, IsEnabled, after}
 
@@ -20,3 +20,11 @@ abbrev pub claims : List CoreEvent → List ℕ
 claims [] = []
 claims (Claim seat rule ∷ events) = rule ∷ claims events
 claims (event ∷ events) = claims events
+
+-- the seat at which an event happened
+abbrev pub seat_of : CoreEvent → ℕ
+seat_of (Claim seat rule) = seat
+seat_of (Ask seat text answer) = seat
+seat_of (Deny seat text verdict) = seat
+seat_of (Finish seat verdict writes) = seat
+seat_of (Stop seat cause) = seat

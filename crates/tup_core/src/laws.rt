@@ -8,6 +8,18 @@ pub fn claimed_once()
     ensures reached { law.ClaimsReached }
 {}
 
+/// A law: in every run, each declared producer of a claimed rule that is to be run is claimed before it.
+pub fn claims_in_order()
+    ensures order { law.ClaimsInOrder }
+    ensures claimed { law.ProducersClaimed }
+{}
+
+/// A law: in every run in which one seat makes all claims, and whose plan doesn't keep going, a rule that is bad is the
+/// last one that was claimed.
+pub fn bad_is_last()
+    ensures { law.BadIsLast }
+{}
+
 /// A law: in every run, what a seat's command was answered for a file stands until the command ends or is
 /// stopped, its own outputs aside. It holds where no output of a rule of the reach is an output of another rule.
 pub fn asks_stand()
@@ -40,10 +52,19 @@ pub fn ends_are_clean()
     ensures bads { law.BadsAreClean }
 {}
 
+/// A law: in each honest run from an opening that was planned, a rule that was to be run and isn't pending any more is
+/// Good in the clean build of the sources, and the files have the stamps of what it leaves there, whose contents are
+/// known. So it is of each rule where neither it nor a declared producer of it is pending.
+pub fn settled_are_clean()
+    ensures done { law.SettledAreClean }
+    ensures clear { law.ClearAreClean }
+{}
+
 /// A law: at the end of each honest run from an opening that was planned, if no rule is pending, the clean build of the
-/// sources succeeds, and the files are those of its tree. There are such runs.
+/// sources succeeds, the files are those of its tree, and their contents are known. There are such runs.
 pub fn ends_in_clean()
     ensures end { law.EndsInClean }
+    ensures contents { law.CleanIsKnown }
     ensures some { law.SomeHonestRun }
 {}
 

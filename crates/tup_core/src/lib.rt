@@ -23,8 +23,8 @@ mod walk;
 pub use event::{Cause, CoreEvent, Stamps};
 pub use fault::CoreFault;
 pub use laws::{
-    all_are_claimed, asks_stand, claimed_once, ends_are_clean, ends_are_verdicts, ends_in_clean,
-    never_stuck, unreached_stand,
+    all_are_claimed, asks_stand, bad_is_last, claimed_once, claims_in_order, ends_are_clean,
+    ends_are_verdicts, ends_in_clean, never_stuck, settled_are_clean, unreached_stand,
 };
 pub use machine::Core;
 pub use plan::{Numbers, Plan};

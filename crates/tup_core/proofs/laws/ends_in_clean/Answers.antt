@@ -6,5 +6,6 @@ pub returns : goal.returns
 returns c = record {
   end = λ next known kept tree plan files events planned run honest done.
       (lemma.succeeds_clean next known kept tree plan files planned events run honest done, λ path. lemma.files_clean next known kept tree plan files planned events run honest done path);
+  contents = λ next known kept tree plan files events planned run honest done path content there. lemma.contents_clean next known kept tree plan files planned events run honest done path content there;
   some = example.some_honest_run;
 }
