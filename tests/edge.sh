@@ -1,8 +1,8 @@
 #!/bin/sh
 # The edge of the program, where only strace can show it: which folders a removal makes durable, that no want of memory in a
-# call that may have changed something passes for a mere want of memory, what a program that gets too little of it leaves, how
-# a file comes to its place where `.tup` is on another disk, what a file system that doesn't tell case apart would do, that a
-# second update looks at nothing, and streams and limits that a user's shell may take away. Word: the program. It ends with
+# call that may have changed something passes for a mere want of memory, what a program that gets too little of it leaves, that
+# a file that has its content is left alone, what a project without syncs asks the system for, what a file system that doesn't
+# tell case apart would do, that a second update looks at nothing, and streams and limits that a user's shell may take away. Word: the program. It ends with
 # 1 where something else came. It is no part of the gate.
 set -u
 tup=$(realpath "$1")
@@ -16,11 +16,15 @@ trap 'cd /; rm -rf "$work"' EXIT
 failures=0
 count=0
 
-project() {
+folder() {
     count=$((count + 1))
     mkdir "$work/$count" && cd "$work/$count" || exit 1
     printf 'hi\n' > a
     printf '%s\n' "$@" > Tupfile
+}
+
+project() {
+    folder "$@"
     "$tup" init > /dev/null || exit 1
 }
 
@@ -53,8 +57,8 @@ while read -r call number; do
 done < "$work/list"
 [ -s "$work/list" ] || same "calls of an update" none some
 
-# Less and less memory for the program itself: an update is done, or it ends with 12 and leaves the old output or the new one
-# (with 127 it didn't even begin).
+# Less and less memory for the program itself: an update is done, or it ends with 12 and leaves the old output or the new one,
+# as it takes all its memory before a file goes (with 127 it didn't even begin).
 wanted_large=$(head -c 1000000 /dev/zero | tr '\0' x | cksum)
 for limit in $(seq 2000 250 9000); do
     what="$limit kilobytes of memory"
@@ -84,59 +88,57 @@ same "a removal without a sync" "$(ls | tr '\n' ' ')" 'Tupfile a '
 strace -y -o "$work/trace" "$tup" > /dev/null
 same "its folder is synced in time" "$(awk '
     /^fsync\([0-9]+<[^>]*\/killed>\) += 0/ { synced = 1 }
-    /^rename\("\.\/\.tup\/db\.new"/ { last = synced }
+    /^pwrite64\([0-9]+<[^>]*\/\.tup\/db>/ { last = synced }
     END { print last }' "$work/trace")" 1
 
-# An output that is made anew where `.tup` is on another disk: what is written beside it under a hidden name takes its place.
-# Each call of that is failed and killed: the old output or the new one stands there, and of what was written nothing stays
-# but what a killed update left, which the next one takes away.
-other_disk=rename:error=EXDEV:when=1
-made_anew() {
-    project "$copy"
-    "$tup" > /dev/null
-    printf 'ho\n' > a
+# The calls of an update from the first that names its folder on, by their names. Word: what is counted of them.
+calls_of() {
+    awk -v counted="$1" '
+        /"\.["\/]/ { begun = 1 }
+        { sub(/\(.*/, "") }
+        begun && $0 ~ "^(" counted ")$" { count[$0]++ }
+        END { n = split(counted, name, "|"); for (i = 1; i <= n; i++) printf "%s %d ", name[i], count[name[i]] }' "$work/trace"
 }
-made_anew
-strace -o "$work/trace" -e trace=%file,%desc -e inject="$other_disk" "$tup" > "$work/told"
-same "another disk" "$(tail -1 "$work/told") $(cat b) $(ls -A . .tup | tr '\n' ' ')" 'done: 1 read, 1 run, 0 removed ho .: .tup Tupfile a b  .tup: db '
-awk '
-    { name = $0; sub(/\(.*/, "", name); count[name]++ }
-    begun && name ~ /^[a-z]/ { print name, count[name] }
-    /^rename/ { begun = / EXDEV / }' "$work/trace" > "$work/list"
-same "what is written beside an output" "$(sed -n 's/^\(openat\|write\|fsync\|rename\) .*/\1/p' "$work/list" | tr '\n' ' ')" 'openat write fsync rename '
-while read -r call number; do
-    what="another disk, $call number $number"
-    made_anew
-    case $call in rename) fault=rename:error=EXDEV:when=1..2 ;; *) fault=$call:error=EIO:when=$number ;; esac
-    strace -o /dev/null -e trace=rename,"$call" -e inject="$other_disk" -e inject="$fault" "$tup" > "$work/told" 2> "$work/said"
-    case "$call $? $(cat b) $(cat "$work/said")" in
-        'close 0 ho ' | 'unlink 0 ho ') ;;
-        *' 7 hi tup: ./'*'(os error '*')') ;;
-        *) same "$what failed" "$? $(cat b) $(cat "$work/said")" "7, the old output and the reason" ;;
-    esac
-    same "$what failed, the source" "$(cat a)" ho
-    same "$what failed, what is left" "$(ls -A | tr '\n' ' ')" '.tup Tupfile a b '
-    # Of one call strace takes one fault: what a kill at this rename leaves, a kill at the sync before it leaves too.
-    if [ "$call" = rename ]; then continue; fi
-    made_anew
-    strace -o /dev/null -e trace=rename,"$call" -e inject="$other_disk" -e inject="$call:signal=KILL:when=$number" "$tup" > /dev/null 2>&1
-    same "$what killed" "$?" 137
-    case $(cat b) in hi | ho) ;; *) same "$what killed, its output" "$(cat b)" "hi or ho" ;; esac
-    strace -o /dev/null -e trace=rename -e inject="$other_disk" "$tup" > "$work/told"
-    same "$what killed, the next update" "$(tail -1 "$work/told") $(cat b)" 'done: 1 read, 1 run, 0 removed ho'
-    same "$what killed, what is left then" "$(ls -A . .tup | tr '\n' ' ')" '.: .tup Tupfile a b  .tup: db '
-done < "$work/list"
+
+# An output that has its content is left alone, and synced; another is made anew, and never renamed into its place.
+changes='unlink|rename|pwrite64|write|fdatasync|fsync'
+project "$copy"
+"$tup" > /dev/null
+touch -d @9 b
+strace -o "$work/trace" "$tup" > /dev/null
+same "an output that has its content" "$(stat -c %Y b) $(calls_of "$changes")" '9 unlink 1 rename 0 pwrite64 0 write 1 fdatasync 0 fsync 5 '
+printf 'ho\n' > a
+strace -o "$work/trace" "$tup" > /dev/null
+same "an output that is made anew" "$(cat b) $(calls_of "$changes")" 'ho unlink 2 rename 0 pwrite64 0 write 2 fdatasync 0 fsync 5 '
+printf '%s\n' ': b |> cp b c |> c' >> Tupfile
+strace -o "$work/trace" "$tup" > /dev/null
+same "a commit" "$(cat c) $(calls_of "$changes")" 'ho unlink 1 rename 0 pwrite64 2 write 2 fdatasync 2 fsync 6 '
+
+# A project without syncs asks the system for none, and is killed like any other.
+folder "$copy"
+strace -o "$work/trace" "$tup" init --no-sync > "$work/told"
+same "a project without syncs begins" "$? $(cat "$work/told") $(cat .tup/options) $(calls_of 'rename|fdatasync|fsync')" '0 initialized --no-sync rename 1 fdatasync 0 fsync 0 '
+strace -o "$work/trace" "$tup" > "$work/told"
+same "it is updated" "$? $(tail -1 "$work/told") $(cat b) $(calls_of 'pwrite64|fdatasync|fsync')" '0 done: 1 read, 1 run, 0 removed hi pwrite64 2 fdatasync 0 fsync 0 '
+: > Tupfile
+strace -o "$work/trace" "$tup" --proc true > "$work/told"
+same "through a program" "$? $(tail -1 "$work/told") $(calls_of 'pwrite64|fdatasync|fsync')" '0 done: 1 read, 0 run, 1 removed pwrite64 2 fdatasync 0 fsync 0 '
+strace -o /dev/null -e trace=pwrite64 -e inject=pwrite64:signal=KILL:when=1 "$tup" > /dev/null 2>&1
+echo "$copy" > Tupfile
+strace -o /dev/null -e trace=pwrite64 -e inject=pwrite64:signal=KILL:when=2 "$tup" > /dev/null 2>&1
+same "it is killed" "$? $(ls | tr '\n' ' ')" '137 Tupfile a '
+same "and goes on" "$("$tup" | tail -1) $(cat b)" 'done: 1 read, 1 run, 0 removed hi'
 
 # A file system that doesn't tell case apart shows a file under a name that its folder doesn't list.
 project "$copy" && "$tup" > /dev/null && mkdir .TUP
 listings=$(strace -e trace=getdents64 "$tup" 2>&1 > /dev/null | grep -c '^getdents64')
 strace -o /dev/null -e trace=getdents64 -e inject=getdents64:retval=0:when=$((listings - 1)) "$tup" > "$work/told" 2> "$work/said"
-same "a file of another spelling" "$?: $(cat "$work/said")" '7: tup: ./b: a file of another spelling stands here'
+same "a file of another spelling" "$?: $(cat "$work/said")" '7: tup: look at ./b: a file of another spelling stands here'
 same "it stays" "$(cat b)" hi
 project && mkdir sub && printf 'ho\n' > sub/a && echo "$copy" > sub/Tupfile && "$tup" > /dev/null && mkdir .TUP
 listings=$(strace -e trace=getdents64 "$tup" 2>&1 > /dev/null | grep -c '^getdents64')
 strace -o /dev/null -e trace=getdents64 -e inject=getdents64:retval=0:when=$((listings - 3)) "$tup" > "$work/told" 2> "$work/said"
-same "a file below a folder of another spelling" "$?: $(cat "$work/said")" '7: tup: ./sub/b: a file of another spelling stands here'
+same "a file below a folder of another spelling" "$?: $(cat "$work/said")" '7: tup: look at ./sub/b: a file of another spelling stands here'
 same "it stays" "$(cat sub/b)" ho
 
 # The same over a library that lets the calls ignore case, for the program and for its site alone.
@@ -145,7 +147,7 @@ if cc -O1 -shared -fPIC -o "$work/ignores-case.so" "$tests/ignores-case.c" 2> /d
     project "$copy"
     same "its own spelling" "$(ignoring "$tup" | tail -1) $(ignoring "$tup" | tail -1)" 'done: 1 read, 1 run, 0 removed done: 1 read, 1 run, 0 removed'
     mv b x && mv x B && echo mine > B
-    same "an output that was renamed by case" "$(ignoring "$tup" 2>&1 | tail -1): $(cat B)" 'tup: ./b: a file of another spelling stands here: mine'
+    same "an output that was renamed by case" "$(ignoring "$tup" 2>&1 | tail -1): $(cat B)" 'tup: look at ./b: a file of another spelling stands here: mine'
     : > Tupfile
     same "its rule is gone" "$(ignoring "$tup" 2>&1 | tail -1): $(cat B)" 'done: 1 read, 0 run, 0 removed: mine'
     rows=$(realpath -m "$(dirname "$tup")/../../tup_outside_rows/out/tup_outside_rows")
@@ -159,7 +161,7 @@ if cc -O1 -shared -fPIC -o "$work/ignores-case.so" "$tests/ignores-case.c" 2> /d
             shell "mv Sub y && mv y sub" = ok
             again = ok
             remove Sub/x = fault
-            said = "folder/Sub/x: a file of another spelling stands here"
+            said = "look at folder/Sub/x: a file of another spelling stands here"
             put Sub/x other = fault
             file sub/x = one
             put sub/x other = ok
@@ -188,7 +190,7 @@ fi
 # A second update looks at nothing: somebody holds the lock of the folder.
 project "$copy"
 flock . strace -o "$work/trace" -e trace=%file,%desc "$tup" > "$work/told" 2> "$work/said"
-same "a second update" "$?: $(cat "$work/told") $(cat "$work/said")" '7: fault: the file tree or the store failed tup: .: another tup is at work here'
+same "a second update" "$?: $(cat "$work/told") $(cat "$work/said")" '7: fault: the file tree or the store failed tup: lock .: another tup is at work here'
 same "it looks at nothing" "$(grep -c '"\./' "$work/trace")" 0
 same "it makes nothing" "$(ls -A | tr '\n' ' ')" '.tup Tupfile a '
 
@@ -198,6 +200,7 @@ project "$copy"
 same "no stream is open" "$?" 9
 same "no stream is open, what was made" "$(cat b)" hi
 same "no stream is open, what else stands there" "$(ls -A . .tup | tr '\n' ' ')" '.: .tup Tupfile a b  .tup: db '
+same "no stream is open, the next update" "$("$tup" | tail -1)" 'done: 1 read, 1 run, 0 removed'
 for files in 4 5 6; do
     project "$copy"
     prlimit --nofile=$files "$tup" > "$work/told" 2> "$work/said"
@@ -217,7 +220,7 @@ project "$copy"
 "$tup" > /dev/null
 head -c 100000 /dev/zero > a
 (ulimit -c 0; ulimit -f 8; "$tup") > "$work/told" 2>&1
-same "a file that the shell doesn't allow" "$? $(cat b)" '153 hi'
+same "a file that the shell doesn't allow" "$?" 153
 same "the next update" "$("$tup" | tail -1) $(ls -A . .tup | tr '\n' ' ')" 'done: 1 read, 1 run, 0 removed .: .tup Tupfile a b  .tup: db '
 same "what it makes" "$(cmp a b && wc -c < a)" 100000
 

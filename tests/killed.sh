@@ -2,8 +2,10 @@
 # Each system call of an update over real files, of the beginning of a project and of a comparison, is failed and killed in turn, by strace: whatever stops the program, no
 # source may be lost, and the next update has to end with `done` and leave just the files of a clean build. A call that
 # failed is told with its error; only where nothing is lost by it may the update go on. Before, the order of its syncs is
-# looked at: which calls of the system make a file durable no clause says. Words: the program, and the projects to try (none: all). It ends with 1
-# where something else came, and says so. It takes a quarter of an hour, and is no part of the gate.
+# looked at: which calls of the system make a file durable no clause says. Then the store is torn in the range of each of its
+# writes, in each way that a cut of power may leave it: by a change of the file, in place of the cut. Words: the program, and the
+# projects to try (none: all). It ends with 1 where something else came, and says so. It takes a quarter of an hour, and is no
+# part of the gate.
 set -u
 tup=$(realpath "$1")
 shift
@@ -61,12 +63,12 @@ fewer_paths() {
     printf '%s\n' ': source |> cat source > az |> az' > Tupfile
 }
 
-# An earlier update was killed: bytes of a store and a content that it was writing are still there.
+# An earlier update was killed: bytes of a store that it was making, and a half of an output, are still there.
 after_a_kill() {
     three_rules
     "$tup" > /dev/null
     printf 'tup-db\n' > .tup/db.new
-    printf 'half of a con' > .tup/new
+    printf 'bo' > page
     printf '%s\n' ': body |> cp body page |> page' > Tupfile
 }
 
@@ -100,11 +102,12 @@ told_why() {
     grep -q "^tup: .*(os error $errno)\$" "$work/said" || wrong "exit 7, and nobody says why: $(cat "$work/said")"
 }
 
-# Calls by whose failure nothing is lost: a file is closed that was only read, or synced before; a lock isn't to be had; an
-# empty folder stays.
+# Calls by whose failure nothing is lost: a file is closed that was only read, or is synced later by its name; a lock isn't to
+# be had; an empty folder stays; an output that may not be read is made anew. Words: the call, and what was done to it.
 may_go_on() {
     case $1 in
         close | flock | rmdir) ;;
+        openat) [ "$2" = error=EACCES ] || wrong "exit 0, though this call failed" ;;
         *) wrong "exit 0, though this call failed" ;;
     esac
 }
@@ -147,7 +150,7 @@ stop() {
     case "$2 $4 $exit" in
         *' signal=KILL 137') ;;
         *' error='*' 7') told_why "${4#error=}" ;;
-        *' error='*' 0') may_go_on "$2" && made_all ;;
+        *' error='*' 0') may_go_on "$2" "$4" && made_all ;;
         'write error='*' 9') made_all ;;
         *) wrong "exit $exit: $(tail -1 "$work/told")" ;;
     esac
@@ -155,6 +158,11 @@ stop() {
         init) begin_again ;;
         verify) unchanged ;;
     esac
+    go_on
+}
+
+# The next update is done, and leaves just the files of a clean build.
+go_on() {
     next=$("$tup" 2>&1)
     case "$? $next" in
         '0 '*'done: '*) ;;
@@ -165,49 +173,123 @@ stop() {
     [ "$(ls .tup)" = db ] || wrong "more than the store is left in .tup: $(ls .tup | tr '\n' ' ')"
 }
 
+# The bytes that a cut of power may leave in the range of a write. Words: which, their number, and a file of those written.
+left_in_range() {
+    half=$(($2 / 2))
+    case $1 in
+        none) ;;
+        all) cat "$3" ;;
+        zeros) head -c "$2" /dev/zero ;;
+        ones) head -c "$2" /dev/zero | tr '\0' '\377' ;;
+        gates) head -c "$2" /dev/zero | tr '\0' '\001' ;;
+        front) head -c "$half" "$3" ;;
+        front_and_zeros) head -c "$half" "$3" && head -c $(($2 - half)) /dev/zero ;;
+        zeros_and_end) head -c "$half" /dev/zero && tail -c $(($2 - half)) "$3" ;;
+    esac
+}
+
+# Tears the store in the range of one write: an update is killed before it, and another behind it, before the sync; the store
+# of the one takes bytes of that of the other. Once more the outputs too are left as a cut of power may leave what wasn't synced:
+# empty. Words: the project, the number of the write, its length, its place in the store, and the number of the next sync.
+tear() {
+    for way in none all zeros ones gates front front_and_zeros zeros_and_end; do
+        # A byte that opens a gate has no halves; that it came whole is `gates`.
+        case "$3 $way" in '1 all' | '1 front' | '1 '*_and_*) continue ;; esac
+        what="$1, write $2 of the store, torn: $way"
+        killed_at pwrite64 "$2" before
+        head -c "$4" .tup/db > "$work/torn"
+        tail -c +$(($4 + 1)) .tup/db > "$work/behind"
+        killed_at fdatasync "$5" now
+        tail -c +$(($4 + 1)) .tup/db | head -c "$3" > "$work/written"
+        left_in_range "$way" "$3" "$work/written" > "$work/left"
+        [ "$way" != all ] || cmp -s "$work/written" "$work/left" || wrong "the write isn't in the store"
+        cat "$work/left" >> "$work/torn"
+        tail -c +$(($(wc -c < "$work/left") + 1)) "$work/behind" >> "$work/torn"
+        cp "$work/torn" .tup/db
+        torn=$((torn + 1))
+        [ "$way" != zeros ] || for file in top page index old a az; do if [ -f "$file" ]; then : > "$file"; fi; done
+        go_on
+    done
+}
+
+# Kills the update of a project before one call. Words: the call, its number, the folder in which.
+killed_at() {
+    rm -rf "${work:?}/$3" && cp -a "$work/project" "$work/$3" && cd "$work/$3" || exit 1
+    strace -o /dev/null -e trace="$1" -e inject="$1:error=EIO:signal=KILL:when=$2" "$tup" "$order" > /dev/null 2>&1
+    [ $? = 137 ] || wrong "it wasn't killed at $1 number $2"
+}
+
+# A store that was being made is none, whatever was written of it.
+half_made() {
+    for bytes in '' 'tup-' 'tup-db\n\001' 'tup-db\n\001\000' '\001\001\001\001\001\001\001\001\001'; do
+        what="beginning, a store half made: $bytes"
+        rm -rf "$work/now" && cp -a "$work/project" "$work/now" && cd "$work/now" && mkdir .tup || exit 1
+        printf "$bytes" > .tup/db.new
+        torn=$((torn + 1))
+        begin_again
+        go_on
+    done
+}
+
+# The writes of the store in a trace: the number of each, its length, its place, and the number of the sync behind it.
+writes_of_store() {
+    awk '
+        / = -1 / { next }
+        /^fdatasync\(/ { syncs++ }
+        /^pwrite64\(.*\/\.tup\/db>/ { sub(/\) *= .*/, ""); n = split($0, word, ", "); print ++writes, word[n - 1], word[n], syncs + 1 }' "$work/trace"
+}
+
 # What a trace of an update shows of its syncs. Before a file comes or goes the store is durable, with its folder and the one
-# above. Each file is synced before it is renamed into its place, and so is a store; before the store is put into its place, all
-# folders above a name that came or went are synced, and so they are in the end. Behind each store its folder is. Word: how often
-# the store is to be put into its place: once where it is made, and twice for each commit.
+# above. Before the store is written, or gets its name, each file that came and all folders above a name that came or went are
+# synced, and so they are in the end. A store that is made is synced before it gets its name, and its folder behind that; each
+# write of a store is synced before the next one. Word: how often the store is written, or gets its name: once where it is made,
+# and twice for each commit.
 unsynced() {
     awk -v wanted="$1" '
         function above(path) { while (sub(/\/[^\/]*$/, "", path)) waiting[path] }
         function file_changes(path) {
-            if (!("./.tup" in synced) || !("." in synced)) print path " comes or goes before the store is durable"
+            if (dirty["./.tup/db"] || !("./.tup" in synced) || !("." in synced)) print path " comes or goes before the store is durable"
             above(path)
         }
-        function replaces(new, path) {
-            if (!(new in synced)) print path " isn\047t durable before it is put into its place"
-            delete synced[new]
+        function store_changes(   path) {
+            for (path in waiting) print path " isn\047t durable before the store says so"
+            stores++
         }
-        !/ = 0$/ { next }
-        { split($0, part, "\"") }
-        /^rename\("\.\/\.tup\/new", / { replaces("./.tup/new", part[4]); file_changes(part[4]) }
-        /^unlink\("\.\/[^.]/ { file_changes(part[2]) }
-        /^rmdir\(/ { above(part[2]); delete waiting[part[2]] }
-        /^f(data)?sync\(/ {
+        function place(   path) {
             path = $0
-            sub(/^[a-z]*\([0-9]*</, "", path)
-            sub(/>\).*/, "", path)
+            sub(/^[a-z0-9]*\([0-9]*</, "", path)
+            sub(/>[,)].*/, "", path)
             sub(/^.*\/now/, ".", path)
-            delete waiting[path]
-            synced[path]
+            return path
+        }
+        / = -1 / { next }
+        { split($0, part, "\"") }
+        /^openat\(.*"\.\/[^.].*O_CREAT/ { file_changes(part[2]); waiting[part[2]] }
+        /^unlink\("\.\/[^.]/ { file_changes(part[2]); delete waiting[part[2]] }
+        /^rmdir\(/ { above(part[2]); delete waiting[part[2]] }
+        /^f(data)?sync\(/ { delete waiting[place()]; delete dirty[place()]; synced[place()] }
+        /^pwrite64\(/ {
+            if (dirty[place()]) print "the store is written twice without a sync"
+            dirty[place()] = 1
+            if (place() == "./.tup/db") store_changes()
         }
         /^rename\("\.\/\.tup\/db\.new", / {
-            for (path in waiting) print path " isn\047t durable before the new store is there"
-            replaces("./.tup/db.new", "the store")
+            if (dirty["./.tup/db.new"]) print "the new store isn\047t durable before it gets its name"
             delete synced["./.tup"]
-            if (!stores++) delete synced["."]
+            delete synced["."]
+            store_changes()
         }
+        /^rename/ && !/^rename\("\.\/\.tup\/db\.new", / { print "a file is renamed" }
         END {
-            if (stores != wanted) print "the store was put into its place " stores + 0 " times, not " wanted
+            if (stores != wanted) print "the store was written, or got its name, " stores + 0 " times, not " wanted
             for (path in waiting) print path " isn\047t durable in the end"
-            if (!("./.tup" in synced)) print "the folder of the store isn\047t synced behind it"
+            if (dirty["./.tup/db"]) print "the store isn\047t durable in the end"
+            if (!("./.tup" in synced) || !("." in synced)) print "the folders of the store aren\047t synced"
         }' "$work/trace"
 }
 
-# All calls of the update of a project, or of its beginning, from the first that names its folder on. A beginning puts the
-# store into its place once; each of the updates commits once: it owns what it makes, or gives paths up.
+# All calls of the update of a project, or of its beginning, from the first that names its folder on. A beginning gives the
+# store its name; each of the updates commits once: it owns what it makes, or gives paths up.
 try() {
     rm -rf "$work/project" "$work/clean" && mkdir "$work/project" "$work/clean" && cd "$work/project" || exit 1
     case $1 in
@@ -235,8 +317,13 @@ try() {
         for error in EIO EACCES ENOSPC; do stop "$1" "$call" "$number" "error=$error"; done
         stop "$1" "$call" "$number" signal=KILL
     done < "$work/list"
+    writes_of_store > "$work/writes"
+    torn=0
+    while read -r number length at sync; do tear "$1" "$number" "$length" "$at" "$sync"; done < "$work/writes"
+    [ $order != init ] || half_made
     printf '%s: %s calls, each failed by three errors and killed:\n' "$1" "$(wc -l < "$work/list")"
     sort "$work/exits" | uniq -c | sed 's/^ *\([0-9]*\) /  \1 times /'
+    printf '  %s torn stores of %s writes\n' "$torn" "$(wc -l < "$work/writes")"
 }
 
 # A bad rule: nothing is given up, and what was made before it is synced all the same.

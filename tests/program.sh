@@ -41,7 +41,7 @@ row() {
     found=$("$tup" "$@" 2> "$work/said"; printf 'exit %s' "$?")
     same "$name" "$(printf '%s' "$found" | tr '\n' ';')" "${lines}exit $status"
     case "$status $lines" in
-        7* | 8*) ;;
+        7* | 8* | '2 ') ;;
         *'no tup project here;') said '`tup init` begins a project here' ;;
         *) same "$name, standard error" "$(cat "$work/said")" "" ;;
     esac
@@ -71,6 +71,41 @@ row "nothing of it is lost" 0 'same;' verify
 : > Tupfile
 row "it knows what it made" 0 'read .;remove b;done: 1 read, 0 run, 1 removed;' upd
 row "a word behind init" 2 'fault: usage, word 2;' init now
+
+# A project that makes nothing durable.
+folder "$copy"
+row "a word behind --no-sync" 2 'fault: usage, word 3;' init --no-sync now
+row "--no-sync without init" 2 'fault: usage, word 1;' --no-sync
+row "--no-sync behind another order" 2 'fault: usage, word 2;' upd --no-sync
+same "nothing was made" "$(ls -A | tr '\n' ' ')" 'Tupfile a '
+row "a project without syncs" 0 'initialized;' init --no-sync
+file "its options" .tup/options --no-sync
+row "it begins once" 3 'fault: already a tup project;' init --no-sync
+row "its first update" 0 "$done_copy" upd
+row "it is compared" 0 'same;' verify
+echo --fast >> .tup/options
+row "an unknown option" 2 '' upd
+said '.tup/options: unknown word --fast'
+row "an unknown option, compared" 2 '' verify
+row "an unknown option, without an order" 2 ''
+row "an unknown option, and one asks for the version" 0 'tup 0.1;' --version
+printf '\377' > .tup/options
+row "options that are no text" 2 '' upd
+said ".tup/options: unknown word that isn't UTF-8"
+rm .tup/options && mkdir .tup/options
+row "a folder in the place of the options" 7 'fault: the file tree or the store failed;' upd
+said 'read .tup/options: Is a directory (os error 21)'
+rmdir .tup/options && : > .tup/options
+row "no options" 0 "$done_copy" upd
+project "$copy"
+row "a project that has begun with syncs" 3 'fault: already a tup project;' init --no-sync
+same "it has them still" "$(ls .tup)" db
+folder "$copy"
+mkdir -p .tup/options
+row "options that can't be written" 7 'initialized;fault: the file tree or the store failed;' init --no-sync
+said 'write .tup/options: Is a directory (os error 21)'
+rmdir .tup/options
+row "the project has begun, with syncs" 0 "$done_copy" upd
 
 project "$copy"
 row "one rule" 0 "$done_copy" upd
@@ -512,7 +547,7 @@ file "the update is done" b hi
 project "$copy"
 echo mine > target && ln -s target b
 row "a link at the output" 7 'read .;fault: the file tree or the store failed;' upd
-said './b: a link or a special file stands here'
+said 'look at ./b: a link or a special file stands here'
 file "its target" target mine
 project "$copy"
 mkdir b
@@ -521,22 +556,22 @@ file "an empty folder at the output, its file" b hi
 project "$copy"
 mkdir b && echo mine > b/.mine
 row "a folder with a hidden file at the output" 7 'read .;fault: the file tree or the store failed;' upd
-said './b: Directory not empty (os error 39)'
+said 'remove ./b: Directory not empty (os error 39)'
 file "it stays" b/.mine mine
 project
 echo "$copy" > elsewhere && ln -s elsewhere Tupfile
 row "a link named Tupfile" 7 'fault: the file tree or the store failed;' upd
-said './Tupfile: a link or a special file stands here'
+said 'look at ./Tupfile: a link or a special file stands here'
 gone "nothing was made" b
 folder "$copy"
 echo mine > .tup
 row "a file named .tup" 7 'fault: the file tree or the store failed;' upd
-said './.tup: a link or a special file stands here'
+said 'look at ./.tup: a link or a special file stands here'
 file "it stays" .tup mine
 folder "$copy"
 mkdir -p .tup/db
 row "a folder at the store" 7 'fault: the file tree or the store failed;' upd
-said './.tup/db: a link or a special file stands here'
+said 'look at ./.tup/db: a link or a special file stands here'
 gone "nothing was made" b
 
 # Names.
@@ -556,12 +591,12 @@ project "$copy"
 mkdir "$wide"
 for i in 1 2 3 4 5 6 7 8 9 10 11 12 13 14 15 16; do mkdir w && mv "$wide" w && mv w "$wide"; done
 row "a file whose place is too long for the system" 7 'fault: the file tree or the store failed;' upd
-same "it is named" "$(sed "s/$wide/N/g" "$work/said")" "tup: ./N/N/N/N/N/N/N/N/N/N/N/N/N/N/N/N: File name too long (os error 36)"
+same "it is named" "$(sed "s/$wide/N/g" "$work/said")" "tup: look at ./N/N/N/N/N/N/N/N/N/N/N/N/N/N/N/N: File name too long (os error 36)"
 gone "nothing was made" b
 folder "$copy"
 mkdir gone && cd gone && rmdir ../gone
 row "a folder that was removed" 7 'fault: the file tree or the store failed;' init
-said './.tup: No such file or directory (os error 2)'
+said 'make ./.tup: No such file or directory (os error 2)'
 
 # What a hurried user does wrong.
 line() {
@@ -707,14 +742,14 @@ if [ "$(id -u)" = 0 ] && mkdir "$work/small" && mount -t tmpfs -o size=64k none 
     printf '%s\n' "$copy" ': b |> cp b c |> c' > Tupfile
     "$tup" init > /dev/null
     row "a full disk" 7 'read .;run .: cp a b;fault: the file tree or the store failed;' upd
-    said './c: No space left on device (os error 28)'
+    said 'write ./c: No space left on device (os error 28)'
     same "a full disk, the source" "$(wc -c < a)" 24576
     mount -o remount,size=1m "$work/small"
     row "room was made" 0 'read .;run .: cp a b;run .: cp b c;done: 1 read, 2 run, 0 removed;' upd
     same "room was made, the last file" "$(wc -c < c)" 24576
     mount -o remount,ro "$work/small"
     row "a disk that may only be read" 7 'fault: the file tree or the store failed;' upd
-    said './.tup/new: Read-only file system (os error 30)'
+    said 'remove ./.tup/db.new: Read-only file system (os error 30)'
     same "what was made stands" "$(wc -c < c)" 24576
     folder "$copy"
     umount "$work/small"
@@ -747,25 +782,26 @@ if [ "$(id -u)" = 0 ] && command -v setpriv > /dev/null; then
     folder "$copy"
     chmod 755 .
     nobody "a folder without permission" 'fault: the file tree or the store failed;' init
-    said './.tup: Permission denied (os error 13)'
+    said 'make ./.tup: Permission denied (os error 13)'
     file "its source" a hi
     open_project
     chmod 600 a
     nobody "a source without permission" 'fault: the file tree or the store failed;' upd
-    said './a: Permission denied (os error 13)'
+    said 'open ./a: Permission denied (os error 13)'
     open_project
     mkdir -m 700 sub
     nobody "a folder that nobody may look into" 'fault: the file tree or the store failed;' upd
-    said './sub: Permission denied (os error 13)'
+    said 'list ./sub: Permission denied (os error 13)'
     project "$copy"
     chmod 777 . && "$tup" > /dev/null
+    printf '%s\n' ': b |> cp b c |> c' >> Tupfile
     nobody "a store that the superuser made" 'read .;fault: the file tree or the store failed;' upd
-    said './.tup/new: Permission denied (os error 13)'
+    said 'open ./.tup/db: Permission denied (os error 13)'
     file "what was made stands" b hi
     open_project
     chmod 600 Tupfile
     nobody "a Tupfile without permission" 'fault: the file tree or the store failed;' upd
-    said './Tupfile: Permission denied (os error 13)'
+    said 'open ./Tupfile: Permission denied (os error 13)'
 else
     echo "passed over: files without permission"
 fi

@@ -20,7 +20,7 @@ wrong() {
 ended() {
     case "$2 $(tail -1 "$work/$1") $(cat "$work/$1.said")" in
         '0 done: 1 read, 200 run, 0 removed ') ;;
-        '7 fault: the file tree or the store failed tup: .: another tup is at work here')
+        '7 fault: the file tree or the store failed tup: lock .: another tup is at work here')
             refused=$((refused + 1))
             [ "$(wc -l < "$work/$1")" = 1 ] || wrong "the one that was told of another has done something"
             ;;

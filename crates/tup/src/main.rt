@@ -5,14 +5,17 @@
 //! tested, and proved to be safe, but it makes no promise of its own.
 #![tactic(auto)]
 
+mod options;
 mod output;
+mod streams;
 mod words;
 
+use options::{NO_SYNC, skip_syncs, syncs};
 use output::Output;
 use std::alloc::{AllocError, Global};
 use std::io;
 use std::process::ExitCode;
-use tup_fs::FsSite;
+use tup_fs::{FsSite, Syncs};
 use tup_mini::Mini;
 use tup_path::Text;
 use tup_proc_runner::ProcRunner;
@@ -24,6 +27,8 @@ const HELP: &str = "\
 tup makes the files that the Tupfiles of this folder and of those below it ask for.
 
   tup init        begin a project in this folder, once
+  tup init --no-sync
+                  begin one that is faster: its files are safe if tup is killed, but not if the power is cut
   tup, tup upd    update: remove the files of vanished rules, run every rule behind those that it waits for
   tup verify      compare the files with a clean build, and touch none
   tup demo        show an update of a small project in memory
@@ -43,6 +48,7 @@ const STAGE: &str = ".tup/stage";
 const VERSION: &str = "0.1";
 
 fn main(rt: HostRuntime) -> ExitCode {
+    streams::fill(rt);
     let status = match words(&rt, rt.alloc()) {
         Ok(words) => answer(rt, rt.alloc(), &words),
         Err(status) => told(&rt, status),
@@ -52,26 +58,50 @@ fn main(rt: HostRuntime) -> ExitCode {
 
 /// Answers the words, and gives the exit number.
 fn answer(rt: HostRuntime, alloc: Global, words: &[Word]) -> u8 {
-    if let [word] = words {
-        match word.0.as_str() {
-            "--help" => return shown(print!(rt; "{HELP}")),
-            "--version" => return shown(println!(rt; "tup {VERSION}")),
-            _ => {}
+    match words {
+        [word] if word.0.as_str() == "--help" => shown(print!(rt; "{HELP}")),
+        [word] if word.0.as_str() == "--version" => shown(println!(rt; "tup {VERSION}")),
+        [init, option, rest @ ..] if init.0.as_str() == "init" && option.0.as_str() == NO_SYNC => {
+            init_without_syncs(rt, alloc, &words[..1], rest)
         }
+        _ => obey(rt, alloc, words),
     }
-    match order_of(words) {
-        Ok(
-            Order::Upd {
-                program: Some(program),
-            },
-        ) => run_through(rt, alloc, words, &program),
-        _ => run(rt, alloc, words, Mini::new(alloc)).0,
+}
+
+/// Begins a project that makes nothing durable: no word may stand behind.
+fn init_without_syncs(rt: HostRuntime, alloc: Global, init: &[Word], rest: &[Word]) -> u8 {
+    if !rest.is_empty() {
+        return told(&rt, Status::Usage { place: 3 });
+    }
+    match run(rt, alloc, init, Syncs::Skipped, Mini::new(alloc)).0 {
+        0 => skip_syncs(rt),
+        status => status,
+    }
+}
+
+/// Carries out an order; only what works on a project asks for its options.
+fn obey(rt: HostRuntime, alloc: Global, words: &[Word]) -> u8 {
+    let program = match order_of(words) {
+        Ok(Order::Upd { program }) => program,
+        Ok(Order::Verify) => None,
+        _ => return run(rt, alloc, words, Syncs::Done, Mini::new(alloc)).0,
+    };
+    match (syncs(rt), program) {
+        (Err(status), _) => status,
+        (Ok(syncs), Some(program)) => run_through(rt, alloc, words, syncs, &program),
+        (Ok(syncs), None) => run(rt, alloc, words, syncs, Mini::new(alloc)).0,
     }
 }
 
 /// Has a crew of this one runner carry out the words; gives the exit number, and the runner back.
-fn run<R: Runner>(rt: HostRuntime, alloc: Global, words: &[Word], runner: R) -> (u8, Option<R>) {
-    let Ok(site) = FsSite::new(rt, alloc, ".") else {
+fn run<R: Runner>(
+    rt: HostRuntime,
+    alloc: Global,
+    words: &[Word],
+    syncs: Syncs,
+    runner: R,
+) -> (u8, Option<R>) {
+    let Ok(site) = FsSite::new(rt, alloc, ".", syncs) else {
         return (told(&rt, Status::Memory), None);
     };
     let mut crew = Vec::new(alloc);
@@ -96,11 +126,11 @@ fn hint(rt: HostRuntime, status: &Status) {
 }
 
 /// The same with the runner that starts this program for each command.
-fn run_through(rt: HostRuntime, alloc: Global, words: &[Word], program: &Text) -> u8 {
+fn run_through(rt: HostRuntime, alloc: Global, words: &[Word], syncs: Syncs, program: &Text) -> u8 {
     let Ok(runner) = starter(rt, alloc, program) else {
         return told(&rt, Status::Memory);
     };
-    let (status, runner) = run(rt, alloc, words, runner);
+    let (status, runner) = run(rt, alloc, words, syncs, runner);
     if let Some(fault) = runner.and_then(|runner| runner.last()) {
         // Words that can't be printed change nothing: the exit number tells as much.
         drop(eprintln!(rt; "tup: {program}: {fault}"));
@@ -128,7 +158,7 @@ fn shown(printed: io::Result<()>) -> u8 {
 }
 
 /// Prints the line of a status that came before any update, and gives its exit number.
-fn told(rt: &impl Print, status: Status) -> u8 {
+pub(crate) fn told(rt: &impl Print, status: Status) -> u8 {
     // A line that can't be printed changes nothing: the exit number tells as much.
     drop(println!(rt; "{status}"));
     status.exit()

@@ -8,4 +8,3 @@ IsOwnBelow top own =
     (string_bytes own.folder ≡ top ++ codes "/.tup")
     × (string_bytes own.store ≡ top ++ codes "/.tup/db")
     × (string_bytes own.aside ≡ top ++ codes "/.tup/db.new")
-    × (string_bytes own.new ≡ top ++ codes "/.tup/new")

@@ -1,7 +1,6 @@
 //! The program's own folder, in which nothing is a file of the tree.
-ghost use Rattle.std.specs.Prelude.{IfOk, OnOk, string_bytes};
+ghost use Rattle.std.specs.Prelude.{IfOk};
 ghost use Rattle.tup_db.specs.Own.{IsOwnBelow};
-ghost use Rattle.tup_disk.specs.Marked.{IsMarked};
 
 use std::alloc::{AllocError, Global};
 use std::fs::File;
@@ -13,10 +12,8 @@ use tup_disk::{Disk, Refused, Standing};
 pub struct Own {
     pub folder: String,
     pub store: String,
-    /// The store with what was written and cut since the last sync.
+    /// A new store, till it is made durable and comes to its place.
     pub aside: String,
-    /// Where a file is written before it comes to its place.
-    pub new: String,
 }
 
 impl Own {
@@ -28,31 +25,17 @@ impl Own {
             folder: format!(in alloc; "{root}/.tup")?,
             store: format!(in alloc; "{root}/.tup/db")?,
             aside: format!(in alloc; "{root}/.tup/db.new")?,
-            new: format!(in alloc; "{root}/.tup/new")?,
         })
     }
 
-    /// Makes the folder unless there is one.
-    pub fn make<R: Files<File = File> + Clone + Drop>(
-        &self,
-        disk: &mut Disk<R>,
-    ) -> Result<(), Refused>
-        ensures { OnOk result (IsMarked disk.new.folders (string_bytes self.now.folder)) }
-    {
-        disk.make_folder(&self.folder)
-    }
-
-    /// Removes the files that a run which died has left in the folder.
+    /// Removes the store that a run which died was making.
     pub fn sweep<R: Files<File = File> + Clone + Drop>(
         &self,
         disk: &Disk<R>,
     ) -> Result<(), Refused> {
         match disk.standing(self.folder.as_str())? {
             Standing::Nothing => Ok(()),
-            Standing::Folder => {
-                disk.clear(self.new.as_str())?;
-                disk.clear(self.aside.as_str())
-            }
+            Standing::Folder => disk.clear(self.aside.as_str()),
             _ => Err(disk.in_the_way(self.folder.as_str())),
         }
     }

@@ -1,195 +1,308 @@
-//! The store's file. What isn't synced yet stands in a file beside it, which `sync` makes durable
-//! and puts into its place: so whatever stops the program, the store is the old one or the new one,
-//! whole.
-ghost use Rattle.std.specs.Prelude.{◌≡◌, false, IfOk, OnOk, OnErr, IsOk, IsErr, IsTrue, is_some, string_bytes};
+//! The store's file. It is written in its place: a write that was stopped leaves any bytes in its own
+//! range, and who writes has to reckon with that. Only a store that is made stands aside till it is
+//! durable: so there is none, or one that was synced.
+ghost use Rattle.std.specs.Prelude.{◌≡◌, false, IfOk, OnOk, OnErr, IsOk, IsErr, IsTrue, is_some};
 ghost use Rattle.tup_db.specs.Own.{IsOwnBelow};
 
 use crate::own::Own;
 use std::alloc::{AllocError, Global};
+use std::fs;
 use std::fs::{File, OpenOptions};
 use std::os::unix::fs::FileExt;
 use std::rt::Files;
-use std::{fs, io};
-use tup_disk::{Disk, Refused, Standing};
+use tup_disk::{Disk, Operation, Refused, Standing};
 
 /// The store as this process sees it.
 #[derive(Drop)]
-pub struct Store<R: Files<File = File> + Clone + Drop> {
-    disk: Disk<R>,
+pub struct Store {
     pub own: Own,
-    aside: Option<File>,
+    /// The store's file, once this process has written it.
+    file: Option<File>,
+    /// Whether that file stands aside.
+    is_aside: bool,
+    /// Whether this process has made durable that the store has its name.
+    is_named: bool,
     is_lost: bool,
 }
 
-impl<R: Files<File = File> + Clone + Drop> Store<R> {
+impl Store {
     /// The store below a folder: nothing was written yet, and no sync has failed.
-    pub fn new(rt: R, alloc: Global, root: &str) -> Result<Store<R>, AllocError>
-        ensures root { IfOk result (λ store. string_bytes store.disk.root ≡ root.now) }
+    pub fn new(alloc: Global, root: &str) -> Result<Store, AllocError>
         ensures own { IfOk result (λ store. IsOwnBelow root.now store.own) }
-        ensures aside { IfOk result (λ store. is_some store.aside ≡ false) }
+        ensures file { IfOk result (λ store. is_some store.file ≡ false) }
+        ensures aside { IfOk result (λ store. store.is_aside ≡ false) }
         ensures lost { IfOk result (λ store. store.is_lost ≡ false) }
     {
         Ok(Store {
-            disk: Disk::new(rt, alloc, root)?,
             own: Own::new(alloc, root)?,
-            aside: None,
+            file: None,
+            is_aside: false,
+            is_named: false,
             is_lost: false,
         })
     }
 
     /// The length of the store; 0 where there is none.
-    pub fn len(&self) -> Result<u64, Refused> {
-        match &self.aside {
-            Some(file) => self.aside_len(file),
-            None => Ok(self.stored_len()?.unwrap_or(0)),
+    pub fn len<R: Files<File = File> + Clone + Drop>(
+        &self,
+        disk: &Disk<R>,
+    ) -> Result<u64, Refused> {
+        match &self.file {
+            Some(file) => Ok(
+                disk.at(Operation::Look, self.place(), file.metadata())?
+                    .len(),
+            ),
+            None => match self.in_place(disk)? {
+                Standing::File { len, .. } => Ok(len),
+                _ => Ok(0),
+            },
         }
-    }
-
-    fn aside_len(&self, file: &File) -> Result<u64, Refused> {
-        let aside = self.own.aside.as_str();
-        Ok(self.disk.at(aside, file.metadata())?.len())
     }
 
     /// Fills the buffer from a place on.
-    pub fn read(&self, at: u64, into: &mut [u8]) -> Result<(), Refused> {
-        match &self.aside {
+    pub fn read<R: Files<File = File> + Clone + Drop>(
+        &self,
+        disk: &Disk<R>,
+        at: u64,
+        into: &mut [u8],
+    ) -> Result<(), Refused> {
+        match &self.file {
             Some(file) => {
                 let done = file.read_exact_at(into, at);
-                self.disk.at(self.own.aside.as_str(), done)
+                disk.at(Operation::Read, self.place(), done)
             }
-            None => self.read_stored(at, into),
+            None => self.read_in_place(disk, at, into),
         }
     }
 
-    /// Writes from a place on. What is written stands aside till the next sync.
-    pub fn write(&mut self, at: u64, bytes: &[u8]) -> Result<(), Refused>
-        ensures aside { OnOk result (IsTrue (is_some self.new.aside)) }
-        ensures kept { IsTrue (is_some self.old.aside) → IsTrue (is_some self.new.aside) }
+    /// Writes from a place on.
+    pub fn write<R: Files<File = File> + Clone + Drop>(
+        &mut self,
+        disk: &Disk<R>,
+        at: u64,
+        bytes: &[u8],
+    ) -> Result<(), Refused>
+        ensures open { OnOk result (IsTrue (is_some self.new.file)) }
+        ensures kept { IsTrue (is_some self.old.file) → IsTrue (is_some self.new.file) }
+        ensures place { IsTrue (is_some self.old.file) → self.new.is_aside ≡ self.old.is_aside }
         ensures lost { self.new.is_lost ≡ self.old.is_lost }
         ensures own { self.new.own ≡ self.old.own }
     {
-        let file = self.take_aside()?;
+        let file = self.take_file(disk)?;
         let done = file.write_all_at(bytes, at);
-        self.aside = Some(file);
-        self.disk.at(self.own.aside.as_str(), done)
+        self.file = Some(file);
+        disk.at(Operation::Write, self.place(), done)
     }
 
     /// Cuts the store; one that is no longer stays.
-    pub fn cut(&mut self, to: u64) -> Result<(), Refused>
-        ensures kept { IsTrue (is_some self.old.aside) → IsTrue (is_some self.new.aside) }
+    pub fn cut<R: Files<File = File> + Clone + Drop>(
+        &mut self,
+        disk: &Disk<R>,
+        to: u64,
+    ) -> Result<(), Refused>
+        ensures kept { IsTrue (is_some self.old.file) → IsTrue (is_some self.new.file) }
+        ensures place { IsTrue (is_some self.old.file) → self.new.is_aside ≡ self.old.is_aside }
         ensures lost { self.new.is_lost ≡ self.old.is_lost }
         ensures own { self.new.own ≡ self.old.own }
     {
-        if self.len()? <= to {
+        if self.len(disk)? <= to {
             return Ok(());
         }
-        let file = self.take_aside()?;
+        let file = self.take_file(disk)?;
         let done = file.set_len(to);
-        self.aside = Some(file);
-        self.disk.at(self.own.aside.as_str(), done)
+        self.file = Some(file);
+        disk.at(Operation::Cut, self.place(), done)
     }
 
     /// Makes durable what was written and cut. The system tells a lost write but once: so after a
     /// failure no later sync succeeds.
-    pub fn sync(&mut self) -> Result<(), Refused>
-        ensures aside { OnOk result (is_some self.new.aside ≡ false) }
+    pub fn sync<R: Files<File = File> + Clone + Drop>(
+        &mut self,
+        disk: &Disk<R>,
+    ) -> Result<(), Refused>
+        ensures placed { OnOk result (self.new.is_aside ≡ false) }
+        ensures kept { is_some self.new.file ≡ is_some self.old.file }
         ensures lost { OnErr result (IsTrue self.new.is_lost) }
         ensures none_lost { OnOk result (self.new.is_lost ≡ false) }
         ensures for_good { IsTrue self.old.is_lost → IsErr result }
         ensures own { self.new.own ≡ self.old.own }
     {
         if self.is_lost {
-            return Err(self.disk.lost(self.own.store.as_str()));
+            return Err(disk.lost(self.own.store.as_str()));
         }
         self.is_lost = true;
-        self.put_into_place()?;
-        self.aside = None;
-        self.sync_folders()?;
+        self.sync_bytes(disk)?;
+        self.put_into_place(disk)?;
+        self.sync_names(disk)?;
         self.is_lost = false;
         Ok(())
     }
 
-    // Syncs the bytes of the store; those that were written aside take its place.
-    fn put_into_place(&self) -> Result<(), Refused> {
-        match &self.aside {
-            Some(file) => self.rename(file),
-            None => self.sync_stored(),
+    // Where nothing was written, the bytes that a run which died has left are synced, once.
+    fn sync_bytes<R: Files<File = File> + Clone + Drop>(
+        &self,
+        disk: &Disk<R>,
+    ) -> Result<(), Refused> {
+        match &self.file {
+            Some(file) => disk.sync_bytes(file, self.place()),
+            None if self.is_named => Ok(()),
+            None => self.sync_in_place(disk),
         }
     }
 
-    // Syncs the store's file, if there is one. Anything else in its place is a failure.
-    fn sync_stored(&self) -> Result<(), Refused> {
-        match self.stored_len()? {
-            Some(_) => self.disk.sync(self.own.store.as_str()),
-            None => Ok(()),
+    // Syncs the file in the store's place, if there is one. Anything else there is a failure.
+    fn sync_in_place<R: Files<File = File> + Clone + Drop>(
+        &self,
+        disk: &Disk<R>,
+    ) -> Result<(), Refused> {
+        match self.in_place(disk)? {
+            Standing::File { .. } => disk.sync(self.own.store.as_str()),
+            _ => Ok(()),
         }
     }
 
-    fn rename(&self, file: &File) -> Result<(), Refused> {
+    // Gives a store that was made its name.
+    fn put_into_place<R: Files<File = File> + Clone + Drop>(
+        &mut self,
+        disk: &Disk<R>,
+    ) -> Result<(), Refused>
+        ensures placed { OnOk result (self.new.is_aside ≡ false) }
+        ensures kept { self.new.file ≡ self.old.file }
+        ensures lost { self.new.is_lost ≡ self.old.is_lost }
+        ensures own { self.new.own ≡ self.old.own }
+    {
+        if !self.is_aside {
+            return Ok(());
+        }
         let (store, aside) = (self.own.store.as_str(), self.own.aside.as_str());
-        self.disk.at(aside, file.sync_all())?;
-        self.disk.at(store, fs::rename(&self.disk.rt, aside, store))
+        let renamed = fs::rename(&disk.rt, aside, store);
+        disk.at(Operation::Rename, store, renamed)?;
+        self.is_aside = false;
+        self.is_named = false;
+        Ok(())
     }
 
-    // Makes the own folder durable too: it may have been made since the last sync.
-    fn sync_folders(&self) -> Result<(), Refused> {
-        self.disk.sync(self.own.folder.as_str())?;
-        self.disk.sync(self.disk.root())
+    // The own folder too may have been made since the last sync, or by a run that died.
+    fn sync_names<R: Files<File = File> + Clone + Drop>(
+        &mut self,
+        disk: &Disk<R>,
+    ) -> Result<(), Refused>
+        ensures place { self.new.is_aside ≡ self.old.is_aside }
+        ensures kept { self.new.file ≡ self.old.file }
+        ensures lost { self.new.is_lost ≡ self.old.is_lost }
+        ensures own { self.new.own ≡ self.old.own }
+    {
+        if self.is_named {
+            return Ok(());
+        }
+        disk.sync(self.own.folder.as_str())?;
+        disk.sync(disk.root())?;
+        self.is_named = true;
+        Ok(())
     }
 
-    // The length of the store's file. Anything else that stands in its place is a failure.
-    fn stored_len(&self) -> Result<Option<u64>, Refused> {
-        let store = self.own.store.as_str();
-        match self.disk.standing(store)? {
-            Standing::File(len) => Ok(Some(len)),
-            Standing::Nothing => Ok(None),
-            _ => Err(self.disk.in_the_way(store)),
+    // Where the file stands that is written.
+    fn place(&self) -> &str {
+        if self.is_aside {
+            self.own.aside.as_str()
+        } else {
+            self.own.store.as_str()
         }
     }
 
-    fn read_stored(&self, at: u64, into: &mut [u8]) -> Result<(), Refused> {
-        if self.stored_len()?.is_none() && into.is_empty() {
+    // The file in the store's place, or nothing. All else that stands there is a failure.
+    fn in_place<R: Files<File = File> + Clone + Drop>(
+        &self,
+        disk: &Disk<R>,
+    ) -> Result<Standing, Refused> {
+        let store = self.own.store.as_str();
+        match disk.standing(store)? {
+            Standing::Folder | Standing::Other => Err(disk.in_the_way(store)),
+            found => Ok(found),
+        }
+    }
+
+    fn read_in_place<R: Files<File = File> + Clone + Drop>(
+        &self,
+        disk: &Disk<R>,
+        at: u64,
+        into: &mut [u8],
+    ) -> Result<(), Refused> {
+        if self.in_place(disk)? == Standing::Nothing && into.is_empty() {
             return Ok(());
         }
         let store = self.own.store.as_str();
-        let file = self.disk.at(store, File::open(&self.disk.rt, store))?;
-        self.disk.at(store, file.read_exact_at(into, at))
+        let file = disk.open(store)?;
+        disk.at(Operation::Read, store, file.read_exact_at(into, at))
     }
 
-    // The file aside, begun as a copy of the store where there is none yet.
-    fn take_aside(&mut self) -> Result<File, Refused>
-        ensures there { IsTrue (is_some self.old.aside) → IsOk result }
+    // The file that is written, opened or made where this is the first write.
+    fn take_file<R: Files<File = File> + Clone + Drop>(
+        &mut self,
+        disk: &Disk<R>,
+    ) -> Result<File, Refused>
+        ensures there { IsTrue (is_some self.old.file) → IsOk result }
+        ensures place { IsTrue (is_some self.old.file) → self.new.is_aside ≡ self.old.is_aside }
         ensures lost { self.new.is_lost ≡ self.old.is_lost }
         ensures own { self.new.own ≡ self.old.own }
     {
-        match self.aside.take() {
+        match self.file.take() {
             Some(file) => Ok(file),
-            None => self.open_aside(),
+            None => self.begin_to_write(disk),
         }
     }
 
-    fn open_aside(&mut self) -> Result<File, Refused>
+    fn begin_to_write<R: Files<File = File> + Clone + Drop>(
+        &mut self,
+        disk: &Disk<R>,
+    ) -> Result<File, Refused>
         ensures lost { self.new.is_lost ≡ self.old.is_lost }
         ensures own { self.new.own ≡ self.old.own }
     {
-        self.own.make(&mut self.disk)?;
-        let is_there = self.stored_len()?.is_some();
-        let opened = self.copy_aside(is_there);
-        if opened.is_err() {
-            let _ = fs::remove_file(&self.disk.rt, self.own.aside.as_str());
+        match self.in_place(disk)? {
+            Standing::File { names: 1, .. } => open_to_write(disk, self.own.store.as_str()),
+            Standing::Nothing => self.make_aside(disk),
+            _ => self.copy_aside(disk),
         }
-        self.disk.at(self.own.aside.as_str(), opened)
     }
 
-    fn copy_aside(&self, is_there: bool) -> io::Result<File> {
+    fn make_aside<R: Files<File = File> + Clone + Drop>(
+        &mut self,
+        disk: &Disk<R>,
+    ) -> Result<File, Refused>
+        ensures lost { self.new.is_lost ≡ self.old.is_lost }
+        ensures own { self.new.own ≡ self.old.own }
+    {
+        disk.make_unless_there(self.own.folder.as_str())?;
         let aside = self.own.aside.as_str();
-        if is_there {
-            fs::copy(&self.disk.rt, self.own.store.as_str(), aside)?;
-        }
-        OpenOptions::new()
-            .read(true)
-            .write(true)
-            .create(true)
-            .open(&self.disk.rt, aside)
+        let file = disk.at(Operation::Make, aside, File::create_new(&disk.rt, aside))?;
+        self.is_aside = true;
+        Ok(file)
     }
+
+    // A store that has another name too is made anew: under that name it may be another project's.
+    fn copy_aside<R: Files<File = File> + Clone + Drop>(
+        &mut self,
+        disk: &Disk<R>,
+    ) -> Result<File, Refused>
+        ensures lost { self.new.is_lost ≡ self.old.is_lost }
+        ensures own { self.new.own ≡ self.old.own }
+    {
+        let (store, aside) = (self.own.store.as_str(), self.own.aside.as_str());
+        disk.at(Operation::Copy, aside, fs::copy(&disk.rt, store, aside))?;
+        let file = open_to_write(disk, aside)?;
+        self.is_aside = true;
+        Ok(file)
+    }
+}
+
+fn open_to_write<R: Files<File = File> + Clone + Drop>(
+    disk: &Disk<R>,
+    place: &str,
+) -> Result<File, Refused> {
+    let opened = OpenOptions::new()
+        .read(true)
+        .write(true)
+        .open(&disk.rt, place);
+    disk.at(Operation::Open, place, opened)
 }

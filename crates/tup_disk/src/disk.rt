@@ -3,33 +3,41 @@ ghost use Rattle.std.specs.Prelude.{◌≡◌, ◌-◌, length, take, map, IfOk,
 ghost use Rattle.tup_disk.specs.Place.{place_of, places_to};
 ghost use Rattle.tup_disk.specs.Told.{IsTold, IsFailure, IsNamed};
 
-use crate::failure::{Failure, Refused};
+use crate::failure::{Failure, Operation, Refused};
 use std::alloc::{AllocError, Global};
-use std::collections::BTreeSet;
 use std::fs::{File, TryLockError};
 use std::io;
 use std::rt::Files;
 use tup_path::{Path, Text};
 
-/// The folder below which all lies and the way to it, and the folders that were seen there.
+/// Whether what was written is made durable. Where it isn't, it is safe against a killed program,
+/// but not against a cut of power.
+#[derive(Clone, Copy, PartialEq, Eq)]
+pub enum Syncs {
+    Done,
+    Skipped,
+}
+
+/// The folder below which all lies, and the way to it.
 #[derive(Drop)]
 pub struct Disk<R: Files<File = File> + Clone + Drop> {
     pub rt: R,
     pub alloc: Global,
     root: String,
-    pub(crate) folders: BTreeSet<String>,
+    pub(crate) syncs: Syncs,
 }
 
 impl<R: Files<File = File> + Clone + Drop> Disk<R> {
     /// The files below this folder. It touches nothing yet.
-    pub fn new(rt: R, alloc: Global, root: &str) -> Result<Disk<R>, AllocError>
-        ensures { IfOk result (λ disk. string_bytes disk.root ≡ root.now) }
+    pub fn new(rt: R, alloc: Global, root: &str, syncs: Syncs) -> Result<Disk<R>, AllocError>
+        ensures root { IfOk result (λ disk. string_bytes disk.root ≡ root.now) }
+        ensures syncs { IfOk result (λ disk. disk.syncs ≡ syncs) }
     {
         Ok(Disk {
             rt,
             alloc,
             root: String::from_str(alloc, root)?,
-            folders: BTreeSet::new(alloc),
+            syncs,
         })
     }
 
@@ -65,54 +73,61 @@ impl<R: Files<File = File> + Clone + Drop> Disk<R> {
         Ok(folders)
     }
 
-    /// The place of the folder that a path is in.
-    pub fn folder_of(&self, path: &Path) -> Result<String, AllocError>
-        ensures { IfOk result (λ place. string_bytes place
-            ≡ place_of (string_bytes self.now.root) (take (length path.now - 1) path.now)) }
-    {
-        let depth = path.depth().saturating_sub(1);
-        self.place(&path.names()[..depth])
-    }
-
     /// The lock on the top folder, held as long as the file is. Where the file system knows no
     /// locks nothing keeps another process away.
     pub fn lock(&self) -> Result<File, Refused> {
         let root = self.root.as_str();
-        let file = self.at(root, File::open(&self.rt, root))?;
+        let file = self.open(root)?;
         match file.try_lock() {
             Err(TryLockError::WouldBlock) => {
-                Err(self.refused(root, io::Error::other("another tup is at work here")))
+                let error = io::Error::other("another tup is at work here");
+                Err(self.refused(Operation::Lock, root, error))
             }
             _ => Ok(file),
         }
     }
 
-    /// An answer of the system, with its place if it is a failure.
-    pub fn at<T>(&self, place: &str, answer: io::Result<T>) -> Result<T, Refused>
-        ensures { IsTold place.now answer result }
+    /// Opens a file, or a folder, to be read.
+    pub fn open(&self, place: &str) -> Result<File, Refused> {
+        self.at(Operation::Open, place, File::open(&self.rt, place))
+    }
+
+    /// An answer of the system, with what was asked and the place if it is a failure.
+    pub fn at<T>(
+        &self,
+        operation: Operation,
+        place: &str,
+        answer: io::Result<T>,
+    ) -> Result<T, Refused>
+        ensures { IsTold operation place.now answer result }
     {
         match answer {
             Ok(value) => Ok(value),
-            Err(error) => Err(self.refused(place, error)),
+            Err(error) => Err(self.refused(operation, place, error)),
         }
     }
 
     /// A failure at a place; where there is no memory for the place, it isn't named.
-    pub fn refused(&self, place: &str, error: io::Error) -> Refused
-        ensures { IsFailure place.now error result }
+    pub fn refused(&self, operation: Operation, place: &str, error: io::Error) -> Refused
+        ensures { IsFailure operation place.now error result }
     {
         let place = match String::from_str(self.alloc, place) {
             Ok(place) => place,
             Err(_) => String::new(self.alloc),
         };
-        Refused::Failed(Failure { place, error })
+        Refused::Failed(Failure {
+            operation,
+            place,
+            error,
+        })
     }
 
     /// The failure that something stands here which is neither a file nor a folder of the project.
     pub fn in_the_way(&self, place: &str) -> Refused
-        ensures { IsNamed place.now result }
+        ensures { IsNamed Operation.Look place.now result }
     {
         self.refused(
+            Operation::Look,
             place,
             io::Error::other("a link or a special file stands here"),
         )
@@ -120,8 +135,12 @@ impl<R: Files<File = File> + Clone + Drop> Disk<R> {
 
     /// The failure of every sync after one that failed.
     pub fn lost(&self, place: &str) -> Refused
-        ensures { IsNamed place.now result }
+        ensures { IsNamed Operation.Sync place.now result }
     {
-        self.refused(place, io::Error::other("an earlier write was lost"))
+        self.refused(
+            Operation::Sync,
+            place,
+            io::Error::other("an earlier write was lost"),
+        )
     }
 }

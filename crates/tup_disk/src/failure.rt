@@ -1,12 +1,49 @@
 //! What the system refused, and where.
 use std::alloc::{AllocError, AllocFailed};
-use std::io;
+use std::{fmt, io};
 use thiserror::Error;
 
-/// A call of the system that failed: the place, and the system's words.
+/// What was asked of the system.
+#[derive(Clone, Copy, Debug, PartialEq, Eq)]
+pub enum Operation {
+    Lock,
+    Look,
+    List,
+    Open,
+    Read,
+    Make,
+    Write,
+    Cut,
+    Copy,
+    Sync,
+    Rename,
+    Remove,
+}
+
+impl fmt::Display for Operation {
+    fn fmt<W: fmt::Write>(&self, f: &mut fmt::Formatter<W>) -> fmt::Result {
+        f.write_str(match self {
+            Operation::Lock => "lock",
+            Operation::Look => "look at",
+            Operation::List => "list",
+            Operation::Open => "open",
+            Operation::Read => "read",
+            Operation::Make => "make",
+            Operation::Write => "write",
+            Operation::Cut => "cut",
+            Operation::Copy => "copy",
+            Operation::Sync => "sync",
+            Operation::Rename => "rename",
+            Operation::Remove => "remove",
+        })
+    }
+}
+
+/// A call of the system that failed: what was asked, the place, and the system's words.
 #[derive(Debug, Drop, Error)]
-#[error("{place}: {error}")]
+#[error("{operation} {place}: {error}")]
 pub struct Failure {
+    pub(crate) operation: Operation,
     pub(crate) place: String,
     pub(crate) error: io::Error,
 }

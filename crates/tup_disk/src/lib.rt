@@ -2,7 +2,7 @@
 //!
 //! The files are the regular files all of whose names are visible, at most 32 names deep. No link
 //! is followed. What is proved is which place belongs to which path, that the files come in order,
-//! that each refusal of the system is told as such, which folders are to be made durable, and that
+//! that each refusal of the system is told as such, what is to be made durable, and that
 //! nothing settles after a write that was lost; what stands on the disk no clause says.
 #![tactic(auto)]
 
@@ -12,7 +12,7 @@ mod listing;
 mod standing;
 mod touched;
 
-pub use disk::Disk;
-pub use failure::{Failure, Refused};
-pub use standing::{Standing, is_absence};
+pub use disk::{Disk, Syncs};
+pub use failure::{Failure, Operation, Refused};
+pub use standing::{Seen, Standing, is_absence};
 pub use touched::Touched;

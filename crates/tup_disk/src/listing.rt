@@ -4,8 +4,8 @@ ghost use Rattle.std.specs.List.Sorted.{IsSorted};
 ghost use Rattle.tup_path.specs.Order.{by_names};
 
 use crate::disk::Disk;
-use crate::failure::Refused;
-use crate::standing::Standing;
+use crate::failure::{Operation, Refused};
+use crate::standing::{Seen, Standing};
 use std::alloc::Global;
 use std::fs::{DirEntry, File};
 use std::io::ErrorKind;
@@ -22,16 +22,16 @@ struct Found {
 
 impl<R: Files<File = File> + Clone + Drop> Disk<R> {
     /// The regular files below the top whose names are all visible, in the order of paths.
-    pub fn files(&mut self) -> Result<Vec<Path>, Refused>
+    pub fn files(&self, seen: &mut Seen) -> Result<Vec<Path>, Refused>
         ensures { IfOk result (λ files. IsSorted by_names files.items) }
     {
-        let mut files = self.walk()?.files;
+        let mut files = self.walk(seen)?.files;
         files.sort()?;
         Ok(files)
     }
 
     // From the top down, one folder after another.
-    fn walk(&mut self) -> Result<Found, Refused> {
+    fn walk(&self, seen: &mut Seen) -> Result<Found, Refused> {
         let mut found = Found {
             files: Vec::new(self.alloc),
             folders: vec![in self.alloc; Path::top(self.alloc)]?,
@@ -40,18 +40,18 @@ impl<R: Files<File = File> + Clone + Drop> Disk<R> {
             let Some(folder) = found.folders.pop() else {
                 break;
             };
-            self.look_in(&folder, &mut found)?;
+            self.look_in(seen, &folder, &mut found)?;
         }
         Ok(found)
     }
 
-    // Sorts in what stands in a folder.
-    fn look_in(&mut self, folder: &Path, found: &mut Found) -> Result<(), Refused> {
+    // Sorts in what stands in a folder, which is seen now.
+    fn look_in(&self, seen: &mut Seen, folder: &Path, found: &mut Found) -> Result<(), Refused> {
         let place = self.place(folder.names())?;
         for name in self.names_in(place.as_str())? {
             self.sort_in(folder, &name, found)?;
         }
-        self.folders.insert(place)?;
+        seen.folders.insert(place)?;
         Ok(())
     }
 
@@ -67,7 +67,7 @@ impl<R: Files<File = File> + Clone + Drop> Disk<R> {
     fn sort(&self, path: Path, name: &Text, found: &mut Found) -> Result<(), Refused> {
         let place = self.place(path.names())?;
         match self.found_at(place.as_str())? {
-            Standing::File(_) => found.files.push(path)?,
+            Standing::File { .. } => found.files.push(path)?,
             Standing::Folder if path.depth() < MAX_DEPTH => found.folders.push(path)?,
             Standing::Other if is_read_by_name(name) => {
                 return Err(self.in_the_way(place.as_str()));
@@ -82,7 +82,7 @@ impl<R: Files<File = File> + Clone + Drop> Disk<R> {
     fn found_at(&self, place: &str) -> Result<Standing, Refused> {
         match self.look(place) {
             Err(e) if e.kind() == ErrorKind::NotFound => Ok(Standing::Nothing),
-            found => self.at(place, found),
+            found => self.at(Operation::Look, place, found),
         }
     }
 
@@ -90,7 +90,7 @@ impl<R: Files<File = File> + Clone + Drop> Disk<R> {
     pub fn names_in(&self, folder: &str) -> Result<Vec<Text>, Refused> {
         let runtime = (self.rt.clone()?, self.alloc);
         let mut names = Vec::new(self.alloc);
-        for entry in self.at(folder, fs::read_dir(&runtime, folder))? {
+        for entry in self.at(Operation::List, folder, fs::read_dir(&runtime, folder))? {
             self.add_name(folder, &mut names, entry)?;
         }
         Ok(names)
@@ -105,7 +105,7 @@ impl<R: Files<File = File> + Clone + Drop> Disk<R> {
         match entry {
             Ok(entry) => names.push(Text::from_str(self.alloc, entry.file_name())?)?,
             Err(e) if e.kind() == ErrorKind::InvalidFilename => {}
-            Err(e) => return Err(self.refused(folder, e)),
+            Err(e) => return Err(self.refused(Operation::List, folder, e)),
         }
         Ok(())
     }

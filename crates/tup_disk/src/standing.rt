@@ -1,14 +1,17 @@
 //! What stands at a place.
 ghost use Rattle.std.specs.Prelude.{◌≡◌, ◌⊎◌, ◌↔◌, false, IsTrue, IfOk, OnOk, string_bytes};
 ghost use Rattle.std.specs.declared.io.ErrorKind.TheVariants.{NotFound, NotADirectory, InvalidFilename};
-ghost use Rattle.std.specs.BTreeSet.{contains_text};
+ghost use Rattle.std.specs.BTreeSet.{IsEmpty, contains_text};
 ghost use Rattle.tup_disk.specs.Marked.{IsMarked};
 ghost use Rattle.tup_disk.specs.declared.standing.Standing.TheVariants.{Folder};
 
-use crate::disk::Disk;
-use crate::failure::Refused;
+use crate::disk::{Disk, Syncs};
+use crate::failure::{Operation, Refused};
+use std::alloc::Global;
+use std::collections::BTreeSet;
 use std::fs::{File, Metadata};
 use std::io::ErrorKind;
+use std::os::unix::fs::MetadataExt;
 use std::rt::Files;
 use std::{fs, io};
 use tup_path::Path;
@@ -17,10 +20,27 @@ use tup_path::Path;
 #[derive(Clone, Copy, PartialEq, Eq)]
 pub enum Standing {
     Nothing,
-    /// A regular file of so many bytes.
-    File(u64),
+    /// A regular file of so many bytes, which has so many names.
+    File { len: u64, names: u64 },
     Folder,
     Other,
+}
+
+/// The folders that were seen to stand at their places.
+#[derive(Drop)]
+pub struct Seen {
+    pub(crate) folders: BTreeSet<String>,
+}
+
+impl Seen {
+    /// No folder was seen yet.
+    pub fn new(alloc: Global) -> Seen
+        ensures { IsEmpty result.folders }
+    {
+        Seen {
+            folders: BTreeSet::new(alloc),
+        }
+    }
 }
 
 impl<R: Files<File = File> + Clone + Drop> Disk<R> {
@@ -29,7 +49,7 @@ impl<R: Files<File = File> + Clone + Drop> Disk<R> {
     pub fn standing(&self, place: &str) -> Result<Standing, Refused> {
         match self.look(place) {
             Err(e) if is_absence(e.kind()) => Ok(Standing::Nothing),
-            found => self.at(place, found),
+            found => self.at(Operation::Look, place, found),
         }
     }
 
@@ -40,9 +60,9 @@ impl<R: Files<File = File> + Clone + Drop> Disk<R> {
 
     /// What stands above a path: a folder if all is, or else the first that is none. A folder that
     /// was seen isn't looked at again.
-    pub fn standing_above(&mut self, path: &Path) -> Result<Standing, Refused> {
+    pub fn standing_above(&self, seen: &mut Seen, path: &Path) -> Result<Standing, Refused> {
         for folder in self.folders_above(path)? {
-            let standing = self.standing_of_folder(folder)?;
+            let standing = self.standing_of_folder(seen, folder)?;
             if standing != Standing::Folder {
                 return Ok(standing);
             }
@@ -51,69 +71,90 @@ impl<R: Files<File = File> + Clone + Drop> Disk<R> {
     }
 
     // What stands where a folder is wanted. One that is there is marked.
-    fn standing_of_folder(&mut self, folder: String) -> Result<Standing, Refused>
+    fn standing_of_folder(&self, seen: &mut Seen, folder: String) -> Result<Standing, Refused>
         ensures { IfOk result
-            (λ standing. standing ≡ Folder → IsMarked self.new.folders (string_bytes folder)) }
+            (λ standing. standing ≡ Folder → IsMarked seen.new.folders (string_bytes folder)) }
     {
-        if self.folders.contains(&folder) {
+        if seen.folders.contains(&folder) {
             return Ok(Standing::Folder);
         }
         let standing = self.standing(folder.as_str())?;
         if standing == Standing::Folder {
-            self.folders.insert(folder)?;
+            seen.folders.insert(folder)?;
         }
         Ok(standing)
     }
 
-    /// Makes a folder unless there is one, and marks it. All else that stands there is a failure.
-    pub fn make_folder(&mut self, folder: &String) -> Result<(), Refused>
-        ensures { OnOk result (IsMarked self.new.folders (string_bytes folder.now)) }
+    /// Makes a folder unless it was seen or stands there, and marks it. All else that stands there
+    /// is a failure.
+    pub fn make_folder(&self, seen: &mut Seen, folder: &String) -> Result<(), Refused>
+        ensures { OnOk result (IsMarked seen.new.folders (string_bytes folder.now)) }
     {
-        if self.folders.contains(folder) {
+        if seen.folders.contains(folder) {
             return Ok(());
         }
         self.make_unless_there(folder.as_str())?;
-        self.folders.insert(folder.clone()?)?;
+        seen.folders.insert(folder.clone()?)?;
         Ok(())
     }
 
-    fn make_unless_there(&self, folder: &str) -> Result<(), Refused> {
+    /// Makes a folder unless one stands there.
+    pub fn make_unless_there(&self, folder: &str) -> Result<(), Refused> {
         match self.standing(folder)? {
             Standing::Folder => Ok(()),
-            Standing::Nothing => self.at(folder, fs::create_dir(&self.rt, folder)),
+            Standing::Nothing => self.at(Operation::Make, folder, fs::create_dir(&self.rt, folder)),
             _ => Err(self.in_the_way(folder)),
         }
     }
 
     /// Removes a folder, which has to be empty. It isn't marked any more, whatever the answer.
-    pub fn remove_folder(&mut self, folder: &String) -> io::Result<()>
-        ensures { contains_text self.new.folders (string_bytes folder.now) ≡ false }
+    pub fn remove_folder(&self, seen: &mut Seen, folder: &String) -> io::Result<()>
+        ensures { contains_text seen.new.folders (string_bytes folder.now) ≡ false }
     {
-        self.folders.remove(folder);
+        seen.folders.remove(folder);
         fs::remove_dir(&self.rt, folder.as_str())
+    }
+
+    /// Removes a file.
+    pub fn remove(&self, place: &str) -> Result<(), Refused> {
+        self.at(Operation::Remove, place, fs::remove_file(&self.rt, place))
     }
 
     /// Removes a file unless there is none.
     pub fn clear(&self, place: &str) -> Result<(), Refused> {
         match fs::remove_file(&self.rt, place) {
             Err(e) if is_absence(e.kind()) => Ok(()),
-            done => self.at(place, done),
+            done => self.at(Operation::Remove, place, done),
         }
     }
 
     /// Makes a file or a folder durable. What went again needs no more than its folder.
     pub fn sync(&self, place: &str) -> Result<(), Refused> {
-        match File::open(&self.rt, place) {
-            Ok(file) => self.at(place, file.sync_all()),
-            Err(e) if is_absence(e.kind()) => Ok(()),
-            Err(e) => Err(self.refused(place, e)),
+        if self.syncs == Syncs::Skipped {
+            return Ok(());
         }
+        match File::open(&self.rt, place) {
+            Ok(file) => self.at(Operation::Sync, place, file.sync_all()),
+            Err(e) if is_absence(e.kind()) => Ok(()),
+            Err(e) => Err(self.refused(Operation::Open, place, e)),
+        }
+    }
+
+    /// Makes the bytes of an open file durable.
+    pub fn sync_bytes(&self, file: &File, place: &str) -> Result<(), Refused> {
+        if self.syncs == Syncs::Skipped {
+            return Ok(());
+        }
+        self.at(Operation::Sync, place, file.sync_data())
     }
 }
 
 fn kind_of(found: &Metadata) -> Standing {
     if found.is_file() {
-        Standing::File(found.len())
+        Standing::File {
+            len: found.len(),
+            names: found.nlink(),
+        }
     } else if found.is_dir() {
         Standing::Folder
     } else {

@@ -2,76 +2,97 @@
 ghost use Rattle.std.specs.Prelude.{◌≡◌, false, IfOk, OnOk, OnErr, IsErr, IsTrue, map, string_bytes};
 ghost use Rattle.std.specs.BTreeSet.{IsEmpty};
 ghost use Rattle.tup_disk.specs.Marked.{IsMarked, AllMarked, StayMarked, places_above};
+ghost use Rattle.tup_disk.specs.Place.{place_of};
 
 use crate::disk::Disk;
 use crate::failure::Refused;
-use std::alloc::{AllocError, Global};
+use std::alloc::Global;
 use std::collections::BTreeSet;
 use std::fs::File;
 use std::rt::Files;
 use tup_path::Path;
 
-/// The places of the folders in which names came or went since the last settle. A file itself is
-/// durable before it comes to its place.
+/// The places that a settle makes durable: of the files that were put since the last one, and of
+/// the folders in which names came or went.
 #[derive(Drop)]
-pub struct Touched<R: Files<File = File> + Clone + Drop> {
-    disk: Disk<R>,
-    folders: BTreeSet<String>,
+pub struct Touched {
+    places: BTreeSet<String>,
     is_lost: bool,
 }
 
-impl<R: Files<File = File> + Clone + Drop> Touched<R> {
-    /// Nothing is touched below this folder, and nothing is lost.
-    pub fn new(rt: R, alloc: Global, root: &str) -> Result<Touched<R>, AllocError>
-        ensures root { IfOk result (λ touched. string_bytes touched.disk.root ≡ root.now) }
-        ensures folders { IfOk result (λ touched. IsEmpty touched.folders) }
-        ensures lost { IfOk result (λ touched. touched.is_lost ≡ false) }
+impl Touched {
+    /// Nothing is touched, and nothing is lost.
+    pub fn new(alloc: Global) -> Touched
+        ensures places { IsEmpty result.places }
+        ensures lost { result.is_lost ≡ false }
     {
-        Ok(Touched {
-            disk: Disk::new(rt, alloc, root)?,
-            folders: BTreeSet::new(alloc),
+        Touched {
+            places: BTreeSet::new(alloc),
             is_lost: false,
-        })
+        }
     }
 
     /// Marks the folders above a path, the top among them: also those that a run which died has
     /// made or emptied.
-    pub fn add(&mut self, path: &Path) -> Result<(), Refused>
+    pub fn add<R: Files<File = File> + Clone + Drop>(
+        &mut self,
+        disk: &Disk<R>,
+        path: &Path,
+    ) -> Result<(), Refused>
         ensures touched { OnOk result
-            (AllMarked self.new.folders (places_above (string_bytes self.old.disk.root) path.now)) }
-        ensures keeps { StayMarked self.old.folders self.new.folders }
+            (AllMarked self.new.places (places_above (string_bytes disk.now.root) path.now)) }
+        ensures keeps { StayMarked self.old.places self.new.places }
         ensures lost { self.new.is_lost ≡ self.old.is_lost }
-        ensures disk { self.new.disk ≡ self.old.disk }
     {
-        let top = String::from_str(self.disk.alloc, self.disk.root())?;
-        let folders = self.disk.folders_above(path)?;
-        mark_all(&mut self.folders, folders.as_slice())?;
-        mark(&mut self.folders, &top)
+        let top = String::from_str(disk.alloc, disk.root())?;
+        let folders = disk.folders_above(path)?;
+        mark_all(&mut self.places, folders.as_slice())?;
+        mark(&mut self.places, &top)
+    }
+
+    /// Marks a file, and the folders above it: also one that a run which died has written.
+    pub fn add_file<R: Files<File = File> + Clone + Drop>(
+        &mut self,
+        disk: &Disk<R>,
+        path: &Path,
+    ) -> Result<(), Refused>
+        ensures touched { OnOk result
+            (AllMarked self.new.places (places_above (string_bytes disk.now.root) path.now)) }
+        ensures file { OnOk result
+            (IsMarked self.new.places (place_of (string_bytes disk.now.root) path.now)) }
+        ensures keeps { StayMarked self.old.places self.new.places }
+        ensures lost { self.new.is_lost ≡ self.old.is_lost }
+    {
+        let place = disk.place(path.names())?;
+        mark(&mut self.places, &place)?;
+        self.add(disk, path)
     }
 
     /// Makes durable what was touched. The system tells a lost write but once: so after a failure
     /// none of it settles any more.
-    pub fn settle(&mut self) -> Result<(), Refused>
-        ensures settled { OnOk result (IsEmpty self.new.folders) }
-        ensures kept { OnErr result (self.new.folders ≡ self.old.folders) }
+    pub fn settle<R: Files<File = File> + Clone + Drop>(
+        &mut self,
+        disk: &Disk<R>,
+    ) -> Result<(), Refused>
+        ensures settled { OnOk result (IsEmpty self.new.places) }
+        ensures kept { OnErr result (self.new.places ≡ self.old.places) }
         ensures lost { OnErr result (IsTrue self.new.is_lost) }
         ensures none_lost { OnOk result (self.new.is_lost ≡ false) }
         ensures for_good { IsTrue self.old.is_lost → IsErr result }
-        ensures disk { self.new.disk ≡ self.old.disk }
     {
         if self.is_lost {
-            return Err(self.disk.lost(self.disk.root()));
+            return Err(disk.lost(disk.root()));
         }
         self.is_lost = true;
-        self.sync()?;
-        self.folders.clear();
+        self.sync(disk)?;
+        self.places.clear();
         self.is_lost = false;
         Ok(())
     }
 
-    fn sync(&self) -> Result<(), Refused> {
-        for folder in self.folders.iter() {
-            self.disk.sync(folder.as_str())?;
+    fn sync<R: Files<File = File> + Clone + Drop>(&self, disk: &Disk<R>) -> Result<(), Refused> {
+        for place in self.places.iter() {
+            disk.sync(place.as_str())?;
         }
         Ok(())
     }
@@ -87,10 +108,10 @@ fn mark_all(marked: &mut BTreeSet<String>, folders: &[String]) -> Result<(), Ref
     Ok(())
 }
 
-fn mark(marked: &mut BTreeSet<String>, folder: &String) -> Result<(), Refused>
-    ensures marked { OnOk result (IsMarked marked.new (string_bytes folder.now)) }
+fn mark(marked: &mut BTreeSet<String>, place: &String) -> Result<(), Refused>
+    ensures marked { OnOk result (IsMarked marked.new (string_bytes place.now)) }
     ensures keeps { StayMarked marked.old marked.new }
 {
-    marked.insert(folder.clone()?)?;
+    marked.insert(place.clone()?)?;
     Ok(())
 }

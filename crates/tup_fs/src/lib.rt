@@ -13,4 +13,4 @@ mod tree;
 mod writing;
 
 pub use site::FsSite;
-pub use tup_disk::Failure;
+pub use tup_disk::{Failure, Syncs};

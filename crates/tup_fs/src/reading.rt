@@ -7,7 +7,7 @@ use std::fs::File;
 use std::io;
 use std::io::{ErrorKind, Read};
 use std::rt::Files;
-use tup_disk::{Refused, Standing};
+use tup_disk::{Disk, Operation, Refused, Standing};
 use tup_path::{Bytes, Path};
 use tup_site::MAX_FILE_BYTES;
 
@@ -21,42 +21,66 @@ pub(crate) enum Found {
     TooLarge(u64),
 }
 
-impl<R: Files<File = File> + Clone + Drop> Tree<R> {
+impl Tree {
     /// What the file at a path holds. A file that is too large isn't read.
-    pub fn find(&mut self, path: &Path) -> Result<Found, Refused>
+    pub fn find<R: Files<File = File> + Clone + Drop>(
+        &mut self,
+        disk: &Disk<R>,
+        path: &Path,
+    ) -> Result<Found, Refused>
         ensures { IfOk result IsWithin }
     {
-        if self.disk.standing_above(path)? != Standing::Folder {
+        if disk.standing_above(&mut self.seen, path)? != Standing::Folder {
             return Ok(Found::Nothing);
         }
-        let place = self.disk.place(path.names())?;
-        match self.disk.standing(place.as_str())? {
-            Standing::File(len) if len > MAX_FILE_BYTES => Ok(Found::TooLarge(len)),
-            Standing::File(_) => self.read(place.as_str()),
+        let place = disk.place(path.names())?;
+        match disk.standing(place.as_str())? {
+            Standing::File { len, .. } if len > MAX_FILE_BYTES => Ok(Found::TooLarge(len)),
+            Standing::File { len, .. } => read(
+                disk,
+                disk.open(place.as_str())?,
+                place.as_str(),
+                len,
+            ),
             _ => Ok(Found::Nothing),
         }
     }
+}
 
-    // Reads one byte more than a file may have, since it may grow meanwhile.
-    fn read(&self, place: &str) -> Result<Found, Refused>
-        ensures { IfOk result IsWithin }
-    {
-        let mut bytes = Vec::new(self.disk.alloc);
-        match self.read_into(&mut bytes, place) {
-            Err(e) if e.kind() == ErrorKind::OutOfMemory => return Err(Refused::Memory),
-            done => self.disk.at(place, done)?,
-        }
-        let len = bytes.len() as u64;
-        if len > MAX_FILE_BYTES {
-            return Ok(Found::TooLarge(len));
-        }
-        Ok(Found::Content(Bytes::new(bytes)))
+/// What an open file holds, which had so many bytes when it was looked at.
+pub(crate) fn read<R: Files<File = File> + Clone + Drop>(
+    disk: &Disk<R>,
+    file: File,
+    place: &str,
+    len: u64,
+) -> Result<Found, Refused>
+    ensures { IfOk result IsWithin }
+{
+    let mut bytes = vec![in disk.alloc; 0u8; len.min(MAX_FILE_BYTES) as usize + 1]?;
+    match read_into(&mut bytes, file, len) {
+        Err(e) if e.kind() == ErrorKind::OutOfMemory => return Err(Refused::Memory),
+        done => disk.at(Operation::Read, place, done)?,
     }
+    let len = bytes.len() as u64;
+    if len > MAX_FILE_BYTES {
+        return Ok(Found::TooLarge(len));
+    }
+    Ok(Found::Content(Bytes::new(bytes)))
+}
 
-    fn read_into(&self, bytes: &mut Vec<u8>, place: &str) -> io::Result<()> {
-        File::open(&self.disk.rt, place)?
-            .take(MAX_FILE_BYTES + 1)
+// Where one call gives just the bytes that were to be expected, with room for one more, there are no
+// others. Else it reads on, at most to one byte more than a file may have.
+fn read_into(bytes: &mut Vec<u8>, file: File, len: u64) -> io::Result<()> {
+    let mut file = file;
+    let first = match file.read(bytes) {
+        Err(e) if e.kind() == ErrorKind::Interrupted => 0,
+        done => done?,
+    };
+    bytes.truncate(first);
+    let first = first as u64;
+    if first != len {
+        file.take((MAX_FILE_BYTES + 1).saturating_sub(first))
             .read_to_end(bytes)?;
-        Ok(())
     }
+    Ok(())
 }

@@ -3,7 +3,8 @@ ghost use Rattle.std.specs.Prelude.{◌≡◌, [], false, IfOk, OnOk, OnErr, IsE
 ghost use Rattle.std.specs.BTreeSet.{IsEmpty};
 ghost use Rattle.std.specs.FinMap as finite;
 ghost use Rattle.tup_db.specs.Own.{IsOwnBelow};
-ghost use Rattle.tup_disk.specs.Marked.{AllMarked, StayMarked, places_above};
+ghost use Rattle.tup_disk.specs.Marked.{IsMarked, AllMarked, StayMarked, places_above};
+ghost use Rattle.tup_disk.specs.Place.{place_of};
 ghost use Rattle.tup_fs.specs.Last.{CountsOnce, CountsPlainly};
 ghost use Rattle.tup_site.specs.Cause.{OnlyLarge, IsSmall};
 
@@ -14,7 +15,7 @@ use std::alloc::{AllocError, Global};
 use std::fs::File;
 use std::rt::Files;
 use tup_db::Store;
-use tup_disk::{Failure, Touched};
+use tup_disk::{Disk, Failure, Syncs, Touched};
 use tup_path::{Bytes, Path, Paths};
 use tup_site::{Site, SiteFailed};
 
@@ -22,31 +23,31 @@ use tup_site::{Site, SiteFailed};
 /// faults: each failing call of the system is one.
 #[derive(Drop)]
 pub struct FsSite<R: Files<File = File> + Clone + Drop> {
-    tree: Tree<R>,
-    touched: Touched<R>,
-    store: Store<R>,
+    disk: Disk<R>,
+    tree: Tree,
+    touched: Touched,
+    store: Store,
     lock: Option<File>,
     failures: Failures,
 }
 
 impl<R: Files<File = File> + Clone + Drop> FsSite<R> {
     /// The files below this folder, which has to be there. It touches nothing yet.
-    pub fn new(rt: R, alloc: Global, root: &str) -> Result<FsSite<R>, AllocError>
-        ensures root { IfOk result (λ site. string_bytes site.touched.disk.root ≡ root.now) }
+    pub fn new(rt: R, alloc: Global, root: &str, syncs: Syncs) -> Result<FsSite<R>, AllocError>
+        ensures root { IfOk result (λ site. string_bytes site.disk.root ≡ root.now) }
+        ensures asked { IfOk result (λ site. site.disk.syncs ≡ syncs) }
         ensures own { IfOk result (λ site. IsOwnBelow root.now site.store.own) }
-        ensures touched { IfOk result (λ site. IsEmpty site.touched.folders) }
+        ensures touched { IfOk result (λ site. IsEmpty site.touched.places) }
         ensures settles { IfOk result (λ site. site.touched.is_lost ≡ false) }
         ensures syncs { IfOk result (λ site. site.store.is_lost ≡ false) }
         ensures lock { IfOk result (λ site. is_some site.lock ≡ false) }
         ensures faults { IfOk result (λ site. site.failures.count ≡ 0) }
     {
-        let tree = Tree::new(rt.clone()?, alloc, root)?;
-        let touched = Touched::new(rt.clone()?, alloc, root)?;
-        let store = Store::new(rt, alloc, root)?;
         Ok(FsSite {
-            tree,
-            touched,
-            store,
+            disk: Disk::new(rt, alloc, root, syncs)?,
+            tree: Tree::new(alloc),
+            touched: Touched::new(alloc),
+            store: Store::new(alloc, root)?,
             lock: None,
             failures: Failures::none(),
         })
@@ -65,31 +66,50 @@ impl<R: Files<File = File> + Clone + Drop> FsSite<R> {
         ensures cause { CountsPlainly self.old.failures.count self.new.failures.count result }
         ensures touched { self.new.touched ≡ self.old.touched }
         ensures store { self.new.store ≡ self.old.store }
+        ensures disk { self.new.disk ≡ self.old.disk }
     {
         if self.lock.is_some() {
             return Ok(());
         }
-        let lock = self.tree.disk.lock();
+        let lock = self.disk.lock();
         let lock = self.failures.told(lock)?;
-        let swept = self.store.own.sweep(&self.tree.disk);
+        let swept = self.store.own.sweep(&self.disk);
         self.failures.told(swept)?;
         self.lock = Some(lock);
         Ok(())
     }
 
-    // What comes before every change of a file.
+    // What comes before a file is removed.
     fn touch(&mut self, path: &Path) -> Result<(), SiteFailed>
         ensures locked { OnOk result (IsTrue (is_some self.new.lock)) }
-        ensures touched { OnOk result (AllMarked self.new.touched.folders
-            (places_above (string_bytes self.old.touched.disk.root) path.now)) }
-        ensures keeps { StayMarked self.old.touched.folders self.new.touched.folders }
+        ensures touched { OnOk result (AllMarked self.new.touched.places
+            (places_above (string_bytes self.old.disk.root) path.now)) }
+        ensures keeps { StayMarked self.old.touched.places self.new.touched.places }
         ensures lost { self.new.touched.is_lost ≡ self.old.touched.is_lost }
-        ensures root { self.new.touched.disk ≡ self.old.touched.disk }
+        ensures disk { self.new.disk ≡ self.old.disk }
         ensures cause { CountsPlainly self.old.failures.count self.new.failures.count result }
         ensures store { self.new.store ≡ self.old.store }
     {
         self.begin()?;
-        let done = self.touched.add(path);
+        let done = self.touched.add(&self.disk, path);
+        self.failures.told(done)
+    }
+
+    // What comes before a file is put.
+    fn touch_file(&mut self, path: &Path) -> Result<(), SiteFailed>
+        ensures locked { OnOk result (IsTrue (is_some self.new.lock)) }
+        ensures touched { OnOk result (AllMarked self.new.touched.places
+            (places_above (string_bytes self.old.disk.root) path.now)) }
+        ensures file { OnOk result (IsMarked self.new.touched.places
+            (place_of (string_bytes self.old.disk.root) path.now)) }
+        ensures keeps { StayMarked self.old.touched.places self.new.touched.places }
+        ensures lost { self.new.touched.is_lost ≡ self.old.touched.is_lost }
+        ensures disk { self.new.disk ≡ self.old.disk }
+        ensures cause { CountsPlainly self.old.failures.count self.new.failures.count result }
+        ensures store { self.new.store ≡ self.old.store }
+    {
+        self.begin()?;
+        let done = self.touched.add_file(&self.disk, path);
         self.failures.told(done)
     }
 }
@@ -130,7 +150,7 @@ impl<R: Files<File = File> + Clone + Drop + Send> Site for FsSite<R> {
         ensures store { self.new.store ≡ self.old.store }
     {
         self.begin()?;
-        let files = self.tree.disk.files();
+        let files = self.disk.files(&mut self.tree.seen);
         Ok(Paths::from_vec(self.failures.told(files)?))
     }
 
@@ -143,7 +163,7 @@ impl<R: Files<File = File> + Clone + Drop + Send> Site for FsSite<R> {
         ensures store { self.new.store ≡ self.old.store }
     {
         self.begin()?;
-        let found = self.tree.find(path);
+        let found = self.tree.find(&self.disk, path);
         match self.failures.told(found)? {
             Found::Nothing => Ok(None),
             Found::Content(bytes) => Ok(Some(bytes)),
@@ -154,15 +174,17 @@ impl<R: Files<File = File> + Clone + Drop + Send> Site for FsSite<R> {
     fn put(&mut self, _alloc: Global, path: &Path, content: &Bytes) -> Result<(), SiteFailed>
         ensures locked { OnOk result (IsTrue (is_some self.new.lock)) }
         ensures cause { CountsPlainly self.old.failures.count self.new.failures.count result }
-        ensures touched { OnOk result (AllMarked self.new.touched.folders
-            (places_above (string_bytes self.old.touched.disk.root) path.now)) }
-        ensures keeps { StayMarked self.old.touched.folders self.new.touched.folders }
+        ensures touched { OnOk result (AllMarked self.new.touched.places
+            (places_above (string_bytes self.old.disk.root) path.now)) }
+        ensures file { OnOk result (IsMarked self.new.touched.places
+            (place_of (string_bytes self.old.disk.root) path.now)) }
+        ensures keeps { StayMarked self.old.touched.places self.new.touched.places }
         ensures lost { self.new.touched.is_lost ≡ self.old.touched.is_lost }
-        ensures root { self.new.touched.disk ≡ self.old.touched.disk }
+        ensures disk { self.new.disk ≡ self.old.disk }
         ensures store { self.new.store ≡ self.old.store }
     {
-        self.touch(path)?;
-        let done = self.tree.put(&self.store.own, path, content.as_slice());
+        self.touch_file(path)?;
+        let done = self.tree.put(&self.disk, path, content.as_slice());
         self.failures.told(done)
     }
 
@@ -170,15 +192,15 @@ impl<R: Files<File = File> + Clone + Drop + Send> Site for FsSite<R> {
     fn remove(&mut self, _alloc: Global, path: &Path) -> Result<(), SiteFailed>
         ensures locked { OnOk result (IsTrue (is_some self.new.lock)) }
         ensures cause { CountsPlainly self.old.failures.count self.new.failures.count result }
-        ensures touched { OnOk result (AllMarked self.new.touched.folders
-            (places_above (string_bytes self.old.touched.disk.root) path.now)) }
-        ensures keeps { StayMarked self.old.touched.folders self.new.touched.folders }
+        ensures touched { OnOk result (AllMarked self.new.touched.places
+            (places_above (string_bytes self.old.disk.root) path.now)) }
+        ensures keeps { StayMarked self.old.touched.places self.new.touched.places }
         ensures lost { self.new.touched.is_lost ≡ self.old.touched.is_lost }
-        ensures root { self.new.touched.disk ≡ self.old.touched.disk }
+        ensures disk { self.new.disk ≡ self.old.disk }
         ensures store { self.new.store ≡ self.old.store }
     {
         self.touch(path)?;
-        let done = self.tree.remove(path);
+        let done = self.tree.remove(&self.disk, path);
         self.failures.told(done)
     }
 
@@ -186,15 +208,15 @@ impl<R: Files<File = File> + Clone + Drop + Send> Site for FsSite<R> {
     fn settle(&mut self, _alloc: Global) -> Result<(), SiteFailed>
         ensures locked { OnOk result (IsTrue (is_some self.new.lock)) }
         ensures cause { CountsPlainly self.old.failures.count self.new.failures.count result }
-        ensures settled { OnOk result (IsEmpty self.new.touched.folders) }
-        ensures kept { OnErr result (self.new.touched.folders ≡ self.old.touched.folders) }
+        ensures settled { OnOk result (IsEmpty self.new.touched.places) }
+        ensures kept { OnErr result (self.new.touched.places ≡ self.old.touched.places) }
         ensures none_lost { OnOk result (self.new.touched.is_lost ≡ false) }
         ensures for_good { IsTrue self.old.touched.is_lost → IsErr result }
-        ensures root { self.new.touched.disk ≡ self.old.touched.disk }
+        ensures disk { self.new.disk ≡ self.old.disk }
         ensures store { self.new.store ≡ self.old.store }
     {
         self.begin()?;
-        let done = self.touched.settle();
+        let done = self.touched.settle(&self.disk);
         self.failures.told(done)
     }
 
@@ -205,7 +227,7 @@ impl<R: Files<File = File> + Clone + Drop + Send> Site for FsSite<R> {
         ensures store { self.new.store ≡ self.old.store }
     {
         self.begin()?;
-        let len = self.store.len();
+        let len = self.store.len(&self.disk);
         self.failures.told(len)
     }
 
@@ -216,21 +238,23 @@ impl<R: Files<File = File> + Clone + Drop + Send> Site for FsSite<R> {
         ensures store { self.new.store ≡ self.old.store }
     {
         self.begin()?;
-        let done = self.store.read(at, into);
+        let done = self.store.read(&self.disk, at, into);
         self.failures.told(done)
     }
 
     fn db_write(&mut self, _alloc: Global, at: u64, bytes: &[u8]) -> Result<(), SiteFailed>
         ensures locked { OnOk result (IsTrue (is_some self.new.lock)) }
         ensures cause { CountsPlainly self.old.failures.count self.new.failures.count result }
-        ensures aside { OnOk result (IsTrue (is_some self.new.store.aside)) }
-        ensures kept { IsTrue (is_some self.old.store.aside)
-            → IsTrue (is_some self.new.store.aside) }
+        ensures open { OnOk result (IsTrue (is_some self.new.store.file)) }
+        ensures kept { IsTrue (is_some self.old.store.file)
+            → IsTrue (is_some self.new.store.file) }
+        ensures place { IsTrue (is_some self.old.store.file)
+            → self.new.store.is_aside ≡ self.old.store.is_aside }
         ensures lost { self.new.store.is_lost ≡ self.old.store.is_lost }
         ensures touched { self.new.touched ≡ self.old.touched }
     {
         self.begin()?;
-        let done = self.store.write(at, bytes);
+        let done = self.store.write(&self.disk, at, bytes);
         self.failures.told(done)
     }
 
@@ -238,26 +262,29 @@ impl<R: Files<File = File> + Clone + Drop + Send> Site for FsSite<R> {
     fn db_sync(&mut self, _alloc: Global) -> Result<(), SiteFailed>
         ensures locked { OnOk result (IsTrue (is_some self.new.lock)) }
         ensures cause { CountsPlainly self.old.failures.count self.new.failures.count result }
-        ensures aside { OnOk result (is_some self.new.store.aside ≡ false) }
+        ensures placed { OnOk result (self.new.store.is_aside ≡ false) }
+        ensures kept { is_some self.new.store.file ≡ is_some self.old.store.file }
         ensures none_lost { OnOk result (self.new.store.is_lost ≡ false) }
         ensures for_good { IsTrue self.old.store.is_lost → IsErr result }
         ensures touched { self.new.touched ≡ self.old.touched }
     {
         self.begin()?;
-        let done = self.store.sync();
+        let done = self.store.sync(&self.disk);
         self.failures.told(done)
     }
 
     fn db_cut(&mut self, _alloc: Global, len: u64) -> Result<(), SiteFailed>
         ensures locked { OnOk result (IsTrue (is_some self.new.lock)) }
         ensures cause { CountsPlainly self.old.failures.count self.new.failures.count result }
-        ensures kept { IsTrue (is_some self.old.store.aside)
-            → IsTrue (is_some self.new.store.aside) }
+        ensures kept { IsTrue (is_some self.old.store.file)
+            → IsTrue (is_some self.new.store.file) }
+        ensures place { IsTrue (is_some self.old.store.file)
+            → self.new.store.is_aside ≡ self.old.store.is_aside }
         ensures lost { self.new.store.is_lost ≡ self.old.store.is_lost }
         ensures touched { self.new.touched ≡ self.old.touched }
     {
         self.begin()?;
-        let done = self.store.cut(len);
+        let done = self.store.cut(&self.disk, len);
         self.failures.told(done)
     }
 

@@ -1,21 +1,20 @@
 //! The files below the folder.
-use std::alloc::{AllocError, Global};
-use std::fs::File;
-use std::rt::Files;
-use tup_disk::Disk;
+use std::alloc::Global;
+use tup_disk::Seen;
 
-/// The files below the folder, and whether the file system may ignore case, once that was asked.
+/// What is known of the tree: the folders that were seen, and whether the file system may ignore
+/// case, once that was asked.
 #[derive(Drop)]
-pub(crate) struct Tree<R: Files<File = File> + Clone + Drop> {
-    pub disk: Disk<R>,
+pub(crate) struct Tree {
+    pub seen: Seen,
     pub ignores_case: Option<bool>,
 }
 
-impl<R: Files<File = File> + Clone + Drop> Tree<R> {
-    pub fn new(rt: R, alloc: Global, root: &str) -> Result<Tree<R>, AllocError> {
-        Ok(Tree {
-            disk: Disk::new(rt, alloc, root)?,
+impl Tree {
+    pub fn new(alloc: Global) -> Tree {
+        Tree {
+            seen: Seen::new(alloc),
             ignores_case: None,
-        })
+        }
     }
 }

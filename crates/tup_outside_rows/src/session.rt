@@ -4,7 +4,7 @@ use crate::folder::Folder;
 use crate::scanned::{passes, scanned};
 use std::alloc::{AllocError, Global};
 use std::fs;
-use tup_fs::FsSite;
+use tup_fs::{FsSite, Syncs};
 use tup_path::Bytes;
 use tup_rows::{Answers, RowFault, Words};
 use tup_site::Site;
@@ -40,7 +40,7 @@ impl Session {
             rt,
             place: String::from_str(alloc, place)?,
         };
-        let site = FsSite::new(rt, alloc, place)?;
+        let site = FsSite::new(rt, alloc, place, Syncs::Done)?;
         Ok(Session { folder, site })
     }
 
@@ -80,7 +80,12 @@ impl Session {
     }
 
     fn another(&self, alloc: Global) -> Result<FsSite<HostRuntime>, AllocError> {
-        FsSite::new(self.folder.rt, alloc, self.folder.place.as_str())
+        FsSite::new(
+            self.folder.rt,
+            alloc,
+            self.folder.place.as_str(),
+            Syncs::Done,
+        )
     }
 
     /// Begins another site over the same folder, as the next run of the program does.

@@ -5,7 +5,7 @@ use Rattle.tup_disk.proofs.touched.Touched.add.Goals as goal
 
 pub returns-clause-touched : goal.returns-clause-touched
 returns-clause-touched g c =
-    let root = string_bytes c.args.self.now.disk.root in
+    let root = string_bytes c.args.disk.now.root in
     let path = c.args.path.now in
     all_marked c.mark_all.new.marked c.mark.new.marked root (string_bytes c.in_ok-top.top) (places_to root (take (length path - 1) path)) (map string_bytes c.as_slice.result.now) c.mark.result
     (c.in_ok-top.ensures.ok ∙ c.root.ensures) (ap (map string_bytes) c.as_slice.ensures.value ∙ c.in_ok-folders.ensures)

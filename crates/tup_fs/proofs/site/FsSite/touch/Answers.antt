@@ -5,5 +5,5 @@ use Rattle.tup_fs.proofs.site.FsSite.touch.Goals as goal
 
 pub returns-clause-touched : goal.returns-clause-touched
 returns-clause-touched g c =
-    done_as_told (AllMarked c.add-done.new.self.folders (places_above (string_bytes c.args.self.now.touched.disk.root) c.args.path.now)) c.add-done.result c.told.result c.told.ensures.value
-    (subst (λ t. OnOk c.add-done.result (AllMarked c.add-done.new.self.folders (places_above (string_bytes t.disk.root) c.args.path.now))) c.begin.ensures.touched c.add-done.ensures.touched)
+    done_as_told (AllMarked c.add-done.new.self.places (places_above (string_bytes c.args.self.now.disk.root) c.args.path.now)) c.add-done.result c.told.result c.told.ensures.value
+    (subst (λ d. OnOk c.add-done.result (AllMarked c.add-done.new.self.places (places_above (string_bytes d.root) c.args.path.now))) c.begin.ensures.disk c.add-done.ensures.touched)
