@@ -5,14 +5,19 @@ SH = crates/tup_sh/out/tup_sh
 SHIM = crates/tup_shim/out/tup_shim
 MAN = $(DESTDIR)$(PREFIX)/share/man/man1/tup.1
 ROWS = $(foreach storey,language core board top,crates/tup_$(storey)_rows/out/tup_$(storey)_rows)
+# How many crates are proved at once; each takes up to 4 GB of memory.
+JOBS ?= $(shell nproc)
 TEXTS := crates.txt HANDLES $(shell find crates -name out -prune -o '(' -name '*.rt' -o -name '*.antt' ')' -print)
 VERSION = $(shell sed -n 's/^const VERSION: &str = "\(.*\)";/\1/p' crates/tup/src/main.rt)
 
-.PHONY: help build runners demo test edits try shell killed model figures fmt times install uninstall clean
+.PHONY: help build runners demo check above rows test edits try shell killed model figures fmt times install uninstall clean
 
 help:
-	@echo 'make build      proves and builds the program, and has it print its version'
+	@echo 'make build      proves and builds the program, and has it print its version; JOBS=2 proves two crates at once (else as many as processors)'
 	@echo 'make demo       builds the programs and shows them on copies of examples/tree, examples/hello and examples/c'
+	@echo 'make check      proves one crate and what is below it: CRATE=tup_stamp'
+	@echo 'make above      lists the crates that a change of one reaches: CRATE=tup_stamp'
+	@echo 'make rows       tries one file of rows: FILE=crates/tup_store_rows/data/kept.rows'
 	@echo 'make test       the gate: every proof, the edits of must-fail/ that must be refused, every test, the program as a user meets it'
 	@echo 'make edits      the edits that must be refused and that the gate leaves out; CRATES=tup_stamp tries those of that crate alone'
 	@echo 'make try        the last part of the gate alone: the program over small projects, full disks, damaged stores'
@@ -31,17 +36,27 @@ build: $(TUP)
 
 runners: $(SH) $(SHIM)
 
-# A program that the gate built in this checkout, of the texts that stand here, is taken. Else it is proved and built, with all
-# below it, one crate after another.
+# A program that the gate built in this checkout, of the texts as they are, is taken. Else it is proved and built, with all
+# below it.
 $(TUP): $(TEXTS)
-	cd $(dir $@).. && rt run -- --version
+	cd $(patsubst %/out/,%,$(dir $@)) && rt all check --jobs $(JOBS) && rt run -- --version
 
 # Once they are built, each prints its usage: without words it ends with 2, which tells nothing.
 $(SH) $(SHIM): $(TEXTS)
-	cd $(dir $@).. && rt run | grep '^usage'
+	cd $(patsubst %/out/,%,$(dir $@)) && rt all check --jobs $(JOBS)
+	cd $(patsubst %/out/,%,$(dir $@)) && rt run | grep '^usage'
 
 $(ROWS): $(TEXTS)
-	cd $(dir $@).. && rt run
+	cd $(patsubst %/out/,%,$(dir $@)) && rt all check --jobs $(JOBS) && rt run
+
+check:
+	cd crates/$(CRATE) && rt all check --jobs $(JOBS)
+
+above:
+	@sh tests/above.sh $(CRATE)
+
+rows:
+	@sh tests/rows.sh $(FILE)
 
 # The program in C at its end wants tup_sh, and says so where there is no C compiler or no strace.
 demo: build runners
