@@ -35,6 +35,7 @@ use Rattle.tup_schedule.specs.Course.{Claims, CourseState, EndsDenied, NoneRuns,
 use Rattle.tup_schedule.specs.declared.claimed.Claimed.{Claimed}
 use Rattle.tup_schedule.specs.declared.claimed.Claimed.TheVariants.{Rule as Gives, Wait, Over}
 use Rattle.tup_schedule.specs.Room.{unclaimed}
+use Rattle.tup_schedule.proofs.Courses.{end_both}
 use Rattle.tup_schedule.proofs.Rooms.{unclaimed_fewer}
 use Rattle.tup_rule_outputs.specs.Fault.{CountsFaults}
 use Rattle.tup_rule_outputs.specs.declared.fault.BoardFault.{BoardFault}
@@ -42,7 +43,7 @@ use Rattle.tup_rule_outputs.specs.declared.fault.BoardFault.TheVariants as fault
 use Rattle.tup_board.specs.declared.answers.Drained.{Drained}
 use Rattle.tup_board.specs.declared.answers.Drained.TheVariants.{Done, Left}
 use Rattle.tup_board.specs.Board.{BoardState, Opening, course_of, plan_of, seat_of, start, state, with_history}
-use Rattle.tup_board.specs.Calls.{BuildsClean, Drains, Finishes, HasFailed, HasRun, HasRunCause, IsOver, RanAll, RunsOne, StartsAlone, command_of, commands}
+use Rattle.tup_board.specs.Calls.{BuildsClean, Drains, Finishes, HasFailed, HasRun, HasRunCause, IsOver, RanAll, RunsOne, StartsAlone, TakesFirst, command_of, commands}
 use Rattle.tup_board.specs.CameLaws.{claims_both, from_both}
 use Rattle.tup_board.specs.Seat.{IsFromSeat, IsLeft, IsSteady, KeepsCount}
 use Rattle.tup_board.specs.Sound.{IsSound}
@@ -295,6 +296,23 @@ module _ {S : Type 0} (old mid new : BoardState S) (number : ℕ) (none : NoneRu
         ap (λ (o : Opening S). unclaimed (state new).claimed o.plan.reach) (one.opening ∙ same) ∙ ap (λ (c : ℕ → Bool). unclaimed c (plan_of old).reach) claimed_then in
         omega (arith, fewer, is)
 
+-- ---- the order of claims
+takes_both : (plan : Plan) (before more : List CoreEvent) (at : State) → TakesFirst plan at before → TakesFirst plan (end_of plan at before) more → TakesFirst plan at (before ++ more)
+takes_both plan [] more at first last = last
+takes_both plan (Claim seat rule ∷ before) more at (ready, first) last = (ready, takes_both plan before more (after plan at (Claim seat rule)) first last)
+takes_both plan (Ask seat text answer ∷ before) more at first last = takes_both plan before more (after plan at (Ask seat text answer)) first last
+takes_both plan (Deny seat text verdict ∷ before) more at first last = takes_both plan before more (after plan at (Deny seat text verdict)) first last
+takes_both plan (Finish seat verdict files ∷ before) more at first last = takes_both plan before more (after plan at (Finish seat verdict files)) first last
+takes_both plan (Stop seat cause ∷ before) more at first last = takes_both plan before more (after plan at (Stop seat cause)) first last
+
+takes_none : (plan : Plan) (events : List CoreEvent) (at : State) → claims events ≡ [] → TakesFirst plan at events
+takes_none plan [] at none = tt
+takes_none plan (Claim seat rule ∷ events) at none = cc
+takes_none plan (Ask seat text answer ∷ events) at none = takes_none plan events (after plan at (Ask seat text answer)) none
+takes_none plan (Deny seat text verdict ∷ events) at none = takes_none plan events (after plan at (Deny seat text verdict)) none
+takes_none plan (Finish seat verdict files ∷ events) at none = takes_none plan events (after plan at (Finish seat verdict files)) none
+takes_none plan (Stop seat cause ∷ events) at none = takes_none plan events (after plan at (Stop seat cause)) none
+
 -- ---- the commands of the rules that were claimed
 commands_more : (plan : Plan) (events more : List CoreEvent) (number : ℕ) (rule : Rule) → slice_get plan.rules number ≡ Some rule → claims more ≡ []
     → commands plan (events ++ Claim 0 number ∷ more) ≡ commands plan events ++ command_of rule ∷ []
@@ -325,6 +343,7 @@ pub record HasDrained {S : Type 0} (tells_ran : Bool) (old now : BoardState S) (
   pub events : List CoreEvent
   pub adds : now.history ≡ old.history ++ events
   pub own : All (λ event. seat_of event ≡ 0) events
+  pub order : TakesFirst (plan_of old) (state old) events
   pub none_runs : NoneRuns (course_of now)
   pub ran_all : IsTrue tells_ran → Ran (plan_of old) events was ran (state now).stopped
   pub run : (state now).stopped ≡ Some causes.Run → ((state old).stopped ≡ Some causes.Run) ⊎ Rose before faults
@@ -336,6 +355,7 @@ drained_none tells_ran old was before none = record {
   events = [];
   adds = sym (append-nil old.history);
   own = All-nil _;
+  order = tt;
   none_runs = none;
   ran_all = λ tells. inl (sym (append-nil was));
   run = λ is. inl is;
@@ -376,6 +396,14 @@ module _ {S : Type 0} (tells_ran : Bool) (old now mid new : BoardState S) (was r
       ))
       (did tells rule (ap (λ (o : Opening S). slice_get o.plan.rules number) same ∙ first.ready.clear.1))
 
+  state_now : state now ≡ end_of (plan_of old) (state old) has.events
+  state_now =
+      ap (λ (o : Opening S). state (record now { opening = o })) has.opening ∙ ap (λ (h : List CoreEvent). state (record old { history = h })) has.adds
+      ∙ end_both (plan_of old) old.history has.events (start old)
+
+  first_there : IsFirstReady (plan_of old) (end_of (plan_of old) (state old) has.events) number
+  first_there = subst (λ (s : State). IsFirstReady (plan_of old) s number) state_now (subst (λ (p : Plan). IsFirstReady p (state now) number) plan_is first)
+
   pub drained_more : HasDrained tells_ran old new was done before last
   drained_more = record {
     opening = one.opening ∙ same ∙ has.opening;
@@ -383,6 +411,8 @@ module _ {S : Type 0} (tells_ran : Bool) (old now mid new : BoardState S) (was r
     adds = one.adds ∙ ap (λ (h : List CoreEvent). h ++ one.events) (adds ∙ ap (λ (h : List CoreEvent). h ++ Claim 0 number ∷ []) has.adds)
         ∙ append_assoc (old.history ++ has.events) (Claim 0 number ∷ []) one.events ∙ append_assoc old.history has.events (Claim 0 number ∷ one.events);
     own = All-append (λ event. seat_of event ≡ 0) has.events (Claim 0 number ∷ one.events) has.own (All-cons (λ event. seat_of event ≡ 0) (Claim 0 number) one.events refl one.own);
+    order = takes_both (plan_of old) has.events (Claim 0 number ∷ one.events) (state old) has.order
+        (first_there, takes_none (plan_of old) one.events (after (plan_of old) (end_of (plan_of old) (state old) has.events) (Claim 0 number)) one.none_claimed);
     none_runs = one.none_runs;
     ran_all = ran_then;
     run = λ is. inr (subst (λ (n : ℕ). Rose n last) steady_now (failed.run is));
@@ -443,6 +473,12 @@ module _ {S R : Type 0} (site : Site S) (runner : Runner R) (tells_ran : Bool) (
 
     pub steady_there : KeepsCount site old now → KeepsCount site old mid
     steady_there stays = subst (λ (b : BoardState S). KeepsCount site old b) (sym nothing_more) stays
+
+-- ---- what happened is what was added
+pub order_as : {S : Type 0} (tells_ran : Bool) (old now : BoardState S) (was ran : List (Names × List ℕ)) (before faults : ℕ) → HasDrained tells_ran old now was ran before faults
+    → (events : List CoreEvent) → now.history ≡ old.history ++ events → TakesFirst (plan_of old) (state old) events
+order_as tells_ran old now was ran before faults has events adds =
+    subst (TakesFirst (plan_of old) (state old)) (append_cancel_left old.history has.events events (sym has.adds ∙ adds)) has.order
 
 -- ---- an update that is over
 module _ {S : Type 0} (tells_ran : Bool) (old now : BoardState S) (was ran : List (Names × List ℕ)) (before faults : ℕ) (has : HasDrained tells_ran old now was ran before faults) (result : Drained) (drains : Drains (state now) result) where

@@ -16,6 +16,7 @@ use Rattle.tup_stamp.specs.declared.Stamp.{Stamp}
 use Rattle.tup_stamp.specs.Stamp.{stamp}
 use Rattle.tup_rule.specs.declared.rule.Rule.{Rule}
 use Rattle.tup_rule.specs.Rule.{among, writes}
+use Rattle.tup_site.specs.Crash.{Follows}
 use Rattle.tup_site.specs.Known.{KnowsTree}
 use Rattle.tup_site.specs.World.{World}
 use Rattle.tup_site.specs.declared.site.Site.{Ghosts as Site}
@@ -56,7 +57,7 @@ use Rattle.tup_board.specs.Come.{HasComeTo, IsPresent, WasToKeep}
 use Rattle.tup_board.specs.Ends.{CouldEnd, HasEnded, IsRecordOf}
 use Rattle.tup_board.specs.Images.{IsImageOver, LeavesImages}
 use Rattle.tup_board.specs.Outputs.{IsPending, Makes}
-use Rattle.tup_board.specs.Sound.{IsSound, IsTrueFault, WasToHappen, Since, Before}
+use Rattle.tup_board.specs.Sound.{IsImage, IsSound, IsTrueFault, WasToHappen, Since, Before}
 use Rattle.tup_board.proofs.Coming.{outputs_are}
 use Rattle.tup_board.proofs.Finishing.{claimed, come_begun, come_done, come_then, flagged, in_graph, other_outputs, placed, present_done, same_or_other}
 use Rattle.tup_board.proofs.Imaging.{is_begun, is_done, not_begun}
@@ -275,17 +276,31 @@ module _ {S R : Type 0} (site : Site S) (runner : Runner R) (b : BoardState S) (
           image_step (site.world b.opening.site) (site.world b.site) (site.world new.site)
           (subst (λ (h : GraphState). IsImageOver b (site.world b.opening.site) (site.world b.site) h) same was.1) store (makes.now told)
 
+      image_still : (w : World) → IsImage site b w → IsImage site then_board w
+      image_still w image = (image.0, image.1, image.2, image_old image.0 w image.2 image.3)
+
+      -- what making adds to what a crash may leave
+      image_made : IsTrue site.tells → (w : World) → Follows step (site.left_since b.site (site.moment b.site)) w → IsImage site then_board w
+      image_made told w from =
+          let u = from.0 in
+          let image = sound.images told u (earlier b.site (site.moment b.opening.site) (site.moment b.site) u told (sound.later told) from.1) in
+          let store = stored told u from.1 in
+          let same : image.2 ≡ g = one_store u.store image.2 g image.3.store store in
+          let made = image_step image.0 u w (subst (λ (h : GraphState). IsImageOver b image.0 u h) same image.3) store from.2 in
+          (image.0, image.1, made.0, made.1)
+
       images_now : IsTrue site.tells → LeavesImages then_board (Before site then_board) (Since site then_board)
       images_now told w left =
           elim ((makes.crash told).since (site.moment b.opening.site) w (sound.later told) left) [
-            | inl before ↦ let image = sound.images told w before in (image.0, image.1, image.2, image_old image.0 w image.2 image.3)
-            | inr from ↦
-                let u = from.0 in
-                let image = sound.images told u (earlier b.site (site.moment b.opening.site) (site.moment b.site) u told (sound.later told) from.1) in
-                let store = stored told u from.1 in
-                let same : image.2 ≡ g = one_store u.store image.2 g image.3.store store in
-                let made = image_step image.0 u w (subst (λ (h : GraphState). IsImageOver b image.0 u h) same image.3) store from.2 in
-                (image.0, image.1, made.0, made.1)
+            | inl before ↦ image_still w (sound.images told w before)
+            | inr from ↦ image_made told w from
+          ]
+
+      since_now : IsTrue site.tells → (t : ℕ) (w : World) → t ≤ site.moment b.opening.site → site.left_since new.site t w → site.left_since b.opening.site t w ⊎ IsImage site then_board w
+      since_now told t w soon left =
+          elim ((makes.crash told).since t w (let later = sound.later told in omega (arith, soon, later)) left) [
+            | inl before ↦ ⊎_elim inl (λ image. inr (image_still w image)) (sound.since told t w soon before)
+            | inr from ↦ inr (image_made told w from)
           ]
 
       -- ---- a lost commit was to happen
@@ -369,6 +384,7 @@ module _ {S R : Type 0} (site : Site S) (runner : Runner R) (b : BoardState S) (
         lost = could_end still;
         now = image_now;
         images = images_now;
+        since = since_now;
         cause = λ cause stopped. cause_on cause (sound.cause cause (sym stopped_is ∙ stopped));
         counted = let first = sound.counted in let last = counts.later in omega (arith, first, last);
         later = λ told. let first = sound.later told in let last = (makes.crash told).later in omega (arith, first, last);

@@ -115,6 +115,7 @@ module _ {S R : Type 0} (site : Site S) (runner : Runner R) (plan : Plan) (graph
     lost = λ commit here. cc;
     now = λ told. (graph.nodes, image told (site.world s) (present told));
     images = λ told w left. (w, left, graph.nodes, image told w left);
+    since = λ told t w before left. inl left;
     cause = λ cause stopped. cc;
     counted = omega arith;
     later = λ told. omega arith;

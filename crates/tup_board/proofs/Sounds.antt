@@ -178,6 +178,7 @@ module _ {S R : Type 0} (site : Site S) (runner : Runner R) (board : BoardState 
     };
     now = λ told. let image = sound.now told in (image.0, image_on _ _ image.0 image.1);
     images = λ told w left. let image = sound.images told w left in (image.0, image.1, image.2, image_on image.0 w image.2 image.3);
+    since = λ told t w before left. ⊎_elim inl (λ image. inr (image.0, image.1, image.2, image_on image.0 w image.2 image.3)) (sound.since told t w before left);
     cause = cause;
     counted = sound.counted;
     later = sound.later;

@@ -53,8 +53,11 @@ module _ {S R : Type 0} (site : Site S) (runner : Runner R) (b : BoardState S) (
   image_read v w g image = record { store = image.store; come = come_read g image.come; others = image.others; made = image.made; unmade = image.unmade }
 
   -- a crash leaves no more than before
+  left_before : IsTrue site.tells → (t : ℕ) (w : World) → t ≤ site.moment b.opening.site → site.left_since new t w → site.left_since b.site t w
+  left_before told t w before left = ⊎_elim (λ was. was) (λ more. absurd more.2) ((on told).since t w (let later = sound.later told in omega (arith, before, later)) left)
+
   back : IsTrue site.tells → (w : World) → Since site read w → Since site b w
-  back told w left = ⊎_elim (λ before. before) (λ more. absurd more.2) ((on told).since (site.moment b.opening.site) w (sound.later told) left)
+  back told w = left_before told (site.moment b.opening.site) w (omega arith)
 
   cause_read : (cause : Cause) → IsTrueCause b (site.faults b.opening.site) (site.faults b.site) site.tells (site.world b.site) (Since site b) cause
       → IsTrueCause read (site.faults b.opening.site) (site.faults new) site.tells (site.world new) (Since site read) cause
@@ -114,6 +117,8 @@ module _ {S R : Type 0} (site : Site S) (runner : Runner R) (b : BoardState S) (
     };
     now = λ told. let image = sound.now told in (image.0, image_read _ _ image.0 (subst (λ (w : World). IsImageOver b (site.world b.opening.site) w image.0) (sym (same told)) image.1));
     images = λ told w left. let image = sound.images told w (back told w left) in (image.0, image.1, image.2, image_read image.0 w image.2 image.3);
+    since = λ told t w before left.
+        ⊎_elim inl (λ image. inr (image.0, image.1, image.2, image_read image.0 w image.2 image.3)) (sound.since told t w before (left_before told t w before left));
     cause = λ cause stopped. cause_read cause (sound.cause cause stopped);
     later = λ told. let first = sound.later told in let more = (on told).later in omega (arith, first, more);
     known = λ told content had. subst (λ (k : List Content). IsTrue (knows k content)) (sym (known told)) (sound.known told content had);

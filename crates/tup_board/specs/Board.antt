@@ -1,5 +1,5 @@
 -- A board as contracts see it (own).
-use Rattle.std.specs.Prelude.{ℕ, List, Option, refl}
+use Rattle.std.specs.Prelude.{List, Option, refl}
 use Rattle.std.specs.Coded.{Coded, code_by, coded×, coded_list, coded_option}
 use Rattle.std.specs.FinMap as finite
 use Rattle.tup_graph.specs.Graph.{GraphState}
@@ -7,8 +7,8 @@ use Rattle.tup_stored_graph.specs.Held.{Held, held_code}
 use Rattle.tup_core.specs.contracts.event.CoreEvent as of_event
 use Rattle.tup_core.specs.contracts.plan.Plan as of_plan
 use Rattle.tup_core.specs.declared.event.CoreEvent.{CoreEvent}
-use Rattle.tup_core.specs.declared.event.CoreEvent.TheVariants.{Claim, Ask, Deny, Finish, Stop}
 use Rattle.tup_core.specs.declared.plan.Plan.{Plan}
+pub use Rattle.tup_core.specs.Run.{seat_of}
 use Rattle.tup_core.specs.Step.{State}
 use Rattle.tup_rule_outputs.specs.Lost.{Lost, lost_code}
 use Rattle.tup_schedule.specs.Course.{CourseState, first, now}
@@ -50,14 +50,6 @@ first_graph board = board.opening.graph.nodes
 -- more happened, and all else is as it was
 abbrev pub with_history : {S : Type 0} → BoardState S → List CoreEvent → BoardState S
 with_history board history = record board { history = history }
-
--- the seat at which an event happened
-abbrev pub seat_of : CoreEvent → ℕ
-seat_of (Claim seat rule) = seat
-seat_of (Ask seat text answer) = seat
-seat_of (Deny seat text verdict) = seat
-seat_of (Finish seat given files) = seat
-seat_of (Stop seat cause) = seat
 
 -- ---- how contracts store it
 -- an opening is stored as its fields are

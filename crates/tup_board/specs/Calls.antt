@@ -28,14 +28,14 @@ use Rattle.tup_stored_graph.specs.Held.{Held}
 use Rattle.tup_core.specs.declared.event.Cause.{Cause}
 use Rattle.tup_core.specs.declared.event.Cause.TheVariants.{Bad, Run, Memory as StoppedByMemory}
 use Rattle.tup_core.specs.declared.event.CoreEvent.{CoreEvent}
-use Rattle.tup_core.specs.declared.event.CoreEvent.TheVariants.{Ask, Deny, Finish}
+use Rattle.tup_core.specs.declared.event.CoreEvent.TheVariants.{Claim, Ask, Deny, Finish}
 use Rattle.tup_core.specs.Honest.{EndsHonestly, stamped}
 use Rattle.tup_core.specs.declared.plan.Plan.{Plan}
 use Rattle.tup_core.specs.Kept.{Kept}
 use Rattle.tup_core.specs.Planned.{IsPlanned, clean_of}
 use Rattle.tup_clean.specs.Clean.{succeeds}
 use Rattle.tup_core.specs.Run.{claims}
-use Rattle.tup_core.specs.Step.{State}
+use Rattle.tup_core.specs.Step.{State, after}
 use Rattle.tup_board.specs.declared.answers.Asked.{Asked}
 use Rattle.tup_board.specs.declared.answers.Asked.TheVariants.{Content as Told, Absent, Denied}
 use Rattle.tup_board.specs.declared.answers.Drained.{Drained}
@@ -43,6 +43,7 @@ use Rattle.tup_board.specs.declared.answers.Drained.TheVariants.{Done, Left}
 use Rattle.tup_rule_outputs.specs.declared.fault.BoardFault.{BoardFault}
 use Rattle.tup_rule_outputs.specs.declared.fault.BoardFault.TheVariants.{Site as ByVisit, TooLarge, Full, Memory}
 use Rattle.tup_board.specs.Board.{BoardState, course_of, plan_of, seat_of, state, with_history}
+use Rattle.tup_schedule.specs.Turn.{IsFirstReady}
 use Rattle.tup_schedule.specs.Course.{RunsRule, GoesOn, WasDenied, NoneReady, NoneRuns}
 use Rattle.tup_board.specs.Cause.{stops_by}
 use Rattle.tup_board.specs.Ends.{IsRecordOf}
@@ -234,6 +235,12 @@ BuildsClean site runner board kept tree =
 -- nothing goes on any more
 abbrev pub IsOver : {S : Type 0} → BoardState S → Type 0
 IsOver board = NoneRuns (course_of board) × (IsSome (state board).stopped ⊎ NoneReady (course_of board))
+
+-- each claim among some events is of the first rule that is ready then
+abbrev pub TakesFirst : Plan → State → List CoreEvent → Type 0
+TakesFirst plan state [] = Unit {0}
+TakesFirst plan state (Claim seat rule ∷ events) = IsFirstReady plan state rule × TakesFirst plan (after plan state (Claim seat rule)) events
+TakesFirst plan state (event ∷ events) = TakesFirst plan (after plan state event) events
 
 -- the command of a rule, in its folder
 abbrev pub command_of : Rule → Names × List ℕ

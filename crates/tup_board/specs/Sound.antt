@@ -1,5 +1,5 @@
 -- What holds of a board at every moment (own).
-use Rattle.std.specs.Prelude.{◌≡◌, ℕ, ◌≤◌, ◌<◌, ◌++◌, true, None, Some, IsTrue, is_none}
+use Rattle.std.specs.Prelude.{◌≡◌, ℕ, ◌≤◌, ◌<◌, ◌⊎◌, ◌++◌, true, None, Some, IsTrue, is_none}
 use Rattle.std.specs.FinMap as finite
 use Rattle.std.specs.Option.{option_map}
 use Rattle.tup_path.specs.Count.{Rose}
@@ -54,6 +54,10 @@ Since site board w = site.left_since board.site (site.moment board.opening.site)
 abbrev pub Before : {S : Type 0} → Site S → BoardState S → World → Type 0
 Before site board w = site.left_since board.opening.site (site.moment board.opening.site) w
 
+-- a world is an image over one that a crash right before that might have left
+abbrev pub IsImage : {S : Type 0} → Site S → BoardState S → World → Type 0
+IsImage site board w = (v : World) × Before site board v × (g : GraphState) × IsImageOver board v w g
+
 -- what holds of a board at every moment
 pub record IsSound {S R : Type 0} (site : Site S) (runner : Runner R) (board : BoardState S) : Type 0 where
   pub opening : IsOpening site board
@@ -71,6 +75,9 @@ pub record IsSound {S R : Type 0} (site : Site S) (runner : Runner R) (board : B
   -- of each rule by itself there is what was, or what its good end leaves: now, and whenever a crash comes
   pub now : IsTrue site.tells → (g : GraphState) × IsImageOver board (site.world board.opening.site) (site.world board.site) g
   pub images : IsTrue site.tells → LeavesImages board (Before site board) (Since site board)
+  -- and what a crash since an earlier moment may leave, one before the board was made might have left, or it is such an image
+  pub since : IsTrue site.tells → (t : ℕ) (w : World) → t ≤ site.moment board.opening.site → site.left_since board.site t w
+      → site.left_since board.opening.site t w ⊎ IsImage site board w
   -- the first cause of a stop is true
   pub cause : (cause : Cause) → (state board).stopped ≡ Some cause
       → IsTrueCause board (site.faults board.opening.site) (site.faults board.site) site.tells (site.world board.site) (Since site board) cause

@@ -29,7 +29,7 @@ use tup_site::Site;
 
 impl<S: Site, R: Runner> Board<S, R> {
     ghost use Rattle.tup_schedule.specs.Course.{NoneRuns};
-    ghost use Rattle.tup_board.specs.Calls.{BuildsClean, Drains, HasFailed, HasRun, HasRunCause, IsOver, RanAll, RunsOne};
+    ghost use Rattle.tup_board.specs.Calls.{BuildsClean, Drains, HasFailed, HasRun, HasRunCause, IsOver, RanAll, RunsOne, TakesFirst};
 
     /// Runs all that can be run, one rule after another, at seat 0, while no seat runs a rule.
     ///
@@ -38,6 +38,7 @@ impl<S: Site, R: Runner> Board<S, R> {
     /// of its sources. `Left` with `Bad` comes just where a verdict is bad and nothing was stopped for another cause
     /// before, and `Left` with another cause where that was the first of a stop. By itself it stops only for a failure of
     /// its runner, and for want of memory. A failure of its site is what it is left for, if nothing was stopped before.
+    /// Each rule that it claims is the first one that is ready.
     pub fn drain(&mut self, alloc: Global, plan: &Plan, runner: &mut R) -> Drained
         requires plan { plan.now ≡ plan_of self.old }
         requires none_runs { NoneRuns (course_of self.old) }
@@ -54,6 +55,8 @@ impl<S: Site, R: Runner> Board<S, R> {
         ensures history { (events : List CoreEventValue)
             × (self.new.history ≡ self.old.history ++ events)
             × All (λ event. seat_of event ≡ 0) events }
+        ensures order { (events : List CoreEventValue) → self.new.history ≡ self.old.history ++ events
+            → TakesFirst plan.now (state self.old) events }
         ensures cause { HasRunCause (state self.old).stopped
             (R.faults runner.old) (R.faults runner.new) result }
         ensures steady { KeepsCount S.Site.own self.old self.new }

@@ -1,8 +1,8 @@
 -- Whatever a board did, each world that a crash may leave has the sources that were, and holds its own.
-use Rattle.std.proofs.Common.{◌≡◌, ◌⊎◌, inl, inr, ℕ, ◌≤◌, Bool, true, false, is_some, IsTrue, List, [], ◌∷◌, ◌++◌, map, Option, None, Some, refl, sym, ap, subst, ◌∙◌, arith, ⊎_elim, zero, cond, not, ◌&&◌, IsSome, All, Ok, slice_index_or, Contains}
+use Rattle.std.proofs.Common.{◌≡◌, ◌⊎◌, inl, inr, ℕ, ◌≤◌, Bool, true, false, is_some, IsTrue, List, [], ◌∷◌, ◌++◌, map, Option, None, Some, refl, sym, ap, subst, ◌∙◌, ⊎_elim, zero, cond, not, ◌&&◌, IsSome, All, Ok, slice_index_or, Contains}
 use Rattle.std.specs.Prelude.{slice_get}
 use Rattle.std.specs.FinMap as finite
-use Rattle.std.proofs.lemmas.Bool.{true≢false}
+use Rattle.std.proofs.lemmas.Bool.{true≢false, false_from_ne_true}
 use Rattle.std.proofs.lemmas.Option.{same_Some}
 use Rattle.tup_path.specs.Name.{Names, Content}
 use Rattle.tup_site.specs.World.{World}
@@ -16,11 +16,9 @@ use Rattle.tup_runner.specs.Next.{Next}
 use Rattle.tup_runner.specs.declared.runner.Runner.{Ghosts as Runner}
 use Rattle.tup_record.specs.declared.owned.OwnedState.TheVariants.{Unsure, Written}
 use Rattle.tup_record.specs.declared.run.RunRecord.{RunRecord}
-use Rattle.tup_table.specs.Table.{entries_in}
 use Rattle.tup_graph.specs.declared.owned.Owned.{Owned}
 use Rattle.tup_graph.specs.Graph.{GraphState, is_flagged, is_owned, is_created, source}
 use Rattle.tup_graph.specs.Kept.{HoldsItsOwn, IsGraphIn, IsKept, file_beside, Asked, HasSeenStamps, IsRuleAt, IsUnflagged}
-use Rattle.tup_graph.specs.Opening.{IsGraphOf}
 use Rattle.tup_graph.specs.Records.{Language, IsTrueRun}
 use Rattle.tup_graph.specs.Transactions.{begun, finished, maker_of}
 use Rattle.tup_access.specs.declared.verdict.Verdict.TheVariants.{Good}
@@ -49,6 +47,7 @@ use Rattle.tup_core.proofs.Orderly.{IsOrderly}
 use Rattle.tup_core.proofs.Standing.{asks_stand}
 use Rattle.tup_core.proofs.Counted.{all_counted}
 use Rattle.tup_rule_outputs.specs.Lost.{Lost}
+use Rattle.tup_schedule.proofs.Courses.{end_both}
 use Rattle.tup_board.proofs.Openings.{stamps_of_entries}
 use Rattle.tup_law_graph.proofs.Edited.{kept_more}
 use Rattle.tup_law_board.specs.Kept.{AskStands, CameTo, HoldsTogether}
@@ -62,34 +61,30 @@ use Rattle.tup_board.specs.Sound.{Before, IsSound}
 use Rattle.tup_board.proofs.Coming.{begun_own, flag_here, written_own, finished_run}
 use Rattle.tup_board.proofs.Placing.{claimed_reached}
 use Rattle.tup_board.proofs.Seated.{orderly, not_to_come}
-use Rattle.tup_law_site.specs.Over.{IsKeptNow, StandsOver}
+use Rattle.tup_law_site.specs.Over.{StandsOver}
 use Rattle.tup_law_site.proofs.Remaining.{holds_alike, holds_before, is_kept, sources_before}
 use Rattle.tup_law_site.proofs.Stores.{in_bytes, one_in_bytes}
 use Rattle.tup_law_board.specs.Beside.{StaysBeside}
-use Rattle.tup_law_board.proofs.Runs.{run_front, contains_name, end_both, files_stay, files_written, honest_at, one_file, pending_gone, run_behind, seen_as, stamp_written}
+use Rattle.tup_law_board.proofs.Runs.{run_front, contains_name, files_stay, files_written, honest_at, one_file, pending_gone, run_behind, seen_as, stamp_written}
 
 module _ {S R : Type 0} (site : Site S) (runner : Runner R) (b : BoardState S) (sound : IsSound site runner b) (tells : IsTrue site.tells)
-    (next : Next) (language : Language) (known : List Content) (kept : IsKeptNow site next language known b.opening.site) (is_graph : IsGraphOf (entries_in b.opening.graph.table) (first_graph b))
+    (next : Next) (language : Language) (known : List Content) (first : World) (since : ℕ) (over : StandsOver site next language known first since b.opening.graph b.opening.site)
     (earlier : (t u : ℕ) (w : World) → t ≤ u → site.left_since b.opening.site u w → site.left_since b.opening.site t w) (present : Before site b (site.world b.opening.site)) where
-  abbrev first : World
-  first = site.world b.opening.site
-
   abbrev fg : GraphState
   fg = first_graph b
 
   abbrev plan : Plan
   plan = plan_of b
 
-  pub over : StandsOver site next language known first (site.moment b.opening.site) b.opening.graph b.opening.site
-  over = record { began = omega arith; stands = sound.opening.stands tells; is_graph = is_graph; kept = kept }
+  -- the graph of the world that was there first
+  abbrev was : GraphState
+  was = over.kept.now.graph
 
   fg_kept : IsKept next language known fg
-  fg_kept = is_kept site next language known first (site.moment b.opening.site) b.opening.graph b.opening.site over earlier first present
+  fg_kept = is_kept site next language known first since b.opening.graph b.opening.site over earlier (site.world b.opening.site) present
 
-  beside_first : (v : World) → Before site b v → (path : Names) → file_beside v fg path ≡ file_beside first fg path
-  beside_first v left path =
-      sources_before site next language known first (site.moment b.opening.site) b.opening.graph b.opening.site over earlier v left path
-      ∙ sym (sources_before site next language known first (site.moment b.opening.site) b.opening.graph b.opening.site over earlier first present path)
+  beside_first : (v : World) → Before site b v → (path : Names) → file_beside v fg path ≡ file_beside first was path
+  beside_first = sources_before site next language known first since b.opening.graph b.opening.site over earlier
 
   -- the plan has the rules of the graph
   in_graph : (number : ℕ) (rule : Rule) → slice_get plan.rules number ≡ Some rule → slice_get fg.rules number ≡ Some rule
@@ -146,7 +141,7 @@ module _ {S R : Type 0} (site : Site S) (runner : Runner R) (b : BoardState S) (
       free_own : (o : Owned) → finite.get g.owned path ≡ Some o → HoldsItsOwn base w path o
       free_own o is =
           holds_alike first base v w path o o (base_free path unclaimed) free_file refl
-          (holds_before site next language known first (site.moment b.opening.site) b.opening.graph b.opening.site over earlier v before path o (sym free_owned ∙ is))
+          (holds_before site next language known first since b.opening.graph b.opening.site over earlier v before path o (sym free_owned ∙ is))
 
     -- ---- an output of a rule
     module _ (number : ℕ) (path : Names) (makes : Makes plan number path) where
@@ -181,7 +176,7 @@ module _ {S R : Type 0} (site : Site S) (runner : Runner R) (b : BoardState S) (
       stays : (o : Owned) → finite.get g.owned path ≡ Some o → HasOf fg g number rule → HasFileOf v w path → HasFileOf first base path → HoldsItsOwn base w path o
       stays o is has file based =
           holds_alike first base v w path o o based file refl
-          (holds_before site next language known first (site.moment b.opening.site) b.opening.graph b.opening.site over earlier v before path o (sym (has.owned path makes.output) ∙ is))
+          (holds_before site next language known first since b.opening.graph b.opening.site over earlier v before path o (sym (has.owned path makes.output) ∙ is))
 
       -- its run had begun
       unsure : (o : Owned) → finite.get g.owned path ≡ Some o → HasOf (begun fg number) g number rule → HoldsItsOwn base w path o
@@ -226,7 +221,7 @@ module _ {S R : Type 0} (site : Site S) (runner : Runner R) (b : BoardState S) (
         let it = maker-Some plan.rules path found.0 found.1 in
         (found.0, record { rule = it.rule; here = it.here; output = it.writes_it })
 
-    image_sources : (path : Names) → file_beside w g path ≡ file_beside first fg path
+    image_sources : (path : Names) → file_beside w g path ≡ file_beside first was path
     image_sources path = by (is_generated plan.rules path) refl ∙ beside_first v before path
       where
         by : (made : Bool) → is_generated plan.rules path ≡ made → file_beside w g path ≡ file_beside v fg path
@@ -240,9 +235,9 @@ module _ {S R : Type 0} (site : Site S) (runner : Runner R) (b : BoardState S) (
         by true is = (let it = made_by path is in made_own it.0 path it.1 o owned)
         by false is = free_own path is o owned
 
-  pub image_stays : (v w : World) → Before site b v → (g : GraphState) → IsImageOver b v w g → (k : GraphState) → IsGraphIn w.store k → StaysBeside first fg w k
+  pub image_stays : (v w : World) → Before site b v → (g : GraphState) → IsImageOver b v w g → (k : GraphState) → IsGraphIn w.store k → StaysBeside first was w k
   image_stays v w before g image k reads =
-      subst (StaysBeside first fg w) (one_in_bytes w.store g k (in_bytes g w.store image.store) reads)
+      subst (StaysBeside first was w) (one_in_bytes w.store g k (in_bytes g w.store image.store) reads)
       (record {
         sources = image_sources v w before g image first (λ path free. refl) (λ number path makes flagged. inr refl);
         own = image_own v w before g image first (λ path free. refl) (λ number path makes flagged. inr refl);
@@ -745,6 +740,19 @@ module _ {S R : Type 0} (site : Site S) (runner : Runner R) (b : BoardState S) (
 
     linked_still : language.linked (finite.entries g.readings) ≡ Some g.rules
     linked_still = ap (λ (readings : Readings). language.linked (finite.entries readings)) readings_are ∙ fk.linked ∙ ap Some (sym come.beside.rules)
+
+    -- a graph of which just the pending rules are flagged has seen the core's files, but for the outputs of those
+    pub seen_free : ((number : ℕ) → (state b).pending number ≡ false → is_flagged g number ≡ false) → (path : Names) → (IsPending plan (state b) path → ⊥) → finite.get g.seen path ≡ files_now path
+    seen_free flags path free = by (is_generated plan.rules path) refl
+      where
+        by : (made : Bool) → is_generated plan.rules path ≡ made → finite.get g.seen path ≡ files_now path
+        by false unmade =
+            come.beside.seen path unmade
+            ∙ sym (start_stays path (λ m makes. absurd (true≢false (sym makes.output ∙ writes-at plan.rules path m makes.rule unmade makes.here))))
+        by true made =
+            let it = maker_by path made in
+            let done = false_from_ne_true ((state b).pending it.0) (λ pending. free (it.0, pending, it.1)) in
+            seen_done it.0 it.1.rule it.1.here path it.1.output (flags it.0 done) done
 
     pub come_kept : IsKept next language more g
     come_kept = record {

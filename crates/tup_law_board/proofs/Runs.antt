@@ -33,10 +33,6 @@ pub run_behind : (plan : Plan) (before more : List CoreEvent) (at : State) → I
 run_behind plan [] more at run = run
 run_behind plan (event ∷ before) more at (enabled, run) = run_behind plan before more (after plan at event) run
 
-pub end_both : (plan : Plan) (before more : List CoreEvent) (at : State) → end_of plan at (before ++ more) ≡ end_of plan (end_of plan at before) more
-end_both plan [] more at = refl
-end_both plan (event ∷ before) more at = end_both plan before more (after plan at event)
-
 pub honest_at : (next : Next) (known : List Content) (plan : Plan) (before more : List CoreEvent) (seat : ℕ) (given : Verdict) (written : List (Names × Stamp)) (at : State)
     → IsHonest next known plan at (before ++ Finish seat given written ∷ more)
     → (running : Running) (rule : Rule) → Runs plan (end_of plan at before) seat running rule → EndsHonestly next known rule running running.denied given written

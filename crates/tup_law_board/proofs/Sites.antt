@@ -1,16 +1,19 @@
 -- A kept site stays kept while a board works on it.
-use Rattle.std.proofs.Common.{◌≡◌, ⊎_elim, ℕ, ◌≤◌, None, Some, IsTrue, sym, ap, subst, ◌∙◌}
+use Rattle.std.proofs.Common.{◌≡◌, ⊎_elim, ℕ, ◌≤◌, List, None, Some, IsTrue, sym, subst, ◌∙◌, inl, inr, arith}
 use Rattle.std.specs.FinMap as finite
+use Rattle.std.specs.Option.{option_map}
 use Rattle.std.specs.Prelude.{Contains}
 use Rattle.tup_path.specs.Name.{Names, Content}
 use Rattle.tup_site.specs.World.{World}
+use Rattle.tup_stamp.specs.Stamp.{stamp}
 use Rattle.tup_site.specs.declared.site.Site.{Ghosts as Site}
+use Rattle.tup_runner.specs.Next.{Next}
 use Rattle.tup_runner.specs.declared.runner.Runner.{Ghosts as Runner}
 use Rattle.tup_record.specs.declared.run.RunRecord.{RunRecord}
 use Rattle.tup_table.specs.Table.{entries_in}
 use Rattle.tup_graph.specs.Graph.{GraphState}
 use Rattle.tup_graph.specs.declared.owned.Owned.{Owned}
-use Rattle.tup_graph.specs.Kept.{HoldsItsOwn, IsGraphIn, IsKept, IsKeptSite, IsKeptWorld, file_beside}
+use Rattle.tup_graph.specs.Kept.{HoldsItsOwn, IsGraphIn, IsKept, IsKeptSite, IsKeptWorld}
 use Rattle.tup_graph.specs.Opening.{IsGraphOf}
 use Rattle.tup_graph.specs.Records.{Language}
 use Rattle.tup_stored_graph.specs.Crash.{IsStoreOf}
@@ -18,20 +21,23 @@ use Rattle.tup_stored_graph.proofs.Crashes.{as_it_was}
 use Rattle.tup_core.specs.Honest.{EndsHonestly}
 use Rattle.tup_rule_outputs.specs.Lost.{Lost}
 use Rattle.tup_law_graph.proofs.Edited.{kept_more}
-use Rattle.tup_board.specs.Board.{BoardState, plan_of, first_graph, start}
+use Rattle.tup_board.specs.Board.{BoardState, plan_of, first_graph, start, state}
 use Rattle.tup_board.specs.Come.{HasComeTo}
 use Rattle.tup_board.specs.Ends.{CouldEnd}
 use Rattle.tup_board.specs.Images.{IsImageOver}
-use Rattle.tup_board.specs.Sound.{Before, IsSound, Since}
+use Rattle.tup_board.specs.Outputs.{IsPending}
+use Rattle.tup_board.specs.Sound.{Before, IsImage, IsSound, Since}
 use Rattle.tup_board.proofs.Known.{keeps_all}
-use Rattle.tup_law_site.specs.Over.{IsKeptNow, LeftNow}
+use Rattle.tup_law_site.specs.Over.{IsKeptNow, LeftNow, StandsOver}
 use Rattle.tup_law_site.proofs.Remaining.{has_graph}
 use Rattle.tup_law_site.proofs.Stores.{in_bytes, one_in_bytes}
+use Rattle.tup_law_board.specs.Beside.{StaysBeside}
 use Rattle.tup_law_board.specs.Kept.{HoldsTogether}
-use Rattle.tup_law_board.proofs.Lasting.{come_kept, image_own, image_stays, over}
+use Rattle.tup_law_board.proofs.Lasting.{come_kept, image_own, image_stays, seen_free}
 
+-- ---- since any moment at which it was kept
 module _ {S R : Type 0} (site : Site S) (runner : Runner R) (b : BoardState S) (sound : IsSound site runner b) (tells : IsTrue site.tells) (told : IsTrue runner.tells) (language : Language)
-    (kept : IsKeptNow site runner.next language (site.known b.opening.site) b.opening.site) (is_graph : IsGraphOf (entries_in b.opening.graph.table) (first_graph b)) (held : HoldsTogether b)
+    (first : World) (since : ℕ) (over : StandsOver site runner.next language (site.known b.opening.site) first since b.opening.graph b.opening.site) (held : HoldsTogether b)
     (earlier : (t u : ℕ) (w : World) → t ≤ u → site.left_since b.opening.site u w → site.left_since b.opening.site t w) (present : Before site b (site.world b.opening.site)) where
   also : (content : Content) → Contains (site.known b.opening.site) content → Contains (site.known b.site) content
   also = keeps_all (site.known b.opening.site) (site.known b.site) (sound.known tells)
@@ -44,27 +50,68 @@ module _ {S R : Type 0} (site : Site S) (runner : Runner R) (b : BoardState S) (
 
   graph_kept : (g : GraphState) → HasComeTo b g → IsKept runner.next language (site.known b.site) g
   graph_kept g come =
-      come_kept site runner b sound tells runner.next language (site.known b.opening.site) kept is_graph earlier present (site.known b.site) also (sound.honest tells told) could_end held g come
+      come_kept site runner b sound tells runner.next language (site.known b.opening.site) first since over earlier present (site.known b.site) also (sound.honest tells told) could_end held g come
 
-  first_graph_is : first_graph b ≡ kept.now.graph
-  first_graph_is =
-      one_in_bytes (site.world b.opening.site).store (first_graph b) kept.now.graph
-      (has_graph site runner.next language (site.known b.opening.site) (site.world b.opening.site) (site.moment b.opening.site) b.opening.graph b.opening.site
-      (over site runner b sound tells runner.next language (site.known b.opening.site) kept is_graph earlier present) earlier (site.world b.opening.site) present)
-      kept.now.reads
+  -- a world that was kept is
+  still_kept : (w : World) → IsKeptWorld runner.next language (site.known b.opening.site) w → IsKeptWorld runner.next language (site.known b.site) w
+  still_kept w world = record { graph = world.graph; reads = world.reads; kept = kept_more (site.known b.opening.site) (site.known b.site) also runner.next language world.graph world.kept }
 
-  pub site_kept : IsKeptSite runner.next language (site.known b.site) (site.world b.opening.site) (Since site b)
+  image_beside : (w : World) → IsImage site b w → (k : GraphState) → IsGraphIn w.store k → StaysBeside first over.kept.now.graph w k
+  image_beside w image =
+      image_stays site runner b sound tells runner.next language (site.known b.opening.site) first since over earlier present image.0 w image.1 image.2 image.3
+
+  pub site_kept : IsKeptSite runner.next language (site.known b.site) first (site.left_since b.site since)
+  unfolding still_kept
   site_kept = record {
-    now = record { graph = kept.now.graph; reads = kept.now.reads; kept = kept_more (site.known b.opening.site) (site.known b.site) also runner.next language kept.now.graph kept.now.kept };
-    later = λ w left. (let image = sound.images tells w left in record { graph = image.2; reads = in_bytes image.2 w.store image.3.store; kept = graph_kept image.2 image.3.come });
-    sources = λ w k left reads path.
-        (let image = sound.images tells w left in
-        (image_stays site runner b sound tells runner.next language (site.known b.opening.site) kept is_graph earlier present image.0 w image.1 image.2 image.3 k reads).sources path
-        ∙ ap (λ (x : GraphState). file_beside (site.world b.opening.site) x path) first_graph_is);
-    own = λ w k path owned left reads is.
-        (let image = sound.images tells w left in
-        (image_stays site runner b sound tells runner.next language (site.known b.opening.site) kept is_graph earlier present image.0 w image.1 image.2 image.3 k reads).own path owned is);
+    now = still_kept first over.kept.now;
+    later = λ w left. elim (sound.since tells since w over.began left) [
+      | inl before ↦ still_kept w (over.kept.later w before)
+      | inr image ↦ record { graph = image.2; reads = in_bytes image.2 w.store image.3.store; kept = graph_kept image.2 image.3.come }
+    ];
+    sources = λ w k left reads path. elim (sound.since tells since w over.began left) [
+      | inl before ↦ over.kept.sources w k before reads path
+      | inr image ↦ (image_beside w image k reads).sources path
+    ];
+    own = λ w k path owned left reads is. elim (sound.since tells since w over.began left) [
+      | inl before ↦ over.kept.own w k path owned before reads is
+      | inr image ↦ (image_beside w image k reads).own path owned is
+    ];
   }
+
+  -- what the graph has seen is in the tree, but for the outputs of pending rules
+  pub seen_now : b.lost ≡ None → (path : Names) → (IsPending (plan_of b) (state b) path → ⊥) → finite.get b.graph.nodes.seen path ≡ option_map stamp (finite.get (site.world b.site).tree path)
+  seen_now none path free =
+      seen_free site runner b sound tells runner.next language (site.known b.opening.site) first since over earlier present (site.known b.site) also (sound.honest tells told) could_end held
+      b.graph.nodes (sound.present none).come (λ number done. (sound.present none).flags number ∙ done) path free
+      ∙ sym (sound.files tells path free)
+
+-- ---- since the board was made
+module _ {S R : Type 0} (site : Site S) (runner : Runner R) (b : BoardState S) (sound : IsSound site runner b) (tells : IsTrue site.tells) (next : Next) (language : Language) (known : List Content)
+    (kept : IsKeptNow site next language known b.opening.site) (is_graph : IsGraphOf (entries_in b.opening.graph.table) (first_graph b)) where
+  pub over_opening : StandsOver site next language known (site.world b.opening.site) (site.moment b.opening.site) b.opening.graph b.opening.site
+  over_opening = record { began = omega arith; stands = sound.opening.stands tells; is_graph = is_graph; kept = kept }
+
+  module _ (earlier : (t u : ℕ) (w : World) → t ≤ u → site.left_since b.opening.site u w → site.left_since b.opening.site t w) (present : Before site b (site.world b.opening.site)) where
+    was_first : kept.now.graph ≡ first_graph b
+    was_first =
+        one_in_bytes (site.world b.opening.site).store kept.now.graph (first_graph b) kept.now.reads
+        (has_graph site next language known (site.world b.opening.site) (site.moment b.opening.site) b.opening.graph b.opening.site over_opening earlier (site.world b.opening.site) present)
+
+    pub stays_beside : (w : World) → Since site b w → (k : GraphState) → IsGraphIn w.store k → StaysBeside (site.world b.opening.site) (first_graph b) w k
+    unfolding over_opening
+    stays_beside w left k reads =
+        let image = sound.images tells w left in
+        subst (λ (g : GraphState). StaysBeside (site.world b.opening.site) g w k) was_first
+        (image_stays site runner b sound tells next language known (site.world b.opening.site) (site.moment b.opening.site) over_opening earlier present image.0 w image.1 image.2 image.3 k reads)
+
+module _ {S R : Type 0} (site : Site S) (runner : Runner R) (b : BoardState S) (sound : IsSound site runner b) (tells : IsTrue site.tells) (told : IsTrue runner.tells) (language : Language)
+    (kept : IsKeptNow site runner.next language (site.known b.opening.site) b.opening.site) (is_graph : IsGraphOf (entries_in b.opening.graph.table) (first_graph b)) (held : HoldsTogether b)
+    (earlier : (t u : ℕ) (w : World) → t ≤ u → site.left_since b.opening.site u w → site.left_since b.opening.site t w) (present : Before site b (site.world b.opening.site)) where
+  abbrev over_it : StandsOver site runner.next language (site.known b.opening.site) (site.world b.opening.site) (site.moment b.opening.site) b.opening.graph b.opening.site
+  over_it = over_opening site runner b sound tells runner.next language (site.known b.opening.site) kept is_graph
+
+  pub site_kept_since : IsKeptSite runner.next language (site.known b.site) (site.world b.opening.site) (Since site b)
+  site_kept_since = site_kept site runner b sound tells told language (site.world b.opening.site) (site.moment b.opening.site) over_it held earlier present
 
   -- ---- beside the site as it is, where no commit was lost
   module _ (none : b.lost ≡ None) (graph_now : IsGraphOf (entries_in b.graph.table) b.graph.nodes)
@@ -91,17 +138,17 @@ module _ {S R : Type 0} (site : Site S) (runner : Runner R) (b : BoardState S) (
         let mine : b.graph.nodes ≡ image.2 = one_in_bytes w.store b.graph.nodes image.2 (has_now w left) (in_bytes image.2 w.store image.3.store) in
         let theirs : k ≡ image.2 = one_in_bytes w.store k image.2 reads (in_bytes image.2 w.store image.3.store) in
         let present_image = image_now image.2 mine in
-        image_own site runner b sound tells runner.next language (site.known b.opening.site) kept is_graph earlier present image.0 w image.1 image.2 image.3 (site.world b.site)
+        image_own site runner b sound tells runner.next language (site.known b.opening.site) (site.world b.opening.site) (site.moment b.opening.site) over_it earlier present image.0 w image.1 image.2 image.3 (site.world b.site)
         (λ q free. present_image.others q free) (λ number q makes flagged. present_image.unmade number q makes flagged) path owned
         (subst (λ (x : GraphState). finite.get x.owned path ≡ Some owned) theirs is)
 
     here : IsKeptWorld runner.next language (site.known b.site) (site.world b.site)
-    here = site_kept.later (site.world b.site) (since (site.world b.site) present_now)
+    here = site_kept_since.later (site.world b.site) (since (site.world b.site) present_now)
 
     pub kept_now : IsKeptNow site runner.next language (site.known b.site) b.site
     kept_now = record {
       now = here;
-      later = λ w left. site_kept.later w (since w left);
-      sources = λ w k left reads path. site_kept.sources w k (since w left) reads path ∙ sym (site_kept.sources (site.world b.site) here.graph (since (site.world b.site) present_now) here.reads path);
+      later = λ w left. site_kept_since.later w (since w left);
+      sources = λ w k left reads path. site_kept_since.sources w k (since w left) reads path ∙ sym (site_kept_since.sources (site.world b.site) here.graph (since (site.world b.site) present_now) here.reads path);
       own = holds_now;
     }

@@ -30,6 +30,10 @@ pub end_more : (plan : Plan) (state : State) (events : List CoreEvent) (event : 
 end_more plan state [] event = refl
 end_more plan state (one ∷ events) event = end_more plan (after plan state one) events event
 
+pub end_both : (plan : Plan) (before more : List CoreEvent) (at : State) → end_of plan at (before ++ more) ≡ end_of plan (end_of plan at before) more
+end_both plan [] more at = refl
+end_both plan (event ∷ before) more at = end_both plan before more (after plan at event)
+
 pub run_more : (plan : Plan) (state : State) (events : List CoreEvent) (event : CoreEvent) → IsRun plan state events → IsEnabled plan (end_of plan state events) event → IsRun plan state (events ++ event ∷ [])
 run_more plan state [] event run enabled = (enabled, tt)
 run_more plan state (one ∷ events) event run enabled = (run.0, run_more plan (after plan state one) events event run.1 enabled)

@@ -1,9 +1,8 @@
-use Rattle.tup_law_board.proofs.Lasting.{image_stays}
+use Rattle.tup_law_board.proofs.Sites.{stays_beside}
 use Rattle.tup_law_board.proofs.laws.boards_keep_sources.Goals as goal
 
 pub returns : goal.returns
 returns g c = λ next language known board w graph tells sound is_graph kept since reads.
     let site_laws = g.met.S.Site in
-    let image = sound.images tells w since in
-    image_stays g.S.Site g.R.Runner board sound tells next language known kept is_graph (λ t u w within left. site_laws.earlier board.opening.site t u w tells within left)
-    (site_laws.present board.opening.site tells) image.0 w image.1 image.2 image.3 graph reads
+    stays_beside g.S.Site g.R.Runner board sound tells next language known kept is_graph (λ t u w within left. site_laws.earlier board.opening.site t u w tells within left)
+    (site_laws.present board.opening.site tells) w since graph reads

@@ -4,8 +4,8 @@ use Rattle.tup_core.specs.declared.plan.Plan.{Plan}
 use Rattle.tup_core.specs.Sound.{IsAcyclic}
 use Rattle.tup_board.specs.declared.answers.Drained.{Drained}
 use Rattle.tup_board.specs.Board.{state}
-use Rattle.tup_board.specs.Calls.{Drains, RanAll}
-use Rattle.tup_board.proofs.Draining.{builds_clean, drained_none, drained_there, goes_further, is_smaller, none_pending, over_there, plan_there, ran_as, run_cause, starts_there, stays_steady, steady_there}
+use Rattle.tup_board.specs.Calls.{Drains, RanAll, TakesFirst}
+use Rattle.tup_board.proofs.Draining.{builds_clean, drained_none, drained_there, goes_further, is_smaller, none_pending, order_as, over_there, plan_there, ran_as, run_cause, starts_there, stays_steady, steady_there}
 use Rattle.tup_board.proofs.board.Board.drain.Goals as goal
 
 pub rules-init : goal.rules-init
@@ -51,6 +51,12 @@ returns-in-Over-clause-ran g c = λ events adds tells.
     subst (λ (p : Plan). RanAll p events (g.R.Runner.ran c.args.runner.now) (g.R.Runner.ran c.rules.runner) c.drained.result) (sym c.requires.plan)
     (ran_as g.R.Runner.tells_ran c.args.self.now c.claim.new.self (g.R.Runner.ran c.args.runner.now) (g.R.Runner.ran c.rules.runner) (g.R.Runner.faults c.args.runner.now) (g.R.Runner.faults c.rules.runner)
     (drained_there g.S.Site g.R.Runner g.R.Runner.tells_ran c.args.self.now c.rules.self c.claim.new.self (g.R.Runner.ran c.args.runner.now) (g.R.Runner.ran c.rules.runner) (g.R.Runner.faults c.args.runner.now) (g.R.Runner.faults c.rules.runner) c.rules.invariant.0 c.claim.result c.claim.ensures.claims c.claim.ensures.rest c.in-Over.is) c.drained.result c.drained.ensures events adds tells)
+
+pub returns-in-Over-clause-order : goal.returns-in-Over-clause-order
+returns-in-Over-clause-order g c = λ events adds.
+    subst (λ (p : Plan). TakesFirst p (state c.args.self.now) events) (sym c.requires.plan)
+    (order_as g.R.Runner.tells_ran c.args.self.now c.claim.new.self (g.R.Runner.ran c.args.runner.now) (g.R.Runner.ran c.rules.runner) (g.R.Runner.faults c.args.runner.now) (g.R.Runner.faults c.rules.runner)
+    (drained_there g.S.Site g.R.Runner g.R.Runner.tells_ran c.args.self.now c.rules.self c.claim.new.self (g.R.Runner.ran c.args.runner.now) (g.R.Runner.ran c.rules.runner) (g.R.Runner.faults c.args.runner.now) (g.R.Runner.faults c.rules.runner) c.rules.invariant.0 c.claim.result c.claim.ensures.claims c.claim.ensures.rest c.in-Over.is) events adds)
 
 pub returns-in-Over-clause-cause : goal.returns-in-Over-clause-cause
 returns-in-Over-clause-cause g c =
