@@ -2,11 +2,10 @@
 //!
 //! The file of `data/` has rows, a call with the answer that is wanted each. Its head says what the calls and their
 //! arguments mean. A board stands over a site in memory that tells contracts nothing but its failures (`Quiet`); what a
-//! call of the board asks of its caller is tested before it (`apart`, `desk`). Where one seat alone works, the board stands
+//! call of the board asks of its caller is tested before it (`tup_apart`, `desk`). Where one seat alone works, the board stands
 //! over the site in memory itself, and all that is asked of its caller is proved (`opening`, `only`).
 #![tactic(auto)]
 
-mod apart;
 mod clean;
 mod crash;
 mod desk;

@@ -1,24 +1,20 @@
 //! Boards at their opening.
-ghost use Rattle.std.specs.Prelude.{◌≡◌, ◌↔◌, true, [], All, IfOk, IsTrue};
+ghost use Rattle.std.specs.Prelude.{◌≡◌, [], IfOk, IsTrue};
 ghost use Rattle.tup_scan.specs.Seen.{IsSeen};
-ghost use Rattle.tup_graph.specs.Graph.{is_flagged};
 ghost use Rattle.tup_stored_graph.specs.Held.{is_fresh, StandsFor};
 ghost use Rattle.tup_board.specs.Board.{plan_of as planned_at};
 ghost use Rattle.tup_board.specs.Outputs.{AreApart, IsPlanOf};
 ghost use Rattle.tup_board_rows.specs.Opening.{IsReady};
 
-use crate::apart::are_apart;
 use crate::desk::Desk;
 use crate::project::{Given, reach_at};
 use crate::quiet::Quiet;
 use crate::store::site_of;
 use std::alloc::Global;
+use tup_apart::plan_over;
 use tup_board::Board;
-use tup_closure::runs_are_of_rules;
 use tup_commit::note_scan;
 use tup_core::Plan;
-use tup_graph::Nodes;
-use tup_partial::{flags_are_of_rules, plan_of};
 use tup_path::Path;
 use tup_rows::{RowFault, Words};
 use tup_runner::Runner;
@@ -197,39 +193,19 @@ fn takes_note<S: Site>(alloc: Global, site: &mut S, graph: &mut Graph, seen: &Se
     ensures { IsTrue result → IsReady S.Site.own graph.new site.new }
 {
     match note_scan(alloc, graph, site, seen) {
-        Ok(()) => true,
+        Ok(()) => graph.fresh(),
         Err(_) => false,
     }
 }
 
-/// The plan that runs the flagged rules of a graph, if their outputs may be made.
+/// The plan that runs the flagged rules of a graph, if it may be run.
 fn tested(alloc: Global, graph: &Graph, keep_going: bool) -> Result<Plan, RowFault>
     requires { IsTrue (is_fresh graph.now) }
     ensures plan { IfOk result (IsPlanOf graph.now.nodes) }
     ensures apart { IfOk result (λ plan. AreApart plan graph.now.nodes) }
 {
-    let plan = plan_in(alloc, graph, keep_going)?;
-    if !are_apart(alloc, &plan, graph.nodes())? {
-        return Err(RowFault::OtherKind);
+    match plan_over(alloc, graph, keep_going)? {
+        Some(plan) => Ok(plan),
+        None => Err(RowFault::OtherKind),
     }
-    Ok(plan)
-}
-
-/// The plan that runs the flagged rules of a graph.
-fn plan_in(alloc: Global, graph: &Graph, keep_going: bool) -> Result<Plan, RowFault>
-    requires { IsTrue (is_fresh graph.now) }
-    ensures { IfOk result (IsPlanOf graph.now.nodes) }
-{
-    runs_are_of_rules();
-    flags_are_of_rules();
-    match plan_of(alloc, graph.indexed(), keep_going) {
-        Ok(plan) if are_flagged(graph.nodes(), plan.reach.as_slice()) => Ok(plan),
-        _ => Err(RowFault::OtherKind),
-    }
-}
-
-fn are_flagged(nodes: &Nodes, numbers: &[u32]) -> bool
-    ensures { IsTrue result ↔ All (λ number. is_flagged nodes.now number ≡ true) numbers.now }
-{
-    numbers.iter().all(|number| nodes.flagged(*number))
 }

@@ -1,8 +1,0 @@
-use Rattle.std.proofs.Common.{◌≡◌, map}
-use Rattle.std.specs.Map.Iter.{deref_pair}
-use Rattle.tup_path.specs.Name.{Names}
-use Rattle.tup_stamp.specs.declared.Stamp.{Stamp}
-use Rattle.tup_board_rows.proofs.apart.seen_in.Given as goal
-
-abbrev pub invariant-loop-path : goal.invariant-loop-path
-invariant-loop-path l = l.paths ≡ map (λ (file : Names × Stamp). file.0) (map deref_pair l.yielded)
