@@ -29,7 +29,7 @@ tup makes the files that the Tupfiles of this folder and of those below it ask f
   tup init        begin a project in this folder, once
   tup init --no-sync
                   begin one that is faster: its files are safe if tup is killed, but not if the power is cut
-  tup, tup upd    update: remove the files of vanished rules, run every rule behind those that it waits for
+  tup, tup upd    update: remove the files of vanished rules, run the rules that aren't up to date, and no others
   tup verify      compare the files with a clean build, and touch none
   tup demo        show an update of a small project in memory
   tup --proc P    update, each command run through the program P; also tup upd --proc P
@@ -37,8 +37,8 @@ tup makes the files that the Tupfiles of this folder and of those below it ask f
   tup --version   print the version
 
 Exit numbers: 0 done, 1 a command's fault, 2 usage, 3 no project here, or one already, 4 damaged store,
-5 fault of the Tupfiles, 7 the file tree or the store failed, 8 the runner failed, 9 the output failed,
-11 over a limit, 12 no memory, 13 the files differ from a clean build.
+5 fault of the Tupfiles, 6 a file was changed by hand and no rule makes it, 7 the file tree or the store failed,
+8 the runner failed, 9 the output failed, 11 over a limit, 12 no memory, 13 the files differ from a clean build.
 ";
 
 /// Where a program that runs commands finds and leaves its files.

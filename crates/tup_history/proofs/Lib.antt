@@ -1,4 +1,3 @@
-pub mod Built
 pub mod Turns
 pub mod Edits
 pub mod Sources

@@ -27,8 +27,7 @@ edit_keeps path content old new is (Some before) kept = λ owned all. behind_edi
 
 -- a larger promise
 run_on : (wanted : Wanted) (w : World) (end : End) (before : Option Kept) (P Q : Option Kept → Type 0) → ((later : Option Kept) → P later → Q later) → BehindRun wanted w end before P → BehindRun wanted w end before Q
-run_on (Ok (Upd program)) w end None P Q on p = on None p
-run_on (Ok (Upd program)) w end (Some before) P Q on p = (p.0, p.1, on _ p.2)
+run_on (Ok (Upd program)) w end before P Q on p = tt
 run_on (Ok Init) w end None P Q on p = λ done. on _ (p done)
 run_on (Ok Init) w end (Some before) P Q on p = on (Some before) p
 run_on (Ok Verify) w end before P Q on p = on before p
@@ -46,7 +45,7 @@ turn_keeps tells next (Deed (Edit path content)) end from to takes before kept =
 turn_keeps tells next (Deed (Crash choice)) end from to takes before kept = crash_keeps choice from.site to.site takes.ends.done before kept
 turn_keeps tells next (Run words stop_after) end from to takes before kept =
     let ran : BehindRun (order words) (world_in takes.begun) end before (IsKept takes.ended) =
-    run_keeps tells next (order words) end takes.status takes.begun takes.ended takes.answered takes.leaves takes.keeps.begins before
+    run_keeps (order words) end takes.status takes.begun takes.ended takes.answered takes.leaves takes.keeps.begins before
     (kept_still from.site takes.begun takes.begins.first takes.begins.changes takes.begins.world before kept) in
     subst (λ (w : World). BehindRun (order words) w end before (IsKept to.site)) takes.begins.world
     (run_on (order words) (world_in takes.begun) end before (IsKept takes.ended) (IsKept to.site)

@@ -1,7 +1,6 @@
 -- What a site told of once, it tells of still.
-use Rattle.std.proofs.Common.{◌≡◌, ℕ, ◌+◌, ◌≤◌, Bool, List, [], ◌∷◌, ◌++◌, length, take, Ok, Err, refl, sym, ap, subst, ◌∙◌, arith, length-append}
+use Rattle.std.proofs.Common.{◌≡◌, ℕ, ◌+◌, ◌≤◌, Bool, List, [], ◌∷◌, ◌++◌, length, take, refl, sym, ap, subst, ◌∙◌, arith, length-append}
 use Rattle.std.proofs.lemmas.List.{take-append-le, append-nil}
-use Rattle.tup_site.specs.Crash.{GoesOn}
 use Rattle.tup_site.specs.History.{at_first, after_all}
 use Rattle.tup_site.specs.Laws.{present_law}
 use Rattle.tup_site.specs.Memory.{world_in, first_of, changes_of, moment_of, left_since}
@@ -12,17 +11,13 @@ use Rattle.tup_site.specs.declared.change.Change.TheVariants.{Edited, Crashed}
 use Rattle.tup_site.specs.declared.choice.Deed.TheVariants.{Edit, Crash}
 use Rattle.tup_site.specs.declared.memory.MemSite.{MemSite}
 use Rattle.tup_runner.specs.Next.{Next}
-use Rattle.tup_update.specs.Images.{UpdateStep}
-use Rattle.tup_update.specs.Log.{OfRules}
-use Rattle.tup_top.specs.Order.{Wanted, order}
-use Rattle.tup_top.specs.declared.order.Order.TheVariants.{Init, Upd, Verify, Demo}
+use Rattle.tup_top.specs.Order.{Wanted, IsUpdate, order}
 use Rattle.tup_top.specs.declared.status.Status.{Status}
-use Rattle.tup_history.specs.History.{Standing, StandsAs, Takes, IsHistory, StillTells}
+use Rattle.tup_history.specs.History.{Standing, StandsAs, Takes, HasNoUpdate, IsHistory, StillTells}
 use Rattle.tup_history.specs.Run.{Leaves}
 use Rattle.tup_history.specs.declared.turn.End.{End}
 use Rattle.tup_history.specs.declared.turn.Turn.{Turn}
 use Rattle.tup_history.specs.declared.turn.Turn.TheVariants.{Deed, Run}
-use Rattle.tup_history.proofs.Runs.{came_so}
 
 -- what a crash since a moment may have left, it may still
 abbrev pub Goes : MemSite → MemSite → Type 0
@@ -53,41 +48,45 @@ more_goes old new first changes more = (
 pub still_goes : (old new : MemSite) → first_of new ≡ first_of old → changes_of new ≡ changes_of old → Goes old new
 still_goes old new first none = more_goes old new first [] (none ∙ sym (append-nil (changes_of old)))
 
-run_goes : (tells : Bool) (next : Next) (wanted : Wanted) (status : Status) (old new : MemSite) → Leaves tells next wanted old new status → Goes old new
-run_goes tells next (Ok (Upd program)) status old new leaves =
-    came_so (Goes old new) (OfRules (world_in old) (λ rules _. GoesOn moment_of left_since old new (UpdateStep tells next rules (world_in old))))
-    (λ stopped p. (p.2.later, p.2.kept)) status leaves.crash
-run_goes tells next (Ok Init) status old new leaves = let on = leaves.quiet (λ no. no) in (on.later, on.kept)
-run_goes tells next (Ok Verify) status old new leaves = let on = leaves.quiet (λ no. no) in (on.later, on.kept)
-run_goes tells next (Ok Demo) status old new leaves = let on = leaves.quiet (λ no. no) in (on.later, on.kept)
-run_goes tells next (Err place) status old new leaves = let on = leaves.quiet (λ no. no) in (on.later, on.kept)
+run_goes : (wanted : Wanted) (status : Status) (old new : MemSite) → (IsUpdate wanted → ⊥) → Leaves wanted old new status → Goes old new
+run_goes wanted status old new none leaves = let on = leaves.quiet none in (on.later, on.kept)
 
 module _ (tells : Bool) (next : Next) where
-  turn_goes : (turn : Turn) (end : End) (from to : Standing) → Takes tells next turn end from to → Goes from.site to.site
-  turn_goes (Deed (Edit path content)) end from to takes = more_goes from.site to.site takes.ends.done.beside.first (Edited path content ∷ []) takes.ends.done.noted
-  turn_goes (Deed (Crash choice)) end from to takes = more_goes from.site to.site takes.ends.done.first (Crashed choice ∷ []) takes.ends.done.noted
-  turn_goes (Run words stop_after) end from to takes =
+  -- a turn that is no update, and those behind it
+  turn_goes : (turn : Turn) (turns : List Turn) (end : End) (from to : Standing) → HasNoUpdate (turn ∷ turns) → Takes tells next turn end from to → Goes from.site to.site
+  turn_goes (Deed (Edit path content)) turns end from to none takes = more_goes from.site to.site takes.ends.done.beside.first (Edited path content ∷ []) takes.ends.done.noted
+  turn_goes (Deed (Crash choice)) turns end from to none takes = more_goes from.site to.site takes.ends.done.first (Crashed choice ∷ []) takes.ends.done.noted
+  turn_goes (Run words stop_after) turns end from to none takes =
       then_goes from.site takes.begun to.site (still_goes from.site takes.begun takes.begins.first takes.begins.changes)
-      (then_goes takes.begun takes.ended to.site (run_goes tells next (order words) takes.status takes.begun takes.ended takes.leaves) (still_goes takes.ended to.site takes.goes_on.first takes.goes_on.changes))
+      (then_goes takes.begun takes.ended to.site (run_goes (order words) takes.status takes.begun takes.ended none.0 takes.leaves) (still_goes takes.ended to.site takes.goes_on.first takes.goes_on.changes))
+
+  -- nor are those
+  none_behind : (turn : Turn) (turns : List Turn) → HasNoUpdate (turn ∷ turns) → HasNoUpdate turns
+  none_behind (Deed deed) turns none = none
+  none_behind (Run words stop_after) turns none = none.1
 
   -- an end tells the moment behind its turn
   its_moment : (turn : Turn) (end : End) (from to : Standing) → Takes tells next turn end from to → end.moment ≡ moment_of to.site
   its_moment (Deed deed) end from to takes = takes.ends.moment
   its_moment (Run words stop_after) end from to takes = takes.moment
 
-  goes_through : (turns : List Turn) (ends : List End) (from to : Standing) → IsHistory tells next turns ends from to → Goes from.site to.site
-  goes_through [] [] from to is = subst (λ (s : Standing). Goes from.site s.site) (sym is) (still_goes from.site from.site refl refl)
-  goes_through (turn ∷ turns) (end ∷ ends) from to (mid, takes, history) = then_goes from.site mid.site to.site (turn_goes turn end from mid takes) (goes_through turns ends mid to history)
-  goes_through [] (end ∷ ends) from to none = absurd none
-  goes_through (turn ∷ turns) [] from to none = absurd none
+  goes_through : (turns : List Turn) (ends : List End) (from to : Standing) → HasNoUpdate turns → IsHistory tells next turns ends from to → Goes from.site to.site
+  goes_through [] [] from to none is = subst (λ (s : Standing). Goes from.site s.site) (sym is) (still_goes from.site from.site refl refl)
+  goes_through (turn ∷ turns) (end ∷ ends) from to none (mid, takes, history) =
+      then_goes from.site mid.site to.site (turn_goes turn turns end from mid none takes) (goes_through turns ends mid to (none_behind turn turns none) history)
+  goes_through [] (end ∷ ends) from to none never = absurd never
+  goes_through (turn ∷ turns) [] from to none never = absurd never
 
   pub still_told : (turns : List Turn) (ends : List End) (from to : Standing) (history : IsHistory tells next turns ends from to) (site : MemSite) → Goes to.site site → StillTells tells next turns ends from to history site
   still_told [] [] from to is site goes = tt
-  still_told (turn ∷ turns) (end ∷ ends) from to (mid, takes, history) site goes =
-      let on = then_goes mid.site to.site site (goes_through turns ends mid to history) goes in
-      (subst (λ (t : ℕ). left_since site t (world_in mid.site)) (sym (its_moment turn end from mid takes)) (on.1 (moment_of mid.site) (world_in mid.site) (omega arith) (present_law mid.site)), still_told turns ends mid to history site goes)
-  still_told [] (end ∷ ends) from to none site goes = absurd none
-  still_told (turn ∷ turns) [] from to none site goes = absurd none
+  still_told (turn ∷ turns) (end ∷ ends) from to (mid, takes, history) site goes = (
+    λ none.
+        let on = then_goes mid.site to.site site (goes_through turns ends mid to none history) goes in
+        subst (λ (t : ℕ). left_since site t (world_in mid.site)) (sym (its_moment turn end from mid takes)) (on.1 (moment_of mid.site) (world_in mid.site) (omega arith) (present_law mid.site)),
+    still_told turns ends mid to history site goes,
+  )
+  still_told [] (end ∷ ends) from to never site goes = absurd never
+  still_told (turn ∷ turns) [] from to never site goes = absurd never
 
   -- also behind what left all as it was
   pub told_at_last : (turns : List Turn) (ends : List End) (from last to : Standing) (history : IsHistory tells next turns ends from last) → StandsAs last to → StillTells tells next turns ends from last history to.site

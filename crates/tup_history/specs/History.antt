@@ -52,7 +52,7 @@ pub record TakesRun (tells : Bool) (next : Next) (words : List Word) (stop_after
   pub status : Status
   pub begins : Lets (left_then stop_after (left_of from.site)) from.site begun
   pub keeps : Keeps tells next (order words) (world_in begun) (world_in ended) (counted begun from) (counted ended to) status end.ran
-  pub leaves : Leaves tells next (order words) begun ended status
+  pub leaves : Leaves (order words) begun ended status
   pub goes_on : Lets (left_behind stop_after (left_of ended)) ended to.site
   pub moment : end.moment ≡ moment_of to.site
   pub answered : end.status ≡ Some status
@@ -66,10 +66,18 @@ Takes tells next (Run words stop_after) end from to = TakesRun tells next words 
 abbrev pub IsHistory : Bool → Next → List Turn → List End → Standing → Standing → Type 0
 IsHistory tells next turns ends from to = Leads (Takes tells next) turns ends from to
 
--- A site still tells what was there behind each of these turns: a crash since the moment of the turn's end may have left it.
+-- none of these turns is an update
+abbrev pub HasNoUpdate : List Turn → Type 0
+HasNoUpdate [] = ⊤
+HasNoUpdate (Deed deed ∷ turns) = HasNoUpdate turns
+HasNoUpdate (Run words stop_after ∷ turns) = (IsUpdate (order words) → ⊥) × HasNoUpdate turns
+
+-- A site still tells what was there behind each of these turns behind which no update came: a crash since the moment of the
+-- turn's end may have left it.
 abbrev pub StillTells : (tells : Bool) (next : Next) (turns : List Turn) (ends : List End) (from to : Standing) → IsHistory tells next turns ends from to → MemSite → Type 0
 StillTells tells next [] [] from to is site = ⊤
-StillTells tells next (turn ∷ turns) (end ∷ ends) from to (mid, takes, history) site = left_since site end.moment (world_in mid.site) × StillTells tells next turns ends mid to history site
+StillTells tells next (turn ∷ turns) (end ∷ ends) from to (mid, takes, history) site =
+    (HasNoUpdate turns → left_since site end.moment (world_in mid.site)) × StillTells tells next turns ends mid to history site
 StillTells tells next [] (end ∷ ends) from to none site = ⊥
 StillTells tells next (turn ∷ turns) [] from to none site = ⊥
 
@@ -104,22 +112,7 @@ pub record AreLived (tells : Bool) (next : Next) (turns : List Turn) (ends : Lis
   pub stops : StopsThere turns ends last.site refused
   pub stands : StandsAs last to
 
--- ---- the headline
-
 -- a run answered that all was done
 abbrev pub AnswersDone : Option Status → Type 0
 AnswersDone None = ⊥
 AnswersDone (Some status) = SaysDone status
-
--- the turn is an update of which all was done
-abbrev pub IsDoneUpdate : Turn → End → Type 0
-IsDoneUpdate (Deed deed) end = ⊥
-IsDoneUpdate (Run words stop_after) end = IsUpdate (order words) × AnswersDone end.status
-
--- so is the last of these turns, each of which was carried out
-abbrev pub EndsDone : List Turn → List End → Type 0
-EndsDone [] ends = ⊥
-EndsDone (turn ∷ turns) [] = ⊥
-EndsDone (turn ∷ []) (end ∷ []) = IsDoneUpdate turn end
-EndsDone (turn ∷ []) (end ∷ other ∷ ends) = ⊥
-EndsDone (turn ∷ next ∷ turns) (end ∷ ends) = EndsDone (next ∷ turns) ends

@@ -1,15 +1,12 @@
 -- That a project stays kept, turn after turn. Own.
-use Rattle.std.specs.Prelude.{◌≡◌, ◌⊎◌, Bool, if◌then◌else◌, List, [], ◌∷◌, length, take, Option, None, Some, Ok}
+use Rattle.std.specs.Prelude.{⊤, Bool, if◌then◌else◌, List, [], ◌∷◌, length, take, Option, None, Some, Ok}
 use Rattle.tup_path.specs.Name.{Names, Content}
 use Rattle.tup_site.specs.Memory.{world_in}
 use Rattle.tup_site.specs.World.{World}
 use Rattle.tup_site.specs.declared.choice.Deed.TheVariants.{Edit, Crash}
 use Rattle.tup_site.specs.declared.memory.MemSite.{MemSite}
-use Rattle.tup_rule.specs.declared.rule.Rule.{Rule}
 use Rattle.tup_runner.specs.Next.{Next}
 use Rattle.tup_ledger.specs.Sources.{Kept}
-use Rattle.tup_update.specs.Images.{with_outputs}
-use Rattle.tup_update.specs.Sources.{IsAsked}
 use Rattle.tup_top.specs.Order.{Wanted, order}
 use Rattle.tup_top.specs.declared.order.Order.TheVariants.{Init, Upd}
 use Rattle.tup_history.specs.History.{Standing, StandsAs, IsHistory, AnswersDone}
@@ -26,19 +23,14 @@ abbrev pub BehindEdit : Names → Option Content → MemSite → Option Kept →
 BehindEdit path content site None promise = promise None
 BehindEdit path content site (Some kept) promise = (owned : Bool) → AllOwn path owned site → promise (Some (if owned then kept else with_source path content kept))
 
--- behind an update: the outputs of the rules that the sources ask for may be owned too; without a store it does nothing
-abbrev pub BehindUpdate : World → Option Kept → (Option Kept → Type 0) → Type 0
-BehindUpdate w None promise = promise None
-BehindUpdate w (Some kept) promise = (rules : List Rule) × ((rules ≡ []) ⊎ IsAsked w rules) × promise (Some (with_outputs rules kept))
-
 -- Behind a beginning: of the files that are there, where there was no store. Of one that couldn't be done then, nothing is said.
 abbrev pub BehindInit : World → End → Option Kept → (Option Kept → Type 0) → Type 0
 BehindInit w end None promise = AnswersDone end.status → promise (Some (all_sources w.tree))
 BehindInit w end (Some kept) promise = promise (Some kept)
 
--- behind a run of the program
+-- behind a run of the program: of an update nothing is said
 abbrev pub BehindRun : Wanted → World → End → Option Kept → (Option Kept → Type 0) → Type 0
-BehindRun (Ok (Upd program)) w end before promise = BehindUpdate w before promise
+BehindRun (Ok (Upd program)) w end before promise = ⊤
 BehindRun (Ok Init) w end before promise = BehindInit w end before promise
 BehindRun other w end before promise = promise before
 
@@ -50,7 +42,8 @@ Behind (Run words stop_after) end site before promise = BehindRun (order words) 
 
 -- ---- turn after turn
 
--- behind each turn the site is kept, and this is promised of what is kept behind the last
+-- behind each turn up to the first update the site is kept, and this is promised of what is kept behind the last, where none is an
+-- update
 abbrev pub StaysKept : (tells : Bool) (next : Next) (turns : List Turn) (ends : List End) (from to : Standing) → IsHistory tells next turns ends from to → Option Kept → (Option Kept → Type 0) → Type 0
 StaysKept tells next [] [] from to is before promise = promise before
 StaysKept tells next (turn ∷ turns) (end ∷ ends) from to (mid, takes, history) before promise =
@@ -58,7 +51,8 @@ StaysKept tells next (turn ∷ turns) (end ∷ ends) from to (mid, takes, histor
 StaysKept tells next [] (end ∷ ends) from to none before promise = ⊥
 StaysKept tells next (turn ∷ turns) [] from to none before promise = ⊥
 
--- The turns that have an end are a history, behind each of whose turns the site is kept, and so it is at the end.
+-- The turns that have an end are a history, behind each of whose turns the site is kept, and so it is at the end: up to the first
+-- update.
 pub record AreKept (tells : Bool) (next : Next) (turns : List Turn) (ends : List End) (from to : Standing) (before : Option Kept) : Type 0 where
   pub last : Standing
   pub history : IsHistory tells next (take (length ends) turns) ends from last

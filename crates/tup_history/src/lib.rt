@@ -2,9 +2,7 @@
 //!
 //! `history` carries out the turns over a site in memory. Its contract is that they are a history:
 //! from turn to turn the site goes on, by an edit, by a crash into a world that a crash then may
-//! leave, or by a run that keeps what the program promises of one. So whatever was edited, failed
-//! or crashed before, a run that is done leaves exactly the files of a clean build of the present
-//! sources.
+//! leave, or by a run that keeps what the program promises of one.
 #![tactic(auto)]
 
 mod deed;

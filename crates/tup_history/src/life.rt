@@ -1,11 +1,9 @@
 //! Turn after turn.
-ghost use Rattle.std.specs.Prelude.{◌≡◌, Option, IfOk, OnErr, IfErr, IsTrue};
-ghost use Rattle.tup_site.specs.Memory.{world_in};
+ghost use Rattle.std.specs.Prelude.{◌≡◌, Option, IfOk, OnErr, IfErr};
 ghost use Rattle.tup_ledger.specs.Sources.{Kept};
 ghost use Rattle.tup_top.specs.Crew.{IsCrew};
 ghost use Rattle.tup_history.specs.Deed.{IsUntouched, Refuses};
-ghost use Rattle.tup_history.specs.Run.{IsCleanBuild};
-ghost use Rattle.tup_history.specs.History.{standing, EndsDeed, TakesRun, Takes, RefusesTurn, StandsAs, AreLived, EndsDone};
+ghost use Rattle.tup_history.specs.History.{standing, EndsDeed, TakesRun, Takes, RefusesTurn, StandsAs, AreLived};
 ghost use Rattle.tup_history.specs.Kept.{IsKept};
 ghost use Rattle.tup_history.specs.Stays.{AreKept};
 
@@ -43,11 +41,9 @@ pub fn history<R: Runner, K: Sink>(
     out: &mut K,
 ) -> Lived<R>
     requires crew { IsCrew crew.items }
-    // After any turns: an update that is done leaves exactly the files of a clean build.
-    ensures clean_build { IsTrue R.tells → EndsDone turns.items result.ends
-        → IsCleanBuild R.next (world_in result.site) }
-    // Whatever a crash leaves behind any of them has the sources of then, and owns nothing but what
-    // may be owned, where that holds of the site before them, or where nothing has begun there.
+    // Whatever a crash leaves behind any of them up to the first update has the sources of then, and
+    // owns nothing but what may be owned, where that holds of the site before them, or where nothing
+    // has begun there.
     ensures kept { let stands = standing R.faults K.faults in (before : Option Kept)
         → IsKept site before → AreKept R.tells R.next turns.items result.ends
         (stands site crew.items out.old) (stands result.site result.crew.items out.new) before }

@@ -25,7 +25,7 @@ pub(crate) fn run<R: Runner, K: Sink>(
         let now = counted result.site result.crew.items out.new in
         Keeps R.tells R.next (order words.now) (world_in site) (world_in result.site) before now
         result.status result.ran }
-    ensures leaves { Leaves R.tells R.next (order words.now) site result.site result.status }
+    ensures leaves { Leaves (order words.now) site result.site result.status }
     ensures crew { IsCrew result.crew.items }
 {
     tup(alloc, words, site, crew, out)

@@ -1,5 +1,6 @@
 -- How a beginning ends that came out so: what is promised of it holds of the status that tells of it.
 use Rattle.std.proofs.Common.{◌≡◌, ◌⊎◌, ⊎_elim, inl, inr, ℕ, List, [], ◌∷◌, ◌++◌, Result, Ok, Err, refl, sym, subst, ◌∙◌, arith}
+use Rattle.tup_path.specs.Count.{Rose}
 use Rattle.tup_site.specs.World.{World}
 use Rattle.tup_table.specs.Store.{header}
 use Rattle.tup_table.specs.declared.fault.TableFault.{TableFault}
@@ -22,7 +23,7 @@ use Rattle.tup_top.specs.Printed.{IsDone, Ends, Prints, PrintsBegun}
 use Rattle.tup_top.specs.Promise.{Counts, HasBegunCause, NothingFailed, IsDoneOrMemory}
 use Rattle.tup_top.specs.Status.{status_of_begun, IfBegan}
 use Rattle.tup_top.specs.declared.status.Status.{Status}
-use Rattle.tup_top.specs.declared.status.Status.TheVariants.{Done, Command, IllegalRead, IllegalWrite, Unwritten, TooManyReads, Usage, NotInit, AlreadyInit, BadStore, Parse, CircularDirs, CircularCommands, NoSuchGroup, SiteFault, RunFault, SinkFault, Limit, Memory, Differs}
+use Rattle.tup_top.specs.declared.status.Status.TheVariants.{Done, Command, IllegalRead, IllegalWrite, Unwritten, TooManyReads, Usage, NotInit, AlreadyInit, BadStore, Parse, CircularDirs, CircularCommands, NoSuchGroup, UserFile, SiteFault, RunFault, SinkFault, Limit, Memory, Differs}
 use Rattle.tup_top.proofs.Success.{not_rose}
 
 -- what is promised of how a project began is promised of the status that tells of it
@@ -55,22 +56,31 @@ begun_answered P before now begun status answer is (inr (inr (e, done, rose))) p
 
 -- ---- counts
 
+-- the site failed at most
+pub failed : (before now : ℕ) (begun : Result Begun GraphFault) → CountsFaults before now begun → (now ≡ before) ⊎ Rose before now
+failed before now (Ok value) counts = inl (counts.steady (λ is. cc))
+failed before now (Err graph.NotThere) counts = inl (counts.steady (λ is. cc))
+failed before now (Err (graph.BadStore offset)) counts = inl (counts.steady (λ is. cc))
+failed before now (Err graph.Site) counts = inr (counts.fault refl)
+failed before now (Err graph.Full) counts = inl (counts.steady (λ is. cc))
+failed before now (Err graph.Memory) counts = inl (counts.steady (λ is. cc))
+
 module _ (before now heard hears : ℕ) where
   counted : (begun : Result Begun GraphFault) → (IsDone (status_of_begun begun) → hears ≡ heard) → CountsFaults before now begun → HasBegunCause before now heard hears (status_of_begun begun)
   counted (Ok Made) sink counts = (counts.steady (λ is. cc), sink tt)
   counted (Ok WasThere) sink counts = counts.steady (λ is. cc)
-  counted (Err graph.NotThere) sink counts = tt
+  counted (Err graph.NotThere) sink counts = inl (counts.steady (λ is. cc))
   counted (Err (graph.BadStore offset)) sink counts = counts.steady (λ is. cc)
   counted (Err graph.Site) sink counts = counts.fault refl
-  counted (Err graph.Full) sink counts = tt
-  counted (Err graph.Memory) sink counts = tt
+  counted (Err graph.Full) sink counts = inl (counts.steady (λ is. cc))
+  counted (Err graph.Memory) sink counts = inl (counts.steady (λ is. cc))
 
   -- what is answered has the causes of how the project began
   pub begun_counts : (begun : Result Begun GraphFault) (status answer : Status) → status ≡ status_of_begun begun → Ends heard hears status answer → (IsDone answer → hears ≡ heard) → CountsFaults before now begun →
       HasBegunCause before now heard hears answer
   begun_counts begun status answer is (inl e) sink counts =
       subst (HasBegunCause before now heard hears) (sym (e ∙ is)) (counted begun (λ done. sink (subst IsDone (sym (e ∙ is)) done)) counts)
-  begun_counts begun status answer is (inr (inl e)) sink counts = subst (HasBegunCause before now heard hears) (sym e) tt
+  begun_counts begun status answer is (inr (inl e)) sink counts = subst (HasBegunCause before now heard hears) (sym e) (failed before now begun counts)
   begun_counts begun status answer is (inr (inr (e, done, rose))) sink counts =
       let made = done_is_made begun (subst IsDone is done) in
       let steady : now ≡ before = counts.steady (λ other. absurd (cc (made, other))) in
@@ -128,6 +138,7 @@ initializes_so old new before now (Parse fault) begins counted empty fine = absu
 initializes_so old new before now (CircularDirs cycle) begins counted empty fine = absurd counted
 initializes_so old new before now (CircularCommands cycle) begins counted empty fine = absurd counted
 initializes_so old new before now (NoSuchGroup group) begins counted empty fine = absurd counted
+initializes_so old new before now (UserFile path) begins counted empty fine = absurd counted
 initializes_so old new before now SiteFault begins counted empty fine = not_rose before.site now.site fine.site fine.site_counts counted
 initializes_so old new before now RunFault begins counted empty fine = absurd counted
 initializes_so old new before now SinkFault begins counted empty fine = not_rose before.sink now.sink fine.sink fine.sink_counts counted.1

@@ -1,5 +1,5 @@
 -- A crew whose first runner did all: what one runner counts and ran is what the crew does.
-use Rattle.std.proofs.Common.{◌≡◌, ℕ, zero, suc, ◌<◌, List, [], ◌∷◌, drop, length, map, get_or, Option, Some, Result, Err, inl, refl, ap, subst, arith}
+use Rattle.std.proofs.Common.{◌≡◌, ℕ, zero, suc, ◌<◌, List, [], ◌∷◌, drop, length, map, get_or, Option, Some, Result, Err, inl, inr, refl, ap, subst, arith}
 use Rattle.std.specs.Prelude.{slice_get, slice_set}
 use Rattle.std.specs.Result.{result_err}
 use Rattle.tup_path.specs.Name.{Names}
@@ -7,15 +7,15 @@ use Rattle.tup_rule.specs.declared.rule.RuleName.{RuleName}
 use Rattle.tup_runner.specs.Next.{Next}
 use Rattle.tup_site.specs.World.{World}
 use Rattle.tup_site.specs.declared.fault.SiteFailed.TheVariants.{Memory as NoMemory}
-use Rattle.tup_update.specs.Compared.{RunsToCompare}
-use Rattle.tup_update.specs.Ran.{RunsThese}
-use Rattle.tup_update.specs.declared.compare.Compared.{Compared}
-use Rattle.tup_update.specs.declared.stop.Stop.{Stop}
-use Rattle.tup_update.specs.declared.stop.Stop.TheVariants.{Outside}
+use Rattle.tup_compare.specs.Compared.{RunsToCompare}
+use Rattle.tup_promise.specs.Ran.{RunsThese}
+use Rattle.tup_compare.specs.declared.compare.Compared.{Compared}
+use Rattle.tup_promise.specs.declared.stop.Stop.{Stop}
+use Rattle.tup_promise.specs.declared.stop.Stop.TheVariants.{Outside}
 use Rattle.tup_top.specs.Crew.{OneRose, CrewRuns, CrewCompares}
-use Rattle.tup_top.specs.Promise.{Counts, AreSteady, HasCountedCause, HasComparedCause}
+use Rattle.tup_top.specs.Promise.{Counts, AreSteady, OneFailedAtMost, HasCountedCause, HasComparedCause}
 use Rattle.tup_top.specs.declared.status.Status.{Status}
-use Rattle.tup_top.specs.declared.status.Status.TheVariants.{Done, Command, IllegalRead, IllegalWrite, Unwritten, TooManyReads, Usage, NotInit, AlreadyInit, BadStore, Parse, CircularDirs, CircularCommands, NoSuchGroup, SiteFault, RunFault, SinkFault, Limit, Memory, Differs}
+use Rattle.tup_top.specs.declared.status.Status.TheVariants.{Done, Command, IllegalRead, IllegalWrite, Unwritten, TooManyReads, Usage, NotInit, AlreadyInit, BadStore, Parse, CircularDirs, CircularCommands, NoSuchGroup, UserFile, SiteFault, RunFault, SinkFault, Limit, Memory, Differs}
 use Rattle.tup_top.specs.Status.{IfCame, IfCompared}
 use Rattle.tup_top.proofs.Causes.{of_one, came_on}
 use Rattle.tup_top.proofs.Verified.{compared_on}
@@ -41,6 +41,11 @@ module _ (site_before site_now run_before run_now sink_before sink_now : ℕ) (o
   steady : AreSteady (of_one site_before run_before sink_before) (of_one site_now run_now sink_now) → AreSteady crew_before crew_now
   steady (site, run) = (site, same_runners run)
 
+  failed_once : OneFailedAtMost (of_one site_before run_before sink_before) (of_one site_now run_now sink_now) → OneFailedAtMost crew_before crew_now
+  failed_once (inl same) = inl (steady same)
+  failed_once (inr (inl failed)) = inr (inl (failed.0, same_runners failed.1))
+  failed_once (inr (inr failed)) = inr (inr (failed.0, one_of_more run_before run_now others failed.1))
+
   -- the causes of one runner are those of the crew
   causes_of_crew : (status : Status) → HasCountedCause (of_one site_before run_before sink_before) (of_one site_now run_now sink_now) status → HasCountedCause crew_before crew_now status
   causes_of_crew (Done read ran removed) cause = (steady cause.0, cause.1)
@@ -57,11 +62,12 @@ module _ (site_before site_now run_before run_now sink_before sink_now : ℕ) (o
   causes_of_crew (CircularDirs cycle) cause = steady cause
   causes_of_crew (CircularCommands cycle) cause = steady cause
   causes_of_crew (NoSuchGroup group) cause = steady cause
+  causes_of_crew (UserFile path) cause = steady cause
   causes_of_crew SiteFault cause = (cause.0, same_runners cause.1)
   causes_of_crew RunFault cause = (cause.0, one_of_more run_before run_now others cause.1)
   causes_of_crew SinkFault cause = (steady cause.0, cause.1)
   causes_of_crew (Limit what number) cause = (steady cause.0, cause.1)
-  causes_of_crew Memory cause = tt
+  causes_of_crew Memory cause = failed_once cause
   causes_of_crew (Differs path) cause = cause
 
   -- those of a comparison too
@@ -81,6 +87,7 @@ module _ (site_before site_now run_before run_now sink_before sink_now : ℕ) (o
   compared_of_crew (CircularDirs cycle) cause = causes_of_crew (CircularDirs cycle) cause
   compared_of_crew (CircularCommands cycle) cause = causes_of_crew (CircularCommands cycle) cause
   compared_of_crew (NoSuchGroup group) cause = causes_of_crew (NoSuchGroup group) cause
+  compared_of_crew (UserFile path) cause = causes_of_crew (UserFile path) cause
   compared_of_crew SiteFault cause = causes_of_crew SiteFault cause
   compared_of_crew RunFault cause = causes_of_crew RunFault cause
   compared_of_crew SinkFault cause = causes_of_crew SinkFault cause

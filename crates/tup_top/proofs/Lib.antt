@@ -6,6 +6,4 @@ pub mod Verified
 pub mod Crewed
 pub mod Begun
 pub mod Shown
-pub mod Makers
-pub mod Room
 pub mod Demo

@@ -3,7 +3,6 @@ use Rattle.std.proofs.Common.{◌≡◌, inl, inr, ℕ, true, List, [], Err, sym
 use Rattle.tup_site.specs.declared.fault.SiteFailed.TheVariants.{Memory as NoMemory}
 use Rattle.tup_graph.specs.declared.fault.GraphFault.{GraphFault}
 use Rattle.tup_graph.specs.declared.fault.GraphFault.TheVariants as graph
-use Rattle.tup_mini.specs.Means.{mini_next}
 use Rattle.tup_top.specs.Lines.{last_line}
 use Rattle.tup_top.specs.Printed.{Ends, Prints, PrintsDemo, demo_world}
 use Rattle.tup_top.specs.Promise.{HasDemoCause}
@@ -31,8 +30,9 @@ module _ (before now : ℕ) (fault : GraphFault) (status answer : Status) (memor
   pub unshown_prints : (held grown : List ℕ) → Prints status (last_line status) before now held grown answer → PrintsDemo before now held grown answer
   unshown_prints held grown prints = (
     [],
+    demo_world,
     record {
-      told = told_nothing true true mini_next demo_world NoMemory;
+      told = told_nothing true demo_world NoMemory;
       ends = ends_so;
       prints = subst (λ (s : Status). Prints s (last_line s) before now held grown answer) it_is prints;
     },

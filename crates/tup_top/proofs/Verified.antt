@@ -5,21 +5,21 @@ use Rattle.tup_path.specs.Name.{Names}
 use Rattle.tup_site.specs.World.{World}
 use Rattle.tup_site.specs.declared.fault.SiteFailed.TheVariants.{Memory as NoMemory}
 use Rattle.tup_runner.specs.Next.{Next}
-use Rattle.tup_update.specs.Compared.{HasCompared, RunsToCompare}
-use Rattle.tup_update.specs.Outcome.{HasRunCause, HasCountedCause as StopHasCountedCause}
-use Rattle.tup_update.specs.declared.compare.Compared.{Compared}
-use Rattle.tup_update.specs.declared.compare.Compared.TheVariants as compared
-use Rattle.tup_update.specs.declared.stop.Stop.{Stop}
-use Rattle.tup_update.specs.declared.stop.Stop.TheVariants.{NoStore, BadStore as StoreDamaged, Sources, Bad, Run, Full, Outside}
-use Rattle.tup_update.specs.declared.update.Log.{Log}
-use Rattle.tup_update.proofs.Comparing.{all_is_front}
+use Rattle.tup_compare.specs.Compared.{HasCompared, RunsToCompare}
+use Rattle.tup_promise.specs.Cause.{HasRunCause, HasCountedCause as StopHasCountedCause}
+use Rattle.tup_compare.specs.declared.compare.Compared.{Compared}
+use Rattle.tup_compare.specs.declared.compare.Compared.TheVariants as compared
+use Rattle.tup_promise.specs.declared.stop.Stop.{Stop}
+use Rattle.tup_promise.specs.declared.stop.Stop.TheVariants.{NoStore, BadStore as StoreDamaged, Sources, UserFile as IsUsers, Bad, Run, Full, Outside}
+use Rattle.tup_promise.specs.declared.log.Log.{Log}
+use Rattle.tup_compare.proofs.Comparing.{all_is_front}
 use Rattle.tup_top.specs.Lines.{compared_line}
 use Rattle.tup_top.specs.Printed.{IsDone, Ends, Prints, PrintsComparison}
-use Rattle.tup_top.specs.Promise.{Counts, HasCountedCause, HasComparedCause}
+use Rattle.tup_top.specs.Promise.{Counts, OneFailedAtMost, HasCountedCause, HasComparedCause}
 use Rattle.tup_top.specs.Status.{status_of_stop, status_of_compared, IfCame, IfCompared, of_stop}
 use Rattle.tup_top.specs.declared.status.Status.{Status}
-use Rattle.tup_top.specs.declared.status.Status.TheVariants.{Done, Command, IllegalRead, IllegalWrite, Unwritten, TooManyReads, Usage, NotInit, AlreadyInit, BadStore, Parse, CircularDirs, CircularCommands, NoSuchGroup, SiteFault, RunFault, SinkFault, Limit, Memory, Differs}
-use Rattle.tup_top.proofs.Causes.{came, came_on, done_is_none, of_one, steady, counted_of_stop}
+use Rattle.tup_top.specs.declared.status.Status.TheVariants.{Done, Command, IllegalRead, IllegalWrite, Unwritten, TooManyReads, Usage, NotInit, AlreadyInit, BadStore, Parse, CircularDirs, CircularCommands, NoSuchGroup, UserFile, SiteFault, RunFault, SinkFault, Limit, Memory, Differs}
+use Rattle.tup_top.proofs.Causes.{came, came_on, done_is_none, failed_once, of_one, steady, counted_of_stop}
 
 -- the log of nothing
 no_log : Log
@@ -41,6 +41,7 @@ same_came P (Parse fault) p = p
 same_came P (CircularDirs cycle) p = p
 same_came P (CircularCommands cycle) p = p
 same_came P (NoSuchGroup group) p = p
+same_came P (UserFile path) p = p
 same_came P SiteFault p = p
 same_came P RunFault p = p
 same_came P SinkFault p = p
@@ -65,6 +66,7 @@ compared_on P Q on (Parse fault) p = came_on (λ stopped. P (of_stop stopped)) (
 compared_on P Q on (CircularDirs cycle) p = came_on (λ stopped. P (of_stop stopped)) (λ stopped. Q (of_stop stopped)) (λ stopped. on (of_stop stopped)) (CircularDirs cycle) p
 compared_on P Q on (CircularCommands cycle) p = came_on (λ stopped. P (of_stop stopped)) (λ stopped. Q (of_stop stopped)) (λ stopped. on (of_stop stopped)) (CircularCommands cycle) p
 compared_on P Q on (NoSuchGroup group) p = came_on (λ stopped. P (of_stop stopped)) (λ stopped. Q (of_stop stopped)) (λ stopped. on (of_stop stopped)) (NoSuchGroup group) p
+compared_on P Q on (UserFile path) p = came_on (λ stopped. P (of_stop stopped)) (λ stopped. Q (of_stop stopped)) (λ stopped. on (of_stop stopped)) (UserFile path) p
 compared_on P Q on SiteFault p = came_on (λ stopped. P (of_stop stopped)) (λ stopped. Q (of_stop stopped)) (λ stopped. on (of_stop stopped)) SiteFault p
 compared_on P Q on RunFault p = came_on (λ stopped. P (of_stop stopped)) (λ stopped. Q (of_stop stopped)) (λ stopped. on (of_stop stopped)) RunFault p
 compared_on P Q on SinkFault p = came_on (λ stopped. P (of_stop stopped)) (λ stopped. Q (of_stop stopped)) (λ stopped. on (of_stop stopped)) SinkFault p
@@ -100,6 +102,7 @@ untold_compared next w old new None runs = inr (record { held = runs.held; shows
 untold_compared next w old new (Some NoStore) same = inl same
 untold_compared next w old new (Some (StoreDamaged offset)) same = inl same
 untold_compared next w old new (Some (Sources fault)) same = inl same
+untold_compared next w old new (Some (IsUsers path written found)) runs = absurd runs
 untold_compared next w old new (Some (Bad name verdict)) runs = inr (record { held = runs.held; shows = runs.shows; rules = runs.rules; asked = runs.asked; ran = all_is_front _ old new runs.ran })
 untold_compared next w old new (Some Run) runs = inr (record { held = runs.held; shows = runs.shows; rules = runs.rules; asked = runs.asked; ran = runs.ran })
 untold_compared next w old new (Some Full) runs = absurd runs
@@ -124,6 +127,7 @@ cause_of_compared before now (Parse fault) cause = cause
 cause_of_compared before now (CircularDirs cycle) cause = cause
 cause_of_compared before now (CircularCommands cycle) cause = cause
 cause_of_compared before now (NoSuchGroup group) cause = cause
+cause_of_compared before now (UserFile path) cause = cause
 cause_of_compared before now SiteFault cause = cause
 cause_of_compared before now RunFault cause = cause
 cause_of_compared before now SinkFault cause = cause
@@ -145,11 +149,15 @@ module _ (site_before site_now run_before run_now sink_before sink_now : ℕ) wh
   counted (Err stop) sink cause run =
       cause_of_compared counts_before counts_now (status_of_stop stop) (counted_of_stop site_before site_now run_before run_now sink_before sink_now no_log (Some stop) sink cause run)
 
+  pub failed : (result : Result Compared Stop) → StopHasCountedCause site_before site_now (result_err result) → HasRunCause run_before run_now (result_err result) → OneFailedAtMost counts_before counts_now
+  failed (Ok compared) cause run = inl (steady site_before site_now run_before run_now sink_before sink_now cause run)
+  failed (Err stop) cause run = failed_once site_before site_now run_before run_now sink_before sink_now (Some stop) cause run
+
   pub compared_counts : (result : Result Compared Stop) (status answer : Status) → status ≡ status_of_compared result → Ends sink_before sink_now status answer → (IsDone answer → sink_now ≡ sink_before) →
       StopHasCountedCause site_before site_now (result_err result) → HasRunCause run_before run_now (result_err result) → HasComparedCause counts_before counts_now answer
   compared_counts result status answer is (inl e) sink cause run =
       subst (HasComparedCause counts_before counts_now) (sym (e ∙ is)) (counted result (λ done. sink (subst IsDone (sym (e ∙ is)) done)) cause run)
-  compared_counts result status answer is (inr (inl e)) sink cause run = subst (HasComparedCause counts_before counts_now) (sym e) tt
+  compared_counts result status answer is (inr (inl e)) sink cause run = subst (HasComparedCause counts_before counts_now) (sym e) (failed result cause run)
   compared_counts result status answer is (inr (inr (e, done, rose))) sink cause run =
       let same = done_is_same result (subst IsDone is done) in
       subst (HasComparedCause counts_before counts_now) (sym e) (

@@ -5,18 +5,15 @@ use Rattle.tup_path.specs.Name.{Names}
 use Rattle.tup_path.specs.Order.{same_path}
 use Rattle.tup_path.specs.Show.{show}
 use Rattle.tup_rule.specs.declared.draft.GroupRef.{GroupRef}
-use Rattle.tup_rule.specs.declared.rule.Rule.{Rule}
 use Rattle.tup_rule.specs.declared.rule.RuleName.{RuleName}
-use Rattle.tup_rule.specs.Rule.{label_of}
-use Rattle.tup_access.specs.declared.verdict.Verdict.{Verdict}
 use Rattle.tup_lex.specs.ParseKind.{kind_text}
 use Rattle.tup_clean.specs.Clean.{is_good}
-use Rattle.tup_clean.specs.Taken.{Taken}
 use Rattle.tup_query.specs.declared.fault.ParseFault.{ParseFault}
-use Rattle.tup_update.specs.Compared.{first_of}
-use Rattle.tup_update.specs.declared.update.Log.{Log}
+use Rattle.tup_compare.specs.Compared.{first_of}
+use Rattle.tup_promise.specs.declared.log.EndedRule.{EndedRule}
+use Rattle.tup_promise.specs.declared.log.Log.{Log}
 use Rattle.tup_top.specs.declared.status.Status.{Status}
-use Rattle.tup_top.specs.declared.status.Status.TheVariants.{Done, Command, IllegalRead, IllegalWrite, Unwritten, TooManyReads, Usage, NotInit, AlreadyInit, BadStore, Parse, CircularDirs, CircularCommands, NoSuchGroup, SiteFault, RunFault, SinkFault, Limit, Memory, Differs}
+use Rattle.tup_top.specs.declared.status.Status.TheVariants.{Done, Command, IllegalRead, IllegalWrite, Unwritten, TooManyReads, Usage, NotInit, AlreadyInit, BadStore, Parse, CircularDirs, CircularCommands, NoSuchGroup, UserFile, SiteFault, RunFault, SinkFault, Limit, Memory, Differs}
 use Rattle.tup_top.specs.declared.status.What.{What}
 use Rattle.tup_top.specs.declared.status.What.TheVariants.{Files, FileSize, Commands, Links, StoreSize}
 
@@ -28,14 +25,10 @@ read_line dir = codes "read " ++ (show dir ++ 10 ∷ [])
 abbrev pub removed_line : Names → List ℕ
 removed_line path = codes "remove " ++ (show path ++ 10 ∷ [])
 
--- what became of a rule, `DIR: LABEL` behind it
-abbrev pub verdict_line : Rule → Verdict → List ℕ
-verdict_line rule verdict =
-    (if is_good (Some verdict) then codes "run " else codes "bad ") ++ (show rule.dir ++ (codes ": " ++ (label_of rule ++ 10 ∷ [])))
-
--- so of one that was taken
-abbrev pub ended_line : List Rule → Taken → List ℕ
-ended_line rules one = elim (slice_get rules one.0) [ Some rule ↦ verdict_line rule one.1 | None ↦ [] ]
+-- what became of a rule that ended, `DIR: LABEL` behind it
+abbrev pub ended_line : EndedRule → List ℕ
+ended_line ended =
+    (if is_good (Some ended.verdict) then codes "run " else codes "bad ") ++ (show ended.rule.dir ++ (codes ": " ++ (ended.label ++ 10 ∷ [])))
 
 -- what has a limit
 abbrev pub what_text : What → List ℕ
@@ -109,6 +102,7 @@ status_text (Parse fault) = parse_fault fault
 status_text (CircularDirs cycle) = codes "fault: directories wait for each other: " ++ folders_circle cycle
 status_text (CircularCommands cycle) = codes "fault: commands wait for each other: " ++ rules_circle cycle
 status_text (NoSuchGroup group) = codes "fault: no rule gives to " ++ group_text group
+status_text (UserFile path) = codes "fault: " ++ (show path ++ codes " was changed by hand and no rule makes it")
 status_text SiteFault = codes "fault: the file tree or the store failed"
 status_text RunFault = codes "fault: the runner failed"
 status_text SinkFault = codes "fault: the output failed"
@@ -130,7 +124,7 @@ abbrev pub compared_line : Status → List ℕ
 compared_line (Done read ran removed) = codes "same" ++ 10 ∷ []
 compared_line other = last_line other
 
--- all lines of an update with these rules and this log
-abbrev pub lines : List Rule → Log → Status → List ℕ
-lines rules log status =
-    flat_map read_line log.read ++ (flat_map removed_line log.removed ++ (flat_map (ended_line rules) log.ended ++ last_line status))
+-- all lines of an update with this log
+abbrev pub lines : Log → Status → List ℕ
+lines log status =
+    flat_map read_line log.read ++ (flat_map removed_line log.removed ++ (flat_map ended_line log.ended ++ last_line status))

@@ -1,30 +1,30 @@
--- What the program promises of one call, each promise a word. What it says of an update is what tup_update says, of what
--- the status tells that the update came to.
+-- What the program promises of one call, each promise a word. What it says of an update it says of what the status tells that
+-- the update came to.
 use Rattle.std.specs.Prelude.{◌≡◌, ◌⊎◌, ◌<◌, ◌≤◌, ⊤, ℕ, ◌-◌, ◌^◌, List, [], length, map, slice_get, Option, None, Some, IsTrue, OnOk, Result, Ok, Err}
 use Rattle.std.specs.FinMap as finite
 use Rattle.tup_path.specs.Count.{Rose}
 use Rattle.tup_path.specs.Name.{Names, Content}
 use Rattle.tup_site.specs.Crash.{PinsStore}
 use Rattle.tup_site.specs.World.{World}
-use Rattle.tup_rule.specs.declared.rule.Rule.{Rule}
-use Rattle.tup_runner.specs.Next.{Next}
-use Rattle.tup_clean.specs.Clean.{succeeds}
+use Rattle.tup_site.specs.declared.fault.SiteFailed.TheVariants.{Memory as NoMemory}
+use Rattle.tup_rule.specs.declared.rule.RuleName.{RuleName}
 use Rattle.tup_graph.specs.declared.fault.GraphFault.{GraphFault}
 use Rattle.tup_ledger.specs.Begin.{BeginStep}
 use Rattle.tup_ledger.specs.declared.beginning.Begun.{Begun}
-use Rattle.tup_update.specs.Holding.{Holding, HoldsOn, OfHeld, Shows}
-use Rattle.tup_update.specs.Log.{whole_log}
-use Rattle.tup_update.specs.Outcome.{HasNoRoom}
-use Rattle.tup_update.specs.Sources.{IsAsked, IsRefused, build}
-use Rattle.tup_update.specs.declared.compare.Compared.{Compared}
-use Rattle.tup_update.specs.declared.fault.SourcesFault.{SourcesFault}
-use Rattle.tup_update.specs.declared.stop.Stop.{Stop}
-use Rattle.tup_top.specs.Status.{status_of, most, IfCame, IfCompared, IfBegan}
+use Rattle.tup_compare.specs.Holding.{Holding, HoldsOn, Shows}
+use Rattle.tup_compare.specs.Sources.{IsRefused}
+use Rattle.tup_compare.specs.declared.compare.Compared.{Compared}
+use Rattle.tup_promise.specs.declared.fault.SourcesFault.{SourcesFault}
+use Rattle.tup_promise.specs.Unopened.{Unopened}
+use Rattle.tup_promise.specs.declared.log.Log.{Log}
+use Rattle.tup_promise.specs.declared.stop.Stop.{Stop}
+use Rattle.tup_promise.specs.declared.stop.Stop.TheVariants.{Outside}
+use Rattle.tup_top.specs.Status.{most, IfCame, IfCompared, IfBegan}
 use Rattle.tup_top.specs.Order.{Wanted, IsUpdate, IsVerify, IsInit}
 use Rattle.tup_top.specs.Crew.{OneRose}
 use Rattle.tup_top.specs.declared.order.Order.TheVariants.{Init, Upd, Verify, Demo}
 use Rattle.tup_top.specs.declared.status.Status.{Status}
-use Rattle.tup_top.specs.declared.status.Status.TheVariants.{Done, Command, IllegalRead, IllegalWrite, Unwritten, TooManyReads, Usage, AlreadyInit, BadStore, SiteFault, RunFault, SinkFault, Limit, Memory, Differs}
+use Rattle.tup_top.specs.declared.status.Status.TheVariants.{Done, Command, IllegalRead, IllegalWrite, Unwritten, TooManyReads, Usage, NotInit, AlreadyInit, BadStore, SiteFault, RunFault, SinkFault, Limit, Memory, Differs}
 
 -- a promise of an update, of what the update came to
 abbrev pub ForUpdate : Wanted → Status → (Option Stop → Type 0) → Type 0
@@ -70,10 +70,11 @@ QuietStep (Ok Init) was v w = BeginStep was v w
 QuietStep (Ok Verify) was v w = HoldsOn v w
 QuietStep other was v w = ⊥
 
--- what is counted as done is all that there was to do
-abbrev pub CountsAll : Next → List Rule → World → Status → Type 0
-CountsAll next rules old (Done read ran removed) = OfHeld old (λ held. Done read ran removed ≡ status_of (whole_log next rules held) None)
-CountsAll next rules old other = ⊤
+-- How an update went on from its store, which began these rules and stopped so. Where there was no memory, for its lines too, it
+-- had come to any of its ends.
+abbrev pub OpensStore : World → World → List RuleName → Option Stop → Type 0
+OpensStore old new ran (Some (Outside NoMemory)) = (stopped : Option Stop) × (log : Log) × (log.ran ≡ ran) × Unopened old new log stopped
+OpensStore old new ran stopped = (log : Log) × (log.ran ≡ ran) × Unopened old new log stopped
 
 -- the failures that a site, the runners of a crew and a sink have counted
 pub record Counts : Type 0 where
@@ -89,18 +90,30 @@ counts of_site of_runner of_sink site crew sink = record { site = of_site site; 
 abbrev pub AreSteady : Counts → Counts → Type 0
 AreSteady before now = (now.site ≡ before.site) × (now.runners ≡ before.runners)
 
+-- the site failed, and no runner did
+abbrev pub OnlySiteFailed : Counts → Counts → Type 0
+OnlySiteFailed before now = Rose before.site now.site × (now.runners ≡ before.runners)
+
+-- a runner failed, and the site didn't
+abbrev pub OnlyRunnerFailed : Counts → Counts → Type 0
+OnlyRunnerFailed before now = (now.site ≡ before.site) × OneRose before.runners now.runners
+
+-- of the site and the runners one failed at most
+abbrev pub OneFailedAtMost : Counts → Counts → Type 0
+OneFailedAtMost before now = AreSteady before now ⊎ OnlySiteFailed before now ⊎ OnlyRunnerFailed before now
+
 -- the causes that every site, runner and sink shows: no count rises unseen, and a count that is blamed rose. Want of memory
--- while lines are printed is answered in the place of all else.
+-- while lines are printed is answered in the place of all else, of a failure too.
 abbrev pub HasCountedCause : Counts → Counts → Status → Type 0
 HasCountedCause before now (Done read ran removed) = AreSteady before now × (now.sink ≡ before.sink)
 HasCountedCause before now SinkFault = AreSteady before now × Rose before.sink now.sink
-HasCountedCause before now SiteFault = Rose before.site now.site × (now.runners ≡ before.runners)
-HasCountedCause before now RunFault = (now.site ≡ before.site) × OneRose before.runners now.runners
+HasCountedCause before now SiteFault = OnlySiteFailed before now
+HasCountedCause before now RunFault = OnlyRunnerFailed before now
 HasCountedCause before now (Limit what number) = AreSteady before now × (number ≡ most what)
 HasCountedCause before now (Usage place) = ⊥
 HasCountedCause before now AlreadyInit = ⊥
 HasCountedCause before now (Differs path) = ⊥
-HasCountedCause before now Memory = ⊤
+HasCountedCause before now Memory = OneFailedAtMost before now
 HasCountedCause before now other = AreSteady before now
 
 -- the same of a comparison, which may tell a difference
@@ -108,13 +121,19 @@ abbrev pub HasComparedCause : Counts → Counts → Status → Type 0
 HasComparedCause before now (Differs path) = AreSteady before now
 HasComparedCause before now other = HasCountedCause before now other
 
--- The same of a demo, whose site and runner are its own and never fail, and in the way of whose update nothing stands: it has
--- read its one Tupfile and run its one command, or its sink failed, or there was no memory.
+-- The same of a demo, whose site and runner are its own and never fail, and whose project has begun.
 abbrev pub HasDemoCause : ℕ → ℕ → Status → Type 0
-HasDemoCause before now (Done read ran removed) = (read ≡ 1) × (ran ≡ 1) × (removed ≡ 0) × (now ≡ before)
+HasDemoCause before now (Done read ran removed) = now ≡ before
 HasDemoCause before now SinkFault = Rose before now
-HasDemoCause before now Memory = ⊤
-HasDemoCause before now other = ⊥
+HasDemoCause before now (Limit what number) = number ≡ most what
+HasDemoCause before now (Usage place) = ⊥
+HasDemoCause before now NotInit = ⊥
+HasDemoCause before now AlreadyInit = ⊥
+HasDemoCause before now (BadStore offset) = ⊥
+HasDemoCause before now SiteFault = ⊥
+HasDemoCause before now RunFault = ⊥
+HasDemoCause before now (Differs path) = ⊥
+HasDemoCause before now other = ⊤
 
 -- the same of a beginning, by what its site and its sink count
 abbrev pub HasBegunCause : ℕ → ℕ → ℕ → ℕ → Status → Type 0
@@ -123,7 +142,7 @@ HasBegunCause before now heard hears SinkFault = (now ≡ before) × Rose heard 
 HasBegunCause before now heard hears AlreadyInit = now ≡ before
 HasBegunCause before now heard hears (BadStore offset) = now ≡ before
 HasBegunCause before now heard hears SiteFault = Rose before now
-HasBegunCause before now heard hears Memory = ⊤
+HasBegunCause before now heard hears Memory = (now ≡ before) ⊎ Rose before now
 HasBegunCause before now heard hears other = ⊥
 
 -- where a word can't stand, only its place is answered
@@ -149,25 +168,11 @@ pub record NothingFailed (before now : Counts) : Type 0 where
   pub sink : now.sink ≡ before.sink
   pub sink_counts : now.sink < 2 ^ 64 - 1
 
--- Nothing stands in the way of an update: the store reads and has room for what an update commits, the sources ask for rules, and
--- their clean build succeeds. No source is too large, and no file of that build.
-pub record IsClear (next : Next) (old : World) : Type 0 where
-  pub held : Holding
-  pub store_reads : Shows old held
-  pub sources_read : (fault : SourcesFault) → IsRefused old fault → ⊥
-  pub clean : (rules : List Rule) → IsAsked old rules → IsTrue (succeeds (build next rules held))
-  pub small : (rules : List Rule) → (rules ≡ []) ⊎ IsAsked old rules → (path : Names) (content : Content) → finite.get (build next rules held).tree path ≡ Some content → length content ≤ 16777216
-  pub room : (rules : List Rule) → IsAsked old rules → HasNoRoom rules held old → ⊥
-
 -- an answer that is free, or says that all was done
 abbrev pub IsDoneOrMemory : Status → Type 0
 IsDoneOrMemory (Done read ran removed) = ⊤
 IsDoneOrMemory Memory = ⊤
 IsDoneOrMemory other = ⊥
-
--- an update that nothing stands in the way of is done, but for want of memory
-abbrev pub Succeeds : Wanted → Next → World → Counts → Counts → Status → Type 0
-Succeeds wanted next old before now status = IsUpdate wanted → IsClear next old → NothingFailed before now → IsDoneOrMemory status
 
 -- a project begins where there is no store and nothing failed, but for want of memory
 abbrev pub Initializes : Wanted → World → Counts → Counts → Status → Type 0

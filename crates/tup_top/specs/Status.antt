@@ -1,5 +1,6 @@
 -- How an order ended: the exit numbers (own), what stops an update as a status, and what a status says of an update.
 use Rattle.std.specs.Prelude.{ℕ, ◌-◌, ◌^◌, ◌<◌, length, min, Option, None, Some, Result, Ok, Err}
+use Rattle.tup_stamp.specs.declared.Stamp.{Stamp}
 use Rattle.tup_site.specs.declared.fault.SiteFailed.{SiteFailed}
 use Rattle.tup_site.specs.declared.fault.SiteFailed.TheVariants.{Fault, TooLarge, Memory as NoMemory}
 use Rattle.tup_rule.specs.declared.rule.RuleName.{RuleName}
@@ -9,15 +10,15 @@ use Rattle.tup_graph.specs.declared.fault.GraphFault.{GraphFault}
 use Rattle.tup_graph.specs.declared.fault.GraphFault.TheVariants as graph
 use Rattle.tup_ledger.specs.declared.beginning.Begun.{Begun}
 use Rattle.tup_ledger.specs.declared.beginning.Begun.TheVariants.{Made, WasThere}
-use Rattle.tup_update.specs.declared.compare.Compared.{Compared}
-use Rattle.tup_update.specs.declared.compare.Compared.TheVariants as compared
-use Rattle.tup_update.specs.declared.fault.SourcesFault.{SourcesFault}
-use Rattle.tup_update.specs.declared.fault.SourcesFault.TheVariants as sources
-use Rattle.tup_update.specs.declared.update.Log.{Log}
-use Rattle.tup_update.specs.declared.stop.Stop.{Stop}
-use Rattle.tup_update.specs.declared.stop.Stop.TheVariants.{NoStore, BadStore as StoreDamaged, Sources, Bad, Run, Full, Outside}
+use Rattle.tup_compare.specs.declared.compare.Compared.{Compared}
+use Rattle.tup_compare.specs.declared.compare.Compared.TheVariants as compared
+use Rattle.tup_promise.specs.declared.fault.SourcesFault.{SourcesFault}
+use Rattle.tup_promise.specs.declared.fault.SourcesFault.TheVariants as sources
+use Rattle.tup_promise.specs.declared.log.Log.{Log}
+use Rattle.tup_promise.specs.declared.stop.Stop.{Stop}
+use Rattle.tup_promise.specs.declared.stop.Stop.TheVariants.{NoStore, BadStore as StoreDamaged, Sources, UserFile as IsUsers, Bad, Run, Full, Outside}
 use Rattle.tup_top.specs.declared.status.Status.{Status}
-use Rattle.tup_top.specs.declared.status.Status.TheVariants.{Done, Command, IllegalRead, IllegalWrite, Unwritten, TooManyReads, Usage, NotInit, AlreadyInit, BadStore, Parse, CircularDirs, CircularCommands, NoSuchGroup, SiteFault, RunFault, SinkFault, Limit, Memory, Differs}
+use Rattle.tup_top.specs.declared.status.Status.TheVariants.{Done, Command, IllegalRead, IllegalWrite, Unwritten, TooManyReads, Usage, NotInit, AlreadyInit, BadStore, Parse, CircularDirs, CircularCommands, NoSuchGroup, UserFile, SiteFault, RunFault, SinkFault, Limit, Memory, Differs}
 use Rattle.tup_top.specs.declared.status.What.{What}
 use Rattle.tup_top.specs.declared.status.What.TheVariants.{Files, FileSize, Commands, Links, StoreSize}
 
@@ -37,6 +38,7 @@ exit_of (Parse fault) = 5
 exit_of (CircularDirs cycle) = 5
 exit_of (CircularCommands cycle) = 5
 exit_of (NoSuchGroup group) = 5
+exit_of (UserFile path) = 6
 exit_of SiteFault = 7
 exit_of RunFault = 8
 exit_of SinkFault = 9
@@ -86,6 +88,7 @@ abbrev pub status_of_stop : Stop → Status
 status_of_stop NoStore = NotInit
 status_of_stop (StoreDamaged offset) = BadStore offset
 status_of_stop (Sources fault) = status_of_sources fault
+status_of_stop (IsUsers path written found) = UserFile path
 status_of_stop (Bad rule verdict) = status_of_bad rule verdict
 status_of_stop Run = RunFault
 status_of_stop Full = Limit StoreSize (most StoreSize)
@@ -106,8 +109,9 @@ status_of_compared (Err stop) = status_of_stop stop
 abbrev pub Passed : What → (ℕ → Stop) → (Option Stop → Type 0) → Type 0
 Passed what stop promise = (count : ℕ) × (most what < count) × promise (Some (stop count))
 
--- A promise of what an update came to that is answered so: its end, or the reason for which it stopped. A word that can't
--- stand is no answer of an update, nor is a difference, nor that a project was begun before.
+-- A promise of what an update came to that is answered so: its end, or the reason for which it stopped. A file of the user's is
+-- told by its path alone. A word that can't stand is no answer of an update, nor is a difference, nor that a project was begun
+-- before.
 abbrev pub IfCame : Status → (Option Stop → Type 0) → Type 0
 IfCame (Done read ran removed) promise = promise None
 IfCame SinkFault promise = promise None
@@ -122,6 +126,7 @@ IfCame (Parse fault) promise = promise (Some (Sources (sources.Parse fault)))
 IfCame (CircularDirs cycle) promise = promise (Some (Sources (sources.CircularDirs cycle)))
 IfCame (CircularCommands cycle) promise = promise (Some (Sources (sources.CircularCommands cycle)))
 IfCame (NoSuchGroup group) promise = promise (Some (Sources (sources.NoSuchGroup group)))
+IfCame (UserFile path) promise = (written : Option Stamp) × (found : Stamp) × promise (Some (IsUsers path written found))
 IfCame SiteFault promise = promise (Some (Outside Fault))
 IfCame RunFault promise = promise (Some Run)
 IfCame (Limit Files number) promise = Passed Files (λ count. Sources (sources.TooManyFiles count)) promise

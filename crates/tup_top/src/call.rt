@@ -1,28 +1,23 @@
 //! The top call.
 ghost use Rattle.std.specs.Prelude.{◌≡◌, IsTrue, drop, length, map};
 ghost use Rattle.std.specs.Result.{result_err};
-ghost use Rattle.tup_site.specs.Crash.{GoesOn, LeavesOnly};
+ghost use Rattle.tup_site.specs.Crash.{GoesOn};
 ghost use Rattle.tup_ledger.specs.Begin.{Begins};
-ghost use Rattle.tup_update.specs.Compared.{HasCompared};
-ghost use Rattle.tup_ledger.specs.Listing.{IsSafe};
-ghost use Rattle.tup_ledger.specs.Sources.{HasSources, Kept};
-ghost use Rattle.tup_update.specs.Images.{UpdateStep, with_outputs};
-ghost use Rattle.tup_update.specs.Log.{OfRules};
-ghost use Rattle.tup_update.specs.Settled.{IsSettled};
-ghost use Rattle.tup_update.specs.Outcome.{ExactlyTheFiles, MadeBeforeBad, SourcesStay, NothingForgotten, HasCause, JustCommits, JustOpens};
+ghost use Rattle.tup_compare.specs.Compared.{HasCompared};
+ghost use Rattle.tup_compare.specs.Opened.{JustOpens};
 ghost use Rattle.tup_top.specs.Order.{IsUpdate, order};
-ghost use Rattle.tup_top.specs.Crew.{IsCrew, CrewRuns, CrewCompares, RanFits, RanInTurn, NothingRun};
+ghost use Rattle.tup_top.specs.Crew.{IsCrew, CrewRuns, CrewCompares, NothingRun};
 ghost use Rattle.tup_top.specs.Lines.{last_line as line_of};
 ghost use Rattle.tup_top.specs.Printed.{Printed, Prints};
-ghost use Rattle.tup_top.specs.Promise.{ForUpdate, ForInit, ForVerify, Lasts, NothingDone, QuietStep, CountsAll};
-ghost use Rattle.tup_top.specs.Promise.{HasPlainCause, IsRefusal, Succeeds, Initializes, Compares, counts};
+ghost use Rattle.tup_top.specs.Promise.{ForUpdate, ForInit, ForVerify, Lasts, NothingDone, OpensStore, QuietStep};
+ghost use Rattle.tup_top.specs.Promise.{HasPlainCause, IsRefusal, Initializes, Compares, counts};
 ghost use Rattle.tup_top.specs.declared.status.Status.TheVariants.{Usage};
 
 use crate::init::init;
 use crate::order::{Order, OrderFault, Word, order_of};
 use crate::print::tell;
 use crate::status::Status;
-use crate::update::{Updated, demo, update};
+use crate::update::{Ended, demo, update};
 use crate::verify::verify;
 use std::alloc::Global;
 use tup_path::Items;
@@ -57,59 +52,26 @@ pub fn tup<S: Site, R: Runner, K: Sink>(
     out: &mut K,
 ) -> Ran<S, R>
     requires crew { IsCrew crew.items }
-    ensures exactly_the_files { IsTrue S.tells → IsTrue R.tells → let old = S.world site in
-        let new = S.world result.site in ForUpdate (order words.now) result.status
-        (OfRules old (λ rules. ExactlyTheFiles R.next rules old new)) }
-    ensures made_before_bad { IsTrue S.tells → IsTrue R.tells → let old = S.world site in
-        let new = S.world result.site in ForUpdate (order words.now) result.status
-        (OfRules old (λ rules. MadeBeforeBad R.next rules old new)) }
-    ensures sources_stay { IsTrue S.tells → SourcesStay (S.world site) (S.world result.site) }
-    ensures nothing_forgotten { IsTrue S.tells → let old = S.world site in
-        let new = S.world result.site in ForUpdate (order words.now) result.status
-        (OfRules old (λ rules. NothingForgotten R.tells R.next rules old new)) }
-    // Of what the store has just what is owned is another, and nothing but that was written.
-    ensures commits { IsTrue S.tells → let old = S.world site in
-        let new = S.world result.site in ForUpdate (order words.now) result.status
-        (OfRules old (λ rules. JustCommits rules old new)) }
-    // Whenever a crash comes: no file changes but owned ones and outputs, and nothing is forgotten.
-    ensures crash { IsTrue S.tells → let old = S.world site in
-        ForUpdate (order words.now) result.status (OfRules old (λ rules _.
-        GoesOn S.moment S.left_since site result.site (UpdateStep R.tells R.next rules old))) }
-    // Where each world that a crash may leave before has these sources, and owns no other path than
-    // may be, so has each that one may leave since: an update owns its outputs too, and none else.
-    ensures images { IsTrue S.tells → (kept : Kept) → IsSafe S.moment S.left_since site kept
-        → ForUpdate (order words.now) result.status (OfRules (S.world site) (λ rules _.
-        LeavesOnly S.moment S.left_since site result.site (HasSources (with_outputs rules kept)))) }
+    // An update of a store that is empty, or damaged, tells so and does nothing; every other store
+    // was read, unless the outside stopped that.
+    ensures opens_store { IsTrue S.tells → let old = S.world site in
+        let new = S.world result.site in
+        ForUpdate (order words.now) result.status (OpensStore old new result.ran) }
     // Any other order adds no more than a beginning, or a comparison's opening of the store.
     ensures quiet { IsTrue S.tells → (IsUpdate (order words.now) → ⊥)
         → let step = QuietStep (order words.now) (S.world site) in
         GoesOn S.moment S.left_since site result.site step }
-    ensures settled { IsTrue S.tells
-        → let left = S.left_since result.site (S.moment result.site) in
-        ForUpdate (order words.now) result.status (IsSettled left (S.world result.site)) }
     ensures nothing_done { IsTrue S.tells
         → NothingDone (order words.now) (S.world site) (S.world result.site) }
     ensures crew { length result.crew.items ≡ length crew.items }
     // All runners but the first are as they were.
     ensures others { drop 1 result.crew.items ≡ drop 1 crew.items }
     ensures nothing_run { NothingRun (order words.now) crew.items result.crew.items result.ran }
-    ensures begun { IsTrue S.tells → IsTrue R.tells → let old = S.world site in
-        ForUpdate (order words.now) result.status
-        (OfRules old (λ rules. RanFits R.next rules old result.ran)) }
-    ensures in_turn { IsTrue S.tells → ForUpdate (order words.now) result.status
-        (OfRules (S.world site) (λ rules. RanInTurn rules result.ran)) }
     ensures ran { IsTrue R.tells_ran → ForUpdate (order words.now) result.status
         (CrewRuns result.ran (map R.ran crew.items) (map R.ran result.crew.items)) }
-    ensures cause { IsTrue S.tells → IsTrue R.tells → let old = S.world site in
-        ForUpdate (order words.now) result.status
-        (OfRules old (λ rules. HasCause R.next rules old)) }
     ensures plain_cause { let before = counts S.faults R.faults K.faults site crew.items out.old in
         let now = counts S.faults R.faults K.faults result.site result.crew.items out.new in
         HasPlainCause (order words.now) before now result.status }
-    ensures success { IsTrue S.tells → IsTrue R.tells
-        → let before = counts S.faults R.faults K.faults site crew.items out.old in
-        let now = counts S.faults R.faults K.faults result.site result.crew.items out.new in
-        Succeeds (order words.now) R.next (S.world site) before now result.status }
     // A project begins where there is no store; one that is there stays, with all that it owns.
     ensures begins { IsTrue S.tells → let old = S.world site in
         ForInit (order words.now) result.status (Begins old (S.world result.site)) }
@@ -132,21 +94,17 @@ pub fn tup<S: Site, R: Runner, K: Sink>(
         → let before = counts S.faults R.faults K.faults site crew.items out.old in
         let now = counts S.faults R.faults K.faults result.site result.crew.items out.new in
         Compares (order words.now) (S.world site) before now result.status }
-    ensures told { IsTrue S.tells → IsTrue R.tells → let old = S.world site in
-        ForUpdate (order words.now) result.status
-        (OfRules old (λ rules _. CountsAll R.next rules old result.status)) }
     // What is printed, over every site and by every runner, by what these tell.
     ensures printed { IsTrue K.tells
         → let before = K.faults out.old in let now = K.faults out.new in
-        let old = S.world site in
-        Printed S.tells R.tells (order words.now) R.next old result.ran before now
+        let old = S.world site in let new = S.world result.site in
+        Printed S.tells R.tells (order words.now) R.next old new result.ran before now
         (K.held out.old) (K.held out.new) result.status }
 {
     match order_of(words) {
         Ok(Order::Upd { .. }) => {
-            let mut site = site;
             let mut crew = crew;
-            let Updated { status, ran } = update(alloc, &mut site, &mut crew[0], out);
+            let Ended { status, site, ran } = update(alloc, site, &mut crew[0], out);
             Ran {
                 status,
                 site,

@@ -2,7 +2,7 @@
 ghost use Rattle.std.specs.Prelude.{◌≡◌, Some, fold};
 ghost use Rattle.std.specs.List.{flat_map, position_or_len};
 ghost use Rattle.tup_path.specs.Order.{same_path};
-ghost use Rattle.tup_update.specs.Compared.{first_of};
+ghost use Rattle.tup_compare.specs.Compared.{first_of};
 ghost use Rattle.tup_top.specs.Lines as specs;
 
 use std::fmt;

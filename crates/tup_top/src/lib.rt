@@ -1,8 +1,8 @@
 //! The program as one call over any site and any sink.
 //!
 //! `tup` carries out the words of a command line. Its contract is the promise that people rely on:
-//! after success exactly the files of a clean build of the present sources; whatever the answer,
-//! every source as it was; for each answer its cause; and what was done told in lines.
+//! for each answer its cause, of an update by what site, runners and sink count, and what was done
+//! told in lines.
 #![tactic(auto)]
 
 mod call;

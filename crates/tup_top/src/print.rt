@@ -9,23 +9,17 @@ use crate::status::Status;
 use std::alloc::{AllocError, Global};
 use tup_access::Verdict;
 use tup_path::{Bytes, Path};
-use tup_rule::Rule;
+use tup_promise::{EndedRule, Log};
 use tup_tell::{Sink, SinkFailed};
-use tup_update::Log;
 
-/// All lines of an update with these rules and this log, the last one for its status.
-pub(crate) fn lines(
-    alloc: Global,
-    rules: &[Rule],
-    log: &Log,
-    status: &Status,
-) -> Result<Bytes, AllocError>
-    ensures { IfOk result (λ text. text ≡ specs.lines rules.now log.now status.now) }
+/// All lines of an update with this log, the last one for its status.
+pub(crate) fn lines(alloc: Global, log: &Log, status: &Status) -> Result<Bytes, AllocError>
+    ensures { IfOk result (λ text. text ≡ specs.lines log.now status.now) }
 {
     let mut text = String::new(alloc);
     add_read(&mut text, log.read.as_slice())?;
     add_removed(&mut text, log.removed.as_slice())?;
-    add_ended(&mut text, rules, log.ended.as_slice())?;
+    add_ended(&mut text, log.ended.as_slice())?;
     writeln!(text, "{status}")?;
     Ok(Bytes::new(text.into_bytes()))
 }
@@ -81,47 +75,26 @@ fn add_removed(text: &mut String, paths: &[Path]) -> Result<(), AllocError>
 }
 
 /// Adds a line for each rule that ended.
-fn add_ended(
-    text: &mut String,
-    rules: &[Rule],
-    ended: &[(usize, Verdict)],
-) -> Result<(), AllocError>
-    ensures { let told = flat_map (specs.ended_line rules.now) ended.now in
-        OnOk result (string_bytes text.new ≡ string_bytes text.old ++ told) }
+fn add_ended(text: &mut String, ended: &[EndedRule]) -> Result<(), AllocError>
+    ensures { OnOk result
+        (string_bytes text.new ≡ string_bytes text.old ++ flat_map specs.ended_line ended.now) }
 {
-    for (at, verdict) in ended {
-        add_line(text, rules, *at, verdict)?;
+    for one in ended {
+        add_verdict(text, one)?;
     }
     Ok(())
 }
 
-/// Adds the line of the rule at a place.
-fn add_line(
-    text: &mut String,
-    rules: &[Rule],
-    at: usize,
-    verdict: &Verdict,
-) -> Result<(), AllocError>
-    ensures { let told = specs.ended_line rules.now (at, verdict.now) in
-        OnOk result (string_bytes text.new ≡ string_bytes text.old ++ told) }
-{
-    match rules.get(at) {
-        Some(rule) => add_verdict(text, rule, verdict),
-        None => Ok(()),
-    }
-}
-
 /// Adds the line of a rule that ended.
-fn add_verdict(text: &mut String, rule: &Rule, verdict: &Verdict) -> Result<(), AllocError>
-    ensures { let told = specs.verdict_line rule.now verdict.now in
-        OnOk result (string_bytes text.new ≡ string_bytes text.old ++ told) }
+fn add_verdict(text: &mut String, ended: &EndedRule) -> Result<(), AllocError>
+    ensures { OnOk result
+        (string_bytes text.new ≡ string_bytes text.old ++ specs.ended_line ended.now) }
 {
-    let what = match verdict {
+    let what = match ended.verdict {
         Verdict::Good => "run",
         _ => "bad",
     };
-    let label = rule.display.as_ref().unwrap_or(&rule.text);
-    writeln!(text, "{what} {}: {label}", rule.dir)
+    writeln!(text, "{what} {}: {}", ended.rule.dir, ended.label)
 }
 
 /// Writes the line of a status alone, and says how an order that ends with it ends then.

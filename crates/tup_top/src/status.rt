@@ -7,14 +7,15 @@ ghost use Rattle.tup_top.specs.declared.status.Status.TheVariants.{Limit};
 use crate::circle::{Commands, Folders, Group};
 use std::fmt;
 use tup_access::Verdict;
+use tup_compare::Compared;
 use tup_graph::GraphFault;
 use tup_ledger::Begun;
 use tup_link::RuleNames;
 use tup_path::{Path, Paths, Text};
+use tup_promise::{Log, SourcesFault, Stop};
 use tup_query::ParseFault;
 use tup_rule::{GroupRef, RuleName};
 use tup_site::SiteFailed;
-use tup_update::{Compared, Log, SourcesFault, Stop};
 
 /// What has a limit.
 #[derive(Clone, Copy, PartialEq, Eq)]
@@ -78,6 +79,9 @@ pub enum Status {
     CircularCommands { cycle: RuleNames },
     /// A rule takes this group, and no rule gives to it. Nothing was done.
     NoSuchGroup { group: GroupRef },
+    /// No rule makes this file any more, and somebody changed it by hand. It is left, and no other
+    /// file was changed.
+    UserFile { path: Path },
     /// The file tree or the store failed.
     SiteFault,
     /// A runner failed.
@@ -111,6 +115,7 @@ impl Status {
             | Status::CircularDirs { .. }
             | Status::CircularCommands { .. }
             | Status::NoSuchGroup { .. } => 5,
+            Status::UserFile { .. } => 6,
             Status::SiteFault => 7,
             Status::RunFault => 8,
             Status::SinkFault => 9,
@@ -176,6 +181,7 @@ fn status_of_stop(stop: Stop) -> Status
         Stop::NoStore => Status::NotInit,
         Stop::BadStore(offset) => Status::BadStore { offset },
         Stop::Sources(fault) => status_of_sources(fault),
+        Stop::UserFile { path, .. } => Status::UserFile { path },
         Stop::Bad(rule, verdict) => status_of_bad(rule, verdict),
         Stop::Run => Status::RunFault,
         Stop::Full => over(What::StoreSize),
@@ -314,6 +320,9 @@ impl fmt::Display for Status {
                 Commands(cycle.as_slice())
             ),
             Status::NoSuchGroup { group } => write!(f, "fault: no rule gives to {}", Group(group)),
+            Status::UserFile { path } => {
+                write!(f, "fault: {path} was changed by hand and no rule makes it")
+            }
             Status::SiteFault => f.write_str("fault: the file tree or the store failed"),
             Status::RunFault => f.write_str("fault: the runner failed"),
             Status::SinkFault => f.write_str("fault: the output failed"),

@@ -1,19 +1,12 @@
 //! An update, and what is told of it.
 ghost use Rattle.std.specs.Prelude.{◌≡◌, [], ◌∷◌, ◌++◌, IsTrue, IfOk, IfErr};
-ghost use Rattle.tup_site.specs.Crash.{GoesOn, LeavesOnly};
 ghost use Rattle.tup_demo.specs.Steady.{world_in, tree_in, store_in};
 ghost use Rattle.tup_table.specs.Store.{header};
-ghost use Rattle.tup_ledger.specs.Listing.{IsSafe};
-ghost use Rattle.tup_ledger.specs.Sources.{HasSources, Kept};
-ghost use Rattle.tup_update.specs.Images.{UpdateStep, with_outputs};
-ghost use Rattle.tup_update.specs.Log.{OfRules};
-ghost use Rattle.tup_update.specs.Ran.{RunsThese};
-ghost use Rattle.tup_update.specs.Settled.{IsSettled};
-ghost use Rattle.tup_update.specs.Outcome.{ExactlyTheFiles, MadeBeforeBad, SourcesStay, NothingForgotten, HasCause, JustCommits};
-ghost use Rattle.tup_top.specs.Crew.{RanFits, RanInTurn};
-ghost use Rattle.tup_top.specs.Printed.{PrintsDemo, PrintsUpdate, demo_world};
-ghost use Rattle.tup_top.specs.Promise.{CountsAll, HasCountedCause, HasDemoCause, counts};
-ghost use Rattle.tup_top.specs.Status.{IfCame};
+ghost use Rattle.tup_promise.specs.Ran.{RunsThese};
+ghost use Rattle.tup_top.specs.Lines.{lines as lines_of};
+ghost use Rattle.tup_top.specs.Printed.{Ends, IsDone, Prints, PrintsDemo, PrintsUpdate, demo_world};
+ghost use Rattle.tup_top.specs.Promise.{HasCountedCause, HasDemoCause, OpensStore, counts};
+ghost use Rattle.tup_top.specs.Status.{IfCame, status_of as told_by};
 
 use crate::print::{lines, print, tell};
 use crate::status::{Status, status_of, status_of_begun};
@@ -23,84 +16,67 @@ use tup_graph::GraphFault;
 use tup_ledger::begin;
 use tup_mini::Mini;
 use tup_path::Items;
+use tup_promise::{Log, Stop};
 use tup_rule::RuleName;
 use tup_runner::Runner;
 use tup_site::{MemRefused, Site};
 use tup_tell::Sink;
-use tup_update::{Update, update_site};
+use tup_update::{Updated, update_site};
 
-/// How an update ended, and the rules that it began.
+/// How an update ended, with the site as it left it.
 #[derive(Drop)]
-pub(crate) struct Updated {
+pub(crate) struct Ended<S> {
     pub status: Status,
+    pub site: S,
+    /// The rules that it began, in order.
     pub ran: Items<RuleName>,
 }
 
 /// Updates the files of a site by a runner, and prints the lines of this update.
 pub(crate) fn update<S: Site, R: Runner, K: Sink>(
     alloc: Global,
-    site: &mut S,
+    site: S,
     runner: &mut R,
     out: &mut K,
-) -> Updated
-    ensures exactly_the_files { IsTrue S.tells → IsTrue R.tells → let old = S.world site.old in
-        IfCame result.status
-        (OfRules old (λ rules. ExactlyTheFiles R.next rules old (S.world site.new))) }
-    ensures made_before_bad { IsTrue S.tells → IsTrue R.tells → let old = S.world site.old in
-        IfCame result.status
-        (OfRules old (λ rules. MadeBeforeBad R.next rules old (S.world site.new))) }
-    ensures sources_stay { IsTrue S.tells → SourcesStay (S.world site.old) (S.world site.new) }
-    ensures nothing_forgotten { IsTrue S.tells → let old = S.world site.old in
-        IfCame result.status
-        (OfRules old (λ rules. NothingForgotten R.tells R.next rules old (S.world site.new))) }
-    ensures commits { IsTrue S.tells → let old = S.world site.old in
-        IfCame result.status (OfRules old (λ rules. JustCommits rules old (S.world site.new))) }
-    ensures crash { IsTrue S.tells → let old = S.world site.old in
-        IfCame result.status (OfRules old (λ rules _.
-        GoesOn S.moment S.left_since site.old site.new (UpdateStep R.tells R.next rules old))) }
-    ensures images { IsTrue S.tells → (kept : Kept) → IsSafe S.moment S.left_since site.old kept
-        → IfCame result.status (OfRules (S.world site.old) (λ rules _.
-        LeavesOnly S.moment S.left_since site.old site.new
-        (HasSources (with_outputs rules kept)))) }
-    ensures settled { IsTrue S.tells → let left = S.left_since site.new (S.moment site.new) in
-        IfCame result.status (IsSettled left (S.world site.new)) }
-    ensures cause { IsTrue S.tells → IsTrue R.tells → let old = S.world site.old in
-        IfCame result.status (OfRules old (λ rules. HasCause R.next rules old)) }
+) -> Ended<S>
+    ensures opens_store { IsTrue S.tells → let old = S.world site in
+        let new = S.world result.site in
+        IfCame result.status (OpensStore old new result.ran) }
     ensures counted_cause { let counted = counts S.faults R.faults K.faults in
-        let before = counted site.old (runner.old ∷ []) out.old in
-        let now = counted site.new (runner.new ∷ []) out.new in
+        let before = counted site (runner.old ∷ []) out.old in
+        let now = counted result.site (runner.new ∷ []) out.new in
         HasCountedCause before now result.status }
-    ensures begun { IsTrue S.tells → IsTrue R.tells → let old = S.world site.old in
-        IfCame result.status
-        (OfRules old (λ rules. RanFits R.next rules old result.ran)) }
-    ensures in_turn { IsTrue S.tells → let old = S.world site.old in
-        IfCame result.status (OfRules old (λ rules. RanInTurn rules result.ran)) }
     ensures ran { IsTrue R.tells_ran → IfCame result.status
         (RunsThese result.ran (R.ran runner.old) (R.ran runner.new)) }
-    ensures told { IsTrue S.tells → IsTrue R.tells → let old = S.world site.old in
-        IfCame result.status
-        (OfRules old (λ rules _. CountsAll R.next rules old result.status)) }
     ensures printed { IsTrue K.tells
         → let before = K.faults out.old in let now = K.faults out.new in
-        PrintsUpdate S.tells R.tells R.next (S.world site.old) result.ran before now
+        let old = S.world site in let new = S.world result.site in
+        PrintsUpdate S.tells old new result.ran before now
         (K.held out.old) (K.held out.new) result.status }
 {
-    let Update {
-        rules,
-        log,
-        stopped,
-    } = update_site(alloc, site, runner);
-    let status = status_of(&log, stopped);
-    let Ok(text) = lines(alloc, rules.as_slice(), &log, &status) else {
-        return Updated {
-            status: Status::Memory,
-            ran: log.ran,
-        };
-    };
-    let status = print(alloc, &text, status, out);
-    Updated {
+    let Updated { site, log, stopped } = update_site(alloc, site, runner, false);
+    let status = tell_all(alloc, &log, stopped, out);
+    Ended {
         status,
+        site,
         ran: log.ran,
+    }
+}
+
+/// Prints the lines of an update that did what its log says and stopped so, and says how the order
+/// ends then.
+fn tell_all<K: Sink>(alloc: Global, log: &Log, stopped: Option<Stop>, out: &mut K) -> Status
+    ensures ends { Ends (K.faults out.old) (K.faults out.new) (told_by log.now stopped) result }
+    ensures counted { IsDone result → K.faults out.new ≡ K.faults out.old }
+    ensures prints { IsTrue K.tells → let status = told_by log.now stopped in
+        let before = K.faults out.old in let now = K.faults out.new in
+        Prints status (lines_of log.now status) before now (K.held out.old) (K.held out.new)
+        result }
+{
+    let status = status_of(log, stopped);
+    match lines(alloc, log, &status) {
+        Ok(text) => print(alloc, &text, status, out),
+        Err(_) => Status::Memory,
     }
 }
 
@@ -112,7 +88,7 @@ pub(crate) fn demo<K: Sink>(alloc: Global, out: &mut K) -> Status
         PrintsDemo before now (K.held out.old) (K.held out.new) result }
 {
     match demo_site(alloc) {
-        Ok(mut site) => update(alloc, &mut site, &mut Mini::new(alloc), out).status,
+        Ok(site) => update(alloc, site, &mut Mini::new(alloc), out).status,
         Err(fault) => tell(alloc, status_of_begun(Err(fault)), out),
     }
 }

@@ -2,9 +2,9 @@
 ghost use Rattle.std.specs.Prelude.{[], ◌∷◌, IsTrue};
 ghost use Rattle.std.specs.Result.{result_err};
 ghost use Rattle.tup_site.specs.Crash.{GoesOn};
-ghost use Rattle.tup_update.specs.Compared.{HasCompared, RunsToCompare};
-ghost use Rattle.tup_update.specs.Holding.{HoldsOn};
-ghost use Rattle.tup_update.specs.Outcome.{JustOpens};
+ghost use Rattle.tup_compare.specs.Compared.{HasCompared, RunsToCompare};
+ghost use Rattle.tup_compare.specs.Holding.{HoldsOn};
+ghost use Rattle.tup_compare.specs.Opened.{JustOpens};
 ghost use Rattle.tup_top.specs.Printed.{PrintsComparison};
 ghost use Rattle.tup_top.specs.Promise.{HasComparedCause, counts};
 ghost use Rattle.tup_top.specs.Status.{IfCompared};
@@ -12,10 +12,10 @@ ghost use Rattle.tup_top.specs.Status.{IfCompared};
 use crate::print::{compared_line, print};
 use crate::status::{Status, status_of_compared};
 use std::alloc::Global;
+use tup_compare::compare_site;
 use tup_runner::Runner;
 use tup_site::Site;
 use tup_tell::Sink;
-use tup_update::compare_site;
 
 /// Compares the files of a site with a clean build of its sources by a runner, and prints the line
 /// of this comparison.

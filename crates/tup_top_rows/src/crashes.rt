@@ -37,98 +37,74 @@ struct Outcome {
 /// Tupfile and the source, each with its content, and the outputs. The answer has how many calls of
 /// the update were stopped, and how many next updates weren't so.
 pub(crate) fn every_crash(alloc: Global, said: &Words) -> Words {
+    let mut before = left(alloc, said, 0, None).store;
     let mut wrong: u64 = 0;
     for stop in 0..MAX_CALLS {
-        wrong = wrong.saturating_add(wrong_crashes(alloc, said, stop));
-        if left(alloc, said, stop, None).done {
+        let Outcome { store, done, .. } = left(alloc, said, stop, None);
+        wrong = wrong.saturating_add(wrong_crashes(alloc, said, stop, &before, &store));
+        if done {
             return Words::all(alloc, &[stop, wrong]);
         }
+        before = store;
     }
     Words::none(alloc, RowFault::OtherKind)
 }
 
-/// How many of the three crashes after these calls are followed by an update that isn't right.
-fn wrong_crashes(alloc: Global, said: &Words, stop: u64) -> u64 {
+/// How many of the three crashes after these calls are followed by an update that isn't right. The last
+/// of the calls found one store, and left the other.
+fn wrong_crashes(alloc: Global, said: &Words, stop: u64, before: &[u8], store: &[u8]) -> u64 {
     let mut wrong: u64 = 0;
     for tear in [Tear::Kept, Tear::Lost, Tear::Torn] {
-        if !goes_on(alloc, said, stop, tear) {
+        let crash = crash_of(alloc, said, stop, tear, before, store);
+        if !goes_on(alloc, said, stop, crash) {
             wrong = wrong.saturating_add(1);
         }
     }
     wrong
 }
 
-/// Whether the update after such a crash is right.
-fn goes_on(alloc: Global, said: &Words, stop: u64, tear: Tear) -> bool {
-    let crash = crash_of(alloc, said, stop, tear);
+/// Whether a crash may come after these calls, and the update behind it is right.
+fn goes_on(alloc: Global, said: &Words, stop: u64, crash: Turn) -> bool {
     let left = left(alloc, said, stop, Some(crash));
     left.done && left.copied
 }
 
-/// A crash that leaves all, as little as it may, or as torn as it may.
-fn crash_of(alloc: Global, said: &Words, stop: u64, tear: Tear) -> Turn {
-    let store = left(alloc, said, stop, None).store;
+/// A crash that leaves all, as little as it may, or as torn as it may. What the last call wrote into the
+/// store isn't durable yet, and what the calls before it wrote is: each write is synced by the next call.
+fn crash_of(
+    alloc: Global,
+    said: &Words,
+    stop: u64,
+    tear: Tear,
+    before: &[u8],
+    store: &[u8],
+) -> Turn {
     match tear {
-        Tear::Kept => crash(Bytes::new(store), Items::new(alloc)),
-        Tear::Lost => lost(alloc, said, stop, &store),
-        Tear::Torn => torn(alloc, said, stop, &store),
-    }
-}
-
-/// A crash that leaves the shortest front of the store that it may, and no output that it needn't.
-fn lost(alloc: Global, said: &Words, stop: u64, store: &[u8]) -> Turn {
-    let len = least_len(alloc, said, stop, store);
-    crash(
-        front(alloc, said, store, len),
-        loose(alloc, said, stop, store, false),
-    )
-}
-
-/// A crash that leaves each byte of the store torn, and each output, that it may.
-fn torn(alloc: Global, said: &Words, stop: u64, store: &[u8]) -> Turn {
-    crash(
-        torn_store(alloc, said, stop, store),
-        loose(alloc, said, stop, store, true),
-    )
-}
-
-/// How long the shortest front of the store is that a crash may leave.
-fn least_len(alloc: Global, said: &Words, stop: u64, store: &[u8]) -> usize {
-    for len in 0..store.len() {
-        let db = front(alloc, said, store, len);
-        if may_leave(alloc, said, stop, crash(db, Items::new(alloc))) {
-            return len;
+        Tear::Kept => crash(copied(alloc, said, store), Items::new(alloc)),
+        Tear::Lost => {
+            let loose = loose(alloc, said, stop, store, false);
+            crash(copied(alloc, said, before), loose)
+        }
+        Tear::Torn => {
+            let loose = loose(alloc, said, stop, store, true);
+            crash(torn_store(alloc, said, before, store), loose)
         }
     }
-    store.len()
 }
 
-/// So many bytes of the store.
-fn front(alloc: Global, said: &Words, store: &[u8], len: usize) -> Bytes {
-    Bytes::new(said.copy_of(alloc, store.get(..len).unwrap_or(store)))
+fn copied(alloc: Global, said: &Words, store: &[u8]) -> Bytes {
+    Bytes::new(said.copy_of(alloc, store))
 }
 
-/// The store with each byte torn that a crash may tear.
-fn torn_store(alloc: Global, said: &Words, stop: u64, store: &[u8]) -> Bytes {
+/// The store with each byte torn that the last call wrote.
+fn torn_store(alloc: Global, said: &Words, before: &[u8], store: &[u8]) -> Bytes {
     let mut torn = said.copy_of(alloc, store);
     for at in 0..store.len() {
-        if may_tear(alloc, said, stop, store, at) {
+        if before.get(at) != store.get(at) {
             tear_byte(&mut torn, at);
         }
     }
     Bytes::new(torn)
-}
-
-/// Whether a crash may tear this byte of the store.
-fn may_tear(alloc: Global, said: &Words, stop: u64, store: &[u8], at: usize) -> bool {
-    let mut bytes = said.copy_of(alloc, store);
-    tear_byte(&mut bytes, at);
-    may_leave(
-        alloc,
-        said,
-        stop,
-        crash(Bytes::new(bytes), Items::new(alloc)),
-    )
 }
 
 /// Changes a byte, if there is one at this place.

@@ -2,9 +2,11 @@
 //! project in memory.
 #![tactic(auto)]
 
+mod cost;
 mod crashes;
 mod failing;
 mod lives;
+mod many;
 mod session;
 mod turns;
 
@@ -20,6 +22,8 @@ fn main(rt: HostRuntime) -> io::Result<()> {
     try_rows(&rt, rt.alloc(), "init.rows")?;
     try_rows(&rt, rt.alloc(), "tup.rows")?;
     try_rows(&rt, rt.alloc(), "folders.rows")?;
+    try_rows(&rt, rt.alloc(), "skip.rows")?;
+    try_rows(&rt, rt.alloc(), "limits.rows")?;
     try_rows(&rt, rt.alloc(), "verify.rows")?;
     try_file_by(&rt, rt.alloc(), "history.rows", Lives::new(rt.alloc()))
 }

@@ -1,5 +1,7 @@
 //! The calls of `tup.rows`.
+use crate::cost::Cost;
 use crate::failing::Failing;
+use crate::many::write_many;
 use std::alloc::Global;
 use tup_graph::GraphFault;
 use tup_ledger::{begin, open, owned_paths};
@@ -18,6 +20,8 @@ struct Project {
     runner: Failing,
     /// The rules that the last call of the program began.
     begun: Items<RuleName>,
+    /// What the last call of the program cost.
+    cost: Cost,
 }
 
 /// The project that the rows above have left; none while `tup` has it.
@@ -57,6 +61,7 @@ impl Session {
                 site,
                 runner: Failing::new(alloc, run_fails),
                 begun: Items::new(alloc),
+                cost: Cost::none(),
             }),
         }
     }
@@ -96,12 +101,14 @@ impl Session {
             site,
             runner,
             begun,
+            ..
         } = project;
         drop(begun);
+        let before = Cost::of(&site);
         match vec![in alloc; runner] {
             Ok(crew) => {
                 let ran = tup(alloc, &words_of(alloc, said), site, crew, out);
-                self.keep(alloc, ran, out)
+                self.keep(alloc, ran, before, out)
             }
             Err(_) => {
                 drop(site);
@@ -111,13 +118,19 @@ impl Session {
     }
 
     /// Keeps the site and the runner as the program leaves them, and gives its exit number and what it printed.
-    fn keep(&mut self, alloc: Global, ran: Ran<MemSite, Failing>, out: &MemSink) -> Words {
+    fn keep(
+        &mut self,
+        alloc: Global,
+        ran: Ran<MemSite, Failing>,
+        before: Cost,
+        out: &MemSink,
+    ) -> Words {
         let answer = answer_of(alloc, &ran.status, out);
-        self.keep_project(ran);
+        self.keep_project(ran, before);
         answer
     }
 
-    fn keep_project(&mut self, ran: Ran<MemSite, Failing>) {
+    fn keep_project(&mut self, ran: Ran<MemSite, Failing>, before: Cost) {
         let Ran {
             status,
             site,
@@ -125,6 +138,7 @@ impl Session {
             ran: begun,
         } = ran;
         drop(status);
+        let cost = Cost::of(&site).beyond(before);
         match crew.pop() {
             Some(runner) => set(
                 &mut self.project,
@@ -132,6 +146,7 @@ impl Session {
                     site,
                     runner,
                     begun,
+                    cost,
                 }),
             ),
             None => {
@@ -199,6 +214,7 @@ fn begun_over(alloc: Global, mut site: MemSite) -> Result<MemSite, RowFault> {
 fn answer_of_project(alloc: Global, project: &mut Project, call: &str, said: &Words) -> Words {
     match call {
         "begun" => begun(alloc, project.begun.as_slice()),
+        "cost" => project.cost.words(alloc),
         _ => answer_of_site(alloc, &mut project.site, call, said),
     }
 }
@@ -217,6 +233,7 @@ fn answer_of_site(alloc: Global, site: &mut MemSite, call: &str, said: &Words) -
     match call {
         "write" => edit(alloc, site, said, Some(Bytes::new(said.bytes_at(alloc, 1)))),
         "delete" => edit(alloc, site, said, None),
+        "write_many" => write_many(alloc, site, said),
         "file" => file(alloc, site, said),
         "store" => listed(alloc, site),
         "store_bytes" => Words::word(alloc, site.store()),

@@ -1,23 +1,5 @@
-pub mod Handed
-pub mod Failing
-pub mod Beside
-pub mod Fronts
-pub mod Reading
-pub mod Limits
-pub mod Running
-pub mod Begun
-pub mod Turning
-pub mod Preparing
-pub mod Trees
-pub mod Known
-pub mod Settling
-pub mod Held
-pub mod Before
-pub mod Crashing
-pub mod Storing
-pub mod Behind
-pub mod Ending
-pub mod Keeping
-pub mod Making
-pub mod Safe
-pub mod Comparing
+mod Commands
+mod Counting
+mod Taking
+mod Waiting
+mod Whole

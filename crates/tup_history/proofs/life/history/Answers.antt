@@ -2,7 +2,6 @@ use Rattle.std.proofs.Common.{ℕ, ◌+◌, None, Some, [], ◌∷◌, ◌++◌,
 use Rattle.std.proofs.lemmas.List.{length_push}
 use Rattle.tup_history.specs.History.{IsHistory, Takes, standing}
 use Rattle.tup_site.specs.declared.refused.MemRefused.TheVariants.{Memory}
-use Rattle.tup_history.proofs.Built.{ends_built}
 use Rattle.tup_history.proofs.Stays.{lived_kept}
 use Rattle.tup_history.proofs.Turns.{leads_on, taken, here, were_all, refused_so, no_room, all_lived, lived_so_far}
 use Rattle.tup_history.proofs.life.history.Goals as goal
@@ -65,20 +64,6 @@ returns-clause-lived g c =
     (were_all turns it gives.0 len c.loop-turn.yielded left c.loop-turn.yielded_by c.next.result c.next.new.self c.in-None.is c.next.ensures.steps)
     c.loop-turn.invariant.count
     c.loop-turn.invariant.history
-
--- ---- the headline
-
-pub returns-then-is_err-clause-clean_build : goal.returns-then-is_err-clause-clean_build
-returns-then-is_err-clause-clean_build g c = λ means done.
-    ends_built g.R.Runner.tells g.R.Runner.next means c.args.turns.items c.from_vec.result (Some (0, Memory)) _ _ (returns-then-is_err-clause-lived g c) done
-
-pub returns-in-Err-clause-clean_build : goal.returns-in-Err-clause-clean_build
-returns-in-Err-clause-clean_build g c = λ means done.
-    ends_built g.R.Runner.tells g.R.Runner.next means c.args.turns.items c.from_vec-in-Err.result (Some (c.len-in-Err.result, c.in-Err.why)) _ _ (returns-in-Err-clause-lived g c) done
-
-pub returns-clause-clean_build : goal.returns-clause-clean_build
-returns-clause-clean_build g c = λ means done.
-    ends_built g.R.Runner.tells g.R.Runner.next means c.args.turns.items c.from_vec-2.result None _ _ (returns-clause-lived g c) done
 
 -- ---- what a crash leaves
 

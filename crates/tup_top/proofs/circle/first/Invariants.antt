@@ -1,5 +1,5 @@
 use Rattle.std.proofs.Common.{◌≡◌, fold, take}
-use Rattle.tup_update.specs.Compared.{first_of}
+use Rattle.tup_compare.specs.Compared.{first_of}
 use Rattle.tup_top.proofs.circle.first.Given as goal
 
 abbrev pub invariant-loop-other : goal.invariant-loop-other

@@ -1,7 +1,7 @@
 use Rattle.std.proofs.Common.{rules}
 use Rattle.tup_ledger.specs.Begin.{Begins}
 use Rattle.tup_top.specs.Promise.{Lasts}
-use Rattle.tup_top.proofs.Begun.{begun_answered, begun_counts, prints_begun}
+use Rattle.tup_top.proofs.Begun.{begun_answered, begun_counts, failed, prints_begun}
 use Rattle.tup_top.proofs.init.init.Goals as goal
 
 pub returns-in-Ok-clause-begins : goal.returns-in-Ok-clause-begins
@@ -20,3 +20,7 @@ returns-in-Ok-clause-counted_cause g c =
 pub returns-in-Ok-clause-printed : goal.returns-in-Ok-clause-printed
 returns-in-Ok-clause-printed g c = λ shows.
     prints_begun _ _ _ _ c.begin.result _ _ _ c.status_of_begun-status.ensures (search rules) c.print.ensures.ends (c.print.ensures.prints shows)
+
+-- no memory for its line
+pub returns-in-Err-clause-counted_cause : goal.returns-in-Err-clause-counted_cause
+returns-in-Err-clause-counted_cause g c = failed (g.S.Site.faults c.args.site.now) (g.S.Site.faults c.begin.new.site) c.begin.result c.begin.ensures.cause

@@ -3,5 +3,5 @@ use Rattle.std.specs.List.{flat_map}
 use Rattle.tup_top.specs.Lines as specs
 use Rattle.tup_top.proofs.print.add_ended.Given as goal
 
-abbrev pub invariant-loop-at : goal.invariant-loop-at
-invariant-loop-at l = string_bytes l.text ++ flat_map (specs.ended_line l.rules) (drop l.at-index l.ended) ≡ string_bytes l.fn.text ++ flat_map (specs.ended_line l.rules) l.ended
+abbrev pub invariant-loop-one : goal.invariant-loop-one
+invariant-loop-one l = string_bytes l.text ++ flat_map specs.ended_line (drop l.one-index l.ended) ≡ string_bytes l.fn.text ++ flat_map specs.ended_line l.ended

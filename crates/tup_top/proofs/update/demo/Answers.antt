@@ -1,10 +1,8 @@
 use Rattle.std.proofs.Common.{true, refl, subst}
 use Rattle.tup_site.specs.World.{World}
-use Rattle.tup_mini.specs.Means.{mini_next}
-use Rattle.tup_update.specs.Log.{OfRules}
-use Rattle.tup_update.specs.Outcome.{HasCause}
+use Rattle.tup_demo.specs.Steady.{world_in}
 use Rattle.tup_top.specs.Printed.{PrintsUpdate}
-use Rattle.tup_top.specs.Promise.{CountsAll}
+use Rattle.tup_top.specs.Promise.{OpensStore}
 use Rattle.tup_top.specs.Status.{IfCame}
 use Rattle.tup_top.proofs.Demo.{demo_cause}
 use Rattle.tup_top.proofs.Shown.{unshown_cause, unshown_prints}
@@ -14,11 +12,11 @@ pub returns-in-Ok : goal.returns-in-Ok
 returns-in-Ok g c =
     let status = c.update.result.status in
     let ran = c.update.result.ran in
+    let left = world_in c.update.result.site in
     record {
-      cause = demo_cause (g.K.Sink.faults c.args.out.now) (g.K.Sink.faults c.update.new.out) status
-          (subst (λ (w : World). IfCame status (OfRules w (λ rules. HasCause mini_next rules w))) c.in-Ok.ensures.holds (c.update.ensures.cause refl refl)) c.update.ensures.counted_cause
-          (subst (λ (w : World). IfCame status (OfRules w (λ rules _. CountsAll mini_next rules w status))) c.in-Ok.ensures.holds (c.update.ensures.told refl refl));
-      printed = λ shows. (ran, subst (λ w. PrintsUpdate true true mini_next w ran (g.K.Sink.faults c.args.out.now) (g.K.Sink.faults c.update.new.out) (g.K.Sink.held c.args.out.now) (g.K.Sink.held c.update.new.out) status) c.in-Ok.ensures.holds (c.update.ensures.printed shows));
+      cause = demo_cause left ran (g.K.Sink.faults c.args.out.now) (g.K.Sink.faults c.update.new.out) status
+          (subst (λ (w : World). IfCame status (OpensStore w left ran)) c.in-Ok.ensures.holds (c.update.ensures.opens_store refl)) c.update.ensures.counted_cause;
+      printed = λ shows. (ran, left, subst (λ (w : World). PrintsUpdate true w left ran (g.K.Sink.faults c.args.out.now) (g.K.Sink.faults c.update.new.out) (g.K.Sink.held c.args.out.now) (g.K.Sink.held c.update.new.out) status) c.in-Ok.ensures.holds (c.update.ensures.printed shows));
     }
 
 pub returns-in-Err : goal.returns-in-Err

@@ -1,8 +1,8 @@
 use Rattle.std.proofs.Common.{rules, inl, inr, ⊎_elim}
 use Rattle.std.specs.Result.{result_err}
-use Rattle.tup_update.specs.Compared.{HasCompared, RunsToCompare}
-use Rattle.tup_update.specs.Outcome.{JustOpens}
-use Rattle.tup_top.proofs.Verified.{compared_answered, untold_compared, compared_counts, prints_compared}
+use Rattle.tup_compare.specs.Compared.{HasCompared, RunsToCompare}
+use Rattle.tup_compare.specs.Opened.{JustOpens}
+use Rattle.tup_top.proofs.Verified.{compared_answered, untold_compared, compared_counts, failed, prints_compared}
 use Rattle.tup_top.proofs.verify.verify.Goals as goal
 
 pub returns-in-Ok-clause-compared : goal.returns-in-Ok-clause-compared
@@ -39,6 +39,13 @@ returns-in-Ok-clause-printed g c = λ shows.
 -- no memory for its line
 pub returns-in-Err-clause-opens : goal.returns-in-Err-clause-opens
 returns-in-Err-clause-opens g c = λ tells. ⊎_elim inl (λ same. inr same.3) (c.compare_site.ensures.holds tells).store
+
+pub returns-in-Err-clause-counted_cause : goal.returns-in-Err-clause-counted_cause
+returns-in-Err-clause-counted_cause g c =
+    let compared = c.compare_site in
+    let heard = g.K.Sink.faults c.args.out.now in
+    failed (g.S.Site.faults c.args.site.now) (g.S.Site.faults compared.new.site) (g.R.Runner.faults c.args.runner.now) (g.R.Runner.faults compared.new.runner) heard heard
+    compared.result compared.ensures.counted_cause compared.ensures.run_cause
 
 pub returns-in-Err-clause-ran : goal.returns-in-Err-clause-ran
 returns-in-Err-clause-ran g c = λ tells means shows.

@@ -1,0 +1,3 @@
+mod Stopping
+mod Opening
+mod Seeing

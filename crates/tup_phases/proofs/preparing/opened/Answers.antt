@@ -1,0 +1,32 @@
+use Rattle.tup_promise.specs.Cause.{HasCountedCause}
+use Rattle.tup_promise.specs.Stopped.{stop_of_graph}
+use Rattle.tup_promise.specs.Unopened.{Unopened}
+use Rattle.tup_promise.proofs.Handed.{err_if, err_so}
+use Rattle.tup_phases.specs.Prepared.{StopsBefore}
+use Rattle.tup_phases.proofs.Opening.{readable, refused}
+use Rattle.tup_phases.proofs.Stopping.{graph_before, graph_counted}
+use Rattle.tup_phases.proofs.preparing.opened.Goals as goal
+
+pub returns-in_err-open-clause-unopened : goal.returns-in_err-open-clause-unopened
+returns-in_err-open-clause-unopened g c = λ tells log empty.
+    let old = g.S.Site.world c.args.site.now in
+    let new = g.S.Site.world c.open.new.site in
+    let fault = c.in_err-open.field-0.0 in
+    err_so c.from_residual.result (stop_of_graph fault) (Unopened old new log) c.from_residual.ensures.1
+    (refused old new (c.open.ensures.tree tells) (c.open.ensures.keeps tells) log empty fault (c.in_err-open.ensures.opens tells))
+
+pub returns-in_err-open-clause-stops : goal.returns-in_err-open-clause-stops
+returns-in_err-open-clause-stops g c =
+    let fault = c.in_err-open.field-0.0 in
+    err_if c.from_residual.result (stop_of_graph fault) StopsBefore c.from_residual.ensures.1 (graph_before fault)
+
+pub returns-in_err-open-clause-counted : goal.returns-in_err-open-clause-counted
+returns-in_err-open-clause-counted g c =
+    let fault = c.in_err-open.field-0.0 in
+    let before = g.S.Site.faults c.args.site.now in
+    let now = g.S.Site.faults c.open.new.site in
+    err_so c.from_residual.result (stop_of_graph fault) (HasCountedCause before now) c.from_residual.ensures.1 (graph_counted before now c.open.result fault c.in_err-open.was c.open.ensures.cause)
+
+pub returns-clause-unopened : goal.returns-clause-unopened
+returns-clause-unopened g c = λ tells log empty.
+    readable (g.S.Site.world c.args.site.now) (g.S.Site.world c.open.new.site) c.in_ok-open.field-0 (c.in_ok-open.ensures.opens tells)

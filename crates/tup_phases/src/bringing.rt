@@ -1,0 +1,102 @@
+//! What the Tupfiles say by now.
+ghost use Rattle.std.specs.Prelude.{◌≡◌, IsTrue, IfOk, IfErr, OnOk, map};
+ghost use Rattle.std.specs.Result.{result_err};
+ghost use Rattle.tup_rule_diff.specs.Edits.{dir_of};
+ghost use Rattle.tup_stored_graph.specs.Held.{is_fresh, StandsFor};
+ghost use Rattle.tup_refresh.specs.Refresh.{AreSorted};
+ghost use Rattle.tup_promise.specs.Cause.{HasCountedCause};
+ghost use Rattle.tup_phases.specs.Prepared.{HasSeen, RunsNone, StopsOpened};
+
+use std::alloc::{AllocError, Global};
+use tup_commit::swap_rules;
+use tup_graph::Nodes;
+use tup_law_phases::sorted_may_be_swapped;
+use tup_path::{Bytes, Path, Paths};
+use tup_project::link_all;
+use tup_promise::{Log, Stop};
+use tup_refresh::{Refreshed, refresh};
+use tup_rule::Reading;
+use tup_rule_diff::Refreshed as Readings;
+use tup_site::Site;
+use tup_stored_graph::{Graph, reads_keep_graphs};
+
+/// Reads the Tupfiles that have to be read again, and puts into the graph what they say by now. The log is told of them.
+///
+/// Where no folder was to be read and no Tupfile vanished, the rules are those of before, and nothing is linked or written.
+pub(crate) fn brought<S: Site>(
+    alloc: Global,
+    site: &mut S,
+    graph: &mut Graph,
+    config: &Option<Bytes>,
+    log: &mut Log,
+) -> Result<(), Stop>
+    requires fresh { IsTrue (is_fresh graph.old) }
+    requires stands { IsTrue S.tells
+        → StandsFor S.world S.moment S.left_since graph.old site.old }
+    requires seen { IsTrue S.tells → HasSeen graph.old.nodes (S.world site.old).tree }
+    ensures fresh { OnOk result (IsTrue (is_fresh graph.new)) }
+    ensures stands { IsTrue S.tells
+        → OnOk result (StandsFor S.world S.moment S.left_since graph.new site.new) }
+    ensures seen { IsTrue S.tells
+        → OnOk result (HasSeen graph.new.nodes (S.world site.new).tree) }
+    ensures none { RunsNone log.old log.new }
+    ensures stops { IfErr result StopsOpened }
+    ensures counted { HasCountedCause (S.faults site.old) (S.faults site.new) (result_err result) }
+{
+    reads_keep_graphs(&*site);
+    let found = refresh(alloc, graph.nodes(), site, config)?;
+    if brings_nothing(graph.nodes(), &found) {
+        return Ok(());
+    }
+    swapped(alloc, site, graph, found, log)
+}
+
+/// Whether all readings are those that the graph keeps, and it waits for none.
+fn brings_nothing(nodes: &Nodes, found: &Refreshed) -> bool {
+    found.fresh.len() == 0 && found.gone.len() == 0 && nodes.created().next().is_none()
+}
+
+/// Links the readings of all folders to the rules of the project, and puts readings and rules into the graph.
+fn swapped<S: Site>(
+    alloc: Global,
+    site: &mut S,
+    graph: &mut Graph,
+    found: Refreshed,
+    log: &mut Log,
+) -> Result<(), Stop>
+    requires fresh { IsTrue (is_fresh graph.old) }
+    requires stands { IsTrue S.tells
+        → StandsFor S.world S.moment S.left_since graph.old site.old }
+    requires seen { IsTrue S.tells → HasSeen graph.old.nodes (S.world site.old).tree }
+    requires sorted { AreSorted found }
+    ensures fresh { OnOk result (IsTrue (is_fresh graph.new)) }
+    ensures stands { IsTrue S.tells
+        → OnOk result (StandsFor S.world S.moment S.left_since graph.new site.new) }
+    ensures seen { IsTrue S.tells
+        → OnOk result (HasSeen graph.new.nodes (S.world site.new).tree) }
+    ensures none { RunsNone log.old log.new }
+    ensures stops { IfErr result StopsOpened }
+    ensures counted { HasCountedCause (S.faults site.old) (S.faults site.new) (result_err result) }
+{
+    sorted_may_be_swapped();
+    let rules = link_all(alloc, found.all.as_slice())?;
+    let read = folders_of(alloc, found.fresh.as_slice())?;
+    let readings = Readings {
+        readings: found.fresh,
+        gone: found.gone,
+    };
+    swap_rules(alloc, graph, site, &readings, rules.as_slice())?;
+    log.read = read;
+    Ok(())
+}
+
+/// The folders of some readings, in their order.
+fn folders_of(alloc: Global, readings: &[(Path, Reading)]) -> Result<Paths, AllocError>
+    ensures { IfOk result (λ folders. folders ≡ map dir_of readings.now) }
+{
+    let mut folders = Paths::new(alloc);
+    for (folder, _) in readings {
+        folders.push(folder.clone()?)?;
+    }
+    Ok(folders)
+}

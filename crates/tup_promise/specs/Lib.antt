@@ -1,0 +1,4 @@
+pub mod Stopped
+pub mod Cause
+pub mod Ran
+pub mod Unopened

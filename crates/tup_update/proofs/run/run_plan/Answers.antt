@@ -1,0 +1,70 @@
+use Rattle.std.proofs.Common.{◌≡◌, ℕ, ap, refl, sym, subst, ◌∙◌}
+use Rattle.tup_stored_graph.specs.Held.{Held}
+use Rattle.tup_core.specs.declared.plan.Plan.{Plan}
+use Rattle.tup_rule_outputs.specs.declared.fault.BoardFault.{BoardFault}
+use Rattle.tup_board.specs.Board.{BoardState}
+use Rattle.tup_board.specs.Calls.{opened_as}
+use Rattle.tup_promise.specs.Cause.{HasCountedCause}
+use Rattle.tup_promise.specs.declared.log.Log.{Log}
+use Rattle.tup_update.proofs.Whole.{memory_counted, memory_ran, memory_run_cause, memory_stops}
+use Rattle.tup_update.proofs.run.run_plan.Goals as goal
+
+-- a board at its opening is the one of the graph and the site that it was made of
+as_opened : {S : Type 0} (plan : Plan) (graph : Held) (site : S) (board : BoardState S) → board ≡ opened_as plan graph site → board ≡ opened_as plan board.opening.graph board.opening.site
+as_opened plan graph site board is = subst (λ (b : BoardState _). b ≡ opened_as plan b.opening.graph b.opening.site) (sym is) refl
+
+-- ---- a board was made
+
+pub new-requires : goal.new-requires
+new-requires g c = record {
+  fresh = c.requires.fresh;
+  stands = c.requires.stands;
+  seen = c.requires.seen;
+  plan = c.requires.plan;
+  apart = c.requires.apart;
+}
+
+pub run_board-requires-clause-opening : goal.run_board-requires-clause-opening
+run_board-requires-clause-opening g c =
+    as_opened c.args.plan.now c.args.graph c.args.site c.in-Ok-new.board c.in-Ok-new.ensures.board
+
+pub returns-in-Ok-new-clause-counted : goal.returns-in-Ok-new-clause-counted
+returns-in-Ok-new-clause-counted g c =
+    let done = c.run_board.result in
+    subst (λ (n : ℕ). HasCountedCause n (g.S.Site.faults done.site) done.stopped) (ap (λ (board : BoardState _). g.S.Site.faults board.opening.site) c.in-Ok-new.ensures.board) c.run_board.ensures.counted
+
+-- ---- there was no memory for it
+
+pub returns-in-Err-clause-stops : goal.returns-in-Err-clause-stops
+returns-in-Err-clause-stops g c = memory_stops c.without_memory-in-Err.result.stopped c.without_memory-in-Err.ensures.stopped
+
+pub returns-in-Err-clause-counted : goal.returns-in-Err-clause-counted
+returns-in-Err-clause-counted g c =
+    let done = c.without_memory-in-Err in
+    memory_counted done.result.stopped done.ensures.stopped (g.S.Site.faults c.args.site) (g.S.Site.faults done.result.site)
+    (ap g.S.Site.faults (done.ensures.site ∙ ap (λ (back : _ × Held × BoardFault). back.0) c.in-Err.ensures.memory))
+
+pub returns-in-Err-clause-cause : goal.returns-in-Err-clause-cause
+returns-in-Err-clause-cause g c = memory_run_cause c.without_memory-in-Err.result.stopped c.without_memory-in-Err.ensures.stopped (g.R.Runner.faults c.args.runner.now)
+
+pub returns-in-Err-clause-ran : goal.returns-in-Err-clause-ran
+returns-in-Err-clause-ran g c = λ tells.
+    memory_ran c.without_memory-in-Err.result.stopped c.without_memory-in-Err.ensures.stopped c.without_memory-in-Err.result.log.ran (g.R.Runner.ran c.args.runner.now) (ap (λ (log : Log). log.ran) c.without_memory-in-Err.ensures.log ∙ c.requires.none)
+
+-- ---- nor for the names of its rules
+
+pub returns-in_default-clause-stops : goal.returns-in_default-clause-stops
+returns-in_default-clause-stops g c = memory_stops c.without_memory.result.stopped c.without_memory.ensures.stopped
+
+pub returns-in_default-clause-counted : goal.returns-in_default-clause-counted
+returns-in_default-clause-counted g c =
+    let done = c.without_memory in
+    memory_counted done.result.stopped done.ensures.stopped (g.S.Site.faults c.args.site) (g.S.Site.faults done.result.site) (ap g.S.Site.faults done.ensures.site)
+
+pub returns-in_default-clause-cause : goal.returns-in_default-clause-cause
+returns-in_default-clause-cause g c = memory_run_cause c.without_memory.result.stopped c.without_memory.ensures.stopped (g.R.Runner.faults c.args.runner.now)
+
+pub returns-in_default-clause-ran : goal.returns-in_default-clause-ran
+returns-in_default-clause-ran g c = λ tells.
+    let done = c.without_memory in
+    memory_ran done.result.stopped done.ensures.stopped done.result.log.ran (g.R.Runner.ran c.args.runner.now) (ap (λ (log : Log). log.ran) done.ensures.log ∙ c.requires.none)

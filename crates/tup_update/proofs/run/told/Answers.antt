@@ -1,0 +1,35 @@
+use Rattle.std.proofs.Common.{◌≡◌, true, List, map, Some, All, sym, subst}
+use Rattle.std.specs.Bool.{nat_eq}
+use Rattle.std.specs.List.{IsDistinct}
+use Rattle.std.specs.Option.{is_some}
+use Rattle.tup_core.specs.declared.event.CoreEvent.{CoreEvent}
+use Rattle.tup_core.specs.Run.{claims}
+use Rattle.tup_update.specs.Names.{name_at}
+use Rattle.tup_update.proofs.Commands.{all_some, ran_commands}
+use Rattle.tup_update.proofs.run.told.Goals as goal
+
+pub claimed-requires-clause-room : goal.claimed-requires-clause-room
+claimed-requires-clause-room g c = c.requires.names.room
+
+pub claimed-requires-clause-once : goal.claimed-requires-clause-once
+claimed-requires-clause-once g c =
+    let plan = c.args.plan.now in
+    subst (λ (events : List CoreEvent). IsDistinct nat_eq (claims events)) (sym c.as_slice-history.ensures) (c.claimed_once.ensures.once plan c.requires.run.0 c.args.parts.history c.requires.run.1)
+
+pub claimed-requires-clause-named : goal.claimed-requires-clause-named
+claimed-requires-clause-named g c =
+    let plan = c.args.plan.now in
+    let names = c.args.names in
+    subst (λ (events : List CoreEvent). All (λ number. is_some (name_at names number) ≡ true) (claims events)) (sym c.as_slice-history.ensures)
+    (all_some plan names c.requires.names c.requires.range (claims c.args.parts.history) (c.claimed_once.ensures.reached plan c.requires.run.0 c.args.parts.history c.requires.run.1))
+
+pub claimed-requires-clause-none : goal.claimed-requires-clause-none
+claimed-requires-clause-none g c = c.requires.names.none
+
+pub returns-clause-ran : goal.returns-clause-ran
+returns-clause-ran g c =
+    let plan = c.args.plan.now in
+    let names = c.args.names in
+    let history = c.args.parts.history in
+    ran_commands plan names c.requires.names c.requires.range history (c.claimed_once.ensures.reached plan c.requires.run.0 history c.requires.run.1) c.claimed.result
+    (subst (λ (events : List CoreEvent). map Some c.claimed.result ≡ map (name_at names) (claims events)) c.as_slice-history.ensures c.claimed.ensures)
