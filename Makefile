@@ -70,6 +70,7 @@ edits:
 
 try: build
 	sh tests/program.sh $(TUP)
+	sh tests/skip.sh $(TUP)
 
 shell: build runners
 	sh tests/shell.sh $(SH)

@@ -24,6 +24,10 @@ cat app app.stamp
 say "the files are those of a clean build"
 "$tup" verify
 
+say "a header is edited: what includes it is made anew, and what is made of that"
+sed -i 's/3/4/' inc/size.h
+update
+
 say "without what tup.config sets"
 rm tup.config
 update
@@ -37,6 +41,13 @@ begin
 say "the first update"
 update
 cat index.html
+
+say "nothing is to be done"
+update
+
+say "a source is edited: the rule that reads it runs"
+echo 'h1 { color: green }' >> style.css
+update
 
 say "a rule that fails: what ran before it stands"
 echo ': index.html |> fail 3 |> checked.html' >> Tupfile

@@ -33,7 +33,8 @@ sources() {
         -o -printf '%y %m %p %l\n' -type f -exec sha256sum {} + | sort
 }
 
-# update STEP STATUS LINE: an update, its exit number and its last line. No source may change.
+# update STEP STATUS LINE: an update, its exit number and its last line, or `done` where its numbers are free. No source may
+# change.
 update() {
     step=$1
     updates=$((updates + 1))
@@ -42,7 +43,7 @@ update() {
     status=$?
     [ $status = "$2" ] || wrong "exit number $status, wanted $2: $(cat "$work/err")"
     last=$(tail -n 1 "$work/out")
-    [ "$last" = "$3" ] || wrong "its last line is '$last', wanted '$3'"
+    [ "$last" = "$3" ] || [ "${last%%:*} $3" = 'done done' ] || wrong "its last line is '$last', wanted '$3'"
     [ "$(sources)" = "$before" ] || wrong "a source changed"
 }
 
@@ -58,31 +59,30 @@ told() {
     grep -q "$1" "$work/err" || wrong "it didn't say: $1"
 }
 
-all='done: 2 read, 6 run, 0 removed'
 compile='cc -Wall -I../lib -c main.c -o main.o'
 cp -r "$example" "$work/project" && cd "$work/project" && "$tup" init > /dev/null || exit 1
-update 'as it is' 0 "$all"
+update 'as it is' 0 'done: 2 read, 6 run, 0 removed'
 greets 'Hello from version 1.2'
 
 # -- headers that no rule names
 sed -i 's/Hello/Good day/' lib/words.h
-update 'a header is edited' 0 "$all"
+update 'a header is edited' 0 'done: 0 read, 2 run, 0 removed'
 greets 'Good day from version 1.2'
 echo '#define GREETING "Good morning"' > src/words.h
-update 'another of its name is found earlier on the include path' 0 "$all"
+update 'another of its name is found earlier on the include path' 0 'done: 1 read, 2 run, 0 removed'
 greets 'Good morning from version 1.2'
 rm lib/words.h
-update 'the one behind it is deleted' 0 "$all"
+update 'the one behind it is deleted' 0 'done: 1 read, 0 run, 0 removed'
 greets 'Good morning from version 1.2'
 rm src/words.h
 update 'a header is deleted' 1 "fault: src: $compile: status 1"
 told 'words.h: No such file'
 mkdir src/more && cp "$example/lib/words.h" src/more
 sed -i 's/-I/-Imore -I/' src/Tupfile
-update 'one of its name is found elsewhere' 0 "$all"
+update 'one of its name is found elsewhere' 0 'done: 1 read, 2 run, 0 removed'
 greets 'Hello from version 1.2'
 rm -r src/more && cp "$example/src/Tupfile" src && cp "$example/lib/words.h" lib
-update 'it is put back' 0 "$all"
+update 'it is put back' 0 'done: 2 read, 2 run, 0 removed'
 
 # -- a header that a rule makes has to be named
 sed -i 's/ | version.h//' src/Tupfile
@@ -92,9 +92,9 @@ echo ': |> echo "#define SIZE 3" > %o |> size.h' >> lib/Tupfile
 sed -i '1i #include "size.h"' src/main.c
 update 'one of another folder' 1 "fault: src: $compile: reads ../lib/size.h"
 sed -i 's/ | version.h/& ..\/lib\/size.h/' src/Tupfile
-update 'it is named' 0 'done: 2 read, 7 run, 0 removed'
+update 'it is named' 0 'done: 1 read, 2 run, 0 removed'
 cp "$example/src/Tupfile" "$example/src/main.c" src && cp "$example/lib/Tupfile" lib
-update 'its rule vanishes' 0 'done: 2 read, 6 run, 1 removed'
+update 'its rule vanishes' 0 'done: 2 read, 2 run, 1 removed'
 
 # -- what a command writes has to be named
 sed -i 's/-c %f -o %o/& \&\& echo x > extra/' src/Tupfile
@@ -103,7 +103,8 @@ update 'a file is written and not named' 1 "fault: src: $compile && echo x > ext
 sed -i 's/ && echo x > extra/; echo x >> ..\/lib\/hello.c/' src/Tupfile
 update 'a source is written' 1 "fault: src: $compile; echo x >> ../lib/hello.c: writes ../lib/hello.c"
 cp "$example/src/Tupfile" src
-update 'at the end' 0 "$all"
+update 'at the end' 0 'done: 1 read, 2 run, 0 removed'
+update 'once more' 0 'done: 0 read, 0 run, 0 removed'
 greets 'Hello from version 1.2'
 cmp -s lib/hello.c "$example/lib/hello.c" || wrong 'hello.c was changed'
 
@@ -164,9 +165,10 @@ at_moments() {
     rm -rf "$work/project" && cp -r "$example" "$work/project" && cd "$work/project" && "$tup" init > /dev/null || exit 1
     if [ -n "$user" ]; then chown -R 65534:65534 .; fi
     for moment in 0.02 0.05 0.1 0.15 0.2 0.25 0.3 0.35 0.4 0.5; do
+        echo "// $moment" >> lib/bye.c
         $user timeout -s "$1" $moment "$tup" upd --proc "$sh" > "$work/out" 2> "$work/err"
         flock . true # until it has let go of the project
-        update "behind one that was stopped by $1 at $moment${user:+ and not by root}" 0 "$all"
+        update "behind one that was stopped by $1 at $moment${user:+ and not by root}" 0 done
         greets 'Hello from version 1.2'
     done
 }

@@ -1,10 +1,14 @@
 #!/bin/sh
-# Counts the system calls of an update that makes 1,000 files of 1,000 sources, by strace, and says how many there are of
-# each kind; then once more two folders further down, once more where all files have their content, and of one rule alone,
-# with the bytes that the store is given. It ends with 1 where there are more than 16 for each file and 600 beside: one in the
-# listing, four for each of the two times that a source is read (for the rules, and by its command), four to make a file of
-# it, three to make that durable. Folders above a file are looked at once a folder. Where a file is there it takes two more
-# calls to see whether it has its content. Word: the program. It is no part of the gate.
+# Counts the system calls of updates of 1,000 files that are made of 1,000 sources, by strace, and says how many there are of each
+# kind: of the first update, of one by which nothing is to be done, and of one by which each command is another and each file has
+# its content already; all of it two folders further down; and of one rule alone, with the bytes that the store is given.
+#
+# It ends with 1 where there are more than these for each rule, and 600 beside. Nothing to do: ten, as source and output are each
+# listed with one and read with four. The first update: 27, as its source is listed and read for the rules and read by its command,
+# four make a file of it, six make that and its folder durable, and eight commit, twice, what begins and what ended. Each
+# command another: 32, as the output is listed and read for the rules too, and read in place of being made. Each folder more above
+# a file that is made takes three to be made durable; it is looked at once. Where nothing is to be done no byte is written, and three syncs are made: of the store, of its folder, of the one
+# above. Word: the program. It is no part of the gate.
 set -u
 tup=$(realpath "$1")
 if ! strace -o /dev/null true 2> /dev/null; then
@@ -14,13 +18,17 @@ fi
 work=$(mktemp -d)
 trap 'cd /; rm -rf "$work"' EXIT
 
-# Counts in a new folder. Word: its place in the project.
+# Counts in a new folder. Words: its place in the project, and the calls that its depth adds to each rule that runs.
 count() {
     rm -rf "$work/project" && mkdir -p "$work/project/$1" && cd "$work/project/$1" || exit 1
     make_files
     cd "$work/project" || exit 1
     "$tup" init > /dev/null || exit 1
-    update "in $1" 16600 900
+    update "the first update, in $1" $((27600 + $2 * 1000)) 900
+    update "nothing to do" 10600 900
+    [ "$bytes $syncs" = '0 3' ] || exit 1
+    sed -i 's/cp \([^ ]*\)/cat \1 >/' "$1/Tupfile"
+    update "each command is another" $((32600 + $2 * 1000)) 900
 }
 
 make_files() {
@@ -30,29 +38,28 @@ make_files() {
 # Counts the calls of an update. Words: which, how many there may be, and from how many on those of a kind are told.
 update() {
     strace -f -y -o "$work/trace" "$tup" > "$work/told" || exit 1
-    printf '%s, %s\n' "$(tail -1 "$work/told")" "$1"
-    tell "$2" "$3" || exit 1
-}
-
-tell() {
-    awk -v most="$1" -v many="$2" '
+    printf '%s: %s\n' "$1" "$(tail -1 "$work/told")"
+    awk -v many="$3" '
         { sub(/^[0-9]+ +/, "") }
         /"\.["\/]/ { begun = 1 }
         !begun || /^[^a-z]/ || /^m/ { next }
         /^p?write(64)?\(.*\/\.tup\/db(\.new)?>/ { bytes += $NF }
+        /^f(data)?sync\(/ { syncs++ }
         { sub(/\(.*/, ""); count[$0]++; all++ }
         END {
             for (name in count) if (count[name] >= many) { printf "  %d %s\n", count[name], name; counted += count[name] }
-            printf "  %d others\n%d system calls, %d bytes to the store\n", all - counted, all, bytes
-            exit all > most
-        }' "$work/trace"
+            printf "  %d others\n%d system calls, %d bytes to the store, %d syncs\n", all - counted, all, bytes, syncs
+        }' "$work/trace" | tee "$work/counts"
+    read -r all _ _ bytes _ _ _ _ syncs _ << END
+$(tail -1 "$work/counts")
+END
+    [ "$all" -le "$2" ] || exit 1
 }
 
-count .
-update "where all files are there" 18600 900
-count two/down
+count . 0
+count two/down 6
 
-# One rule alone: its output is new, and then its source has changed.
+# One rule alone: its output is new, then its source has changed, then nothing is to be done.
 rm -rf "$work/project" && mkdir "$work/project" && cd "$work/project" || exit 1
 echo hi > a
 echo ': a |> cp a b |> b' > Tupfile
@@ -60,3 +67,5 @@ echo ': a |> cp a b |> b' > Tupfile
 update "one rule, whose output is new" 100 1
 echo ho > a
 update "one rule, whose source has changed" 100 1
+update "one rule, and nothing to do" 100 1
+[ "$bytes $syncs" = '0 3' ] || exit 1

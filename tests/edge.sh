@@ -36,24 +36,31 @@ same() {
 
 copy=': a |> cp a b |> b'
 
+# The last line of the next update: how far the one before it came is free, so what it reads and runs isn't told.
+next_update() { "$tup" | tail -1 | sed 's/[01] read, [01] run/.. read, .. run/'; }
+done_then='done: .. read, .. run, 0 removed'
+
 # An update once more, in which one call is refused for want of memory: it ends with 7 and the reason; what only reads may
 # end with 12, as the system then changed nothing, and what prints with 9. Without a lock it goes on, and closing a file that
 # was read or synced is nothing.
-project "$copy"
-"$tup" > /dev/null
+once_more() {
+    project "$copy"
+    "$tup" > /dev/null
+    printf 'ho\n' > a
+}
+once_more
 strace -o "$work/trace" "$tup" > /dev/null
 awk '{ name = $0; sub(/\(.*/, "", name); count[name]++ } /"\.["\/]/ { begun = 1 } begun && name ~ /^[a-z]/ && name !~ /^mmap|^exit/ { print name, count[name] }' "$work/trace" > "$work/list"
 while read -r call number; do
     what="$call number $number without memory"
-    project "$copy"
-    "$tup" > /dev/null
+    once_more
     strace -o /dev/null -e trace="$call" -e inject="$call:error=ENOMEM:when=$number" "$tup" > "$work/told" 2> "$work/said"
     case "$call $? $(tail -1 "$work/said")" in
         'close 0 ' | 'flock 0 ' | *' 7 tup: '*'(os error 12)' | 'write 9 ' | 'read 12 ' | 'openat 12 ') ;;
         *) same "$what" "$? $(tail -1 "$work/told") $(tail -1 "$work/said")" "7 and the reason" ;;
     esac
-    same "$what, the source" "$(cat a)" hi
-    same "$what, the next update" "$("$tup" | tail -1)" 'done: 1 read, 1 run, 0 removed'
+    same "$what, the source" "$(cat a)" ho
+    same "$what, the next update" "$(next_update) $(cat b)" "$done_then ho"
 done < "$work/list"
 [ -s "$work/list" ] || same "calls of an update" none some
 
@@ -67,12 +74,12 @@ for limit in $(seq 2000 250 9000); do
     head -c 1000000 /dev/zero | tr '\0' x > a
     prlimit --as=$((limit * 1024)) "$tup" > "$work/told" 2> /dev/null
     case "$? $(tail -1 "$work/told")" in
-        '0 done: 1 read, 1 run, 0 removed' | '12 fault: no memory' | '12 ' | '127 ') ;;
+        '0 done: 0 read, 1 run, 0 removed' | '12 fault: no memory' | '12 ' | '127 ') ;;
         *) same "$what" "$? $(tail -1 "$work/told")" "done, or no memory" ;;
     esac
     same "$what, the source" "$(cksum < a)" "$wanted_large"
     case "$(cksum < b)" in "$wanted_large" | "$(echo hi | cksum)") ;; *) same "$what, the output" torn whole ;; esac
-    same "$what, the next update" "$("$tup" | tail -1)" 'done: 1 read, 1 run, 0 removed'
+    same "$what, the next update" "$(next_update) $(cksum < b)" "$done_then $wanted_large"
 done
 
 # A removal that a killed update left where no sync came: the next one syncs the folder before its list forgets the file.
@@ -100,43 +107,52 @@ calls_of() {
         END { n = split(counted, name, "|"); for (i = 1; i <= n; i++) printf "%s %d ", name[i], count[name[i]] }' "$work/trace"
 }
 
-# An output that has its content is left alone, and synced; another is made anew, and never renamed into its place.
+# Where nothing is to be done nothing is written, and the store alone is made durable, with its name: the file, its folder and
+# the one above. A commit writes the store twice, each time with a sync: one notes what was seen, one has the readings and
+# rules, two are of each command that is run. An output that has its content is left alone, and synced; another is made anew,
+# and never renamed into its place. Each command has its output and the folder of that synced.
 changes='unlink|rename|pwrite64|write|fdatasync|fsync'
 project "$copy"
 "$tup" > /dev/null
-touch -d @9 b
-strace -o "$work/trace" "$tup" > /dev/null
-same "an output that has its content" "$(stat -c %Y b) $(calls_of "$changes")" '9 unlink 1 rename 0 pwrite64 0 write 1 fdatasync 0 fsync 5 '
+touch -d @9 a b Tupfile
+strace -o "$work/trace" "$tup" > "$work/told"
+same "nothing is to be done" "$(cat "$work/told") $(stat -c %Y b) $(calls_of "$changes")" 'done: 0 read, 0 run, 0 removed 9 unlink 1 rename 0 pwrite64 0 write 1 fdatasync 0 fsync 3 '
+echo ': a |> cat a > b |> b' > Tupfile
+strace -o "$work/trace" "$tup" > "$work/told"
+same "an output that has its content" "$(tail -1 "$work/told") $(stat -c %Y b) $(calls_of "$changes")" 'done: 1 read, 1 run, 0 removed 9 unlink 1 rename 0 pwrite64 8 write 1 fdatasync 8 fsync 5 '
 printf 'ho\n' > a
 strace -o "$work/trace" "$tup" > /dev/null
-same "an output that is made anew" "$(cat b) $(calls_of "$changes")" 'ho unlink 2 rename 0 pwrite64 0 write 2 fdatasync 0 fsync 5 '
+same "an output that is made anew" "$(cat b) $(calls_of "$changes")" 'ho unlink 2 rename 0 pwrite64 6 write 2 fdatasync 6 fsync 5 '
 printf '%s\n' ': b |> cp b c |> c' >> Tupfile
 strace -o "$work/trace" "$tup" > /dev/null
-same "a commit" "$(cat c) $(calls_of "$changes")" 'ho unlink 1 rename 0 pwrite64 2 write 2 fdatasync 2 fsync 6 '
+same "a command more" "$(cat c) $(calls_of "$changes")" 'ho unlink 1 rename 0 pwrite64 8 write 2 fdatasync 8 fsync 5 '
 
 # A project without syncs asks the system for none, and is killed like any other.
 folder "$copy"
 strace -o "$work/trace" "$tup" init --no-sync > "$work/told"
 same "a project without syncs begins" "$? $(cat "$work/told") $(cat .tup/options) $(calls_of 'rename|fdatasync|fsync')" '0 initialized --no-sync rename 1 fdatasync 0 fsync 0 '
 strace -o "$work/trace" "$tup" > "$work/told"
-same "it is updated" "$? $(tail -1 "$work/told") $(cat b) $(calls_of 'pwrite64|fdatasync|fsync')" '0 done: 1 read, 1 run, 0 removed hi pwrite64 2 fdatasync 0 fsync 0 '
+same "it is updated" "$? $(tail -1 "$work/told") $(cat b) $(calls_of 'pwrite64|fdatasync|fsync')" '0 done: 1 read, 1 run, 0 removed hi pwrite64 8 fdatasync 0 fsync 0 '
 : > Tupfile
 strace -o "$work/trace" "$tup" --proc true > "$work/told"
-same "through a program" "$? $(tail -1 "$work/told") $(calls_of 'pwrite64|fdatasync|fsync')" '0 done: 1 read, 0 run, 1 removed pwrite64 2 fdatasync 0 fsync 0 '
-strace -o /dev/null -e trace=pwrite64 -e inject=pwrite64:signal=KILL:when=1 "$tup" > /dev/null 2>&1
+same "through a program" "$? $(tail -1 "$work/told") $(calls_of 'pwrite64|fdatasync|fsync')" '0 done: 1 read, 0 run, 1 removed pwrite64 8 fdatasync 0 fsync 0 '
 echo "$copy" > Tupfile
-strace -o /dev/null -e trace=pwrite64 -e inject=pwrite64:signal=KILL:when=2 "$tup" > /dev/null 2>&1
-same "it is killed" "$? $(ls | tr '\n' ' ')" '137 Tupfile a '
-same "and goes on" "$("$tup" | tail -1) $(cat b)" 'done: 1 read, 1 run, 0 removed hi'
+for write in 1 2 3 4; do
+    strace -o /dev/null -e trace=pwrite64 -e inject=pwrite64:signal=KILL:when=$write "$tup" > /dev/null 2>&1
+    same "it is killed" "$? $(ls | tr '\n' ' ')" '137 Tupfile a '
+done
+same "and goes on" "$(next_update) $(cat b)" "$done_then hi"
 
 # A file system that doesn't tell case apart shows a file under a name that its folder doesn't list.
-project "$copy" && "$tup" > /dev/null && mkdir .TUP
+project "$copy" && "$tup" > /dev/null && mkdir .TUP && printf 'ho\n' > a
 listings=$(strace -e trace=getdents64 "$tup" 2>&1 > /dev/null | grep -c '^getdents64')
+printf 'hu\n' > a
 strace -o /dev/null -e trace=getdents64 -e inject=getdents64:retval=0:when=$((listings - 1)) "$tup" > "$work/told" 2> "$work/said"
 same "a file of another spelling" "$?: $(cat "$work/said")" '7: tup: look at ./b: a file of another spelling stands here'
-same "it stays" "$(cat b)" hi
-project && mkdir sub && printf 'ho\n' > sub/a && echo "$copy" > sub/Tupfile && "$tup" > /dev/null && mkdir .TUP
+same "it stays" "$(cat b)" ho
+project && mkdir sub && printf 'hi\n' > sub/a && echo "$copy" > sub/Tupfile && "$tup" > /dev/null && mkdir .TUP && printf 'ho\n' > sub/a
 listings=$(strace -e trace=getdents64 "$tup" 2>&1 > /dev/null | grep -c '^getdents64')
+printf 'hu\n' > sub/a
 strace -o /dev/null -e trace=getdents64 -e inject=getdents64:retval=0:when=$((listings - 3)) "$tup" > "$work/told" 2> "$work/said"
 same "a file below a folder of another spelling" "$?: $(cat "$work/said")" '7: tup: look at ./sub/b: a file of another spelling stands here'
 same "it stays" "$(cat sub/b)" ho
@@ -145,11 +161,15 @@ same "it stays" "$(cat sub/b)" ho
 if cc -O1 -shared -fPIC -o "$work/ignores-case.so" "$tests/ignores-case.c" 2> /dev/null; then
     ignoring() { LD_PRELOAD=$work/ignores-case.so "$@"; }
     project "$copy"
-    same "its own spelling" "$(ignoring "$tup" | tail -1) $(ignoring "$tup" | tail -1)" 'done: 1 read, 1 run, 0 removed done: 1 read, 1 run, 0 removed'
+    same "its own spelling" "$(ignoring "$tup" | tail -1) $(cat b)" 'done: 1 read, 1 run, 0 removed hi'
+    printf 'ho\n' > a
+    same "once more" "$(ignoring "$tup" | tail -1) $(cat b)" 'done: 0 read, 1 run, 0 removed ho'
     mv b x && mv x B && echo mine > B
     same "an output that was renamed by case" "$(ignoring "$tup" 2>&1 | tail -1): $(cat B)" 'tup: look at ./b: a file of another spelling stands here: mine'
     : > Tupfile
-    same "its rule is gone" "$(ignoring "$tup" 2>&1 | tail -1): $(cat B)" 'done: 1 read, 0 run, 0 removed: mine'
+    same "its rule is gone" "$(ignoring "$tup" 2>&1 | tail -1): $(cat B)" 'tup: look at ./b: a file of another spelling stands here: mine'
+    mv B mine
+    same "it has another name" "$(ignoring "$tup" 2>&1 | tail -1): $(cat mine)" 'done: 0 read, 0 run, 0 removed: mine'
     rows=$(realpath -m "$(dirname "$tup")/../../tup_outside_rows/out/tup_outside_rows")
     if [ -x "$rows" ]; then
         project && touch memory.rows path.rows stamp.rows rule.rows differing.rows
@@ -200,7 +220,7 @@ project "$copy"
 same "no stream is open" "$?" 9
 same "no stream is open, what was made" "$(cat b)" hi
 same "no stream is open, what else stands there" "$(ls -A . .tup | tr '\n' ' ')" '.: .tup Tupfile a b  .tup: db '
-same "no stream is open, the next update" "$("$tup" | tail -1)" 'done: 1 read, 1 run, 0 removed'
+same "no stream is open, the next update" "$("$tup" | tail -1)" 'done: 0 read, 0 run, 0 removed'
 for files in 4 5 6; do
     project "$copy"
     prlimit --nofile=$files "$tup" > "$work/told" 2> "$work/said"
@@ -209,7 +229,7 @@ for files in 4 5 6; do
         *) same "$files files may be open" "$(tail -1 "$work/told") $(cat "$work/said")" "0, or 7 and the reason" ;;
     esac
     same "$files files may be open, the source" "$(cat a)" hi
-    same "$files files may be open, the next update" "$("$tup" | tail -1)" 'done: 1 read, 1 run, 0 removed'
+    same "$files files may be open, the next update" "$(next_update) $(cat b)" "$done_then hi"
 done
 
 # A pipe that nobody reads any more, and a shell that allows no large files: the update is killed, and the next one is done.
@@ -221,7 +241,7 @@ project "$copy"
 head -c 100000 /dev/zero > a
 (ulimit -c 0; ulimit -f 8; "$tup") > "$work/told" 2>&1
 same "a file that the shell doesn't allow" "$?" 153
-same "the next update" "$("$tup" | tail -1) $(ls -A . .tup | tr '\n' ' ')" 'done: 1 read, 1 run, 0 removed .: .tup Tupfile a b  .tup: db '
+same "the next update" "$("$tup" | tail -1) $(ls -A . .tup | tr '\n' ' ')" 'done: 0 read, 1 run, 0 removed .: .tup Tupfile a b  .tup: db '
 same "what it makes" "$(cmp a b && wc -c < a)" 100000
 
 if [ "$failures" -gt 0 ]; then

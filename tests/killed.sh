@@ -3,9 +3,9 @@
 # source may be lost, and the next update has to end with `done` and leave just the files of a clean build. A call that
 # failed is told with its error; only where nothing is lost by it may the update go on. Before, the order of its syncs is
 # looked at: which calls of the system make a file durable no clause says. Then the store is torn in the range of each of its
-# writes, in each way that a cut of power may leave it: by a change of the file, in place of the cut. Words: the program, and the
-# projects to try (none: all). It ends with 1 where something else came, and says so. It takes a quarter of an hour, and is no
-# part of the gate.
+# writes, in each way that a cut of power may leave it: by a change of the file, in place of the cut. So are the outputs, at each
+# sync from the moment on at which one came or went until that is durable. Words: the program, and the projects to try (none:
+# all). It ends with 1 where something else came, and says so. It takes half an hour, and is no part of the gate.
 set -u
 tup=$(realpath "$1")
 shift
@@ -189,8 +189,8 @@ left_in_range() {
 }
 
 # Tears the store in the range of one write: an update is killed before it, and another behind it, before the sync; the store
-# of the one takes bytes of that of the other. Once more the outputs too are left as a cut of power may leave what wasn't synced:
-# empty. Words: the project, the number of the write, its length, its place in the store, and the number of the next sync.
+# of the one takes bytes of that of the other. Words: the project, the number of the write, its length, its place in the store,
+# and the number of the next sync.
 tear() {
     for way in none all zeros ones gates front front_and_zeros zeros_and_end; do
         # A byte that opens a gate has no halves; that it came whole is `gates`.
@@ -207,9 +207,32 @@ tear() {
         tail -c +$(($(wc -c < "$work/left") + 1)) "$work/behind" >> "$work/torn"
         cp "$work/torn" .tup/db
         torn=$((torn + 1))
-        [ "$way" != zeros ] || for file in top page index old a az; do if [ -f "$file" ]; then : > "$file"; fi; done
         go_on
     done
+}
+
+# Kills an update before a sync, and leaves a file that came or went before it as a cut of power may leave it. Words: the
+# project, the number of the sync, the file.
+cut() {
+    for way in gone empty zz; do
+        what="$1, $3 before sync $2: $way"
+        killed_at fsync "$2" now
+        mkdir -p "$(dirname "$3")"
+        case $way in gone) rm -f "$3" ;; empty) : > "$3" ;; zz) echo zz > "$3" ;; esac
+        cuts=$((cuts + 1))
+        go_on
+    done
+}
+
+# The files of a trace that came or went, each with the number of each sync of a file or a folder between that and the next
+# write of the store.
+not_durable() {
+    awk '
+        / = -1 / { next }
+        { split($0, part, "\"") }
+        /^openat\(.*"\.\/[^.].*O_CREAT/ || /^unlink\("\.\/[^.]/ { waiting[part[2]] }
+        /^pwrite64\(/ { delete waiting }
+        /^fsync\(/ { syncs++; for (path in waiting) print syncs, path }' "$work/trace"
 }
 
 # Kills the update of a project before one call. Words: the call, its number, the folder in which.
@@ -288,14 +311,25 @@ unsynced() {
         }' "$work/trace"
 }
 
+# How often the update of a project commits: what it saw; the readings and rules; before and behind what it removes; before and
+# behind what each command makes.
+commits_of() {
+    case $1 in
+        three_rules) echo 8 ;;
+        after_changes) echo 10 ;;
+        fewer_paths) echo 4 ;;
+        after_a_kill | folders_below) echo 6 ;;
+    esac
+}
+
 # All calls of the update of a project, or of its beginning, from the first that names its folder on. A beginning gives the
-# store its name; each of the updates commits once: it owns what it makes, or gives paths up.
+# store its name; a commit writes it twice.
 try() {
     rm -rf "$work/project" "$work/clean" && mkdir "$work/project" "$work/clean" && cd "$work/project" || exit 1
     case $1 in
         beginning) order=init stores=1 ;;
         comparison) order=verify stores=0 && "$tup" init > /dev/null ;;
-        *) order=upd stores=2 && "$tup" init > /dev/null ;;
+        *) order=upd stores=$(($(commits_of "$1") * 2)) && "$tup" init > /dev/null ;;
     esac
     "$1"
     wanted_sources=$(sources)
@@ -320,13 +354,16 @@ try() {
     writes_of_store > "$work/writes"
     torn=0
     while read -r number length at sync; do tear "$1" "$number" "$length" "$at" "$sync"; done < "$work/writes"
+    not_durable > "$work/cuts"
+    cuts=0
+    while read -r number file; do cut "$1" "$number" "$file"; done < "$work/cuts"
     [ $order != init ] || half_made
     printf '%s: %s calls, each failed by three errors and killed:\n' "$1" "$(wc -l < "$work/list")"
     sort "$work/exits" | uniq -c | sed 's/^ *\([0-9]*\) /  \1 times /'
-    printf '  %s torn stores of %s writes\n' "$torn" "$(wc -l < "$work/writes")"
+    printf '  %s torn stores of %s writes, %s outputs cut off\n' "$torn" "$(wc -l < "$work/writes")" "$cuts"
 }
 
-# A bad rule: nothing is given up, and what was made before it is synced all the same.
+# A bad rule: of its end nothing is committed, and what was made before it is synced all the same.
 behind_a_bad_rule() {
     rm -rf "$work/now" && mkdir -p "$work/now/sub" && cd "$work/now" || exit 1
     what="behind a bad rule"
@@ -336,7 +373,7 @@ behind_a_bad_rule() {
     strace -y -o "$work/trace" -e trace="$calls" "$tup" > /dev/null
     exit=$?
     [ $exit = 1 ] || wrong "exit $exit, not 1"
-    late=$(unsynced 2)
+    late=$(unsynced 8)
     [ -z "$late" ] || wrong "$late"
 }
 

@@ -19,7 +19,7 @@ wrong() {
 # What an update that was carried out says at its end, or what one says that was told of another.
 ended() {
     case "$2 $(tail -1 "$work/$1") $(cat "$work/$1.said")" in
-        '0 done: 1 read, 200 run, 0 removed ') ;;
+        '0 done: 1 read, 200 run, 0 removed ' | '0 done: 0 read, 0 run, 0 removed ') ;;
         '7 fault: the file tree or the store failed tup: lock .: another tup is at work here')
             refused=$((refused + 1))
             [ "$(wc -l < "$work/$1")" = 1 ] || wrong "the one that was told of another has done something"

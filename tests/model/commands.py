@@ -156,15 +156,21 @@ def outputs_of(rules):
 
 
 def verdict(rule, generated, tree):
-    answers = []
+    return run(rule, generated, tree)[:2]
+
+
+def run(rule, generated, tree):
+    """The verdict on a rule's command, the files that it leaves, and what it asked with what it was told."""
+    answers, asked = [], []
     while True:
         step = Command(rule['folder'], rule['text'], answers).next()
         if step[0] == 'end':
-            return judged(rule, *step[1:])
+            return (*judged(rule, *step[1:]), asked)
         path, denied = access(rule, generated, len(answers), step[1])
         if denied:
-            return denied, []
+            return denied, [], asked
         answers.append(None if path in rule['outputs'] else tree.get(path))
+        asked.append((path, answers[-1]))
 
 
 def clean_build(rules, sources, to_first_bad=False):

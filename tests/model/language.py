@@ -591,12 +591,38 @@ class Sources:
         return 'folder' if is_folder else 'nothing'
 
 
+class Noted:
+    """Answers one reader as others do, and keeps what it asked with what it was told."""
+
+    def __init__(self, sources):
+        self.sources, self.asked = sources, {}
+
+    def told(self, *question):
+        self.asked[question] = self.sources.answer(*question)
+        return self.asked[question]
+
+    def content(self, path):
+        return self.told('content', path)
+
+    def setting(self, name):
+        return self.told('setting', name)
+
+    def names(self, reader, folder):
+        return self.told('names', reader, folder)
+
+    def kind(self, reader, path):
+        return self.told('kind', reader, path)
+
+
 class Project(Sources):
     """All folders: the outputs of one are seen by the others, once it is read."""
 
     def __init__(self, files):
         super().__init__(files, {})
-        self.readings = {}
+        self.readings, self.asked = {}, {}
+
+    def answer(self, kind, *words):
+        return sorted(self.names(*words)) if kind == 'names' else getattr(self, kind)(*words)
 
     def made_in(self, reader, folder):
         if folder == reader or folder + (b'Tupfile',) not in self.files:
@@ -619,7 +645,9 @@ class Project(Sources):
         under_way = under_way + [folder]
         while folder not in self.readings:
             try:
-                self.readings[folder] = Reading(folder, self).read()
+                noted = Noted(self)
+                self.readings[folder] = Reading(folder, noted).read()
+                self.asked[folder] = noted.asked
             except Awaits as other:
                 if other.folder in under_way:
                     raise FoldersCircle(under_way[under_way.index(other.folder):])
@@ -658,9 +686,14 @@ def linked(folder, draft, members):
     order = list(draft['order'])
     for group in draft['groups']:
         order += [path for path in members[group] if path not in order]
-    label = draft['pieces'] if draft['display'] is None else draft['display']
-    return {'folder': folder, 'text': text(draft['pieces']), 'label': text(label), 'inputs': draft['inputs'],
-            'order': order, 'outputs': draft['outputs'], 'file': draft['file'], 'line': draft['line']}
+    shown = None if draft['display'] is None else text(draft['display'])
+    return {'folder': folder, 'text': text(draft['pieces']), 'display': shown, 'compare': draft['compare'],
+            'inputs': draft['inputs'], 'order': order, 'outputs': draft['outputs'], 'file': draft['file'],
+            'line': draft['line']}
+
+
+def label(rule):
+    return rule['text'] if rule['display'] is None else rule['display']
 
 
 def check_twice(rules):
@@ -671,14 +704,18 @@ def check_twice(rules):
         seen.add((rule['folder'], rule['text']))
 
 
-def producers(rules):
-    """For each rule the places of those that it waits for, over any number of others."""
+def makers(rules):
+    """For each rule the places of those that make what it declares."""
     maker = {}
     for at, rule in enumerate(rules):
         for path in rule['outputs']:
             maker.setdefault(path, at)
-    near = [{maker[path] for path in rule['inputs'] + rule['order'] if path in maker} for rule in rules]
-    everything = []
+    return [{maker[path] for path in rule['inputs'] + rule['order'] if path in maker} for rule in rules]
+
+
+def producers(rules):
+    """For each rule the places of those that it waits for, over any number of others."""
+    near, everything = makers(rules), []
     for at in range(len(rules)):
         seen, left = set(), list(near[at])
         while left:

@@ -1,7 +1,7 @@
 """Projects drawn by lot, edited and updated again and again: a user's calls, with what the model says of each."""
 from drawn import Drawn, grown
 from language import show
-from project import World
+from project import Kept, World
 from random_rows import path_of, row, way_up
 
 FILES = ['a.c', 'b.c', 'h.h', 'lib/l.c', 'lib/m.h', 'src/m.c', 'src/n.c', 'lib/x/y.c', 'k']
@@ -83,12 +83,18 @@ class Player:
 
         def is_refused(content):
             world = self.world.copy()
-            world.owned = world.owned or set()
+            world.kept = world.kept or Kept()
             world.tree[path] = content
             status, lines = world.call(['upd'])
             return lines is None or status == 5 or status == 1 and self.lot.random() < .75
         line = lambda: tupfile_line(self.drawn, folder).encode() + b'\n'
         self.write(path, grown(self.drawn, line, is_refused, self.lot.randint(0, 4), keep=.06))
+
+    def empty_tupfile(self, path):
+        """The rule that makes a file vanishes, with all others of its folder."""
+        folders = [path[:depth] for depth in range(len(path)) if path[:depth] + (b'Tupfile',) in self.world.tree]
+        if folders:
+            self.write(folders[-1] + (b'Tupfile',), b'')
 
     def edit(self):
         drawn, owned = self.lot.random(), sorted(self.world.owned or ())
@@ -100,8 +106,11 @@ class Player:
             self.does.delete(path)
         elif drawn < .8:
             self.write_tupfile(self.lot.choice(FOLDERS))
-        elif drawn < .88 and owned:
-            self.write(self.lot.choice(owned), b'mine\n')
+        elif drawn < .9 and owned:
+            path = self.lot.choice(owned)
+            self.write(path, b'mine\n')
+            if self.drawn.is_drawn(.5):
+                self.empty_tupfile(path)
         elif drawn < .94:
             self.write((b'tup.config',), self.lot.choice(CONFIGS))
         else:
