@@ -16,12 +16,15 @@ use std::rt::Files;
 use std::{fs, io};
 use tup_path::Path;
 
+/// The bits of a mode by which its owner, its group and all others may run a file.
+const RUN_BITS: u32 = 0o111;
+
 /// What stands at a place. A link is `Other`, wherever it leads.
 #[derive(Clone, Copy, PartialEq, Eq)]
 pub enum Standing {
     Nothing,
-    /// A regular file of so many bytes, which has so many names.
-    File { len: u64, names: u64 },
+    /// A regular file of so many bytes, which has so many names. `runs` says whether anybody may run it.
+    File { len: u64, names: u64, runs: bool },
     Folder,
     Other,
 }
@@ -154,6 +157,7 @@ fn kind_of(found: &Metadata) -> Standing {
         Standing::File {
             len: found.len(),
             names: found.nlink(),
+            runs: found.mode() & RUN_BITS != 0,
         }
     } else if found.is_dir() {
         Standing::Folder

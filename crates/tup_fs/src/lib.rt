@@ -1,12 +1,14 @@
 //! A site over the real files below one folder: the edge of the program, which tells nothing.
 //!
 //! The files are the regular files all of whose names are visible, at most 32 names deep. Links
-//! are never followed, and neither read nor written. The store is `.tup/db`. What is proved is
-//! safety, the refusals, the count of faults, that nothing is done without the lock, and what is
-//! to be made durable; what the system does is tested.
+//! are never followed, and neither read nor written. A new file may be run just where its content is
+//! a program. The store is `.tup/db`. What is proved is safety, the refusals, the count of faults,
+//! that nothing is done without the lock, which contents are programs, and what is to be made
+//! durable; what the system does is tested.
 #![tactic(auto)]
 
 mod failures;
+mod program;
 mod reading;
 mod site;
 mod tree;

@@ -1,18 +1,21 @@
 //! One file, written as a whole or removed. All memory is taken before the tree changes.
-ghost use Rattle.std.specs.Prelude.{◌<◌, length};
+ghost use Rattle.std.specs.Prelude.{◌≡◌, ◌<◌, length};
+ghost use Rattle.tup_fs.specs.Program.{mode_for};
 
+use crate::program::is_program;
 use crate::reading::{Found, read};
 use crate::tree::Tree;
-use std::fs::File;
+use std::fs::{File, OpenOptions};
 use std::io::{ErrorKind, Write};
+use std::os::unix::fs::OpenOptionsExt;
 use std::rt::Files;
 use std::{fs, io};
 use tup_disk::{Disk, Operation, Refused, Standing};
 use tup_path::Path;
 
 impl Tree {
-    /// Has a file hold this content. One that does, and has no other name, stays; else what stands at
-    /// its place goes, and the file is made anew.
+    /// Has a file hold this content. One that does, has no other name, and may be run just where it
+    /// is a program stays; else what stands at its place goes, and the file is made anew.
     pub fn put<R: Files<File = File> + Clone + Drop>(
         &mut self,
         disk: &Disk<R>,
@@ -23,9 +26,10 @@ impl Tree {
         let place = disk.place(path.names())?;
         match disk.standing(place.as_str())? {
             Standing::Nothing => make(disk, place.as_str(), content),
-            Standing::File { len, names } => {
+            Standing::File { len, names, runs } => {
                 self.check_spelling(disk, path, place.as_str())?;
-                let may_stay = names == 1 && len == content.len() as u64;
+                let is_alike = len == content.len() as u64 && runs == is_program(content);
+                let may_stay = names == 1 && is_alike;
                 replace(disk, place.as_str(), may_stay, content)
             }
             Standing::Folder => {
@@ -198,17 +202,37 @@ fn holds<R: Files<File = File> + Clone + Drop>(
     }
 }
 
-// Makes a file; one that doesn't come whole is taken away again.
+// Makes a file, which may be run if it is a program, as far as the user's mask allows. One that
+// doesn't come whole is taken away again.
 fn make<R: Files<File = File> + Clone + Drop>(
     disk: &Disk<R>,
     place: &str,
     content: &[u8],
 ) -> Result<(), Refused> {
-    let made = File::create_new(&disk.rt, place);
-    let mut file = disk.at(Operation::Make, place, made)?;
+    let mut file = create(disk, place, mode_of(content))?;
     let done = file.write_all(content);
     if done.is_err() {
         let _ = fs::remove_file(&disk.rt, place);
     }
     disk.at(Operation::Write, place, done)
+}
+
+fn create<R: Files<File = File> + Clone + Drop>(
+    disk: &Disk<R>,
+    place: &str,
+    mode: u32,
+) -> Result<File, Refused> {
+    let created = OpenOptions::new()
+        .write(true)
+        .create_new(true)
+        .mode(mode)
+        .open(&disk.rt, place);
+    disk.at(Operation::Make, place, created)
+}
+
+// The mode that a file of this content has before the user's mask takes bits away.
+fn mode_of(content: &[u8]) -> u32
+    ensures { result ≡ mode_for content.now }
+{
+    if is_program(content) { 0o777 } else { 0o666 }
 }
