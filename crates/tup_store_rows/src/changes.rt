@@ -1,4 +1,5 @@
 //! Changes of a store, and how a row names them.
+use crate::bytes::bytes;
 use std::alloc::Global;
 use tup_path::{Bytes, Items};
 use tup_rows::{RowFault, Words};
@@ -39,38 +40,6 @@ pub fn put(alloc: Global, said: &Words, key: &[u8], value: &[u8]) -> Change {
     Change::Put {
         key: bytes(alloc, said, key),
         value: bytes(alloc, said, value),
-    }
-}
-
-/// The bytes of a word, to keep.
-pub fn bytes(alloc: Global, said: &Words, word: &[u8]) -> Bytes {
-    Bytes::new(said.copy_of(alloc, word))
-}
-
-/// A store with another byte at a place.
-pub fn with_byte(alloc: Global, said: &Words, store: &[u8], at: usize, byte: &[u8]) -> Vec<u8> {
-    let mut store = said.copy_of(alloc, store);
-    match (store.get_mut(at), byte) {
-        (Some(place), [byte]) => *place = *byte,
-        _ => said.fail(RowFault::OtherKind),
-    }
-    store
-}
-
-/// Adds changes: `put` with a key and a value, or `delete` with a key.
-pub fn add_changes(alloc: Global, words: &mut Words, changes: &[Change]) {
-    for change in changes {
-        match change {
-            Change::Put { key, value } => {
-                words.put(alloc, b"put");
-                words.put(alloc, key.as_slice());
-                words.put(alloc, value.as_slice());
-            }
-            Change::Delete { key } => {
-                words.put(alloc, b"delete");
-                words.put(alloc, key.as_slice());
-            }
-        }
     }
 }
 

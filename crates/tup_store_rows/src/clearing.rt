@@ -3,8 +3,9 @@ ghost use Rattle.std.specs.Prelude.{IsTrue};
 ghost use Rattle.tup_stored_graph.specs.Held.{is_fresh, StandsFor};
 ghost use Rattle.tup_site.specs.Memory.{world_in, moment_of, left_since};
 
+use crate::graph::store;
 use crate::left::{add_left, add_refusal};
-use crate::project::Project;
+use crate::site::{Contents, copies, file_at, site_with};
 use std::alloc::Global;
 use tup_path::{Bytes, Path, Paths};
 use tup_rows::{Answers, RowFault, Words, set};
@@ -15,21 +16,18 @@ use tup_stored_graph::Graph;
 /// How many calls of a site an opening makes: the store is synced, measured and read.
 const OPENING: u64 = 3;
 
-/// A project that is cleared, again and again from its beginning.
+/// A store and files, which are cleared, again and again from the beginning.
 #[derive(Drop)]
 pub(crate) struct Clearings {
-    project: Project,
+    store: Vec<u8>,
+    files: Contents,
 }
 
 impl Answers for Clearings {
     fn answer(&mut self, alloc: Global, call: &str, said: &Words) -> Result<Words, RowFault> {
         Ok(match call {
-            "begin" => self.begin(alloc),
-            "owned" => self.project.owned(alloc, said),
-            "made" => self.project.made(alloc, said),
-            "seen" => self.project.seen(alloc, said),
-            "rule" => self.project.rule(alloc, said),
-            "file" => self.project.file(alloc, said),
+            "graph" => self.begin(alloc, said),
+            "file" => self.add_file(alloc, said),
             "clear" => self.clear(alloc, call, said, u64::MAX),
             "stopped" => self.clear(alloc, call, said, said.number_at(0)),
             "crashed" => self.clear(alloc, call, said, said.number_at(0)),
@@ -39,21 +37,33 @@ impl Answers for Clearings {
 }
 
 impl Clearings {
-    /// No project.
+    /// No store, and no files.
     pub fn new(alloc: Global) -> Clearings {
         Clearings {
-            project: Project::new(alloc),
+            store: Vec::new(alloc),
+            files: Vec::new(alloc),
         }
     }
 
-    fn begin(&mut self, alloc: Global) -> Words {
-        set(&mut self.project, Project::new(alloc));
+    /// A store of one commit, which puts keys and values, and no files.
+    fn begin(&mut self, alloc: Global, said: &Words) -> Words {
+        self.store = store(alloc, said, said.as_slice());
+        set(&mut self.files, Vec::new(alloc));
+        Words::shown(alloc, &self.store.len())
+    }
+
+    /// One more file.
+    fn add_file(&mut self, alloc: Global, said: &Words) -> Words {
+        if self.files.push(file_at(alloc, said, 0)).is_err() {
+            said.fail(RowFault::Memory);
+        }
         Words::done(alloc)
     }
 
-    /// A site with the project, of which an opening and so many calls more pass.
+    /// A site with the store and the files, of which an opening and so many calls more pass.
     fn site(&self, alloc: Global, calls: u64) -> Result<MemSite, RowFault> {
-        match self.project.site(alloc) {
+        let files = copies(alloc, &self.files)?;
+        match site_with(alloc, files, &self.store, Vec::new(alloc)) {
             Ok(mut site) => {
                 site.stop_after(calls.saturating_add(OPENING));
                 Ok(site)
@@ -62,7 +72,7 @@ impl Clearings {
         }
     }
 
-    /// Clears the project, stopped after so many calls of the site.
+    /// Clears a site, stopped after so many calls of it.
     fn clear(&self, alloc: Global, call: &str, said: &Words, calls: u64) -> Words {
         let mut words = Words::new(alloc);
         match self.site(alloc, calls) {
@@ -88,10 +98,10 @@ impl Clearings {
         }
         add_clearing(alloc, words, site);
         site.run_on();
-        add_left(alloc, words, &self.project, site);
+        add_left(alloc, words, &self.files, site);
     }
 
-    /// Clears the project; a crash then leaves the store as it was after so many calls, cut by so many bytes, and files.
+    /// Clears a site; a crash then leaves the store as it was after so many calls, cut by so many bytes, and files.
     /// Then it is cleared again.
     fn crashed(&self, alloc: Global, words: &mut Words, said: &Words, site: &mut MemSite) {
         add_clearing(alloc, &mut Words::new(alloc), site);
@@ -104,10 +114,10 @@ impl Clearings {
     fn crash(&self, alloc: Global, words: &mut Words, site: &mut MemSite, choice: Choice) {
         match site.crash(alloc, choice) {
             Ok(()) => {
-                add_left(alloc, words, &self.project, site);
+                add_left(alloc, words, &self.files, site);
                 words.put(alloc, b"again");
                 add_clearing(alloc, words, site);
-                add_left(alloc, words, &self.project, site);
+                add_left(alloc, words, &self.files, site);
             }
             Err(fault) => words.show(alloc, &fault),
         }
@@ -160,7 +170,7 @@ fn change(alloc: Global, said: &Words, at: usize) -> (Path, Option<Bytes>) {
     }
 }
 
-/// Clears the project of a site. Adds how many calls of it that makes, how it ends, and whether the graph still stands
+/// Clears a site. Adds how many calls of it that makes, how it ends, and whether the graph still stands
 /// for the store.
 fn add_clearing(alloc: Global, words: &mut Words, site: &mut MemSite) {
     match Graph::open(alloc, site) {

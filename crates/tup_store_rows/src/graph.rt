@@ -1,8 +1,7 @@
-//! The calls of `graph.rows`: they read graphs, and say what transactions change and leave.
+//! The calls of `graph.rows`: they read graphs.
+use crate::bytes::joined;
 use crate::changes::put;
-use crate::field::joined;
 use crate::say::{Say, named};
-use crate::transaction::transaction;
 use std::alloc::Global;
 use std::fmt::Display;
 use tup_graph::{GraphFault, Nodes, read_graph};
@@ -13,7 +12,7 @@ use tup_table::{Change, Entries, TableFault, appended, have_short_keys, read};
 /// How a store begins, and the open gate of its first commit.
 pub const BEGIN: [u8; 9] = *b"tup-db\n\x01\x01";
 
-/// Reads graphs, and tries transactions on them.
+/// Reads graphs.
 #[derive(Drop)]
 pub struct Graphs;
 
@@ -22,7 +21,7 @@ impl Answers for Graphs {
         Ok(match call {
             "store" => graph_of(alloc, &joined(alloc, said, said.as_slice())),
             "graph" => graph_of(alloc, &store(alloc, said, said.as_slice())),
-            _ => transaction(alloc, call, said),
+            _ => Words::none(alloc, RowFault::NoSuchCall),
         })
     }
 }
@@ -43,7 +42,7 @@ pub fn store(alloc: Global, said: &Words, pairs: &[Vec<u8>]) -> Vec<u8> {
 }
 
 /// Adds a commit and the gate behind it to a store, which ends with an open gate.
-pub fn add_commit(alloc: Global, said: &Words, bytes: &mut Vec<u8>, changes: &[Change]) {
+fn add_commit(alloc: Global, said: &Words, bytes: &mut Vec<u8>, changes: &[Change]) {
     if !have_short_keys(changes) {
         return said.fail(RowFault::OtherKind);
     }

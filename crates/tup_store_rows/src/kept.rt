@@ -1,24 +1,28 @@
 //! The calls of `kept.rows`: transactions over a site in memory.
-ghost use Rattle.std.specs.Prelude.{◌≡◌, ◌↔◌, [], true, None, All, IsTrue};
+ghost use Rattle.std.specs.Prelude.{◌≡◌, ◌↔◌, true, None, All, IsTrue};
 ghost use Rattle.std.specs.FinMap as finite;
 ghost use Rattle.tup_graph.specs.Graph.{is_rule as is_rule_of};
 ghost use Rattle.tup_ledger.specs.Sources.{HaveNoFiles};
-ghost use Rattle.tup_site.specs.Memory.{tree_in, store_in};
+ghost use Rattle.tup_site.specs.Memory.{tree_in};
 ghost use Rattle.tup_store_rows.specs.Kept.{Stands};
 
-use crate::field::joined;
+use crate::arguments::{number, numbers, paths, run};
+use crate::bytes::joined;
 use crate::graph::store;
 use crate::say::Say;
-use crate::scan::seen;
-use crate::sites::site_with;
+use crate::scan::{config, seen};
+use crate::shown::shown;
+use crate::site::{files_of, site_with};
 use crate::swap::{are_by_folder, is_one, news};
-use crate::transaction::{number, numbers, paths, run};
 use std::alloc::{AllocError, Global};
+use std::fmt::Display;
 use tup_commit::{note_scan, swap_rules};
 use tup_graph::GraphFault;
-use tup_ledger::{Begun, begin as begin_project, give_up, open, own, owned_paths, sorted};
+use tup_ledger::{Begun, begin as begin_project, give_up, open, own, owned_paths};
 use tup_path::{Path, Paths};
+use tup_refresh::refresh;
 use tup_rows::{Answers, RowFault, Words, set};
+use tup_rule::Question;
 use tup_site::MemSite;
 use tup_stored_graph::Graph;
 
@@ -41,10 +45,11 @@ impl Answers for KeptGraphs {
         Ok(match call {
             "graph" => self.set_store(alloc, said),
             "failing" => self.set_fails(alloc, said),
-            "make" => make(alloc, said, &self.fails),
             "init" => self.init(alloc, said),
             "open" => self.open(alloc, said),
-            "sorted" => in_order(alloc, said),
+            "readers" => self.asked(alloc, call, said),
+            "content" | "config" | "names" | "kind" => self.asked(alloc, call, said),
+            "refresh" => self.refresh(alloc, said),
             _ => self.transaction(alloc, call, said),
         })
     }
@@ -104,13 +109,39 @@ impl KeptGraphs {
     /// A site whose store has these bytes.
     fn site(&self, alloc: Global, said: &Words) -> Result<MemSite, RowFault> {
         let fails = behind(alloc, said, &self.fails, BEFORE_A_STORE_IS_READ);
-        site_with(alloc, &joined(alloc, said, said.as_slice()), fails)
+        let store = joined(alloc, said, said.as_slice());
+        site_with(alloc, Vec::new(alloc), &store, fails)
+    }
+
+    /// Opens the store, and asks its graph who asked what.
+    fn asked(&self, alloc: Global, call: &str, said: &Words) -> Words {
+        match site_with(alloc, Vec::new(alloc), &self.store, Vec::new(alloc)) {
+            Ok(mut site) => {
+                let words = asked_in(alloc, call, said, &mut site);
+                drop(site);
+                words
+            }
+            Err(fault) => Words::none(alloc, fault),
+        }
+    }
+
+    /// Opens the store beside files, and refreshes its readings.
+    fn refresh(&self, alloc: Global, said: &Words) -> Words {
+        let fails = behind(alloc, said, &self.fails, BEFORE_A_TRANSACTION);
+        match site_with(alloc, files_of(alloc, said), &self.store, fails) {
+            Ok(mut site) => {
+                let words = refreshed_in(alloc, said, &mut site);
+                drop(site);
+                words
+            }
+            Err(fault) => Words::none(alloc, fault),
+        }
     }
 
     /// Opens the store, and makes a transaction.
     fn transaction(&self, alloc: Global, call: &str, said: &Words) -> Words {
         let fails = behind(alloc, said, &self.fails, BEFORE_A_TRANSACTION);
-        match site_with(alloc, &self.store, fails) {
+        match site_with(alloc, Vec::new(alloc), &self.store, fails) {
             Ok(mut site) => {
                 let words = transaction_in(alloc, call, said, &mut site);
                 drop(site);
@@ -172,17 +203,6 @@ fn add_opening(alloc: Global, words: &mut Words, opened: Result<Graph, GraphFaul
     }
 }
 
-/// The paths in their order.
-fn in_order(alloc: Global, said: &Words) -> Words {
-    let mut words = Words::new(alloc);
-    add_paths(
-        alloc,
-        &mut words,
-        &sorted(alloc, &paths(alloc, said, said.len())),
-    );
-    words
-}
-
 /// Adds how many paths there are, and each of them.
 fn add_paths(alloc: Global, words: &mut Words, paths: &Result<Paths, AllocError>) {
     match paths {
@@ -191,29 +211,64 @@ fn add_paths(alloc: Global, words: &mut Words, paths: &Result<Paths, AllocError>
     }
 }
 
-/// The graph of a store that was made.
-fn make(alloc: Global, said: &Words, fails: &[u64]) -> Words {
-    match MemSite::new(alloc, Vec::new(alloc), behind(alloc, said, fails, 0)) {
-        Ok(mut site) => {
-            let words = make_in(alloc, &mut site);
-            drop(site);
-            words
-        }
-        Err(_) => Words::none(alloc, RowFault::Memory),
-    }
-}
-
-fn make_in(alloc: Global, site: &mut MemSite) -> Words
-    requires { store_in site.old ≡ [] }
-{
-    match Graph::make(alloc, site) {
+fn refreshed_in(alloc: Global, said: &Words, site: &mut MemSite) -> Words {
+    match Graph::open(alloc, site) {
         Ok(graph) => {
-            let words = with_graph(alloc, Words::new(alloc), &graph, site);
+            let words = refreshed(alloc, said, &graph, site);
             drop(graph);
             words
         }
         Err(fault) => refused(alloc, fault),
     }
+}
+
+/// What a refresh of the readings of a graph gives.
+fn refreshed(alloc: Global, said: &Words, graph: &Graph, site: &mut MemSite) -> Words {
+    let config = config(alloc, said, said.len() / 2);
+    let found = refresh(alloc, graph.nodes(), site, &config);
+    let words = shown(alloc, &found);
+    drop(found);
+    words
+}
+
+fn asked_in(alloc: Global, call: &str, said: &Words, site: &mut MemSite) -> Words {
+    match Graph::open(alloc, site) {
+        Ok(graph) => {
+            let words = askers(alloc, call, said, &graph);
+            drop(graph);
+            words
+        }
+        Err(fault) => refused(alloc, fault),
+    }
+}
+
+/// The folders whose readings asked a question, or the rules whose records ask a path.
+fn askers(alloc: Global, call: &str, said: &Words, graph: &Graph) -> Words {
+    match question(alloc, call, said) {
+        Some(question) => listed(alloc, graph.asked_by(alloc, &question)),
+        None => listed(alloc, graph.readers_of(alloc, &said.path_at(alloc, 0))),
+    }
+}
+
+/// The question of this kind about what the first word names.
+fn question(alloc: Global, kind: &str, said: &Words) -> Option<Question> {
+    match kind {
+        "content" => Some(Question::Content(said.path_at(alloc, 0))),
+        "config" => Some(Question::Config(said.text_at(alloc, 0))),
+        "names" => Some(Question::Names(said.path_at(alloc, 0))),
+        "kind" => Some(Question::Kind(said.path_at(alloc, 0))),
+        _ => None,
+    }
+}
+
+/// How many are in a list, and each of them in its order.
+fn listed<T: Display + Drop>(alloc: Global, list: Result<Vec<T>, GraphFault>) -> Words {
+    let Ok(list) = list else {
+        return Words::none(alloc, RowFault::Memory);
+    };
+    let mut words = Words::shown(alloc, &list.len());
+    words.show_all(alloc, &list);
+    words
 }
 
 /// How a transaction ends after how many calls of the site, and the graph then.

@@ -1,16 +1,21 @@
-//! What is left of a project at a site.
-use crate::project::Project;
+//! What is left at a site.
 use std::alloc::Global;
 use tup_graph::{GraphFault, Nodes};
+use tup_path::{Bytes, Path};
 use tup_record::OwnedState;
 use tup_rows::{RowFault, Words};
 use tup_site::MemSite;
 use tup_stored_graph::Graph;
 
-/// Adds the files that are left of a project's, and the paths that the store owns.
-pub(crate) fn add_left(alloc: Global, words: &mut Words, project: &Project, site: &mut MemSite) {
+/// Adds which of these files are left, and the paths that the store owns.
+pub(crate) fn add_left(
+    alloc: Global,
+    words: &mut Words,
+    files: &[(Path, Bytes)],
+    site: &mut MemSite,
+) {
     words.put(alloc, b"files");
-    for (path, _) in project.files.as_slice() {
+    for (path, _) in files {
         if let Some(content) = site.file(path) {
             words.show(alloc, path);
             words.put(alloc, content.as_slice());

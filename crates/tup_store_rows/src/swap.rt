@@ -9,26 +9,11 @@ ghost use Rattle.tup_rule_diff.specs.Order.{AreByFolder};
 use crate::record::record_of;
 use std::alloc::Global;
 use std::cmp::Ordering;
-use tup_graph::{Edits, GraphFault, Nodes};
 use tup_path::Items;
 use tup_record::Record;
 use tup_rows::{RowFault, Words};
 use tup_rule::{Rule, Rules};
-use tup_rule_diff::{Refreshed, swap_rules};
-
-/// The edits of a swap to the readings and rules that pairs of words spell as records.
-pub fn swapped(
-    alloc: Global,
-    said: &Words,
-    graph: &Nodes,
-    pairs: &[Vec<u8>],
-) -> Result<Edits, GraphFault> {
-    let (fresh, rules) = news(alloc, said, pairs);
-    let edits = swap_rules(alloc, graph, &fresh, rules.as_slice());
-    drop(fresh);
-    drop(rules);
-    edits
-}
+use tup_rule_diff::Refreshed;
 
 /// The readings and rules that pairs of words spell as records; a Create record stands for a folder that is gone.
 pub fn news(alloc: Global, said: &Words, pairs: &[Vec<u8>]) -> (Refreshed, Rules) {

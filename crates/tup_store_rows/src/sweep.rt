@@ -1,6 +1,5 @@
 //! The calls of `sweep.rows`: a store that is damaged at each of its places in turn.
-use crate::changes::with_byte;
-use crate::field::joined;
+use crate::bytes::{joined, with_byte};
 use crate::graph::add_graph;
 use std::alloc::Global;
 use tup_rows::{Answers, RowFault, Words};

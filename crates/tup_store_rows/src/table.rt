@@ -1,6 +1,6 @@
 //! The calls of `table.rows`.
+use crate::bytes::joined;
 use crate::changes::{add_entries, changes_of, refused};
-use crate::field::joined;
 use std::alloc::Global;
 use tup_rows::{Answers, RowFault, Words};
 use tup_table::{Change, Opened, appended, have_short_keys, read};
