@@ -22,7 +22,7 @@ use Rattle.tup_core.specs.declared.plan.Plan.{Plan}
 use Rattle.tup_core.specs.Step.{is_reached}
 use Rattle.tup_board.specs.Board.{BoardState, plan_of, state}
 use Rattle.tup_board.specs.Come.{HasComeTo}
-use Rattle.tup_board.specs.Images.{HasFileOf, HoldsWritten, IsImageOver, IsOwnedAs}
+use Rattle.tup_board.specs.Images.{HasFileOf, HoldsWritten, IsImageOver, IsOwnedAs, StandsUnmade}
 use Rattle.tup_board.specs.Outputs.{IsClaimed, Makes}
 use Rattle.tup_board.proofs.Coming.{begun_else, begun_own, finished_owned, flag_else, flag_here, written_own}
 use Rattle.tup_board.proofs.Finishing.{same_or_other}
@@ -63,6 +63,10 @@ module _ {S : Type 0} (b next : BoardState S) (g : GraphState) (number : ℕ) (r
 
   module _ (v u w : World) (image : IsImageOver b v u g) where
     -- ---- nothing yet
+    pub not_begun_unmade : w.tree ≡ u.tree → StandsUnmade next v w g
+    not_begun_unmade tree m path makes flag =
+        ⊎_elim inl (λ same. inr (ap (λ (t : Tree). finite.get t path) tree ∙ same)) (image.unmade m path (makes_back m path makes) flag)
+
     pub not_begun : IsStoreOf g w.store → w.tree ≡ u.tree → IsImageOver next v w g
     not_begun store tree = record {
       store = store;
@@ -73,7 +77,7 @@ module _ {S : Type 0} (b next : BoardState S) (g : GraphState) (number : ℕ) (r
         written = it.written;
         holds = ap (λ (t : Tree). option_map stamp (finite.get t path)) tree ∙ it.holds;
       };
-      unmade = λ m path makes flag. ⊎_elim inl (λ same. inr (ap (λ (t : Tree). finite.get t path) tree ∙ same)) (image.unmade m path (makes_back m path makes) flag);
+      unmade = not_begun_unmade tree;
     }
 
     -- ---- files of this rule alone differ
@@ -106,6 +110,17 @@ module _ {S : Type 0} (b next : BoardState S) (g : GraphState) (number : ℕ) (r
           (image.unmade m path mk (sym flags ∙ flag))
 
       -- ---- its run began
+      pub begun_unmade : StandsUnmade next v w began
+      begun_unmade m path makes flag =
+          elim (same_or_other m number) [
+            | inr differ ↦ unmade_else began m path (begun_else g number rule in_graph) refl differ makes flag
+            | inl is ↦ inl (record {
+              owned = record { maker = maker_of g number path; state = Unsure };
+              here = begun_own g number rule in_graph path (own path (subst (λ (n : ℕ). Makes (plan_of b) n path) is (makes_back m path makes)));
+              state = refl;
+            })
+          ]
+
       pub is_begun : IsStoreOf began w.store → IsImageOver next v w began
       is_begun store = record {
         store = store;
@@ -113,20 +128,17 @@ module _ {S : Type 0} (b next : BoardState S) (g : GraphState) (number : ℕ) (r
         others = others_on;
         made = λ m path makes within flag.
             made_else began m path (begun_else g number rule in_graph) refl (λ is. true≢false (sym flagged ∙ ap (is_flagged g) (sym is) ∙ flag)) makes within flag;
-        unmade = λ m path makes flag.
-            elim (same_or_other m number) [
-              | inr differ ↦ unmade_else began m path (begun_else g number rule in_graph) refl differ makes flag
-              | inl is ↦ inl (record {
-                owned = record { maker = maker_of g number path; state = Unsure };
-                here = begun_own g number rule in_graph path (own path (subst (λ (n : ℕ). Makes (plan_of b) n path) is (makes_back m path makes)));
-                state = refl;
-              })
-            ];
+        unmade = begun_unmade;
       }
 
       -- ---- its end was kept, and its files stand
       done_owned : (q : Names) → writes rule q ≡ false → finite.get done.owned q ≡ finite.get g.owned q
       done_owned q other = finished_owned began number rule in_graph run names q other ∙ begun_else g number rule in_graph q other
+
+      pub done_unmade : StandsUnmade next v w done
+      done_unmade m path makes flag =
+          let differ = λ (is : m ≡ number). true≢false (sym flag ∙ ap (is_flagged done) is ∙ flag_here began number rule in_graph run names) in
+          unmade_else done m path done_owned (flag_else began number rule in_graph run names m differ) differ makes flag
 
       pub is_done : tried → IsStoreOf done w.store → All (λ (file : Names × Content). finite.get w.tree file.0 ≡ Some file.1) files → IsImageOver next v w done
       is_done was store stand = record {
@@ -144,7 +156,5 @@ module _ {S : Type 0} (b next : BoardState S) (g : GraphState) (number : ℕ) (r
                     holds = ap (λ (q : Names). option_map stamp (finite.get w.tree q)) (sym file.1) ∙ holds w.tree stand file.0 file.3;
                   }
             ];
-        unmade = λ m path makes flag.
-            let differ = λ (is : m ≡ number). true≢false (sym flag ∙ ap (is_flagged done) is ∙ flag_here began number rule in_graph run names) in
-            unmade_else done m path done_owned (flag_else began number rule in_graph run names m differ) differ makes flag;
+        unmade = done_unmade;
       }

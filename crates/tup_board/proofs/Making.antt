@@ -49,18 +49,18 @@ use Rattle.tup_rule_outputs.specs.declared.fault.BoardFault.{BoardFault}
 use Rattle.tup_rule_outputs.specs.declared.fault.BoardFault.TheVariants as fault_by
 use Rattle.tup_rule_outputs.specs.declared.ground.Ground.{Ground}
 use Rattle.tup_rule_outputs.specs.Fault.{CountsFaults, lost_fault}
-use Rattle.tup_rule_outputs.specs.Ground.{HoldsFiles, MakeStep, MakesFiles, WasTried}
+use Rattle.tup_rule_outputs.specs.Ground.{HoldsFiles, IsBegun, IsEnded, IsNotBegun, LostStep, MakeStep, MakesFiles, WasTried}
 use Rattle.tup_rule_outputs.specs.Lost.{Lost}
 use Rattle.tup_board.specs.Board.{BoardState, course_of, plan_of, first_graph, start, state, with_history}
 use Rattle.tup_board.specs.Cause.{IsTrueCause, HasNoRoom, stops_by}
 use Rattle.tup_board.specs.Come.{HasComeTo, IsPresent, WasToKeep}
 use Rattle.tup_board.specs.Ends.{CouldEnd, HasEnded, IsRecordOf}
-use Rattle.tup_board.specs.Images.{IsImageOver, LeavesImages}
+use Rattle.tup_board.specs.Images.{IsImageOver, LeavesImages, StandsUnmade}
 use Rattle.tup_board.specs.Outputs.{IsPending, Makes}
 use Rattle.tup_board.specs.Sound.{IsImage, IsSound, IsTrueFault, WasToHappen, Since, Before}
 use Rattle.tup_board.proofs.Coming.{outputs_are}
 use Rattle.tup_board.proofs.Finishing.{claimed, come_begun, come_done, come_then, flagged, in_graph, other_outputs, placed, present_done, same_or_other}
-use Rattle.tup_board.proofs.Imaging.{is_begun, is_done, not_begun}
+use Rattle.tup_board.proofs.Imaging.{begun_unmade, done_unmade, is_begun, is_done, not_begun, not_begun_unmade}
 use Rattle.tup_board.proofs.Known.{honest_known, keeps_all, known_among}
 use Rattle.tup_board.proofs.WasRead.{rose_on, rose_since}
 use Rattle.tup_board.proofs.Seated.{orderly}
@@ -251,43 +251,94 @@ module _ {S R : Type 0} (site : Site S) (runner : Runner R) (b : BoardState S) (
         stamps_in : (tree : Tree) → All (λ (file : Names × Content). finite.get tree file.0 ≡ Some file.1) files → (file : Names × Stamp) → Contains run.writes file → option_map stamp (finite.get tree file.0) ≡ Some file.1
         stamps_in tree stand file within = All-contains (λ (one : Names × Stamp). option_map stamp (finite.get tree one.0) ≡ Some one.1) run.writes file (holds_in tree stand) within
 
+        image_not : IsNotBegun g number run files u w → IsImageOver then_board v w g
+        image_not not =
+            not_begun b then_board g number rule run files tried refl come_now come_began come_ended claims_on claimed_now here graph_has flagged_now apart_now kept.writes stamps_in v u w image
+            (⊎_elim (λ same. subst (IsStoreOf g) (sym same) store) (λ it. it) not.0) not.1
+
+        image_begun : IsBegun g number run files u w → IsImageOver then_board v w (begun g number)
+        image_begun began =
+            is_begun b then_board g number rule run files tried refl come_now come_began come_ended claims_on claimed_now here graph_has flagged_now apart_now kept.writes stamps_in v u w image
+            (beside_in u w (inr (inl began))) began.0
+
+        image_ended : tried × IsEnded g number run files u w → IsImageOver then_board v w (finished (begun g number) number run)
+        image_ended ended =
+            is_done b then_board g number rule run files tried refl come_now come_began come_ended claims_on claimed_now here graph_has flagged_now apart_now kept.writes stamps_in v u w image
+            (beside_in u w (inr (inr ended))) ended.0 ended.1.0 ended.1.1
+
         image_step : step u w → (h : GraphState) × IsImageOver then_board v w h
-        image_step (inl not) = (
-          g,
-          not_begun b then_board g number rule run files tried refl come_now come_began come_ended claims_on claimed_now here graph_has flagged_now apart_now kept.writes stamps_in v u w image
-              (⊎_elim (λ same. subst (IsStoreOf g) (sym same) store) (λ it. it) not.0) not.1,
-        )
-        image_step (inr (inl began)) = (
-          begun g number,
-          is_begun b then_board g number rule run files tried refl come_now come_began come_ended claims_on claimed_now here graph_has flagged_now apart_now kept.writes stamps_in v u w image
-              (beside_in u w (inr (inl began))) began.0,
-        )
-        image_step (inr (inr ended)) = (
-          finished (begun g number) number run,
-          is_done b then_board g number rule run files tried refl come_now come_began come_ended claims_on claimed_now here graph_has flagged_now apart_now kept.writes stamps_in v u w image
-              (beside_in u w (inr (inr ended))) ended.0 ended.1.0 ended.1.1,
-        )
+        image_step (inl not) = (g, image_not not)
+        image_step (inr (inl began)) = (begun g number, image_begun began)
+        image_step (inr (inr ended)) = (finished (begun g number) number run, image_ended ended)
+
+        -- what isn't made yet, by each of these graphs
+        unmade_not : w.tree ≡ u.tree → StandsUnmade then_board v w g
+        unmade_not =
+            not_begun_unmade b then_board g number rule run files tried refl come_now come_began come_ended claims_on claimed_now here graph_has flagged_now apart_now kept.writes stamps_in v u w image
+
+        module _ (beside : (path : Names) → writes rule path ≡ false → finite.get w.tree path ≡ finite.get u.tree path) where
+          unmade_begun : StandsUnmade then_board v w (begun g number)
+          unmade_begun =
+              begun_unmade b then_board g number rule run files tried refl come_now come_began come_ended claims_on claimed_now here graph_has flagged_now apart_now kept.writes stamps_in v u w image beside
+
+          unmade_ended : StandsUnmade then_board v w (finished (begun g number) number run)
+          unmade_ended =
+              done_unmade b then_board g number rule run files tried refl come_now come_began come_ended claims_on claimed_now here graph_has flagged_now apart_now kept.writes stamps_in v u w image beside
+
+      store_was : IsTrue site.tells → IsStoreOf g (site.world b.site).store
+      store_was told = stored told (site.world b.site) (present_now b.site told)
+
+      image_was : IsTrue site.tells → IsImageOver b (site.world b.opening.site) (site.world b.site) g
+      image_was told =
+          let was = sound.now told in
+          subst (IsImageOver b (site.world b.opening.site) (site.world b.site)) (one_store (site.world b.site).store was.0 g was.1.store (store_was told)) was.1
 
       image_now : IsTrue site.tells → (h : GraphState) × IsImageOver then_board (site.world b.opening.site) (site.world new.site) h
-      image_now told =
-          let was = sound.now told in
-          let store = stored told (site.world b.site) (present_now b.site told) in
-          let same : was.0 ≡ g = one_store (site.world b.site).store was.0 g was.1.store store in
-          image_step (site.world b.opening.site) (site.world b.site) (site.world new.site)
-          (subst (λ (h : GraphState). IsImageOver b (site.world b.opening.site) (site.world b.site) h) same was.1) store (makes.now told)
+      image_now told = image_step (site.world b.opening.site) (site.world b.site) (site.world new.site) (image_was told) (store_was told) (makes.now told)
 
       image_still : (w : World) → IsImage site b w → IsImage site then_board w
       image_still w image = (image.0, image.1, image.2, image_old image.0 w image.2 image.3)
 
+      -- what a crash right before might have left is an image with the board's graph
+      image_before : IsTrue site.tells → (u : World) → site.left_since b.site (site.moment b.site) u → (v : World) × Before site b v × IsImageOver b v u g
+      image_before told u left =
+          let image = sound.images told u (earlier b.site (site.moment b.opening.site) (site.moment b.site) u told (sound.later told) left) in
+          (image.0, image.1, subst (IsImageOver b image.0 u) (one_store u.store image.2 g image.3.store (stored told u left)) image.3)
+
       -- what making adds to what a crash may leave
       image_made : IsTrue site.tells → (w : World) → Follows step (site.left_since b.site (site.moment b.site)) w → IsImage site then_board w
       image_made told w from =
-          let u = from.0 in
-          let image = sound.images told u (earlier b.site (site.moment b.opening.site) (site.moment b.site) u told (sound.later told) from.1) in
-          let store = stored told u from.1 in
-          let same : image.2 ≡ g = one_store u.store image.2 g image.3.store store in
-          let made = image_step image.0 u w (subst (λ (h : GraphState). IsImageOver b image.0 u h) same image.3) store from.2 in
+          let image = image_before told from.0 from.1 in
+          let made = image_step image.0 from.0 w image.2 (stored told from.0 from.1) from.2 in
           (image.0, image.1, made.0, made.1)
+
+      -- and what a crash may leave once a commit was lost
+      image_lost : IsTrue site.tells → (u w : World) → site.left_since b.site (site.moment b.site) u → LostStep tried g number run files (site.world b.site) (site.world new.site) u w
+          → (v : World) × Before site b v × (h : GraphState) × IsImageOver then_board v w h × StandsUnmade then_board (site.world b.opening.site) (site.world new.site) h
+      image_lost told u w left lost = by lost
+        where
+          image : (v : World) × Before site b v × IsImageOver b v u g
+          image = image_before told u left
+
+          store : IsStoreOf g u.store
+          store = stored told u left
+
+          by : LostStep tried g number run files (site.world b.site) (site.world new.site) u w → (v : World) × Before site b v × (h : GraphState) × IsImageOver then_board v w h × StandsUnmade then_board (site.world b.opening.site) (site.world new.site) h
+          by (inl (tree, not)) = (image.0, image.1, g, image_not image.0 u w image.2 store not, unmade_not (site.world b.opening.site) (site.world b.site) (site.world new.site) (image_was told) (store_was told) tree)
+          by (inr (inl began)) = (
+            image.0,
+            image.1,
+            begun g number,
+            image_begun image.0 u w image.2 store began,
+            unmade_begun (site.world b.opening.site) (site.world b.site) (site.world new.site) (image_was told) (store_was told) (beside_now told),
+          )
+          by (inr (inr ended)) = (
+            image.0,
+            image.1,
+            finished (begun g number) number run,
+            image_ended image.0 u w image.2 store ended,
+            unmade_ended (site.world b.opening.site) (site.world b.site) (site.world new.site) (image_was told) (store_was told) (beside_now told),
+          )
 
       images_now : IsTrue site.tells → LeavesImages then_board (Before site then_board) (Since site then_board)
       images_now told w left =
@@ -315,6 +366,7 @@ module _ {S R : Type 0} (site : Site S) (runner : Runner R) (b : BoardState S) (
                 let tries : commit.run ≡ Some run = ⊎_elim (λ began. absurd (none_or_run ran (sym began ∙ ran_is))) (λ kept. kept) loses.kept in
                 let same : run ≡ ran = same_run run ran (sym tries ∙ ran_is) in
                 could commit.rule (sym loses.rule) ran same (inr (commit, lost, tries));
+            torn = λ told w left. let from = makes.torn commit lost told w left in image_lost told from.0 w from.1 from.2;
           }
         where
           could : (m : ℕ) → number ≡ m → (ran : RunRecord) → run ≡ ran → tried

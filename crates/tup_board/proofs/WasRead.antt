@@ -21,7 +21,7 @@ use Rattle.tup_core.specs.Honest.{IsHonest, EndsHonestly}
 use Rattle.tup_board.specs.Board.{BoardState, plan_of, start}
 use Rattle.tup_board.specs.Cause.{IsTrueCause}
 use Rattle.tup_board.specs.Come.{HasComeTo}
-use Rattle.tup_board.specs.Images.{IsImageOver}
+use Rattle.tup_board.specs.Images.{IsImageOver, StandsUnmade}
 use Rattle.tup_board.specs.Sound.{IsSound, Since}
 
 -- a count that rose has risen over an earlier one, and goes on so
@@ -58,6 +58,10 @@ module _ {S R : Type 0} (site : Site S) (runner : Runner R) (b : BoardState S) (
 
   back : IsTrue site.tells → (w : World) → Since site read w → Since site b w
   back told w = left_before told (site.moment b.opening.site) w (omega arith)
+
+  now_before : IsTrue site.tells → (w : World) → site.left_since new (site.moment new) w → site.left_since b.site (site.moment b.site) w
+  now_before told w left =
+      ⊎_elim (λ was. was) (λ more. absurd more.2) ((on told).since (site.moment b.site) w (omega arith) (earlier (site.moment b.site) (site.moment new) w told (on told).later left))
 
   cause_read : (cause : Cause) → IsTrueCause b (site.faults b.opening.site) (site.faults b.site) site.tells (site.world b.site) (Since site b) cause
       → IsTrueCause read (site.faults b.opening.site) (site.faults new) site.tells (site.world new) (Since site read) cause
@@ -114,6 +118,14 @@ module _ {S R : Type 0} (site : Site S) (runner : Runner R) (b : BoardState S) (
         kept = could.kept;
         ended = λ told. subst (λ (k : List Content). EndsHonestly runner.next k could.kept.rule could.kept.running None Good run.writes) (sym (known told.0)) (could.ended told);
       };
+      torn = λ told w left.
+          let image = was.torn told w (now_before told w left) in (
+            image.0,
+            image.1,
+            image.2,
+            image_read image.0 w image.2 image.3,
+            subst (λ (present : World). StandsUnmade read (site.world b.opening.site) present image.2) (sym (same told)) image.4,
+          );
     };
     now = λ told. let image = sound.now told in (image.0, image_read _ _ image.0 (subst (λ (w : World). IsImageOver b (site.world b.opening.site) w image.0) (sym (same told)) image.1));
     images = λ told w left. let image = sound.images told w (back told w left) in (image.0, image.1, image.2, image_read image.0 w image.2 image.3);

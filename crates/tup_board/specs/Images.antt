@@ -32,6 +32,10 @@ pub record HoldsWritten (g : GraphState) (w : World) (path : Names) : Type 0 whe
   pub written : IsOwnedAs g path (Written seen)
   pub holds : option_map stamp (finite.get w.tree path) ≡ Some seen
 
+-- in a world each output of a rule that is flagged in this graph is unsure there, or stands as in one that was
+abbrev pub StandsUnmade : {S : Type 0} → BoardState S → World → World → GraphState → Type 0
+StandsUnmade board v w g = (number : ℕ) (path : Names) → Makes (plan_of board) number path → is_flagged g number ≡ true → IsOwnedAs g path Unsure ⊎ HasFileOf v w path
+
 -- a world with this graph, over one that was: as a crash may leave it where a crash before could leave the other
 pub record IsImageOver {S : Type 0} (board : BoardState S) (v w : World) (g : GraphState) : Type 0 where
   pub store : IsStoreOf g w.store
@@ -41,7 +45,7 @@ pub record IsImageOver {S : Type 0} (board : BoardState S) (v w : World) (g : Gr
   -- a rule that was to be run and isn't flagged any more has what it wrote; one that is flagged has what was, or its
   -- outputs are unsure
   pub made : (number : ℕ) (path : Names) → Makes (plan_of board) number path → is_reached (plan_of board) number ≡ true → is_flagged g number ≡ false → HoldsWritten g w path
-  pub unmade : (number : ℕ) (path : Names) → Makes (plan_of board) number path → is_flagged g number ≡ true → IsOwnedAs g path Unsure ⊎ HasFileOf v w path
+  pub unmade : StandsUnmade board v w g
 
 -- a crash leaves only such worlds, over those that one before could leave
 abbrev pub LeavesImages : {S : Type 0} → BoardState S → (World → Type 0) → (World → Type 0) → Type 0

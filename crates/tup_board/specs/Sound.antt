@@ -22,7 +22,7 @@ use Rattle.tup_rule_outputs.specs.declared.fault.BoardFault.TheVariants.{Site as
 use Rattle.tup_board.specs.Cause.{IsTrueCause, HasLargeFile, HasNoRoom, stops_by}
 use Rattle.tup_board.specs.Come.{IsPresent}
 use Rattle.tup_board.specs.Ends.{CouldEnd}
-use Rattle.tup_board.specs.Images.{LeavesImages, IsImageOver}
+use Rattle.tup_board.specs.Images.{LeavesImages, IsImageOver, StandsUnmade}
 use Rattle.tup_board.specs.Outputs.{AreApart, IsPlanOf, IsPending}
 
 -- the stamps that a graph has seen are those of the tree
@@ -38,14 +38,6 @@ pub record IsOpening {S : Type 0} (site : Site S) (board : BoardState S) : Type 
   pub plan : IsPlanOf (first_graph board) (plan_of board)
   pub apart : AreApart (plan_of board) (first_graph board)
 
--- a lost commit was to keep a run that a command had come to, and that its runner means; its rule is still to be run; and
--- where it was lost by the site, that failed
-pub record WasToHappen {S R : Type 0} (site : Site S) (runner : Runner R) (board : BoardState S) (commit : Lost) : Type 0 where
-  pub cause : IsTrue commit.by_site → Rose (site.faults board.opening.site) (site.faults board.site)
-  pub pending : (state board).pending commit.rule ≡ true
-  pub run : (run : RunRecord) → commit.run ≡ Some run → CouldEnd (plan_of board) (start board) board.history commit.rule run
-      (IsTrue site.tells × IsTrue runner.tells) (EndsHonestly runner.next (site.known board.site))
-
 -- what a crash since the board was made may leave
 abbrev pub Since : {S : Type 0} → Site S → BoardState S → World → Type 0
 Since site board w = site.left_since board.site (site.moment board.opening.site) w
@@ -53,6 +45,18 @@ Since site board w = site.left_since board.site (site.moment board.opening.site)
 -- what one right before that might have left
 abbrev pub Before : {S : Type 0} → Site S → BoardState S → World → Type 0
 Before site board w = site.left_since board.opening.site (site.moment board.opening.site) w
+
+-- a lost commit was to keep a run that a command had come to, and that its runner means; its rule is still to be run; and
+-- where it was lost by the site, that failed
+pub record WasToHappen {S R : Type 0} (site : Site S) (runner : Runner R) (board : BoardState S) (commit : Lost) : Type 0 where
+  pub cause : IsTrue commit.by_site → Rose (site.faults board.opening.site) (site.faults board.site)
+  pub pending : (state board).pending commit.rule ≡ true
+  pub run : (run : RunRecord) → commit.run ≡ Some run → CouldEnd (plan_of board) (start board) board.history commit.rule run
+      (IsTrue site.tells × IsTrue runner.tells) (EndsHonestly runner.next (site.known board.site))
+  -- what a crash from then on may leave is an image, and by its graph what isn't made yet is unsure, or stands at present as it did
+  -- at the opening
+  pub torn : IsTrue site.tells → (w : World) → site.left_since board.site (site.moment board.site) w
+      → (v : World) × Before site board v × (g : GraphState) × IsImageOver board v w g × StandsUnmade board (site.world board.opening.site) (site.world board.site) g
 
 -- a world is an image over one that a crash right before that might have left
 abbrev pub IsImage : {S : Type 0} → Site S → BoardState S → World → Type 0

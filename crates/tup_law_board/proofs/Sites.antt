@@ -24,7 +24,7 @@ use Rattle.tup_law_graph.proofs.Edited.{kept_more}
 use Rattle.tup_board.specs.Board.{BoardState, plan_of, first_graph, start, state}
 use Rattle.tup_board.specs.Come.{HasComeTo}
 use Rattle.tup_board.specs.Ends.{CouldEnd}
-use Rattle.tup_board.specs.Images.{IsImageOver}
+use Rattle.tup_board.specs.Images.{IsImageOver, StandsUnmade}
 use Rattle.tup_board.specs.Outputs.{IsPending}
 use Rattle.tup_board.specs.Sound.{Before, IsImage, IsSound, Since}
 use Rattle.tup_board.proofs.Known.{keeps_all}
@@ -113,42 +113,62 @@ module _ {S R : Type 0} (site : Site S) (runner : Runner R) (b : BoardState S) (
   pub site_kept_since : IsKeptSite runner.next language (site.known b.site) (site.world b.opening.site) (Since site b)
   site_kept_since = site_kept site runner b sound tells told language (site.world b.opening.site) (site.moment b.opening.site) over_it held earlier present
 
-  -- ---- beside the site as it is, where no commit was lost
-  module _ (none : b.lost ≡ None) (graph_now : IsGraphOf (entries_in b.graph.table) b.graph.nodes)
-      (earlier_now : (t u : ℕ) (w : World) → t ≤ u → site.left_since b.site u w → site.left_since b.site t w) (present_now : LeftNow site b.site (site.world b.site)) where
+  -- ---- beside the site as it is
+  module _ (earlier_now : (t u : ℕ) (w : World) → t ≤ u → site.left_since b.site u w → site.left_since b.site t w) (present_now : LeftNow site b.site (site.world b.site)) where
     since : (w : World) → LeftNow site b.site w → Since site b w
     since w left = earlier_now (site.moment b.opening.site) (site.moment b.site) w (sound.later tells) left
-
-    -- each world that a crash now may leave has the board's graph
-    has_now : (w : World) → LeftNow site b.site w → IsGraphIn w.store b.graph.nodes
-    has_now w left =
-        in_bytes b.graph.nodes w.store
-        (⊎_elim (λ (is : IsStoreOf b.graph.nodes w.store). is) (λ (is : IsStoreOf b.graph.nodes w.store). is)
-        ((as_it_was site.world site.moment site.left_since b.graph.table b.graph.nodes b.site (sound.stands tells none) graph_now b.graph.nodes).only.each w left))
-
-    now_is : (sound.now tells).0 ≡ b.graph.nodes
-    now_is = one_in_bytes (site.world b.site).store (sound.now tells).0 b.graph.nodes (in_bytes (sound.now tells).0 (site.world b.site).store (sound.now tells).1.store) (has_now (site.world b.site) present_now)
-
-    image_now : (g : GraphState) → b.graph.nodes ≡ g → IsImageOver b (site.world b.opening.site) (site.world b.site) g
-    image_now g same = subst (IsImageOver b (site.world b.opening.site) (site.world b.site)) (now_is ∙ same) (sound.now tells).1
-
-    holds_now : (w : World) (k : GraphState) (path : Names) (owned : Owned) → LeftNow site b.site w → IsGraphIn w.store k → finite.get k.owned path ≡ Some owned → HoldsItsOwn (site.world b.site) w path owned
-    holds_now w k path owned left reads is =
-        let image = sound.images tells w (since w left) in
-        let mine : b.graph.nodes ≡ image.2 = one_in_bytes w.store b.graph.nodes image.2 (has_now w left) (in_bytes image.2 w.store image.3.store) in
-        let theirs : k ≡ image.2 = one_in_bytes w.store k image.2 reads (in_bytes image.2 w.store image.3.store) in
-        let present_image = image_now image.2 mine in
-        image_own site runner b sound tells runner.next language (site.known b.opening.site) (site.world b.opening.site) (site.moment b.opening.site) over_it earlier present image.0 w image.1 image.2 image.3 (site.world b.site)
-        (λ q free. present_image.others q free) (λ number q makes flagged. present_image.unmade number q makes flagged) path owned
-        (subst (λ (x : GraphState). finite.get x.owned path ≡ Some owned) theirs is)
 
     here : IsKeptWorld runner.next language (site.known b.site) (site.world b.site)
     here = site_kept_since.later (site.world b.site) (since (site.world b.site) present_now)
 
-    pub kept_now : IsKeptNow site runner.next language (site.known b.site) b.site
-    kept_now = record {
+    -- it is kept where what is owned holds its own beside it
+    kept_beside : ((w : World) (k : GraphState) (path : Names) (owned : Owned) → LeftNow site b.site w → IsGraphIn w.store k → finite.get k.owned path ≡ Some owned → HoldsItsOwn (site.world b.site) w path owned)
+        → IsKeptNow site runner.next language (site.known b.site) b.site
+    kept_beside holds = record {
       now = here;
       later = λ w left. site_kept_since.later w (since w left);
       sources = λ w k left reads path. site_kept_since.sources w k (since w left) reads path ∙ sym (site_kept_since.sources (site.world b.site) here.graph (since (site.world b.site) present_now) here.reads path);
-      own = holds_now;
+      own = holds;
     }
+
+    -- what an image that a crash now may leave owns holds its own there, where by its graph what isn't made yet is unsure, or stands as it did at the opening
+    own_beside : (v w : World) → Before site b v → (g : GraphState) → IsImageOver b v w g → StandsUnmade b (site.world b.opening.site) (site.world b.site) g
+        → (k : GraphState) (path : Names) (owned : Owned) → IsGraphIn w.store k → finite.get k.owned path ≡ Some owned → HoldsItsOwn (site.world b.site) w path owned
+    own_beside v w before g image unmade k path owned reads is =
+        let same : k ≡ g = one_in_bytes w.store k g reads (in_bytes g w.store image.store) in
+        image_own site runner b sound tells runner.next language (site.known b.opening.site) (site.world b.opening.site) (site.moment b.opening.site) over_it earlier present v w before g image (site.world b.site)
+        (λ q free. (sound.now tells).1.others q free) unmade path owned (subst (λ (x : GraphState). finite.get x.owned path ≡ Some owned) same is)
+
+    -- ---- where no commit was lost
+    module _ (none : b.lost ≡ None) (graph_now : IsGraphOf (entries_in b.graph.table) b.graph.nodes) where
+      -- each world that a crash now may leave has the board's graph
+      has_now : (w : World) → LeftNow site b.site w → IsGraphIn w.store b.graph.nodes
+      has_now w left =
+          in_bytes b.graph.nodes w.store
+          (⊎_elim (λ (is : IsStoreOf b.graph.nodes w.store). is) (λ (is : IsStoreOf b.graph.nodes w.store). is)
+          ((as_it_was site.world site.moment site.left_since b.graph.table b.graph.nodes b.site (sound.stands tells none) graph_now b.graph.nodes).only.each w left))
+
+      now_is : (sound.now tells).0 ≡ b.graph.nodes
+      now_is = one_in_bytes (site.world b.site).store (sound.now tells).0 b.graph.nodes (in_bytes (sound.now tells).0 (site.world b.site).store (sound.now tells).1.store) (has_now (site.world b.site) present_now)
+
+      image_now : (g : GraphState) → b.graph.nodes ≡ g → IsImageOver b (site.world b.opening.site) (site.world b.site) g
+      image_now g same = subst (IsImageOver b (site.world b.opening.site) (site.world b.site)) (now_is ∙ same) (sound.now tells).1
+
+      holds_now : (w : World) (k : GraphState) (path : Names) (owned : Owned) → LeftNow site b.site w → IsGraphIn w.store k → finite.get k.owned path ≡ Some owned → HoldsItsOwn (site.world b.site) w path owned
+      holds_now w k path owned left reads is =
+          let image = sound.images tells w (since w left) in
+          let mine : b.graph.nodes ≡ image.2 = one_in_bytes w.store b.graph.nodes image.2 (has_now w left) (in_bytes image.2 w.store image.3.store) in
+          own_beside image.0 w image.1 image.2 image.3 (image_now image.2 mine).unmade k path owned reads is
+
+      pub kept_now : IsKeptNow site runner.next language (site.known b.site) b.site
+      kept_now = kept_beside holds_now
+
+    -- ---- where one was lost
+    module _ (commit : Lost) (lost : b.lost ≡ Some commit) where
+      holds_lost : (w : World) (k : GraphState) (path : Names) (owned : Owned) → LeftNow site b.site w → IsGraphIn w.store k → finite.get k.owned path ≡ Some owned → HoldsItsOwn (site.world b.site) w path owned
+      holds_lost w k path owned left reads is =
+          let image = (sound.lost commit lost).torn tells w left in
+          own_beside image.0 w image.1 image.2 image.3 image.4 k path owned reads is
+
+      pub kept_lost : IsKeptNow site runner.next language (site.known b.site) b.site
+      kept_lost = kept_beside holds_lost

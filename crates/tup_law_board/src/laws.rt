@@ -1,5 +1,5 @@
 //! What a board leaves of a kept site.
-ghost use Rattle.std.specs.Prelude.{◌≡◌, ℕ, List, None, IsTrue};
+ghost use Rattle.std.specs.Prelude.{◌≡◌, ℕ, List, None, Some, IsTrue};
 ghost use Rattle.std.specs.FinMap as finite;
 ghost use Rattle.tup_path.specs.Name.{Names, Content};
 ghost use Rattle.tup_site.specs.World.{World};
@@ -10,6 +10,7 @@ ghost use Rattle.tup_graph.specs.Kept.{IsGraphIn, IsKeptSite};
 ghost use Rattle.tup_graph.specs.Opening.{IsGraphOf};
 ghost use Rattle.tup_graph.specs.Reach.{stamp_in};
 ghost use Rattle.tup_graph.specs.Records.{Language};
+ghost use Rattle.tup_rule_outputs.specs.Lost.{Lost};
 ghost use Rattle.tup_board.specs.Board.{BoardState, first_graph, plan_of, state};
 ghost use Rattle.tup_board.specs.Outputs.{IsPending};
 ghost use Rattle.tup_board.specs.Sound.{IsSound, Since};
@@ -64,6 +65,19 @@ pub fn boards_leave_kept<S: Site, R: Runner>(site: &S, runner: &R)
         → IsSound S.Site.own R.Runner.own board → board.lost ≡ None
         → IsGraphOf (entries_in board.opening.graph.table) (first_graph board)
         → IsGraphOf (entries_in board.graph.table) board.graph.nodes → HoldsTogether board
+        → IsKeptNow S.Site.own R.next language (S.known board.opening.site) board.opening.site
+        → IsKeptNow S.Site.own R.next language (S.known board.site) board.site }
+{
+    let _ = site;
+    let _ = runner;
+}
+
+/// A law: and so it is where a commit was lost, whether or not the store has it.
+pub fn lost_boards_leave_kept<S: Site, R: Runner>(site: &S, runner: &R)
+    ensures { (language : Language) (board : BoardState S) (commit : Lost) → IsTrue S.tells
+        → IsTrue R.tells → IsSound S.Site.own R.Runner.own board → board.lost ≡ Some commit
+        → IsGraphOf (entries_in board.opening.graph.table) (first_graph board)
+        → HoldsTogether board
         → IsKeptNow S.Site.own R.next language (S.known board.opening.site) board.opening.site
         → IsKeptNow S.Site.own R.next language (S.known board.site) board.site }
 {

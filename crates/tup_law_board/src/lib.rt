@@ -7,4 +7,7 @@ mod laws;
 pub use clearing::{
     cleared_are_unseen, clearings_keep_sites, clearings_leave_kept, unmade_are_not_asked,
 };
-pub use laws::{boards_have_seen, boards_keep_sites, boards_keep_sources, boards_leave_kept};
+pub use laws::{
+    boards_have_seen, boards_keep_sites, boards_keep_sources, boards_leave_kept,
+    lost_boards_leave_kept,
+};

@@ -1,10 +1,10 @@
 -- What making the files of a rule leaves, by what its parts leave: a commit, files, a commit.
-use Rattle.std.proofs.Common.{◌≡◌, ◌⊎◌, ℕ, ◌≤◌, Bool, true, false, List, Option, None, Some, Result, Ok, Err, ⊎_elim, inl, inr, refl, sym, ap, subst, ◌∙◌}
+use Rattle.std.proofs.Common.{◌≡◌, ◌⊎◌, ℕ, ◌≤◌, Bool, true, false, List, Option, None, Some, Result, Ok, Err, ⊎_elim, inl, inr, refl, sym, ap, subst, ◌∙◌, arith}
 use Rattle.std.specs.Prelude.{if◌then◌else◌, IsTrue, is_none}
 use Rattle.std.proofs.lemmas.Option.{same_Some}
 use Rattle.tup_path.specs.Name.{Names, Content}
 use Rattle.tup_path.specs.Tree.{Tree}
-use Rattle.tup_site.specs.Crash.{GoesOn, PinsTree}
+use Rattle.tup_site.specs.Crash.{Follows, GoesOn, PinsTree}
 use Rattle.tup_site.specs.Known.{Keeps, knows}
 use Rattle.tup_site.specs.World.{World, StoreStays, TreeStays}
 use Rattle.tup_site.specs.declared.fault.SiteFailed.{SiteFailed}
@@ -29,7 +29,7 @@ use Rattle.tup_rule_outputs.specs.declared.fault.BoardFault.{BoardFault}
 use Rattle.tup_rule_outputs.specs.declared.fault.BoardFault.TheVariants as board
 use Rattle.tup_rule_outputs.specs.declared.ground.Ground.{Ground}
 use Rattle.tup_rule_outputs.specs.Fault.{of_site, lost_fault}
-use Rattle.tup_rule_outputs.specs.Ground.{IsGround, Commits, HoldsFiles, IsNotBegun, IsBegun, IsEnded, MakeStep, MakesFiles, Makes, WasTried, paths_of, after_begin}
+use Rattle.tup_rule_outputs.specs.Ground.{IsGround, Commits, HoldsFiles, IsNotBegun, IsBegun, IsEnded, LostStep, MakeStep, MakesFiles, Makes, WasTried, paths_of, after_begin}
 use Rattle.tup_rule_outputs.specs.Lost.{Lost}
 use Rattle.tup_rule_outputs.proofs.Committed.{some_none, same_fault, refusal}
 use Rattle.tup_rule_outputs.proofs.Faults.{never_full, of_too_large}
@@ -56,6 +56,9 @@ module _ {S : Type 0} (moment : S → ℕ) (left_since : S → ℕ → World →
   step_of : (v w : World) → Half v w → Step v w
   step_of v w half = ⊎_elim inl (λ began. inr (inl began)) half
 
+  beside_half : (u v : World) → Half u v → SameBeside outputs u.tree v.tree
+  beside_half u v half = ⊎_elim (λ was. beside_same outputs u.tree v.tree was.1) (λ began. began.1) half
+
   last_of : (v w : World) → Last v w → Step v w
   last_of v w last = ⊎_elim (λ began. inr (inl (began, beside_same outputs v.tree w.tree last.0))) (λ ended. inr (inr ended)) last.1
 
@@ -76,6 +79,15 @@ module _ {S : Type 0} (moment : S → ℕ) (left_since : S → ℕ → World →
     pub puts : GoesOn moment left_since old new Step
     puts = as_step moment left_since old new Half Step (λ v w left step. step_of v w step) half
 
+    -- from then on a crash leaves that the run began, beside other files at its outputs
+    has_begun : IsEarlier moment left_since new → ((v : World) → left_since new (moment new) v → IsStoreOf (begun g number) v.store) → (v : World) → left_since new (moment new) v
+        → Follows (λ (u w : World). IsBegun g number run files u w) (left_since old (moment old)) v
+    has_begun done began v left =
+        ⊎_elim
+        (λ was. (v, was, (began v left, beside_same outputs v.tree v.tree refl)))
+        (λ from. (from.0, from.1, (began v left, beside_half from.0 v from.2)))
+        (half.since (moment old) v (omega arith) (done (moment old) (moment new) v half.later left))
+
     -- ---- and the run is kept
     module _ (was : tried) (end : S) (done : IsEarlier moment left_since new) (present : Tree) (pinned : (v : World) → left_since new (moment new) v → v.tree ≡ present) (holds : HoldsFiles files present)
         (keep : LeavesEither moment left_since new end (begun g number) (finished (begun g number) number run)) where
@@ -92,9 +104,21 @@ module _ {S : Type 0} (moment : S → ℕ) (left_since : S → ℕ → World →
           ⊎_elim (λ began. inr (inl (began, beside_then outputs u.tree v.tree w.tree (beside_half u v first) (beside_same outputs v.tree w.tree later.0))))
           (λ ended. inr (inr (ended.0, (ended.1.0, ended.1.1, beside_then outputs u.tree v.tree w.tree (beside_half u v first) ended.1.2)))) later.1)
           half last
+
+      -- where that commit is lost: what a crash from then on may leave
+      pub lost_last : (before now : World) → ((v : World) → left_since new (moment new) v → IsStoreOf (begun g number) v.store) → IsEarlier moment left_since end → (w : World) → left_since end (moment end) w
+          → Follows (LostStep tried g number run files before now) (left_since old (moment old)) w
+      lost_last before now began over w left =
+          ⊎_elim
+          (λ stayed. let from = has_begun done began w stayed in (from.0, from.1, inr (inl from.2)))
+          (λ step. let from = has_begun done began step.0 step.1 in (from.0, from.1, then_last from.0 step.0 w from.2 step.1 step.2))
+          (keep.on.since (moment new) w (omega arith) (over (moment new) (moment end) w keep.on.later left))
         where
-          beside_half : (u v : World) → Half u v → SameBeside outputs u.tree v.tree
-          beside_half u v first = ⊎_elim (λ was. beside_same outputs u.tree v.tree was.1) (λ began. began.1) first
+          then_last : (u v w : World) → IsBegun g number run files u v → left_since new (moment new) v → GraphStep (begun g number) (finished (begun g number) number run) v w
+              → LostStep tried g number run files before now u w
+          then_last u v w first left step =
+              let beside = beside_then outputs u.tree v.tree w.tree first.1 (beside_same outputs v.tree w.tree step.tree) in
+              ⊎_elim (λ began. inr (inl (began, beside))) (λ ended. inr (inr (was, (ended, subst (HoldsFiles files) (sym (step.tree ∙ pinned v left)) holds, beside)))) step.store
 
 -- ---- what each end of the call leaves
 never_lost : (commit : Lost) → lost_fault commit ≡ board.Full → ⊥
@@ -148,6 +172,17 @@ module _ {S : Type 0} (site : Site S) (number : ℕ) (run : RunRecord) (files : 
         ((commits.crash tells).only.each (site.world new.site) (now_left old.site new.site tells (commits.crash tells).only.later));
     crash = λ tells. begins site.moment site.left_since (WasTried run (refusal fault) new.lost) g number run files old.site new.site (commits.crash tells);
     known = λ tells content had. subst (λ (k : List Content). IsTrue (knows k content)) (sym (commits.known tells)) had;
+    torn = λ commit lost tells w left.
+        let tree = commits.tree tells in
+        let on = (commits.crash tells).on in
+        ⊎_elim
+        (λ was. (w, was, inl (tree, (inl refl, refl))))
+        (λ from. (
+          from.0,
+          from.1,
+          ⊎_elim (λ not. inl (tree, not)) (λ began. inr (inl began)) (half_of site.moment site.left_since (WasTried run (refusal fault) new.lost) g number run files from.0 w from.2),
+        ))
+        (on.since (site.moment old.site) w (omega arith) (earlier new.site (site.moment old.site) (site.moment new.site) w tells on.later left));
   }
 
   -- ---- the run began
@@ -185,6 +220,11 @@ module _ {S : Type 0} (site : Site S) (number : ℕ) (run : RunRecord) (files : 
               (λ t u w le left. earlier put t u w tells le left) (crash tells) (store tells) (begin.is_ground.stands tells none);
         }
 
+        stores_put : IsTrue site.tells → (v : World) → site.left_since put (site.moment put) v → IsStoreOf (begun g number) v.store
+        stores_put tells =
+            stores_now site.world site.moment site.left_since mid.graph.table (begun g number) put (put_is_ground.stands tells (begin.ok done refl).0)
+            (subst (IsGraphOf (entries_in mid.graph.table)) (ap (λ (h : Held). h.nodes) mid_is) is_graph)
+
         beside_now : IsTrue site.tells → SameBeside (outputs_of g number) (site.world old.site).tree (site.world put).tree
         beside_now tells =
             beside_then (outputs_of g number) (site.world old.site).tree (site.world mid.site).tree (site.world put).tree
@@ -212,6 +252,7 @@ module _ {S : Type 0} (site : Site S) (number : ℕ) (run : RunRecord) (files : 
           ));
           crash = λ tells. puts site.moment site.left_since (WasTried run (refusal (of_site failed)) mid.lost) g number run files old.site mid.site put (λ t u w le left. earlier mid.site t u w tells le left) (begin.crash tells) (stores tells) (files_on tells);
           known = known_now;
+          torn = λ commit lost. absurd (some_none commit (sym lost ∙ (begin.ok done refl).0));
         }
 
         -- and its end was kept, or not
@@ -268,6 +309,10 @@ module _ {S : Type 0} (site : Site S) (number : ℕ) (run : RunRecord) (files : 
                 (puts site.moment site.left_since tried g number run files old.site mid.site put (λ t u w le left. earlier mid.site t u w tells le left) (begin.crash tells) (stores tells) (files_on tells)))
                 tried_or_not;
             known = λ tells content had. subst (λ (k : List Content). IsTrue (knows k content)) (sym (keep.known tells)) (known_now tells content had);
+            torn = λ commit lost tells w left.
+                lost_last site.moment site.left_since tried g number run files old.site mid.site put (λ t u w le left. earlier mid.site t u w tells le left) (begin.crash tells) (stores tells) (files_on tells)
+                (inr (commit, lost, (keep.lost commit lost).1)) end.site (λ t u w le left. earlier put t u w tells le left) (site.world put).tree (λ v left. durable tells v left) (holds tells) (either tells)
+                (site.world old.site) (site.world end.site) (stores_put tells) (λ t u w le left. earlier end.site t u w tells le left) w left;
           }
 
 -- ---- whether or not a commit was lost before

@@ -6,7 +6,7 @@ use Rattle.tup_path.specs.Name.{Names, Content}
 use Rattle.tup_path.specs.Tree.{Tree}
 use Rattle.tup_rule.specs.Rule.{among}
 use Rattle.tup_site.specs.Cause.{IsPlace, TellsLarge, TellsLength}
-use Rattle.tup_site.specs.Crash.{GoesOn, NoStep}
+use Rattle.tup_site.specs.Crash.{Follows, GoesOn, NoStep}
 use Rattle.tup_site.specs.Known.{Keeps}
 use Rattle.tup_site.specs.World.{World, StoreStays, TreeStays}
 use Rattle.tup_site.specs.declared.site.Site.{Ghosts as Site}
@@ -111,6 +111,12 @@ module _ (g : GraphState) (number : ℕ) (run : RunRecord) (files : List (Names 
 abbrev pub MakeStep : Type 0 → GraphState → ℕ → RunRecord → List (Names × Content) → World → World → Type 0
 MakeStep tried g number run files v w = IsNotBegun g number run files v w ⊎ IsBegun g number run files v w ⊎ (tried × IsEnded g number run files v w)
 
+-- what a crash may leave once a commit was lost, of what one right before the call might have left: nothing may be done yet only
+-- where the present tree is still the one before
+abbrev pub LostStep : Type 0 → GraphState → ℕ → RunRecord → List (Names × Content) → World → World → World → World → Type 0
+LostStep tried g number run files before now v w =
+    (TreeStays before now × IsNotBegun g number run files v w) ⊎ IsBegun g number run files v w ⊎ (tried × IsEnded g number run files v w)
+
 -- the graph after a run began
 abbrev pub after_begin : Held → ℕ → Held
 after_begin graph number = after graph (begin_edits graph.nodes number) (begun graph.nodes number)
@@ -153,6 +159,9 @@ pub record MakesFiles {S : Type 0} (site : Site S) (number : ℕ) (run : RunReco
   pub now : IsTrue site.tells → MakeStep (WasTried run result new.lost) old.graph.nodes number run files (site.world old.site) (site.world new.site)
   pub crash : IsTrue site.tells → GoesOn site.moment site.left_since old.site new.site (MakeStep (WasTried run result new.lost) old.graph.nodes number run files)
   pub known : IsTrue site.tells → Keeps (site.known old.site) (site.known new.site)
+  -- and from then on, where a commit is lost
+  pub torn : (commit : Lost) → new.lost ≡ Some commit → IsTrue site.tells → (w : World) → site.left_since new.site (site.moment new.site) w
+      → Follows (LostStep (WasTried run result new.lost) old.graph.nodes number run files (site.world old.site) (site.world new.site)) (site.left_since old.site (site.moment old.site)) w
 
 -- the same, whether or not a commit was lost before: then nothing is done, and the answer is that of the lost commit
 pub record Makes {S : Type 0} (site : Site S) (number : ℕ) (run : RunRecord) (files : List (Names × Content)) (old : Ground S) (result : Result (Unit {0}) BoardFault) (new : Ground S) : Type 0 where

@@ -5,4 +5,4 @@ pub returns : goal.returns
 returns g c = λ language board tells told sound none is_graph graph_now held kept.
     let site_laws = g.met.S.Site in
     kept_now g.S.Site g.R.Runner board sound tells told language kept is_graph held (λ t u w within left. site_laws.earlier board.opening.site t u w tells within left)
-    (site_laws.present board.opening.site tells) none graph_now (λ t u w within left. site_laws.earlier board.site t u w tells within left) (site_laws.present board.site tells)
+    (site_laws.present board.opening.site tells) (λ t u w within left. site_laws.earlier board.site t u w tells within left) (site_laws.present board.site tells) none graph_now
