@@ -47,6 +47,7 @@ pub fn compare_site<S: Site, R: Runner>(
     ensures compared { IsTrue S.tells → IsTrue R.tells
         → HasCompared R.next (S.world site.old) result }
     ensures holds { IsTrue S.tells → HoldsOn (S.world site.old) (S.world site.new) }
+    ensures known { IsTrue S.tells → S.known site.new ≡ S.known site.old }
     // Of the store nothing but its end was written, where no gate stood.
     ensures opens { IsTrue S.tells → let old = S.world site.old in let new = S.world site.new in
         JustOpens old.store new.store (result_err result) }
@@ -75,6 +76,7 @@ fn compare_beside<S: Site, R: Runner>(
     ensures compared { IsTrue S.tells → IsTrue R.tells
         → HasCompared R.next (S.world site.old) result }
     ensures same { IsTrue S.tells → S.world site.new ≡ S.world site.old }
+    ensures known { IsTrue S.tells → S.known site.new ≡ S.known site.old }
     ensures crash { IsTrue S.tells → GoesOn S.moment S.left_since site.old site.new NoStep }
     ensures ran { IsTrue S.tells → IsTrue R.tells → IsTrue R.tells_ran
         → RunsToCompare R.next (S.world site.old) (R.ran runner.old) (R.ran runner.new)
@@ -101,6 +103,7 @@ fn clean_files<S: Site, R: Runner>(
     ensures clean { IsTrue S.tells → IsTrue R.tells
         → HasBuilt R.next (S.world site.old) result }
     ensures same { IsTrue S.tells → S.world site.new ≡ S.world site.old }
+    ensures known { IsTrue S.tells → S.known site.new ≡ S.known site.old }
     ensures crash { IsTrue S.tells → GoesOn S.moment S.left_since site.old site.new NoStep }
     ensures ran { IsTrue S.tells → IsTrue R.tells → IsTrue R.tells_ran
         → RunsToCompare R.next (S.world site.old) (R.ran runner.old) (R.ran runner.new)
@@ -188,6 +191,7 @@ fn all_files<S: Site>(alloc: Global, site: &mut S) -> Result<Files, SiteFailed>
     ensures files { IsTrue S.tells
         → IfOk result (λ files. files ≡ finite.entries (S.world site.old).tree) }
     ensures same { IsTrue S.tells → S.world site.new ≡ S.world site.old }
+    ensures known { IsTrue S.tells → S.known site.new ≡ S.known site.old }
     ensures crash { IsTrue S.tells → GoesOn S.moment S.left_since site.old site.new NoStep }
     ensures large { IsTrue S.tells → NamesALargeFile (S.world site.new).tree result }
     ensures only_large { OnlyLarge result }

@@ -45,6 +45,7 @@ impl Found {
         ensures cause { IsTrue S.tells → IfErr result (IsUnread (S.world site.old)) }
         ensures limits { IfErr result KnowsLimits }
         ensures same { IsTrue S.tells → S.world site.new ≡ S.world site.old }
+        ensures known { IsTrue S.tells → S.known site.new ≡ S.known site.old }
         ensures crash { IsTrue S.tells
             → GoesOn S.moment S.left_since site.old site.new NoStep }
         ensures counted { HandsOn Outside (S.faults site.old) (S.faults site.new) result }
@@ -96,6 +97,7 @@ pub(crate) fn contents<S: Site>(
         → IfOk result (λ files. files ≡ finite.entries part) }
     ensures sorted { IfOk result (λ files. IsTrue (finite.is_sorted by_names files)) }
     ensures same { IsTrue S.tells → S.world site.new ≡ S.world site.old }
+    ensures known { IsTrue S.tells → S.known site.new ≡ S.known site.old }
     ensures crash { IsTrue S.tells → GoesOn S.moment S.left_since site.old site.new NoStep }
     ensures large { IsTrue S.tells → NamesOneOf paths.now (S.world site.new).tree result }
     ensures only_large { OnlyLarge result }
@@ -118,6 +120,7 @@ fn add<S: Site>(
     ensures added { IsTrue S.tells → let found = finite.get (S.world site.old).tree path.now in
         OnOk result (AddsFile path.now found files.old files.new) }
     ensures same { IsTrue S.tells → S.world site.new ≡ S.world site.old }
+    ensures known { IsTrue S.tells → S.known site.new ≡ S.known site.old }
     ensures crash { IsTrue S.tells → GoesOn S.moment S.left_since site.old site.new NoStep }
     ensures large { IsTrue S.tells → NamesLength (S.world site.new).tree path.now result }
     ensures only_large { OnlyLarge result }

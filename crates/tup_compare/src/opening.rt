@@ -1,5 +1,5 @@
 //! What the store of a site lists.
-ghost use Rattle.std.specs.Prelude.{IsTrue, IfOk, IfErr};
+ghost use Rattle.std.specs.Prelude.{◌≡◌, IsTrue, IfOk, IfErr};
 ghost use Rattle.std.specs.Result.{result_err};
 ghost use Rattle.tup_site.specs.Crash.{GoesOn};
 ghost use Rattle.tup_promise.specs.Cause.{HasCountedCause};
@@ -17,6 +17,7 @@ use tup_site::Site;
 pub(crate) fn opened<S: Site>(alloc: Global, site: &mut S) -> Result<Paths, Stop>
     ensures lists { IsTrue S.tells → IfOk result (Lists (S.world site.new).store) }
     ensures holds { IsTrue S.tells → HoldsOn (S.world site.old) (S.world site.new) }
+    ensures known { IsTrue S.tells → S.known site.new ≡ S.known site.old }
     ensures opens { IsTrue S.tells → let old = S.world site.old in let new = S.world site.new in
         JustOpens old.store new.store (result_err result) }
     ensures cause { IsTrue S.tells → IfErr result (IsUnopened (S.world site.old)) }

@@ -98,7 +98,7 @@ module _ (s : State) (path : Names) (w : World) (is : IsSound s) where
 -- ---- a site in memory
 module _ (old new : MemSite) (same : first_of new ≡ first_of old) where
   -- after one change more
-  state_then : (change : Change) → changes_of new ≡ changes_of old ++ change ∷ [] → state_of new ≡ after (state_of old) change
+  pub state_then : (change : Change) → changes_of new ≡ changes_of old ++ change ∷ [] → state_of new ≡ after (state_of old) change
   state_then change noted = (λ i. after_all (at_first (same i)) (noted i)) ∙ after_all-append (at_first (first_of old)) (changes_of old) (change ∷ [])
 
   image_then : (change : Change) → changes_of new ≡ changes_of old ++ change ∷ [] → (w : World) → left_since new (moment_of new) w → IsImage (after (state_of old) change) w

@@ -1,8 +1,6 @@
 pub mod Turns
 pub mod Edits
-pub mod Sources
 pub mod Deeds
-pub mod Opened
 pub mod Runs
 pub mod Stays
 pub mod Told

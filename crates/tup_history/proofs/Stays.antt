@@ -1,4 +1,4 @@
--- A site that is kept stays kept, turn after turn.
+-- A project stays kept, turn after turn.
 use Rattle.std.proofs.Common.{ℕ, Bool, List, [], ◌∷◌, length, take, Option, None, Some, Ok, Err, sym, subst}
 use Rattle.tup_path.specs.Name.{Names, Content}
 use Rattle.tup_site.specs.Memory.{world_in}
@@ -7,65 +7,67 @@ use Rattle.tup_site.specs.declared.choice.Deed.TheVariants.{Edit, Crash}
 use Rattle.tup_site.specs.declared.memory.MemSite.{MemSite}
 use Rattle.tup_site.specs.declared.refused.MemRefused.{MemRefused}
 use Rattle.tup_runner.specs.Next.{Next}
-use Rattle.tup_ledger.specs.Sources.{Kept}
+use Rattle.tup_top.specs.Promise.{UnlessLost}
 use Rattle.tup_top.specs.Order.{Wanted, order}
 use Rattle.tup_top.specs.declared.order.Order.TheVariants.{Init, Upd, Verify, Demo}
-use Rattle.tup_history.specs.Deed.{IsEdited}
+use Rattle.tup_top.specs.declared.status.Status.{Status}
+use Rattle.tup_top.proofs.Causes.{came_on}
 use Rattle.tup_history.specs.History.{Standing, Takes, IsHistory, AreLived}
-use Rattle.tup_history.specs.Kept.{IsKept}
-use Rattle.tup_history.specs.Stays.{BehindEdit, BehindRun, Behind, StaysKept, AreKept}
+use Rattle.tup_history.specs.Kept.{Stage, Unbegun, Begun, Stands}
+use Rattle.tup_history.specs.Stays.{BehindAnswer, BehindRun, Behind, StaysKept, AreKept}
 use Rattle.tup_history.specs.declared.turn.End.{End}
 use Rattle.tup_history.specs.declared.turn.Turn.{Turn}
 use Rattle.tup_history.specs.declared.turn.Turn.TheVariants.{Deed, Run}
-use Rattle.tup_history.proofs.Deeds.{kept_still, still_unbegun, behind_edit, crash_keeps}
+use Rattle.tup_history.proofs.Deeds.{stands_still, edit_keeps, crash_keeps}
 use Rattle.tup_history.proofs.Runs.{run_keeps}
 
--- an edit
-edit_keeps : (path : Names) (content : Option Content) (old new : MemSite) → IsEdited path content old new → (before : Option Kept) → IsKept old before → BehindEdit path content old before (IsKept new)
-edit_keeps path content old new is None kept = still_unbegun path content old new is kept
-edit_keeps path content old new is (Some before) kept = λ owned all. behind_edit path content old new is owned before all kept
-
 -- a larger promise
-run_on : (wanted : Wanted) (w : World) (end : End) (before : Option Kept) (P Q : Option Kept → Type 0) → ((later : Option Kept) → P later → Q later) → BehindRun wanted w end before P → BehindRun wanted w end before Q
-run_on (Ok (Upd program)) w end before P Q on p = tt
-run_on (Ok Init) w end None P Q on p = λ done. on _ (p done)
-run_on (Ok Init) w end (Some before) P Q on p = on (Some before) p
-run_on (Ok Verify) w end before P Q on p = on before p
-run_on (Ok Demo) w end before P Q on p = on before p
-run_on (Err place) w end before P Q on p = on before p
+answer_on : (answered : Option Status) (P Q : Type 0) → (P → Q) → BehindAnswer answered P → BehindAnswer answered Q
+answer_on None P Q on p = tt
+answer_on (Some status) P Q on p = came_on (UnlessLost P) (UnlessLost Q) (λ stopped by loses. on (by loses)) status p
 
-behind_on : (turn : Turn) (end : End) (site : MemSite) (before : Option Kept) (P Q : Option Kept → Type 0) → ((later : Option Kept) → P later → Q later) → Behind turn end site before P → Behind turn end site before Q
-behind_on (Deed (Edit path content)) end site None P Q on p = on None p
-behind_on (Deed (Edit path content)) end site (Some before) P Q on p = λ owned all. on _ (p owned all)
-behind_on (Deed (Crash choice)) end site before P Q on p = on before p
-behind_on (Run words stop_after) end site before P Q on p = run_on (order words) (world_in site) end before P Q on p
+run_on : (tells : Bool) (next : Next) (wanted : Wanted) (old new : World) (end : End) (stage : Stage) (P Q : Stage → Type 0) → ((later : Stage) → P later → Q later) → BehindRun tells next wanted old new end stage P → BehindRun tells next wanted old new end stage Q
+run_on tells next (Ok (Upd program)) old new end Unbegun P Q on p = tt
+run_on tells next (Ok (Upd program)) old new end Begun P Q on p = λ means. let is = p means in (is.0, answer_on end.status (P Begun) (Q Begun) (on Begun) is.1)
+run_on tells next (Ok Init) old new end Unbegun P Q on p = λ done. on Begun (p done)
+run_on tells next (Ok Init) old new end Begun P Q on p = on Begun p
+run_on tells next (Ok Verify) old new end stage P Q on p = on stage p
+run_on tells next (Ok Demo) old new end stage P Q on p = on stage p
+run_on tells next (Err place) old new end stage P Q on p = on stage p
 
-turn_keeps : (tells : Bool) (next : Next) (turn : Turn) (end : End) (from to : Standing) → Takes tells next turn end from to → (before : Option Kept) → IsKept from.site before → Behind turn end from.site before (IsKept to.site)
-turn_keeps tells next (Deed (Edit path content)) end from to takes before kept = edit_keeps path content from.site to.site takes.ends.done before kept
-turn_keeps tells next (Deed (Crash choice)) end from to takes before kept = crash_keeps choice from.site to.site takes.ends.done before kept
-turn_keeps tells next (Run words stop_after) end from to takes before kept =
-    let ran : BehindRun (order words) (world_in takes.begun) end before (IsKept takes.ended) =
-    run_keeps (order words) end takes.status takes.begun takes.ended takes.answered takes.leaves takes.keeps.begins before
-    (kept_still from.site takes.begun takes.begins.first takes.begins.changes takes.begins.world before kept) in
-    subst (λ (w : World). BehindRun (order words) w end before (IsKept to.site)) takes.begins.world
-    (run_on (order words) (world_in takes.begun) end before (IsKept takes.ended) (IsKept to.site)
-    (λ later k. kept_still takes.ended to.site takes.goes_on.first takes.goes_on.changes takes.goes_on.world later k) ran)
+behind_on : (tells : Bool) (next : Next) (turn : Turn) (end : End) (old new : MemSite) (stage : Stage) (P Q : Stage → Type 0) → ((later : Stage) → P later → Q later) → Behind tells next turn end old new stage P → Behind tells next turn end old new stage Q
+behind_on tells next (Deed (Edit path content)) end old new Unbegun P Q on p = on Unbegun p
+behind_on tells next (Deed (Edit path content)) end old new Begun P Q on p = λ alike. on Begun (p alike)
+behind_on tells next (Deed (Crash choice)) end old new stage P Q on p = on stage p
+behind_on tells next (Run words stop_after) end old new stage P Q on p = run_on tells next (order words) (world_in old) (world_in new) end stage P Q on p
+
+turn_keeps : (tells : Bool) (next : Next) (turn : Turn) (end : End) (from to : Standing) → Takes tells next turn end from to → (stage : Stage) → Stands next stage from.site → Behind tells next turn end from.site to.site stage (λ later. Stands next later to.site)
+turn_keeps tells next (Deed (Edit path content)) end from to takes stage kept = edit_keeps path content from.site to.site takes.ends.done next stage kept
+turn_keeps tells next (Deed (Crash choice)) end from to takes stage kept = crash_keeps choice from.site to.site takes.ends.done next stage kept
+turn_keeps tells next (Run words stop_after) end from to takes stage kept =
+    let ran : BehindRun tells next (order words) (world_in takes.begun) (world_in takes.ended) end stage (λ later. Stands next later takes.ended) =
+    run_keeps tells next (order words) end takes.status end.ran takes.begun takes.ended takes.answered takes.leaves takes.keeps.nothing_done takes.keeps.begins takes.updates stage
+    (stands_still from.site takes.begun takes.begins.first takes.begins.changes takes.begins.world next stage kept) in
+    subst (λ (w : World). BehindRun tells next (order words) w (world_in to.site) end stage (λ later. Stands next later to.site)) takes.begins.world
+    (subst (λ (w : World). BehindRun tells next (order words) (world_in takes.begun) w end stage (λ later. Stands next later to.site)) (sym takes.goes_on.world)
+    (run_on tells next (order words) (world_in takes.begun) (world_in takes.ended) end stage (λ later. Stands next later takes.ended) (λ later. Stands next later to.site)
+    (λ later k. stands_still takes.ended to.site takes.goes_on.first takes.goes_on.changes takes.goes_on.world next later k) ran))
 
 -- ---- turn after turn
-stays : (tells : Bool) (next : Next) (turns : List Turn) (ends : List End) (from to : Standing) (history : IsHistory tells next turns ends from to) (P : Option Kept → Type 0) → ((later : Option Kept) → IsKept to.site later → P later) →
-    (before : Option Kept) → IsKept from.site before → StaysKept tells next turns ends from to history before P
-stays tells next [] [] from to is P last before kept = last before (subst (λ (s : Standing). IsKept s.site before) (sym is) kept)
-stays tells next (turn ∷ turns) (end ∷ ends) from to (mid, takes, history) P last before kept =
-    behind_on turn end from.site before (IsKept mid.site) _ (λ later k. (k, stays tells next turns ends mid to history P last later k)) (turn_keeps tells next turn end from mid takes before kept)
-stays tells next [] (end ∷ ends) from to none P last before kept = absurd none
-stays tells next (turn ∷ turns) [] from to none P last before kept = absurd none
+stays : (tells : Bool) (next : Next) (turns : List Turn) (ends : List End) (from to : Standing) (history : IsHistory tells next turns ends from to) (P : Stage → Type 0) → ((later : Stage) → Stands next later to.site → P later) →
+    (stage : Stage) → Stands next stage from.site → StaysKept tells next turns ends from to history stage P
+stays tells next [] [] from to is P last stage kept = last stage (subst (λ (s : Standing). Stands next stage s.site) (sym is) kept)
+stays tells next (turn ∷ turns) (end ∷ ends) from to (mid, takes, history) P last stage kept =
+    behind_on tells next turn end from.site mid.site stage (λ later. Stands next later mid.site) _ (λ later k. (k, stays tells next turns ends mid to history P last later k)) (turn_keeps tells next turn end from mid takes stage kept)
+stays tells next [] (end ∷ ends) from to none P last stage kept = absurd none
+stays tells next (turn ∷ turns) [] from to none P last stage kept = absurd none
 
 pub lived_kept : (tells : Bool) (next : Next) (turns : List Turn) (ends : List End) (refused : Option (ℕ × MemRefused)) (from to : Standing) → AreLived tells next turns ends refused from to →
-    (before : Option Kept) → IsKept from.site before → AreKept tells next turns ends from to before
-lived_kept tells next turns ends refused from to lived before kept = record {
+    (stage : Stage) → Stands next stage from.site → AreKept tells next turns ends from to stage
+lived_kept tells next turns ends refused from to lived stage kept = record {
   last = lived.last;
   history = lived.history;
-  stays = stays tells next (take (length ends) turns) ends from lived.last lived.history (IsKept to.site)
-      (λ later k. kept_still lived.last.site to.site lived.stands.site.beside.first lived.stands.site.changes lived.stands.site.world later k) before kept;
+  stays = stays tells next (take (length ends) turns) ends from lived.last lived.history (λ later. Stands next later to.site)
+      (λ later k. stands_still lived.last.site to.site lived.stands.site.beside.first lived.stands.site.changes lived.stands.site.world next later k) stage kept;
   stands = lived.stands;
 }

@@ -1,5 +1,5 @@
 -- A history of a project: edits, crashes and runs of the program, one after another. Own.
-use Rattle.std.specs.Prelude.{◌≡◌, ◌⊎◌, ⊤, Bool, ℕ, List, [], ◌∷◌, length, take, map, Option, None, Some, slice_get}
+use Rattle.std.specs.Prelude.{◌≡◌, ◌⊎◌, ⊤, Bool, IsTrue, ℕ, List, [], ◌∷◌, length, take, map, Option, None, Some, slice_get}
 use Rattle.tup_site.specs.Memory.{world_in, moment_of, left_since, faults_of, left_of}
 use Rattle.tup_site.specs.declared.choice.Deed.{Deed as ADeed}
 use Rattle.tup_site.specs.declared.memory.MemSite.{MemSite}
@@ -11,8 +11,9 @@ use Rattle.tup_top.specs.Promise.{Counts}
 use Rattle.tup_top.specs.declared.order.Word.{Word}
 use Rattle.tup_top.specs.declared.status.Status.{Status}
 use Rattle.tup_history.specs.Chain.{Leads}
+use Rattle.tup_history.specs.Kept.{IsKept}
 use Rattle.tup_history.specs.Deed.{IsCarriedOut, IsUntouched, Refuses}
-use Rattle.tup_history.specs.Run.{SaysDone, Keeps, Leaves, Lets, left_then, left_behind}
+use Rattle.tup_history.specs.Run.{SaysDone, Keeps, Leaves, Updates, Lets, left_then, left_behind}
 use Rattle.tup_history.specs.declared.turn.Turn.{Turn}
 use Rattle.tup_history.specs.declared.turn.Turn.TheVariants.{Deed, Run}
 use Rattle.tup_history.specs.declared.turn.End.{End}
@@ -53,6 +54,7 @@ pub record TakesRun (tells : Bool) (next : Next) (words : List Word) (stop_after
   pub begins : Lets (left_then stop_after (left_of from.site)) from.site begun
   pub keeps : Keeps tells next (order words) (world_in begun) (world_in ended) (counted begun from) (counted ended to) status end.ran
   pub leaves : Leaves (order words) begun ended status
+  pub updates : IsTrue tells → IsKept next begun → Updates next (order words) begun ended status end.ran
   pub goes_on : Lets (left_behind stop_after (left_of ended)) ended to.site
   pub moment : end.moment ≡ moment_of to.site
   pub answered : end.status ≡ Some status

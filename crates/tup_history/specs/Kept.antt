@@ -1,43 +1,28 @@
--- What a crash leaves of a project: its sources, and nothing else but what may be owned. Own.
-use Rattle.std.specs.Prelude.{◌≡◌, Bool, false, [], Option, None, Some}
-use Rattle.tup_path.specs.Name.{Names, Content}
-use Rattle.tup_path.specs.Tree.{Tree}
-use Rattle.tup_site.specs.Edit.{edited}
-use Rattle.tup_site.specs.Memory.{world_in, store_in, moment_of, left_since}
-use Rattle.tup_site.specs.World.{World}
+-- What a crash leaves of a project between two turns: before it has begun, and once it has. Own.
+use Rattle.std.specs.Prelude.{◌≡◌, []}
+use Rattle.tup_site.specs.Memory.{world_in, store_in, known_in, moment_of, left_since}
 use Rattle.tup_site.specs.declared.memory.MemSite.{MemSite}
-use Rattle.tup_graph.specs.Graph.{GraphState, is_owned}
-use Rattle.tup_stored_graph.specs.Crash.{IsStoreOf}
-use Rattle.tup_ledger.specs.Listing.{IsSafe}
-use Rattle.tup_ledger.specs.Sources.{Kept, IsDurable}
+use Rattle.tup_runner.specs.Next.{Next}
+use Rattle.tup_ledger.specs.Sources.{IsDurable}
+use Rattle.tup_graph.specs.Kept.{IsKeptSite}
+use Rattle.tup_law_phases.specs.Language.{tupfiles}
 
 -- the project hasn't begun: there is no store, and a crash now leaves what is there
 pub record IsUnbegun (site : MemSite) : Type 0 where
   pub no_store : store_in site ≡ []
   pub durable : IsDurable (left_since site (moment_of site)) (world_in site)
 
--- What is kept of a site: nothing has begun yet; or each world that a crash now may leave has these sources, and owns no other
--- path than may be.
-abbrev pub IsKept : MemSite → Option Kept → Type 0
-IsKept site None = IsUnbegun site
-IsKept site (Some kept) = IsSafe moment_of left_since site kept
+-- The project is kept, where commands mean this: what its store says of its files holds, and so it is in each world that a crash
+-- now may leave, which has the same sources.
+abbrev pub IsKept : Next → MemSite → Type 0
+IsKept next site = IsKeptSite next tupfiles (known_in site) (world_in site) (left_since site (moment_of site))
 
--- the store of a world reads, and owns a path or doesn't
-pub record Owns (path : Names) (owned : Bool) (w : World) : Type 0 where
-  pub graph : GraphState
-  pub store : IsStoreOf graph w.store
-  pub is : is_owned graph path ≡ owned
+-- how far a project has come: it hasn't begun, or it has
+pub data Stage : Type 0 where
+  Unbegun : Stage
+  Begun : Stage
 
--- each world that a crash now may leave owns the path, or none of them does
-abbrev pub AllOwn : Names → Bool → MemSite → Type 0
-AllOwn path owned site = (w : World) → left_since site (moment_of site) w → Owns path owned w
-
--- ---- what an edit, and a beginning, make of it
-
--- a source more or less, or another content of it
-abbrev pub with_source : Names → Option Content → Kept → Kept
-with_source path content kept = record { sources = edited kept.sources path content; may = kept.may }
-
--- the project begins: each file is a source, and nothing may be owned
-abbrev pub all_sources : Tree → Kept
-all_sources tree = record { sources = tree; may = λ path. false }
+-- and how it stands then
+abbrev pub Stands : Next → Stage → MemSite → Type 0
+Stands next Unbegun site = IsUnbegun site
+Stands next Begun site = IsKept next site

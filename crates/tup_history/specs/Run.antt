@@ -1,17 +1,22 @@
 -- What a run of the program leaves, by what the program promises of each run (tup_top). Own.
-use Rattle.std.specs.Prelude.{◌≡◌, ⊤, Bool, ℕ, List, [], Option, None, Some, IsTrue}
+use Rattle.std.specs.Prelude.{◌≡◌, ⊤, false, Bool, ℕ, List, [], Option, None, Some, IsTrue}
 use Rattle.tup_site.specs.Crash.{GoesOn}
 use Rattle.tup_site.specs.World.{World}
-use Rattle.tup_site.specs.Memory.{world_in, first_of, changes_of, moment_of, left_since, calls_of, faults_of, fails_of, left_of}
+use Rattle.tup_site.specs.Memory.{world_in, known_in, first_of, changes_of, moment_of, left_since, calls_of, faults_of, fails_of, left_of}
 use Rattle.tup_site.specs.declared.memory.MemSite.{MemSite}
 use Rattle.tup_rule.specs.declared.rule.RuleName.{RuleName}
 use Rattle.tup_runner.specs.Next.{Next}
 use Rattle.tup_ledger.specs.Begin.{Begins}
+use Rattle.tup_graph.specs.Kept.{IsKeptSite}
+use Rattle.tup_law_phases.specs.Language.{tupfiles}
+use Rattle.tup_promise.specs.Finished.{ExactlyTheFiles}
+use Rattle.tup_promise.specs.Needed.{RunsWhatIsNeeded}
 use Rattle.tup_compare.specs.Compared.{HasCompared}
 use Rattle.tup_top.specs.Order.{Wanted, IsUpdate}
-use Rattle.tup_top.specs.Promise.{ForUpdate, ForInit, ForVerify, Lasts, NothingDone, OpensStore, QuietStep, Counts, HasPlainCause, Initializes, Compares}
+use Rattle.tup_top.specs.Promise.{UnlessLost, ForUpdate, ForInit, ForVerify, Lasts, NothingDone, OpensStore, QuietStep, Counts, HasPlainCause, Initializes, Compares}
 use Rattle.tup_top.specs.declared.status.Status.{Status}
 use Rattle.tup_top.specs.declared.status.Status.TheVariants.{Done, SinkFault}
+use Rattle.tup_history.specs.Kept.{IsKept}
 
 -- the answer says that all was done, and that its lines were written or couldn't be
 abbrev pub SaysDone : Status → Type 0
@@ -31,10 +36,20 @@ pub record Keeps (tells : Bool) (next : Next) (wanted : Wanted) (old new : World
   pub compared : IsTrue tells → ForVerify wanted status (HasCompared next old)
   pub compares : IsTrue tells → Compares wanted old before now status
 
--- What a crash may leave since such a run began, and once it has ended. Of an update nothing is said.
+-- What a crash may leave since such a run began, and once it has ended.
 pub record Leaves (wanted : Wanted) (old new : MemSite) (status : Status) : Type 0 where
   pub quiet : (IsUpdate wanted → ⊥) → GoesOn moment_of left_since old new (QuietStep wanted (world_in old))
   pub lasts : ForInit wanted status (Lasts (left_since new (moment_of new)) (world_in new))
+  pub known : (IsUpdate wanted → ⊥) → known_in new ≡ known_in old
+
+-- What an update leaves of a kept project, whose commands mean this: exactly the files of a clean build where it is done, and only
+-- what is needed was run. Each world that a crash since its beginning may leave is kept; so is the project as it is, where no write
+-- of the store may be lost.
+pub record Updates (next : Next) (wanted : Wanted) (old new : MemSite) (status : Status) (ran : List RuleName) : Type 0 where
+  pub files : ForUpdate wanted status (ExactlyTheFiles next (world_in old) (world_in new))
+  pub needed : ForUpdate wanted status (RunsWhatIsNeeded next false (world_in old) ran)
+  pub crash : ForUpdate wanted status (λ _. IsKeptSite next tupfiles (known_in new) (world_in old) (left_since new (moment_of old)))
+  pub kept : ForUpdate wanted status (UnlessLost (IsKept next new))
 
 -- ---- the calls that pass
 

@@ -1,10 +1,9 @@
 //! Turn after turn.
-ghost use Rattle.std.specs.Prelude.{◌≡◌, Option, IfOk, OnErr, IfErr};
-ghost use Rattle.tup_ledger.specs.Sources.{Kept};
+ghost use Rattle.std.specs.Prelude.{◌≡◌, IfOk, OnErr, IfErr};
 ghost use Rattle.tup_top.specs.Crew.{IsCrew};
 ghost use Rattle.tup_history.specs.Deed.{IsUntouched, Refuses};
 ghost use Rattle.tup_history.specs.History.{standing, EndsDeed, TakesRun, Takes, RefusesTurn, StandsAs, AreLived};
-ghost use Rattle.tup_history.specs.Kept.{IsKept};
+ghost use Rattle.tup_history.specs.Kept.{Stage, Stands};
 ghost use Rattle.tup_history.specs.Stays.{AreKept};
 
 use crate::deed::do_deed;
@@ -41,12 +40,12 @@ pub fn history<R: Runner, K: Sink>(
     out: &mut K,
 ) -> Lived<R>
     requires crew { IsCrew crew.items }
-    // Whatever a crash leaves behind any of them up to the first update has the sources of then, and
-    // owns nothing but what may be owned, where that holds of the site before them, or where nothing
-    // has begun there.
-    ensures kept { let stands = standing R.faults K.faults in (before : Option Kept)
-        → IsKept site before → AreKept R.tells R.next turns.items result.ends
-        (stands site crew.items out.old) (stands result.site result.crew.items out.new) before }
+    // A project that is kept before them, or in which nothing has begun, is kept behind each of them,
+    // whatever a crash leaves; and each update of it that is done leaves exactly the files of a clean
+    // build of its sources.
+    ensures kept { let stands = standing R.faults K.faults in (stage : Stage)
+        → Stands R.next stage site → AreKept R.tells R.next turns.items result.ends
+        (stands site crew.items out.old) (stands result.site result.crew.items out.new) stage }
     ensures lived { let stands = standing R.faults K.faults in
         AreLived R.tells R.next turns.items result.ends result.refused
         (stands site crew.items out.old) (stands result.site result.crew.items out.new) }

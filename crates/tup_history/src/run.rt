@@ -1,9 +1,11 @@
 //! A run of the program as a turn.
+ghost use Rattle.std.specs.Prelude.{IsTrue};
 ghost use Rattle.tup_site.specs.Memory.{world_in, faults_of, left_of};
 ghost use Rattle.tup_top.specs.Crew.{IsCrew};
 ghost use Rattle.tup_top.specs.Order.{order};
 ghost use Rattle.tup_top.specs.Promise.{counts};
-ghost use Rattle.tup_history.specs.Run.{Keeps, Leaves, Lets, left_then, left_behind};
+ghost use Rattle.tup_history.specs.Kept.{IsKept};
+ghost use Rattle.tup_history.specs.Run.{Keeps, Leaves, Updates, Lets, left_then, left_behind};
 
 use std::alloc::Global;
 use tup_runner::Runner;
@@ -26,6 +28,8 @@ pub(crate) fn run<R: Runner, K: Sink>(
         Keeps R.tells R.next (order words.now) (world_in site) (world_in result.site) before now
         result.status result.ran }
     ensures leaves { Leaves (order words.now) site result.site result.status }
+    ensures updates { IsTrue R.tells → IsKept R.next site
+        → Updates R.next (order words.now) site result.site result.status result.ran }
     ensures crew { IsCrew result.crew.items }
 {
     tup(alloc, words, site, crew, out)

@@ -1,3 +1,5 @@
 mod Stopping
 mod Opening
 mod Seeing
+mod Keeping
+mod Brought

@@ -1,16 +1,23 @@
 //! What the Tupfiles say by now.
-ghost use Rattle.std.specs.Prelude.{◌≡◌, IsTrue, IfOk, IfErr, OnOk, map};
+ghost use Rattle.std.specs.Prelude.{◌≡◌, ℕ, Ok, IsTrue, IfOk, IfErr, OnOk, map};
+ghost use Rattle.std.specs.FinMap as finite;
 ghost use Rattle.std.specs.Result.{result_err};
+ghost use Rattle.tup_site.specs.World.{World};
+ghost use Rattle.tup_runner.specs.Next.{Next};
+ghost use Rattle.tup_graph.specs.Answers.{tup_config};
+ghost use Rattle.tup_ledger.specs.Sources.{sources_of};
 ghost use Rattle.tup_rule_diff.specs.Edits.{dir_of};
 ghost use Rattle.tup_stored_graph.specs.Held.{is_fresh, StandsFor};
-ghost use Rattle.tup_refresh.specs.Refresh.{AreSorted};
+ghost use Rattle.tup_refresh.specs.Refresh.{AreSorted, IsRefresh};
 ghost use Rattle.tup_promise.specs.Cause.{HasCountedCause};
+ghost use Rattle.tup_phases.specs.Kept.{BringsNothing, IsBrought, IsKeptSince, IsNoted, LeavesFiles};
 ghost use Rattle.tup_phases.specs.Prepared.{HasSeen, RunsNone, StopsOpened};
 
 use std::alloc::{AllocError, Global};
 use tup_commit::swap_rules;
 use tup_graph::Nodes;
 use tup_law_phases::sorted_may_be_swapped;
+use tup_partial::flags_are_of_rules;
 use tup_path::{Bytes, Path, Paths};
 use tup_project::link_all;
 use tup_promise::{Log, Stop};
@@ -34,16 +41,29 @@ pub(crate) fn brought<S: Site>(
     requires stands { IsTrue S.tells
         → StandsFor S.world S.moment S.left_since graph.old site.old }
     requires seen { IsTrue S.tells → HasSeen graph.old.nodes (S.world site.old).tree }
+    requires config { IsTrue S.tells
+        → config.now ≡ finite.get (S.world site.old).tree tup_config }
     ensures fresh { OnOk result (IsTrue (is_fresh graph.new)) }
     ensures stands { IsTrue S.tells
         → OnOk result (StandsFor S.world S.moment S.left_since graph.new site.new) }
     ensures seen { IsTrue S.tells
         → OnOk result (HasSeen graph.new.nodes (S.world site.new).tree) }
+    ensures files { IsTrue S.tells → LeavesFiles S.Site.own site.old site.new }
+    // Where a kept site was scanned it is kept on, and then the graph has what its Tupfiles say.
+    ensures kept { IsTrue S.tells → (next : Next) (first : World) (since : ℕ)
+        → IsNoted first (S.world site.old) graph.old.nodes
+        → IsKeptSince S.Site.own next first since site.old
+        → IsKeptSince S.Site.own next first since site.new }
+    ensures brought { IsTrue S.tells → (next : Next) (first : World) (since : ℕ)
+        → IsNoted first (S.world site.old) graph.old.nodes
+        → IsKeptSince S.Site.own next first since site.old
+        → OnOk result (IsBrought first graph.new.nodes) }
     ensures none { RunsNone log.old log.new }
     ensures stops { IfErr result StopsOpened }
     ensures counted { HasCountedCause (S.faults site.old) (S.faults site.new) (result_err result) }
 {
     reads_keep_graphs(&*site);
+    flags_are_of_rules();
     let found = refresh(alloc, graph.nodes(), site, config)?;
     if brings_nothing(graph.nodes(), &found) {
         return Ok(());
@@ -52,7 +72,9 @@ pub(crate) fn brought<S: Site>(
 }
 
 /// Whether all readings are those that the graph keeps, and it waits for none.
-fn brings_nothing(nodes: &Nodes, found: &Refreshed) -> bool {
+fn brings_nothing(nodes: &Nodes, found: &Refreshed) -> bool
+    ensures { IsTrue result → BringsNothing nodes.now found.now }
+{
     found.fresh.len() == 0 && found.gone.len() == 0 && nodes.created().next().is_none()
 }
 
@@ -74,11 +96,27 @@ fn swapped<S: Site>(
         → OnOk result (StandsFor S.world S.moment S.left_since graph.new site.new) }
     ensures seen { IsTrue S.tells
         → OnOk result (HasSeen graph.new.nodes (S.world site.new).tree) }
+    ensures files { IsTrue S.tells → LeavesFiles S.Site.own site.old site.new }
+    // The same, where these are the readings of the sources.
+    ensures kept { IsTrue S.tells → (next : Next) (first : World) (since : ℕ)
+        → let sources = sources_of graph.old.nodes (S.world site.old).tree in
+        IsRefresh graph.old.nodes sources (Ok found)
+        → IsNoted first (S.world site.old) graph.old.nodes
+        → IsKeptSince S.Site.own next first since site.old
+        → IsKeptSince S.Site.own next first since site.new }
+    ensures brought { IsTrue S.tells → (next : Next) (first : World) (since : ℕ)
+        → let sources = sources_of graph.old.nodes (S.world site.old).tree in
+        IsRefresh graph.old.nodes sources (Ok found)
+        → IsNoted first (S.world site.old) graph.old.nodes
+        → IsKeptSince S.Site.own next first since site.old
+        → OnOk result (IsBrought first graph.new.nodes) }
     ensures none { RunsNone log.old log.new }
     ensures stops { IfErr result StopsOpened }
     ensures counted { HasCountedCause (S.faults site.old) (S.faults site.new) (result_err result) }
 {
     sorted_may_be_swapped();
+    // A law: while the graph is fresh, the store stands for its nodes.
+    let _ = graph.nodes();
     let rules = link_all(alloc, found.all.as_slice())?;
     let read = folders_of(alloc, found.fresh.as_slice())?;
     let readings = Readings {

@@ -1,10 +1,24 @@
 //! The phases in their order.
-ghost use Rattle.std.specs.Prelude.{IsTrue, IfOk, IfErr, OnOk};
+ghost use Rattle.std.specs.Prelude.{◌≡◌, ℕ, IsTrue, IfOk, IfErr, OnOk};
+ghost use Rattle.std.specs.FinMap as finite;
 ghost use Rattle.std.specs.Result.{result_err};
+ghost use Rattle.tup_site.specs.Known.{Keeps};
+ghost use Rattle.tup_site.specs.World.{World};
+ghost use Rattle.tup_runner.specs.Next.{Next};
+ghost use Rattle.tup_table.specs.Table.{entries_in};
+ghost use Rattle.tup_graph.specs.Answers.{tup_config};
+ghost use Rattle.tup_graph.specs.Kept.{IsGraphIn, IsKeptSite};
+ghost use Rattle.tup_graph.specs.Opening.{IsGraphOf};
 ghost use Rattle.tup_stored_graph.specs.Held.{is_fresh, StandsFor};
+ghost use Rattle.tup_stale.specs.Cleared.{AllAreMade};
+ghost use Rattle.tup_law_site.specs.Over.{IsKeptNow};
+ghost use Rattle.tup_law_phases.specs.Language.{tupfiles};
 ghost use Rattle.tup_promise.specs.Cause.{HasCountedCause};
+ghost use Rattle.tup_promise.specs.Kept.{AsksFor};
+ghost use Rattle.tup_promise.specs.Prepared.{IsPrepared};
 ghost use Rattle.tup_promise.specs.Unopened.{IsEmptyLog, Unopened};
 ghost use Rattle.tup_promise.specs.declared.log.Log.{Log as LogValue};
+ghost use Rattle.tup_phases.specs.Kept.{IsKeptSince, IsScannedFrom, KeepsOn, LeavesFiles, StaysBrought};
 ghost use Rattle.tup_phases.specs.Prepared.{HasSeen, RunsNone, StopsBefore, StopsOpened};
 
 use crate::bringing::brought;
@@ -29,6 +43,20 @@ pub fn prepared<S: Site>(alloc: Global, site: &mut S, log: &mut Log) -> Result<G
         → IfOk result (λ graph. StandsFor S.world S.moment S.left_since graph site.new) }
     ensures seen { IsTrue S.tells
         → IfOk result (λ graph. HasSeen graph.nodes (S.world site.new).tree) }
+    // A site that was kept stays so, as it is and whenever since then a crash comes, whatever the answer.
+    ensures kept { IsTrue S.tells → (next : Next)
+        → IsKeptNow S.Site.own next tupfiles (S.known site.old) site.old
+        → IsKeptNow S.Site.own next tupfiles (S.known site.new) site.new }
+    ensures crash { IsTrue S.tells → (next : Next)
+        → IsKeptNow S.Site.own next tupfiles (S.known site.old) site.old
+        → IsKeptSite next tupfiles (S.known site.new) (S.world site.old)
+        (S.left_since site.new (S.moment site.old)) }
+    // And then it is prepared, where there is a graph.
+    ensures prepared { IsTrue S.tells → (next : Next)
+        → IsKeptNow S.Site.own next tupfiles (S.known site.old) site.old
+        → let first = S.world site.old in let since = S.moment site.old in
+        IfOk result (λ graph. IsPrepared S.Site.own next first since graph site.new) }
+    ensures known { IsTrue S.tells → Keeps (S.known site.old) (S.known site.new) }
     ensures unopened { IsTrue S.tells
         → Unopened (S.world site.old) (S.world site.new) log.new (result_err result) }
     ensures none { RunsNone log.old log.new }
@@ -47,6 +75,11 @@ fn opened<S: Site>(alloc: Global, site: &mut S) -> Result<Graph, Stop>
     ensures fresh { IfOk result (λ graph. IsTrue (is_fresh graph)) }
     ensures stands { IsTrue S.tells
         → IfOk result (λ graph. StandsFor S.world S.moment S.left_since graph site.new) }
+    // It is that of the store.
+    ensures stored { IsTrue S.tells
+        → IfOk result (λ graph. IsGraphIn (S.world site.old).store graph.nodes) }
+    ensures files { IsTrue S.tells → LeavesFiles S.Site.own site.old site.new }
+    ensures kept { IsTrue S.tells → KeepsOn S.Site.own site.old site.new }
     // Nothing else was done.
     ensures unopened { IsTrue S.tells → (log : LogValue) → IsEmptyLog log
         → Unopened (S.world site.old) (S.world site.new) log (result_err result) }
@@ -66,11 +99,18 @@ fn noted<S: Site>(alloc: Global, site: &mut S, graph: &mut Graph) -> Result<Opti
         → OnOk result (StandsFor S.world S.moment S.left_since graph.new site.new) }
     ensures seen { IsTrue S.tells
         → OnOk result (HasSeen graph.new.nodes (S.world site.new).tree) }
+    ensures scanned { OnOk result (IsScannedFrom graph.old.nodes graph.new.nodes) }
+    ensures config { IsTrue S.tells
+        → IfOk result (λ config. config ≡ finite.get (S.world site.old).tree tup_config) }
+    ensures files { IsTrue S.tells → LeavesFiles S.Site.own site.old site.new }
+    ensures kept { IsTrue S.tells → KeepsOn S.Site.own site.old site.new }
     ensures stops { IfErr result StopsOpened }
     ensures counted { HasCountedCause (S.faults site.old) (S.faults site.new) (result_err result) }
 {
     reads_keep_graphs(&*site);
     scans_see();
+    // A law: while the graph is fresh, the store stands for its nodes.
+    let _ = graph.nodes();
     let seen = scan(alloc, site, &Still)?;
     note_scan(alloc, graph, site, &seen)?;
     Ok(seen.config)
@@ -92,11 +132,28 @@ fn cleared<S: Site>(
         → OnOk result (StandsFor S.world S.moment S.left_since graph.new site.new) }
     ensures seen { IsTrue S.tells
         → OnOk result (HasSeen graph.new.nodes (S.world site.new).tree) }
+    ensures stays { OnOk result (StaysBrought graph.old.nodes graph.new.nodes) }
+    ensures made { OnOk result (AllAreMade graph.new.nodes) }
+    ensures graph { OnOk result (IsGraphOf (entries_in graph.new.table) graph.new.nodes) }
+    // Where the rules are those that the sources ask for, a site that was kept is kept on, and as it is.
+    ensures known { IsTrue S.tells → Keeps (S.known site.old) (S.known site.new) }
+    ensures kept { IsTrue S.tells → (next : Next) (first : World) (since : ℕ)
+        → AsksFor first graph.old.nodes.rules
+        → IsKeptSince S.Site.own next first since site.old
+        → IsKeptSince S.Site.own next first since site.new }
+    ensures present { IsTrue S.tells → (next : Next) (first : World) (since : ℕ)
+        → AsksFor first graph.old.nodes.rules
+        → IsKeptSince S.Site.own next first since site.old
+        → IsKeptNow S.Site.own next tupfiles (S.known site.old) site.old
+        → IsKeptNow S.Site.own next tupfiles (S.known site.new) site.new }
     ensures none { RunsNone log.old log.new }
     ensures stops { IfErr result StopsOpened }
     ensures counted { HasCountedCause (S.faults site.old) (S.faults site.new) (result_err result) }
 {
     cleared_are_unseen();
+    // A law: while the graph is fresh, the store stands for its nodes.
+    let _ = graph.nodes();
     log.removed = clear(alloc, graph, site)?;
+    let _ = graph.nodes();
     Ok(())
 }

@@ -2,3 +2,10 @@ pub mod Stopped
 pub mod Cause
 pub mod Ran
 pub mod Unopened
+pub mod Kept
+pub mod Finished
+pub mod Needed
+pub mod Crashes
+pub mod States
+pub mod Prepared
+pub mod Blamed

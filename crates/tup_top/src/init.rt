@@ -22,6 +22,7 @@ pub(crate) fn init<S: Site, K: Sink>(alloc: Global, site: &mut S, out: &mut K) -
     ensures keeps { IsTrue S.tells → (S.world site.new ≡ S.world site.old)
         ⊎ BeginStep (S.world site.old) (S.world site.old) (S.world site.new) }
     ensures tree { IsTrue S.tells → TreeStays (S.world site.old) (S.world site.new) }
+    ensures known { IsTrue S.tells → S.known site.new ≡ S.known site.old }
     ensures lasts { IsTrue S.tells → let left = S.left_since site.new (S.moment site.new) in
         IfBegan result (Lasts left (S.world site.new)) }
     ensures crash { IsTrue S.tells → GoesOn S.moment S.left_since site.old site.new

@@ -1,5 +1,5 @@
 //! A comparison of the files of a site with a clean build of its sources, and what is told of it.
-ghost use Rattle.std.specs.Prelude.{[], ◌∷◌, IsTrue};
+ghost use Rattle.std.specs.Prelude.{◌≡◌, [], ◌∷◌, IsTrue};
 ghost use Rattle.std.specs.Result.{result_err};
 ghost use Rattle.tup_site.specs.Crash.{GoesOn};
 ghost use Rattle.tup_compare.specs.Compared.{HasCompared, RunsToCompare};
@@ -28,6 +28,7 @@ pub(crate) fn verify<S: Site, R: Runner, K: Sink>(
     ensures compared { IsTrue S.tells → IsTrue R.tells
         → IfCompared result (HasCompared R.next (S.world site.old)) }
     ensures holds { IsTrue S.tells → HoldsOn (S.world site.old) (S.world site.new) }
+    ensures known { IsTrue S.tells → S.known site.new ≡ S.known site.old }
     ensures opens { IsTrue S.tells → let old = S.world site.old in let new = S.world site.new in
         IfCompared result (λ compared. JustOpens old.store new.store (result_err compared)) }
     ensures crash { IsTrue S.tells → GoesOn S.moment S.left_since site.old site.new HoldsOn }

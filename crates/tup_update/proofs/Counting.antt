@@ -1,5 +1,6 @@
 -- What a board that was drained says of the causes of an update.
-use Rattle.std.proofs.Common.{◌≡◌, ◌≢◌, ◌⊎◌, inl, inr, ℕ, ◌-◌, List, [], ◌∷◌, ◌++◌, map, length, take, Option, Some, None, refl, sym, ap, subst, arith, length-append, ◌∙◌}
+use Rattle.std.proofs.Common.{◌≡◌, ◌≢◌, ◌⊎◌, inl, inr, ℕ, ◌-◌, List, [], ◌∷◌, ◌++◌, map, length, take, Option, Some, None, All, refl, sym, ap, subst, arith, length-append, ◌∙◌}
+use Rattle.std.specs.FinMap as finite
 use Rattle.std.specs.Option.{IfSome}
 use Rattle.std.proofs.Math.Seq.{take-append_seam}
 use Rattle.std.proofs.lemmas.List.{map-append}
@@ -8,13 +9,16 @@ use Rattle.tup_path.specs.Name.{Names as PathNames}
 use Rattle.tup_site.specs.declared.fault.SiteFailed.TheVariants as failed
 use Rattle.tup_site.specs.declared.site.Site.{Ghosts as Site}
 use Rattle.tup_runner.specs.declared.runner.Runner.{Ghosts as Runner}
+use Rattle.tup_rule.specs.declared.rule.Rule.{Rule}
 use Rattle.tup_rule.specs.declared.rule.RuleName.{RuleName}
+use Rattle.tup_access.specs.declared.verdict.Verdict.{Verdict}
 use Rattle.tup_core.specs.declared.event.Cause.{Cause}
 use Rattle.tup_core.specs.declared.event.Cause.TheVariants as cause
 use Rattle.tup_core.specs.declared.event.CoreEvent.{CoreEvent}
 use Rattle.tup_core.specs.declared.plan.Plan.{Plan}
-use Rattle.tup_core.specs.Step.{State}
-use Rattle.tup_board.specs.Board.{BoardState, state}
+use Rattle.tup_core.specs.Run.{IsRun, end_of}
+use Rattle.tup_core.specs.Step.{State, opening}
+use Rattle.tup_board.specs.Board.{BoardState, plan_of, start, state}
 use Rattle.tup_board.specs.Calls.{Drains, RanAll as BoardRan, HasRunCause as BoardRunCause, commands}
 use Rattle.tup_board.specs.Sound.{IsSound}
 use Rattle.tup_board.specs.declared.answers.Drained.{Drained}
@@ -23,170 +27,185 @@ use Rattle.tup_promise.specs.Cause.{HasCountedCause, HasRunCause}
 use Rattle.tup_promise.specs.Ran.{RanAll, RanAllButLast, RunsThese, command_of}
 use Rattle.tup_promise.specs.declared.stop.Stop.{Stop}
 use Rattle.tup_promise.specs.declared.stop.Stop.TheVariants as stop
-use Rattle.tup_update.specs.Run.{IsEnd, StopsBy, StopsRunning}
+use Rattle.tup_update.specs.Run.{IsEnd, OfBads, StopsBy, StopsRunning}
+use Rattle.tup_update.proofs.FirstBad.{Own}
 
 -- a board that was left for another cause than a bad verdict has stopped for it
 left_for : (end : State) (why : Cause) → why ≢ cause.Bad → Drains end (Left why) → end.stopped ≡ Some why
 left_for end why other (inl is) = is
 left_for end why other (inr (none, bad, some)) = absurd (other bad)
 
--- ---- what the site counted
-module _ (before now : ℕ) (same : now ≡ before) where
-  counted_end : (stopped : Option Stop) → IsEnd stopped → HasCountedCause before now stopped
-  counted_end None is = same
-  counted_end (Some stop.NoStore) is = absurd is
-  counted_end (Some (stop.BadStore offset)) is = absurd is
-  counted_end (Some (stop.Sources fault)) is = absurd is
-  counted_end (Some (stop.UserFile path written found)) is = absurd is
-  counted_end (Some (stop.Bad name verdict)) is = (same, is)
-  counted_end (Some stop.Run) is = absurd is
-  counted_end (Some stop.Full) is = absurd is
-  counted_end (Some (stop.Outside failed.Fault)) is = absurd is
-  counted_end (Some (stop.Outside (failed.TooLarge n))) is = absurd is
-  counted_end (Some (stop.Outside failed.Memory)) is = same
+-- all that happened since nothing had, happened at one seat
+pub own_all : {was : List CoreEvent} (now : List CoreEvent) → was ≡ [] → ((events : List CoreEvent) × (now ≡ was ++ events) × All Own events) → All Own now
+own_all now none (events, adds, own) = subst (All Own) (sym (adds ∙ ap (λ (before : List CoreEvent). before ++ events) none)) own
 
-module _ {S R : Type 0} (site : Site S) (runner : Runner R) (board : BoardState S) (sound : IsSound site runner board) (keeps : (state board).stopped ≢ Some cause.Site → site.faults board.site ≡ site.faults board.opening.site) where
-  abbrev before : ℕ
-  before = site.faults board.opening.site
+-- what stopped an update by its history, by the verdicts of the board
+pub stops_so : {S : Type 0} (board : BoardState S) (plan : Plan) (drained : Drained) (stopped : Option Stop) → plan_of board ≡ plan → IsRun (plan_of board) (start board) board.history → All Own board.history
+    → OfBads plan board.history (StopsBy plan.rules drained stopped) → StopsBy plan.rules drained stopped (state board).bad
+stops_so board plan drained stopped same run own told =
+    let files = finite.entries board.opening.graph.nodes.seen in
+    subst (λ (p : Plan). StopsBy plan.rules drained stopped (end_of p (opening p files) board.history).bad) (sym same)
+    (told files (subst (λ (p : Plan). IsRun p (opening p files) board.history) same run) own)
 
-  abbrev now : ℕ
-  now = site.faults board.site
+-- of these rules, and their bad verdicts
+module _ (rules : List Rule) (bad : ℕ → Option Verdict) where
+  -- ---- what the site counted
+  module _ (before now : ℕ) (same : now ≡ before) where
+    counted_end : (stopped : Option Stop) → IsEnd rules bad stopped → HasCountedCause before now stopped
+    counted_end None is = same
+    counted_end (Some stop.NoStore) is = absurd is
+    counted_end (Some (stop.BadStore offset)) is = absurd is
+    counted_end (Some (stop.Sources fault)) is = absurd is
+    counted_end (Some (stop.UserFile path written found)) is = absurd is
+    counted_end (Some (stop.Bad name verdict)) is = (same, is.not_good)
+    counted_end (Some stop.Run) is = absurd is
+    counted_end (Some stop.Full) is = absurd is
+    counted_end (Some (stop.Outside failed.Fault)) is = absurd is
+    counted_end (Some (stop.Outside (failed.TooLarge n))) is = absurd is
+    counted_end (Some (stop.Outside failed.Memory)) is = same
 
-  counted_as : (by : Stop) (stopped : Option Stop) → stopped ≡ Some by → HasCountedCause before now (Some by) → HasCountedCause before now stopped
-  counted_as by stopped is counted = subst (HasCountedCause before now) (sym is) counted
+  module _ {S R : Type 0} (site : Site S) (runner : Runner R) (board : BoardState S) (sound : IsSound site runner board) (keeps : (state board).stopped ≢ Some cause.Site → site.faults board.site ≡ site.faults board.opening.site) where
+    abbrev before : ℕ
+    before = site.faults board.opening.site
 
-  pub counted : (drained : Drained) (stopped : Option Stop) → Drains (state board) drained → StopsBy drained stopped → HasCountedCause before now stopped
-  counted Done stopped drains stops = counted_end before now (keeps (λ e. let none = drains.0 in cc)) stopped stops
-  counted (Left cause.Bad) stopped drains stops = counted_end before now (keeps (not_site drains)) stopped stops
+    abbrev now : ℕ
+    now = site.faults board.site
+
+    counted_as : (by : Stop) (stopped : Option Stop) → stopped ≡ Some by → HasCountedCause before now (Some by) → HasCountedCause before now stopped
+    counted_as by stopped is counted = subst (HasCountedCause before now) (sym is) counted
+
+    pub counted : (drained : Drained) (stopped : Option Stop) → Drains (state board) drained → StopsBy rules drained stopped bad → HasCountedCause before now stopped
+    counted Done stopped drains stops = counted_end before now (keeps (λ e. let none = drains.0 in cc)) stopped stops
+    counted (Left cause.Bad) stopped drains stops = counted_end before now (keeps (not_site drains)) stopped stops
+      where
+        not_site : Drains (state board) (Left cause.Bad) → (state board).stopped ≢ Some cause.Site
+        not_site (inl is) e = cc
+        not_site (inr (none, bad, some)) e = cc
+    counted (Left cause.Site) stopped drains stops = counted_as (stop.Outside failed.Fault) stopped stops (sound.cause cause.Site (left_for (state board) cause.Site (λ e. cc) drains))
+    counted (Left (cause.TooLarge n)) stopped drains stops =
+        let is = left_for (state board) (cause.TooLarge n) (λ e. cc) drains in
+        counted_as (stop.Outside (failed.TooLarge n)) stopped stops (keeps (λ e. cc), (sound.cause (cause.TooLarge n) is).0)
+    counted (Left cause.Full) stopped drains stops =
+        let is = left_for (state board) cause.Full (λ e. cc) drains in
+        counted_as stop.Full stopped stops (keeps (λ e. cc))
+    counted (Left cause.Run) stopped drains stops =
+        let is = left_for (state board) cause.Run (λ e. cc) drains in
+        counted_as stop.Run stopped stops (keeps (λ e. cc))
+    counted (Left cause.Memory) stopped drains stops =
+        let is = left_for (state board) cause.Memory (λ e. cc) drains in
+        counted_as (stop.Outside failed.Memory) stopped stops (keeps (λ e. cc))
+
+  -- ---- what the runner counted
+  module _ (was is : ℕ) where
+    steady_end : (stopped : Option Stop) → IsEnd rules bad stopped → is ≡ was → HasRunCause was is stopped
+    steady_end None end same = same
+    steady_end (Some stop.NoStore) end same = absurd end
+    steady_end (Some (stop.BadStore offset)) end same = absurd end
+    steady_end (Some (stop.Sources fault)) end same = absurd end
+    steady_end (Some (stop.UserFile path written found)) end same = absurd end
+    steady_end (Some (stop.Bad name verdict)) end same = same
+    steady_end (Some stop.Run) end same = absurd end
+    steady_end (Some stop.Full) end same = absurd end
+    steady_end (Some (stop.Outside why)) end same = same
+
+    steady_as : (by : Stop) (stopped : Option Stop) → stopped ≡ Some by → HasRunCause was is (Some by) → HasRunCause was is stopped
+    steady_as by stopped same cause = subst (HasRunCause was is) (sym same) cause
+
+    rose : (before : Option Cause) → before ≡ None → (before ≡ Some cause.Run) ⊎ Rose was is → Rose was is
+    rose before none (inl run) = absurd (cc)
+    rose before none (inr is_so) = is_so
+
+    pub run_caused : (drained : Drained) (stopped : Option Stop) → BoardRunCause None was is drained → StopsBy rules drained stopped bad → HasRunCause was is stopped
+    run_caused Done stopped caused stops = steady_end stopped stops (caused.steady (λ e. cc))
+    run_caused (Left cause.Bad) stopped caused stops = steady_end stopped stops (caused.steady (λ e. cc))
+    run_caused (Left cause.Site) stopped caused stops = steady_as (stop.Outside failed.Fault) stopped stops (caused.steady (λ e. cc))
+    run_caused (Left (cause.TooLarge n)) stopped caused stops = steady_as (stop.Outside (failed.TooLarge n)) stopped stops (caused.steady (λ e. cc))
+    run_caused (Left cause.Full) stopped caused stops = steady_as stop.Full stopped stops (caused.steady (λ e. cc))
+    run_caused (Left cause.Run) stopped caused stops = steady_as stop.Run stopped stops (rose None refl (caused.run refl))
+    run_caused (Left cause.Memory) stopped caused stops = steady_as (stop.Outside failed.Memory) stopped stops (caused.steady (λ e. cc))
+
+  -- ---- what the runner ran
+  -- a list without its last item
+  but_last : {A : Type 0} (front : List A) (last : A) → take (length (front ++ last ∷ []) - 1) (front ++ last ∷ []) ≡ front
+  but_last front last =
+      ap (λ (n : ℕ). take n (front ++ last ∷ [])) (shorter front last) ∙ take-append_seam front (last ∷ [])
     where
-      not_site : Drains (state board) (Left cause.Bad) → (state board).stopped ≢ Some cause.Site
-      not_site (inl is) e = cc
-      not_site (inr (none, bad, some)) e = cc
-  counted (Left cause.Site) stopped drains stops = counted_as (stop.Outside failed.Fault) stopped stops (sound.cause cause.Site (left_for (state board) cause.Site (λ e. cc) drains))
-  counted (Left (cause.TooLarge n)) stopped drains stops =
-      let is = left_for (state board) (cause.TooLarge n) (λ e. cc) drains in
-      counted_as (stop.Outside (failed.TooLarge n)) stopped stops (keeps (λ e. cc), (sound.cause (cause.TooLarge n) is).0)
-  counted (Left cause.Full) stopped drains stops =
-      let is = left_for (state board) cause.Full (λ e. cc) drains in
-      counted_as stop.Full stopped stops (keeps (λ e. cc))
-  counted (Left cause.Run) stopped drains stops =
-      let is = left_for (state board) cause.Run (λ e. cc) drains in
-      counted_as stop.Run stopped stops (keeps (λ e. cc))
-  counted (Left cause.Memory) stopped drains stops =
-      let is = left_for (state board) cause.Memory (λ e. cc) drains in
-      counted_as (stop.Outside failed.Memory) stopped stops (keeps (λ e. cc))
+      shorter : {A : Type 0} (front : List A) (last : A) → length (front ++ last ∷ []) - 1 ≡ length front
+      shorter front last = let counted = length-append front (last ∷ []) in omega (arith, counted)
 
--- ---- what the runner counted
-module _ (was is : ℕ) where
-  steady_end : (stopped : Option Stop) → IsEnd stopped → is ≡ was → HasRunCause was is stopped
-  steady_end None end same = same
-  steady_end (Some stop.NoStore) end same = absurd end
-  steady_end (Some (stop.BadStore offset)) end same = absurd end
-  steady_end (Some (stop.Sources fault)) end same = absurd end
-  steady_end (Some (stop.UserFile path written found)) end same = absurd end
-  steady_end (Some (stop.Bad name verdict)) end same = same
-  steady_end (Some stop.Run) end same = absurd end
-  steady_end (Some stop.Full) end same = absurd end
-  steady_end (Some (stop.Outside why)) end same = same
+  -- a list that isn't empty has a last item
+  last_apart : {A : Type 0} (one : A) (more : List A) → (front : List A) × (last : A) × (one ∷ more ≡ front ++ last ∷ [])
+  last_apart {A} one [] = ([], one, refl)
+  last_apart {A} one (next ∷ more) =
+      let apart = last_apart next more in
+      (one ∷ apart.0, apart.1, ap (λ (rest : List A). one ∷ rest) apart.2)
 
-  steady_as : (by : Stop) (stopped : Option Stop) → stopped ≡ Some by → HasRunCause was is (Some by) → HasRunCause was is stopped
-  steady_as by stopped same cause = subst (HasRunCause was is) (sym same) cause
-
-  rose : (before : Option Cause) → before ≡ None → (before ≡ Some cause.Run) ⊎ Rose was is → Rose was is
-  rose before none (inl run) = absurd (cc)
-  rose before none (inr is_so) = is_so
-
-  pub run_caused : (drained : Drained) (stopped : Option Stop) → BoardRunCause None was is drained → StopsBy drained stopped → HasRunCause was is stopped
-  run_caused Done stopped caused stops = steady_end stopped stops (caused.steady (λ e. cc))
-  run_caused (Left cause.Bad) stopped caused stops = steady_end stopped stops (caused.steady (λ e. cc))
-  run_caused (Left cause.Site) stopped caused stops = steady_as (stop.Outside failed.Fault) stopped stops (caused.steady (λ e. cc))
-  run_caused (Left (cause.TooLarge n)) stopped caused stops = steady_as (stop.Outside (failed.TooLarge n)) stopped stops (caused.steady (λ e. cc))
-  run_caused (Left cause.Full) stopped caused stops = steady_as stop.Full stopped stops (caused.steady (λ e. cc))
-  run_caused (Left cause.Run) stopped caused stops = steady_as stop.Run stopped stops (rose None refl (caused.run refl))
-  run_caused (Left cause.Memory) stopped caused stops = steady_as (stop.Outside failed.Memory) stopped stops (caused.steady (λ e. cc))
-
--- ---- what the runner ran
--- a list without its last item
-but_last : {A : Type 0} (front : List A) (last : A) → take (length (front ++ last ∷ []) - 1) (front ++ last ∷ []) ≡ front
-but_last front last =
-    ap (λ (n : ℕ). take n (front ++ last ∷ [])) (shorter front last) ∙ take-append_seam front (last ∷ [])
-  where
-    shorter : {A : Type 0} (front : List A) (last : A) → length (front ++ last ∷ []) - 1 ≡ length front
-    shorter front last = let counted = length-append front (last ∷ []) in omega (arith, counted)
-
--- a list that isn't empty has a last item
-last_apart : {A : Type 0} (one : A) (more : List A) → (front : List A) × (last : A) × (one ∷ more ≡ front ++ last ∷ [])
-last_apart {A} one [] = ([], one, refl)
-last_apart {A} one (next ∷ more) =
-    let apart = last_apart next more in
-    (one ∷ apart.0, apart.1, ap (λ (rest : List A). one ∷ rest) apart.2)
-
--- some rules, or all but the last of them
-without_last : (old new : List (PathNames × List ℕ)) (ran : List RuleName) → new ≡ old ++ take (length (map command_of ran) - 1) (map command_of ran)
-    → RanAll ran old new ⊎ RanAllButLast ran old new
-without_last old new [] is = inl is
-without_last old new (name ∷ ran) is =
-    let apart = last_apart name ran in
-    inr (apart.0, apart.1, apart.2, is ∙ ap (λ (more : List (PathNames × List ℕ)). old ++ more) (front_run apart.0 apart.1 (name ∷ ran) apart.2))
-  where
-    -- all but the last of what was run for a list
-    front_run : (front : List RuleName) (last : RuleName) (whole : List RuleName) → whole ≡ front ++ last ∷ [] → take (length (map command_of whole) - 1) (map command_of whole) ≡ map command_of front
-    front_run front last whole is_so =
-        ap (λ (l : List RuleName). take (length (map command_of l) - 1) (map command_of l)) is_so
-        ∙ ap (λ (l : List (PathNames × List ℕ)). take (length l - 1) l) (map-append command_of front (last ∷ []))
-        ∙ but_last (map command_of front) (command_of last)
-
-module _ (ran : List RuleName) (old new : List (PathNames × List ℕ)) where
-  ran_end : (stopped : Option Stop) → IsEnd stopped → RanAll ran old new → RunsThese ran old new stopped
-  ran_end None end all = all
-  ran_end (Some stop.NoStore) end all = absurd end
-  ran_end (Some (stop.BadStore offset)) end all = absurd end
-  ran_end (Some (stop.Sources fault)) end all = absurd end
-  ran_end (Some (stop.UserFile path written found)) end all = absurd end
-  ran_end (Some (stop.Bad name verdict)) end all = all
-  ran_end (Some stop.Run) end all = absurd end
-  ran_end (Some stop.Full) end all = absurd end
-  ran_end (Some (stop.Outside failed.Fault)) end all = absurd end
-  ran_end (Some (stop.Outside (failed.TooLarge n))) end all = absurd end
-  ran_end (Some (stop.Outside failed.Memory)) end all = inl all
-
-  ran_as : (by : Stop) (stopped : Option Stop) → stopped ≡ Some by → RunsThese ran old new (Some by) → RunsThese ran old new stopped
-  ran_as by stopped same runs = subst (RunsThese ran old new) (sym same) runs
-
-  pub ran_these : (plan : Plan) (events : List CoreEvent) → map command_of ran ≡ commands plan events → (drained : Drained) (stopped : Option Stop)
-      → BoardRan plan events old new drained → StopsBy drained stopped → RunsThese ran old new stopped
-  ran_these plan events same Done stopped runs stops = ran_end stopped stops (runs ∙ ap (λ (more : List (PathNames × List ℕ)). old ++ more) (sym same))
-  ran_these plan events same (Left cause.Bad) stopped runs stops = ran_end stopped stops (runs ∙ ap (λ (more : List (PathNames × List ℕ)). old ++ more) (sym same))
-  ran_these plan events same (Left cause.Site) stopped runs stops = ran_as (stop.Outside failed.Fault) stopped stops (runs ∙ ap (λ (more : List (PathNames × List ℕ)). old ++ more) (sym same))
-  ran_these plan events same (Left (cause.TooLarge n)) stopped runs stops = ran_as (stop.Outside (failed.TooLarge n)) stopped stops (runs ∙ ap (λ (more : List (PathNames × List ℕ)). old ++ more) (sym same))
-  ran_these plan events same (Left cause.Full) stopped runs stops = ran_as stop.Full stopped stops (runs ∙ ap (λ (more : List (PathNames × List ℕ)). old ++ more) (sym same))
-  ran_these plan events same (Left cause.Run) stopped runs stops = ran_as stop.Run stopped stops (runs ∙ ap (λ (more : List (PathNames × List ℕ)). old ++ more) (sym same))
-  ran_these plan events same (Left cause.Memory) stopped runs stops = ran_as (stop.Outside failed.Memory) stopped stops (by runs)
+  -- some rules, or all but the last of them
+  without_last : (old new : List (PathNames × List ℕ)) (ran : List RuleName) → new ≡ old ++ take (length (map command_of ran) - 1) (map command_of ran)
+      → RanAll ran old new ⊎ RanAllButLast ran old new
+  without_last old new [] is = inl is
+  without_last old new (name ∷ ran) is =
+      let apart = last_apart name ran in
+      inr (apart.0, apart.1, apart.2, is ∙ ap (λ (more : List (PathNames × List ℕ)). old ++ more) (front_run apart.0 apart.1 (name ∷ ran) apart.2))
     where
-      by : BoardRan plan events old new (Left cause.Memory) → RunsThese ran old new (Some (stop.Outside failed.Memory))
-      by (inl all) = inl (all ∙ ap (λ (more : List (PathNames × List ℕ)). old ++ more) (sym same))
-      by (inr but_last) = without_last old new ran (but_last ∙ ap (λ (more : List (PathNames × List ℕ)). old ++ take (length more - 1) more) (sym same))
+      -- all but the last of what was run for a list
+      front_run : (front : List RuleName) (last : RuleName) (whole : List RuleName) → whole ≡ front ++ last ∷ [] → take (length (map command_of whole) - 1) (map command_of whole) ≡ map command_of front
+      front_run front last whole is_so =
+          ap (λ (l : List RuleName). take (length (map command_of l) - 1) (map command_of l)) is_so
+          ∙ ap (λ (l : List (PathNames × List ℕ)). take (length l - 1) l) (map-append command_of front (last ∷ []))
+          ∙ but_last (map command_of front) (command_of last)
 
--- ---- what stopped it
-running_end : (stopped : Option Stop) → IsEnd stopped → IfSome stopped StopsRunning
-running_end None end = tt
-running_end (Some stop.NoStore) end = end
-running_end (Some (stop.BadStore offset)) end = end
-running_end (Some (stop.Sources fault)) end = end
-running_end (Some (stop.UserFile path written found)) end = end
-running_end (Some (stop.Bad name verdict)) end = tt
-running_end (Some stop.Run) end = tt
-running_end (Some stop.Full) end = tt
-running_end (Some (stop.Outside why)) end = tt
+  module _ (ran : List RuleName) (old new : List (PathNames × List ℕ)) where
+    ran_end : (stopped : Option Stop) → IsEnd rules bad stopped → RanAll ran old new → RunsThese ran old new stopped
+    ran_end None end all = all
+    ran_end (Some stop.NoStore) end all = absurd end
+    ran_end (Some (stop.BadStore offset)) end all = absurd end
+    ran_end (Some (stop.Sources fault)) end all = absurd end
+    ran_end (Some (stop.UserFile path written found)) end all = absurd end
+    ran_end (Some (stop.Bad name verdict)) end all = all
+    ran_end (Some stop.Run) end all = absurd end
+    ran_end (Some stop.Full) end all = absurd end
+    ran_end (Some (stop.Outside failed.Fault)) end all = absurd end
+    ran_end (Some (stop.Outside (failed.TooLarge n))) end all = absurd end
+    ran_end (Some (stop.Outside failed.Memory)) end all = inl all
 
-running_as : (by : Stop) (stopped : Option Stop) → stopped ≡ Some by → StopsRunning by → IfSome stopped StopsRunning
-running_as by stopped same is = subst (λ (s : Option Stop). IfSome s StopsRunning) (sym same) is
+    ran_as : (by : Stop) (stopped : Option Stop) → stopped ≡ Some by → RunsThese ran old new (Some by) → RunsThese ran old new stopped
+    ran_as by stopped same runs = subst (RunsThese ran old new) (sym same) runs
 
-pub stops_running : (drained : Drained) (stopped : Option Stop) → StopsBy drained stopped → IfSome stopped StopsRunning
-stops_running Done stopped stops = running_end stopped stops
-stops_running (Left cause.Bad) stopped stops = running_end stopped stops
-stops_running (Left cause.Site) stopped stops = running_as (stop.Outside failed.Fault) stopped stops tt
-stops_running (Left (cause.TooLarge n)) stopped stops = running_as (stop.Outside (failed.TooLarge n)) stopped stops tt
-stops_running (Left cause.Full) stopped stops = running_as stop.Full stopped stops tt
-stops_running (Left cause.Run) stopped stops = running_as stop.Run stopped stops tt
-stops_running (Left cause.Memory) stopped stops = running_as (stop.Outside failed.Memory) stopped stops tt
+    pub ran_these : (plan : Plan) (events : List CoreEvent) → map command_of ran ≡ commands plan events → (drained : Drained) (stopped : Option Stop)
+        → BoardRan plan events old new drained → StopsBy rules drained stopped bad → RunsThese ran old new stopped
+    ran_these plan events same Done stopped runs stops = ran_end stopped stops (runs ∙ ap (λ (more : List (PathNames × List ℕ)). old ++ more) (sym same))
+    ran_these plan events same (Left cause.Bad) stopped runs stops = ran_end stopped stops (runs ∙ ap (λ (more : List (PathNames × List ℕ)). old ++ more) (sym same))
+    ran_these plan events same (Left cause.Site) stopped runs stops = ran_as (stop.Outside failed.Fault) stopped stops (runs ∙ ap (λ (more : List (PathNames × List ℕ)). old ++ more) (sym same))
+    ran_these plan events same (Left (cause.TooLarge n)) stopped runs stops = ran_as (stop.Outside (failed.TooLarge n)) stopped stops (runs ∙ ap (λ (more : List (PathNames × List ℕ)). old ++ more) (sym same))
+    ran_these plan events same (Left cause.Full) stopped runs stops = ran_as stop.Full stopped stops (runs ∙ ap (λ (more : List (PathNames × List ℕ)). old ++ more) (sym same))
+    ran_these plan events same (Left cause.Run) stopped runs stops = ran_as stop.Run stopped stops (runs ∙ ap (λ (more : List (PathNames × List ℕ)). old ++ more) (sym same))
+    ran_these plan events same (Left cause.Memory) stopped runs stops = ran_as (stop.Outside failed.Memory) stopped stops (by runs)
+      where
+        by : BoardRan plan events old new (Left cause.Memory) → RunsThese ran old new (Some (stop.Outside failed.Memory))
+        by (inl all) = inl (all ∙ ap (λ (more : List (PathNames × List ℕ)). old ++ more) (sym same))
+        by (inr but_last) = without_last old new ran (but_last ∙ ap (λ (more : List (PathNames × List ℕ)). old ++ take (length more - 1) more) (sym same))
+
+  -- ---- what stopped it
+  running_end : (stopped : Option Stop) → IsEnd rules bad stopped → IfSome stopped StopsRunning
+  running_end None end = tt
+  running_end (Some stop.NoStore) end = end
+  running_end (Some (stop.BadStore offset)) end = end
+  running_end (Some (stop.Sources fault)) end = end
+  running_end (Some (stop.UserFile path written found)) end = end
+  running_end (Some (stop.Bad name verdict)) end = tt
+  running_end (Some stop.Run) end = tt
+  running_end (Some stop.Full) end = tt
+  running_end (Some (stop.Outside why)) end = tt
+
+  running_as : (by : Stop) (stopped : Option Stop) → stopped ≡ Some by → StopsRunning by → IfSome stopped StopsRunning
+  running_as by stopped same is = subst (λ (s : Option Stop). IfSome s StopsRunning) (sym same) is
+
+  pub stops_running : (drained : Drained) (stopped : Option Stop) → StopsBy rules drained stopped bad → IfSome stopped StopsRunning
+  stops_running Done stopped stops = running_end stopped stops
+  stops_running (Left cause.Bad) stopped stops = running_end stopped stops
+  stops_running (Left cause.Site) stopped stops = running_as (stop.Outside failed.Fault) stopped stops tt
+  stops_running (Left (cause.TooLarge n)) stopped stops = running_as (stop.Outside (failed.TooLarge n)) stopped stops tt
+  stops_running (Left cause.Full) stopped stops = running_as stop.Full stopped stops tt
+  stops_running (Left cause.Run) stopped stops = running_as stop.Run stopped stops tt
+  stops_running (Left cause.Memory) stopped stops = running_as (stop.Outside failed.Memory) stopped stops tt

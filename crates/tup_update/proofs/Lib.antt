@@ -1,5 +1,7 @@
 mod Commands
 mod Counting
+mod FirstBad
+mod Promised
 mod Taking
 mod Waiting
 mod Whole

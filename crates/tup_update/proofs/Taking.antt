@@ -82,7 +82,7 @@ module _ (first old new : Names) (done left : List CoreEvent) (seat number : ℕ
 
 -- ---- the events of a history, one after another
 -- what is left of a history begins with its next event
-next_left : (history : List CoreEvent) (k : ℕ) (event : CoreEvent) → k < length history → event ≡ get_or history k event → drop k history ≡ event ∷ drop (k + 1) history
+pub next_left : (history : List CoreEvent) (k : ℕ) (event : CoreEvent) → k < length history → event ≡ get_or history k event → drop k history ≡ event ∷ drop (k + 1) history
 next_left history k event within is =
     drop-cons history k event within ∙ ap (λ (n : ℕ). get_or history k event ∷ drop n history) (sym (add-one k)) ∙ ap (λ (e : CoreEvent). e ∷ drop (k + 1) history) (sym is)
 

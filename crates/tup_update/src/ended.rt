@@ -1,33 +1,36 @@
 //! What became of the commands of an update.
-ghost use Rattle.std.specs.Prelude.{◌≡◌, ◌⊎◌, false, map, IfOk, IfSome, Some};
-ghost use Rattle.tup_clean.specs.Clean.{is_good};
+ghost use Rattle.std.specs.Prelude.{◌≡◌, ◌≢◌, false, IfOk, IfErr, IfSome, Some, slice_get};
 ghost use Rattle.tup_rule.specs.Rule.{label_of, name_of as name_in};
-ghost use Rattle.tup_update.specs.Run.{IsEnd, StopsBy};
+ghost use Rattle.tup_rule.specs.declared.rule.Rule.{Rule as RuleValue};
+ghost use Rattle.tup_access.specs.declared.verdict.Verdict.TheVariants.{Good};
+ghost use Rattle.tup_clean.specs.Clean.{is_good};
+ghost use Rattle.tup_promise.specs.Stopped.{no_memory};
+ghost use Rattle.tup_update.specs.Run.{IsBadRule, IsEnd, IsLower, IsLowest, OfBads, StopsBy};
 
 use crate::names::name_of;
 use std::alloc::{AllocError, Global};
 use tup_access::Verdict;
 use tup_board::Drained;
-use tup_core::{Cause, CoreEvent};
+use tup_core::{Cause, CoreEvent, Plan};
 use tup_path::Items;
 use tup_promise::{EndedRule, Stop};
-use tup_rule::{Rule, RuleName};
+use tup_rule::Rule;
 use tup_site::SiteFailed;
 
 /// Why an update stopped that ended so on a board, where all happened at one seat. What became of its commands is added in
 /// their order, as far as there is memory. Want of it is answered unless something else stopped the update.
 pub(crate) fn stopped_by(
     alloc: Global,
-    rules: &[Rule],
+    plan: &Plan,
     history: &[CoreEvent],
     drained: Drained,
     ended: &mut Items<EndedRule>,
 ) -> Option<Stop>
-    ensures { StopsBy drained result }
+    ensures { OfBads plan.now history.now (StopsBy plan.now.rules drained result) }
 {
-    let bad = told(alloc, rules, history, ended);
+    let told = told(alloc, plan, history, ended);
     match drained {
-        Drained::Done | Drained::Left(Cause::Bad) => bad_stop(bad),
+        Drained::Done | Drained::Left(Cause::Bad) => or_memory(told),
         Drained::Left(Cause::Site) => Some(Stop::Outside(SiteFailed::Fault)),
         Drained::Left(Cause::TooLarge(bytes)) => Some(Stop::Outside(SiteFailed::TooLarge(bytes))),
         Drained::Left(Cause::Full) => Some(Stop::Full),
@@ -36,30 +39,30 @@ pub(crate) fn stopped_by(
     }
 }
 
-/// The stop at a bad verdict, where there was one, or for want of memory.
-fn bad_stop(bad: Result<Option<(RuleName, Verdict)>, AllocError>) -> Option<Stop>
-    requires { IfOk bad (λ bad. IfSome bad (λ bad. is_good (Some bad.1) ≡ false)) }
-    ensures { IsEnd result }
+/// What was told, or that there was no memory to tell it.
+fn or_memory(told: Result<Option<Stop>, AllocError>) -> Option<Stop>
+    ensures told { IfOk told (λ stopped. result ≡ stopped) }
+    ensures memory { IfErr told (λ _. result ≡ Some no_memory) }
 {
-    match bad {
-        Ok(None) => None,
-        Ok(Some((rule, verdict))) => Some(Stop::Bad(rule, verdict)),
+    match told {
+        Ok(stopped) => stopped,
         Err(failed) => Some(Stop::from(failed)),
     }
 }
 
-/// Adds what became of the commands, and gives the first rule in the order of the rules whose verdict is bad.
+/// Adds what became of the commands, and gives the stop at the first bad verdict in the order of the rules, where there is one.
 fn told(
     alloc: Global,
-    rules: &[Rule],
+    plan: &Plan,
     history: &[CoreEvent],
     ended: &mut Items<EndedRule>,
-) -> Result<Option<(RuleName, Verdict)>, AllocError>
-    ensures { IfOk result (λ bad. IfSome bad (λ bad. is_good (Some bad.1) ≡ false)) }
+) -> Result<Option<Stop>, AllocError>
+    ensures { IfOk result (λ stopped.
+        OfBads plan.now history.now (λ bad. IsEnd plan.now.rules bad stopped)) }
 {
-    add_ended(alloc, rules, history, ended)?;
-    match first_bad(rules, history) {
-        Some(bad) => Ok(Some((name_of(alloc, bad.rule)?, bad.verdict.clone()?))),
+    add_ended(alloc, plan.rules.as_slice(), history, ended)?;
+    match first_bad(plan, history) {
+        Some(bad) => Ok(Some(Stop::Bad(name_of(alloc, bad.rule)?, bad.verdict.clone()?))),
         None => Ok(None),
     }
 }
@@ -118,10 +121,12 @@ struct BadRule<'a> {
     verdict: &'a Verdict,
 }
 
-/// The first rule in the order of the rules whose command came to a bad verdict.
-fn first_bad<'a>(rules: &'a [Rule], history: &'a [CoreEvent]) -> Option<BadRule<'a>>
-    ensures { IfSome result (λ bad. is_good (Some bad.verdict.now) ≡ false) }
+/// The first rule in the order of the rules whose command came to a bad verdict, where all happened at one seat.
+fn first_bad<'a>(plan: &'a Plan, history: &'a [CoreEvent]) -> Option<BadRule<'a>>
+    ensures lowest { OfBads plan.now history.now (λ bad. IsLowest plan.now.rules bad result) }
+    ensures bad { IfSome result (λ one. is_good (Some one.verdict.now) ≡ false) }
 {
+    let rules = plan.rules.as_slice();
     let mut running = 0;
     let mut first = None;
     for event in history {
@@ -138,7 +143,10 @@ fn first_bad<'a>(rules: &'a [Rule], history: &'a [CoreEvent]) -> Option<BadRule<
 
 /// The rule with this number, where the verdict is bad.
 fn bad_at<'a>(rules: &'a [Rule], number: u32, verdict: &'a Verdict) -> Option<BadRule<'a>>
-    ensures { IfSome result (λ bad. is_good (Some bad.verdict.now) ≡ false) }
+    ensures good { verdict.now ≡ Good → result ≡ None }
+    ensures bad { verdict.now ≢ Good → (rule : RuleValue) → slice_get rules.now number ≡ Some rule
+        → IsBadRule number rule verdict.now result }
+    ensures is_bad { IfSome result (λ one. is_good (Some one.verdict.now) ≡ false) }
 {
     match verdict {
         Verdict::Good => None,
@@ -150,12 +158,12 @@ fn bad_at<'a>(rules: &'a [Rule], number: u32, verdict: &'a Verdict) -> Option<Ba
     }
 }
 
-/// That of two rules which comes first.
+/// That of two rules which comes first, and of one rule its later verdict.
 fn lower<'a>(first: Option<BadRule<'a>>, other: Option<BadRule<'a>>) -> Option<BadRule<'a>>
-    ensures { (result ≡ first.entry) ⊎ (result ≡ other.entry) }
+    ensures { IsLower first.entry other.entry result }
 {
     match (first, other) {
-        (Some(first), Some(other)) if other.number < first.number => Some(other),
+        (Some(first), Some(other)) if other.number <= first.number => Some(other),
         (None, other) => other,
         (first, _) => first,
     }

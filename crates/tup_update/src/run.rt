@@ -1,21 +1,23 @@
 //! The rules that are run.
-ghost use Rattle.std.specs.Prelude.{◌≡◌, List, [], Some, map, IfSome, IsTrue};
+ghost use Rattle.std.specs.Prelude.{◌≡◌, ℕ, List, [], Some, false, map, IfSome, IsTrue};
 ghost use Rattle.tup_path.specs.Name.{Names as PathNames};
 ghost use Rattle.tup_stamp.specs.declared.Stamp.{Stamp as StampValue};
 ghost use Rattle.tup_site.specs.declared.fault.SiteFailed.TheVariants.{Memory};
+ghost use Rattle.tup_graph.specs.Graph.{is_flagged};
 ghost use Rattle.tup_stored_graph.specs.Held.{is_fresh, StandsFor};
 ghost use Rattle.tup_core.specs.Run.{IsRun};
 ghost use Rattle.tup_core.specs.Sound.{IsInRange};
 ghost use Rattle.tup_core.specs.Step.{opening};
 ghost use Rattle.tup_board.specs.Board.{plan_of};
 ghost use Rattle.tup_board.specs.Calls.{commands, opened_as};
-ghost use Rattle.tup_board.specs.Outputs.{AreApart, IsPlanOf};
+ghost use Rattle.tup_apart.specs.Run.{MayRun, OutputsOnce};
 ghost use Rattle.tup_promise.specs.Cause.{HasCountedCause, HasRunCause};
 ghost use Rattle.tup_promise.specs.Ran.{RunsThese, command_of};
 ghost use Rattle.tup_promise.specs.declared.stop.Stop.TheVariants.{Outside};
 ghost use Rattle.tup_phases.specs.Prepared.{HasSeen};
 ghost use Rattle.tup_update.specs.Names.{AreNamesOf};
-ghost use Rattle.tup_update.specs.Run.{StopsBy, StopsRunning};
+ghost use Rattle.tup_update.specs.Promised.{KeepsSources, PromisesOver};
+ghost use Rattle.tup_update.specs.Run.{OfBads, StopsBy, StopsRunning};
 
 use crate::ended::stopped_by;
 use crate::names::Names;
@@ -24,6 +26,12 @@ use std::alloc::Global;
 use tup_apart::plan_over;
 use tup_board::{Board, BoardParts, Drained};
 use tup_core::{Plan, claimed_once};
+use tup_ends::{
+    bad_ran_all_it_could, bad_stands_last, boards_leave_sources, done_is_finished, done_is_settled,
+    done_leaves_kept, done_ran_all, prepared_is_finished, prepared_is_settled, ran_what_was_due,
+};
+use tup_graph::Nodes;
+use tup_law_board::boards_keep_sites;
 use tup_promise::{Log, Stop};
 use tup_runner::Runner;
 use tup_site::{Site, SiteFailed};
@@ -44,12 +52,17 @@ pub(crate) fn run_flagged<S: Site, R: Runner>(
     requires seen { IsTrue S.tells → HasSeen graph.nodes (S.world site).tree }
     requires none { log.ran ≡ [] }
     ensures stops { IfSome result.stopped StopsRunning }
+    ensures promised { PromisesOver S.Site.own R.Runner.own keep_going
+        graph site result.site result.log.ran result.stopped }
+    ensures sources { KeepsSources S.Site.own graph site result.site }
     ensures counted { HasCountedCause (S.faults site) (S.faults result.site) result.stopped }
     ensures cause { HasRunCause (R.faults runner.old) (R.faults runner.new) result.stopped }
     ensures ran { IsTrue R.tells_ran
         → RunsThese result.log.ran (R.ran runner.old) (R.ran runner.new) result.stopped }
 {
-    if graph.nodes().flags().next().is_none() {
+    prepared_is_finished(&site);
+    prepared_is_settled(&site);
+    if none_flagged(graph.nodes()) {
         return Updated {
             site,
             log,
@@ -60,6 +73,13 @@ pub(crate) fn run_flagged<S: Site, R: Runner>(
         Ok(Some(plan)) => run_plan(alloc, site, graph, &plan, runner, log),
         _ => without_memory(site, log),
     }
+}
+
+/// Whether there are no rules to be run.
+fn none_flagged(nodes: &Nodes) -> bool
+    ensures { IsTrue result → (number : ℕ) → is_flagged nodes.now number ≡ false }
+{
+    nodes.flags().next().is_none()
 }
 
 /// Runs the rules of a plan.
@@ -75,10 +95,12 @@ fn run_plan<S: Site, R: Runner>(
     requires stands { IsTrue S.tells
         → StandsFor S.world S.moment S.left_since graph site }
     requires seen { IsTrue S.tells → HasSeen graph.nodes (S.world site).tree }
-    requires plan { IsPlanOf graph.nodes plan.now }
-    requires apart { AreApart plan.now graph.nodes }
+    requires may_run { MayRun graph.nodes plan.now }
     requires none { log.ran ≡ [] }
     ensures stops { IfSome result.stopped StopsRunning }
+    ensures promised { PromisesOver S.Site.own R.Runner.own plan.now.keep_going
+        graph site result.site result.log.ran result.stopped }
+    ensures sources { KeepsSources S.Site.own graph site result.site }
     ensures counted { HasCountedCause (S.faults site) (S.faults result.site) result.stopped }
     ensures cause { HasRunCause (R.faults runner.old) (R.faults runner.new) result.stopped }
     ensures ran { IsTrue R.tells_ran
@@ -104,8 +126,14 @@ fn run_board<S: Site, R: Runner>(
 ) -> Updated<S>
     requires opening { board ≡ opened_as plan.now board.opening.graph board.opening.site }
     requires range { IsInRange plan.now }
+    requires once { OutputsOnce plan.now.rules }
     requires names { AreNamesOf plan.now names }
     ensures stops { IfSome result.stopped StopsRunning }
+    ensures promised { let opening = board.opening in
+        PromisesOver S.Site.own R.Runner.own plan.now.keep_going
+        opening.graph opening.site result.site result.log.ran result.stopped }
+    ensures sources { let opening = board.opening in
+        KeepsSources S.Site.own opening.graph opening.site result.site }
     ensures counted { HasCountedCause
         (S.faults board.opening.site) (S.faults result.site) result.stopped }
     ensures cause { HasRunCause (R.faults runner.old) (R.faults runner.new) result.stopped }
@@ -113,7 +141,19 @@ fn run_board<S: Site, R: Runner>(
         → RunsThese result.log.ran (R.ran runner.old) (R.ran runner.new) result.stopped }
 {
     let drained = board.drain(alloc, plan, runner);
-    told(alloc, plan, board.into_parts(), drained, names, log)
+    let parts = board.into_parts();
+    // Laws: what a board and its graph keep, and leave at their end.
+    let _ = parts.graph.nodes();
+    boards_keep_sites(&parts.site, &*runner);
+    boards_leave_sources(&parts.site, &*runner);
+    done_is_finished(&parts.site, &*runner);
+    done_is_settled(&parts.site, &*runner);
+    done_leaves_kept(&parts.site, &*runner);
+    ran_what_was_due(&parts.site, &*runner);
+    done_ran_all(&parts.site, &*runner);
+    bad_ran_all_it_could(&parts.site, &*runner);
+    bad_stands_last(&parts.site, &*runner);
+    told(alloc, plan, parts, drained, names, log)
 }
 
 /// Tells the log what happened on a board.
@@ -128,20 +168,15 @@ fn told<S: Site>(
     requires run { (files : List (PathNames × StampValue)) × IsRun plan.now (opening plan.now files) parts.history }
     requires range { IsInRange plan.now }
     requires names { AreNamesOf plan.now names }
-    ensures stops { StopsBy drained result.stopped }
+    ensures stops { OfBads plan.now parts.history
+        (StopsBy plan.now.rules drained result.stopped) }
     ensures ran { map command_of result.log.ran ≡ commands plan.now parts.history }
     ensures site { result.site ≡ parts.site }
 {
     claimed_once();
     let history = parts.history.as_slice();
     log.ran = names.claimed(history);
-    let stopped = stopped_by(
-        alloc,
-        plan.rules.as_slice(),
-        history,
-        drained,
-        &mut log.ended,
-    );
+    let stopped = stopped_by(alloc, plan, history, drained, &mut log.ended);
     Updated {
         site: parts.site,
         log,

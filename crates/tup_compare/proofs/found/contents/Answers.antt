@@ -19,6 +19,7 @@ pub loop-path-init : goal.loop-path-init
 loop-path-init g c = record {
   files = λ tells. subst (HasFilesAt (g.S.Site.world c.args.site.now).tree []) (sym c.new-files.ensures) (none_found (g.S.Site.world c.args.site.now).tree);
   same = λ tells. refl;
+  known = λ tells. refl;
   crash = λ tells. at_rest g.S.Site.moment g.S.Site.left_since c.args.site.now NoStep;
   counted = refl;
 }
@@ -29,6 +30,7 @@ loop-path-preserved g c = record {
       (c.loop-path.invariant.files tells)
       (subst (λ (w : World). AddsFile c.path-item.result (finite.get w.tree c.path-item.result) c.loop-path.files c.add.new.files) (c.loop-path.invariant.same tells) (c.in_ok-add.ensures.added tells));
   same = λ tells. c.add.ensures.same tells ∙ c.loop-path.invariant.same tells;
+  known = λ tells. c.add.ensures.known tells ∙ c.loop-path.invariant.known tells;
   crash = λ tells. then_quiet g.S.Site.moment g.S.Site.left_since c.args.site.now c.loop-path.site c.add.new.site NoStep (c.loop-path.invariant.crash tells) (c.add.ensures.crash tells);
   counted = c.add.ensures.counted.steady (λ e. cc (c.in_ok-add.was, e)) ∙ c.loop-path.invariant.counted;
 }

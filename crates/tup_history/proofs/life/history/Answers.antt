@@ -68,13 +68,13 @@ returns-clause-lived g c =
 -- ---- what a crash leaves
 
 pub returns-then-is_err-clause-kept : goal.returns-then-is_err-clause-kept
-returns-then-is_err-clause-kept g c = λ before kept.
-    lived_kept g.R.Runner.tells g.R.Runner.next c.args.turns.items c.from_vec.result (Some (0, Memory)) _ _ (returns-then-is_err-clause-lived g c) before kept
+returns-then-is_err-clause-kept g c = λ stage kept.
+    lived_kept g.R.Runner.tells g.R.Runner.next c.args.turns.items c.from_vec.result (Some (0, Memory)) _ _ (returns-then-is_err-clause-lived g c) stage kept
 
 pub returns-in-Err-clause-kept : goal.returns-in-Err-clause-kept
-returns-in-Err-clause-kept g c = λ before kept.
-    lived_kept g.R.Runner.tells g.R.Runner.next c.args.turns.items c.from_vec-in-Err.result (Some (c.len-in-Err.result, c.in-Err.why)) _ _ (returns-in-Err-clause-lived g c) before kept
+returns-in-Err-clause-kept g c = λ stage kept.
+    lived_kept g.R.Runner.tells g.R.Runner.next c.args.turns.items c.from_vec-in-Err.result (Some (c.len-in-Err.result, c.in-Err.why)) _ _ (returns-in-Err-clause-lived g c) stage kept
 
 pub returns-clause-kept : goal.returns-clause-kept
-returns-clause-kept g c = λ before kept.
-    lived_kept g.R.Runner.tells g.R.Runner.next c.args.turns.items c.from_vec-2.result None _ _ (returns-clause-lived g c) before kept
+returns-clause-kept g c = λ stage kept.
+    lived_kept g.R.Runner.tells g.R.Runner.next c.args.turns.items c.from_vec-2.result None _ _ (returns-clause-lived g c) stage kept

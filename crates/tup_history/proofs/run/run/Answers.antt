@@ -1,4 +1,6 @@
 use Rattle.std.proofs.Common.{refl}
+use Rattle.tup_site.specs.contracts.memory_calls.MemSiteSite.TheImpl as memory
+use Rattle.tup_promise.specs.Kept.{KeptHere}
 use Rattle.tup_history.proofs.run.run.Goals as goal
 
 pub returns-clause-keeps : goal.returns-clause-keeps
@@ -17,4 +19,15 @@ pub returns-clause-leaves : goal.returns-clause-leaves
 returns-clause-leaves g c = record {
   quiet = c.tup.ensures.quiet refl;
   lasts = c.tup.ensures.lasts refl;
+  known = c.tup.ensures.known refl;
 }
+
+pub returns-clause-updates : goal.returns-clause-updates
+returns-clause-updates g c = λ means kept.
+    let here : KeptHere memory.ghosts g.R.Runner c.args.site = record { tells = refl; means = means; kept = kept } in
+    record {
+      files = c.tup.ensures.exactly_the_files here;
+      needed = c.tup.ensures.only_what_is_needed here;
+      crash = c.tup.ensures.crash here;
+      kept = c.tup.ensures.kept here;
+    }

@@ -1,4 +1,14 @@
-use Rattle.std.proofs.Common.{ap}
+use Rattle.std.proofs.Common.{sym, subst, Ok, ◌≡◌, ap, ◌∙◌}
+use Rattle.tup_path.specs.Tree.{Tree}
+use Rattle.tup_table.specs.Entries.{entries_of}
+use Rattle.tup_table.specs.Table.{entries_in}
+use Rattle.tup_graph.specs.Graph.{GraphState}
+use Rattle.tup_graph.specs.Opening.{IsGraphOf}
+use Rattle.tup_refresh.specs.Refresh.{IsRefresh}
+use Rattle.tup_ledger.specs.Sources.{sources_of}
+use Rattle.tup_phases.specs.Kept.{BringsNothing, IsNoted}
+use Rattle.tup_phases.proofs.Brought.{idle_brought, refreshed_so}
+use Rattle.tup_phases.proofs.Keeping.{files_both, files_read, first_kept, graph_kept, same_sources, since_read}
 use Rattle.std.specs.Result.{result_err}
 use Rattle.tup_site.specs.World.{World}
 use Rattle.tup_promise.specs.Cause.{HasCountedCause}
@@ -50,3 +60,83 @@ pub returns-clause-counted : goal.returns-clause-counted
 returns-clause-counted g c =
     counted_before (g.S.Site.faults c.args.site.now) (g.S.Site.faults c.refresh.new.site) (g.S.Site.faults c.swapped.new.site) (result_err c.swapped.result)
     (c.refresh.ensures.cause.steady (λ e. cc (c.in_ok-found.was, e))) c.swapped.ensures.counted
+
+-- ---- what it leaves of a site and keeps of it
+
+pub returns-in_err-found-clause-files : goal.returns-in_err-found-clause-files
+returns-in_err-found-clause-files g c = λ tells. files_read g.S.Site c.args.site.now c.refresh.new.site (c.refresh.ensures.same tells) (c.refresh.ensures.crash tells) (c.refresh.ensures.known tells)
+
+pub returns-in_err-found-clause-kept : goal.returns-in_err-found-clause-kept
+returns-in_err-found-clause-kept g c = λ tells next first since noted kept.
+    let crash = c.refresh.ensures.crash tells in
+    since_read g.S.Site next first since c.args.site.now c.refresh.new.site (files_read g.S.Site c.args.site.now c.refresh.new.site (c.refresh.ensures.same tells) crash (c.refresh.ensures.known tells)) crash kept
+
+pub returns-then-brings_nothing-clause-files : goal.returns-then-brings_nothing-clause-files
+returns-then-brings_nothing-clause-files g c = λ tells. files_read g.S.Site c.args.site.now c.refresh.new.site (c.refresh.ensures.same tells) (c.refresh.ensures.crash tells) (c.refresh.ensures.known tells)
+
+pub returns-then-brings_nothing-clause-kept : goal.returns-then-brings_nothing-clause-kept
+returns-then-brings_nothing-clause-kept g c = λ tells next first since noted kept.
+    let crash = c.refresh.ensures.crash tells in
+    since_read g.S.Site next first since c.args.site.now c.refresh.new.site (files_read g.S.Site c.args.site.now c.refresh.new.site (c.refresh.ensures.same tells) crash (c.refresh.ensures.known tells)) crash kept
+
+pub returns-then-brings_nothing-clause-brought : goal.returns-then-brings_nothing-clause-brought
+returns-then-brings_nothing-clause-brought g c = λ tells next first since noted kept.
+    let site_laws = g.met.S.Site in
+    let at = c.args.site.now in
+    let graph = c.args.graph.now in
+    let tree = (g.S.Site.world at).tree in
+    let known = g.S.Site.known at in
+    let found = c.in_ok-found.found in
+    let is = subst (IsGraphOf (entries_in graph.table)) c.nodes.ensures.value (c.nodes.ensures.graph c.requires.fresh) in
+    let stands = c.requires.stands tells in
+    let seen = c.requires.seen tells in
+    let kept_now = graph_kept g.S.Site tells site_laws.earlier site_laws.present next first since graph at stands is kept in
+    let refreshed = refreshed_so next known graph.nodes c.nodes.result.now tree c.args.config.now found c.nodes.ensures.value (site_laws.is_known at tells) (site_laws.knows_tree at tells) kept_now seen (c.requires.config tells) (c.in_ok-found.ensures.refreshed tells) in
+    idle_brought first (g.S.Site.world at) graph.nodes noted next known
+    (first_kept g.S.Site tells site_laws.earlier site_laws.present next first since graph at stands is kept noted.was noted.stored) seen found
+    (c.flags_are_of_rules.ensures (entries_of noted.stored.commits) noted.was noted.stored.graph) kept_now
+    (subst (λ (nodes : GraphState). BringsNothing nodes found) c.nodes-2.ensures.value (c.brings_nothing.ensures c.if-brings_nothing.true))
+    (subst (λ (sources : Tree). IsRefresh graph.nodes sources (Ok found)) (same_sources g.S.Site tells site_laws.earlier site_laws.present next first since graph at stands is kept noted.was noted.stored) refreshed)
+
+pub returns-clause-files : goal.returns-clause-files
+returns-clause-files g c = λ tells.
+    files_both g.S.Site c.args.site.now c.refresh.new.site c.swapped.new.site
+    (files_read g.S.Site c.args.site.now c.refresh.new.site (c.refresh.ensures.same tells) (c.refresh.ensures.crash tells) (c.refresh.ensures.known tells)) (c.swapped.ensures.files tells)
+
+pub returns-clause-kept : goal.returns-clause-kept
+returns-clause-kept g c = λ tells next first since noted kept.
+    let site_laws = g.met.S.Site in
+    let at = c.args.site.now in
+    let mid = c.refresh.new.site in
+    let graph = c.args.graph.now in
+    let tree = (g.S.Site.world at).tree in
+    let known = g.S.Site.known at in
+    let found = c.in_ok-found.found in
+    let same = c.refresh.ensures.same tells in
+    let crash = c.refresh.ensures.crash tells in
+    let is = subst (IsGraphOf (entries_in graph.table)) c.nodes.ensures.value (c.nodes.ensures.graph c.requires.fresh) in
+    let kept_now = graph_kept g.S.Site tells site_laws.earlier site_laws.present next first since graph at (c.requires.stands tells) is kept in
+    let refreshed = refreshed_so next known graph.nodes c.nodes.result.now tree c.args.config.now found c.nodes.ensures.value (site_laws.is_known at tells) (site_laws.knows_tree at tells) kept_now (c.requires.seen tells) (c.requires.config tells) (c.in_ok-found.ensures.refreshed tells) in
+    c.swapped.ensures.kept tells next first since
+    (subst (λ (w : World). IsRefresh graph.nodes (sources_of graph.nodes w.tree) (Ok found)) (sym same) refreshed)
+    (subst (λ (w : World). IsNoted first w graph.nodes) (sym same) noted)
+    (since_read g.S.Site next first since at mid (files_read g.S.Site at mid same crash (c.refresh.ensures.known tells)) crash kept)
+
+pub returns-clause-brought : goal.returns-clause-brought
+returns-clause-brought g c = λ tells next first since noted kept.
+    let site_laws = g.met.S.Site in
+    let at = c.args.site.now in
+    let mid = c.refresh.new.site in
+    let graph = c.args.graph.now in
+    let tree = (g.S.Site.world at).tree in
+    let known = g.S.Site.known at in
+    let found = c.in_ok-found.found in
+    let same = c.refresh.ensures.same tells in
+    let crash = c.refresh.ensures.crash tells in
+    let is = subst (IsGraphOf (entries_in graph.table)) c.nodes.ensures.value (c.nodes.ensures.graph c.requires.fresh) in
+    let kept_now = graph_kept g.S.Site tells site_laws.earlier site_laws.present next first since graph at (c.requires.stands tells) is kept in
+    let refreshed = refreshed_so next known graph.nodes c.nodes.result.now tree c.args.config.now found c.nodes.ensures.value (site_laws.is_known at tells) (site_laws.knows_tree at tells) kept_now (c.requires.seen tells) (c.requires.config tells) (c.in_ok-found.ensures.refreshed tells) in
+    c.swapped.ensures.brought tells next first since
+    (subst (λ (w : World). IsRefresh graph.nodes (sources_of graph.nodes w.tree) (Ok found)) (sym same) refreshed)
+    (subst (λ (w : World). IsNoted first w graph.nodes) (sym same) noted)
+    (since_read g.S.Site next first since at mid (files_read g.S.Site at mid same crash (c.refresh.ensures.known tells)) crash kept)

@@ -1,4 +1,19 @@
-use Rattle.std.proofs.Common.{refl}
+use Rattle.std.proofs.Common.{sym, subst, List, Ok, arith, ◌≡◌, refl, ◌∙◌}
+use Rattle.tup_path.specs.Name.{Names}
+use Rattle.tup_path.specs.Tree.{Tree, IsTree}
+use Rattle.tup_rule.specs.declared.question.Reading.{Reading}
+use Rattle.tup_rule.specs.declared.rule.Rule.{Rule}
+use Rattle.tup_clean.specs.Buildable.{IsBuildable}
+use Rattle.tup_readings.specs.Readings.{IsOutcome}
+use Rattle.tup_project.specs.Project.{AreLinked}
+use Rattle.tup_table.specs.Table.{entries_in}
+use Rattle.tup_graph.specs.Opening.{IsGraphOf}
+use Rattle.tup_law_phases.proofs.Seen.{sees}
+use Rattle.tup_refresh.specs.Refresh.{IsRefresh}
+use Rattle.tup_refresh.specs.Untouched.{SeesSources}
+use Rattle.tup_phases.proofs.Brought.{fits_so, owned_still, swap_brought}
+use Rattle.tup_phases.proofs.Keeping.{first_kept, same_sources, swapped_keeps}
+use Rattle.tup_site.specs.World.{World}
 use Rattle.tup_rule_diff.specs.Edits.{AreSwapEdits}
 use Rattle.tup_promise.specs.Cause.{HasCountedCause}
 use Rattle.tup_promise.specs.Stopped.{no_memory, stop_of_graph, stop_of_project}
@@ -58,3 +73,80 @@ returns-clause-seen g c = λ tells.
 
 pub returns-clause-counted : goal.returns-clause-counted
 returns-clause-counted g c = c.swap_rules.ensures.cause.steady (λ e. cc (c.in_ok-swap_rules.was, e))
+
+-- ---- what it leaves of a site and keeps of it
+
+pub returns-in_err-rules-clause-files : goal.returns-in_err-rules-clause-files
+returns-in_err-rules-clause-files g c = λ tells. record { later = omega arith; tree = refl; known = refl }
+
+pub returns-in_err-rules-clause-kept : goal.returns-in_err-rules-clause-kept
+returns-in_err-rules-clause-kept g c = λ tells next first since refreshed noted kept. kept
+
+pub returns-in_err-read-clause-files : goal.returns-in_err-read-clause-files
+returns-in_err-read-clause-files g c = λ tells. record { later = omega arith; tree = refl; known = refl }
+
+pub returns-in_err-read-clause-kept : goal.returns-in_err-read-clause-kept
+returns-in_err-read-clause-kept g c = λ tells next first since refreshed noted kept. kept
+
+pub returns-in_err-swap_rules-clause-files : goal.returns-in_err-swap_rules-clause-files
+returns-in_err-swap_rules-clause-files g c = λ tells. record { later = (c.swap_rules.ensures.crash tells).on.later; tree = c.swap_rules.ensures.tree tells; known = c.swap_rules.ensures.known tells }
+
+pub returns-in_err-swap_rules-clause-kept : goal.returns-in_err-swap_rules-clause-kept
+returns-in_err-swap_rules-clause-kept g c = λ tells next first since refreshed noted kept.
+    let site_laws = g.met.S.Site in
+    let at = c.args.site.now in
+    let graph = c.args.graph.now in
+    let tree = (g.S.Site.world at).tree in
+    let known = g.S.Site.known at in
+    let found = c.args.found in
+    let rules = c.as_slice-3.result.now in
+    let is = subst (IsGraphOf (entries_in graph.table)) c.nodes.ensures.value (c.nodes.ensures.graph c.requires.fresh) in
+    let linked = subst (λ (all : List (Names × Reading)). AreLinked all rules) c.as_slice.ensures (subst (AreLinked c.as_slice.result.now) (sym c.as_slice-3.ensures) c.in_ok-rules.ensures.linked) in
+    let can = subst (λ (all : List (Names × Reading)). (sources : Tree) → IsOutcome sources (Ok all) → IsTree sources → IsBuildable sources rules) c.as_slice.ensures
+    (subst (λ (l : List Rule). (sources : Tree) → IsOutcome sources (Ok c.as_slice.result.now) → IsTree sources → IsBuildable sources l) (sym c.as_slice-3.ensures) c.in_ok-rules.ensures.buildable) in
+    let fits = fits_so known graph.nodes tree found rules (site_laws.knows_tree at tells) (site_laws.is_tree at tells) (c.requires.seen tells) refreshed linked can in
+    let crash = c.swap_rules.ensures.crash tells in
+    swapped_keeps g.S.Site tells site_laws.earlier site_laws.present next first since graph at c.swap_rules.new.site found.fresh found.gone rules
+    (record { later = crash.on.later; tree = c.swap_rules.ensures.tree tells; known = c.swap_rules.ensures.known tells }) (c.requires.stands tells) is (c.requires.seen tells) fits
+    (owned_still first (g.S.Site.world at) graph.nodes noted) crash kept
+
+pub returns-clause-files : goal.returns-clause-files
+returns-clause-files g c = λ tells. record { later = (c.swap_rules.ensures.crash tells).on.later; tree = c.swap_rules.ensures.tree tells; known = c.swap_rules.ensures.known tells }
+
+pub returns-clause-kept : goal.returns-clause-kept
+returns-clause-kept g c = λ tells next first since refreshed noted kept.
+    let site_laws = g.met.S.Site in
+    let at = c.args.site.now in
+    let graph = c.args.graph.now in
+    let tree = (g.S.Site.world at).tree in
+    let known = g.S.Site.known at in
+    let found = c.args.found in
+    let rules = c.as_slice-3.result.now in
+    let is = subst (IsGraphOf (entries_in graph.table)) c.nodes.ensures.value (c.nodes.ensures.graph c.requires.fresh) in
+    let linked = subst (λ (all : List (Names × Reading)). AreLinked all rules) c.as_slice.ensures (subst (AreLinked c.as_slice.result.now) (sym c.as_slice-3.ensures) c.in_ok-rules.ensures.linked) in
+    let can = subst (λ (all : List (Names × Reading)). (sources : Tree) → IsOutcome sources (Ok all) → IsTree sources → IsBuildable sources rules) c.as_slice.ensures
+    (subst (λ (l : List Rule). (sources : Tree) → IsOutcome sources (Ok c.as_slice.result.now) → IsTree sources → IsBuildable sources l) (sym c.as_slice-3.ensures) c.in_ok-rules.ensures.buildable) in
+    let fits = fits_so known graph.nodes tree found rules (site_laws.knows_tree at tells) (site_laws.is_tree at tells) (c.requires.seen tells) refreshed linked can in
+    let crash = c.swap_rules.ensures.crash tells in
+    swapped_keeps g.S.Site tells site_laws.earlier site_laws.present next first since graph at c.swap_rules.new.site found.fresh found.gone rules
+    (record { later = crash.on.later; tree = c.swap_rules.ensures.tree tells; known = c.swap_rules.ensures.known tells }) (c.requires.stands tells) is (c.requires.seen tells) fits
+    (owned_still first (g.S.Site.world at) graph.nodes noted) crash kept
+
+pub returns-clause-brought : goal.returns-clause-brought
+returns-clause-brought g c = λ tells next first since refreshed noted kept.
+    let site_laws = g.met.S.Site in
+    let at = c.args.site.now in
+    let graph = c.args.graph.now in
+    let tree = (g.S.Site.world at).tree in
+    let known = g.S.Site.known at in
+    let found = c.args.found in
+    let rules = c.as_slice-3.result.now in
+    let is = subst (IsGraphOf (entries_in graph.table)) c.nodes.ensures.value (c.nodes.ensures.graph c.requires.fresh) in
+    let linked = subst (λ (all : List (Names × Reading)). AreLinked all rules) c.as_slice.ensures (subst (AreLinked c.as_slice.result.now) (sym c.as_slice-3.ensures) c.in_ok-rules.ensures.linked) in
+    let stands = c.requires.stands tells in
+    let seen = c.requires.seen tells in
+    let same = same_sources g.S.Site tells site_laws.earlier site_laws.present next first since graph at stands is kept noted.was noted.stored in
+    swap_brought first (g.S.Site.world at) graph.nodes noted next known
+    (first_kept g.S.Site tells site_laws.earlier site_laws.present next first since graph at stands is kept noted.was noted.stored) seen found rules c.swap_rules.new.graph.nodes
+    (subst (λ (sources : Tree). SeesSources sources graph.nodes) same (sees graph.nodes tree seen))
+    (subst (λ (sources : Tree). IsRefresh graph.nodes sources (Ok found)) same refreshed) linked c.in_ok-swap_rules.ensures.swapped

@@ -1,3 +1,8 @@
+use Rattle.std.proofs.Common.{ap, subst}
+use Rattle.tup_table.specs.Table.{entries_in}
+use Rattle.tup_graph.specs.Opening.{IsGraphOf}
+use Rattle.tup_stored_graph.specs.Held.{Held}
+use Rattle.tup_phases.proofs.Keeping.{cleared_keeps, cleared_present}
 use Rattle.tup_promise.specs.Cause.{HasCountedCause}
 use Rattle.tup_promise.specs.Stopped.{stop_of_stale}
 use Rattle.tup_promise.proofs.Handed.{err_if, err_so}
@@ -27,3 +32,45 @@ returns-clause-seen g c = λ tells.
 
 pub returns-clause-counted : goal.returns-clause-counted
 returns-clause-counted g c = c.clear.ensures.cause.steady (λ e. cc (c.in_ok-log.was, e))
+
+-- ---- what it leaves of a graph and keeps of a site
+
+pub returns-in_err-log-clause-kept : goal.returns-in_err-log-clause-kept
+returns-in_err-log-clause-kept g c = λ tells next first since asks kept.
+    let site_laws = g.met.S.Site in
+    let graph = c.args.graph.now in
+    let is = subst (IsGraphOf (entries_in graph.table)) c.nodes.ensures.value (c.nodes.ensures.graph c.requires.fresh) in
+    cleared_keeps g.S.Site tells site_laws.earlier site_laws.present next first since graph c.clear.new.graph c.args.site.now c.clear.new.site (c.requires.stands tells) is (c.requires.seen tells) asks (c.clear.ensures.known tells)
+    (c.clear.ensures.crash tells) kept
+
+pub returns-in_err-log-clause-present : goal.returns-in_err-log-clause-present
+returns-in_err-log-clause-present g c = λ tells next first since asks kept here.
+    let site_laws = g.met.S.Site in
+    let graph = c.args.graph.now in
+    let is = subst (IsGraphOf (entries_in graph.table)) c.nodes.ensures.value (c.nodes.ensures.graph c.requires.fresh) in
+    cleared_present g.S.Site tells site_laws.earlier site_laws.present next first since graph c.clear.new.graph c.args.site.now c.clear.new.site (c.requires.stands tells) is (c.requires.seen tells) asks (c.clear.ensures.known tells)
+    (c.clear.ensures.crash tells) kept here (c.clear.ensures.others tells) (c.clear.ensures.users tells)
+
+pub returns-clause-kept : goal.returns-clause-kept
+returns-clause-kept g c = λ tells next first since asks kept.
+    let site_laws = g.met.S.Site in
+    let graph = c.args.graph.now in
+    let is = subst (IsGraphOf (entries_in graph.table)) c.nodes.ensures.value (c.nodes.ensures.graph c.requires.fresh) in
+    cleared_keeps g.S.Site tells site_laws.earlier site_laws.present next first since graph c.clear.new.graph c.args.site.now c.clear.new.site (c.requires.stands tells) is (c.requires.seen tells) asks (c.clear.ensures.known tells)
+    (c.clear.ensures.crash tells) kept
+
+pub returns-clause-present : goal.returns-clause-present
+returns-clause-present g c = λ tells next first since asks kept here.
+    let site_laws = g.met.S.Site in
+    let graph = c.args.graph.now in
+    let is = subst (IsGraphOf (entries_in graph.table)) c.nodes.ensures.value (c.nodes.ensures.graph c.requires.fresh) in
+    cleared_present g.S.Site tells site_laws.earlier site_laws.present next first since graph c.clear.new.graph c.args.site.now c.clear.new.site (c.requires.stands tells) is (c.requires.seen tells) asks (c.clear.ensures.known tells)
+    (c.clear.ensures.crash tells) kept here (c.clear.ensures.others tells) (c.clear.ensures.users tells)
+
+pub returns-clause-stays : goal.returns-clause-stays
+returns-clause-stays g c =
+    let is = c.in_ok-log.ensures.leaves.0 in
+    record { created = ap (λ (h : Held). h.nodes.created) is; rules = ap (λ (h : Held). h.nodes.rules) is; flags = ap (λ (h : Held). h.nodes.flags) is }
+
+pub returns-clause-graph : goal.returns-clause-graph
+returns-clause-graph g c = subst (IsGraphOf (entries_in c.clear.new.graph.table)) c.nodes-2.ensures.value (c.nodes-2.ensures.graph c.in_ok-log.ensures.fresh)

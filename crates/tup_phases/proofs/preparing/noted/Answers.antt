@@ -1,4 +1,9 @@
-use Rattle.std.proofs.Common.{Some, ap, ◌∙◌}
+use Rattle.std.proofs.Common.{ap, sym, subst, ◌∙◌, Some}
+use Rattle.tup_table.specs.Table.{entries_in}
+use Rattle.tup_graph.specs.Opening.{IsGraphOf}
+use Rattle.tup_phases.proofs.Keeping.{config_known, files_both, files_read, noted_keeps, since_read}
+use Rattle.std.specs.FinMap as finite
+use Rattle.tup_graph.specs.Answers.{tup_config}
 use Rattle.tup_site.specs.World.{World}
 use Rattle.tup_scan_diff.specs.Edits.{AreScanEdits}
 use Rattle.tup_promise.specs.Cause.{HasCountedCause}
@@ -61,3 +66,63 @@ returns-clause-seen g c = λ tells.
 pub returns-clause-counted : goal.returns-clause-counted
 returns-clause-counted g c =
     c.note_scan.ensures.cause.steady (λ e. cc (c.in_ok-note_scan.was, e)) ∙ c.scan.ensures.cause.steady (λ e. cc (c.in_ok-seen.was, e))
+
+-- ---- what it leaves of a site and keeps of it
+
+pub returns-in_err-seen-clause-files : goal.returns-in_err-seen-clause-files
+returns-in_err-seen-clause-files g c = λ tells. files_read g.S.Site c.args.site.now c.scan.new.site (c.scan.ensures.same tells) (c.scan.ensures.crash tells) (c.scan.ensures.known tells)
+
+pub returns-in_err-seen-clause-kept : goal.returns-in_err-seen-clause-kept
+returns-in_err-seen-clause-kept g c = λ tells next first since kept.
+    let crash = c.scan.ensures.crash tells in
+    since_read g.S.Site next first since c.args.site.now c.scan.new.site (files_read g.S.Site c.args.site.now c.scan.new.site (c.scan.ensures.same tells) crash (c.scan.ensures.known tells)) crash kept
+
+pub returns-in_err-note_scan-clause-files : goal.returns-in_err-note_scan-clause-files
+returns-in_err-note_scan-clause-files g c = λ tells.
+    files_both g.S.Site c.args.site.now c.scan.new.site c.note_scan.new.site
+    (files_read g.S.Site c.args.site.now c.scan.new.site (c.scan.ensures.same tells) (c.scan.ensures.crash tells) (c.scan.ensures.known tells))
+    (record { later = (c.note_scan.ensures.crash tells).on.later; tree = c.note_scan.ensures.tree tells; known = c.note_scan.ensures.known tells })
+
+pub returns-in_err-note_scan-clause-kept : goal.returns-in_err-note_scan-clause-kept
+returns-in_err-note_scan-clause-kept g c = λ tells next first since kept.
+    let site_laws = g.met.S.Site in
+    let old = c.args.site.now in
+    let mid = c.scan.new.site in
+    let graph = c.args.graph.now in
+    let seen = c.in_ok-seen.seen in
+    let crash = c.scan.ensures.crash tells in
+    let same = c.scan.ensures.same tells in
+    let config = (c.in_ok-seen.ensures.seen tells).config ∙ sym (ap (λ (w : World). finite.get w.tree tup_config) same) in
+    noted_keeps g.S.Site tells site_laws.earlier site_laws.present graph mid c.note_scan.new.site seen.files seen.config
+    (record { later = (c.note_scan.ensures.crash tells).on.later; tree = c.note_scan.ensures.tree tells; known = c.note_scan.ensures.known tells })
+    (c.reads_keep_graphs.ensures graph mid tells same crash (c.requires.stands tells)) (subst (IsGraphOf (entries_in graph.table)) c.nodes.ensures.value (c.nodes.ensures.graph c.requires.fresh))
+    (config_known (g.S.Site.known mid) (g.S.Site.world mid).tree seen.config (site_laws.knows_tree mid tells) config) (c.note_scan.ensures.crash tells) next first since
+    (since_read g.S.Site next first since old mid (files_read g.S.Site old mid same crash (c.scan.ensures.known tells)) crash kept)
+
+pub returns-clause-files : goal.returns-clause-files
+returns-clause-files g c = λ tells.
+    files_both g.S.Site c.args.site.now c.scan.new.site c.note_scan.new.site
+    (files_read g.S.Site c.args.site.now c.scan.new.site (c.scan.ensures.same tells) (c.scan.ensures.crash tells) (c.scan.ensures.known tells))
+    (record { later = (c.note_scan.ensures.crash tells).on.later; tree = c.note_scan.ensures.tree tells; known = c.note_scan.ensures.known tells })
+
+pub returns-clause-kept : goal.returns-clause-kept
+returns-clause-kept g c = λ tells next first since kept.
+    let site_laws = g.met.S.Site in
+    let old = c.args.site.now in
+    let mid = c.scan.new.site in
+    let graph = c.args.graph.now in
+    let seen = c.in_ok-seen.seen in
+    let crash = c.scan.ensures.crash tells in
+    let same = c.scan.ensures.same tells in
+    let config = (c.in_ok-seen.ensures.seen tells).config ∙ sym (ap (λ (w : World). finite.get w.tree tup_config) same) in
+    noted_keeps g.S.Site tells site_laws.earlier site_laws.present graph mid c.note_scan.new.site seen.files seen.config
+    (record { later = (c.note_scan.ensures.crash tells).on.later; tree = c.note_scan.ensures.tree tells; known = c.note_scan.ensures.known tells })
+    (c.reads_keep_graphs.ensures graph mid tells same crash (c.requires.stands tells)) (subst (IsGraphOf (entries_in graph.table)) c.nodes.ensures.value (c.nodes.ensures.graph c.requires.fresh))
+    (config_known (g.S.Site.known mid) (g.S.Site.world mid).tree seen.config (site_laws.knows_tree mid tells) config) (c.note_scan.ensures.crash tells) next first since
+    (since_read g.S.Site next first since old mid (files_read g.S.Site old mid same crash (c.scan.ensures.known tells)) crash kept)
+
+pub returns-clause-config : goal.returns-clause-config
+returns-clause-config g c = λ tells. (c.in_ok-seen.ensures.seen tells).config
+
+pub returns-clause-scanned : goal.returns-clause-scanned
+returns-clause-scanned g c = (c.in_ok-seen.seen.files, c.in_ok-seen.seen.config, c.in_ok-note_scan.ensures.scanned)

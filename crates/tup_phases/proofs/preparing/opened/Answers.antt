@@ -1,3 +1,6 @@
+use Rattle.tup_law_site.proofs.Stores.{in_bytes}
+use Rattle.tup_ledger.proofs.Opening.{opened_store}
+use Rattle.tup_phases.proofs.Keeping.{opened_keeps}
 use Rattle.tup_promise.specs.Cause.{HasCountedCause}
 use Rattle.tup_promise.specs.Stopped.{stop_of_graph}
 use Rattle.tup_promise.specs.Unopened.{Unopened}
@@ -30,3 +33,29 @@ returns-in_err-open-clause-counted g c =
 pub returns-clause-unopened : goal.returns-clause-unopened
 returns-clause-unopened g c = λ tells log empty.
     readable (g.S.Site.world c.args.site.now) (g.S.Site.world c.open.new.site) c.in_ok-open.field-0 (c.in_ok-open.ensures.opens tells)
+
+-- ---- what it leaves of a site and keeps of it
+
+pub returns-in_err-open-clause-files : goal.returns-in_err-open-clause-files
+returns-in_err-open-clause-files g c = λ tells. record { later = (c.open.ensures.crash tells).later; tree = c.open.ensures.tree tells; known = c.open.ensures.known tells }
+
+pub returns-in_err-open-clause-kept : goal.returns-in_err-open-clause-kept
+returns-in_err-open-clause-kept g c = λ tells.
+    let site_laws = g.met.S.Site in
+    let crash = c.open.ensures.crash tells in
+    opened_keeps g.S.Site tells site_laws.earlier site_laws.present c.args.site.now c.open.new.site (record { later = crash.later; tree = c.open.ensures.tree tells; known = c.open.ensures.known tells }) crash
+
+pub returns-clause-files : goal.returns-clause-files
+returns-clause-files g c = λ tells. record { later = (c.open.ensures.crash tells).later; tree = c.open.ensures.tree tells; known = c.open.ensures.known tells }
+
+pub returns-clause-kept : goal.returns-clause-kept
+returns-clause-kept g c = λ tells.
+    let site_laws = g.met.S.Site in
+    let crash = c.open.ensures.crash tells in
+    opened_keeps g.S.Site tells site_laws.earlier site_laws.present c.args.site.now c.open.new.site (record { later = crash.later; tree = c.open.ensures.tree tells; known = c.open.ensures.known tells }) crash
+
+pub returns-clause-stored : goal.returns-clause-stored
+returns-clause-stored g c = λ tells.
+    let graph = c.in_ok-open.field-0 in
+    let bytes = (g.S.Site.world c.args.site.now).store in
+    in_bytes graph.nodes bytes (opened_store bytes (g.S.Site.world c.open.new.site).store graph (c.in_ok-open.ensures.opens tells) c.in_ok-open.ensures.graph.1)

@@ -1,4 +1,10 @@
-use Rattle.std.proofs.Common.{Some, ◌∙◌}
+use Rattle.std.proofs.Common.{ap, sym, ◌≡◌, ◌∙◌, Some}
+use Rattle.std.specs.FinMap as finite
+use Rattle.tup_path.specs.Tree.{Tree}
+use Rattle.tup_graph.specs.Answers.{tup_config}
+use Rattle.tup_phases.specs.Kept.{IsNoted}
+use Rattle.tup_phases.proofs.Brought.{brought_on}
+use Rattle.tup_phases.proofs.Keeping.{files_both, keeps_same, now_kept, over, since_now}
 use Rattle.tup_promise.specs.Cause.{HasCountedCause}
 use Rattle.tup_promise.specs.Unopened.{Unopened}
 use Rattle.tup_promise.proofs.Handed.{err_if, err_so}
@@ -105,3 +111,195 @@ returns-clause-none g c = none_both c.args.log.now c.brought.new.log c.cleared.n
 
 pub returns-clause-counted : goal.returns-clause-counted
 returns-clause-counted g c = c.in_ok-cleared.ensures.counted ∙ c.in_ok-brought.ensures.counted ∙ c.in_ok-config.ensures.counted ∙ c.in_ok-graph.ensures.counted
+
+-- ---- what was noted is brought
+
+pub brought-requires-clause-config : goal.brought-requires-clause-config
+brought-requires-clause-config g c = λ tells. c.in_ok-config.ensures.config tells ∙ sym (ap (λ (tree : Tree). finite.get tree tup_config) (c.noted.ensures.files tells).tree)
+
+-- ---- a kept site is kept
+
+pub returns-in_err-graph-clause-kept : goal.returns-in_err-graph-clause-kept
+returns-in_err-graph-clause-kept g c = λ tells next kept.
+    let site_laws = g.met.S.Site in
+    let old = c.args.site.now in
+    let first = g.S.Site.world old in
+    let since = g.S.Site.moment old in
+    let opened = c.opened.ensures.kept tells next first since (since_now g.S.Site next old kept) in
+    now_kept g.S.Site tells site_laws.earlier site_laws.present next old c.opened.new.site (c.opened.ensures.files tells) opened
+
+pub returns-in_err-graph-clause-crash : goal.returns-in_err-graph-clause-crash
+returns-in_err-graph-clause-crash g c = λ tells next kept.
+    let site_laws = g.met.S.Site in
+    let old = c.args.site.now in
+    let first = g.S.Site.world old in
+    let since = g.S.Site.moment old in
+    let opened = c.opened.ensures.kept tells next first since (since_now g.S.Site next old kept) in
+    opened.kept
+
+pub returns-in_err-graph-clause-known : goal.returns-in_err-graph-clause-known
+returns-in_err-graph-clause-known g c = λ tells. keeps_same (g.S.Site.known c.args.site.now) (g.S.Site.known c.opened.new.site) (c.opened.ensures.files tells).known
+
+pub returns-in_err-config-clause-kept : goal.returns-in_err-config-clause-kept
+returns-in_err-config-clause-kept g c = λ tells next kept.
+    let site_laws = g.met.S.Site in
+    let old = c.args.site.now in
+    let first = g.S.Site.world old in
+    let since = g.S.Site.moment old in
+    let opened = c.opened.ensures.kept tells next first since (since_now g.S.Site next old kept) in
+    let scanned = c.noted.ensures.kept tells next first since opened in
+    let files = files_both g.S.Site old c.opened.new.site c.noted.new.site (c.opened.ensures.files tells) (c.noted.ensures.files tells) in
+    now_kept g.S.Site tells site_laws.earlier site_laws.present next old c.noted.new.site files scanned
+
+pub returns-in_err-config-clause-crash : goal.returns-in_err-config-clause-crash
+returns-in_err-config-clause-crash g c = λ tells next kept.
+    let site_laws = g.met.S.Site in
+    let old = c.args.site.now in
+    let first = g.S.Site.world old in
+    let since = g.S.Site.moment old in
+    let opened = c.opened.ensures.kept tells next first since (since_now g.S.Site next old kept) in
+    (c.noted.ensures.kept tells next first since opened).kept
+
+pub returns-in_err-config-clause-known : goal.returns-in_err-config-clause-known
+returns-in_err-config-clause-known g c = λ tells.
+    let files = files_both g.S.Site c.args.site.now c.opened.new.site c.noted.new.site (c.opened.ensures.files tells) (c.noted.ensures.files tells) in
+    keeps_same (g.S.Site.known c.args.site.now) (g.S.Site.known c.noted.new.site) files.known
+
+pub returns-in_err-brought-clause-kept : goal.returns-in_err-brought-clause-kept
+returns-in_err-brought-clause-kept g c = λ tells next kept.
+    let site_laws = g.met.S.Site in
+    let old = c.args.site.now in
+    let first = g.S.Site.world old in
+    let since = g.S.Site.moment old in
+    let opened = c.opened.ensures.kept tells next first since (since_now g.S.Site next old kept) in
+    let scanned = c.noted.ensures.kept tells next first since opened in
+    let files = files_both g.S.Site old c.opened.new.site c.noted.new.site (c.opened.ensures.files tells) (c.noted.ensures.files tells) in
+    let noted : IsNoted first (g.S.Site.world c.noted.new.site) c.noted.new.graph.nodes = record { was = c.in_ok-graph.graph.nodes; stored = c.in_ok-graph.ensures.stored tells; scanned = c.in_ok-config.ensures.scanned; tree = files.tree } in
+    let brought = c.brought.ensures.kept tells next first since noted scanned in
+    let later = files_both g.S.Site old c.noted.new.site c.brought.new.site files (c.brought.ensures.files tells) in
+    now_kept g.S.Site tells site_laws.earlier site_laws.present next old c.brought.new.site later brought
+
+pub returns-in_err-brought-clause-crash : goal.returns-in_err-brought-clause-crash
+returns-in_err-brought-clause-crash g c = λ tells next kept.
+    let site_laws = g.met.S.Site in
+    let old = c.args.site.now in
+    let first = g.S.Site.world old in
+    let since = g.S.Site.moment old in
+    let opened = c.opened.ensures.kept tells next first since (since_now g.S.Site next old kept) in
+    let scanned = c.noted.ensures.kept tells next first since opened in
+    let files = files_both g.S.Site old c.opened.new.site c.noted.new.site (c.opened.ensures.files tells) (c.noted.ensures.files tells) in
+    let noted : IsNoted first (g.S.Site.world c.noted.new.site) c.noted.new.graph.nodes = record { was = c.in_ok-graph.graph.nodes; stored = c.in_ok-graph.ensures.stored tells; scanned = c.in_ok-config.ensures.scanned; tree = files.tree } in
+    let brought = c.brought.ensures.kept tells next first since noted scanned in
+    let later = files_both g.S.Site old c.noted.new.site c.brought.new.site files (c.brought.ensures.files tells) in
+    brought.kept
+
+pub returns-in_err-brought-clause-known : goal.returns-in_err-brought-clause-known
+returns-in_err-brought-clause-known g c = λ tells.
+    let files = files_both g.S.Site c.args.site.now c.opened.new.site c.noted.new.site (c.opened.ensures.files tells) (c.noted.ensures.files tells) in
+    keeps_same (g.S.Site.known c.args.site.now) (g.S.Site.known c.brought.new.site) (files_both g.S.Site c.args.site.now c.noted.new.site c.brought.new.site files (c.brought.ensures.files tells)).known
+
+pub returns-in_err-cleared-clause-kept : goal.returns-in_err-cleared-clause-kept
+returns-in_err-cleared-clause-kept g c = λ tells next kept.
+    let site_laws = g.met.S.Site in
+    let old = c.args.site.now in
+    let first = g.S.Site.world old in
+    let since = g.S.Site.moment old in
+    let opened = c.opened.ensures.kept tells next first since (since_now g.S.Site next old kept) in
+    let scanned = c.noted.ensures.kept tells next first since opened in
+    let files = files_both g.S.Site old c.opened.new.site c.noted.new.site (c.opened.ensures.files tells) (c.noted.ensures.files tells) in
+    let noted : IsNoted first (g.S.Site.world c.noted.new.site) c.noted.new.graph.nodes = record { was = c.in_ok-graph.graph.nodes; stored = c.in_ok-graph.ensures.stored tells; scanned = c.in_ok-config.ensures.scanned; tree = files.tree } in
+    let brought = c.brought.ensures.kept tells next first since noted scanned in
+    let later = files_both g.S.Site old c.noted.new.site c.brought.new.site files (c.brought.ensures.files tells) in
+    let asks = (c.in_ok-brought.ensures.brought tells next first since noted scanned).rules in
+    let cleared = c.cleared.ensures.kept tells next first since asks brought in
+    let here = c.cleared.ensures.present tells next first since asks brought (now_kept g.S.Site tells site_laws.earlier site_laws.present next old c.brought.new.site later brought) in
+    here
+
+pub returns-in_err-cleared-clause-crash : goal.returns-in_err-cleared-clause-crash
+returns-in_err-cleared-clause-crash g c = λ tells next kept.
+    let site_laws = g.met.S.Site in
+    let old = c.args.site.now in
+    let first = g.S.Site.world old in
+    let since = g.S.Site.moment old in
+    let opened = c.opened.ensures.kept tells next first since (since_now g.S.Site next old kept) in
+    let scanned = c.noted.ensures.kept tells next first since opened in
+    let files = files_both g.S.Site old c.opened.new.site c.noted.new.site (c.opened.ensures.files tells) (c.noted.ensures.files tells) in
+    let noted : IsNoted first (g.S.Site.world c.noted.new.site) c.noted.new.graph.nodes = record { was = c.in_ok-graph.graph.nodes; stored = c.in_ok-graph.ensures.stored tells; scanned = c.in_ok-config.ensures.scanned; tree = files.tree } in
+    let brought = c.brought.ensures.kept tells next first since noted scanned in
+    let later = files_both g.S.Site old c.noted.new.site c.brought.new.site files (c.brought.ensures.files tells) in
+    let asks = (c.in_ok-brought.ensures.brought tells next first since noted scanned).rules in
+    let cleared = c.cleared.ensures.kept tells next first since asks brought in
+    let here = c.cleared.ensures.present tells next first since asks brought (now_kept g.S.Site tells site_laws.earlier site_laws.present next old c.brought.new.site later brought) in
+    cleared.kept
+
+pub returns-in_err-cleared-clause-known : goal.returns-in_err-cleared-clause-known
+returns-in_err-cleared-clause-known g c = λ tells content is.
+    let files = files_both g.S.Site c.args.site.now c.opened.new.site c.noted.new.site (c.opened.ensures.files tells) (c.noted.ensures.files tells) in
+    c.cleared.ensures.known tells content (keeps_same (g.S.Site.known c.args.site.now) (g.S.Site.known c.brought.new.site) (files_both g.S.Site c.args.site.now c.noted.new.site c.brought.new.site files (c.brought.ensures.files tells)).known content is)
+
+pub returns-clause-kept : goal.returns-clause-kept
+returns-clause-kept g c = λ tells next kept.
+    let site_laws = g.met.S.Site in
+    let old = c.args.site.now in
+    let first = g.S.Site.world old in
+    let since = g.S.Site.moment old in
+    let opened = c.opened.ensures.kept tells next first since (since_now g.S.Site next old kept) in
+    let scanned = c.noted.ensures.kept tells next first since opened in
+    let files = files_both g.S.Site old c.opened.new.site c.noted.new.site (c.opened.ensures.files tells) (c.noted.ensures.files tells) in
+    let noted : IsNoted first (g.S.Site.world c.noted.new.site) c.noted.new.graph.nodes = record { was = c.in_ok-graph.graph.nodes; stored = c.in_ok-graph.ensures.stored tells; scanned = c.in_ok-config.ensures.scanned; tree = files.tree } in
+    let brought = c.brought.ensures.kept tells next first since noted scanned in
+    let later = files_both g.S.Site old c.noted.new.site c.brought.new.site files (c.brought.ensures.files tells) in
+    let asks = (c.in_ok-brought.ensures.brought tells next first since noted scanned).rules in
+    let cleared = c.cleared.ensures.kept tells next first since asks brought in
+    let here = c.cleared.ensures.present tells next first since asks brought (now_kept g.S.Site tells site_laws.earlier site_laws.present next old c.brought.new.site later brought) in
+    here
+
+pub returns-clause-crash : goal.returns-clause-crash
+returns-clause-crash g c = λ tells next kept.
+    let site_laws = g.met.S.Site in
+    let old = c.args.site.now in
+    let first = g.S.Site.world old in
+    let since = g.S.Site.moment old in
+    let opened = c.opened.ensures.kept tells next first since (since_now g.S.Site next old kept) in
+    let scanned = c.noted.ensures.kept tells next first since opened in
+    let files = files_both g.S.Site old c.opened.new.site c.noted.new.site (c.opened.ensures.files tells) (c.noted.ensures.files tells) in
+    let noted : IsNoted first (g.S.Site.world c.noted.new.site) c.noted.new.graph.nodes = record { was = c.in_ok-graph.graph.nodes; stored = c.in_ok-graph.ensures.stored tells; scanned = c.in_ok-config.ensures.scanned; tree = files.tree } in
+    let brought = c.brought.ensures.kept tells next first since noted scanned in
+    let later = files_both g.S.Site old c.noted.new.site c.brought.new.site files (c.brought.ensures.files tells) in
+    let asks = (c.in_ok-brought.ensures.brought tells next first since noted scanned).rules in
+    let cleared = c.cleared.ensures.kept tells next first since asks brought in
+    let here = c.cleared.ensures.present tells next first since asks brought (now_kept g.S.Site tells site_laws.earlier site_laws.present next old c.brought.new.site later brought) in
+    cleared.kept
+
+pub returns-clause-known : goal.returns-clause-known
+returns-clause-known g c = λ tells content is.
+    let files = files_both g.S.Site c.args.site.now c.opened.new.site c.noted.new.site (c.opened.ensures.files tells) (c.noted.ensures.files tells) in
+    c.cleared.ensures.known tells content (keeps_same (g.S.Site.known c.args.site.now) (g.S.Site.known c.brought.new.site) (files_both g.S.Site c.args.site.now c.noted.new.site c.brought.new.site files (c.brought.ensures.files tells)).known content is)
+
+-- ---- and is prepared
+
+pub returns-clause-prepared : goal.returns-clause-prepared
+returns-clause-prepared g c = λ tells next kept.
+    let site_laws = g.met.S.Site in
+    let old = c.args.site.now in
+    let first = g.S.Site.world old in
+    let since = g.S.Site.moment old in
+    let opened = c.opened.ensures.kept tells next first since (since_now g.S.Site next old kept) in
+    let scanned = c.noted.ensures.kept tells next first since opened in
+    let files = files_both g.S.Site old c.opened.new.site c.noted.new.site (c.opened.ensures.files tells) (c.noted.ensures.files tells) in
+    let noted : IsNoted first (g.S.Site.world c.noted.new.site) c.noted.new.graph.nodes = record { was = c.in_ok-graph.graph.nodes; stored = c.in_ok-graph.ensures.stored tells; scanned = c.in_ok-config.ensures.scanned; tree = files.tree } in
+    let brought = c.brought.ensures.kept tells next first since noted scanned in
+    let later = files_both g.S.Site old c.noted.new.site c.brought.new.site files (c.brought.ensures.files tells) in
+    let asks = (c.in_ok-brought.ensures.brought tells next first since noted scanned).rules in
+    let cleared = c.cleared.ensures.kept tells next first since asks brought in
+    let here = c.cleared.ensures.present tells next first since asks brought (now_kept g.S.Site tells site_laws.earlier site_laws.present next old c.brought.new.site later brought) in
+    let it = brought_on first c.brought.new.graph.nodes c.cleared.new.graph.nodes c.in_ok-cleared.ensures.stays (c.in_ok-brought.ensures.brought tells next first since noted scanned) in
+    record {
+      over = over g.S.Site next first since c.cleared.new.graph c.cleared.new.site (c.in_ok-cleared.ensures.stands tells) c.in_ok-cleared.ensures.graph cleared;
+      kept = here;
+      created = it.created;
+      seen = c.in_ok-cleared.ensures.seen tells;
+      made = c.in_ok-cleared.ensures.made;
+      rules = it.rules;
+      due = it.due;
+    }

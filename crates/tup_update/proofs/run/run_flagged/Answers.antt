@@ -1,9 +1,13 @@
-use Rattle.std.proofs.Common.{◌≡◌, Option, Some, ap, subst, ◌∙◌}
+use Rattle.std.proofs.Common.{◌≡◌, ℕ, Bool, false, Option, Some, ap, refl, subst, ◌∙◌}
 use Rattle.std.specs.Option.{IfSome}
-use Rattle.tup_graph.specs.Graph.{GraphState}
+use Rattle.tup_graph.specs.Graph.{GraphState, is_flagged}
 use Rattle.tup_core.specs.declared.plan.Plan.{Plan}
 use Rattle.tup_apart.specs.Run.{MayRun}
 use Rattle.tup_promise.specs.declared.log.Log.{Log}
+use Rattle.tup_site.specs.declared.fault.SiteFailed.TheVariants as failed
+use Rattle.tup_ends.proofs.Done.{flags_due}
+use Rattle.tup_update.specs.Promised.{PromisesOver}
+use Rattle.tup_update.proofs.Promised.{nothing_due, unchanged, unchanged_sources}
 use Rattle.tup_update.proofs.Whole.{memory_counted, memory_ran, memory_run_cause, memory_stops, none_ran}
 use Rattle.tup_update.proofs.run.run_flagged.Goals as goal
 
@@ -11,20 +15,49 @@ use Rattle.tup_update.proofs.run.run_flagged.Goals as goal
 found_may_run : (g : GraphState) (found : Option Plan) (plan : Plan) → found ≡ Some plan → IfSome found (MayRun g) → MayRun g plan
 found_may_run g found plan is may = subst (λ (given : Option Plan). IfSome given (MayRun g)) is may
 
+-- and goes on as it is to
+found_going : (keep_going : Bool) (found : Option Plan) (plan : Plan) → found ≡ Some plan → IfSome found (λ given. given.keep_going ≡ keep_going) → plan.keep_going ≡ keep_going
+found_going keep_going found plan is same = subst (λ (given : Option Plan). IfSome given (λ one. one.keep_going ≡ keep_going)) is same
+
 -- ---- nothing is flagged
 
-pub returns-then-is_none-clause-ran : goal.returns-then-is_none-clause-ran
-returns-then-is_none-clause-ran g c = λ tells. none_ran c.args.log.ran (g.R.Runner.ran c.args.runner.now) c.requires.none
+pub returns-then-none_flagged-clause-ran : goal.returns-then-none_flagged-clause-ran
+returns-then-none_flagged-clause-ran g c = λ tells. none_ran c.args.log.ran (g.R.Runner.ran c.args.runner.now) c.requires.none
+
+pub returns-then-none_flagged-clause-promised : goal.returns-then-none_flagged-clause-promised
+returns-then-none_flagged-clause-promised g c =
+    let unflagged : (number : ℕ) → is_flagged c.args.graph.nodes number ≡ false =
+    subst (λ (nodes : GraphState). (number : ℕ) → is_flagged nodes number ≡ false) c.nodes.ensures.value (c.none_flagged.ensures c.if-none_flagged.true) in
+    nothing_due g.S.Site g.R.Runner c.args.keep_going c.args.graph c.args.site c.args.log.ran
+    (λ tells first since prepared. let site_laws = g.met.S.Site in flags_due g.S.Site g.R.Runner.next first since c.args.graph c.args.site prepared (λ t u w within left. site_laws.earlier c.args.site t u w tells within left) (site_laws.present c.args.site tells))
+    c.requires.none unflagged (λ first since tells prepared. c.prepared_is_finished.ensures g.R.Runner.next first since c.args.graph tells prepared unflagged)
+    (λ first since tells prepared. c.prepared_is_settled.ensures g.R.Runner.next first since c.args.graph tells prepared unflagged)
+
+pub returns-then-none_flagged-clause-sources : goal.returns-then-none_flagged-clause-sources
+returns-then-none_flagged-clause-sources g c = unchanged_sources g.S.Site c.args.graph c.args.site c.args.site refl
 
 -- ---- the plan of what is flagged is run
 
-pub run_plan-requires-clause-plan : goal.run_plan-requires-clause-plan
-run_plan-requires-clause-plan g c = (found_may_run c.args.graph.nodes c.in-Ok-Some.field-0 c.in-Ok-Some.plan c.in-Ok-Some.field-0-is c.in-Ok-Some.ensures.may_run).plan
+pub run_plan-requires-clause-may_run : goal.run_plan-requires-clause-may_run
+run_plan-requires-clause-may_run g c = found_may_run c.args.graph.nodes c.in-Ok-Some.field-0 c.in-Ok-Some.plan c.in-Ok-Some.field-0-is c.in-Ok-Some.ensures.may_run
 
-pub run_plan-requires-clause-apart : goal.run_plan-requires-clause-apart
-run_plan-requires-clause-apart g c = (found_may_run c.args.graph.nodes c.in-Ok-Some.field-0 c.in-Ok-Some.plan c.in-Ok-Some.field-0-is c.in-Ok-Some.ensures.may_run).apart
+pub returns-in-Ok-Some-clause-promised : goal.returns-in-Ok-Some-clause-promised
+returns-in-Ok-Some-clause-promised g c =
+    let done = c.run_plan.result in
+    subst (λ (going : Bool). PromisesOver g.S.Site g.R.Runner going c.args.graph c.args.site done.site done.log.ran done.stopped)
+    (found_going c.args.keep_going c.in-Ok-Some.field-0 c.in-Ok-Some.plan c.in-Ok-Some.field-0-is c.in-Ok-Some.ensures.keep_going) c.run_plan.ensures.promised
 
 -- ---- there was no memory for a plan, or it may not be run
+
+pub returns-in_default-clause-sources : goal.returns-in_default-clause-sources
+returns-in_default-clause-sources g c = unchanged_sources g.S.Site c.args.graph c.args.site c.without_memory.result.site c.without_memory.ensures.site
+
+pub returns-in_default-clause-promised : goal.returns-in_default-clause-promised
+returns-in_default-clause-promised g c =
+    let done = c.without_memory in
+    unchanged g.S.Site g.R.Runner c.args.keep_going c.args.graph c.args.site done.result.site done.result.log.ran failed.Memory done.result.stopped
+    (λ tells first since prepared. let site_laws = g.met.S.Site in flags_due g.S.Site g.R.Runner.next first since c.args.graph c.args.site prepared (λ t u w within left. site_laws.earlier c.args.site t u w tells within left) (site_laws.present c.args.site tells))
+    done.ensures.site (ap (λ (log : Log). log.ran) done.ensures.log ∙ c.requires.none) done.ensures.stopped
 
 pub returns-in_default-clause-stops : goal.returns-in_default-clause-stops
 returns-in_default-clause-stops g c = memory_stops c.without_memory.result.stopped c.without_memory.ensures.stopped

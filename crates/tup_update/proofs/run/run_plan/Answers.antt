@@ -2,10 +2,14 @@ use Rattle.std.proofs.Common.{◌≡◌, ℕ, ap, refl, sym, subst, ◌∙◌}
 use Rattle.tup_stored_graph.specs.Held.{Held}
 use Rattle.tup_core.specs.declared.plan.Plan.{Plan}
 use Rattle.tup_rule_outputs.specs.declared.fault.BoardFault.{BoardFault}
-use Rattle.tup_board.specs.Board.{BoardState}
+use Rattle.tup_board.specs.Board.{BoardState, Opening}
 use Rattle.tup_board.specs.Calls.{opened_as}
 use Rattle.tup_promise.specs.Cause.{HasCountedCause}
 use Rattle.tup_promise.specs.declared.log.Log.{Log}
+use Rattle.tup_site.specs.declared.fault.SiteFailed.TheVariants as failed
+use Rattle.tup_ends.proofs.Done.{flags_due}
+use Rattle.tup_update.specs.Promised.{KeepsSources, PromisesOver}
+use Rattle.tup_update.proofs.Promised.{unchanged, unchanged_sources}
 use Rattle.tup_update.proofs.Whole.{memory_counted, memory_ran, memory_run_cause, memory_stops}
 use Rattle.tup_update.proofs.run.run_plan.Goals as goal
 
@@ -20,8 +24,8 @@ new-requires g c = record {
   fresh = c.requires.fresh;
   stands = c.requires.stands;
   seen = c.requires.seen;
-  plan = c.requires.plan;
-  apart = c.requires.apart;
+  plan = c.requires.may_run.plan;
+  apart = c.requires.may_run.apart;
 }
 
 pub run_board-requires-clause-opening : goal.run_board-requires-clause-opening
@@ -33,7 +37,28 @@ returns-in-Ok-new-clause-counted g c =
     let done = c.run_board.result in
     subst (λ (n : ℕ). HasCountedCause n (g.S.Site.faults done.site) done.stopped) (ap (λ (board : BoardState _). g.S.Site.faults board.opening.site) c.in-Ok-new.ensures.board) c.run_board.ensures.counted
 
+pub returns-in-Ok-new-clause-promised : goal.returns-in-Ok-new-clause-promised
+returns-in-Ok-new-clause-promised g c =
+    let done = c.run_board.result in
+    subst (λ (o : Opening _). PromisesOver g.S.Site g.R.Runner c.args.plan.now.keep_going o.graph o.site done.site done.log.ran done.stopped) (ap (λ (board : BoardState _). board.opening) c.in-Ok-new.ensures.board) c.run_board.ensures.promised
+
+pub returns-in-Ok-new-clause-sources : goal.returns-in-Ok-new-clause-sources
+returns-in-Ok-new-clause-sources g c =
+    subst (λ (o : Opening _). KeepsSources g.S.Site o.graph o.site c.run_board.result.site) (ap (λ (board : BoardState _). board.opening) c.in-Ok-new.ensures.board) c.run_board.ensures.sources
+
 -- ---- there was no memory for it
+
+pub returns-in-Err-clause-sources : goal.returns-in-Err-clause-sources
+returns-in-Err-clause-sources g c =
+    let done = c.without_memory-in-Err in
+    unchanged_sources g.S.Site c.args.graph c.args.site done.result.site (done.ensures.site ∙ ap (λ (back : _ × Held × BoardFault). back.0) c.in-Err.ensures.memory)
+
+pub returns-in-Err-clause-promised : goal.returns-in-Err-clause-promised
+returns-in-Err-clause-promised g c =
+    let done = c.without_memory-in-Err in
+    unchanged g.S.Site g.R.Runner c.args.plan.now.keep_going c.args.graph c.args.site done.result.site done.result.log.ran failed.Memory done.result.stopped
+    (λ tells first since prepared. let site_laws = g.met.S.Site in flags_due g.S.Site g.R.Runner.next first since c.args.graph c.args.site prepared (λ t u w within left. site_laws.earlier c.args.site t u w tells within left) (site_laws.present c.args.site tells))
+    (done.ensures.site ∙ ap (λ (back : _ × Held × BoardFault). back.0) c.in-Err.ensures.memory) (ap (λ (log : Log). log.ran) done.ensures.log ∙ c.requires.none) done.ensures.stopped
 
 pub returns-in-Err-clause-stops : goal.returns-in-Err-clause-stops
 returns-in-Err-clause-stops g c = memory_stops c.without_memory-in-Err.result.stopped c.without_memory-in-Err.ensures.stopped
@@ -52,6 +77,16 @@ returns-in-Err-clause-ran g c = λ tells.
     memory_ran c.without_memory-in-Err.result.stopped c.without_memory-in-Err.ensures.stopped c.without_memory-in-Err.result.log.ran (g.R.Runner.ran c.args.runner.now) (ap (λ (log : Log). log.ran) c.without_memory-in-Err.ensures.log ∙ c.requires.none)
 
 -- ---- nor for the names of its rules
+
+pub returns-in_default-clause-sources : goal.returns-in_default-clause-sources
+returns-in_default-clause-sources g c = unchanged_sources g.S.Site c.args.graph c.args.site c.without_memory.result.site c.without_memory.ensures.site
+
+pub returns-in_default-clause-promised : goal.returns-in_default-clause-promised
+returns-in_default-clause-promised g c =
+    let done = c.without_memory in
+    unchanged g.S.Site g.R.Runner c.args.plan.now.keep_going c.args.graph c.args.site done.result.site done.result.log.ran failed.Memory done.result.stopped
+    (λ tells first since prepared. let site_laws = g.met.S.Site in flags_due g.S.Site g.R.Runner.next first since c.args.graph c.args.site prepared (λ t u w within left. site_laws.earlier c.args.site t u w tells within left) (site_laws.present c.args.site tells))
+    done.ensures.site (ap (λ (log : Log). log.ran) done.ensures.log ∙ c.requires.none) done.ensures.stopped
 
 pub returns-in_default-clause-stops : goal.returns-in_default-clause-stops
 returns-in_default-clause-stops g c = memory_stops c.without_memory.result.stopped c.without_memory.ensures.stopped

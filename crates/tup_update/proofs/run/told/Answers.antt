@@ -5,6 +5,7 @@ use Rattle.std.specs.Option.{is_some}
 use Rattle.tup_core.specs.declared.event.CoreEvent.{CoreEvent}
 use Rattle.tup_core.specs.Run.{claims}
 use Rattle.tup_update.specs.Names.{name_at}
+use Rattle.tup_update.specs.Run.{OfBads, StopsBy}
 use Rattle.tup_update.proofs.Commands.{all_some, ran_commands}
 use Rattle.tup_update.proofs.run.told.Goals as goal
 
@@ -33,3 +34,8 @@ returns-clause-ran g c =
     let history = c.args.parts.history in
     ran_commands plan names c.requires.names c.requires.range history (c.claimed_once.ensures.reached plan c.requires.run.0 history c.requires.run.1) c.claimed.result
     (subst (λ (events : List CoreEvent). map Some c.claimed.result ≡ map (name_at names) (claims events)) c.as_slice-history.ensures c.claimed.ensures)
+
+pub returns-clause-stops : goal.returns-clause-stops
+returns-clause-stops g c =
+    let plan = c.args.plan.now in
+    subst (λ (events : List CoreEvent). OfBads plan events (StopsBy plan.rules c.args.drained c.stopped_by-stopped.result)) c.as_slice-history.ensures c.stopped_by-stopped.ensures

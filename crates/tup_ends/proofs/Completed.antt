@@ -1,0 +1,168 @@
+-- A kept graph that has run all of its rules, over a tree that is as it was seen, is that of a finished project.
+use Rattle.std.proofs.Common.{◌≡◌, ◌≢◌, ℕ, Bool, true, false, is_some, List, [], Option, None, Some, Ok, All, Contains, map, refl, sym, ap, ◌∙◌}
+use Rattle.std.specs.FinMap as finite
+use Rattle.std.specs.Option.{option_map}
+use Rattle.std.proofs.lemmas.Bool.{true≢false}
+use Rattle.std.proofs.lemmas.List.Elements.{All-contains}
+use Rattle.std.proofs.lemmas.Option.{none-some, same_Some}
+use Rattle.tup_path.specs.Name.{Names, Content}
+use Rattle.tup_path.specs.Order.{by_names-total, by_names-antisymmetric}
+use Rattle.tup_path.specs.Tree.{Tree}
+use Rattle.tup_site.specs.Known.{IsKnown, KnowsTree}
+use Rattle.tup_stamp.specs.declared.Stamp.{Stamp}
+use Rattle.tup_stamp.specs.Stamp.{stamp}
+use Rattle.tup_rule.specs.Rule.{among, is_generated, writes}
+use Rattle.tup_rule.specs.declared.rule.Rule.{Rule}
+use Rattle.tup_rule.proofs.Laws.{is_generated-at, maker-Some}
+use Rattle.tup_runner.specs.Next.{Next}
+use Rattle.tup_access.specs.Judge.{judge}
+use Rattle.tup_access.proofs.Outputs.{judge-LeavesOutputs}
+use Rattle.tup_clean.specs.Clean.{Build, clean, succeeds}
+use Rattle.tup_clean.proofs.Among.{is_generated-maker}
+use Rattle.tup_project.specs.Project.{ComeTo}
+use Rattle.tup_record.specs.declared.owned.OwnedState.TheVariants.{Written}
+use Rattle.tup_record.specs.declared.run.RunRecord.{RunRecord}
+use Rattle.tup_graph.specs.Graph.{GraphState, is_flagged, is_owned}
+use Rattle.tup_graph.specs.Kept.{HasSeenStamps, IsKept, IsRuleAt, IsUnflagged}
+use Rattle.tup_graph.specs.Reach.{stamp_in}
+use Rattle.tup_graph.specs.declared.owned.Owned.{Owned}
+use Rattle.tup_graph.proofs.Keeping.{has_run, names_of}
+use Rattle.tup_ledger.specs.Sources.{sources_of}
+use Rattle.tup_law_graph.proofs.Reached.{none_left}
+use Rattle.tup_core.specs.Planned.{IsPlanned, clean_of}
+use Rattle.tup_core.specs.declared.plan.Plan.{Plan}
+use Rattle.tup_core.proofs.CleanRuns.{contents_clean, files_clean, succeeds_clean}
+use Rattle.tup_board.proofs.Openings.{stamps_of_entries}
+use Rattle.tup_law_board.proofs.Runs.{stamp_written}
+use Rattle.tup_law_phases.specs.Language.{tupfiles}
+use Rattle.tup_law_phases.specs.Planning.{kept_of}
+use Rattle.tup_law_phases.proofs.Planned.{planned}
+use Rattle.tup_law_phases.proofs.Seen.{core_knows, core_knows_tree, is_for_core}
+use Rattle.tup_law_phases.proofs.Tupfiles.{is_language}
+use Rattle.tup_promise.specs.Finished.{IsAsWritten, IsFinished}
+
+module _ (next : Next) (known : List Content) (h : GraphState) (tree : Tree) (kept : IsKept next tupfiles known h) (none : (number : ℕ) → is_flagged h number ≡ false)
+    (seen : (path : Names) → finite.get h.seen path ≡ stamp_in tree path) (made : (path : Names) (owned : Owned) → finite.get h.owned path ≡ Some owned → owned.maker ≢ None)
+    (apart : IsKnown known) (knows : KnowsTree known tree) where
+  abbrev sources : Tree
+  sources = sources_of h tree
+
+  abbrev built : Build
+  built = clean next h.rules sources
+
+  -- ---- a run of the core in which nothing happens
+
+  -- a plan that runs nothing
+  abbrev idle : Plan
+  idle = record { rules = h.rules; reach = []; keep_going = false }
+
+  abbrev files : List (Names × Stamp)
+  files = finite.entries h.seen
+
+  is_planned : IsPlanned next known (kept_of h) tree idle files
+  is_planned =
+      planned next tupfiles known h kept is_language.1 (λ number flagged. absurd (true≢false (sym flagged ∙ none number))) tree idle files seen made refl (λ at. sym (none at))
+      (stamps_of_entries h.seen) (core_knows known apart) (λ path content here. core_knows_tree known tree path content knows here)
+
+  same_build : clean_of next (kept_of h) tree idle ≡ built
+  same_build = ap (clean next h.rules) (is_for_core h tree)
+
+  builds : succeeds built ≡ true
+  builds = ap succeeds (sym same_build) ∙ succeeds_clean next known (kept_of h) tree idle files is_planned [] tt tt (λ at. refl)
+
+  -- ---- the files are those of the clean build
+  stamps_alike : (path : Names) → stamp_in tree path ≡ stamp_in built.tree path
+  stamps_alike path =
+      sym (seen path) ∙ sym (stamps_of_entries h.seen path) ∙ files_clean next known (kept_of h) tree idle files is_planned [] tt tt (λ at. refl) path
+      ∙ ap (λ (b : Build). stamp_in b.tree path) same_build
+
+  built_known : (path : Names) (content : Content) → finite.get built.tree path ≡ Some content → Contains known content
+  built_known path content there =
+      contents_clean next known (kept_of h) tree idle files is_planned [] tt tt (λ at. refl) path content (ap (λ (b : Build). finite.get b.tree path) same_build ∙ there)
+
+  same_file : (path : Names) → finite.get tree path ≡ finite.get built.tree path
+  same_file path = by (finite.get tree path) (finite.get built.tree path) refl refl (stamps_alike path)
+    where
+      by : (one other : Option Content) → finite.get tree path ≡ one → finite.get built.tree path ≡ other → option_map stamp one ≡ option_map stamp other → one ≡ other
+      by None None here there same = refl
+      by None (Some other) here there same = absurd (none-some (stamp other) same)
+      by (Some one) None here there same = absurd (none-some (stamp one) (sym same))
+      by (Some one) (Some other) here there same =
+          ap Some (core_knows known apart one other (core_knows_tree known tree path one knows here) (built_known path other there) (same_Some (stamp one) (stamp other) same))
+
+  same_tree : tree ≡ built.tree
+  same_tree = finite.same_map by_names-total by_names-antisymmetric tree built.tree same_file
+
+  -- ---- owned paths
+
+  -- the rule that makes an owned path
+  maker_is : (path : Names) (owner : Owned) → finite.get h.owned path ≡ Some owner → (number : ℕ) × (rule : Rule) × IsRuleAt h number rule × (writes rule path ≡ true)
+  maker_is path owner here = by owner.maker refl
+    where
+      by : (maker : Option ℕ) → owner.maker ≡ maker → (number : ℕ) × (rule : Rule) × IsRuleAt h number rule × (writes rule path ≡ true)
+      by None is = absurd (made path owner here is)
+      by (Some number) is = (let it = kept.owners.makers path owner number here is in (number, it.0, it.1, it.2))
+
+  owned_is : (path : Names) → is_owned h path ≡ is_generated h.rules path
+  owned_is path = by (finite.get h.owned path) refl (is_generated h.rules path) refl
+    where
+      by : (found : Option Owned) → finite.get h.owned path ≡ found → (generated : Bool) → is_generated h.rules path ≡ generated → is_some found ≡ generated
+      by (Some owner) here true is = refl
+      by (Some owner) here false is =
+          (let maker = maker_is path owner here in absurd (true≢false (sym (is_generated-at h.rules path maker.0 maker.1 maker.2 maker.3) ∙ is)))
+      by None here true is =
+          (let it = is_generated-maker h.rules path is in
+          let maker = maker-Some h.rules path it.0 it.1 in
+          let owner = kept.owners.made it.0 maker.rule path maker.here maker.writes_it in
+          absurd (none-some owner.0 (sym here ∙ owner.1)))
+      by None here false is = refl
+
+  -- what a run wrote to an output
+  wrote_at : (number : ℕ) (rule : Rule) (run : RunRecord) (path : Names) → IsRuleAt h number rule → finite.get h.runs number ≡ Some run → writes rule path ≡ true
+      → (file : Names × Stamp) × Contains run.writes file × (file.0 ≡ path)
+  wrote_at number rule run path here ran output =
+      let honest = kept.records.runs number rule run here ran in
+      let names : map (λ (f : Names × Stamp). f.0) run.writes ≡ rule.outputs =
+      ap (map (λ (f : Names × Stamp). f.0)) (sym honest.files) ∙ names_of (judge rule honest.ended).files ∙ (judge-LeavesOutputs rule honest.ended).good honest.good in
+      let found = stamp_written run.writes (λ _. None) path (ap (among path) names ∙ output) in
+      (found.0, found.1, found.2)
+
+  -- a path has the state and the file that a run left there which still stands
+  written_so : (path : Names) (owner : Owned) (number : ℕ) (rule : Rule) (run : RunRecord) (file : Names × Stamp) → IsUnflagged h number rule → finite.get h.runs number ≡ Some run → HasSeenStamps h rule run
+      → Contains run.writes file → file.0 ≡ path → finite.get h.owned path ≡ Some owner → IsAsWritten tree path owner
+  written_so path owner number rule run file unflagged ran has wrote same here = by (kept.written number rule run unflagged ran)
+    where
+      stands : finite.get h.seen file.0 ≡ Some file.1
+      stands = All-contains (λ (f : Names × Stamp). finite.get h.seen f.0 ≡ Some f.1) run.writes file has.wrote wrote
+
+      as_owned : (owned : Owned) → finite.get h.owned file.0 ≡ Some owned → owned.state ≡ Written file.1 → owner.state ≡ Written file.1
+      as_owned owned there state = ap (λ (o : Owned). o.state) (same_Some owner owned (sym here ∙ ap (finite.get h.owned) (sym same) ∙ there)) ∙ state
+
+      by : All (λ (f : Names × Stamp). (owned : Owned) × (finite.get h.owned f.0 ≡ Some owned) × (owned.state ≡ Written f.1)) run.writes → IsAsWritten tree path owner
+      by all =
+          let one = All-contains (λ (f : Names × Stamp). (owned : Owned) × (finite.get h.owned f.0 ≡ Some owned) × (owned.state ≡ Written f.1)) run.writes file all wrote in
+          (file.1, as_owned one.0 one.1 one.2, sym (seen path) ∙ ap (finite.get h.seen) (sym same) ∙ stands)
+
+  written_is : (path : Names) (owner : Owned) → finite.get h.owned path ≡ Some owner → IsAsWritten tree path owner
+  written_is path owner here = by (maker_is path owner here)
+    where
+      by_run : (number : ℕ) (rule : Rule) → IsUnflagged h number rule → writes rule path ≡ true → (run : RunRecord) × (finite.get h.runs number ≡ Some run) × HasSeenStamps h rule run → IsAsWritten tree path owner
+      by_run number rule unflagged output (run, ran, has) =
+          let file = wrote_at number rule run path unflagged.here ran output in
+          written_so path owner number rule run file.0 unflagged ran has file.1 file.2 here
+
+      by : (number : ℕ) × (rule : Rule) × IsRuleAt h number rule × (writes rule path ≡ true) → IsAsWritten tree path owner
+      by (number, rule, there, output) =
+          by_run number rule (record { here = there; unflagged = none number }) output (has_run next tupfiles known h kept number rule (record { here = there; unflagged = none number }))
+
+  pub finished : h.created ≡ finite.empty → ComeTo sources (Ok h.rules) → IsFinished next sources h tree
+  finished created come = record {
+    sources_are = refl;
+    rules = come;
+    builds = builds;
+    files = same_tree;
+    owned = owned_is;
+    written = written_is;
+    created = created;
+    none_due = λ rules at asked reached. none_left next tupfiles known h tree kept (λ number rule here. none number) seen sources rules come asked at reached;
+  }

@@ -1,0 +1,9 @@
+pub mod Completed
+pub mod Settled
+pub mod Done
+pub mod Names
+pub mod Due
+pub mod Quiet
+pub mod Staying
+pub mod Blame
+pub mod Stated

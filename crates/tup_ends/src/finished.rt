@@ -1,0 +1,111 @@
+//! An update that is done leaves the files of a clean build.
+ghost use Rattle.std.specs.Prelude.{◌≡◌, ◌≢◌, ℕ, false, List, None, Ok, Some, IsTrue, slice_get};
+ghost use Rattle.std.specs.FinMap as finite;
+ghost use Rattle.std.specs.List.{IsDistinct};
+ghost use Rattle.tup_path.specs.Name.{Names, Content};
+ghost use Rattle.tup_path.specs.Order.{same_path};
+ghost use Rattle.tup_path.specs.Tree.{Tree};
+ghost use Rattle.tup_site.specs.Known.{IsKnown, KnowsTree};
+ghost use Rattle.tup_site.specs.World.{World};
+ghost use Rattle.tup_rule.specs.declared.rule.Rule.{Rule};
+ghost use Rattle.tup_runner.specs.Next.{Next};
+ghost use Rattle.tup_project.specs.Project.{ComeTo};
+ghost use Rattle.tup_table.specs.Table.{entries_in};
+ghost use Rattle.tup_graph.specs.Graph.{GraphState, is_flagged};
+ghost use Rattle.tup_graph.specs.Kept.{IsKept};
+ghost use Rattle.tup_graph.specs.Opening.{IsGraphOf};
+ghost use Rattle.tup_graph.specs.Reach.{stamp_in};
+ghost use Rattle.tup_graph.specs.declared.owned.Owned.{Owned};
+ghost use Rattle.tup_stored_graph.specs.Held.{is_fresh, Held};
+ghost use Rattle.tup_ledger.specs.Sources.{sources_of};
+ghost use Rattle.tup_core.specs.Sound.{IsAcyclic};
+ghost use Rattle.tup_board.specs.Board.{BoardState, plan_of, state};
+ghost use Rattle.tup_board.specs.Sound.{IsSound};
+ghost use Rattle.tup_law_site.specs.Over.{IsKeptNow};
+ghost use Rattle.tup_law_phases.specs.Language.{tupfiles};
+ghost use Rattle.tup_promise.specs.Finished.{AreFilesSettled, ExactlyTheFiles, IsFinished};
+ghost use Rattle.tup_promise.specs.Prepared.{IsPrepared};
+
+use tup_runner::Runner;
+use tup_site::Site;
+
+/// A law: a kept graph of which no rule is flagged, and a tree that is as the graph has seen it, are those of a finished
+/// project, where its rules are those that the sources ask for, no folder is to be read and each owned path is made by a rule.
+pub fn finished_is_clean()
+    ensures { (next : Next) (known : List Content) (h : GraphState) (tree : Tree)
+        → IsKept next tupfiles known h → ((number : ℕ) → is_flagged h number ≡ false)
+        → ((path : Names) → finite.get h.seen path ≡ stamp_in tree path)
+        → ((path : Names) (owned : Owned) → finite.get h.owned path ≡ Some owned
+        → owned.maker ≢ None)
+        → h.created ≡ finite.empty → ComeTo (sources_of h tree) (Ok h.rules)
+        → IsKnown known → KnowsTree known tree → IsFinished next (sources_of h tree) h tree }
+{}
+
+/// A law: an update that has no rule to run, once its graph is up to date, leaves exactly the files of a clean build.
+pub fn prepared_is_finished<S: Site>(site: &S)
+    ensures { (next : Next) (first : World) (since : ℕ) (graph : Held) → IsTrue S.tells
+        → IsPrepared S.Site.own next first since graph site.now
+        → ((number : ℕ) → is_flagged graph.nodes number ≡ false)
+        → ExactlyTheFiles next first (S.world site.now) None }
+{
+    let _ = site;
+}
+
+/// A law: so does one whose board has no pending rule at its end, where the board was made once the graph was up to date, and no
+/// rule names an output twice.
+pub fn done_is_finished<S: Site, R: Runner>(site: &S, runner: &R)
+    ensures { (board : BoardState S) (first : World) (since : ℕ) → IsTrue S.tells → IsTrue R.tells
+        → IsSound S.Site.own R.Runner.own board
+        → (IsTrue (is_fresh board.graph)
+        → IsGraphOf (entries_in board.graph.table) board.graph.nodes)
+        → IsPrepared S.Site.own R.next first since board.opening.graph board.opening.site
+        → ((number : ℕ) (rule : Rule) → slice_get (plan_of board).rules number ≡ Some rule
+        → IsDistinct same_path rule.outputs)
+        → (IsAcyclic (plan_of board).rules → (number : ℕ) → (state board).pending number ≡ false)
+        → ExactlyTheFiles R.next first (S.world board.site) None }
+{
+    let _ = site;
+    let _ = runner;
+}
+
+/// A law: and a crash leaves these files, where an update has no rule to run once its graph is up to date.
+pub fn prepared_is_settled<S: Site>(site: &S)
+    ensures { (next : Next) (first : World) (since : ℕ) (graph : Held) → IsTrue S.tells
+        → IsPrepared S.Site.own next first since graph site.now
+        → ((number : ℕ) → is_flagged graph.nodes number ≡ false)
+        → AreFilesSettled S.Site.own site.now }
+{
+    let _ = site;
+}
+
+/// A law: so it does at the end of a board that has no pending rule.
+pub fn done_is_settled<S: Site, R: Runner>(site: &S, runner: &R)
+    ensures { (board : BoardState S) (first : World) (since : ℕ) → IsTrue S.tells → IsTrue R.tells
+        → IsSound S.Site.own R.Runner.own board
+        → (IsTrue (is_fresh board.graph)
+        → IsGraphOf (entries_in board.graph.table) board.graph.nodes)
+        → IsPrepared S.Site.own R.next first since board.opening.graph board.opening.site
+        → ((number : ℕ) (rule : Rule) → slice_get (plan_of board).rules number ≡ Some rule
+        → IsDistinct same_path rule.outputs)
+        → (IsAcyclic (plan_of board).rules → (number : ℕ) → (state board).pending number ≡ false)
+        → AreFilesSettled S.Site.own board.site }
+{
+    let _ = site;
+    let _ = runner;
+}
+
+/// A law: and then the site is kept as it is.
+pub fn done_leaves_kept<S: Site, R: Runner>(site: &S, runner: &R)
+    ensures { (board : BoardState S) (first : World) (since : ℕ) → IsTrue S.tells → IsTrue R.tells
+        → IsSound S.Site.own R.Runner.own board
+        → (IsTrue (is_fresh board.graph)
+        → IsGraphOf (entries_in board.graph.table) board.graph.nodes)
+        → IsPrepared S.Site.own R.next first since board.opening.graph board.opening.site
+        → ((number : ℕ) (rule : Rule) → slice_get (plan_of board).rules number ≡ Some rule
+        → IsDistinct same_path rule.outputs)
+        → (IsAcyclic (plan_of board).rules → (number : ℕ) → (state board).pending number ≡ false)
+        → IsKeptNow S.Site.own R.next tupfiles (S.known board.site) board.site }
+{
+    let _ = site;
+    let _ = runner;
+}

@@ -1,0 +1,63 @@
+-- What the phases make of a site that was kept (own).
+use Rattle.std.specs.Prelude.{◌≡◌, ◌↔◌, ℕ, ◌≤◌, true, List, [], Option}
+use Rattle.std.specs.FinMap as finite
+use Rattle.tup_path.specs.Name.{Names, Content}
+use Rattle.tup_stamp.specs.declared.Stamp.{Stamp}
+use Rattle.tup_site.specs.World.{World, TreeStays}
+use Rattle.tup_site.specs.declared.site.Site.{Ghosts as Site}
+use Rattle.tup_runner.specs.Next.{Next}
+use Rattle.tup_graph.specs.Graph.{GraphState, is_flagged}
+use Rattle.tup_graph.specs.Kept.{IsGraphIn, IsKeptSite}
+use Rattle.tup_graph.specs.Scan.{IsScanned}
+use Rattle.tup_refresh.specs.declared.refreshed.Refreshed.{Refreshed}
+use Rattle.tup_law_phases.specs.Language.{tupfiles}
+use Rattle.tup_promise.specs.Kept.{AsksFor}
+use Rattle.tup_promise.specs.Needed.{IsDue}
+
+-- ---- the site
+
+-- a phase that changes no file and learns no content
+pub record LeavesFiles {S : Type 0} (site : Site S) (old new : S) : Type 0 where
+  pub later : site.moment old ≤ site.moment new
+  pub tree : TreeStays (site.world old) (site.world new)
+  pub known : site.known new ≡ site.known old
+
+-- what a crash since a moment may leave is kept, beside the world that was there first
+pub record IsKeptSince {S : Type 0} (site : Site S) (next : Next) (first : World) (since : ℕ) (at : S) : Type 0 where
+  pub began : since ≤ site.moment at
+  pub kept : IsKeptSite next tupfiles (site.known at) first (site.left_since at since)
+
+-- whatever was kept before a phase is kept after it
+abbrev pub KeepsOn : {S : Type 0} → Site S → S → S → Type 0
+KeepsOn {S} site old new = (next : Next) (first : World) (since : ℕ) → IsKeptSince site next first since old → IsKeptSince site next first since new
+
+-- ---- the graph
+
+-- a graph is the one that a scan leaves of another
+abbrev pub IsScannedFrom : GraphState → GraphState → Type 0
+IsScannedFrom old new = (files : List (Names × Stamp)) × (config : Option Content) × IsScanned old files config new
+
+-- the graph of a world was scanned, and since then no file changed
+pub record IsNoted (first now : World) (g : GraphState) : Type 0 where
+  pub was : GraphState
+  pub stored : IsGraphIn first.store was
+  pub scanned : IsScannedFrom was g
+  pub tree : TreeStays first now
+
+-- no folder is to be read, the rules are those that the sources of a world ask for, and just those that are due there are flagged
+pub record IsBrought (first : World) (g : GraphState) : Type 0 where
+  pub created : g.created ≡ finite.empty
+  pub rules : AsksFor first g.rules
+  pub due : (number : ℕ) → (is_flagged g number ≡ true) ↔ IsDue first g.rules number
+
+-- a refresh read no folder and lost none, and the graph waits for none
+pub record BringsNothing (g : GraphState) (given : Refreshed) : Type 0 where
+  pub created : g.created ≡ finite.empty
+  pub fresh : given.fresh ≡ []
+  pub gone : given.gone ≡ []
+
+-- the rules stay, which of them are to be run, and which folders are to be read
+pub record StaysBrought (old new : GraphState) : Type 0 where
+  pub created : new.created ≡ old.created
+  pub rules : new.rules ≡ old.rules
+  pub flags : new.flags ≡ old.flags

@@ -1,0 +1,38 @@
+-- What an update leaves whenever a crash comes (own).
+use Rattle.std.specs.Prelude.{◌≡◌, ◌⊎◌, true, List}
+use Rattle.tup_path.specs.Name.{Names}
+use Rattle.tup_site.specs.World.{World}
+use Rattle.tup_site.specs.declared.site.Site.{Ghosts as Site}
+use Rattle.tup_rule.specs.Rule.{is_generated}
+use Rattle.tup_rule.specs.declared.rule.Rule.{Rule}
+use Rattle.tup_runner.specs.Next.{Next}
+use Rattle.tup_graph.specs.Graph.{is_owned}
+use Rattle.tup_graph.specs.Kept.{IsKeptSite}
+use Rattle.tup_ledger.specs.Sources.{sources_of}
+use Rattle.tup_law_site.specs.Over.{LeftNow}
+use Rattle.tup_law_phases.specs.Language.{tupfiles}
+use Rattle.tup_promise.specs.Kept.{AsksFor, OfGraph}
+
+-- whatever a crash since the beginning of an update may leave has the sources of the beginning; so has the site as it is,
+-- which a crash may leave too
+abbrev pub SourcesStay : {S : Type 0} → Site S → S → S → Type 0
+SourcesStay site old new =
+    (w : World) → site.left_since new (site.moment old) w
+    → OfGraph (site.world old) (λ g. OfGraph w (λ h. sources_of h w.tree ≡ sources_of g (site.world old).tree))
+
+-- a path is owned in a site, or in what a crash now may leave of it
+abbrev pub IsOwnedIn : {S : Type 0} → Site S → S → Names → Type 0
+IsOwnedIn site at path = (w : World) × LeftNow site at w × OfGraph w (λ g. is_owned g path ≡ true)
+
+-- a path is an output of a rule that the sources of a world ask for
+abbrev pub IsAskedOutput : World → Names → Type 0
+IsAskedOutput w path = (rules : List Rule) × AsksFor w rules × (is_generated rules path ≡ true)
+
+-- what an update leaves, whenever since its beginning a crash came
+pub record SourcesAndCrashes {S : Type 0} (site : Site S) (next : Next) (old new : S) : Type 0 where
+  -- it is kept and has the sources of the beginning; an owned path that isn't unsure holds what it held then, or what is
+  -- written of it
+  pub kept : IsKeptSite next tupfiles (site.known new) (site.world old) (site.left_since new (site.moment old))
+  -- no path comes to be owned but an output of a rule that the sources ask for
+  pub owned : (w : World) → site.left_since new (site.moment old) w
+      → OfGraph w (λ g. (path : Names) → is_owned g path ≡ true → IsOwnedIn site old path ⊎ IsAskedOutput (site.world old) path)

@@ -1,0 +1,164 @@
+-- What an update promises once its rules were run.
+use Rattle.std.proofs.Common.{◌≡◌, inl, inr, ℕ, Bool, List, [], ◌∷◌, ◌++◌, true, false, Option, Some, None, refl, sym, ap, subst, ◌∙◌}
+use Rattle.std.specs.FinMap as finite
+use Rattle.std.specs.Option.{IfSome, IsSome, is_some}
+use Rattle.std.specs.Ordering.{nat_cmp}
+use Rattle.std.specs.Prelude.{IsTrue}
+use Rattle.std.proofs.lemmas.Bool.{true≢false}
+use Rattle.std.proofs.lemmas.Option.{none-some, same_Some}
+use Rattle.tup_site.specs.World.{World}
+use Rattle.tup_site.specs.declared.fault.SiteFailed.{SiteFailed}
+use Rattle.tup_site.specs.declared.site.Site.{Ghosts as Site}
+use Rattle.tup_rule.specs.declared.rule.RuleName.{RuleName}
+use Rattle.tup_runner.specs.declared.runner.Runner.{Ghosts as Runner}
+use Rattle.tup_graph.specs.Graph.{GraphState, is_flagged}
+use Rattle.tup_stored_graph.specs.Held.{Held}
+use Rattle.tup_runner.specs.Next.{Next}
+use Rattle.tup_rule.specs.declared.rule.Rule.{Rule}
+use Rattle.tup_access.specs.declared.verdict.Verdict.{Verdict}
+use Rattle.tup_core.specs.declared.event.Cause.TheVariants as cause
+use Rattle.tup_core.specs.declared.plan.Plan.{Plan}
+use Rattle.tup_core.specs.Step.{State}
+use Rattle.tup_board.specs.Calls.{Drains}
+use Rattle.tup_board.specs.declared.answers.Drained.{Drained}
+use Rattle.tup_board.specs.declared.answers.Drained.TheVariants.{Done, Left}
+use Rattle.tup_promise.specs.Crashes.{SourcesStay}
+use Rattle.tup_promise.specs.Finished.{AreFilesSettled, ExactlyTheFiles}
+use Rattle.tup_promise.specs.Needed.{FlagsWhatWasDue, NamesAllDue, NamesAllThatCan, RunsAll, RunsWhatIsNeeded}
+use Rattle.tup_promise.specs.Prepared.{IsPrepared}
+use Rattle.tup_promise.specs.declared.stop.Stop.{Stop}
+use Rattle.tup_promise.specs.declared.stop.Stop.TheVariants as stop
+use Rattle.tup_phases.specs.Prepared.{StopsBefore}
+use Rattle.tup_ends.proofs.Done.{none_due}
+use Rattle.tup_ends.proofs.Due.{none_runs}
+use Rattle.tup_ends.proofs.Staying.{sources_kept}
+use Rattle.tup_update.specs.Promised.{KeepsSources, LosesNothing, Promises, PromisesOver}
+use Rattle.tup_update.specs.Run.{IsEnd, StopsAtBad, StopsBy, StopsRunning}
+use Rattle.tup_update.proofs.FirstBad.{HasBad}
+
+-- only an update that isn't stopped owes the files
+pub files_by : (next : Next) (old new : World) (stopped : Option Stop) → (stopped ≡ None → ExactlyTheFiles next old new None) → ExactlyTheFiles next old new stopped
+files_by next old new None files = files refl
+files_by next old new (Some stop) files = tt
+
+-- none of the bad verdicts is there
+none_bad : (bad : ℕ → Option Verdict) → ((number : ℕ) → bad number ≡ None) → (number : ℕ) → IsSome (bad number) → ⊥
+none_bad bad none number some = cc (subst IsSome (none number) some)
+
+-- an update that nothing stopped is done with its board
+pub done_by : (plan : Plan) (end : State) (drained : Drained) (stopped : Option Stop) → HasBad plan end → Drains end drained → StopsBy plan.rules drained stopped end.bad → stopped ≡ None → drained ≡ Done
+done_by plan end Done stopped has drains stops none = refl
+done_by plan end (Left cause.Bad) stopped has (inl is) stops none =
+    let some = has is in absurd (none_bad end.bad (subst (λ (s : Option Stop). StopsBy plan.rules (Left cause.Bad) s end.bad) none stops) some.1 some.2)
+done_by plan end (Left cause.Bad) stopped has (inr (going, same, some)) stops none =
+    absurd (none_bad end.bad (subst (λ (s : Option Stop). StopsBy plan.rules (Left cause.Bad) s end.bad) none stops) some.0 some.1)
+done_by plan end (Left cause.Site) stopped has drains stops none = absurd (cc (stops, none))
+done_by plan end (Left (cause.TooLarge bytes)) stopped has drains stops none = absurd (cc (stops, none))
+done_by plan end (Left cause.Full) stopped has drains stops none = absurd (cc (stops, none))
+done_by plan end (Left cause.Run) stopped has drains stops none = absurd (cc (stops, none))
+done_by plan end (Left cause.Memory) stopped has drains stops none = absurd (cc (stops, none))
+
+-- ---- an update that ran none, and left the site as it was prepared
+-- what it leaves flagged was due
+abbrev pub LeavesDue : {S : Type 0} → Site S → Next → Held → S → Type 0
+LeavesDue site next graph at = IsTrue site.tells → (first : World) (since : ℕ) → IsPrepared site next first since graph at → FlagsWhatWasDue first (site.world at)
+
+-- it owes no rule where it stopped for the outside
+runs_outside : (next : Next) (keep_going : Bool) (first : World) (ran : List RuleName) (why : SiteFailed) → RunsAll next keep_going first ran (Some (stop.Outside why))
+runs_outside next true first ran why = tt
+runs_outside next false first ran why = tt
+
+pub unchanged : {S R : Type 0} (site : Site S) (runner : Runner R) (keep_going : Bool) (graph : Held) (old new : S) (ran : List RuleName) (why : SiteFailed) (stopped : Option Stop) → LeavesDue site runner.next graph old
+    → new ≡ old → ran ≡ [] → stopped ≡ Some (stop.Outside why) → PromisesOver site runner keep_going graph old new ran stopped
+unchanged {S} site runner keep_going graph old new ran why stopped due same none is = λ first since tells means prepared.
+    subst (λ (at : S). Promises site runner keep_going first since at ran stopped) (sym same)
+    (subst (λ (names : List RuleName). Promises site runner keep_going first since old names stopped) (sym none)
+    (subst (λ (s : Option Stop). Promises site runner keep_going first since old [] s) (sym is) (record {
+      crash = prepared.over.kept;
+      files = tt;
+      needed = record { runs = none_runs runner.next keep_going first (Some (stop.Outside why)) (runs_outside runner.next keep_going first [] why); flagged = due tells first since prepared };
+      kept = λ none. absurd (none-some (stop.Outside why) (sym none));
+      settled = λ none. absurd (none-some (stop.Outside why) (sym none));
+    })))
+
+-- and so it is where none had to be run
+pub nothing_due : {S R : Type 0} (site : Site S) (runner : Runner R) (keep_going : Bool) (graph : Held) (at : S) (ran : List RuleName) → LeavesDue site runner.next graph at → ran ≡ [] → ((number : ℕ) → is_flagged graph.nodes number ≡ false)
+    → ((first : World) (since : ℕ) → IsTrue site.tells → IsPrepared site runner.next first since graph at → ExactlyTheFiles runner.next first (site.world at) None)
+    → ((first : World) (since : ℕ) → IsTrue site.tells → IsPrepared site runner.next first since graph at → AreFilesSettled site at) → PromisesOver site runner keep_going graph at at ran None
+nothing_due site runner keep_going graph at ran due none unflagged files settled = λ first since tells means prepared.
+    subst (λ (names : List RuleName). Promises site runner keep_going first since at names None) (sym none) (record {
+      crash = prepared.over.kept;
+      files = files first since tells prepared;
+      needed = record { runs = none_runs runner.next keep_going first None (none_due site runner.next first since graph at prepared unflagged); flagged = due tells first since prepared };
+      kept = λ none. prepared.kept;
+      settled = λ none. settled first since tells prepared;
+    })
+
+-- its sources are kept
+pub unchanged_sources : {S : Type 0} (site : Site S) (graph : Held) (at new : S) → new ≡ at → KeepsSources site graph at new
+unchanged_sources {S} site graph at new same = λ next old tells prepared. subst (λ (one : S). SourcesStay site old one) (sym same) (sources_kept site next (site.known at) old at prepared.over.kept)
+
+-- ---- no rule is flagged
+pub no_flags : (g : GraphState) → finite.entries g.flags ≡ [] → (number : ℕ) → is_flagged g number ≡ false
+no_flags g none number = ap is_some (finite.get-entries g.flags number ∙ ap (finite.find nat_cmp number) none)
+
+-- ---- which rules were run
+-- an update ran what its answer says, whether it was to go on at a bad verdict or not
+pub runs_all_by : (next : Next) (keep_going : Bool) (first : World) (ran : List RuleName) (stopped : Option Stop) → (stopped ≡ None → NamesAllDue first ran)
+    → ((name : RuleName) (verdict : Verdict) → stopped ≡ Some (stop.Bad name verdict) → keep_going ≡ true → NamesAllThatCan next first ran)
+    → ((name : RuleName) (verdict : Verdict) → stopped ≡ Some (stop.Bad name verdict) → keep_going ≡ false → (front : List RuleName) × (ran ≡ front ++ name ∷ []))
+    → RunsAll next keep_going first ran stopped
+runs_all_by next keep_going first ran None due can last = due refl
+runs_all_by next true first ran (Some (stop.Bad name verdict)) due can last = can name verdict refl refl
+runs_all_by next false first ran (Some (stop.Bad name verdict)) due can last = last name verdict refl refl
+runs_all_by next keep_going first ran (Some stop.NoStore) due can last = tt
+runs_all_by next keep_going first ran (Some (stop.BadStore offset)) due can last = tt
+runs_all_by next keep_going first ran (Some (stop.Sources fault)) due can last = tt
+runs_all_by next keep_going first ran (Some (stop.UserFile path written found)) due can last = tt
+runs_all_by next keep_going first ran (Some stop.Run) due can last = tt
+runs_all_by next keep_going first ran (Some stop.Full) due can last = tt
+runs_all_by next keep_going first ran (Some (stop.Outside failed)) due can last = tt
+
+-- a bad verdict is told just as the board has it
+pub stops_at_bad : (rules : List Rule) (bad : ℕ → Option Verdict) (drained : Drained) (stopped : Option Stop) → StopsBy rules drained stopped bad → (name : RuleName) (verdict : Verdict)
+    → stopped ≡ Some (stop.Bad name verdict) → StopsAtBad rules bad name verdict
+stops_at_bad rules bad Done stopped stops name verdict is = subst (IsEnd rules bad) is stops
+stops_at_bad rules bad (Left cause.Bad) stopped stops name verdict is = subst (IsEnd rules bad) is stops
+stops_at_bad rules bad (Left cause.Site) stopped stops name verdict is = absurd (cc (stops, is))
+stops_at_bad rules bad (Left (cause.TooLarge bytes)) stopped stops name verdict is = absurd (cc (stops, is))
+stops_at_bad rules bad (Left cause.Full) stopped stops name verdict is = absurd (cc (stops, is))
+stops_at_bad rules bad (Left cause.Run) stopped stops name verdict is = absurd (cc (stops, is))
+stops_at_bad rules bad (Left cause.Memory) stopped stops name verdict is = absurd (cc (stops, is))
+
+-- and where the update was to go on, the core isn't stopped then
+pub goes_on : (plan : Plan) (end : State) (drained : Drained) (stopped : Option Stop) → HasBad plan end → Drains end drained → StopsBy plan.rules drained stopped end.bad
+    → (name : RuleName) (verdict : Verdict) → stopped ≡ Some (stop.Bad name verdict) → plan.keep_going ≡ true → end.stopped ≡ None
+goes_on plan end Done stopped has drains stops name verdict is going = drains.0
+goes_on plan end (Left cause.Bad) stopped has (inl by) stops name verdict is going = absurd (true≢false (sym going ∙ (has by).0))
+goes_on plan end (Left cause.Bad) stopped has (inr (none, same, some)) stops name verdict is going = none
+goes_on plan end (Left cause.Site) stopped has drains stops name verdict is going = absurd (cc (stops, is))
+goes_on plan end (Left (cause.TooLarge bytes)) stopped has drains stops name verdict is going = absurd (cc (stops, is))
+goes_on plan end (Left cause.Full) stopped has drains stops name verdict is going = absurd (cc (stops, is))
+goes_on plan end (Left cause.Run) stopped has drains stops name verdict is going = absurd (cc (stops, is))
+goes_on plan end (Left cause.Memory) stopped has drains stops name verdict is going = absurd (cc (stops, is))
+
+-- ---- an answer of rules that loses nothing is none
+pub none_stopped : (stopped : Option Stop) → IfSome stopped StopsRunning → LosesNothing stopped → stopped ≡ None
+none_stopped None running whole = refl
+none_stopped (Some stop.NoStore) running whole = absurd running
+none_stopped (Some (stop.BadStore offset)) running whole = absurd running
+none_stopped (Some (stop.Sources fault)) running whole = absurd running
+none_stopped (Some (stop.UserFile path written found)) running whole = absurd running
+none_stopped (Some (stop.Bad name verdict)) running whole = absurd whole
+none_stopped (Some stop.Run) running whole = absurd whole
+none_stopped (Some stop.Full) running whole = absurd whole
+none_stopped (Some (stop.Outside why)) running whole = absurd whole
+
+-- one that was stopped before the rules ran none
+pub runs_before : (next : Next) (keep_going : Bool) (w : World) (ran : List RuleName) (by : Stop) → StopsBefore by → ran ≡ [] → RunsWhatIsNeeded next keep_going w ran (Some by)
+runs_before next keep_going w ran by before none =
+    subst (λ (names : List RuleName). RunsWhatIsNeeded next keep_going w names (Some by)) (sym none)
+    (none_runs next keep_going w (Some by)
+    (runs_all_by next keep_going w [] (Some by) (λ e. absurd (none-some by (sym e)))
+    (λ name verdict is going. absurd (subst StopsBefore (same_Some by (stop.Bad name verdict) is) before))
+    (λ name verdict is off. absurd (subst StopsBefore (same_Some by (stop.Bad name verdict) is) before))))
