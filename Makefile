@@ -10,10 +10,11 @@ JOBS ?= $(shell nproc)
 TEXTS := crates.txt HANDLES $(shell find crates -name out -prune -o '(' -name '*.rt' -o -name '*.antt' ')' -print)
 VERSION = $(shell sed -n 's/^const VERSION: &str = "\(.*\)";/\1/p' crates/tup/src/main.rt)
 
-.PHONY: help build runners demo check above rows test edits try shell killed model figures fmt times install uninstall clean
+.PHONY: help look build runners demo check above rows test edits try shell killed model figures fmt times install uninstall clean
 
 help:
 	@echo 'make build      proves and builds the program, and has it print its version; JOBS=2 proves two crates at once (else as many as processors)'
+	@echo 'make look       shows the program in some minutes, in a build without proofs, which is left nowhere'
 	@echo 'make demo       builds the programs and shows them on copies of examples/tree, examples/hello and examples/c'
 	@echo 'make check      proves one crate and what is below it: CRATE=tup_stamp'
 	@echo 'make above      lists the crates that a change of one reaches: CRATE=tup_stamp'
@@ -30,6 +31,11 @@ help:
 	@echo 'make fmt        lays out every crate'
 	@echo 'make times      measures what each crate costs the gate from nothing (an hour and more)'
 	@echo 'make clean      removes what was built and what checks kept in this checkout'
+
+# The interpreter that looks for faults besides isn't waited for.
+look:
+	cd crates/tup && rt try --steps 1 -- demo
+	@echo 'That was `tup demo`: an update of a small project in memory. This build is unproved: `make build` proves it.'
 
 build: $(TUP)
 	$(TUP) --version
@@ -71,6 +77,7 @@ edits:
 try: build
 	sh tests/program.sh $(TUP)
 	sh tests/skip.sh $(TUP)
+	sh tests/user.sh $(TUP)
 
 shell: build runners
 	sh tests/shell.sh $(SH)

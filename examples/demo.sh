@@ -92,22 +92,19 @@ if [ ! -x "$sh" ]; then
     echo "   passed over: there is no tup_sh"
     exit 0
 fi
-# Runs the program that was built: an output has the mode of a new file.
-greet() { cp src/greet "$folder/greet" && chmod +x "$folder/greet" && "$folder/greet"; }
-
 say "the first update"
 update --proc "$sh"
-greet
+src/greet
 
 say "a header is edited that no rule names"
 sed -i 's/Hello/Good day/' lib/words.h
 update --proc "$sh"
-greet
+src/greet
 
 say "another of its name stands earlier on the include path"
 echo '#define GREETING "Good morning"' > src/words.h
 update --proc "$sh"
-greet
+src/greet
 
 say "a header that a rule makes isn't named"
 sed -i 's/ | version.h//' src/Tupfile

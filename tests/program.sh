@@ -34,14 +34,15 @@ same() {
 }
 
 # Runs the program with words: the row's name, its exit number, its lines with a semicolon behind each, the words. Only
-# where a call of the system, or what runs the commands, failed, or no project was begun, it says something on standard error.
+# where a call of the system, or what runs the commands, failed, no project was begun, or a command isn't known, it says something
+# on standard error.
 row() {
     name=$1 status=$2 lines=$3
     shift 3
     found=$("$tup" "$@" 2> "$work/said"; printf 'exit %s' "$?")
     same "$name" "$(printf '%s' "$found" | tr '\n' ';')" "${lines}exit $status"
     case "$status $lines" in
-        7* | 8* | '2 ') ;;
+        7* | 8* | '2 ' | *': status 127;') ;;
         *'no tup project here;') said '`tup init` begins a project here' ;;
         *) same "$name, standard error" "$(cat "$work/said")" "" ;;
     esac
@@ -695,7 +696,7 @@ touch -- '$(X).t' '&&.t' '*.t' '-n.t' '1%.t' '>.t' '\.t' "it's.t" 'x;y.t' '|>.t'
 row "names that a shell would take" 0 "read .;$(printf 'run .: cp %s.t %s.o;' '$(X)' '$(X)' '&&' '&&' '*' '*' -n -n 1% 1% '>' '>' '\' '\' "it's" "it's" 'x;y' 'x;y' '|>' '|>' "$(printf '\303\251')" "$(printf '\303\251')")done: 1 read, 11 run, 0 removed;" upd
 project "$copy"
 mkdir sub && cd sub || exit 1
-row "a folder of a project" 3 'fault: no tup project here;' upd
+row "a folder of a project" 0 "$done_copy" upd
 same "nothing is made there" "$(ls -A)" ''
 echo ho > a && echo "$copy" > Tupfile && "$tup" init > /dev/null
 row "a project in a project" 0 "$done_copy" upd

@@ -5,16 +5,20 @@
 //! tested, and proved to be safe, but it makes no promise of its own.
 #![tactic(auto)]
 
+mod hint;
+mod option_files;
 mod options;
 mod output;
 mod streams;
+mod top;
 mod words;
 
-use options::{NO_SYNC, skip_syncs, syncs};
+use options::Options;
 use output::Output;
 use std::alloc::{AllocError, Global};
 use std::io;
 use std::process::ExitCode;
+use top::Top;
 use tup_fs::{FsSite, Syncs};
 use tup_mini::Mini;
 use tup_path::Text;
@@ -24,9 +28,11 @@ use tup_top::{Order, Status, Word, order_of, tup};
 use words::words;
 
 const HELP: &str = "\
-tup makes the files that the Tupfiles of this folder and of those below it ask for.
+tup makes the files that the Tupfiles of a project ask for. It may be called in any folder of the project.
 
   tup init        begin a project in this folder, once
+  tup init --proc P
+                  begin one in which each command is run through the program P: --proc tup_sh runs shell commands
   tup init --no-sync
                   begin one that is faster: its files are safe if tup is killed, but not if the power is cut
   tup, tup upd    update: remove the files of vanished rules, run the rules that aren't up to date, and no others
@@ -61,91 +67,179 @@ fn answer(rt: HostRuntime, alloc: Global, words: &[Word]) -> u8 {
     match words {
         [word] if word.0.as_str() == "--help" => shown(print!(rt; "{HELP}")),
         [word] if word.0.as_str() == "--version" => shown(println!(rt; "tup {VERSION}")),
-        [init, option, rest @ ..] if init.0.as_str() == "init" && option.0.as_str() == NO_SYNC => {
-            init_without_syncs(rt, alloc, &words[..1], rest)
+        [word, options @ ..] if word.0.as_str() == "init" => {
+            init(rt, alloc, &words[..1], options)
         }
         _ => obey(rt, alloc, words),
     }
 }
 
-/// Begins a project that makes nothing durable: no word may stand behind.
-fn init_without_syncs(rt: HostRuntime, alloc: Global, init: &[Word], rest: &[Word]) -> u8 {
-    if !rest.is_empty() {
-        return told(&rt, Status::Usage { place: 3 });
-    }
-    match run(rt, alloc, init, Syncs::Skipped, Mini::new(alloc)).0 {
-        0 => skip_syncs(rt),
-        status => status,
-    }
-}
-
-/// Carries out an order; only what works on a project asks for its options.
-fn obey(rt: HostRuntime, alloc: Global, words: &[Word]) -> u8 {
-    let program = match order_of(words) {
-        Ok(Order::Upd { program }) => program,
-        Ok(Order::Verify) => None,
-        _ => return run(rt, alloc, words, Syncs::Done, Mini::new(alloc)).0,
+/// Begins a project in the working folder, with these options.
+fn init(rt: HostRuntime, alloc: Global, word: &[Word], options: &[Word]) -> u8 {
+    let Options { syncs, .. } = match option_files::check(rt, alloc, options) {
+        Ok(options) => options,
+        Err(status) => return status,
     };
-    match (syncs(rt), program) {
-        (Err(status), _) => status,
-        (Ok(syncs), Some(program)) => run_through(rt, alloc, words, syncs, &program),
-        (Ok(syncs), None) => run(rt, alloc, words, syncs, Mini::new(alloc)).0,
+    let Ok(here) = Top::here(alloc) else {
+        return told(&rt, Status::Memory);
+    };
+    match run(rt, alloc, word, &here, syncs, Mini::new(alloc)).0 {
+        Status::Done { .. } => option_files::write(rt, alloc, options),
+        status => status.exit(),
     }
 }
 
-/// Has a crew of this one runner carry out the words; gives the exit number, and the runner back.
+/// Carries out an order; only what works on a project looks for it.
+fn obey(rt: HostRuntime, alloc: Global, words: &[Word]) -> u8 {
+    match order_of(words) {
+        Ok(Order::Upd { program }) => update(rt, alloc, words, program),
+        Ok(Order::Verify) => verify(rt, alloc, words),
+        _ => without_project(rt, alloc, words),
+    }
+}
+
+/// Carries out an order that works on no project.
+fn without_project(rt: HostRuntime, alloc: Global, words: &[Word]) -> u8 {
+    let Ok(here) = Top::here(alloc) else {
+        return told(&rt, Status::Memory);
+    };
+    run(rt, alloc, words, &here, Syncs::Done, Mini::new(alloc))
+        .0
+        .exit()
+}
+
+/// Compares the files of the project.
+fn verify(rt: HostRuntime, alloc: Global, words: &[Word]) -> u8 {
+    match project(rt, alloc) {
+        Ok((top, options)) => {
+            let status = run(rt, alloc, words, &top, options.syncs, Mini::new(alloc)).0;
+            hint::name_program(rt, alloc, &status, "`tup verify` runs no others");
+            status.exit()
+        }
+        Err(status) => status,
+    }
+}
+
+/// Updates the files of the project. A program that the call names comes before that of the options.
+fn update(rt: HostRuntime, alloc: Global, words: &[Word], program: Option<Text>) -> u8 {
+    match project(rt, alloc) {
+        Ok((top, options)) => {
+            let syncs = options.syncs;
+            match begin(rt, alloc, &top, syncs) {
+                0 => update_by(rt, alloc, words, &top, syncs, program.or(options.program)),
+                status => status,
+            }
+        }
+        Err(status) => status,
+    }
+}
+
+/// The project that the working folder belongs to, and its options.
+fn project(rt: HostRuntime, alloc: Global) -> Result<(Top, Options), u8> {
+    let top = top::find(rt, alloc)?;
+    let options = option_files::read(rt, alloc, &top)?;
+    Ok((top, options))
+}
+
+/// Begins the project where a file asks for it; gives the exit number.
+fn begin(rt: HostRuntime, alloc: Global, top: &Top, syncs: Syncs) -> u8 {
+    if !top.is_to_begin() {
+        return 0;
+    }
+    let Ok(words) = init_word(alloc) else {
+        return told(&rt, Status::Memory);
+    };
+    run(rt, alloc, &words, top, syncs, Mini::new(alloc))
+        .0
+        .exit()
+}
+
+/// The word that begins a project.
+fn init_word(alloc: Global) -> Result<Vec<Word>, AllocError> {
+    let word = Word(Text::from_str(alloc, "init")?);
+    Ok(vec![in alloc; word]?)
+}
+
+/// Updates the files of a project, by the small commands or through a program.
+fn update_by(
+    rt: HostRuntime,
+    alloc: Global,
+    words: &[Word],
+    top: &Top,
+    syncs: Syncs,
+    program: Option<Text>,
+) -> u8 {
+    match program {
+        Some(program) => run_through(rt, alloc, words, top, syncs, &program),
+        None => {
+            let status = run(rt, alloc, words, top, syncs, Mini::new(alloc)).0;
+            hint::name_program(rt, alloc, &status, "`--proc tup_sh` runs shell commands");
+            status.exit()
+        }
+    }
+}
+
+/// Has a crew of this one runner carry out the words; gives how they ended, and the runner back.
 fn run<R: Runner>(
     rt: HostRuntime,
     alloc: Global,
     words: &[Word],
+    top: &Top,
     syncs: Syncs,
     runner: R,
-) -> (u8, Option<R>) {
-    let Ok(site) = FsSite::new(rt, alloc, ".", syncs) else {
-        return (told(&rt, Status::Memory), None);
+) -> (Status, Option<R>) {
+    let Ok(site) = FsSite::new(rt, alloc, top.root.as_str(), syncs) else {
+        return (no_memory(rt), None);
     };
     let mut crew = Vec::new(alloc);
     let Ok(()) = crew.push(runner) else {
-        return (told(&rt, Status::Memory), None);
+        return (no_memory(rt), None);
     };
     let mut ran = tup(alloc, words, site, crew, &mut Output::new(&rt));
     if let Some(failure) = ran.site.last() {
         // Words that can't be printed change nothing: the exit number tells as much.
         drop(eprintln!(rt; "tup: {failure}"));
     }
-    hint(rt, &ran.status);
-    (ran.status.exit(), ran.crew.pop())
+    hint::begin(rt, top, &ran.status);
+    (ran.status, ran.crew.pop())
 }
 
-/// Says what to do where no project was begun.
-fn hint(rt: HostRuntime, status: &Status) {
-    if let Status::NotInit = status {
-        // Words that can't be printed change nothing: the exit number tells as much.
-        drop(eprintln!(rt; "tup: `tup init` begins a project here"));
-    }
+/// Prints that there was no memory.
+fn no_memory(rt: HostRuntime) -> Status {
+    told(&rt, Status::Memory);
+    Status::Memory
 }
 
-/// The same with the runner that starts this program for each command.
-fn run_through(rt: HostRuntime, alloc: Global, words: &[Word], syncs: Syncs, program: &Text) -> u8 {
-    let Ok(runner) = starter(rt, alloc, program) else {
+/// Has the runner that starts this program for each command carry out the words; gives the exit
+/// number.
+fn run_through(
+    rt: HostRuntime,
+    alloc: Global,
+    words: &[Word],
+    top: &Top,
+    syncs: Syncs,
+    program: &Text,
+) -> u8 {
+    let Ok(runner) = starter(rt, alloc, top, program) else {
         return told(&rt, Status::Memory);
     };
-    let (status, runner) = run(rt, alloc, words, syncs, runner);
+    let (status, runner) = run(rt, alloc, words, top, syncs, runner);
     if let Some(fault) = runner.and_then(|runner| runner.last()) {
         // Words that can't be printed change nothing: the exit number tells as much.
         drop(eprintln!(rt; "tup: {program}: {fault}"));
     }
-    status
+    status.exit()
 }
 
 /// The runner that starts a program.
 fn starter(
     rt: HostRuntime,
     alloc: Global,
+    top: &Top,
     program: &Text,
 ) -> Result<ProcRunner<HostRuntime>, AllocError> {
-    let root = Text::from_str(alloc, ".")?;
-    let stage = Text::from_str(alloc, STAGE)?;
+    let root = Text::from_str(alloc, top.root.as_str())?;
+    let stage = Text::from_string(top.place(alloc, STAGE)?);
     Ok(ProcRunner::new(rt, root, program.clone()?, stage))
 }
 

@@ -1,59 +1,144 @@
-//! The options of a project: the words of the file `.tup/options`.
-//!
-//! They say how the site is used, so they are read before there is one.
-use crate::told;
-use std::io::ErrorKind;
-use std::{fs, io};
+//! The options of a project: words that hold for each update in it.
+ghost use Rattle.std.specs.Prelude.{◌≡◌, ◌⊎◌, Ok, Err, IfOk, IfErr};
+ghost use Rattle.tup.specs.Options.{added, behind};
+ghost use Rattle.tup.specs.declared.options.Fault.TheVariants.{Memory};
+
+use std::alloc::{AllocError, AllocFailed, Global};
+use std::fmt;
 use tup_fs::Syncs;
-use tup_top::Status;
+use tup_path::Text;
 
-/// Where the options stand.
-const PLACE: &str = ".tup/options";
+/// What the words of options ask for.
+#[derive(Drop)]
+pub(crate) struct Options {
+    /// The program that runs commands.
+    pub(crate) program: Option<Text>,
+    /// Whether what is written is made durable.
+    pub(crate) syncs: Syncs,
+    /// Whether a program has to follow.
+    pub(crate) awaits_program: bool,
+}
 
-/// The option by which nothing is made durable.
-pub(crate) const NO_SYNC: &str = "--no-sync";
+/// Why a word can't stand among options where it stands.
+#[derive(Drop)]
+pub(crate) enum Fault {
+    Unknown(Text),
+    /// The option stands before.
+    Twice(Text),
+    /// The words end where a program has to follow.
+    NoProgram,
+    Memory,
+}
 
-/// Whether the project makes durable what it writes; or else the exit number, where the reason was
-/// told.
-pub(crate) fn syncs(rt: HostRuntime) -> Result<Syncs, u8> {
-    match fs::read_to_string(&rt, PLACE) {
-        Ok(text) => syncs_of(rt, text.as_str()),
-        Err(e) if matches!(e.kind(), ErrorKind::NotFound | ErrorKind::NotADirectory) => {
-            Ok(Syncs::Done)
+impl fmt::Display for Fault {
+    fn fmt<W: fmt::Write>(&self, f: &mut fmt::Formatter<W>) -> fmt::Result {
+        match self {
+            Fault::Unknown(word) => write!(f, "unknown word {word}"),
+            Fault::Twice(word) => write!(f, "a second {word}"),
+            Fault::NoProgram => f.write_str("no program behind --proc"),
+            Fault::Memory => f.write_str("no memory"),
         }
-        Err(e) if e.kind() == ErrorKind::InvalidData => Err(unknown(rt, "that isn't UTF-8")),
-        Err(e) => Err(failed(rt, "read", &e)),
     }
 }
 
-/// What the words of a project's options say.
-fn syncs_of(rt: HostRuntime, text: &str) -> Result<Syncs, u8> {
-    let mut syncs = Syncs::Done;
-    for word in text.split_ascii_whitespace() {
-        if word != NO_SYNC {
-            return Err(unknown(rt, word));
+impl From<AllocError> for Fault {
+    ghost use Rattle.std.specs.Prelude.{◌≡◌};
+    ghost use Rattle.tup.specs.declared.options.Fault.TheVariants.{Memory};
+
+    ghost from_gives = { λ _ fault. fault ≡ Memory };
+
+    fn from(_: AllocError) -> Fault {
+        Fault::Memory
+    }
+}
+
+impl<T: Drop> From<AllocFailed<T>> for Fault {
+    ghost use Rattle.std.specs.Prelude.{◌≡◌};
+    ghost use Rattle.tup.specs.declared.options.Fault.TheVariants.{Memory};
+
+    ghost from_gives = { λ _ fault. fault ≡ Memory };
+
+    fn from(_: AllocFailed<T>) -> Fault {
+        Fault::Memory
+    }
+}
+
+impl Options {
+    /// What no words ask for.
+    pub(crate) fn none() -> Options {
+        Options {
+            program: None,
+            syncs: Syncs::Done,
+            awaits_program: false,
         }
-        syncs = Syncs::Skipped;
     }
-    Ok(syncs)
-}
 
-/// Has the project that was begun here make nothing durable; gives the exit number.
-pub(crate) fn skip_syncs(rt: HostRuntime) -> u8 {
-    match fs::write(&rt, PLACE, "--no-sync\n") {
-        Ok(()) => 0,
-        Err(e) => failed(rt, "write", &e),
+    /// What the lines of a file ask for.
+    pub(crate) fn in_lines(alloc: Global, text: &str) -> Result<Options, Fault> {
+        let mut options = Options::none();
+        for line in text.lines() {
+            options.add_line(alloc, line.trim())?;
+        }
+        options.ended()
     }
-}
 
-fn unknown(rt: HostRuntime, word: &str) -> u8 {
-    // Words that can't be printed change nothing: the exit number tells as much.
-    drop(eprintln!(rt; "tup: {PLACE}: unknown word {word}"));
-    2
-}
+    /// Reads a line: blanks part the words of one that begins with an option, and any other is one
+    /// word. Empty lines and those that begin with `#` say nothing.
+    fn add_line(&mut self, alloc: Global, line: &str) -> Result<(), Fault> {
+        if line.is_empty() || line.starts_with('#') {
+            return Ok(());
+        }
+        if !line.starts_with('-') {
+            return self.add(alloc, line);
+        }
+        for word in line.split_ascii_whitespace() {
+            self.add(alloc, word)?;
+        }
+        Ok(())
+    }
 
-fn failed(rt: HostRuntime, operation: &str, error: &io::Error) -> u8 {
-    // Words that can't be printed change nothing: the exit number tells as much.
-    drop(eprintln!(rt; "tup: {operation} {PLACE}: {error}"));
-    told(&rt, Status::SiteFault)
+    /// Reads one more word.
+    pub(crate) fn add(&mut self, alloc: Global, word: &str) -> Result<(), Fault>
+        ensures added { IfOk result (λ _. added word.now self.old ≡ Ok self.new) }
+        ensures refused { IfErr result
+            (λ fault. (fault ≡ Memory) ⊎ (added word.now self.old ≡ Err fault)) }
+    {
+        if self.awaits_program {
+            self.program = Some(Text::from_str(alloc, word)?);
+            self.awaits_program = false;
+            return Ok(());
+        }
+        match word {
+            "--proc" if self.program.is_none() => self.awaits_program = true,
+            "--no-sync" if self.syncs == Syncs::Done => self.syncs = Syncs::Skipped,
+            "--proc" | "--no-sync" => return Err(Fault::Twice(Text::from_str(alloc, word)?)),
+            _ => return Err(Fault::Unknown(Text::from_str(alloc, word)?)),
+        }
+        Ok(())
+    }
+
+    /// The options, where no program is missing behind the last word.
+    pub(crate) fn ended(self) -> Result<Options, Fault>
+        ensures { IfOk result (λ options. options ≡ self) }
+    {
+        if self.awaits_program {
+            Err(Fault::NoProgram)
+        } else {
+            Ok(self)
+        }
+    }
+
+    /// These options, and others for what they don't say.
+    pub(crate) fn before(self, others: Options) -> Options
+        ensures { result ≡ behind self others }
+    {
+        Options {
+            program: self.program.or(others.program),
+            syncs: match self.syncs {
+                Syncs::Skipped => Syncs::Skipped,
+                Syncs::Done => others.syncs,
+            },
+            awaits_program: false,
+        }
+    }
 }

@@ -1,0 +1,60 @@
+//! What standard error says beside the last line of an order.
+
+use crate::top::Top;
+use std::alloc::{AllocError, Global};
+use tup_mini::words;
+use tup_path::Text;
+use tup_top::Status;
+
+/// The status of a command of a name that isn't known.
+const UNKNOWN: u8 = 127;
+
+/// What is to be done where there is no project.
+pub(crate) fn begin(rt: HostRuntime, top: &Top, status: &Status) {
+    if let Status::NotInit = status {
+        // Words that can't be printed change nothing: the exit number tells as much.
+        drop(match top.root.as_str() {
+            root if top.is_to_begin() => {
+                eprintln!(rt; "tup: `tup` begins the project of {root}/Tupfile.ini")
+            }
+            "." => eprintln!(rt; "tup: `tup init` begins a project here"),
+            root => eprintln!(rt;
+                "tup: {root}/.tup has no store: `tup init` begins a project there"
+            ),
+        });
+    }
+}
+
+/// What is to be done where a command isn't one of the small commands. The words say what runs
+/// others.
+pub(crate) fn name_program(rt: HostRuntime, alloc: Global, status: &Status, other: &str) {
+    if let Status::Command {
+        rule,
+        status: UNKNOWN,
+    } = status
+    {
+        if let Ok(Some(word)) = unknown_word(alloc, &rule.text) {
+            // Words that can't be printed change nothing: the exit number tells as much.
+            drop(eprintln!(rt; "tup: no such small command: {word}; {other}"));
+        }
+    }
+}
+
+/// The word by which a command ended with the status of an unknown one.
+fn unknown_word(alloc: Global, text: &Text) -> Result<Option<Text>, AllocError> {
+    let words = words(alloc, text)?;
+    for step in words.split(|word| word.as_str() == "&&") {
+        match step.first() {
+            // It ends the command, with whatever status.
+            Some(word) if word.as_str() == "fail" => return Ok(None),
+            Some(word) if !is_small(word.as_str()) => return Ok(Some(word.clone()?)),
+            _ => {}
+        }
+    }
+    Ok(None)
+}
+
+/// Whether a small command has this name.
+fn is_small(name: &str) -> bool {
+    matches!(name, "cp" | "cat" | "echo" | "incl" | "ifexists" | "fail")
+}

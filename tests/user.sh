@@ -1,0 +1,372 @@
+#!/bin/sh
+# The program in real projects, as a hurried user meets it: which files may be run, calls in folders below the top, options of a
+# project, projects that begin by themselves, and what standard error says where something is wrong. It runs the program that is
+# given as the first word, each row in a new folder, and ends with 1 where something isn't as it has to be. What needs the
+# superuser (files of another user) is passed over for others, and what needs tup_sh where that isn't built in the folder beside, or
+# can't run commands here.
+set -u
+tup=$(realpath "$1")
+sh=$(realpath -m "$(dirname "$tup")/../../tup_sh/out/tup_sh")
+work=$(mktemp -d)
+chmod 755 "$work"
+trap 'cd /; rm -rf "$work"' EXIT
+umask 022
+failures=0
+count=0
+
+# Makes a folder whose file `a` holds `hi`, with a Tupfile of the lines that are given.
+folder() {
+    count=$((count + 1))
+    top=$work/$count
+    mkdir "$top" && cd "$top" || exit 1
+    printf 'hi\n' > a
+    if [ $# -gt 0 ]; then printf '%s\n' "$@" > Tupfile; fi
+}
+
+# Begins a project in such a folder.
+project() {
+    folder "$@"
+    "$tup" init > /dev/null || exit 1
+}
+
+# Compares two texts, and says which row differs.
+same() {
+    if [ "$2" = "$3" ]; then return; fi
+    failures=$((failures + 1))
+    printf 'differs: %s\n  wanted: %s\n  found:  %s\n' "$1" "$3" "$2"
+}
+
+# Runs the program with words, in the working folder: the row's name, its exit number, its lines and what standard error says,
+# each line with a semicolon behind it, the words.
+row() {
+    name=$1 status=$2 lines=$3 said=$4
+    shift 4
+    found=$("$tup" "$@" 2> "$work/said"; printf 'exit %s' "$?")
+    same "$name" "$(printf '%s' "$found" | tr '\n' ';')" "${lines}exit $status"
+    same "$name, standard error" "$(tr '\n' ';' < "$work/said")" "$said"
+}
+
+file() { same "$1" "$(cat "$2" 2>&1)" "$3"; }
+mode() { same "$1" "$(stat -c %a "$2" 2>&1)" "$3"; }
+
+# What stands in folders, without `.` and `..`.
+names() { ls -A "$@" | tr '\n' ' '; }
+
+copy=': a |> cp a b |> b'
+run='read .;run .: cp a b;'
+made="${run}done: 1 read, 1 run, 0 removed;"
+none='fault: no tup project here;'
+failed='fault: the file tree or the store failed;'
+init_here='tup: `tup init` begins a project here;'
+
+# Which files may be run: a name of the row, the mode that a copy has, and the bytes, as `printf` writes them.
+content() {
+    project "$copy"
+    printf "$3" > a
+    row "$1, it is copied" 0 "$made" '' upd
+    mode "$1" b "$2"
+}
+# The same with the bytes of an ELF header behind its first five: the order of its bytes, and from its kind on.
+elf() { content "$1" "$2" "\\177ELF\\2\\$3\\1\\0\\0\\0\\0\\0\\0\\0\\0\\0$4"; }
+content "a text" 644 'hi\n'
+content "an empty file" 644 ''
+content "a script" 755 '#!/bin/sh\nexit 3\n'
+./b
+same "the script runs" $? 3
+content "a script of two bytes" 755 '#!'
+content "a file of one byte" 644 '#'
+content "a script behind a blank" 644 ' #!/bin/sh\n'
+elf "an ELF program" 755 1 '\2\0\076\0'
+elf "an ELF shared object" 755 1 '\3\0\076\0'
+elf "an ELF object file" 644 1 '\1\0\076\0'
+elf "a core file" 644 1 '\4\0\076\0'
+elf "an ELF file of a kind of its own" 644 1 '\2\1\076\0'
+elf "an ELF program whose bytes stand the other way round" 755 2 '\0\2\0\076'
+elf "a kind whose bytes stand the wrong way round" 644 2 '\2\0\0\076'
+elf "an unknown order of bytes" 644 3 '\2\0\076\0'
+elf "no more than the kind" 755 1 '\3\0'
+elf "a header that ends before" 644 1 '\3'
+content "the first four bytes alone" 644 '\177ELF'
+project "$copy"
+cp "$(which true)" a
+row "a program of the system" 0 "$made" '' upd
+mode "it is one" b 755
+same "it runs" "$(./b; echo $?)" 0
+umask 077
+content "a script of a user who keeps things private" 700 '#!/bin/sh\n'
+umask 0111
+content "a script, where the mask allows no file to be run" 666 '#!/bin/sh\n'
+umask 022
+# Of the same content, one whose bits aren't those of its content is made anew, and another stays.
+project ': a c |> cat a c > b |> b'
+printf '#!/bin/sh\nexit 4\n' > a
+: > c
+row "a script of two files" 0 'read .;run .: cat a c > b;done: 1 read, 1 run, 0 removed;' '' upd
+chmod -x b
+: > a && printf '#!/bin/sh\nexit 4\n' > c
+row "it is made once more" 0 'run .: cat a c > b;done: 0 read, 1 run, 0 removed;' '' upd
+mode "it may be run again" b 755
+printf '#!/bin/sh\nexit 4\n' > a && : > c
+touch -d @9 b
+row "it is made a third time" 0 'run .: cat a c > b;done: 0 read, 1 run, 0 removed;' '' upd
+same "it stays" "$(stat -c %Y b)" 9
+printf 'text\n' > a
+row "it is a text now" 0 'run .: cat a c > b;done: 0 read, 1 run, 0 removed;' '' upd
+mode "it may not be run" b 644
+
+# Calls below the top. The words of the lines are those from the top; paths on standard error are those from where the user is.
+project "$copy"
+mkdir -p sub/deep '.hidden/with blank' 'with blank'
+cd sub || exit 1
+row "in a folder below" 0 "$made" '' upd
+file "it is made in the top" ../b hi
+same "nothing was made there" "$(names .)" 'deep '
+echo ho > ../a
+cd deep || exit 1
+row "two folders below" 0 'run .: cp a b;done: 0 read, 1 run, 0 removed;' ''
+row "it is compared" 0 'same;' '' verify
+row "a word that is none" 2 'fault: usage, word 2;' '' upd now
+row "an option that is none" 2 'fault: usage, word 1;' '' --fast
+row "the version" 0 'tup 0.1;' '' --version
+for there in '.hidden/with blank' 'with blank' .tup; do
+    cd "$top/$there" || exit 1
+    row "in the folder $there" 0 'done: 0 read, 0 run, 0 removed;' ''
+done
+ln -s "$top/sub" "$work/link" && cd "$work/link" || exit 1
+row "in a folder that was reached by a link" 0 'done: 0 read, 0 run, 0 removed;' ''
+cd "$top/sub" || exit 1
+echo 'b: a' > Tupfile
+row "a Tupfile that is wrong" 5 'fault: sub/Tupfile:1: unknown line, read for sub;' ''
+rm Tupfile && ln -s ../Tupfile Tupfile
+row "a link named Tupfile" 7 "$failed" 'tup: look at ../sub/Tupfile: a link or a special file stands here;'
+rm Tupfile
+rm ../.tup/db && mkdir ../.tup/db
+row "a folder at the store" 7 "$failed" 'tup: look at ../.tup/db: a link or a special file stands here;'
+rmdir ../.tup/db
+row "a project without its store" 3 "$none" 'tup: ../.tup has no store: `tup init` begins a project there;'
+rmdir ../.tup && echo mine > ../.tup
+row "a file named .tup above" 7 "$failed" 'tup: look at ../.tup: a link or a special file stands here;'
+rm ../.tup && ln -s "$work/1/.tup" ../.tup
+row "a link named .tup above" 7 "$failed" 'tup: look at ../.tup: a link or a special file stands here;'
+rm ../.tup
+row "no project above" 3 "$none" "$init_here"
+row "nor is there anything to compare" 3 "$none" "$init_here" verify
+same "nothing was made" "$(names . ..)" '.: deep  ..: .hidden Tupfile a b sub with blank '
+
+# A project within another.
+project "$copy"
+mkdir -p inner/sub && cd inner || exit 1
+printf 'in\n' > a && echo "$copy" > Tupfile
+row "a project within another begins" 0 'initialized;' '' init
+cd sub || exit 1
+row "the nearest counts" 0 "$made" ''
+file "its file" ../b in
+same "the other one did nothing" "$(names "$top")" '.tup Tupfile a inner '
+mkdir .tup
+row "a folder .tup without a store" 3 "$none" "$init_here"
+cd "$top" || exit 1
+mkdir "$work/gone" && cd "$work/gone" && rmdir "$work/gone"
+row "in a folder that was removed" 3 "$none" "$init_here"
+
+# The options of a project: a program that runs the commands, here one that writes its words and where it works.
+program() {
+    printf '%s\n' '#!/bin/sh' "echo $1 > \"\$3/w0\"" "printf 'W 0 b\nE 0\n' > \"\$3/log\"" > "$2"
+    chmod +x "$2"
+}
+program one "$work/one"
+program two "$work/two"
+mkdir "$work/with blank" && program three "$work/with blank/three"
+no_start="the program couldn't be started;"
+folder "$copy"
+row "a project with a program begins" 0 'initialized;' '' init --proc "$work/one"
+file "its options" .tup/options "$(printf '%s\n' --proc "$work/one")"
+row "it runs the commands" 0 "$made" ''
+file "it has run" b one
+rm b
+row "a program of the call comes first" 0 'run .: cp a b;done: 0 read, 1 run, 0 removed;' '' upd --proc "$work/two"
+file "it has run" b two
+rm b && mkdir sub && cd sub || exit 1
+row "it runs them for a call below the top" 0 'run .: cp a b;done: 0 read, 1 run, 0 removed;' ''
+file "it has run" ../b one
+cd ..
+row "the project has begun" 3 'fault: already a tup project;' '' init --proc "$work/two"
+file "its options are as they were" .tup/options "$(printf '%s\n' --proc "$work/one")"
+folder "$copy"
+row "all options at once" 0 'initialized;' '' init --no-sync --proc "$work/with blank/three"
+file "they are written" .tup/options "$(printf '%s\n' --no-sync --proc "$work/with blank/three")"
+row "a program with a blank in its path" 0 "$made" ''
+file "it has run" b three
+folder "$copy"
+row "--proc without a program" 2 'fault: usage, word 3;' '' init --proc
+row "a program that looks like an option" 2 'fault: usage, word 3;' '' init --proc --no-sync
+row "a program without a name" 2 'fault: usage, word 3;' '' init --proc ''
+row "a program of two lines" 2 'fault: usage, word 3;' '' init --proc "$(printf 'a\nb')"
+row "two programs" 2 'fault: usage, word 4;' '' init --proc one --proc two
+row "an option twice" 2 'fault: usage, word 3;' '' init --no-sync --no-sync
+row "an option that is none" 2 'fault: usage, word 2;' '' init --fast
+row "a word that is none" 2 'fault: usage, word 4;' '' init --proc one now
+same "nothing was made" "$(names .)" 'Tupfile a '
+
+# The file of the options: its lines, an exit number, the lines of an update and what standard error says.
+options() {
+    project "$copy"
+    printf -- "$2" > .tup/options
+    row "options: $1" "$3" "$4" "$5"
+}
+options "none" '' 0 "$made" ''
+options "a program" "--proc\n$work/one\n" 0 "$made" ''
+file "it has run" b one
+options "both in a line" "--proc $work/one" 0 "$made" ''
+file "it has run" b one
+options "all in a line" "--no-sync --proc $work/one\n" 0 "$made" ''
+file "it has run" b one
+options "blanks, empty lines, notes, line ends of another system" "# what we use\r\n\r\n  --proc\r\n\t$work/one  \r\n\n" 0 "$made" ''
+file "it has run" b one
+options "a program with a blank in its path" "--proc\n$work/with blank/three\n" 0 "$made" ''
+file "it has run" b three
+options "a program of the project" '--proc\n./tools/run\n' 8 'read .;fault: the runner failed;' "tup: ./tools/run: $no_start"
+mkdir tools sub && program four tools/run
+row "it is there" 0 'run .: cp a b;done: 0 read, 1 run, 0 removed;' ''
+file "it has run" b four
+rm b && cd sub || exit 1
+row "it is there for a call below the top" 0 'run .: cp a b;done: 0 read, 1 run, 0 removed;' ''
+file "it has run" ../b four
+rm ../tools/run ../b
+row "it has gone" 8 'fault: the runner failed;' "tup: ../tools/run: $no_start"
+row "a program of the call is one from here" 8 'fault: the runner failed;' "tup: ./tools/run: $no_start" --proc ./tools/run
+options "a program that isn't there" '--proc\nno_such_program\n' 8 'read .;fault: the runner failed;' "tup: no_such_program: $no_start"
+row "the call names another" 0 'run .: cp a b;done: 0 read, 1 run, 0 removed;' '' --proc "$work/two"
+options "no program behind --proc" '--proc\n' 2 '' 'tup: .tup/options: no program behind --proc;'
+options "two programs" "--proc one\n--proc two\n" 2 '' 'tup: .tup/options: a second --proc;'
+options "an option twice" '--no-sync\n--no-sync\n' 2 '' 'tup: .tup/options: a second --no-sync;'
+options "a word that is none" '--fast\n' 2 '' 'tup: .tup/options: unknown word --fast;'
+mkdir sub && cd sub || exit 1
+row "a word that is none, for a call below the top" 2 '' 'tup: ../.tup/options: unknown word --fast;'
+row "a word that is none, where files are compared" 2 '' 'tup: ../.tup/options: unknown word --fast;' verify
+row "a word that is none, and one asks for the version" 0 'tup 0.1;' '' --version
+options "a word without dashes" 'proc tup_sh\n' 2 '' 'tup: .tup/options: unknown word proc tup_sh;'
+options "a word that was joined" '--proc=tup_sh\n' 2 '' 'tup: .tup/options: unknown word --proc=tup_sh;'
+options "bytes that are no text" '\377\n' 2 '' "tup: .tup/options: unknown word that isn't UTF-8;"
+project "$copy"
+mkdir .tup/options
+row "a folder in the place of the options" 7 "$failed" 'tup: read .tup/options: Is a directory (os error 21);'
+
+# Options for all who check the project out.
+folder "$copy"
+printf -- '--proc\n%s\n' "$work/one" > Tupfile.ini
+row "a project isn't begun for a comparison" 3 "$none" 'tup: `tup` begins the project of ./Tupfile.ini;' verify
+row "nor for a word that is none" 2 'fault: usage, word 1;' '' make
+same "nothing was made" "$(names .)" 'Tupfile Tupfile.ini a '
+mkdir -p sub/deep && cd sub/deep || exit 1
+row "a project begins by itself" 0 "initialized;$made" ''
+same "in the folder of its Tupfile.ini" "$(names "$top")" '.tup Tupfile Tupfile.ini a b sub '
+file "its program has run" ../../b one
+row "it has begun" 0 'done: 0 read, 0 run, 0 removed;' ''
+printf -- '--proc\n%s\n' "$work/two" > ../../.tup/options
+rm ../../b
+row "the options of this checkout come first" 0 'run .: cp a b;done: 0 read, 1 run, 0 removed;' ''
+file "its program has run" ../../b two
+echo --no-sync > ../../.tup/options
+rm ../../b
+row "what they don't say is as for all" 0 'run .: cp a b;done: 0 read, 1 run, 0 removed;' ''
+file "its program has run" ../../b one
+folder "$copy"
+: > Tupfile.ini
+row "an empty Tupfile.ini" 0 "initialized;$made" '' upd
+folder "$copy"
+echo '[updater]' > Tupfile.ini
+row "a Tupfile.ini of other words" 2 '' 'tup: Tupfile.ini: unknown word [updater];' upd
+same "nothing was made" "$(names .)" 'Tupfile Tupfile.ini a '
+folder "$copy"
+mkdir Tupfile.ini
+row "a folder of that name" 3 "$none" "$init_here"
+row "it begins no project" 0 'initialized;' '' init
+row "nor is it in its way" 0 "$made" ''
+folder "$copy"
+ln -s a Tupfile.ini
+row "a link of that name" 3 "$none" "$init_here"
+# Below a project it is a file as others. Above all others of that name it is the one that counts.
+project "$copy"
+mkdir -p lib/sub && echo --fast > lib/Tupfile.ini && cd lib/sub || exit 1
+row "a Tupfile.ini below the top" 0 "$made" ''
+same "no project begins there" "$(names ..)" 'Tupfile.ini sub '
+folder "$copy"
+mkdir -p lib/sub && : > Tupfile.ini && echo --fast > lib/Tupfile.ini && cd lib/sub || exit 1
+row "several, and no project" 0 "initialized;$made" ''
+same "it begins in the topmost" "$(names .. ../..)" '..: Tupfile.ini sub  ../..: .tup Tupfile Tupfile.ini a b lib '
+folder "$copy"
+: > Tupfile.ini && mkdir sub && ln -s "$top/none" .tup && cd sub || exit 1
+row "a link in the place of .tup" 7 "$failed" 'tup: look at ../.tup: a link or a special file stands here;'
+
+# A command that is none of the small ones.
+unknown() {
+    project ": a |> $1 |> b"
+    row "$1" 1 "read .;bad .: $1;fault: .: $1: status 127;" "${2:+tup: no such small command: $2; \`--proc tup_sh\` runs shell commands;}"
+}
+unknown 'cc -c a -o b' cc
+unknown 'cp a b && ./b' ./b
+unknown 'cp a b && fail 127 && cc a' ''
+unknown 'fail 127' ''
+row "where files are compared" 1 'fault: .: fail 127: status 127;' '' verify
+project ': a |> cc a |> b'
+row "it is compared" 1 'fault: .: cc a: status 127;' 'tup: no such small command: cc; `tup verify` runs no others;' verify
+project ': a |> cp a |> b'
+row "a small command that is wrong" 1 'read .;bad .: cp a;fault: .: cp a: status 2;' ''
+
+# A rule runs what another rule has built, by shell commands.
+folder ': |> printf "#!/bin/sh\necho one\n" > gen |> gen' ': gen |> ./gen > o |> o'
+"$tup" init --proc "$sh" > /dev/null
+if [ -x "$sh" ] && "$tup" > /dev/null 2>&1; then
+    mode "a program that a rule built" gen 755
+    file "what it made" o one
+    mkdir sub && cd sub || exit 1
+    printf '%s\n' ': |> printf "#!/bin/sh\necho two\n" > gen |> gen' ': gen |> ./gen > o |> o' > ../Tupfile
+    row "another, for a call below the top" 0 'read .;run .: printf "#!/bin/sh\necho two\n" > gen;run .: ./gen > o;done: 1 read, 2 run, 0 removed;' ''
+    file "what it made" ../o two
+else
+    echo "passed over: shell commands"
+fi
+
+# What belongs to another user runs nothing where it wasn't called for.
+if [ "$(id -u)" = 0 ] && setpriv --reuid=65534 --regid=65534 --clear-groups true 2> /dev/null; then
+    # The program as nobody, with the words of a row.
+    as_nobody() {
+        real=$tup
+        printf '#!/bin/sh\nexec setpriv --reuid=65534 --regid=65534 --clear-groups "%s" "$@"\n' "$real" > "$work/nobody"
+        chmod 755 "$work/nobody"
+        tup=$work/nobody
+        row "$@"
+        tup=$real
+    }
+    foreign='tup: ../.tup belongs to another user: call tup in its folder;'
+    cp "$tup" "$work/tup" && chmod 755 "$work/tup" && tup=$work/tup
+    project "$copy"
+    printf -- '--proc\n%s\n' "$work/one" > .tup/options
+    mkdir -m 777 sub && cd sub || exit 1
+    as_nobody "a project of another user above" 3 "$none" "$foreign"
+    as_nobody "it isn't compared" 3 "$none" "$foreign" verify
+    same "nothing was made" "$(names . ..)" '.:  ..: .tup Tupfile a sub '
+    echo "$copy" > Tupfile && printf 'hi\n' > a
+    as_nobody "a project of one's own below" 0 'initialized;' '' init
+    as_nobody "it is updated" 0 "$made" ''
+    folder "$copy"
+    chmod 777 . && printf -- '--proc\n%s\n' "$work/one" > Tupfile.ini && mkdir -m 777 sub && cd sub || exit 1
+    as_nobody "a Tupfile.ini of another user above" 3 "$none" "$init_here"
+    cd .. && as_nobody "called for in its folder" 0 "initialized;$made" ''
+    file "its program has run" b one
+    project "$copy"
+    chmod 755 . && mkdir -m 777 sub && chmod 700 .tup
+    as_nobody "a project of another user here" 7 "$failed" 'tup: read .tup/options: Permission denied (os error 13);'
+    folder
+    mkdir -p -m 777 closed/sub && chmod 700 closed
+    cd closed/sub && as_nobody "a folder above that may not be entered" 3 "$none" "$init_here"
+    cd "$work" || exit 1
+else
+    echo "passed over: files of another user"
+fi
+
+if [ "$failures" -gt 0 ]; then
+    echo "$failures differ"
+    exit 1
+fi
+echo "all rows are as they have to be"
