@@ -18,7 +18,7 @@ wrong() {
     printf 'wrong: %s: %s\n' "$text" "$1"
 }
 
-# The project: in src the files a, b, o, sub/s, s.c with h.h, interp, script and lost, whose interpreters are interp and none,
+# The project: in src the hidden file .quiet, one with a blank in its name, and the files a, b, o, sub/s, s.c with h.h, interp, script and lost, whose interpreters are interp and none,
 # the folder e, and links to a and to sub.
 project() {
     root=$work/root
@@ -30,6 +30,7 @@ project() {
     printf '#!%s/src/interp\n' "$root" > script && chmod +x script && cp /bin/cat interp
     printf '#!%s/src/none\n' "$root" > lost && chmod +x lost
     echo '#include "h.h"' > s.c && echo 'int h;' > h.h
+    echo q > .quiet && echo q > 'qui et' && mkdir .git
 }
 
 # The lines of a log, without its digests and the numbers of its files.
@@ -70,6 +71,11 @@ told() {
     grep -qF -- "$1" "$work/said" || wrong "it didn't say: $1"
 }
 
+# silent: the program printed nothing of its own.
+silent() {
+    if grep -q '^tup_sh:' "$work/said"; then wrong "it said $(cat "$work/said")"; fi
+}
+
 # Where no command can be run apart on this machine, the program says why, once.
 project
 : > "$stage/own"
@@ -101,6 +107,18 @@ try '' 'cat a b nope; [ -e sub/s ]' 'R a,R b,A nope,R sub/s,E 0'
 told two
 told 'nope: No such file'
 try '' 'cat ln dl/s a/x; [ -d sub ]; [ -d nodir ]' 'A ln,R a,A dl,R sub/s,A a/x,A nodir,E 1'
+# -- a folder isn't reached through a link, which may lead elsewhere some day
+through="tup_sh: src/dl: a folder can't be reached through a link: name it by its own path"
+try '' 'cat dl/s' 'A dl,R sub/s,E 1'
+told "$through"
+try '' 'cd dl; cat s' 'A dl,R sub/s,E 1'
+told "$through"
+try '' 'ls dl/' 'A dl,E 1'
+told "$through"
+try '' 'cat dl/s; exit 3' 'A dl,R sub/s,E 3'
+told "$through"
+try '' 'readlink dl; ls; cat sub/s ln; cat ln/x' 'A dl,R sub/s,A ln,R a,A a/x,E 1'
+silent
 # -- own outputs aren't there before they are written; what is written isn't asked for
 try 'o' 'cat o; echo x >o; cat o; echo y >>o' 'A o,W o,E 0'
 kept 0 'x
@@ -151,6 +169,19 @@ try '' "echo x > 'a b'; cat 'a b' 'no such'; cat '\"q\\'" 'A "q\,E 1'
 told "weren't kept: 1"
 try '' 'cat ../.git/HEAD; echo x >.hidden' 'E 0'
 told "weren't kept: 1"
+# -- a file of the project that tup doesn't see is named where it is read, the first of a command
+try '' 'cat .quiet; cat ./.quiet "qui et" ../src/.quiet' 'E 0'
+told "tup_sh: reads src/.quiet, which tup doesn't see: its changes won't run this command again"
+[ "$(grep -c '^tup_sh:' "$work/said")" = 1 ] || wrong "it said $(cat "$work/said")"
+try '' 'cat "qui et" .quiet' 'E 0'
+told "tup_sh: reads src/qui et, which tup doesn't see"
+try '' 'cat .none ../.tup/none; ls -a .git; echo x >.own; cat .own; rm .own' 'E 0'
+silent
+# -- one of more bytes than an update reads is named where it is made
+try 'big' 'head -c 16777217 /dev/zero >big' 'W big,E 0'
+told 'tup_sh: src/big has 16777217 bytes: each later update ends with the limit of 16777216'
+try 'big' 'head -c 16777216 /dev/zero >big' 'W big,E 0'
+silent
 # -- folders of processes
 try '' 'cd sub; cat s; cd ..; (cd e; cat ../a nope); env -C sub cat s no' 'R sub/s,R a,A e/nope,A sub/no,E 1'
 

@@ -2,8 +2,8 @@
 use crate::entries::{Entries, Entry};
 use crate::log::asks;
 use crate::script::{INSIDE, OUTSIDE, WRAP};
-use crate::seen::Seen;
-use crate::writes::Writes;
+use crate::seen::{Seen, Untracked};
+use crate::writes::{Large, Remarks, Writes};
 use std::alloc::Global;
 use std::fs::File;
 use std::process::{Command, Processes};
@@ -12,6 +12,7 @@ use std::{fs, str};
 use tup_child::{Failure, Tree, Words, path_of};
 use tup_path::{Items, Path, Text};
 use tup_proc::LogLine;
+use tup_site::MAX_FILE_BYTES;
 use tup_strace::{Account, Act, acts_of};
 use tup_trace::{Call, Token, TraceFault, calls};
 
@@ -109,14 +110,23 @@ impl<R: Files<File = File> + Processes + Eprint + Clone + Drop> Job<R> {
         calls: &[Call],
         status: u8,
     ) -> Result<(), Failure> {
-        let account = self.account_of(tree, dir, calls)?;
+        let mut untracked = Untracked::none();
+        let account = self.account_of(tree, dir, calls, &mut untracked)?;
+        self.tell_untracked(&untracked);
+        let status = status_with(status, untracked.link.is_some());
         self.leave(tree, dir, &account, status)
     }
 
-    /// What the command did, resolved.
-    fn account_of(&self, tree: &Tree<R>, dir: &Path, calls: &[Call]) -> Result<Account, Failure> {
+    /// What the command did, resolved, and what of it isn't tracked.
+    fn account_of(
+        &self,
+        tree: &Tree<R>,
+        dir: &Path,
+        calls: &[Call],
+        untracked: &mut Untracked,
+    ) -> Result<Account, Failure> {
         let acts = self.acts(tree, dir, calls)?;
-        resolved(self.alloc, tree, acts.as_slice())
+        resolved(self.alloc, tree, acts.as_slice(), untracked)
     }
 
     /// What the command did to places.
@@ -163,9 +173,10 @@ impl<R: Files<File = File> + Processes + Eprint + Clone + Drop> Job<R> {
     ) -> Result<u8, Failure> {
         let entries = self.entries(tree)?;
         self.tell_lost(entries.lost);
-        let strange = written(self.alloc, tree, dir, account, log, entries.list.as_slice())?;
-        self.tell_strange(strange.as_slice());
-        Ok(status_with(status, strange.len()))
+        let remarks = written(self.alloc, tree, dir, account, log, entries.list.as_slice())?;
+        self.tell_strange(remarks.strange.as_slice());
+        self.tell_large(remarks.large.as_slice());
+        Ok(status_with(status, !remarks.strange.as_slice().is_empty()))
     }
 
     /// What the command left in the upper folder.
@@ -191,6 +202,29 @@ impl<R: Files<File = File> + Processes + Eprint + Clone + Drop> Job<R> {
             ));
         }
     }
+
+    /// Tells what no later update can read. A line that can't be printed changes nothing.
+    fn tell_large(&self, files: &[Large]) {
+        for Large { text, len } in files {
+            drop(eprintln!(self.rt;
+                "tup_sh: {text} has {len} bytes: each later update ends with the limit of {MAX_FILE_BYTES}"
+            ));
+        }
+    }
+
+    /// Tells of what was asked for and isn't tracked. A line that can't be printed changes nothing.
+    fn tell_untracked(&self, untracked: &Untracked) {
+        if let Some(text) = &untracked.file {
+            drop(eprintln!(self.rt;
+                "tup_sh: reads {text}, which tup doesn't see: its changes won't run this command again"
+            ));
+        }
+        if let Some(text) = &untracked.link {
+            drop(eprintln!(self.rt;
+                "tup_sh: {text}: a folder can't be reached through a link: name it by its own path"
+            ));
+        }
+    }
 }
 
 /// What a command did, resolved.
@@ -198,17 +232,19 @@ fn resolved<R: Files<File = File> + Clone + Drop>(
     alloc: Global,
     tree: &Tree<R>,
     acts: &[Act],
+    untracked: &mut Untracked,
 ) -> Result<Account, Failure> {
     let mut account = Account::new(alloc);
     let mut seen = Seen {
         tree,
         account: &mut account,
+        untracked,
     };
     seen.follow_all(alloc, acts)?;
     Ok(account)
 }
 
-/// Adds what was written to a log, and gives what no output can be.
+/// Adds what was written to a log, and gives what is to be said of it.
 fn written<R: Files<File = File> + Clone + Drop>(
     alloc: Global,
     tree: &Tree<R>,
@@ -216,26 +252,22 @@ fn written<R: Files<File = File> + Clone + Drop>(
     account: &Account,
     log: &mut Items<LogLine>,
     entries: &[Entry],
-) -> Result<Items<Text>, Failure> {
-    let mut strange = Items::new(alloc);
+) -> Result<Remarks, Failure> {
+    let mut remarks = Remarks::none(alloc);
     let mut writes = Writes {
         tree,
         dir,
         log,
         count: 0,
-        strange: &mut strange,
+        remarks: &mut remarks,
     };
     writes.add_all(alloc, account, entries)?;
-    Ok(strange)
+    Ok(remarks)
 }
 
-/// The status of a command that left so many things which no output can be: it fails.
-fn status_with(status: u8, strange: usize) -> u8 {
-    if strange > 0 && status == 0 {
-        1
-    } else {
-        status
-    }
+/// The status of a command that did what it can't do, or didn't: if it did it fails.
+fn status_with(status: u8, is_refused: bool) -> u8 {
+    if is_refused && status == 0 { 1 } else { status }
 }
 
 /// The calls of a trace.

@@ -1,12 +1,12 @@
 //! What a command did, with the links on the way to each place.
 use crate::upper::{target, written};
-use crate::walk::{MAX_NAMES, Walk, path_below};
+use crate::walk::{MAX_NAMES, Walk, path_below, unseen_name};
 use std::alloc::Global;
 use std::fs::File;
 use std::rt::Files;
-use std::str;
+use std::{fs, str};
 use tup_child::{Failure, Standing, Tree};
-use tup_path::{Bytes, Path};
+use tup_path::{Bytes, Path, Text};
 use tup_strace::{Account, Act, Step};
 
 /// How many interpreters of interpreters the system starts.
@@ -17,6 +17,26 @@ const MAX_INTERPRETERS: usize = 4;
 pub(crate) struct Seen<'a, R: Files<File = File> + Clone + Drop> {
     pub(crate) tree: &'a Tree<R>,
     pub(crate) account: &'a mut Account,
+    pub(crate) untracked: &'a mut Untracked,
+}
+
+/// What a command asked for whose changes an update doesn't see: the first of each kind, by its path from
+/// the top.
+#[derive(Drop)]
+pub(crate) struct Untracked {
+    /// A file of a name that tup doesn't see.
+    pub(crate) file: Option<Text>,
+    /// A link to a folder.
+    pub(crate) link: Option<Text>,
+}
+
+impl Untracked {
+    pub(crate) fn none() -> Untracked {
+        Untracked {
+            file: None,
+            link: None,
+        }
+    }
 }
 
 impl<R: Files<File = File> + Clone + Drop> Seen<'_, R> {
@@ -44,7 +64,28 @@ impl<R: Files<File = File> + Clone + Drop> Seen<'_, R> {
     fn ask(&mut self, alloc: Global, place: &Bytes, follows: bool) -> Result<(), Failure> {
         match self.resolve(alloc, place.as_slice(), follows)? {
             Some(path) => self.add(&Step::Ask(path)),
-            None => Ok(()),
+            None => self.note_unseen(alloc, place.as_slice()),
+        }
+    }
+
+    /// Notes that a place was asked for which no path names, if it is the first.
+    fn note_unseen(&mut self, alloc: Global, place: &[u8]) -> Result<(), Failure> {
+        if self.untracked.file.is_none() {
+            self.untracked.file = self.unseen_at(alloc, place)?;
+        }
+        Ok(())
+    }
+
+    /// The name from the top of the file at a place, where one is there that tup doesn't see.
+    fn unseen_at(&self, alloc: Global, place: &[u8]) -> Result<Option<Text>, Failure> {
+        let Ok(place) = str::from_utf8(place) else {
+            return Ok(None);
+        };
+        match unseen_name(alloc, self.tree.root.as_str(), place)? {
+            Some(name) if self.tree.at(place)? == Standing::File => {
+                Ok(Some(Text::from_str(alloc, name)?))
+            }
+            _ => Ok(None),
         }
     }
 
@@ -246,9 +287,32 @@ impl<R: Files<File = File> + Clone + Drop> Seen<'_, R> {
             return Ok(None);
         }
         match self.link_now(&path)? {
-            Some(target) => self.ask_link(path, target),
+            Some(target) => {
+                self.note_link(&path)?;
+                self.ask_link(path, target)
+            }
             None => Ok(None),
         }
+    }
+
+    /// Notes a link of the project that is followed to a folder, if it is the first.
+    fn note_link(&mut self, path: &Path) -> Result<(), Failure> {
+        if self.untracked.link.is_none() && self.leads_to_folder(path)? {
+            let Ok(text) = path.show(self.tree.alloc) else {
+                return Err(Failure::Memory);
+            };
+            self.untracked.link = Some(text);
+        }
+        Ok(())
+    }
+
+    /// Whether the link at a path leads to a folder.
+    fn leads_to_folder(&self, path: &Path) -> Result<bool, Failure> {
+        let place = self.tree.source(path)?;
+        Ok(match fs::metadata(&self.tree.rt, place.as_str()) {
+            Ok(found) => found.is_dir(),
+            Err(_) => false,
+        })
     }
 
     /// Where the link at a path leads as the command sees it, if there is one.

@@ -71,3 +71,23 @@ pub(crate) fn path_below(alloc: Global, root: &str, place: &str) -> Result<Optio
         Err(_) => Ok(None),
     }
 }
+
+/// The name from a root of a place below it that no path names. The program's own folder has none: no
+/// command sees it.
+pub(crate) fn unseen_name<'a>(
+    alloc: Global,
+    root: &str,
+    place: &'a str,
+) -> Result<Option<&'a str>, Failure> {
+    let Some(name) = place
+        .strip_prefix(root)
+        .and_then(|rest| rest.strip_prefix('/'))
+    else {
+        return Ok(None);
+    };
+    match Path::from_top(alloc, name) {
+        Err(PathFault::Memory) => Err(Failure::Memory),
+        Err(_) if !name.starts_with(".tup/") => Ok(Some(name)),
+        _ => Ok(None),
+    }
+}

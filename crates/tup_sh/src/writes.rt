@@ -9,6 +9,7 @@ use std::rt::Files;
 use tup_child::{Failure, Standing, Tree};
 use tup_path::{Items, Path, Text};
 use tup_proc::LogLine;
+use tup_site::MAX_FILE_BYTES;
 use tup_strace::Account;
 
 /// What an entry is to the log.
@@ -21,6 +22,31 @@ enum Verdict {
     Strange,
 }
 
+/// A file that was written with more bytes than an update reads.
+#[derive(Drop)]
+pub(crate) struct Large {
+    /// Its path from the top.
+    pub(crate) text: Text,
+    pub(crate) len: u64,
+}
+
+/// What standard error says of the writes of a command.
+#[derive(Drop)]
+pub(crate) struct Remarks {
+    /// The texts of what no output can be.
+    pub(crate) strange: Items<Text>,
+    pub(crate) large: Vec<Large>,
+}
+
+impl Remarks {
+    pub(crate) fn none(alloc: Global) -> Remarks {
+        Remarks {
+            strange: Items::new(alloc),
+            large: Vec::new(alloc),
+        }
+    }
+}
+
 /// The writes of a command, as they come to the log.
 #[derive(Drop)]
 pub(crate) struct Writes<'a, R: Files<File = File> + Clone + Drop> {
@@ -29,8 +55,7 @@ pub(crate) struct Writes<'a, R: Files<File = File> + Clone + Drop> {
     pub(crate) log: &'a mut Items<LogLine>,
     /// How many files were written.
     pub(crate) count: u32,
-    /// The texts of what no output can be.
-    pub(crate) strange: &'a mut Items<Text>,
+    pub(crate) remarks: &'a mut Remarks,
 }
 
 impl<R: Files<File = File> + Clone + Drop> Writes<'_, R> {
@@ -92,7 +117,7 @@ impl<R: Files<File = File> + Clone + Drop> Writes<'_, R> {
 
     /// Notes what no output can be.
     fn refuse(&mut self, alloc: Global, path: &Path) -> Result<(), Failure> {
-        self.strange.push(shown(alloc, path, self.dir)?)?;
+        self.remarks.strange.push(shown(alloc, path, self.dir)?)?;
         Ok(())
     }
 
@@ -137,8 +162,24 @@ impl<R: Files<File = File> + Clone + Drop> Writes<'_, R> {
     /// Keeps what was written at a path.
     fn keep(&mut self, alloc: Global, path: &Path) -> Result<(), Failure> {
         let from = written(self.tree, path)?;
+        self.measure(alloc, path, from.as_str())?;
         self.take(alloc, from.as_str())?;
         self.note(alloc, path)
+    }
+
+    /// Notes a file that is too large to be read.
+    fn measure(&mut self, alloc: Global, path: &Path, place: &str) -> Result<(), Failure> {
+        let len = fs::metadata(&self.tree.rt, place)?.len();
+        if len <= MAX_FILE_BYTES {
+            return Ok(());
+        }
+        match path.show(alloc) {
+            Ok(text) => {
+                self.remarks.large.push(Large { text, len })?;
+                Ok(())
+            }
+            Err(_) => Err(Failure::Memory),
+        }
     }
 
     /// Takes what stands at a place as the next file.
