@@ -47,10 +47,9 @@ update() {
     [ "$(sources)" = "$before" ] || wrong "a source changed"
 }
 
-# greets TEXT: what the program that was built prints first. An output has the mode of a new file.
+# greets TEXT: what the program that was built prints first.
 greets() {
-    cp src/greet "$work/greet" && chmod +x "$work/greet"
-    said=$("$work/greet" | head -n 1)
+    said=$(src/greet | head -n 1)
     [ "$said" = "$1" ] || wrong "it prints '$said', wanted '$1'"
 }
 
@@ -145,6 +144,8 @@ command 'one that holds its streams open' 0 'done: 1 read, 1 run, 0 removed' 'sl
 command 'permissions are changed' 0 'done: 1 read, 1 run, 0 removed' 'chmod 777 a b ../source && cp a made'
 
 # -- updates that are stopped, as Ctrl-C stops one: to all that they started the signal comes. The next one is done
+# How long a command sleeps: so long as no other process of the machine does.
+nap=$((100000 + $$))
 # stopped SIGNAL TEXT: this update is stopped after a second, and its command then mended.
 stopped() {
     one_rule "$2"
@@ -155,7 +156,7 @@ stopped() {
     [ "$(sources)" = "$before" ] || wrong 'a source changed'
     [ -e src/made ] && wrong 'made is there'
     sleep 1
-    pgrep -f 'sleep 98[7]' > /dev/null && wrong 'its command is still at work'
+    pgrep -f "sleep $nap" > /dev/null && wrong 'its command is still at work'
     printf ': a |> cp a made |> made\n' > src/Tupfile
     update "behind one that was $step" 0 'done: 1 read, 1 run, 0 removed'
     [ "$(ls .tup)" = "$(printf 'db\nstage')" ] || wrong "more is left in .tup: $(ls .tup)"
@@ -174,10 +175,10 @@ at_moments() {
 }
 all_stopped() {
     for signal in INT TERM KILL; do
-        stopped $signal 'echo x > made; echo x > a; rm b; mv sub other; sleep 987'
+        stopped $signal "echo x > made; echo x > a; rm b; mv sub other; sleep $nap"
     done
-    stopped INT 'mkdir dir && echo x > dir/x && chmod 555 dir && sleep 987'
-    stopped KILL 'mkdir dir && echo x > dir/x && chmod 555 dir && sleep 987'
+    stopped INT "mkdir dir && echo x > dir/x && chmod 555 dir && sleep $nap"
+    stopped KILL "mkdir dir && echo x > dir/x && chmod 555 dir && sleep $nap"
     at_moments INT
     at_moments KILL
 }

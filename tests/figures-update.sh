@@ -37,8 +37,15 @@ project() {
     "$tup" init > /dev/null
 }
 
-# The seconds by the clock and of a processor that the words behind take.
-seconds() { /usr/bin/time -o "$work/time" -f '%e %U %S' "$@" > "$work/said" && awk '{ printf "%s %.2f\n", $1, $2 + $3 }' "$work/time"; }
+# The seconds by the clock and of a processor that these words take.
+seconds() {
+    python3 -c 'if 1:
+        import resource, subprocess, sys, time
+        begun = time.perf_counter()
+        subprocess.run(sys.argv[1:], stdout=subprocess.DEVNULL, check=True)
+        used = resource.getrusage(resource.RUSAGE_CHILDREN)
+        print("%.3f %.3f" % (time.perf_counter() - begun, used.ru_utime + used.ru_stime))' "$@"
+}
 
 # row WHAT EDIT FILES TIMES WORDS..: a row of the table. Before each run comes the edit, whose word is the number of the run.
 row() {
@@ -57,10 +64,10 @@ row() {
         $edit "$time"
         seconds "$@" >> "$work/times"
     done
-    best=$(sort -n "$work/times" | head -1)
-    awk -v what="$what" -v files="$files" -v best="$best" -v last="$(tail -1 "$work/last")" '{
-        split(best, time, " ")
-        printf "| %s | %d | %d | %.2f | %d | %d | %d | %s | %s | %s |\n", what, files, $1, $1 / files, $2, $3, $4, time[1], time[2], last
+    clock=$(sort -n "$work/times" | head -1 | cut -d ' ' -f 1)
+    processor=$(sort -n -k 2 "$work/times" | head -1 | cut -d ' ' -f 2)
+    awk -v what="$what" -v files="$files" -v clock="$clock" -v processor="$processor" -v last="$(tail -1 "$work/last")" '{
+        printf "| %s | %d | %d | %.2f | %d | %d | %d | %s | %s | %s |\n", what, files, $1, $1 / files, $2, $3, $4, clock, processor, last
     }' "$work/calls"
 }
 
