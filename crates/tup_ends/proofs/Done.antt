@@ -138,7 +138,7 @@ module _ {S R : Type 0} (site : Site S) (runner : Runner R) (b : BoardState S) (
   is_present = sound.present none_lost
 
   -- the site as it is at the end
-  pub still : IsKeptNow site runner.next tupfiles (site.known b.site) b.site
+  still : IsKeptNow site runner.next tupfiles (site.known b.site) b.site
   still = kept_now site runner b sound tells told tupfiles prepared.kept prepared.over.is_graph held earlier present earlier_now present_now none_lost graph_now
 
   over_end : StandsOver site runner.next tupfiles (site.known b.site) end (site.moment b.site) b.graph b.site

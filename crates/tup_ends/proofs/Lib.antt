@@ -7,3 +7,4 @@ pub mod Quiet
 pub mod Staying
 pub mod Blame
 pub mod Stated
+pub mod Lasting

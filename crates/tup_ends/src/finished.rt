@@ -93,19 +93,3 @@ pub fn done_is_settled<S: Site, R: Runner>(site: &S, runner: &R)
     let _ = site;
     let _ = runner;
 }
-
-/// A law: and then the site is kept as it is.
-pub fn done_leaves_kept<S: Site, R: Runner>(site: &S, runner: &R)
-    ensures { (board : BoardState S) (first : World) (since : ℕ) → IsTrue S.tells → IsTrue R.tells
-        → IsSound S.Site.own R.Runner.own board
-        → (IsTrue (is_fresh board.graph)
-        → IsGraphOf (entries_in board.graph.table) board.graph.nodes)
-        → IsPrepared S.Site.own R.next first since board.opening.graph board.opening.site
-        → ((number : ℕ) (rule : Rule) → slice_get (plan_of board).rules number ≡ Some rule
-        → IsDistinct same_path rule.outputs)
-        → (IsAcyclic (plan_of board).rules → (number : ℕ) → (state board).pending number ≡ false)
-        → IsKeptNow S.Site.own R.next tupfiles (S.known board.site) board.site }
-{
-    let _ = site;
-    let _ = runner;
-}

@@ -5,15 +5,16 @@
 
 mod blamed;
 mod finished;
+mod kept;
 mod needed;
 mod sources;
 mod states;
 
 pub use blamed::bad_rules_are_bad;
 pub use finished::{
-    done_is_finished, done_is_settled, done_leaves_kept, finished_is_clean, prepared_is_finished,
-    prepared_is_settled,
+    done_is_finished, done_is_settled, finished_is_clean, prepared_is_finished, prepared_is_settled,
 };
+pub use kept::{boards_are_kept, boards_leave_crashes};
 pub use needed::{
     bad_ran_all_it_could, bad_stands_last, done_ran_all, none_ran_is_needed,
     prepared_flags_what_was_due, ran_what_was_due,

@@ -24,7 +24,7 @@ use Rattle.tup_top.specs.declared.status.Status.TheVariants.{Done, Command, Ille
 use Rattle.tup_history.specs.History.{AnswersDone}
 use Rattle.tup_history.specs.Kept.{IsUnbegun, IsKept, Stage, Unbegun, Begun, Stands}
 use Rattle.tup_history.specs.Run.{SaysDone, Leaves, Updates}
-use Rattle.tup_history.specs.Stays.{BehindInit, Builds, BehindAnswer, BehindRun}
+use Rattle.tup_history.specs.Stays.{BehindInit, Builds, BehindRun}
 use Rattle.tup_history.specs.declared.turn.End.{End}
 use Rattle.tup_history.proofs.Deeds.{by_steps, unbegun_on, kept_on}
 
@@ -116,7 +116,7 @@ pub run_keeps : (tells : Bool) (next : Next) (wanted : Wanted) (end : End) (stat
 run_keeps tells next (Ok (Upd program)) end status ran old new is leaves nothing begins updates Unbegun kept = tt
 run_keeps tells next (Ok (Upd program)) end status ran old new is leaves nothing begins updates Begun kept = λ means.
     let by = updates means kept in
-    subst (λ (answered : Option Status). Builds next (world_in old) (world_in new) answered × BehindAnswer answered (IsKept next new)) (sym is) (by.files, by.kept)
+    (subst (Builds next (world_in old) (world_in new)) (sym is) by.files, by.kept tt)
 run_keeps tells next (Ok Init) end status ran old new is leaves nothing begins updates stage kept = init_keeps old new next end status is leaves nothing begins stage kept
 run_keeps tells next (Ok Verify) end status ran old new is leaves nothing begins updates stage kept = compare_keeps old new next status leaves nothing stage kept
 run_keeps tells next (Ok Demo) end status ran old new is leaves nothing begins updates stage kept = idle_keeps old new next (leaves.quiet (λ no. no)) nothing (leaves.known (λ no. no)) stage kept

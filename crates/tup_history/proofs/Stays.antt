@@ -7,14 +7,11 @@ use Rattle.tup_site.specs.declared.choice.Deed.TheVariants.{Edit, Crash}
 use Rattle.tup_site.specs.declared.memory.MemSite.{MemSite}
 use Rattle.tup_site.specs.declared.refused.MemRefused.{MemRefused}
 use Rattle.tup_runner.specs.Next.{Next}
-use Rattle.tup_top.specs.Promise.{UnlessLost}
 use Rattle.tup_top.specs.Order.{Wanted, order}
 use Rattle.tup_top.specs.declared.order.Order.TheVariants.{Init, Upd, Verify, Demo}
-use Rattle.tup_top.specs.declared.status.Status.{Status}
-use Rattle.tup_top.proofs.Causes.{came_on}
 use Rattle.tup_history.specs.History.{Standing, Takes, IsHistory, AreLived}
 use Rattle.tup_history.specs.Kept.{Stage, Unbegun, Begun, Stands}
-use Rattle.tup_history.specs.Stays.{BehindAnswer, BehindRun, Behind, StaysKept, AreKept}
+use Rattle.tup_history.specs.Stays.{BehindRun, Behind, StaysKept, AreKept}
 use Rattle.tup_history.specs.declared.turn.End.{End}
 use Rattle.tup_history.specs.declared.turn.Turn.{Turn}
 use Rattle.tup_history.specs.declared.turn.Turn.TheVariants.{Deed, Run}
@@ -22,13 +19,9 @@ use Rattle.tup_history.proofs.Deeds.{stands_still, edit_keeps, crash_keeps}
 use Rattle.tup_history.proofs.Runs.{run_keeps}
 
 -- a larger promise
-answer_on : (answered : Option Status) (P Q : Type 0) → (P → Q) → BehindAnswer answered P → BehindAnswer answered Q
-answer_on None P Q on p = tt
-answer_on (Some status) P Q on p = came_on (UnlessLost P) (UnlessLost Q) (λ stopped by loses. on (by loses)) status p
-
 run_on : (tells : Bool) (next : Next) (wanted : Wanted) (old new : World) (end : End) (stage : Stage) (P Q : Stage → Type 0) → ((later : Stage) → P later → Q later) → BehindRun tells next wanted old new end stage P → BehindRun tells next wanted old new end stage Q
 run_on tells next (Ok (Upd program)) old new end Unbegun P Q on p = tt
-run_on tells next (Ok (Upd program)) old new end Begun P Q on p = λ means. let is = p means in (is.0, answer_on end.status (P Begun) (Q Begun) (on Begun) is.1)
+run_on tells next (Ok (Upd program)) old new end Begun P Q on p = λ means. let is = p means in (is.0, on Begun is.1)
 run_on tells next (Ok Init) old new end Unbegun P Q on p = λ done. on Begun (p done)
 run_on tells next (Ok Init) old new end Begun P Q on p = on Begun p
 run_on tells next (Ok Verify) old new end stage P Q on p = on stage p

@@ -9,11 +9,12 @@ use Rattle.tup_runner.specs.Next.{Next}
 use Rattle.tup_ledger.specs.Begin.{Begins}
 use Rattle.tup_graph.specs.Kept.{IsKeptSite}
 use Rattle.tup_law_phases.specs.Language.{tupfiles}
+use Rattle.tup_promise.specs.Blamed.{IsToBlame}
 use Rattle.tup_promise.specs.Finished.{ExactlyTheFiles}
-use Rattle.tup_promise.specs.Needed.{RunsWhatIsNeeded}
+use Rattle.tup_promise.specs.Needed.{OnlyWhatIsNeeded}
 use Rattle.tup_compare.specs.Compared.{HasCompared}
 use Rattle.tup_top.specs.Order.{Wanted, IsUpdate}
-use Rattle.tup_top.specs.Promise.{UnlessLost, ForUpdate, ForInit, ForVerify, Lasts, NothingDone, OpensStore, QuietStep, Counts, HasPlainCause, Initializes, Compares}
+use Rattle.tup_top.specs.Promise.{ForUpdate, ForInit, ForVerify, Lasts, NothingDone, OpensStore, QuietStep, Counts, HasPlainCause, Initializes, Compares}
 use Rattle.tup_top.specs.declared.status.Status.{Status}
 use Rattle.tup_top.specs.declared.status.Status.TheVariants.{Done, SinkFault}
 use Rattle.tup_history.specs.Kept.{IsKept}
@@ -42,14 +43,15 @@ pub record Leaves (wanted : Wanted) (old new : MemSite) (status : Status) : Type
   pub lasts : ForInit wanted status (Lasts (left_since new (moment_of new)) (world_in new))
   pub known : (IsUpdate wanted → ⊥) → known_in new ≡ known_in old
 
--- What an update leaves of a kept project, whose commands mean this: exactly the files of a clean build where it is done, and only
--- what is needed was run. Each world that a crash since its beginning may leave is kept; so is the project as it is, where no write
--- of the store may be lost.
+-- What an update leaves of a kept project, whose commands mean this: exactly the files of a clean build where it is done. Whatever
+-- it answers only what is needed was run, a blame is true, the project is kept, and so is each world that a crash since its
+-- beginning may leave.
 pub record Updates (next : Next) (wanted : Wanted) (old new : MemSite) (status : Status) (ran : List RuleName) : Type 0 where
   pub files : ForUpdate wanted status (ExactlyTheFiles next (world_in old) (world_in new))
-  pub needed : ForUpdate wanted status (RunsWhatIsNeeded next false (world_in old) ran)
-  pub crash : ForUpdate wanted status (λ _. IsKeptSite next tupfiles (known_in new) (world_in old) (left_since new (moment_of old)))
-  pub kept : ForUpdate wanted status (UnlessLost (IsKept next new))
+  pub needed : ForUpdate wanted status (OnlyWhatIsNeeded next false (world_in old) (world_in new) ran)
+  pub blamed : ForUpdate wanted status (IsToBlame next (world_in old) ran)
+  pub crash : IsUpdate wanted → IsKeptSite next tupfiles (known_in new) (world_in old) (left_since new (moment_of old))
+  pub kept : IsUpdate wanted → IsKept next new
 
 -- ---- the calls that pass
 

@@ -8,7 +8,6 @@ use Rattle.tup_site.specs.declared.memory.MemSite.{MemSite}
 use Rattle.tup_runner.specs.Next.{Next}
 use Rattle.tup_law_graph.specs.Edited.{IsOwnedAlike}
 use Rattle.tup_promise.specs.Finished.{ExactlyTheFiles}
-use Rattle.tup_top.specs.Promise.{UnlessLost}
 use Rattle.tup_top.specs.Order.{Wanted, order}
 use Rattle.tup_top.specs.declared.order.Order.TheVariants.{Init, Upd}
 use Rattle.tup_top.specs.declared.status.Status.{Status}
@@ -36,16 +35,11 @@ abbrev pub Builds : Next → World → World → Option Status → Type 0
 Builds next old new None = ⊤
 Builds next old new (Some status) = IfCame status (ExactlyTheFiles next old new)
 
--- a promise behind an update that is answered so: where nothing is lost that the store was to keep
-abbrev pub BehindAnswer : Option Status → Type 0 → Type 0
-BehindAnswer None promise = ⊤
-BehindAnswer (Some status) promise = IfCame status (UnlessLost promise)
-
 -- Behind an update that led from one world to another, where the runner tells what commands mean. Of one in a project that hasn't
 -- begun nothing is said.
 abbrev pub BehindUpdate : Bool → Next → World → World → End → Stage → (Stage → Type 0) → Type 0
 BehindUpdate tells next old new end Unbegun promise = ⊤
-BehindUpdate tells next old new end Begun promise = IsTrue tells → Builds next old new end.status × BehindAnswer end.status (promise Begun)
+BehindUpdate tells next old new end Begun promise = IsTrue tells → Builds next old new end.status × promise Begun
 
 -- behind a run of the program
 abbrev pub BehindRun : Bool → Next → Wanted → World → World → End → Stage → (Stage → Type 0) → Type 0

@@ -1,5 +1,5 @@
 -- What the Tupfiles bring to the graph of a site that was kept.
-use Rattle.std.proofs.Common.{◌≡◌, ◌↔◌, ℕ, true, false, Bool, not, List, Ok, Option, None, Some, sym, ap, subst, ◌∙◌}
+use Rattle.std.proofs.Common.{◌≡◌, ◌↔◌, ℕ, true, false, Bool, not, List, Ok, Option, Result, None, Some, sym, ap, subst, ◌∙◌}
 use Rattle.std.specs.Option.{MatchOption}
 use Rattle.std.specs.Prelude.{is_some}
 use Rattle.std.specs.FinMap as finite
@@ -29,6 +29,7 @@ use Rattle.tup_law_site.proofs.Stores.{one_in_bytes}
 use Rattle.tup_refresh.specs.Cause.{IsRefreshOf}
 use Rattle.tup_refresh.specs.Refresh.{AreTrue, IsRefresh}
 use Rattle.tup_refresh.specs.Untouched.{SeesSources}
+use Rattle.tup_refresh.specs.declared.fault.RefreshFault.{RefreshFault}
 use Rattle.tup_refresh.specs.declared.refreshed.Refreshed.{Refreshed}
 use Rattle.tup_refresh.proofs.Ending.{refreshed_read}
 use Rattle.tup_refresh.proofs.Recorded.{records_serve}
@@ -52,11 +53,11 @@ pub are_true : (next : Next) (known : List Content) (g : GraphState) (tree : Tre
 are_true next known g tree is knows kept = records_serve tupfiles known is_language.0 (sources_of g tree) g is (knows_sources g tree known knows) kept.records.readings
 
 -- so a refresh tells of these sources
-pub refreshed_so : (next : Next) (known : List Content) (g nodes : GraphState) (tree : Tree) (config : Option Content) (found : Refreshed) → nodes ≡ g → IsKnown known → KnowsTree known tree → IsKept next tupfiles known g
+pub refreshed_of : (next : Next) (known : List Content) (g nodes : GraphState) (tree : Tree) (config : Option Content) (result : Result Refreshed RefreshFault) → nodes ≡ g → IsKnown known → KnowsTree known tree → IsKept next tupfiles known g
     → HasSeen g tree → config ≡ finite.get tree tup_config
-    → (SeesSources (sources_of nodes tree) nodes → config ≡ finite.get tree tup_config → AreTrue (sources_of nodes tree) nodes → IsRefreshOf nodes (sources_of nodes tree) (Ok found)) → IsRefresh g (sources_of g tree) (Ok found)
-refreshed_so next known g nodes tree config found value is knows kept seen set tells =
-    subst (λ (n : GraphState). SeesSources (sources_of n tree) n → config ≡ finite.get tree tup_config → AreTrue (sources_of n tree) n → IsRefreshOf n (sources_of n tree) (Ok found)) value tells
+    → (SeesSources (sources_of nodes tree) nodes → config ≡ finite.get tree tup_config → AreTrue (sources_of nodes tree) nodes → IsRefreshOf nodes (sources_of nodes tree) result) → IsRefreshOf g (sources_of g tree) result
+refreshed_of next known g nodes tree config result value is knows kept seen set tells =
+    subst (λ (n : GraphState). SeesSources (sources_of n tree) n → config ≡ finite.get tree tup_config → AreTrue (sources_of n tree) n → IsRefreshOf n (sources_of n tree) result) value tells
     (sees g tree seen) set (are_true next known g tree is knows kept)
 
 -- readings of the sources, with the rules to which they are linked, may be swapped in

@@ -3,3 +3,6 @@ mod Opening
 mod Seeing
 mod Keeping
 mod Brought
+mod Within
+mod Blaming
+mod Owning

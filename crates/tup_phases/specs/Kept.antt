@@ -1,5 +1,5 @@
 -- What the phases make of a site that was kept (own).
-use Rattle.std.specs.Prelude.{◌≡◌, ◌↔◌, ℕ, ◌≤◌, true, List, [], Option}
+use Rattle.std.specs.Prelude.{◌≡◌, ◌↔◌, ⊤, ℕ, ◌≤◌, true, List, [], Option}
 use Rattle.std.specs.FinMap as finite
 use Rattle.tup_path.specs.Name.{Names, Content}
 use Rattle.tup_stamp.specs.declared.Stamp.{Stamp}
@@ -11,8 +11,13 @@ use Rattle.tup_graph.specs.Kept.{IsGraphIn, IsKeptSite}
 use Rattle.tup_graph.specs.Scan.{IsScanned}
 use Rattle.tup_refresh.specs.declared.refreshed.Refreshed.{Refreshed}
 use Rattle.tup_law_phases.specs.Language.{tupfiles}
+use Rattle.tup_promise.specs.Blamed.{IsFaultOf}
+use Rattle.tup_promise.specs.Crashes.{OwnsNoMore}
 use Rattle.tup_promise.specs.Kept.{AsksFor}
 use Rattle.tup_promise.specs.Needed.{IsDue}
+use Rattle.tup_promise.specs.States.{KeepsStates}
+use Rattle.tup_promise.specs.declared.stop.Stop.{Stop}
+use Rattle.tup_promise.specs.declared.stop.Stop.TheVariants.{NoStore, BadStore, Sources, UserFile, Bad, Run, Full, Outside}
 
 -- ---- the site
 
@@ -61,3 +66,28 @@ pub record StaysBrought (old new : GraphState) : Type 0 where
   pub created : new.created ≡ old.created
   pub rules : new.rules ≡ old.rules
   pub flags : new.flags ≡ old.flags
+
+-- a graph stays within what a world had: what it flags was due there, and each owned path has the state that it had, is newly
+-- owned, or is unsure
+pub record StaysWithin (first : World) (g : GraphState) : Type 0 where
+  pub due : (number : ℕ) → is_flagged g number ≡ true → IsDue first g.rules number
+  pub states : KeepsStates first g
+
+-- so does the graph that stands in the store of another world
+abbrev pub HoldsWithin : World → World → Type 0
+HoldsWithin first w = (g : GraphState) → IsGraphIn w.store g → StaysWithin first g
+
+-- where the sources of a world are blamed for a stop, it is so
+abbrev pub BlamesSources : World → Stop → Type 0
+BlamesSources w (Sources fault) = IsFaultOf w fault
+BlamesSources w NoStore = ⊤
+BlamesSources w (BadStore offset) = ⊤
+BlamesSources w (UserFile path written found) = ⊤
+BlamesSources w (Bad name verdict) = ⊤
+BlamesSources w Run = ⊤
+BlamesSources w Full = ⊤
+BlamesSources w (Outside failed) = ⊤
+
+-- what owned no more before a phase owns no more after it
+abbrev pub OwnsOn : {S : Type 0} → Site S → S → S → Type 0
+OwnsOn {S} site old new = (begun : S) (since : ℕ) → since ≤ site.moment old → OwnsNoMore site begun since old → OwnsNoMore site begun since new

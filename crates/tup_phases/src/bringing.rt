@@ -10,7 +10,8 @@ ghost use Rattle.tup_rule_diff.specs.Edits.{dir_of};
 ghost use Rattle.tup_stored_graph.specs.Held.{is_fresh, StandsFor};
 ghost use Rattle.tup_refresh.specs.Refresh.{AreSorted, IsRefresh};
 ghost use Rattle.tup_promise.specs.Cause.{HasCountedCause};
-ghost use Rattle.tup_phases.specs.Kept.{BringsNothing, IsBrought, IsKeptSince, IsNoted, LeavesFiles};
+ghost use Rattle.tup_promise.specs.Crashes.{OwnsNoMore};
+ghost use Rattle.tup_phases.specs.Kept.{BlamesSources, BringsNothing, HoldsWithin, IsBrought, IsKeptSince, IsNoted, LeavesFiles};
 ghost use Rattle.tup_phases.specs.Prepared.{HasSeen, RunsNone, StopsOpened};
 
 use std::alloc::{AllocError, Global};
@@ -58,6 +59,19 @@ pub(crate) fn brought<S: Site>(
         → IsNoted first (S.world site.old) graph.old.nodes
         → IsKeptSince S.Site.own next first since site.old
         → OnOk result (IsBrought first graph.new.nodes) }
+    ensures within { IsTrue S.tells → (next : Next) (first : World) (since : ℕ)
+        → IsNoted first (S.world site.old) graph.old.nodes
+        → IsKeptSince S.Site.own next first since site.old
+        → HoldsWithin first (S.world site.new) }
+    ensures blame { IsTrue S.tells → (next : Next) (first : World) (since : ℕ)
+        → IsNoted first (S.world site.old) graph.old.nodes
+        → IsKeptSince S.Site.own next first since site.old
+        → IfErr result (BlamesSources first) }
+    ensures owns { IsTrue S.tells → (next : Next) (since : ℕ) (begun : S)
+        → IsNoted (S.world begun) (S.world site.old) graph.old.nodes
+        → IsKeptSince S.Site.own next (S.world begun) since site.old
+        → OwnsNoMore S.Site.own begun since site.old
+        → OwnsNoMore S.Site.own begun since site.new }
     ensures none { RunsNone log.old log.new }
     ensures stops { IfErr result StopsOpened }
     ensures counted { HasCountedCause (S.faults site.old) (S.faults site.new) (result_err result) }
@@ -110,11 +124,31 @@ fn swapped<S: Site>(
         → IsNoted first (S.world site.old) graph.old.nodes
         → IsKeptSince S.Site.own next first since site.old
         → OnOk result (IsBrought first graph.new.nodes) }
+    ensures within { IsTrue S.tells → (next : Next) (first : World) (since : ℕ)
+        → let sources = sources_of graph.old.nodes (S.world site.old).tree in
+        IsRefresh graph.old.nodes sources (Ok found)
+        → IsNoted first (S.world site.old) graph.old.nodes
+        → IsKeptSince S.Site.own next first since site.old
+        → HoldsWithin first (S.world site.new) }
+    ensures blame { IsTrue S.tells → (next : Next) (first : World) (since : ℕ)
+        → let sources = sources_of graph.old.nodes (S.world site.old).tree in
+        IsRefresh graph.old.nodes sources (Ok found)
+        → IsNoted first (S.world site.old) graph.old.nodes
+        → IsKeptSince S.Site.own next first since site.old
+        → IfErr result (BlamesSources first) }
+    ensures owns { IsTrue S.tells → (next : Next) (since : ℕ) (begun : S)
+        → let sources = sources_of graph.old.nodes (S.world site.old).tree in
+        IsRefresh graph.old.nodes sources (Ok found)
+        → IsNoted (S.world begun) (S.world site.old) graph.old.nodes
+        → IsKeptSince S.Site.own next (S.world begun) since site.old
+        → OwnsNoMore S.Site.own begun since site.old
+        → OwnsNoMore S.Site.own begun since site.new }
     ensures none { RunsNone log.old log.new }
     ensures stops { IfErr result StopsOpened }
     ensures counted { HasCountedCause (S.faults site.old) (S.faults site.new) (result_err result) }
 {
     sorted_may_be_swapped();
+    flags_are_of_rules();
     // A law: while the graph is fresh, the store stands for its nodes.
     let _ = graph.nodes();
     let rules = link_all(alloc, found.all.as_slice())?;

@@ -3,7 +3,7 @@ ghost use Rattle.std.specs.Prelude.{◌≡◌, ℕ, IsTrue, IfOk, IfErr, OnOk};
 ghost use Rattle.std.specs.FinMap as finite;
 ghost use Rattle.std.specs.Result.{result_err};
 ghost use Rattle.tup_site.specs.Known.{Keeps};
-ghost use Rattle.tup_site.specs.World.{World};
+ghost use Rattle.tup_site.specs.World.{TreeStays, World};
 ghost use Rattle.tup_runner.specs.Next.{Next};
 ghost use Rattle.tup_table.specs.Table.{entries_in};
 ghost use Rattle.tup_graph.specs.Answers.{tup_config};
@@ -14,17 +14,21 @@ ghost use Rattle.tup_stale.specs.Cleared.{AllAreMade};
 ghost use Rattle.tup_law_site.specs.Over.{IsKeptNow};
 ghost use Rattle.tup_law_phases.specs.Language.{tupfiles};
 ghost use Rattle.tup_promise.specs.Cause.{HasCountedCause};
-ghost use Rattle.tup_promise.specs.Kept.{AsksFor};
+ghost use Rattle.tup_promise.specs.Crashes.{OwnsNoMore};
+ghost use Rattle.tup_promise.specs.Kept.{AsksFor, OfGraph};
+ghost use Rattle.tup_promise.specs.Needed.{FlagsWhatWasDue};
 ghost use Rattle.tup_promise.specs.Prepared.{IsPrepared};
+ghost use Rattle.tup_promise.specs.States.{KeepsStates};
 ghost use Rattle.tup_promise.specs.Unopened.{IsEmptyLog, Unopened};
 ghost use Rattle.tup_promise.specs.declared.log.Log.{Log as LogValue};
-ghost use Rattle.tup_phases.specs.Kept.{IsKeptSince, IsScannedFrom, KeepsOn, LeavesFiles, StaysBrought};
+ghost use Rattle.tup_phases.specs.Kept.{BlamesSources, HoldsWithin, IsKeptSince, IsScannedFrom, KeepsOn, LeavesFiles, OwnsOn, StaysBrought};
 ghost use Rattle.tup_phases.specs.Prepared.{HasSeen, RunsNone, StopsBefore, StopsOpened};
 
 use crate::bringing::brought;
 use std::alloc::Global;
 use tup_commit::{note_scan, scans_see};
 use tup_law_board::cleared_are_unseen;
+use tup_partial::flags_are_of_rules;
 use tup_path::Bytes;
 use tup_promise::{Log, Stop};
 use tup_scan::{Still, scan};
@@ -57,6 +61,24 @@ pub fn prepared<S: Site>(alloc: Global, site: &mut S, log: &mut Log) -> Result<G
         → let first = S.world site.old in let since = S.moment site.old in
         IfOk result (λ graph. IsPrepared S.Site.own next first since graph site.new) }
     ensures known { IsTrue S.tells → Keeps (S.known site.old) (S.known site.new) }
+    // Whatever the answer, no rule is flagged then but those that were due, and owned paths keep their states.
+    ensures due { IsTrue S.tells → (next : Next)
+        → IsKeptNow S.Site.own next tupfiles (S.known site.old) site.old
+        → FlagsWhatWasDue (S.world site.old) (S.world site.new) }
+    ensures states { IsTrue S.tells → (next : Next)
+        → IsKeptNow S.Site.own next tupfiles (S.known site.old) site.old
+        → OfGraph (S.world site.new) (KeepsStates (S.world site.old)) }
+    ensures prepared_states { IsTrue S.tells → (next : Next)
+        → IsKeptNow S.Site.own next tupfiles (S.known site.old) site.old
+        → IfOk result (λ graph. KeepsStates (S.world site.old) graph.nodes) }
+    // Whenever since then a crash comes, no more is owned than was, but the outputs of the rules that are asked for.
+    ensures owns { IsTrue S.tells → (next : Next)
+        → IsKeptNow S.Site.own next tupfiles (S.known site.old) site.old
+        → OwnsNoMore S.Site.own site.old (S.moment site.old) site.new }
+    // What it blames the sources for is so.
+    ensures blame { IsTrue S.tells → (next : Next)
+        → IsKeptNow S.Site.own next tupfiles (S.known site.old) site.old
+        → IfErr result (BlamesSources (S.world site.old)) }
     ensures unopened { IsTrue S.tells
         → Unopened (S.world site.old) (S.world site.new) log.new (result_err result) }
     ensures none { RunsNone log.old log.new }
@@ -80,12 +102,16 @@ fn opened<S: Site>(alloc: Global, site: &mut S) -> Result<Graph, Stop>
         → IfOk result (λ graph. IsGraphIn (S.world site.old).store graph.nodes) }
     ensures files { IsTrue S.tells → LeavesFiles S.Site.own site.old site.new }
     ensures kept { IsTrue S.tells → KeepsOn S.Site.own site.old site.new }
+    ensures within { IsTrue S.tells → HoldsWithin (S.world site.old) (S.world site.new) }
+    ensures owns { IsTrue S.tells → OwnsOn S.Site.own site.old site.new }
+    ensures blame { (first : World) → IfErr result (BlamesSources first) }
     // Nothing else was done.
     ensures unopened { IsTrue S.tells → (log : LogValue) → IsEmptyLog log
         → Unopened (S.world site.old) (S.world site.new) log (result_err result) }
     ensures stops { IfErr result StopsBefore }
     ensures counted { HasCountedCause (S.faults site.old) (S.faults site.new) (result_err result) }
 {
+    flags_are_of_rules();
     Ok(Graph::open(alloc, site)?)
 }
 
@@ -104,11 +130,20 @@ fn noted<S: Site>(alloc: Global, site: &mut S, graph: &mut Graph) -> Result<Opti
         → IfOk result (λ config. config ≡ finite.get (S.world site.old).tree tup_config) }
     ensures files { IsTrue S.tells → LeavesFiles S.Site.own site.old site.new }
     ensures kept { IsTrue S.tells → KeepsOn S.Site.own site.old site.new }
+    // Where the graph is that of a kept world, what stands in the store then stays within what that world had.
+    ensures within { IsTrue S.tells → (next : Next) (first : World) (since : ℕ)
+        → IsGraphIn first.store graph.old.nodes → TreeStays first (S.world site.old)
+        → IsKeptSince S.Site.own next first since site.old
+        → HoldsWithin first (S.world site.new) }
+    ensures owns { IsTrue S.tells → OwnsOn S.Site.own site.old site.new }
+    ensures blame { IsTrue S.tells → (first : World) → TreeStays first (S.world site.old)
+        → IfErr result (BlamesSources first) }
     ensures stops { IfErr result StopsOpened }
     ensures counted { HasCountedCause (S.faults site.old) (S.faults site.new) (result_err result) }
 {
     reads_keep_graphs(&*site);
     scans_see();
+    flags_are_of_rules();
     // A law: while the graph is fresh, the store stands for its nodes.
     let _ = graph.nodes();
     let seen = scan(alloc, site, &Still)?;
@@ -146,6 +181,12 @@ fn cleared<S: Site>(
         → IsKeptSince S.Site.own next first since site.old
         → IsKeptNow S.Site.own next tupfiles (S.known site.old) site.old
         → IsKeptNow S.Site.own next tupfiles (S.known site.new) site.new }
+    ensures within { IsTrue S.tells → (next : Next) (first : World) (since : ℕ)
+        → HoldsWithin first (S.world site.old)
+        → IsKeptSince S.Site.own next first since site.old
+        → HoldsWithin first (S.world site.new) }
+    ensures owns { IsTrue S.tells → OwnsOn S.Site.own site.old site.new }
+    ensures blame { (first : World) → IfErr result (BlamesSources first) }
     ensures none { RunsNone log.old log.new }
     ensures stops { IfErr result StopsOpened }
     ensures counted { HasCountedCause (S.faults site.old) (S.faults site.new) (result_err result) }

@@ -1,5 +1,5 @@
 -- What an update leaves whenever a crash comes (own).
-use Rattle.std.specs.Prelude.{◌≡◌, ◌⊎◌, true, List}
+use Rattle.std.specs.Prelude.{◌≡◌, ◌⊎◌, ℕ, true, List}
 use Rattle.tup_path.specs.Name.{Names}
 use Rattle.tup_site.specs.World.{World}
 use Rattle.tup_site.specs.declared.site.Site.{Ghosts as Site}
@@ -28,11 +28,15 @@ IsOwnedIn site at path = (w : World) × LeftNow site at w × OfGraph w (λ g. is
 abbrev pub IsAskedOutput : World → Names → Type 0
 IsAskedOutput w path = (rules : List Rule) × AsksFor w rules × (is_generated rules path ≡ true)
 
--- what an update leaves, whenever since its beginning a crash came
+-- what a crash since a moment may leave owns no more than what was owned when an update began, and the outputs of the rules
+-- that the sources asked for then
+abbrev pub OwnsNoMore : {S : Type 0} → Site S → S → ℕ → S → Type 0
+OwnsNoMore {S} site begun since at =
+    (w : World) → site.left_since at since w → OfGraph w (λ g. (path : Names) → is_owned g path ≡ true → IsOwnedIn site begun path ⊎ IsAskedOutput (site.world begun) path)
+
+-- what an update leaves, whenever since its beginning a crash came: it is kept and has the sources of the beginning; an owned path
+-- that isn't unsure holds what it held then, or what is written of it; and no path comes to be owned but an output of a rule that
+-- the sources ask for
 pub record SourcesAndCrashes {S : Type 0} (site : Site S) (next : Next) (old new : S) : Type 0 where
-  -- it is kept and has the sources of the beginning; an owned path that isn't unsure holds what it held then, or what is
-  -- written of it
   pub kept : IsKeptSite next tupfiles (site.known new) (site.world old) (site.left_since new (site.moment old))
-  -- no path comes to be owned but an output of a rule that the sources ask for
-  pub owned : (w : World) → site.left_since new (site.moment old) w
-      → OfGraph w (λ g. (path : Names) → is_owned g path ≡ true → IsOwnedIn site old path ⊎ IsAskedOutput (site.world old) path)
+  pub owned : OwnsNoMore site old (site.moment old) new

@@ -7,3 +7,4 @@ pub mod Crewed
 pub mod Begun
 pub mod Shown
 pub mod Demo
+pub mod Untouched

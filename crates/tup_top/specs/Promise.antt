@@ -19,7 +19,6 @@ use Rattle.tup_promise.specs.Unopened.{Unopened}
 use Rattle.tup_promise.specs.declared.log.Log.{Log}
 use Rattle.tup_promise.specs.declared.stop.Stop.{Stop}
 use Rattle.tup_promise.specs.declared.stop.Stop.TheVariants.{Outside}
-use Rattle.tup_update.specs.Promised.{IsOfRules, LosesNothing}
 use Rattle.tup_top.specs.Status.{most, IfCame, IfCompared, IfBegan}
 use Rattle.tup_top.specs.Order.{Wanted, IsUpdate, IsVerify, IsInit}
 use Rattle.tup_top.specs.Crew.{OneRose}
@@ -80,14 +79,6 @@ OpensStore old new ran stopped = (log : Log) × (log.ran ≡ ran) × Unopened ol
 -- a promise of an update that nothing stopped
 abbrev pub OnceDone : Type 0 → Option Stop → Type 0
 OnceDone promise stopped = stopped ≡ None → promise
-
--- of one whose answer comes once rules were run
-abbrev pub OnceRun : Type 0 → Option Stop → Type 0
-OnceRun promise stopped = IsOfRules stopped → promise
-
--- and of one by whose answer nothing is lost that the store was to keep
-abbrev pub UnlessLost : Type 0 → Option Stop → Type 0
-UnlessLost promise stopped = LosesNothing stopped → promise
 
 -- the failures that a site, the runners of a crew and a sink have counted
 pub record Counts : Type 0 where

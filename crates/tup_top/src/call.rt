@@ -2,14 +2,15 @@
 ghost use Rattle.std.specs.Prelude.{◌≡◌, false, IsTrue, drop, length, map};
 ghost use Rattle.std.specs.Result.{result_err};
 ghost use Rattle.tup_site.specs.Crash.{GoesOn};
-ghost use Rattle.tup_graph.specs.Kept.{IsKeptSite};
 ghost use Rattle.tup_law_phases.specs.Language.{tupfiles};
 ghost use Rattle.tup_law_site.specs.Over.{IsKeptNow};
 ghost use Rattle.tup_ledger.specs.Begin.{Begins};
-ghost use Rattle.tup_promise.specs.Crashes.{SourcesStay};
+ghost use Rattle.tup_promise.specs.Blamed.{IsToBlame};
+ghost use Rattle.tup_promise.specs.Crashes.{SourcesAndCrashes, SourcesStay};
 ghost use Rattle.tup_promise.specs.Finished.{AreFilesSettled, ExactlyTheFiles};
 ghost use Rattle.tup_promise.specs.Kept.{IsKeptBySome, KeptHere};
-ghost use Rattle.tup_promise.specs.Needed.{FlagsWhatWasDue, RunsWhatIsNeeded};
+ghost use Rattle.tup_promise.specs.Needed.{OnlyWhatIsNeeded};
+ghost use Rattle.tup_promise.specs.States.{States};
 ghost use Rattle.tup_compare.specs.Compared.{HasCompared};
 ghost use Rattle.tup_compare.specs.Opened.{JustOpens};
 ghost use Rattle.tup_top.specs.Order.{IsUpdate, order};
@@ -17,7 +18,7 @@ ghost use Rattle.tup_top.specs.Crew.{IsCrew, CrewRuns, CrewCompares, NothingRun}
 ghost use Rattle.tup_top.specs.Lines.{last_line as line_of};
 ghost use Rattle.tup_top.specs.Printed.{Printed, Prints};
 ghost use Rattle.tup_top.specs.Promise.{ForUpdate, ForInit, ForVerify, Lasts, NothingDone, OpensStore, QuietStep};
-ghost use Rattle.tup_top.specs.Promise.{OnceDone, OnceRun, UnlessLost};
+ghost use Rattle.tup_top.specs.Promise.{OnceDone};
 ghost use Rattle.tup_top.specs.Promise.{HasPlainCause, IsRefusal, Initializes, Compares, counts};
 ghost use Rattle.tup_top.specs.declared.status.Status.TheVariants.{Usage};
 
@@ -28,6 +29,7 @@ use crate::status::Status;
 use crate::update::{Ended, demo, update};
 use crate::verify::verify;
 use std::alloc::Global;
+use tup_partial::flags_are_of_rules;
 use tup_path::Items;
 use tup_rule::RuleName;
 use tup_runner::Runner;
@@ -74,31 +76,33 @@ pub fn tup<S: Site, R: Runner, K: Sink>(
     ensures known { IsTrue S.tells → (IsUpdate (order words.now) → ⊥)
         → S.known result.site ≡ S.known site }
     // An update over a kept site, where site and runner tell: where it is done the files are exactly
-    // those of a clean build; it runs what was due, each rule once; the site is kept again, and so is
-    // all that a crash since its beginning may leave.
+    // those of a clean build. Whatever it answers it runs rules only where they were due, and each
+    // once, loses no source whenever a crash comes, and leaves the site kept; a blame is true.
     ensures exactly_the_files { KeptHere S.Site.own R.Runner.own site
         → let old = S.world site in let new = S.world result.site in
         ForUpdate (order words.now) result.status (ExactlyTheFiles R.next old new) }
     ensures only_what_is_needed { KeptHere S.Site.own R.Runner.own site
-        → ForUpdate (order words.now) result.status
-        (RunsWhatIsNeeded R.next false (S.world site) result.ran) }
-    ensures flags_what_was_due { KeptHere S.Site.own R.Runner.own site
-        → ForUpdate (order words.now) result.status
-        (OnceRun (FlagsWhatWasDue (S.world site) (S.world result.site))) }
-    ensures kept { KeptHere S.Site.own R.Runner.own site
-        → let known = S.known result.site in
+        → let old = S.world site in let new = S.world result.site in
         ForUpdate (order words.now) result.status
-        (UnlessLost (IsKeptNow S.Site.own R.next tupfiles known result.site)) }
+        (OnlyWhatIsNeeded R.next false old new result.ran) }
+    ensures blamed { KeptHere S.Site.own R.Runner.own site
+        → ForUpdate (order words.now) result.status (IsToBlame R.next (S.world site) result.ran) }
     ensures settled { KeptHere S.Site.own R.Runner.own site
-        → ForUpdate (order words.now) result.status
-        (OnceDone (AreFilesSettled S.Site.own result.site)) }
-    ensures crash { KeptHere S.Site.own R.Runner.own site
-        → let left = S.left_since result.site (S.moment site) in
-        ForUpdate (order words.now) result.status
-        (λ _. IsKeptSite R.next tupfiles (S.known result.site) (S.world site) left) }
+        → ForUpdate (order words.now) result.status (OnceDone (AreFilesSettled S.Site.own result.site)) }
+    ensures sources_and_crashes { KeptHere S.Site.own R.Runner.own site
+        → IsUpdate (order words.now)
+        → SourcesAndCrashes S.Site.own R.next site result.site }
+    ensures states { KeptHere S.Site.own R.Runner.own site
+        → IsUpdate (order words.now)
+        → States R.next (S.world site) (S.world result.site) }
+    ensures kept { KeptHere S.Site.own R.Runner.own site
+        → IsUpdate (order words.now)
+        → let known = S.known result.site in
+        IsKeptNow S.Site.own R.next tupfiles known result.site }
     // And its sources stay, whatever the runner is.
     ensures sources_stay { IsTrue S.tells → IsKeptBySome S.Site.own site
-        → ForUpdate (order words.now) result.status (λ _. SourcesStay S.Site.own site result.site) }
+        → IsUpdate (order words.now)
+        → SourcesStay S.Site.own site result.site }
     ensures crew { length result.crew.items ≡ length crew.items }
     // All runners but the first are as they were.
     ensures others { drop 1 result.crew.items ≡ drop 1 crew.items }
@@ -137,6 +141,7 @@ pub fn tup<S: Site, R: Runner, K: Sink>(
         Printed S.tells R.tells (order words.now) R.next old new result.ran before now
         (K.held out.old) (K.held out.new) result.status }
 {
+    flags_are_of_rules();
     match order_of(words) {
         Ok(Order::Upd { .. }) => {
             let mut crew = crew;

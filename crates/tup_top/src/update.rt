@@ -2,17 +2,18 @@
 ghost use Rattle.std.specs.Prelude.{◌≡◌, [], ◌∷◌, ◌++◌, false, IsTrue, IfOk, IfErr};
 ghost use Rattle.tup_demo.specs.Steady.{world_in, tree_in, store_in};
 ghost use Rattle.tup_table.specs.Store.{header};
-ghost use Rattle.tup_graph.specs.Kept.{IsKeptSite};
 ghost use Rattle.tup_law_phases.specs.Language.{tupfiles};
 ghost use Rattle.tup_law_site.specs.Over.{IsKeptNow};
-ghost use Rattle.tup_promise.specs.Crashes.{SourcesStay};
+ghost use Rattle.tup_promise.specs.Blamed.{IsToBlame};
+ghost use Rattle.tup_promise.specs.Crashes.{SourcesAndCrashes, SourcesStay};
 ghost use Rattle.tup_promise.specs.Finished.{AreFilesSettled, ExactlyTheFiles};
 ghost use Rattle.tup_promise.specs.Kept.{IsKeptBySome, KeptHere};
-ghost use Rattle.tup_promise.specs.Needed.{FlagsWhatWasDue, RunsWhatIsNeeded};
+ghost use Rattle.tup_promise.specs.Needed.{OnlyWhatIsNeeded};
+ghost use Rattle.tup_promise.specs.States.{States};
 ghost use Rattle.tup_promise.specs.Ran.{RunsThese};
 ghost use Rattle.tup_top.specs.Lines.{lines as lines_of};
 ghost use Rattle.tup_top.specs.Printed.{Ends, IsDone, Prints, PrintsDemo, PrintsUpdate, demo_world};
-ghost use Rattle.tup_top.specs.Promise.{HasCountedCause, HasDemoCause, OnceDone, OnceRun, OpensStore, UnlessLost, counts};
+ghost use Rattle.tup_top.specs.Promise.{HasCountedCause, HasDemoCause, OnceDone, OpensStore, counts};
 ghost use Rattle.tup_top.specs.Status.{IfCame, status_of as told_by};
 
 use crate::print::{lines, print, tell};
@@ -54,25 +55,23 @@ pub(crate) fn update<S: Site, R: Runner, K: Sink>(
         → let old = S.world site in let new = S.world result.site in
         IfCame result.status (ExactlyTheFiles R.next old new) }
     ensures only_what_is_needed { KeptHere S.Site.own R.Runner.own site
-        → IfCame result.status
-        (RunsWhatIsNeeded R.next false (S.world site) result.ran) }
-    ensures flags_what_was_due { KeptHere S.Site.own R.Runner.own site
-        → IfCame result.status
-        (OnceRun (FlagsWhatWasDue (S.world site) (S.world result.site))) }
+        → let old = S.world site in let new = S.world result.site in
+        IfCame result.status
+        (OnlyWhatIsNeeded R.next false old new result.ran) }
+    ensures blamed { KeptHere S.Site.own R.Runner.own site
+        → IfCame result.status (IsToBlame R.next (S.world site) result.ran) }
+    ensures settled { KeptHere S.Site.own R.Runner.own site
+        → IfCame result.status (OnceDone (AreFilesSettled S.Site.own result.site)) }
+    ensures sources_and_crashes { KeptHere S.Site.own R.Runner.own site
+        → SourcesAndCrashes S.Site.own R.next site result.site }
+    ensures states { KeptHere S.Site.own R.Runner.own site
+        → States R.next (S.world site) (S.world result.site) }
     ensures kept { KeptHere S.Site.own R.Runner.own site
         → let known = S.known result.site in
-        IfCame result.status
-        (UnlessLost (IsKeptNow S.Site.own R.next tupfiles known result.site)) }
-    ensures settled { KeptHere S.Site.own R.Runner.own site
-        → IfCame result.status
-        (OnceDone (AreFilesSettled S.Site.own result.site)) }
-    ensures crash { KeptHere S.Site.own R.Runner.own site
-        → let left = S.left_since result.site (S.moment site) in
-        IfCame result.status
-        (λ _. IsKeptSite R.next tupfiles (S.known result.site) (S.world site) left) }
+        IsKeptNow S.Site.own R.next tupfiles known result.site }
     // Whatever the runner is.
     ensures sources_stay { IsTrue S.tells → IsKeptBySome S.Site.own site
-        → IfCame result.status (λ _. SourcesStay S.Site.own site result.site) }
+        → SourcesStay S.Site.own site result.site }
     // Whatever site and runner are.
     ensures counted_cause { let counted = counts S.faults R.faults K.faults in
         let before = counted site (runner.old ∷ []) out.old in

@@ -22,17 +22,20 @@ use Rattle.tup_core.specs.Step.{State}
 use Rattle.tup_board.specs.Calls.{Drains}
 use Rattle.tup_board.specs.declared.answers.Drained.{Drained}
 use Rattle.tup_board.specs.declared.answers.Drained.TheVariants.{Done, Left}
+use Rattle.tup_promise.specs.Blamed.{IsBadRule, IsToBlame}
 use Rattle.tup_promise.specs.Crashes.{SourcesStay}
 use Rattle.tup_promise.specs.Finished.{AreFilesSettled, ExactlyTheFiles}
 use Rattle.tup_promise.specs.Needed.{FlagsWhatWasDue, NamesAllDue, NamesAllThatCan, RunsAll, RunsWhatIsNeeded}
 use Rattle.tup_promise.specs.Prepared.{IsPrepared}
 use Rattle.tup_promise.specs.declared.stop.Stop.{Stop}
 use Rattle.tup_promise.specs.declared.stop.Stop.TheVariants as stop
+use Rattle.tup_phases.specs.Kept.{BlamesSources}
 use Rattle.tup_phases.specs.Prepared.{StopsBefore}
 use Rattle.tup_ends.proofs.Done.{none_due}
 use Rattle.tup_ends.proofs.Due.{none_runs}
+use Rattle.tup_ends.proofs.Stated.{kept_stated}
 use Rattle.tup_ends.proofs.Staying.{sources_kept}
-use Rattle.tup_update.specs.Promised.{KeepsSources, LosesNothing, Promises, PromisesOver}
+use Rattle.tup_update.specs.Promised.{KeepsSources, Promises, PromisesOver}
 use Rattle.tup_update.specs.Run.{IsEnd, StopsAtBad, StopsBy, StopsRunning}
 use Rattle.tup_update.proofs.FirstBad.{HasBad}
 
@@ -68,16 +71,21 @@ runs_outside : (next : Next) (keep_going : Bool) (first : World) (ran : List Rul
 runs_outside next true first ran why = tt
 runs_outside next false first ran why = tt
 
-pub unchanged : {S R : Type 0} (site : Site S) (runner : Runner R) (keep_going : Bool) (graph : Held) (old new : S) (ran : List RuleName) (why : SiteFailed) (stopped : Option Stop) → LeavesDue site runner.next graph old
-    → new ≡ old → ran ≡ [] → stopped ≡ Some (stop.Outside why) → PromisesOver site runner keep_going graph old new ran stopped
-unchanged {S} site runner keep_going graph old new ran why stopped due same none is = λ first since tells means prepared.
-    subst (λ (at : S). Promises site runner keep_going first since at ran stopped) (sym same)
-    (subst (λ (names : List RuleName). Promises site runner keep_going first since old names stopped) (sym none)
-    (subst (λ (s : Option Stop). Promises site runner keep_going first since old [] s) (sym is) (record {
-      crash = prepared.over.kept;
+pub unchanged : {S R : Type 0} (site : Site S) (runner : Runner R) (keep_going : Bool) (graph : Held) (at new : S) (ran : List RuleName) (why : SiteFailed) (stopped : Option Stop) → LeavesDue site runner.next graph at
+    → new ≡ at → ran ≡ [] → stopped ≡ Some (stop.Outside why) → PromisesOver site runner keep_going graph at new ran stopped
+unchanged {S} site runner keep_going graph at new ran why stopped due same none is = λ old tells means was.
+    subst (λ (one : S). Promises site runner keep_going old one ran stopped) (sym same)
+    (subst (λ (names : List RuleName). Promises site runner keep_going old at names stopped) (sym none)
+    (subst (λ (s : Option Stop). Promises site runner keep_going old at [] s) (sym is) (record {
       files = tt;
-      needed = record { runs = none_runs runner.next keep_going first (Some (stop.Outside why)) (runs_outside runner.next keep_going first [] why); flagged = due tells first since prepared };
-      kept = λ none. absurd (none-some (stop.Outside why) (sym none));
+      needed = record {
+        runs = none_runs runner.next keep_going (site.world old) (Some (stop.Outside why)) (runs_outside runner.next keep_going (site.world old) [] why);
+        flagged = due tells (site.world old) (site.moment old) was.prepared;
+      };
+      crashes = record { kept = was.prepared.over.kept; owned = was.owns };
+      states = kept_stated runner.next (site.world old) (site.world at) was.stored;
+      blamed = tt;
+      kept = was.prepared.kept;
       settled = λ none. absurd (none-some (stop.Outside why) (sym none));
     })))
 
@@ -85,13 +93,20 @@ unchanged {S} site runner keep_going graph old new ran why stopped due same none
 pub nothing_due : {S R : Type 0} (site : Site S) (runner : Runner R) (keep_going : Bool) (graph : Held) (at : S) (ran : List RuleName) → LeavesDue site runner.next graph at → ran ≡ [] → ((number : ℕ) → is_flagged graph.nodes number ≡ false)
     → ((first : World) (since : ℕ) → IsTrue site.tells → IsPrepared site runner.next first since graph at → ExactlyTheFiles runner.next first (site.world at) None)
     → ((first : World) (since : ℕ) → IsTrue site.tells → IsPrepared site runner.next first since graph at → AreFilesSettled site at) → PromisesOver site runner keep_going graph at at ran None
-nothing_due site runner keep_going graph at ran due none unflagged files settled = λ first since tells means prepared.
-    subst (λ (names : List RuleName). Promises site runner keep_going first since at names None) (sym none) (record {
-      crash = prepared.over.kept;
-      files = files first since tells prepared;
-      needed = record { runs = none_runs runner.next keep_going first None (none_due site runner.next first since graph at prepared unflagged); flagged = due tells first since prepared };
-      kept = λ none. prepared.kept;
-      settled = λ none. settled first since tells prepared;
+nothing_due site runner keep_going graph at ran due none unflagged files settled = λ old tells means was.
+    let first = site.world old in
+    let since = site.moment old in
+    subst (λ (names : List RuleName). Promises site runner keep_going old at names None) (sym none) (record {
+      files = files first since tells was.prepared;
+      needed = record {
+        runs = none_runs runner.next keep_going first None (none_due site runner.next first since graph at was.prepared unflagged);
+        flagged = due tells first since was.prepared;
+      };
+      crashes = record { kept = was.prepared.over.kept; owned = was.owns };
+      states = kept_stated runner.next first (site.world at) was.stored;
+      blamed = tt;
+      kept = was.prepared.kept;
+      settled = λ none. settled first since tells was.prepared;
     })
 
 -- its sources are kept
@@ -142,18 +157,6 @@ goes_on plan end (Left cause.Full) stopped has drains stops name verdict is goin
 goes_on plan end (Left cause.Run) stopped has drains stops name verdict is going = absurd (cc (stops, is))
 goes_on plan end (Left cause.Memory) stopped has drains stops name verdict is going = absurd (cc (stops, is))
 
--- ---- an answer of rules that loses nothing is none
-pub none_stopped : (stopped : Option Stop) → IfSome stopped StopsRunning → LosesNothing stopped → stopped ≡ None
-none_stopped None running whole = refl
-none_stopped (Some stop.NoStore) running whole = absurd running
-none_stopped (Some (stop.BadStore offset)) running whole = absurd running
-none_stopped (Some (stop.Sources fault)) running whole = absurd running
-none_stopped (Some (stop.UserFile path written found)) running whole = absurd running
-none_stopped (Some (stop.Bad name verdict)) running whole = absurd whole
-none_stopped (Some stop.Run) running whole = absurd whole
-none_stopped (Some stop.Full) running whole = absurd whole
-none_stopped (Some (stop.Outside why)) running whole = absurd whole
-
 -- one that was stopped before the rules ran none
 pub runs_before : (next : Next) (keep_going : Bool) (w : World) (ran : List RuleName) (by : Stop) → StopsBefore by → ran ≡ [] → RunsWhatIsNeeded next keep_going w ran (Some by)
 runs_before next keep_going w ran by before none =
@@ -162,3 +165,28 @@ runs_before next keep_going w ran by before none =
     (runs_all_by next keep_going w [] (Some by) (λ e. absurd (none-some by (sym e)))
     (λ name verdict is going. absurd (subst StopsBefore (same_Some by (stop.Bad name verdict) is) before))
     (λ name verdict is off. absurd (subst StopsBefore (same_Some by (stop.Bad name verdict) is) before))))
+
+-- ---- who is blamed
+-- an update whose rules were run blames a rule at most
+pub blames_rules : (next : Next) (w : World) (ran : List RuleName) (stopped : Option Stop) → IfSome stopped StopsRunning
+    → ((name : RuleName) (verdict : Verdict) → stopped ≡ Some (stop.Bad name verdict) → IsBadRule next w ran name verdict) → IsToBlame next w ran stopped
+blames_rules next w ran None running bad = tt
+blames_rules next w ran (Some stop.NoStore) running bad = tt
+blames_rules next w ran (Some (stop.BadStore offset)) running bad = tt
+blames_rules next w ran (Some (stop.Sources fault)) running bad = absurd running
+blames_rules next w ran (Some (stop.UserFile path written found)) running bad = tt
+blames_rules next w ran (Some (stop.Bad name verdict)) running bad = bad name verdict refl
+blames_rules next w ran (Some stop.Run) running bad = tt
+blames_rules next w ran (Some stop.Full) running bad = tt
+blames_rules next w ran (Some (stop.Outside why)) running bad = tt
+
+-- and one that was stopped before, the sources at most
+pub blames_sources : (next : Next) (w : World) (ran : List RuleName) (by : Stop) → StopsBefore by → BlamesSources w by → IsToBlame next w ran (Some by)
+blames_sources next w ran stop.NoStore before blames = tt
+blames_sources next w ran (stop.BadStore offset) before blames = tt
+blames_sources next w ran (stop.Sources fault) before blames = blames
+blames_sources next w ran (stop.UserFile path written found) before blames = tt
+blames_sources next w ran (stop.Bad name verdict) before blames = absurd before
+blames_sources next w ran stop.Run before blames = absurd before
+blames_sources next w ran stop.Full before blames = tt
+blames_sources next w ran (stop.Outside why) before blames = tt

@@ -12,7 +12,6 @@ use Rattle.tup_promise.specs.declared.stop.Stop.{Stop}
 use Rattle.tup_promise.specs.declared.stop.Stop.TheVariants as stop
 use Rattle.tup_site.specs.declared.fault.SiteFailed.TheVariants as failed
 use Rattle.tup_phases.specs.Prepared.{StopsBefore}
-use Rattle.tup_update.specs.Promised.{IsOfRules}
 use Rattle.tup_update.specs.Run.{StopsRunning}
 
 -- whose rules were run, its store was read
@@ -56,17 +55,6 @@ before_ran ran given by none = subst (λ (names : List RuleName). RunsThese name
     by_kind (stop.Outside failed.Fault) = same
     by_kind (stop.Outside (failed.TooLarge n)) = same
     by_kind (stop.Outside failed.Memory) = inl same
-
--- and its answer isn't one of rules
-pub before_rules : (by : Stop) → StopsBefore by → IsOfRules (Some by) → ⊥
-before_rules stop.NoStore is ran = ran
-before_rules (stop.BadStore offset) is ran = ran
-before_rules (stop.Sources fault) is ran = ran
-before_rules (stop.UserFile path written found) is ran = ran
-before_rules (stop.Bad name verdict) is ran = is
-before_rules stop.Run is ran = is
-before_rules stop.Full is ran = ran
-before_rules (stop.Outside why) is ran = ran
 
 -- ---- one that had none to run
 pub none_ran : (ran : List RuleName) (given : List (PathNames × List ℕ)) → ran ≡ [] → RunsThese ran given given None

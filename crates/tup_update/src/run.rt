@@ -27,11 +27,11 @@ use tup_apart::plan_over;
 use tup_board::{Board, BoardParts, Drained};
 use tup_core::{Plan, claimed_once};
 use tup_ends::{
-    bad_ran_all_it_could, bad_stands_last, boards_leave_sources, done_is_finished, done_is_settled,
-    done_leaves_kept, done_ran_all, prepared_is_finished, prepared_is_settled, ran_what_was_due,
+    bad_ran_all_it_could, bad_rules_are_bad, bad_stands_last, boards_are_kept,
+    boards_leave_crashes, boards_leave_sources, boards_leave_states, done_is_finished,
+    done_is_settled, done_ran_all, prepared_is_finished, prepared_is_settled, ran_what_was_due,
 };
 use tup_graph::Nodes;
-use tup_law_board::boards_keep_sites;
 use tup_promise::{Log, Stop};
 use tup_runner::Runner;
 use tup_site::{Site, SiteFailed};
@@ -144,15 +144,17 @@ fn run_board<S: Site, R: Runner>(
     let parts = board.into_parts();
     // Laws: what a board and its graph keep, and leave at their end.
     let _ = parts.graph.nodes();
-    boards_keep_sites(&parts.site, &*runner);
+    boards_are_kept(&parts.site, &*runner);
+    boards_leave_crashes(&parts.site, &*runner);
+    boards_leave_states(&parts.site, &*runner);
     boards_leave_sources(&parts.site, &*runner);
     done_is_finished(&parts.site, &*runner);
     done_is_settled(&parts.site, &*runner);
-    done_leaves_kept(&parts.site, &*runner);
     ran_what_was_due(&parts.site, &*runner);
     done_ran_all(&parts.site, &*runner);
     bad_ran_all_it_could(&parts.site, &*runner);
     bad_stands_last(&parts.site, &*runner);
+    bad_rules_are_bad(&parts.site, &*runner);
     told(alloc, plan, parts, drained, names, log)
 }
 

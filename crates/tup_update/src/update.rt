@@ -1,16 +1,16 @@
 //! One update, from the store and the sources to the files.
 ghost use Rattle.std.specs.Prelude.{◌≡◌, None, IsTrue};
-ghost use Rattle.tup_graph.specs.Kept.{IsKeptSite};
 ghost use Rattle.tup_law_site.specs.Over.{IsKeptNow};
 ghost use Rattle.tup_law_phases.specs.Language.{tupfiles};
 ghost use Rattle.tup_promise.specs.Cause.{HasCountedCause, HasRunCause};
-ghost use Rattle.tup_promise.specs.Crashes.{SourcesStay};
+ghost use Rattle.tup_promise.specs.Blamed.{IsToBlame};
+ghost use Rattle.tup_promise.specs.Crashes.{SourcesAndCrashes, SourcesStay};
 ghost use Rattle.tup_promise.specs.Finished.{AreFilesSettled, ExactlyTheFiles};
 ghost use Rattle.tup_promise.specs.Kept.{IsKeptBySome, KeptHere};
-ghost use Rattle.tup_promise.specs.Needed.{FlagsWhatWasDue, RunsWhatIsNeeded};
+ghost use Rattle.tup_promise.specs.Needed.{OnlyWhatIsNeeded};
 ghost use Rattle.tup_promise.specs.Ran.{RunsThese};
+ghost use Rattle.tup_promise.specs.States.{States};
 ghost use Rattle.tup_promise.specs.Unopened.{Unopened};
-ghost use Rattle.tup_update.specs.Promised.{IsOfRules, LosesNothing};
 
 use crate::run::run_flagged;
 use std::alloc::Global;
@@ -40,20 +40,23 @@ pub fn update_site<S: Site, R: Runner>(
     // Whatever the store is: where it is empty or can't be read nothing is done, and it is told exactly there.
     ensures unopened { IsTrue S.tells
         → Unopened (S.world site) (S.world result.site) result.log result.stopped }
-    // Where the site is kept, and site and runner tell: exactly the files of a clean build where it isn't stopped. Where the rules
-    // were run, each was due and was run once. All that a crash since the call may leave is kept, whatever the answer.
+    // Where the site is kept, and site and runner tell. Whatever the answer, rules were run only where they were due, no source
+    // is lost whenever a crash comes, and a blame is true; where nothing stopped it, the files are those of a clean build.
     ensures exactly_the_files { KeptHere S.Site.own R.Runner.own site
         → ExactlyTheFiles R.next (S.world site) (S.world result.site) result.stopped }
     ensures only_what_is_needed { KeptHere S.Site.own R.Runner.own site
-        → RunsWhatIsNeeded R.next keep_going (S.world site) result.log.ran result.stopped }
-    ensures flags_what_was_due { KeptHere S.Site.own R.Runner.own site → IsOfRules result.stopped
-        → FlagsWhatWasDue (S.world site) (S.world result.site) }
-    ensures kept { KeptHere S.Site.own R.Runner.own site → LosesNothing result.stopped
+        → let old = S.world site in let new = S.world result.site in
+        OnlyWhatIsNeeded R.next keep_going old new result.log.ran result.stopped }
+    ensures sources_and_crashes { KeptHere S.Site.own R.Runner.own site
+        → SourcesAndCrashes S.Site.own R.next site result.site }
+    ensures states { KeptHere S.Site.own R.Runner.own site
+        → States R.next (S.world site) (S.world result.site) }
+    ensures blamed { KeptHere S.Site.own R.Runner.own site
+        → IsToBlame R.next (S.world site) result.log.ran result.stopped }
+    ensures kept { KeptHere S.Site.own R.Runner.own site
         → IsKeptNow S.Site.own R.next tupfiles (S.known result.site) result.site }
     ensures settled { KeptHere S.Site.own R.Runner.own site → result.stopped ≡ None
         → AreFilesSettled S.Site.own result.site }
-    ensures crash { KeptHere S.Site.own R.Runner.own site → let left = S.left_since result.site in
-        IsKeptSite R.next tupfiles (S.known result.site) (S.world site) (left (S.moment site)) }
     // Whatever the runner is.
     ensures sources_stay { IsTrue S.tells → IsKeptBySome S.Site.own site
         → SourcesStay S.Site.own site result.site }

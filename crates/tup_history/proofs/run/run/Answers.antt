@@ -28,6 +28,7 @@ returns-clause-updates g c = λ means kept.
     record {
       files = c.tup.ensures.exactly_the_files here;
       needed = c.tup.ensures.only_what_is_needed here;
-      crash = c.tup.ensures.crash here;
+      blamed = c.tup.ensures.blamed here;
+      crash = λ updates. (c.tup.ensures.sources_and_crashes here updates).kept;
       kept = c.tup.ensures.kept here;
     }

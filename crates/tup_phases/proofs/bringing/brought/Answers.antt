@@ -1,4 +1,9 @@
-use Rattle.std.proofs.Common.{sym, subst, Ok, ◌≡◌, ap, ◌∙◌}
+use Rattle.tup_phases.proofs.Owning.{read_owns}
+use Rattle.std.proofs.Common.{Err, sym, subst, Ok, ap}
+use Rattle.tup_refresh.specs.Cause.{IsRefreshOf}
+use Rattle.tup_phases.specs.Kept.{BlamesSources, BringsNothing, IsNoted}
+use Rattle.tup_phases.proofs.Blaming.{refresh_blames}
+use Rattle.tup_phases.proofs.Within.{over_within, scan_within}
 use Rattle.tup_path.specs.Tree.{Tree}
 use Rattle.tup_table.specs.Entries.{entries_of}
 use Rattle.tup_table.specs.Table.{entries_in}
@@ -6,8 +11,7 @@ use Rattle.tup_graph.specs.Graph.{GraphState}
 use Rattle.tup_graph.specs.Opening.{IsGraphOf}
 use Rattle.tup_refresh.specs.Refresh.{IsRefresh}
 use Rattle.tup_ledger.specs.Sources.{sources_of}
-use Rattle.tup_phases.specs.Kept.{BringsNothing, IsNoted}
-use Rattle.tup_phases.proofs.Brought.{idle_brought, refreshed_so}
+use Rattle.tup_phases.proofs.Brought.{idle_brought, refreshed_of}
 use Rattle.tup_phases.proofs.Keeping.{files_both, files_read, first_kept, graph_kept, same_sources, since_read}
 use Rattle.std.specs.Result.{result_err}
 use Rattle.tup_site.specs.World.{World}
@@ -91,7 +95,7 @@ returns-then-brings_nothing-clause-brought g c = λ tells next first since noted
     let stands = c.requires.stands tells in
     let seen = c.requires.seen tells in
     let kept_now = graph_kept g.S.Site tells site_laws.earlier site_laws.present next first since graph at stands is kept in
-    let refreshed = refreshed_so next known graph.nodes c.nodes.result.now tree c.args.config.now found c.nodes.ensures.value (site_laws.is_known at tells) (site_laws.knows_tree at tells) kept_now seen (c.requires.config tells) (c.in_ok-found.ensures.refreshed tells) in
+    let refreshed = refreshed_of next known graph.nodes c.nodes.result.now tree c.args.config.now (Ok found) c.nodes.ensures.value (site_laws.is_known at tells) (site_laws.knows_tree at tells) kept_now seen (c.requires.config tells) (c.in_ok-found.ensures.refreshed tells) in
     idle_brought first (g.S.Site.world at) graph.nodes noted next known
     (first_kept g.S.Site tells site_laws.earlier site_laws.present next first since graph at stands is kept noted.was noted.stored) seen found
     (c.flags_are_of_rules.ensures (entries_of noted.stored.commits) noted.was noted.stored.graph) kept_now
@@ -116,7 +120,7 @@ returns-clause-kept g c = λ tells next first since noted kept.
     let crash = c.refresh.ensures.crash tells in
     let is = subst (IsGraphOf (entries_in graph.table)) c.nodes.ensures.value (c.nodes.ensures.graph c.requires.fresh) in
     let kept_now = graph_kept g.S.Site tells site_laws.earlier site_laws.present next first since graph at (c.requires.stands tells) is kept in
-    let refreshed = refreshed_so next known graph.nodes c.nodes.result.now tree c.args.config.now found c.nodes.ensures.value (site_laws.is_known at tells) (site_laws.knows_tree at tells) kept_now (c.requires.seen tells) (c.requires.config tells) (c.in_ok-found.ensures.refreshed tells) in
+    let refreshed = refreshed_of next known graph.nodes c.nodes.result.now tree c.args.config.now (Ok found) c.nodes.ensures.value (site_laws.is_known at tells) (site_laws.knows_tree at tells) kept_now (c.requires.seen tells) (c.requires.config tells) (c.in_ok-found.ensures.refreshed tells) in
     c.swapped.ensures.kept tells next first since
     (subst (λ (w : World). IsRefresh graph.nodes (sources_of graph.nodes w.tree) (Ok found)) (sym same) refreshed)
     (subst (λ (w : World). IsNoted first w graph.nodes) (sym same) noted)
@@ -135,8 +139,131 @@ returns-clause-brought g c = λ tells next first since noted kept.
     let crash = c.refresh.ensures.crash tells in
     let is = subst (IsGraphOf (entries_in graph.table)) c.nodes.ensures.value (c.nodes.ensures.graph c.requires.fresh) in
     let kept_now = graph_kept g.S.Site tells site_laws.earlier site_laws.present next first since graph at (c.requires.stands tells) is kept in
-    let refreshed = refreshed_so next known graph.nodes c.nodes.result.now tree c.args.config.now found c.nodes.ensures.value (site_laws.is_known at tells) (site_laws.knows_tree at tells) kept_now (c.requires.seen tells) (c.requires.config tells) (c.in_ok-found.ensures.refreshed tells) in
+    let refreshed = refreshed_of next known graph.nodes c.nodes.result.now tree c.args.config.now (Ok found) c.nodes.ensures.value (site_laws.is_known at tells) (site_laws.knows_tree at tells) kept_now (c.requires.seen tells) (c.requires.config tells) (c.in_ok-found.ensures.refreshed tells) in
     c.swapped.ensures.brought tells next first since
     (subst (λ (w : World). IsRefresh graph.nodes (sources_of graph.nodes w.tree) (Ok found)) (sym same) refreshed)
     (subst (λ (w : World). IsNoted first w graph.nodes) (sym same) noted)
     (since_read g.S.Site next first since at mid (files_read g.S.Site at mid same crash (c.refresh.ensures.known tells)) crash kept)
+
+-- ---- what stands in the store then stays within what a world had
+
+pub returns-in_err-found-clause-within : goal.returns-in_err-found-clause-within
+returns-in_err-found-clause-within g c = λ tells next first since noted kept.
+    let site_laws = g.met.S.Site in
+    let at = c.args.site.now in
+    let mid = c.refresh.new.site in
+    let graph = c.args.graph.now in
+    let same = c.refresh.ensures.same tells in
+    let crash = c.refresh.ensures.crash tells in
+    let stands = c.requires.stands tells in
+    let is = subst (IsGraphOf (entries_in graph.table)) c.nodes.ensures.value (c.nodes.ensures.graph c.requires.fresh) in
+    let was_kept = first_kept g.S.Site tells site_laws.earlier site_laws.present next first since graph at stands is kept noted.was noted.stored in
+    let flags = c.flags_are_of_rules.ensures (entries_of noted.stored.commits) noted.was noted.stored.graph in
+    over_within g.S.Site tells site_laws.earlier site_laws.present first next first since graph mid (c.reads_keep_graphs.ensures graph mid tells same crash stands) is
+    (since_read g.S.Site next first since at mid (files_read g.S.Site at mid same crash (c.refresh.ensures.known tells)) crash kept)
+    (scan_within next (g.S.Site.known at) first noted.was graph.nodes (g.S.Site.world at).tree noted.stored noted.tree was_kept flags noted.scanned (c.requires.seen tells))
+
+pub returns-then-brings_nothing-clause-within : goal.returns-then-brings_nothing-clause-within
+returns-then-brings_nothing-clause-within g c = λ tells next first since noted kept.
+    let site_laws = g.met.S.Site in
+    let at = c.args.site.now in
+    let mid = c.refresh.new.site in
+    let graph = c.args.graph.now in
+    let same = c.refresh.ensures.same tells in
+    let crash = c.refresh.ensures.crash tells in
+    let stands = c.requires.stands tells in
+    let is = subst (IsGraphOf (entries_in graph.table)) c.nodes.ensures.value (c.nodes.ensures.graph c.requires.fresh) in
+    let was_kept = first_kept g.S.Site tells site_laws.earlier site_laws.present next first since graph at stands is kept noted.was noted.stored in
+    let flags = c.flags_are_of_rules.ensures (entries_of noted.stored.commits) noted.was noted.stored.graph in
+    over_within g.S.Site tells site_laws.earlier site_laws.present first next first since graph mid (c.reads_keep_graphs.ensures graph mid tells same crash stands) is
+    (since_read g.S.Site next first since at mid (files_read g.S.Site at mid same crash (c.refresh.ensures.known tells)) crash kept)
+    (scan_within next (g.S.Site.known at) first noted.was graph.nodes (g.S.Site.world at).tree noted.stored noted.tree was_kept flags noted.scanned (c.requires.seen tells))
+
+pub returns-clause-within : goal.returns-clause-within
+returns-clause-within g c = λ tells next first since noted kept.
+    let site_laws = g.met.S.Site in
+    let at = c.args.site.now in
+    let mid = c.refresh.new.site in
+    let graph = c.args.graph.now in
+    let tree = (g.S.Site.world at).tree in
+    let known = g.S.Site.known at in
+    let found = c.in_ok-found.found in
+    let same = c.refresh.ensures.same tells in
+    let crash = c.refresh.ensures.crash tells in
+    let is = subst (IsGraphOf (entries_in graph.table)) c.nodes.ensures.value (c.nodes.ensures.graph c.requires.fresh) in
+    let kept_now = graph_kept g.S.Site tells site_laws.earlier site_laws.present next first since graph at (c.requires.stands tells) is kept in
+    let refreshed = refreshed_of next known graph.nodes c.nodes.result.now tree c.args.config.now (Ok found) c.nodes.ensures.value (site_laws.is_known at tells) (site_laws.knows_tree at tells) kept_now (c.requires.seen tells) (c.requires.config tells) (c.in_ok-found.ensures.refreshed tells) in
+    c.swapped.ensures.within tells next first since
+    (subst (λ (w : World). IsRefresh graph.nodes (sources_of graph.nodes w.tree) (Ok found)) (sym same) refreshed)
+    (subst (λ (w : World). IsNoted first w graph.nodes) (sym same) noted)
+    (since_read g.S.Site next first since at mid (files_read g.S.Site at mid same crash (c.refresh.ensures.known tells)) crash kept)
+
+-- ---- what the sources are blamed for
+
+pub returns-in_err-found-clause-blame : goal.returns-in_err-found-clause-blame
+returns-in_err-found-clause-blame g c = λ tells next first since noted kept.
+    let site_laws = g.met.S.Site in
+    let at = c.args.site.now in
+    let graph = c.args.graph.now in
+    let tree = (g.S.Site.world at).tree in
+    let known = g.S.Site.known at in
+    let fault = c.in_err-found.field-0.0 in
+    let stands = c.requires.stands tells in
+    let is = subst (IsGraphOf (entries_in graph.table)) c.nodes.ensures.value (c.nodes.ensures.graph c.requires.fresh) in
+    let kept_now = graph_kept g.S.Site tells site_laws.earlier site_laws.present next first since graph at stands is kept in
+    let refreshed = refreshed_of next known graph.nodes c.nodes.result.now tree c.args.config.now (Err fault) c.nodes.ensures.value (site_laws.is_known at tells) (site_laws.knows_tree at tells) kept_now (c.requires.seen tells) (c.requires.config tells) (c.in_err-found.ensures.refreshed tells) in
+    err_if c.from_residual.result (stop_of_refresh fault) (BlamesSources first) c.from_residual.ensures.1
+    (refresh_blames first noted.was noted.stored graph.nodes fault
+    (subst (λ (sources : Tree). IsRefreshOf graph.nodes sources (Err fault)) (same_sources g.S.Site tells site_laws.earlier site_laws.present next first since graph at stands is kept noted.was noted.stored) refreshed))
+
+pub returns-clause-blame : goal.returns-clause-blame
+returns-clause-blame g c = λ tells next first since noted kept.
+    let site_laws = g.met.S.Site in
+    let at = c.args.site.now in
+    let mid = c.refresh.new.site in
+    let graph = c.args.graph.now in
+    let tree = (g.S.Site.world at).tree in
+    let known = g.S.Site.known at in
+    let found = c.in_ok-found.found in
+    let same = c.refresh.ensures.same tells in
+    let crash = c.refresh.ensures.crash tells in
+    let is = subst (IsGraphOf (entries_in graph.table)) c.nodes.ensures.value (c.nodes.ensures.graph c.requires.fresh) in
+    let kept_now = graph_kept g.S.Site tells site_laws.earlier site_laws.present next first since graph at (c.requires.stands tells) is kept in
+    let refreshed = refreshed_of next known graph.nodes c.nodes.result.now tree c.args.config.now (Ok found) c.nodes.ensures.value (site_laws.is_known at tells) (site_laws.knows_tree at tells) kept_now (c.requires.seen tells) (c.requires.config tells) (c.in_ok-found.ensures.refreshed tells) in
+    c.swapped.ensures.blame tells next first since
+    (subst (λ (w : World). IsRefresh graph.nodes (sources_of graph.nodes w.tree) (Ok found)) (sym same) refreshed)
+    (subst (λ (w : World). IsNoted first w graph.nodes) (sym same) noted)
+    (since_read g.S.Site next first since at mid (files_read g.S.Site at mid same crash (c.refresh.ensures.known tells)) crash kept)
+
+-- ---- what is owned
+
+pub returns-in_err-found-clause-owns : goal.returns-in_err-found-clause-owns
+returns-in_err-found-clause-owns g c = λ tells next since begun noted kept owns.
+    let site_laws = g.met.S.Site in
+    read_owns g.S.Site tells site_laws.earlier site_laws.present c.args.site.now c.refresh.new.site (c.refresh.ensures.crash tells) begun since kept.began owns
+
+pub returns-then-brings_nothing-clause-owns : goal.returns-then-brings_nothing-clause-owns
+returns-then-brings_nothing-clause-owns g c = λ tells next since begun noted kept owns.
+    let site_laws = g.met.S.Site in
+    read_owns g.S.Site tells site_laws.earlier site_laws.present c.args.site.now c.refresh.new.site (c.refresh.ensures.crash tells) begun since kept.began owns
+
+pub returns-clause-owns : goal.returns-clause-owns
+returns-clause-owns g c = λ tells next since begun noted kept owns.
+    let first = g.S.Site.world begun in
+    let site_laws = g.met.S.Site in
+    let at = c.args.site.now in
+    let mid = c.refresh.new.site in
+    let graph = c.args.graph.now in
+    let tree = (g.S.Site.world at).tree in
+    let known = g.S.Site.known at in
+    let found = c.in_ok-found.found in
+    let same = c.refresh.ensures.same tells in
+    let crash = c.refresh.ensures.crash tells in
+    let is = subst (IsGraphOf (entries_in graph.table)) c.nodes.ensures.value (c.nodes.ensures.graph c.requires.fresh) in
+    let kept_now = graph_kept g.S.Site tells site_laws.earlier site_laws.present next first since graph at (c.requires.stands tells) is kept in
+    let refreshed = refreshed_of next known graph.nodes c.nodes.result.now tree c.args.config.now (Ok found) c.nodes.ensures.value (site_laws.is_known at tells) (site_laws.knows_tree at tells) kept_now (c.requires.seen tells) (c.requires.config tells) (c.in_ok-found.ensures.refreshed tells) in
+    c.swapped.ensures.owns tells next since begun
+    (subst (λ (w : World). IsRefresh graph.nodes (sources_of graph.nodes w.tree) (Ok found)) (sym same) refreshed)
+    (subst (λ (w : World). IsNoted first w graph.nodes) (sym same) noted)
+    (since_read g.S.Site next first since at mid (files_read g.S.Site at mid same crash (c.refresh.ensures.known tells)) crash kept)
+    (read_owns g.S.Site tells site_laws.earlier site_laws.present at mid crash begun since kept.began owns)

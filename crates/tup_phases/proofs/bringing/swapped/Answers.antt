@@ -1,11 +1,19 @@
-use Rattle.std.proofs.Common.{sym, subst, List, Ok, arith, ◌≡◌, refl, ◌∙◌}
+use Rattle.std.proofs.Common.{inr, ⊎_elim, Err, sym, subst, List, Ok, arith, refl}
+use Rattle.tup_phases.proofs.Owning.{noted_owns, own_here, stored_over, swap_owned}
+use Rattle.tup_project.specs.Project.{ComeTo, AreLinked}
+use Rattle.tup_refresh.proofs.Ending.{refreshed_read}
+use Rattle.tup_phases.specs.Kept.{BlamesSources}
+use Rattle.tup_phases.proofs.Blaming.{graph_blames, link_blames}
+use Rattle.tup_table.specs.Entries.{entries_of}
+use Rattle.tup_graph.specs.Swap.{IsSwapped}
+use Rattle.tup_phases.proofs.Within.{noted_within, over_within, scan_within, swap_within}
 use Rattle.tup_path.specs.Name.{Names}
 use Rattle.tup_path.specs.Tree.{Tree, IsTree}
 use Rattle.tup_rule.specs.declared.question.Reading.{Reading}
 use Rattle.tup_rule.specs.declared.rule.Rule.{Rule}
 use Rattle.tup_clean.specs.Buildable.{IsBuildable}
 use Rattle.tup_readings.specs.Readings.{IsOutcome}
-use Rattle.tup_project.specs.Project.{AreLinked}
+use Rattle.tup_ledger.specs.Sources.{sources_of}
 use Rattle.tup_table.specs.Table.{entries_in}
 use Rattle.tup_graph.specs.Opening.{IsGraphOf}
 use Rattle.tup_law_phases.proofs.Seen.{sees}
@@ -13,7 +21,6 @@ use Rattle.tup_refresh.specs.Refresh.{IsRefresh}
 use Rattle.tup_refresh.specs.Untouched.{SeesSources}
 use Rattle.tup_phases.proofs.Brought.{fits_so, owned_still, swap_brought}
 use Rattle.tup_phases.proofs.Keeping.{first_kept, same_sources, swapped_keeps}
-use Rattle.tup_site.specs.World.{World}
 use Rattle.tup_rule_diff.specs.Edits.{AreSwapEdits}
 use Rattle.tup_promise.specs.Cause.{HasCountedCause}
 use Rattle.tup_promise.specs.Stopped.{no_memory, stop_of_graph, stop_of_project}
@@ -150,3 +157,164 @@ returns-clause-brought g c = λ tells next first since refreshed noted kept.
     (first_kept g.S.Site tells site_laws.earlier site_laws.present next first since graph at stands is kept noted.was noted.stored) seen found rules c.swap_rules.new.graph.nodes
     (subst (λ (sources : Tree). SeesSources sources graph.nodes) same (sees graph.nodes tree seen))
     (subst (λ (sources : Tree). IsRefresh graph.nodes sources (Ok found)) same refreshed) linked c.in_ok-swap_rules.ensures.swapped
+
+-- ---- what stands in the store then stays within what a world had
+
+pub returns-in_err-rules-clause-within : goal.returns-in_err-rules-clause-within
+returns-in_err-rules-clause-within g c = λ tells next first since refreshed noted kept.
+    let site_laws = g.met.S.Site in
+    let at = c.args.site.now in
+    let graph = c.args.graph.now in
+    let stands = c.requires.stands tells in
+    let is = subst (IsGraphOf (entries_in graph.table)) c.nodes.ensures.value (c.nodes.ensures.graph c.requires.fresh) in
+    let was_kept = first_kept g.S.Site tells site_laws.earlier site_laws.present next first since graph at stands is kept noted.was noted.stored in
+    let flags = c.flags_are_of_rules.ensures (entries_of noted.stored.commits) noted.was noted.stored.graph in
+    let here = scan_within next (g.S.Site.known at) first noted.was graph.nodes (g.S.Site.world at).tree noted.stored noted.tree was_kept flags noted.scanned (c.requires.seen tells) in
+    over_within g.S.Site tells site_laws.earlier site_laws.present first next first since graph at stands is kept here
+
+pub returns-in_err-read-clause-within : goal.returns-in_err-read-clause-within
+returns-in_err-read-clause-within g c = λ tells next first since refreshed noted kept.
+    let site_laws = g.met.S.Site in
+    let at = c.args.site.now in
+    let graph = c.args.graph.now in
+    let stands = c.requires.stands tells in
+    let is = subst (IsGraphOf (entries_in graph.table)) c.nodes.ensures.value (c.nodes.ensures.graph c.requires.fresh) in
+    let was_kept = first_kept g.S.Site tells site_laws.earlier site_laws.present next first since graph at stands is kept noted.was noted.stored in
+    let flags = c.flags_are_of_rules.ensures (entries_of noted.stored.commits) noted.was noted.stored.graph in
+    let here = scan_within next (g.S.Site.known at) first noted.was graph.nodes (g.S.Site.world at).tree noted.stored noted.tree was_kept flags noted.scanned (c.requires.seen tells) in
+    over_within g.S.Site tells site_laws.earlier site_laws.present first next first since graph at stands is kept here
+
+pub returns-in_err-swap_rules-clause-within : goal.returns-in_err-swap_rules-clause-within
+returns-in_err-swap_rules-clause-within g c = λ tells next first since refreshed noted kept.
+    let site_laws = g.met.S.Site in
+    let at = c.args.site.now in
+    let graph = c.args.graph.now in
+    let stands = c.requires.stands tells in
+    let is = subst (IsGraphOf (entries_in graph.table)) c.nodes.ensures.value (c.nodes.ensures.graph c.requires.fresh) in
+    let was_kept = first_kept g.S.Site tells site_laws.earlier site_laws.present next first since graph at stands is kept noted.was noted.stored in
+    let flags = c.flags_are_of_rules.ensures (entries_of noted.stored.commits) noted.was noted.stored.graph in
+    let here = scan_within next (g.S.Site.known at) first noted.was graph.nodes (g.S.Site.world at).tree noted.stored noted.tree was_kept flags noted.scanned (c.requires.seen tells) in
+    let tree = (g.S.Site.world at).tree in
+    let known = g.S.Site.known at in
+    let found = c.args.found in
+    let rules = c.as_slice-3.result.now in
+    let linked = subst (λ (all : List (Names × Reading)). AreLinked all rules) c.as_slice.ensures (subst (AreLinked c.as_slice.result.now) (sym c.as_slice-3.ensures) c.in_ok-rules.ensures.linked) in
+    let can = subst (λ (all : List (Names × Reading)). (sources : Tree) → IsOutcome sources (Ok all) → IsTree sources → IsBuildable sources rules) c.as_slice.ensures
+    (subst (λ (l : List Rule). (sources : Tree) → IsOutcome sources (Ok c.as_slice.result.now) → IsTree sources → IsBuildable sources l) (sym c.as_slice-3.ensures) c.in_ok-rules.ensures.buildable) in
+    let fits = fits_so known graph.nodes tree found rules (site_laws.knows_tree at tells) (site_laws.is_tree at tells) (c.requires.seen tells) refreshed linked can in
+    let same = same_sources g.S.Site tells site_laws.earlier site_laws.present next first since graph at stands is kept noted.was noted.stored in
+    noted_within g.S.Site tells site_laws.earlier site_laws.present first graph.nodes (IsSwapped graph.nodes found.fresh found.gone rules) at c.swap_rules.new.site (c.swap_rules.ensures.crash tells) here
+    (λ new swapped. swap_within known first noted.was graph.nodes new noted.stored noted.scanned.2.owned found.fresh found.gone rules fits swapped
+    (swap_brought first (g.S.Site.world at) graph.nodes noted next known was_kept (c.requires.seen tells) found rules new
+    (subst (λ (sources : Tree). SeesSources sources graph.nodes) same (sees graph.nodes tree (c.requires.seen tells)))
+    (subst (λ (sources : Tree). IsRefresh graph.nodes sources (Ok found)) same refreshed) linked swapped))
+
+pub returns-clause-within : goal.returns-clause-within
+returns-clause-within g c = λ tells next first since refreshed noted kept.
+    let site_laws = g.met.S.Site in
+    let at = c.args.site.now in
+    let graph = c.args.graph.now in
+    let stands = c.requires.stands tells in
+    let is = subst (IsGraphOf (entries_in graph.table)) c.nodes.ensures.value (c.nodes.ensures.graph c.requires.fresh) in
+    let was_kept = first_kept g.S.Site tells site_laws.earlier site_laws.present next first since graph at stands is kept noted.was noted.stored in
+    let flags = c.flags_are_of_rules.ensures (entries_of noted.stored.commits) noted.was noted.stored.graph in
+    let here = scan_within next (g.S.Site.known at) first noted.was graph.nodes (g.S.Site.world at).tree noted.stored noted.tree was_kept flags noted.scanned (c.requires.seen tells) in
+    let tree = (g.S.Site.world at).tree in
+    let known = g.S.Site.known at in
+    let found = c.args.found in
+    let rules = c.as_slice-3.result.now in
+    let linked = subst (λ (all : List (Names × Reading)). AreLinked all rules) c.as_slice.ensures (subst (AreLinked c.as_slice.result.now) (sym c.as_slice-3.ensures) c.in_ok-rules.ensures.linked) in
+    let can = subst (λ (all : List (Names × Reading)). (sources : Tree) → IsOutcome sources (Ok all) → IsTree sources → IsBuildable sources rules) c.as_slice.ensures
+    (subst (λ (l : List Rule). (sources : Tree) → IsOutcome sources (Ok c.as_slice.result.now) → IsTree sources → IsBuildable sources l) (sym c.as_slice-3.ensures) c.in_ok-rules.ensures.buildable) in
+    let fits = fits_so known graph.nodes tree found rules (site_laws.knows_tree at tells) (site_laws.is_tree at tells) (c.requires.seen tells) refreshed linked can in
+    let same = same_sources g.S.Site tells site_laws.earlier site_laws.present next first since graph at stands is kept noted.was noted.stored in
+    noted_within g.S.Site tells site_laws.earlier site_laws.present first graph.nodes (IsSwapped graph.nodes found.fresh found.gone rules) at c.swap_rules.new.site (c.swap_rules.ensures.crash tells) here
+    (λ new swapped. swap_within known first noted.was graph.nodes new noted.stored noted.scanned.2.owned found.fresh found.gone rules fits swapped
+    (swap_brought first (g.S.Site.world at) graph.nodes noted next known was_kept (c.requires.seen tells) found rules new
+    (subst (λ (sources : Tree). SeesSources sources graph.nodes) same (sees graph.nodes tree (c.requires.seen tells)))
+    (subst (λ (sources : Tree). IsRefresh graph.nodes sources (Ok found)) same refreshed) linked swapped))
+
+-- ---- what the sources are blamed for
+
+pub returns-in_err-rules-clause-blame : goal.returns-in_err-rules-clause-blame
+returns-in_err-rules-clause-blame g c = λ tells next first since refreshed noted kept.
+    let site_laws = g.met.S.Site in
+    let at = c.args.site.now in
+    let graph = c.args.graph.now in
+    let found = c.args.found in
+    let fault = c.in_err-rules.field-0.0 in
+    let sources = sources_of graph.nodes (g.S.Site.world at).tree in
+    let is = subst (IsGraphOf (entries_in graph.table)) c.nodes.ensures.value (c.nodes.ensures.graph c.requires.fresh) in
+    let outcome = subst (λ (all : List (Names × Reading)). IsOutcome sources (Ok all)) (sym c.as_slice.ensures) (refreshed_read graph.nodes sources (Ok found) refreshed) in
+    err_if c.from_residual.result (stop_of_project fault) (BlamesSources first) c.from_residual.ensures.1
+    (link_blames first noted.was noted.stored fault
+    (subst (λ (sources : Tree). ComeTo sources (Err fault)) (same_sources g.S.Site tells site_laws.earlier site_laws.present next first since graph at (c.requires.stands tells) is kept noted.was noted.stored)
+    (c.in_err-rules.ensures.fault sources outcome)))
+
+pub returns-in_err-read-clause-blame : goal.returns-in_err-read-clause-blame
+returns-in_err-read-clause-blame g c = λ tells next first since refreshed noted kept. err_if c.from_residual-in_err-read.result no_memory (BlamesSources first) c.from_residual-in_err-read.ensures.1 tt
+
+pub returns-in_err-swap_rules-clause-blame : goal.returns-in_err-swap_rules-clause-blame
+returns-in_err-swap_rules-clause-blame g c = λ tells next first since refreshed noted kept.
+    let fault = c.in_err-swap_rules.field-0.0 in
+    err_if c.from_residual-in_err-swap_rules.result (stop_of_graph fault) (BlamesSources first) c.from_residual-in_err-swap_rules.ensures.1 (graph_blames first fault)
+
+-- ---- what is owned
+
+pub returns-in_err-rules-clause-owns : goal.returns-in_err-rules-clause-owns
+returns-in_err-rules-clause-owns g c = λ tells next since begun refreshed noted kept owns. owns
+
+pub returns-in_err-read-clause-owns : goal.returns-in_err-read-clause-owns
+returns-in_err-read-clause-owns g c = λ tells next since begun refreshed noted kept owns. owns
+
+pub returns-in_err-swap_rules-clause-owns : goal.returns-in_err-swap_rules-clause-owns
+returns-in_err-swap_rules-clause-owns g c = λ tells next since begun refreshed noted kept owns.
+    let first = g.S.Site.world begun in
+    let site_laws = g.met.S.Site in
+    let at = c.args.site.now in
+    let graph = c.args.graph.now in
+    let stands = c.requires.stands tells in
+    let is = subst (IsGraphOf (entries_in graph.table)) c.nodes.ensures.value (c.nodes.ensures.graph c.requires.fresh) in
+    let was_kept = first_kept g.S.Site tells site_laws.earlier site_laws.present next first since graph at stands is kept noted.was noted.stored in
+    let tree = (g.S.Site.world at).tree in
+    let known = g.S.Site.known at in
+    let found = c.args.found in
+    let rules = c.as_slice-3.result.now in
+    let linked = subst (λ (all : List (Names × Reading)). AreLinked all rules) c.as_slice.ensures (subst (AreLinked c.as_slice.result.now) (sym c.as_slice-3.ensures) c.in_ok-rules.ensures.linked) in
+    let can = subst (λ (all : List (Names × Reading)). (sources : Tree) → IsOutcome sources (Ok all) → IsTree sources → IsBuildable sources rules) c.as_slice.ensures
+    (subst (λ (l : List Rule). (sources : Tree) → IsOutcome sources (Ok c.as_slice.result.now) → IsTree sources → IsBuildable sources l) (sym c.as_slice-3.ensures) c.in_ok-rules.ensures.buildable) in
+    let fits = fits_so known graph.nodes tree found rules (site_laws.knows_tree at tells) (site_laws.is_tree at tells) (c.requires.seen tells) refreshed linked can in
+    let same = same_sources g.S.Site tells site_laws.earlier site_laws.present next first since graph at stands is kept noted.was noted.stored in
+    let stored = stored_over g.S.Site tells site_laws.earlier site_laws.present graph at stands is in
+    noted_owns g.S.Site tells site_laws.earlier site_laws.present begun since at c.swap_rules.new.site kept.began owns graph.nodes stored (IsSwapped graph.nodes found.fresh found.gone rules) (c.swap_rules.ensures.crash tells)
+    (λ new swapped path mine. ⊎_elim (own_here g.S.Site tells site_laws.earlier site_laws.present begun since at c.swap_rules.new.site kept.began owns graph.nodes stored path) inr
+    (swap_owned known graph.nodes new found.fresh found.gone rules fits swapped first
+    (swap_brought first (g.S.Site.world at) graph.nodes noted next known was_kept (c.requires.seen tells) found rules new
+    (subst (λ (sources : Tree). SeesSources sources graph.nodes) same (sees graph.nodes tree (c.requires.seen tells)))
+    (subst (λ (sources : Tree). IsRefresh graph.nodes sources (Ok found)) same refreshed) linked swapped) path mine))
+
+pub returns-clause-owns : goal.returns-clause-owns
+returns-clause-owns g c = λ tells next since begun refreshed noted kept owns.
+    let first = g.S.Site.world begun in
+    let site_laws = g.met.S.Site in
+    let at = c.args.site.now in
+    let graph = c.args.graph.now in
+    let stands = c.requires.stands tells in
+    let is = subst (IsGraphOf (entries_in graph.table)) c.nodes.ensures.value (c.nodes.ensures.graph c.requires.fresh) in
+    let was_kept = first_kept g.S.Site tells site_laws.earlier site_laws.present next first since graph at stands is kept noted.was noted.stored in
+    let tree = (g.S.Site.world at).tree in
+    let known = g.S.Site.known at in
+    let found = c.args.found in
+    let rules = c.as_slice-3.result.now in
+    let linked = subst (λ (all : List (Names × Reading)). AreLinked all rules) c.as_slice.ensures (subst (AreLinked c.as_slice.result.now) (sym c.as_slice-3.ensures) c.in_ok-rules.ensures.linked) in
+    let can = subst (λ (all : List (Names × Reading)). (sources : Tree) → IsOutcome sources (Ok all) → IsTree sources → IsBuildable sources rules) c.as_slice.ensures
+    (subst (λ (l : List Rule). (sources : Tree) → IsOutcome sources (Ok c.as_slice.result.now) → IsTree sources → IsBuildable sources l) (sym c.as_slice-3.ensures) c.in_ok-rules.ensures.buildable) in
+    let fits = fits_so known graph.nodes tree found rules (site_laws.knows_tree at tells) (site_laws.is_tree at tells) (c.requires.seen tells) refreshed linked can in
+    let same = same_sources g.S.Site tells site_laws.earlier site_laws.present next first since graph at stands is kept noted.was noted.stored in
+    let stored = stored_over g.S.Site tells site_laws.earlier site_laws.present graph at stands is in
+    noted_owns g.S.Site tells site_laws.earlier site_laws.present begun since at c.swap_rules.new.site kept.began owns graph.nodes stored (IsSwapped graph.nodes found.fresh found.gone rules) (c.swap_rules.ensures.crash tells)
+    (λ new swapped path mine. ⊎_elim (own_here g.S.Site tells site_laws.earlier site_laws.present begun since at c.swap_rules.new.site kept.began owns graph.nodes stored path) inr
+    (swap_owned known graph.nodes new found.fresh found.gone rules fits swapped first
+    (swap_brought first (g.S.Site.world at) graph.nodes noted next known was_kept (c.requires.seen tells) found rules new
+    (subst (λ (sources : Tree). SeesSources sources graph.nodes) same (sees graph.nodes tree (c.requires.seen tells)))
+    (subst (λ (sources : Tree). IsRefresh graph.nodes sources (Ok found)) same refreshed) linked swapped) path mine))

@@ -1,3 +1,8 @@
+use Rattle.tup_phases.proofs.Owning.{cleared_owns, stored_over}
+use Rattle.tup_phases.specs.Kept.{BlamesSources}
+use Rattle.tup_phases.proofs.Blaming.{stale_blames}
+use Rattle.tup_stale.specs.Unmade.{standing, unmade}
+use Rattle.tup_phases.proofs.Within.{cleared_within, within_over}
 use Rattle.std.proofs.Common.{ap, subst}
 use Rattle.tup_table.specs.Table.{entries_in}
 use Rattle.tup_graph.specs.Opening.{IsGraphOf}
@@ -74,3 +79,48 @@ returns-clause-stays g c =
 
 pub returns-clause-graph : goal.returns-clause-graph
 returns-clause-graph g c = subst (IsGraphOf (entries_in c.clear.new.graph.table)) c.nodes-2.ensures.value (c.nodes-2.ensures.graph c.in_ok-log.ensures.fresh)
+
+pub returns-in_err-log-clause-within : goal.returns-in_err-log-clause-within
+returns-in_err-log-clause-within g c = λ tells next first since holds kept.
+    let site_laws = g.met.S.Site in
+    let at = c.args.site.now in
+    let graph = c.args.graph.now in
+    let tree = (g.S.Site.world at).tree in
+    let is = subst (IsGraphOf (entries_in graph.table)) c.nodes.ensures.value (c.nodes.ensures.graph c.requires.fresh) in
+    cleared_within g.S.Site tells site_laws.earlier site_laws.present first graph.nodes (standing tree (unmade graph.nodes)) tree at c.clear.new.site (c.clear.ensures.crash tells)
+    (within_over g.S.Site tells site_laws.earlier site_laws.present first next first since graph at (c.requires.stands tells) is kept holds)
+
+pub returns-clause-within : goal.returns-clause-within
+returns-clause-within g c = λ tells next first since holds kept.
+    let site_laws = g.met.S.Site in
+    let at = c.args.site.now in
+    let graph = c.args.graph.now in
+    let tree = (g.S.Site.world at).tree in
+    let is = subst (IsGraphOf (entries_in graph.table)) c.nodes.ensures.value (c.nodes.ensures.graph c.requires.fresh) in
+    cleared_within g.S.Site tells site_laws.earlier site_laws.present first graph.nodes (standing tree (unmade graph.nodes)) tree at c.clear.new.site (c.clear.ensures.crash tells)
+    (within_over g.S.Site tells site_laws.earlier site_laws.present first next first since graph at (c.requires.stands tells) is kept holds)
+
+pub returns-in_err-log-clause-blame : goal.returns-in_err-log-clause-blame
+returns-in_err-log-clause-blame g c = λ first.
+    let fault = c.in_err-log.field-0.0 in
+    err_if c.from_residual.result (stop_of_stale fault) (BlamesSources first) c.from_residual.ensures.1 (stale_blames first fault)
+
+pub returns-in_err-log-clause-owns : goal.returns-in_err-log-clause-owns
+returns-in_err-log-clause-owns g c = λ tells begun since within owns.
+    let site_laws = g.met.S.Site in
+    let at = c.args.site.now in
+    let graph = c.args.graph.now in
+    let tree = (g.S.Site.world at).tree in
+    let is = subst (IsGraphOf (entries_in graph.table)) c.nodes.ensures.value (c.nodes.ensures.graph c.requires.fresh) in
+    let stored = stored_over g.S.Site tells site_laws.earlier site_laws.present graph at (c.requires.stands tells) is in
+    cleared_owns g.S.Site tells site_laws.earlier site_laws.present begun since at c.clear.new.site within owns graph.nodes stored (standing tree (unmade graph.nodes)) tree (c.clear.ensures.crash tells)
+
+pub returns-clause-owns : goal.returns-clause-owns
+returns-clause-owns g c = λ tells begun since within owns.
+    let site_laws = g.met.S.Site in
+    let at = c.args.site.now in
+    let graph = c.args.graph.now in
+    let tree = (g.S.Site.world at).tree in
+    let is = subst (IsGraphOf (entries_in graph.table)) c.nodes.ensures.value (c.nodes.ensures.graph c.requires.fresh) in
+    let stored = stored_over g.S.Site tells site_laws.earlier site_laws.present graph at (c.requires.stands tells) is in
+    cleared_owns g.S.Site tells site_laws.earlier site_laws.present begun since at c.clear.new.site within owns graph.nodes stored (standing tree (unmade graph.nodes)) tree (c.clear.ensures.crash tells)

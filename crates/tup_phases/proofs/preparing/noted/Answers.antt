@@ -1,7 +1,14 @@
-use Rattle.std.proofs.Common.{ap, sym, subst, ◌∙◌, Some}
+use Rattle.std.proofs.Common.{◌≤◌, is_some, arith, ap, sym, subst, ◌∙◌, Some}
+use Rattle.tup_path.specs.Order.{by_names}
+use Rattle.tup_graph.specs.declared.owned.Owned.{Owned}
+use Rattle.tup_phases.proofs.Owning.{noted_owns, own_here, read_owns, stored_over}
+use Rattle.tup_phases.specs.Kept.{BlamesSources}
+use Rattle.tup_phases.proofs.Blaming.{graph_blames, scan_blames}
+use Rattle.tup_graph.specs.Scan.{IsScanned}
+use Rattle.tup_phases.proofs.Keeping.{first_kept, config_known, files_both, files_read, noted_keeps, since_read}
+use Rattle.tup_phases.proofs.Within.{noted_within, over_within, own_within, scan_within}
 use Rattle.tup_table.specs.Table.{entries_in}
 use Rattle.tup_graph.specs.Opening.{IsGraphOf}
-use Rattle.tup_phases.proofs.Keeping.{config_known, files_both, files_read, noted_keeps, since_read}
 use Rattle.std.specs.FinMap as finite
 use Rattle.tup_graph.specs.Answers.{tup_config}
 use Rattle.tup_site.specs.World.{World}
@@ -126,3 +133,104 @@ returns-clause-config g c = λ tells. (c.in_ok-seen.ensures.seen tells).config
 
 pub returns-clause-scanned : goal.returns-clause-scanned
 returns-clause-scanned g c = (c.in_ok-seen.seen.files, c.in_ok-seen.seen.config, c.in_ok-note_scan.ensures.scanned)
+
+-- ---- what stands in the store then stays within what a world had
+
+pub returns-in_err-seen-clause-within : goal.returns-in_err-seen-clause-within
+returns-in_err-seen-clause-within g c = λ tells next first since stored tree_is kept.
+    let site_laws = g.met.S.Site in
+    let old = c.args.site.now in
+    let mid = c.scan.new.site in
+    let graph = c.args.graph.now in
+    let crash = c.scan.ensures.crash tells in
+    let same = c.scan.ensures.same tells in
+    let is = subst (IsGraphOf (entries_in graph.table)) c.nodes.ensures.value (c.nodes.ensures.graph c.requires.fresh) in
+    let flags = c.flags_are_of_rules.ensures (entries_in graph.table) graph.nodes is in
+    over_within g.S.Site tells site_laws.earlier site_laws.present first next first since graph mid (c.reads_keep_graphs.ensures graph mid tells same crash (c.requires.stands tells)) is
+    (since_read g.S.Site next first since old mid (files_read g.S.Site old mid same crash (c.scan.ensures.known tells)) crash kept) (own_within first graph.nodes stored flags)
+
+pub returns-in_err-note_scan-clause-within : goal.returns-in_err-note_scan-clause-within
+returns-in_err-note_scan-clause-within g c = λ tells next first since stored tree_is kept.
+    let site_laws = g.met.S.Site in
+    let old = c.args.site.now in
+    let mid = c.scan.new.site in
+    let graph = c.args.graph.now in
+    let crash = c.scan.ensures.crash tells in
+    let same = c.scan.ensures.same tells in
+    let is = subst (IsGraphOf (entries_in graph.table)) c.nodes.ensures.value (c.nodes.ensures.graph c.requires.fresh) in
+    let flags = c.flags_are_of_rules.ensures (entries_in graph.table) graph.nodes is in
+    let seen = c.in_ok-seen.seen in
+    let tree = (g.S.Site.world old).tree in
+    let was_kept = first_kept g.S.Site tells site_laws.earlier site_laws.present next first since graph old (c.requires.stands tells) is kept graph.nodes stored in
+    noted_within g.S.Site tells site_laws.earlier site_laws.present first graph.nodes (IsScanned graph.nodes seen.files seen.config) mid c.note_scan.new.site (c.note_scan.ensures.crash tells) (own_within first graph.nodes stored flags)
+    (λ new scanned. scan_within next (g.S.Site.known old) first graph.nodes new tree stored tree_is was_kept flags (seen.files, seen.config, scanned) (λ path. c.scans_see.ensures graph.nodes new tree seen path (c.in_ok-seen.ensures.seen tells) scanned))
+
+pub returns-clause-within : goal.returns-clause-within
+returns-clause-within g c = λ tells next first since stored tree_is kept.
+    let site_laws = g.met.S.Site in
+    let old = c.args.site.now in
+    let mid = c.scan.new.site in
+    let graph = c.args.graph.now in
+    let crash = c.scan.ensures.crash tells in
+    let same = c.scan.ensures.same tells in
+    let is = subst (IsGraphOf (entries_in graph.table)) c.nodes.ensures.value (c.nodes.ensures.graph c.requires.fresh) in
+    let flags = c.flags_are_of_rules.ensures (entries_in graph.table) graph.nodes is in
+    let seen = c.in_ok-seen.seen in
+    let tree = (g.S.Site.world old).tree in
+    let was_kept = first_kept g.S.Site tells site_laws.earlier site_laws.present next first since graph old (c.requires.stands tells) is kept graph.nodes stored in
+    noted_within g.S.Site tells site_laws.earlier site_laws.present first graph.nodes (IsScanned graph.nodes seen.files seen.config) mid c.note_scan.new.site (c.note_scan.ensures.crash tells) (own_within first graph.nodes stored flags)
+    (λ new scanned. scan_within next (g.S.Site.known old) first graph.nodes new tree stored tree_is was_kept flags (seen.files, seen.config, scanned) (λ path. c.scans_see.ensures graph.nodes new tree seen path (c.in_ok-seen.ensures.seen tells) scanned))
+
+-- ---- what the sources are blamed for
+
+pub returns-in_err-seen-clause-blame : goal.returns-in_err-seen-clause-blame
+returns-in_err-seen-clause-blame g c = λ tells first same.
+    let fault = c.in_err-seen.field-0.0 in
+    err_if c.from_residual.result (stop_of_scan fault) (BlamesSources first) c.from_residual.ensures.1
+    (scan_blames first (g.S.Site.world c.args.site.now).tree c.scan.result fault same c.in_err-seen.was (c.scan.ensures.named tells))
+
+pub returns-in_err-note_scan-clause-blame : goal.returns-in_err-note_scan-clause-blame
+returns-in_err-note_scan-clause-blame g c = λ tells first same.
+    let fault = c.in_err-note_scan.field-0.0 in
+    err_if c.from_residual-in_err-note_scan.result (stop_of_graph fault) (BlamesSources first) c.from_residual-in_err-note_scan.ensures.1 (graph_blames first fault)
+
+-- ---- what is owned
+
+pub returns-in_err-seen-clause-owns : goal.returns-in_err-seen-clause-owns
+returns-in_err-seen-clause-owns g c = λ tells.
+    let site_laws = g.met.S.Site in
+    read_owns g.S.Site tells site_laws.earlier site_laws.present c.args.site.now c.scan.new.site (c.scan.ensures.crash tells)
+
+pub returns-in_err-note_scan-clause-owns : goal.returns-in_err-note_scan-clause-owns
+returns-in_err-note_scan-clause-owns g c = λ tells begun since within owns.
+    let site_laws = g.met.S.Site in
+    let old = c.args.site.now in
+    let mid = c.scan.new.site in
+    let graph = c.args.graph.now in
+    let seen = c.in_ok-seen.seen in
+    let crash = c.scan.ensures.crash tells in
+    let is = subst (IsGraphOf (entries_in graph.table)) c.nodes.ensures.value (c.nodes.ensures.graph c.requires.fresh) in
+    let later = crash.later in
+    let there : since ≤ g.S.Site.moment mid = omega (arith, within, later) in
+    let owned = read_owns g.S.Site tells site_laws.earlier site_laws.present old mid crash begun since within owns in
+    let stored = stored_over g.S.Site tells site_laws.earlier site_laws.present graph mid (c.reads_keep_graphs.ensures graph mid tells (c.scan.ensures.same tells) crash (c.requires.stands tells)) is in
+    noted_owns g.S.Site tells site_laws.earlier site_laws.present begun since mid c.note_scan.new.site there owned graph.nodes stored (IsScanned graph.nodes seen.files seen.config) (c.note_scan.ensures.crash tells)
+    (λ new scanned path mine. own_here g.S.Site tells site_laws.earlier site_laws.present begun since mid c.note_scan.new.site there owned graph.nodes stored path
+    (sym (ap (λ (m : finite.FinMap by_names Owned). is_some (finite.get m path)) scanned.owned) ∙ mine))
+
+pub returns-clause-owns : goal.returns-clause-owns
+returns-clause-owns g c = λ tells begun since within owns.
+    let site_laws = g.met.S.Site in
+    let old = c.args.site.now in
+    let mid = c.scan.new.site in
+    let graph = c.args.graph.now in
+    let seen = c.in_ok-seen.seen in
+    let crash = c.scan.ensures.crash tells in
+    let is = subst (IsGraphOf (entries_in graph.table)) c.nodes.ensures.value (c.nodes.ensures.graph c.requires.fresh) in
+    let later = crash.later in
+    let there : since ≤ g.S.Site.moment mid = omega (arith, within, later) in
+    let owned = read_owns g.S.Site tells site_laws.earlier site_laws.present old mid crash begun since within owns in
+    let stored = stored_over g.S.Site tells site_laws.earlier site_laws.present graph mid (c.reads_keep_graphs.ensures graph mid tells (c.scan.ensures.same tells) crash (c.requires.stands tells)) is in
+    noted_owns g.S.Site tells site_laws.earlier site_laws.present begun since mid c.note_scan.new.site there owned graph.nodes stored (IsScanned graph.nodes seen.files seen.config) (c.note_scan.ensures.crash tells)
+    (λ new scanned path mine. own_here g.S.Site tells site_laws.earlier site_laws.present begun since mid c.note_scan.new.site there owned graph.nodes stored path
+    (sym (ap (λ (m : finite.FinMap by_names Owned). is_some (finite.get m path)) scanned.owned) ∙ mine))

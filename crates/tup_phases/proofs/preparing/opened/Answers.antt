@@ -1,3 +1,8 @@
+use Rattle.tup_phases.proofs.Owning.{opening_owns}
+use Rattle.tup_phases.specs.Kept.{BlamesSources}
+use Rattle.tup_phases.proofs.Blaming.{graph_blames}
+use Rattle.tup_table.specs.Entries.{entries_of}
+use Rattle.tup_phases.proofs.Within.{opened_back, own_within}
 use Rattle.tup_law_site.proofs.Stores.{in_bytes}
 use Rattle.tup_ledger.proofs.Opening.{opened_store}
 use Rattle.tup_phases.proofs.Keeping.{opened_keeps}
@@ -59,3 +64,34 @@ returns-clause-stored g c = λ tells.
     let graph = c.in_ok-open.field-0 in
     let bytes = (g.S.Site.world c.args.site.now).store in
     in_bytes graph.nodes bytes (opened_store bytes (g.S.Site.world c.open.new.site).store graph (c.in_ok-open.ensures.opens tells) c.in_ok-open.ensures.graph.1)
+
+-- ---- what stands in the store then stays within what stood there
+
+pub returns-in_err-open-clause-within : goal.returns-in_err-open-clause-within
+returns-in_err-open-clause-within g c = λ tells.
+    let first = g.S.Site.world c.args.site.now in
+    λ graph reads.
+    let stored = opened_back first (g.S.Site.world c.open.new.site) (c.open.ensures.keeps tells) graph reads in
+    own_within first graph stored (c.flags_are_of_rules.ensures (entries_of stored.commits) graph stored.graph)
+
+pub returns-clause-within : goal.returns-clause-within
+returns-clause-within g c = λ tells.
+    let first = g.S.Site.world c.args.site.now in
+    λ graph reads.
+    let stored = opened_back first (g.S.Site.world c.open.new.site) (c.open.ensures.keeps tells) graph reads in
+    own_within first graph stored (c.flags_are_of_rules.ensures (entries_of stored.commits) graph stored.graph)
+
+pub returns-in_err-open-clause-blame : goal.returns-in_err-open-clause-blame
+returns-in_err-open-clause-blame g c = λ first.
+    let fault = c.in_err-open.field-0.0 in
+    err_if c.from_residual.result (stop_of_graph fault) (BlamesSources first) c.from_residual.ensures.1 (graph_blames first fault)
+
+pub returns-in_err-open-clause-owns : goal.returns-in_err-open-clause-owns
+returns-in_err-open-clause-owns g c = λ tells.
+    let site_laws = g.met.S.Site in
+    opening_owns g.S.Site tells site_laws.earlier site_laws.present c.args.site.now c.open.new.site (c.open.ensures.crash tells)
+
+pub returns-clause-owns : goal.returns-clause-owns
+returns-clause-owns g c = λ tells.
+    let site_laws = g.met.S.Site in
+    opening_owns g.S.Site tells site_laws.earlier site_laws.present c.args.site.now c.open.new.site (c.open.ensures.crash tells)

@@ -1,8 +1,10 @@
-use Rattle.std.proofs.Common.{ap, sym, ◌≡◌, ◌∙◌, Some}
+use Rattle.std.proofs.Common.{inl, ap, sym, ◌∙◌, Some}
+use Rattle.tup_promise.specs.Crashes.{OwnsNoMore}
+use Rattle.tup_phases.specs.Kept.{BlamesSources, IsNoted}
+use Rattle.tup_phases.proofs.Within.{within_over}
 use Rattle.std.specs.FinMap as finite
 use Rattle.tup_path.specs.Tree.{Tree}
 use Rattle.tup_graph.specs.Answers.{tup_config}
-use Rattle.tup_phases.specs.Kept.{IsNoted}
 use Rattle.tup_phases.proofs.Brought.{brought_on}
 use Rattle.tup_phases.proofs.Keeping.{files_both, keeps_same, now_kept, over, since_now}
 use Rattle.tup_promise.specs.Cause.{HasCountedCause}
@@ -303,3 +305,237 @@ returns-clause-prepared g c = λ tells next kept.
       rules = it.rules;
       due = it.due;
     }
+
+-- ---- what stands in the store then stays within what stood there at first
+
+pub returns-in_err-graph-clause-due : goal.returns-in_err-graph-clause-due
+returns-in_err-graph-clause-due g c = λ tells next kept.
+    let old = c.args.site.now in
+    let first = g.S.Site.world old in
+    let since = g.S.Site.moment old in
+    let within = c.opened.ensures.within tells in
+    let here = returns-in_err-graph-clause-kept g c tells next kept in
+    (here.now.graph, here.now.reads, (within here.now.graph here.now.reads).due)
+
+pub returns-in_err-graph-clause-states : goal.returns-in_err-graph-clause-states
+returns-in_err-graph-clause-states g c = λ tells next kept.
+    let old = c.args.site.now in
+    let first = g.S.Site.world old in
+    let since = g.S.Site.moment old in
+    let within = c.opened.ensures.within tells in
+    let here = returns-in_err-graph-clause-kept g c tells next kept in
+    (here.now.graph, here.now.reads, (within here.now.graph here.now.reads).states)
+
+pub returns-in_err-config-clause-due : goal.returns-in_err-config-clause-due
+returns-in_err-config-clause-due g c = λ tells next kept.
+    let old = c.args.site.now in
+    let first = g.S.Site.world old in
+    let since = g.S.Site.moment old in
+    let opened = c.opened.ensures.kept tells next first since (since_now g.S.Site next old kept) in
+    let within = c.noted.ensures.within tells next first since (c.in_ok-graph.ensures.stored tells) (c.opened.ensures.files tells).tree opened in
+    let here = returns-in_err-config-clause-kept g c tells next kept in
+    (here.now.graph, here.now.reads, (within here.now.graph here.now.reads).due)
+
+pub returns-in_err-config-clause-states : goal.returns-in_err-config-clause-states
+returns-in_err-config-clause-states g c = λ tells next kept.
+    let old = c.args.site.now in
+    let first = g.S.Site.world old in
+    let since = g.S.Site.moment old in
+    let opened = c.opened.ensures.kept tells next first since (since_now g.S.Site next old kept) in
+    let within = c.noted.ensures.within tells next first since (c.in_ok-graph.ensures.stored tells) (c.opened.ensures.files tells).tree opened in
+    let here = returns-in_err-config-clause-kept g c tells next kept in
+    (here.now.graph, here.now.reads, (within here.now.graph here.now.reads).states)
+
+pub returns-in_err-brought-clause-due : goal.returns-in_err-brought-clause-due
+returns-in_err-brought-clause-due g c = λ tells next kept.
+    let old = c.args.site.now in
+    let first = g.S.Site.world old in
+    let since = g.S.Site.moment old in
+    let opened = c.opened.ensures.kept tells next first since (since_now g.S.Site next old kept) in
+    let scanned = c.noted.ensures.kept tells next first since opened in
+    let files = files_both g.S.Site old c.opened.new.site c.noted.new.site (c.opened.ensures.files tells) (c.noted.ensures.files tells) in
+    let noted : IsNoted first (g.S.Site.world c.noted.new.site) c.noted.new.graph.nodes = record { was = c.in_ok-graph.graph.nodes; stored = c.in_ok-graph.ensures.stored tells; scanned = c.in_ok-config.ensures.scanned; tree = files.tree } in
+    let within = c.brought.ensures.within tells next first since noted scanned in
+    let here = returns-in_err-brought-clause-kept g c tells next kept in
+    (here.now.graph, here.now.reads, (within here.now.graph here.now.reads).due)
+
+pub returns-in_err-brought-clause-states : goal.returns-in_err-brought-clause-states
+returns-in_err-brought-clause-states g c = λ tells next kept.
+    let old = c.args.site.now in
+    let first = g.S.Site.world old in
+    let since = g.S.Site.moment old in
+    let opened = c.opened.ensures.kept tells next first since (since_now g.S.Site next old kept) in
+    let scanned = c.noted.ensures.kept tells next first since opened in
+    let files = files_both g.S.Site old c.opened.new.site c.noted.new.site (c.opened.ensures.files tells) (c.noted.ensures.files tells) in
+    let noted : IsNoted first (g.S.Site.world c.noted.new.site) c.noted.new.graph.nodes = record { was = c.in_ok-graph.graph.nodes; stored = c.in_ok-graph.ensures.stored tells; scanned = c.in_ok-config.ensures.scanned; tree = files.tree } in
+    let within = c.brought.ensures.within tells next first since noted scanned in
+    let here = returns-in_err-brought-clause-kept g c tells next kept in
+    (here.now.graph, here.now.reads, (within here.now.graph here.now.reads).states)
+
+pub returns-in_err-cleared-clause-due : goal.returns-in_err-cleared-clause-due
+returns-in_err-cleared-clause-due g c = λ tells next kept.
+    let old = c.args.site.now in
+    let first = g.S.Site.world old in
+    let since = g.S.Site.moment old in
+    let opened = c.opened.ensures.kept tells next first since (since_now g.S.Site next old kept) in
+    let scanned = c.noted.ensures.kept tells next first since opened in
+    let files = files_both g.S.Site old c.opened.new.site c.noted.new.site (c.opened.ensures.files tells) (c.noted.ensures.files tells) in
+    let noted : IsNoted first (g.S.Site.world c.noted.new.site) c.noted.new.graph.nodes = record { was = c.in_ok-graph.graph.nodes; stored = c.in_ok-graph.ensures.stored tells; scanned = c.in_ok-config.ensures.scanned; tree = files.tree } in
+    let within = c.cleared.ensures.within tells next first since (c.brought.ensures.within tells next first since noted scanned) (c.brought.ensures.kept tells next first since noted scanned) in
+    let here = returns-in_err-cleared-clause-kept g c tells next kept in
+    (here.now.graph, here.now.reads, (within here.now.graph here.now.reads).due)
+
+pub returns-in_err-cleared-clause-states : goal.returns-in_err-cleared-clause-states
+returns-in_err-cleared-clause-states g c = λ tells next kept.
+    let old = c.args.site.now in
+    let first = g.S.Site.world old in
+    let since = g.S.Site.moment old in
+    let opened = c.opened.ensures.kept tells next first since (since_now g.S.Site next old kept) in
+    let scanned = c.noted.ensures.kept tells next first since opened in
+    let files = files_both g.S.Site old c.opened.new.site c.noted.new.site (c.opened.ensures.files tells) (c.noted.ensures.files tells) in
+    let noted : IsNoted first (g.S.Site.world c.noted.new.site) c.noted.new.graph.nodes = record { was = c.in_ok-graph.graph.nodes; stored = c.in_ok-graph.ensures.stored tells; scanned = c.in_ok-config.ensures.scanned; tree = files.tree } in
+    let within = c.cleared.ensures.within tells next first since (c.brought.ensures.within tells next first since noted scanned) (c.brought.ensures.kept tells next first since noted scanned) in
+    let here = returns-in_err-cleared-clause-kept g c tells next kept in
+    (here.now.graph, here.now.reads, (within here.now.graph here.now.reads).states)
+
+pub returns-clause-due : goal.returns-clause-due
+returns-clause-due g c = λ tells next kept.
+    let old = c.args.site.now in
+    let first = g.S.Site.world old in
+    let since = g.S.Site.moment old in
+    let opened = c.opened.ensures.kept tells next first since (since_now g.S.Site next old kept) in
+    let scanned = c.noted.ensures.kept tells next first since opened in
+    let files = files_both g.S.Site old c.opened.new.site c.noted.new.site (c.opened.ensures.files tells) (c.noted.ensures.files tells) in
+    let noted : IsNoted first (g.S.Site.world c.noted.new.site) c.noted.new.graph.nodes = record { was = c.in_ok-graph.graph.nodes; stored = c.in_ok-graph.ensures.stored tells; scanned = c.in_ok-config.ensures.scanned; tree = files.tree } in
+    let within = c.cleared.ensures.within tells next first since (c.brought.ensures.within tells next first since noted scanned) (c.brought.ensures.kept tells next first since noted scanned) in
+    let here = returns-clause-kept g c tells next kept in
+    (here.now.graph, here.now.reads, (within here.now.graph here.now.reads).due)
+
+pub returns-clause-states : goal.returns-clause-states
+returns-clause-states g c = λ tells next kept.
+    let old = c.args.site.now in
+    let first = g.S.Site.world old in
+    let since = g.S.Site.moment old in
+    let opened = c.opened.ensures.kept tells next first since (since_now g.S.Site next old kept) in
+    let scanned = c.noted.ensures.kept tells next first since opened in
+    let files = files_both g.S.Site old c.opened.new.site c.noted.new.site (c.opened.ensures.files tells) (c.noted.ensures.files tells) in
+    let noted : IsNoted first (g.S.Site.world c.noted.new.site) c.noted.new.graph.nodes = record { was = c.in_ok-graph.graph.nodes; stored = c.in_ok-graph.ensures.stored tells; scanned = c.in_ok-config.ensures.scanned; tree = files.tree } in
+    let within = c.cleared.ensures.within tells next first since (c.brought.ensures.within tells next first since noted scanned) (c.brought.ensures.kept tells next first since noted scanned) in
+    let here = returns-clause-kept g c tells next kept in
+    (here.now.graph, here.now.reads, (within here.now.graph here.now.reads).states)
+
+pub returns-clause-prepared_states : goal.returns-clause-prepared_states
+returns-clause-prepared_states g c = λ tells next kept.
+    let site_laws = g.met.S.Site in
+    let old = c.args.site.now in
+    let first = g.S.Site.world old in
+    let since = g.S.Site.moment old in
+    let opened = c.opened.ensures.kept tells next first since (since_now g.S.Site next old kept) in
+    let scanned = c.noted.ensures.kept tells next first since opened in
+    let files = files_both g.S.Site old c.opened.new.site c.noted.new.site (c.opened.ensures.files tells) (c.noted.ensures.files tells) in
+    let noted : IsNoted first (g.S.Site.world c.noted.new.site) c.noted.new.graph.nodes = record { was = c.in_ok-graph.graph.nodes; stored = c.in_ok-graph.ensures.stored tells; scanned = c.in_ok-config.ensures.scanned; tree = files.tree } in
+    let within = c.cleared.ensures.within tells next first since (c.brought.ensures.within tells next first since noted scanned) (c.brought.ensures.kept tells next first since noted scanned) in
+    let ready = returns-clause-prepared g c tells next kept in
+    (within_over g.S.Site tells site_laws.earlier site_laws.present first next first since c.cleared.new.graph c.cleared.new.site ready.over.stands ready.over.is_graph (record { began = ready.over.began; kept = ready.over.kept }) within).states
+
+-- ---- what the sources are blamed for
+
+pub returns-in_err-graph-clause-blame : goal.returns-in_err-graph-clause-blame
+returns-in_err-graph-clause-blame g c = λ tells next kept.
+    let first = g.S.Site.world c.args.site.now in
+    err_if c.from_residual.result c.in_err-graph.field-0.0 (BlamesSources first) c.from_residual.ensures.1 (c.in_err-graph.ensures.blame first)
+
+pub returns-in_err-config-clause-blame : goal.returns-in_err-config-clause-blame
+returns-in_err-config-clause-blame g c = λ tells next kept.
+    let first = g.S.Site.world c.args.site.now in
+    err_if c.from_residual-in_err-config.result c.in_err-config.field-0.0 (BlamesSources first) c.from_residual-in_err-config.ensures.1 (c.in_err-config.ensures.blame tells first (c.opened.ensures.files tells).tree)
+
+pub returns-in_err-brought-clause-blame : goal.returns-in_err-brought-clause-blame
+returns-in_err-brought-clause-blame g c = λ tells next kept.
+    let old = c.args.site.now in
+    let first = g.S.Site.world old in
+    let since = g.S.Site.moment old in
+    let opened = c.opened.ensures.kept tells next first since (since_now g.S.Site next old kept) in
+    let scanned = c.noted.ensures.kept tells next first since opened in
+    let files = files_both g.S.Site old c.opened.new.site c.noted.new.site (c.opened.ensures.files tells) (c.noted.ensures.files tells) in
+    let noted : IsNoted first (g.S.Site.world c.noted.new.site) c.noted.new.graph.nodes = record { was = c.in_ok-graph.graph.nodes; stored = c.in_ok-graph.ensures.stored tells; scanned = c.in_ok-config.ensures.scanned; tree = files.tree } in
+    err_if c.from_residual-in_err-brought.result c.in_err-brought.field-0.0 (BlamesSources first) c.from_residual-in_err-brought.ensures.1 (c.in_err-brought.ensures.blame tells next first since noted scanned)
+
+pub returns-in_err-cleared-clause-blame : goal.returns-in_err-cleared-clause-blame
+returns-in_err-cleared-clause-blame g c = λ tells next kept.
+    let first = g.S.Site.world c.args.site.now in
+    err_if c.from_residual-in_err-cleared.result c.in_err-cleared.field-0.0 (BlamesSources first) c.from_residual-in_err-cleared.ensures.1 (c.in_err-cleared.ensures.blame first)
+
+-- ---- what is owned
+
+pub returns-in_err-graph-clause-owns : goal.returns-in_err-graph-clause-owns
+returns-in_err-graph-clause-owns g c = λ tells next kept.
+    let old = c.args.site.now in
+    let first = g.S.Site.world old in
+    let since = g.S.Site.moment old in
+    let start = since_now g.S.Site next old kept in
+    let begun : OwnsNoMore g.S.Site old since old = λ w left. (let it = kept.later w left in (it.graph, it.reads, λ path owned. inl (w, left, (it.graph, it.reads, owned)))) in
+    let at_opened = c.opened.ensures.owns tells old since start.began begun in
+    at_opened
+
+pub returns-in_err-config-clause-owns : goal.returns-in_err-config-clause-owns
+returns-in_err-config-clause-owns g c = λ tells next kept.
+    let old = c.args.site.now in
+    let first = g.S.Site.world old in
+    let since = g.S.Site.moment old in
+    let start = since_now g.S.Site next old kept in
+    let begun : OwnsNoMore g.S.Site old since old = λ w left. (let it = kept.later w left in (it.graph, it.reads, λ path owned. inl (w, left, (it.graph, it.reads, owned)))) in
+    let at_opened = c.opened.ensures.owns tells old since start.began begun in
+    let opened = c.opened.ensures.kept tells next first since start in
+    let at_noted = c.noted.ensures.owns tells old since opened.began at_opened in
+    at_noted
+
+pub returns-in_err-brought-clause-owns : goal.returns-in_err-brought-clause-owns
+returns-in_err-brought-clause-owns g c = λ tells next kept.
+    let old = c.args.site.now in
+    let first = g.S.Site.world old in
+    let since = g.S.Site.moment old in
+    let start = since_now g.S.Site next old kept in
+    let begun : OwnsNoMore g.S.Site old since old = λ w left. (let it = kept.later w left in (it.graph, it.reads, λ path owned. inl (w, left, (it.graph, it.reads, owned)))) in
+    let at_opened = c.opened.ensures.owns tells old since start.began begun in
+    let opened = c.opened.ensures.kept tells next first since start in
+    let at_noted = c.noted.ensures.owns tells old since opened.began at_opened in
+    let scanned = c.noted.ensures.kept tells next first since opened in
+    let files = files_both g.S.Site old c.opened.new.site c.noted.new.site (c.opened.ensures.files tells) (c.noted.ensures.files tells) in
+    let noted : IsNoted first (g.S.Site.world c.noted.new.site) c.noted.new.graph.nodes = record { was = c.in_ok-graph.graph.nodes; stored = c.in_ok-graph.ensures.stored tells; scanned = c.in_ok-config.ensures.scanned; tree = files.tree } in
+    let at_brought = c.brought.ensures.owns tells next since old noted scanned at_noted in
+    at_brought
+
+pub returns-in_err-cleared-clause-owns : goal.returns-in_err-cleared-clause-owns
+returns-in_err-cleared-clause-owns g c = λ tells next kept.
+    let old = c.args.site.now in
+    let first = g.S.Site.world old in
+    let since = g.S.Site.moment old in
+    let start = since_now g.S.Site next old kept in
+    let begun : OwnsNoMore g.S.Site old since old = λ w left. (let it = kept.later w left in (it.graph, it.reads, λ path owned. inl (w, left, (it.graph, it.reads, owned)))) in
+    let at_opened = c.opened.ensures.owns tells old since start.began begun in
+    let opened = c.opened.ensures.kept tells next first since start in
+    let at_noted = c.noted.ensures.owns tells old since opened.began at_opened in
+    let scanned = c.noted.ensures.kept tells next first since opened in
+    let files = files_both g.S.Site old c.opened.new.site c.noted.new.site (c.opened.ensures.files tells) (c.noted.ensures.files tells) in
+    let noted : IsNoted first (g.S.Site.world c.noted.new.site) c.noted.new.graph.nodes = record { was = c.in_ok-graph.graph.nodes; stored = c.in_ok-graph.ensures.stored tells; scanned = c.in_ok-config.ensures.scanned; tree = files.tree } in
+    let at_brought = c.brought.ensures.owns tells next since old noted scanned at_noted in
+    let brought = c.brought.ensures.kept tells next first since noted scanned in
+    c.cleared.ensures.owns tells old since brought.began at_brought
+
+pub returns-clause-owns : goal.returns-clause-owns
+returns-clause-owns g c = λ tells next kept.
+    let old = c.args.site.now in
+    let first = g.S.Site.world old in
+    let since = g.S.Site.moment old in
+    let start = since_now g.S.Site next old kept in
+    let begun : OwnsNoMore g.S.Site old since old = λ w left. (let it = kept.later w left in (it.graph, it.reads, λ path owned. inl (w, left, (it.graph, it.reads, owned)))) in
+    let at_opened = c.opened.ensures.owns tells old since start.began begun in
+    let opened = c.opened.ensures.kept tells next first since start in
+    let at_noted = c.noted.ensures.owns tells old since opened.began at_opened in
+    let scanned = c.noted.ensures.kept tells next first since opened in
+    let files = files_both g.S.Site old c.opened.new.site c.noted.new.site (c.opened.ensures.files tells) (c.noted.ensures.files tells) in
+    let noted : IsNoted first (g.S.Site.world c.noted.new.site) c.noted.new.graph.nodes = record { was = c.in_ok-graph.graph.nodes; stored = c.in_ok-graph.ensures.stored tells; scanned = c.in_ok-config.ensures.scanned; tree = files.tree } in
+    let at_brought = c.brought.ensures.owns tells next since old noted scanned at_noted in
+    let brought = c.brought.ensures.kept tells next first since noted scanned in
+    c.cleared.ensures.owns tells old since brought.began at_brought

@@ -1,4 +1,4 @@
-use Rattle.std.proofs.Common.{Option, Some, List, false, map, inl, refl, sym, subst}
+use Rattle.std.proofs.Common.{false, map, inl, refl, sym, subst}
 use Rattle.std.specs.Prelude.{slice_set}
 use Rattle.std.specs.Result.{result_err}
 use Rattle.tup_site.specs.Crash.{GoesOn}
@@ -6,25 +6,18 @@ use Rattle.tup_ledger.specs.Begin.{Begins}
 use Rattle.tup_stale.proofs.Going.{at_rest}
 use Rattle.tup_compare.specs.Compared.{HasCompared}
 use Rattle.tup_compare.specs.Opened.{JustOpens}
-use Rattle.tup_graph.specs.Kept.{IsKeptSite}
-use Rattle.tup_law_phases.specs.Language.{tupfiles}
-use Rattle.tup_law_site.specs.Over.{IsKeptNow}
-use Rattle.tup_promise.specs.Crashes.{SourcesStay}
+use Rattle.tup_promise.specs.Blamed.{IsToBlame}
 use Rattle.tup_promise.specs.Finished.{AreFilesSettled, ExactlyTheFiles}
-use Rattle.tup_promise.specs.Needed.{FlagsWhatWasDue, RunsWhatIsNeeded}
-use Rattle.tup_site.specs.declared.fault.SiteFailed.TheVariants.{Memory}
-use Rattle.tup_rule.specs.declared.rule.RuleName.{RuleName}
-use Rattle.tup_promise.specs.declared.stop.Stop.{Stop}
-use Rattle.tup_promise.specs.declared.stop.Stop.TheVariants.{Outside}
-use Rattle.tup_ends.proofs.Due.{none_runs}
+use Rattle.tup_promise.specs.Needed.{OnlyWhatIsNeeded}
 use Rattle.tup_ends.proofs.Staying.{sources_kept}
 use Rattle.tup_top.specs.Crew.{CrewRuns, CrewCompares}
 use Rattle.tup_top.specs.Order.{Wanted, order}
-use Rattle.tup_top.specs.Promise.{OnceDone, OnceRun, UnlessLost, ForUpdate, ForVerify, Lasts, NothingDone, QuietStep, HasPlainCause, counts}
+use Rattle.tup_top.specs.Promise.{OnceDone, ForUpdate, ForVerify, Lasts, NothingDone, QuietStep, HasPlainCause, counts}
 use Rattle.tup_top.proofs.Begun.{initializes_so}
 use Rattle.tup_top.proofs.Crewed.{crew_cause, crew_compared, crew_runs, crew_compares, no_crew_ran, others_stay}
 use Rattle.tup_top.proofs.Idle.{idle, memory_causes, memory_for_init, memory_for_update, memory_for_verify, memory_opens, memory_prints}
 use Rattle.tup_top.proofs.Success.{compares_so}
+use Rattle.tup_top.proofs.Untouched.{untouched_needed, untouched_crashes, untouched_states}
 use Rattle.tup_top.proofs.call.tup.Goals as goal
 
 pub returns-in-Ok-Upd-clause-plain_cause : goal.returns-in-Ok-Upd-clause-plain_cause
@@ -50,6 +43,15 @@ returns-in-Ok-Upd-clause-ran g c = λ tells.
 
 pub returns-in-Ok-Upd-clause-others : goal.returns-in-Ok-Upd-clause-others
 returns-in-Ok-Upd-clause-others g c = others_stay c.args.crew.items c.update-status.new.runner
+
+pub returns-in-Ok-Upd-clause-states : goal.returns-in-Ok-Upd-clause-states
+returns-in-Ok-Upd-clause-states g c = λ here _. c.update-status.ensures.states here
+
+pub returns-in-Ok-Upd-clause-kept : goal.returns-in-Ok-Upd-clause-kept
+returns-in-Ok-Upd-clause-kept g c = λ here _. c.update-status.ensures.kept here
+
+pub returns-in-Ok-Upd-clause-sources_stay : goal.returns-in-Ok-Upd-clause-sources_stay
+returns-in-Ok-Upd-clause-sources_stay g c = λ tells some _. c.update-status.ensures.sources_stay tells some
 
 -- a comparison
 
@@ -173,33 +175,25 @@ pub returns-clause-exactly_the_files : goal.returns-clause-exactly_the_files
 returns-clause-exactly_the_files g c = λ _. memory_for_update (order c.args.words.now) (ExactlyTheFiles g.R.Runner.next (g.S.Site.world c.args.site) (g.S.Site.world c.args.site)) tt
 
 pub returns-clause-only_what_is_needed : goal.returns-clause-only_what_is_needed
-returns-clause-only_what_is_needed g c = λ _.
-    let next = g.R.Runner.next in
+returns-clause-only_what_is_needed g c = λ here.
     let world = g.S.Site.world c.args.site in
-    let stopped = Some (Outside Memory) in
-    memory_for_update (order c.args.words.now) (RunsWhatIsNeeded next false world c.new-in-Err-Memory.result)
-    (subst (λ (ran : List RuleName). RunsWhatIsNeeded next false world ran stopped) (sym c.new-in-Err-Memory.ensures) (none_runs next false world stopped tt))
+    let ran = c.new-in-Err-Memory.result in
+    memory_for_update (order c.args.words.now) (OnlyWhatIsNeeded g.R.Runner.next false world world ran) (untouched_needed g.S.Site g.R.Runner c.args.site here c.flags_are_of_rules.ensures ran c.new-in-Err-Memory.ensures)
 
-pub returns-clause-flags_what_was_due : goal.returns-clause-flags_what_was_due
-returns-clause-flags_what_was_due g c = λ _.
-    let world = g.S.Site.world c.args.site in
-    memory_for_update (order c.args.words.now) (OnceRun (FlagsWhatWasDue world world)) (λ none. absurd none)
-
-pub returns-clause-kept : goal.returns-clause-kept
-returns-clause-kept g c = λ _.
-    let site = c.args.site in
-    memory_for_update (order c.args.words.now) (UnlessLost (IsKeptNow g.S.Site g.R.Runner.next tupfiles (g.S.Site.known site) site)) (λ lost. absurd lost)
+pub returns-clause-blamed : goal.returns-clause-blamed
+returns-clause-blamed g c = λ _. memory_for_update (order c.args.words.now) (IsToBlame g.R.Runner.next (g.S.Site.world c.args.site) c.new-in-Err-Memory.result) tt
 
 pub returns-clause-settled : goal.returns-clause-settled
 returns-clause-settled g c = λ _. memory_for_update (order c.args.words.now) (OnceDone (AreFilesSettled g.S.Site c.args.site)) (λ done. cc done)
 
-pub returns-clause-crash : goal.returns-clause-crash
-returns-clause-crash g c = λ here.
-    let site = c.args.site in
-    let left = g.S.Site.left_since site (g.S.Site.moment site) in
-    memory_for_update (order c.args.words.now) (λ (stopped : Option Stop). IsKeptSite g.R.Runner.next tupfiles (g.S.Site.known site) (g.S.Site.world site) left) here.kept
+pub returns-clause-sources_and_crashes : goal.returns-clause-sources_and_crashes
+returns-clause-sources_and_crashes g c = λ here _. untouched_crashes g.S.Site g.R.Runner c.args.site here
+
+pub returns-clause-states : goal.returns-clause-states
+returns-clause-states g c = λ here _. untouched_states g.S.Site g.R.Runner c.args.site here
+
+pub returns-clause-kept : goal.returns-clause-kept
+returns-clause-kept g c = λ here _. here.kept
 
 pub returns-clause-sources_stay : goal.returns-clause-sources_stay
-returns-clause-sources_stay g c = λ _ some.
-    let site = c.args.site in
-    memory_for_update (order c.args.words.now) (λ (stopped : Option Stop). SourcesStay g.S.Site site site) (sources_kept g.S.Site some.0 (g.S.Site.known site) site site some.1)
+returns-clause-sources_stay g c = λ _ some _. let site = c.args.site in sources_kept g.S.Site some.0 (g.S.Site.known site) site site some.1

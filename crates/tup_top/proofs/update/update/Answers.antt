@@ -1,13 +1,9 @@
-use Rattle.std.proofs.Common.{Option, false, refl}
-use Rattle.tup_graph.specs.Kept.{IsKeptSite}
-use Rattle.tup_law_phases.specs.Language.{tupfiles}
-use Rattle.tup_law_site.specs.Over.{IsKeptNow}
-use Rattle.tup_promise.specs.Crashes.{SourcesStay}
+use Rattle.std.proofs.Common.{false, refl}
+use Rattle.tup_promise.specs.Blamed.{IsToBlame}
 use Rattle.tup_promise.specs.Finished.{AreFilesSettled, ExactlyTheFiles}
-use Rattle.tup_promise.specs.Needed.{FlagsWhatWasDue, RunsWhatIsNeeded}
+use Rattle.tup_promise.specs.Needed.{OnlyWhatIsNeeded}
 use Rattle.tup_promise.specs.Ran.{RunsThese}
-use Rattle.tup_promise.specs.declared.stop.Stop.{Stop}
-use Rattle.tup_top.specs.Promise.{OnceDone, OnceRun, OpensStore, UnlessLost}
+use Rattle.tup_top.specs.Promise.{OnceDone, OpensStore}
 use Rattle.tup_top.proofs.Causes.{answered, counted_cause, opens_so, untold_runs}
 use Rattle.tup_top.proofs.update.update.Goals as goal
 
@@ -57,22 +53,18 @@ returns-clause-exactly_the_files g c = λ kept.
 pub returns-clause-only_what_is_needed : goal.returns-clause-only_what_is_needed
 returns-clause-only_what_is_needed g c = λ kept.
     let update = c.update_site-site in
-    let runs = update.ensures.only_what_is_needed kept in
-    answered (RunsWhatIsNeeded g.R.Runner.next false (g.S.Site.world c.args.site) update.result.log.ran) _ _ _ _ update.result.log update.result.stopped _ _ refl c.tell_all-status.ensures.ends update.ensures.counted_cause
-    runs (record { once = runs.once; due = runs.due; in_order = runs.in_order; all = tt })
+    let old = g.S.Site.world c.args.site in
+    let new = g.S.Site.world update.result.site in
+    let needed = update.ensures.only_what_is_needed kept in
+    let runs = needed.runs in
+    answered (OnlyWhatIsNeeded g.R.Runner.next false old new update.result.log.ran) _ _ _ _ update.result.log update.result.stopped _ _ refl c.tell_all-status.ensures.ends update.ensures.counted_cause
+    needed (record { runs = record { once = runs.once; due = runs.due; in_order = runs.in_order; all = tt }; flagged = needed.flagged })
 
-pub returns-clause-flags_what_was_due : goal.returns-clause-flags_what_was_due
-returns-clause-flags_what_was_due g c = λ kept.
+pub returns-clause-blamed : goal.returns-clause-blamed
+returns-clause-blamed g c = λ kept.
     let update = c.update_site-site in
-    answered (OnceRun (FlagsWhatWasDue (g.S.Site.world c.args.site) (g.S.Site.world update.result.site))) _ _ _ _ update.result.log update.result.stopped _ _ refl c.tell_all-status.ensures.ends update.ensures.counted_cause
-    (update.ensures.flags_what_was_due kept) (λ none. absurd none)
-
-pub returns-clause-kept : goal.returns-clause-kept
-returns-clause-kept g c = λ kept.
-    let update = c.update_site-site in
-    let new = update.result.site in
-    answered (UnlessLost (IsKeptNow g.S.Site g.R.Runner.next tupfiles (g.S.Site.known new) new)) _ _ _ _ update.result.log update.result.stopped _ _ refl c.tell_all-status.ensures.ends update.ensures.counted_cause
-    (update.ensures.kept kept) (λ lost. absurd lost)
+    answered (IsToBlame g.R.Runner.next (g.S.Site.world c.args.site) update.result.log.ran) _ _ _ _ update.result.log update.result.stopped _ _ refl c.tell_all-status.ensures.ends update.ensures.counted_cause
+    (update.ensures.blamed kept) tt
 
 pub returns-clause-settled : goal.returns-clause-settled
 returns-clause-settled g c = λ kept.
@@ -80,15 +72,14 @@ returns-clause-settled g c = λ kept.
     answered (OnceDone (AreFilesSettled g.S.Site update.result.site)) _ _ _ _ update.result.log update.result.stopped _ _ refl c.tell_all-status.ensures.ends update.ensures.counted_cause
     (update.ensures.settled kept) (λ done. cc done)
 
-pub returns-clause-crash : goal.returns-clause-crash
-returns-clause-crash g c = λ kept.
-    let update = c.update_site-site in
-    let is = update.ensures.crash kept in
-    let left = g.S.Site.left_since update.result.site (g.S.Site.moment c.args.site) in
-    answered (λ (stopped : Option Stop). IsKeptSite g.R.Runner.next tupfiles (g.S.Site.known update.result.site) (g.S.Site.world c.args.site) left) _ _ _ _ update.result.log update.result.stopped _ _ refl c.tell_all-status.ensures.ends update.ensures.counted_cause is is
+pub returns-clause-sources_and_crashes : goal.returns-clause-sources_and_crashes
+returns-clause-sources_and_crashes g c = c.update_site-site.ensures.sources_and_crashes
+
+pub returns-clause-states : goal.returns-clause-states
+returns-clause-states g c = c.update_site-site.ensures.states
+
+pub returns-clause-kept : goal.returns-clause-kept
+returns-clause-kept g c = c.update_site-site.ensures.kept
 
 pub returns-clause-sources_stay : goal.returns-clause-sources_stay
-returns-clause-sources_stay g c = λ tells kept.
-    let update = c.update_site-site in
-    let stay = update.ensures.sources_stay tells kept in
-    answered (λ (stopped : Option Stop). SourcesStay g.S.Site c.args.site update.result.site) _ _ _ _ update.result.log update.result.stopped _ _ refl c.tell_all-status.ensures.ends update.ensures.counted_cause stay stay
+returns-clause-sources_stay g c = c.update_site-site.ensures.sources_stay

@@ -25,9 +25,9 @@ use Rattle.tup_promise.specs.Crashes.{SourcesStay}
 use Rattle.tup_promise.specs.Needed.{HasName, RunsAll}
 use Rattle.tup_promise.specs.Prepared.{IsPrepared}
 use Rattle.tup_promise.specs.Ran.{command_of}
-use Rattle.tup_update.specs.Promised.{Promises}
+use Rattle.tup_update.specs.Promised.{Promises, WasPrepared}
 use Rattle.tup_update.proofs.FirstBad.{HasBad, Own, bad_is_there}
-use Rattle.tup_update.proofs.Promised.{done_by, files_by, goes_on, runs_all_by, stops_at_bad}
+use Rattle.tup_update.proofs.Promised.{blames_rules, done_by, files_by, goes_on, runs_all_by, stops_at_bad}
 use Rattle.tup_update.proofs.run.run_board.Given.{Over}
 use Rattle.tup_update.proofs.run.run_board.Goals.{After-told}
 use Rattle.tup_update.proofs.run.run_board.Goals as goal
@@ -131,32 +131,41 @@ graph_read g c =
 bad_at : (g : Over) (c : After-told g) (name : RuleName) (verdict : Verdict) → c.told.result.stopped ≡ Some (stop.Bad name verdict) → StopsAtBad c.args.plan.now.rules (bads g c) name verdict
 bad_at g c name verdict is = stops_at_bad c.args.plan.now.rules (bads g c) c.drain-drained.result c.told.result.stopped (stops_by g c) name verdict is
 
+has_name : (g : Over) (c : After-told g) (name : RuleName) (verdict : Verdict) (at : StopsAtBad c.args.plan.now.rules (bads g c) name verdict) → HasName (plan_of c.drain-drained.new.self).rules at.at name
+has_name g c name verdict at = subst (λ (p : Plan). HasName p.rules at.at name) (sym (plan_is g c)) (at.rule, at.is.here, sym at.name_is)
+
 pub returns-clause-promised : goal.returns-clause-promised
-returns-clause-promised g c = λ first since tells means prepared.
+returns-clause-promised g c = λ old tells means was.
     let board = c.drain-drained.new.self in
     let next = g.R.Runner.next in
+    let first = g.S.Site.world old in
+    let since = g.S.Site.moment old in
     let ran = c.told.result.log.ran in
     let stopped = c.told.result.stopped in
     let keep_going = c.args.plan.now.keep_going in
-    let opened : IsPrepared g.S.Site next first since board.opening.graph board.opening.site =
-    subst (λ (o : Opening _). IsPrepared g.S.Site next first since o.graph o.site) (sym c.drain-drained.ensures.opening) prepared in
+    let opened : WasPrepared g.S.Site next old board.opening.graph board.opening.site =
+    subst (λ (o : Opening _). WasPrepared g.S.Site next old o.graph o.site) (sym c.drain-drained.ensures.opening) was in
     let once : OutputsOnce (plan_of board).rules = subst (λ (p : Plan). OutputsOnce p.rules) (sym (plan_is g c)) c.requires.once in
     let keeps = c.into_parts-parts.ensures.keeps in
     let runs : RunsAll next keep_going first ran stopped =
     runs_all_by next keep_going first ran stopped
-    (λ none. c.done_ran_all.ensures board first since ran keeps opened (names_run g c) (all_done g c none))
-    (λ name verdict is going. c.bad_ran_all_it_could.ensures board first since ran tells means keeps opened (names_run g c) c.drain-drained.ensures.over
+    (λ none. c.done_ran_all.ensures board first since ran keeps opened.prepared (names_run g c) (all_done g c none))
+    (λ name verdict is going. c.bad_ran_all_it_could.ensures board first since ran tells means keeps opened.prepared (names_run g c) c.drain-drained.ensures.over
     (goes_on c.args.plan.now (state board) c.drain-drained.result stopped (has_bad g c) c.drain-drained.ensures.drains (stops_by g c) name verdict is going))
     (λ name verdict is off. let at = bad_at g c name verdict is in
     c.bad_stands_last.ensures board 0 at.at verdict name ran keeps (names_run g c) (own g c) (ap (λ (p : Plan). p.keep_going) (plan_is g c) ∙ off) at.is.came
-    (subst (λ (p : Plan). HasName p.rules at.at name) (sym (plan_is g c)) (at.rule, at.is.here, sym at.name_is))) in
-    subst (λ at. Promises g.S.Site g.R.Runner keep_going first since at ran stopped) (sym (c.told.ensures.site ∙ c.into_parts-parts.ensures.site)) (record {
-      crash = c.boards_keep_sites.ensures.since tupfiles board first since tells means keeps (record { made = opened.made; once = once }) opened.over;
+    (has_name g c name verdict at)) in
+    subst (λ at. Promises g.S.Site g.R.Runner keep_going old at ran stopped) (sym (c.told.ensures.site ∙ c.into_parts-parts.ensures.site)) (record {
       files = files_by next first (g.S.Site.world board.site) stopped (λ none.
-          c.done_is_finished.ensures board first since tells means keeps (graph_read g c) opened once (all_done g c none));
-      needed = c.ran_what_was_due.ensures board first since keep_going ran stopped tells means keeps opened (names_run g c) runs;
-      kept = λ none. c.done_leaves_kept.ensures board first since tells means keeps (graph_read g c) opened once (all_done g c none);
-      settled = λ none. c.done_is_settled.ensures board first since tells means keeps (graph_read g c) opened once (all_done g c none);
+          c.done_is_finished.ensures board first since tells means keeps (graph_read g c) opened.prepared once (all_done g c none));
+      needed = c.ran_what_was_due.ensures board first since keep_going ran stopped tells means keeps opened.prepared (names_run g c) runs;
+      crashes = c.boards_leave_crashes.ensures board old tells means keeps opened.prepared once opened.owns;
+      states = c.boards_leave_states.ensures board first since tells means keeps opened.prepared once opened.states;
+      blamed = blames_rules next first ran stopped (stops_running c.args.plan.now.rules (bads g c) c.drain-drained.result stopped (stops_by g c)) (λ name verdict is.
+          let at = bad_at g c name verdict is in
+          c.bad_rules_are_bad.ensures board first since at.at ran name verdict tells means keeps opened.prepared (names_run g c) at.is.came (has_name g c name verdict at));
+      kept = c.boards_are_kept.ensures board first since tells means keeps (graph_read g c) opened.prepared once;
+      settled = λ none. c.done_is_settled.ensures board first since tells means keeps (graph_read g c) opened.prepared once (all_done g c none);
     })
 
 pub returns-clause-sources : goal.returns-clause-sources

@@ -1,8 +1,13 @@
 use Rattle.std.proofs.Common.{ℕ, subst, ◌∙◌}
 use Rattle.tup_promise.specs.Cause.{HasCountedCause}
+use Rattle.tup_promise.specs.Kept.{KeptHere}
+use Rattle.tup_ends.proofs.Stated.{kept_stated}
 use Rattle.tup_ends.proofs.Staying.{sources_kept}
-use Rattle.tup_update.proofs.Promised.{none_stopped, runs_before}
-use Rattle.tup_update.proofs.Whole.{before_ran, before_rules, before_run_cause, opened_running}
+use Rattle.tup_update.proofs.Promised.{blames_sources, runs_before}
+use Rattle.tup_update.proofs.Whole.{before_ran, before_run_cause, opened_running}
+use Rattle.tup_update.specs.Promised.{Promises}
+use Rattle.tup_update.proofs.update.update_site.Given.{Over}
+use Rattle.tup_update.proofs.update.update_site.Goals.{After-run_flagged}
 use Rattle.tup_update.proofs.update.update_site.Goals as goal
 
 -- ---- it was brought up to date
@@ -20,30 +25,35 @@ returns-in-Ok-clause-counted_cause g c =
     let done = c.run_flagged.result in
     subst (λ (n : ℕ). HasCountedCause n (g.S.Site.faults done.site) done.stopped) c.in-Ok.ensures.counted c.run_flagged.ensures.counted
 
-pub returns-in-Ok-clause-exactly_the_files : goal.returns-in-Ok-clause-exactly_the_files
-returns-in-Ok-clause-exactly_the_files g c = λ kept.
-    (c.run_flagged.ensures.promised (g.S.Site.world c.args.site) (g.S.Site.moment c.args.site) kept.tells kept.means (c.in-Ok.ensures.prepared kept.tells g.R.Runner.next kept.kept)).files
+-- all that is promised
+promised : (g : Over) (c : After-run_flagged g) → KeptHere g.S.Site g.R.Runner c.args.site → Promises g.S.Site g.R.Runner c.args.keep_going c.args.site c.run_flagged.result.site c.run_flagged.result.log.ran c.run_flagged.result.stopped
+promised g c here = c.run_flagged.ensures.promised c.args.site here.tells here.means (record {
+  prepared = c.in-Ok.ensures.prepared here.tells g.R.Runner.next here.kept;
+  owns = c.prepared.ensures.owns here.tells g.R.Runner.next here.kept;
+  states = c.in-Ok.ensures.prepared_states here.tells g.R.Runner.next here.kept;
+  stored = c.prepared.ensures.states here.tells g.R.Runner.next here.kept;
+})
 
-pub returns-in-Ok-clause-crash : goal.returns-in-Ok-clause-crash
-returns-in-Ok-clause-crash g c = λ kept.
-    (c.run_flagged.ensures.promised (g.S.Site.world c.args.site) (g.S.Site.moment c.args.site) kept.tells kept.means (c.in-Ok.ensures.prepared kept.tells g.R.Runner.next kept.kept)).crash
+pub returns-in-Ok-clause-exactly_the_files : goal.returns-in-Ok-clause-exactly_the_files
+returns-in-Ok-clause-exactly_the_files g c = λ here. (promised g c here).files
 
 pub returns-in-Ok-clause-only_what_is_needed : goal.returns-in-Ok-clause-only_what_is_needed
-returns-in-Ok-clause-only_what_is_needed g c = λ kept.
-    (c.run_flagged.ensures.promised (g.S.Site.world c.args.site) (g.S.Site.moment c.args.site) kept.tells kept.means (c.in-Ok.ensures.prepared kept.tells g.R.Runner.next kept.kept)).needed.runs
+returns-in-Ok-clause-only_what_is_needed g c = λ here. (promised g c here).needed
 
-pub returns-in-Ok-clause-flags_what_was_due : goal.returns-in-Ok-clause-flags_what_was_due
-returns-in-Ok-clause-flags_what_was_due g c = λ kept ran.
-    (c.run_flagged.ensures.promised (g.S.Site.world c.args.site) (g.S.Site.moment c.args.site) kept.tells kept.means (c.in-Ok.ensures.prepared kept.tells g.R.Runner.next kept.kept)).needed.flagged
+pub returns-in-Ok-clause-sources_and_crashes : goal.returns-in-Ok-clause-sources_and_crashes
+returns-in-Ok-clause-sources_and_crashes g c = λ here. (promised g c here).crashes
+
+pub returns-in-Ok-clause-states : goal.returns-in-Ok-clause-states
+returns-in-Ok-clause-states g c = λ here. (promised g c here).states
+
+pub returns-in-Ok-clause-blamed : goal.returns-in-Ok-clause-blamed
+returns-in-Ok-clause-blamed g c = λ here. (promised g c here).blamed
 
 pub returns-in-Ok-clause-kept : goal.returns-in-Ok-clause-kept
-returns-in-Ok-clause-kept g c = λ kept whole.
-    (c.run_flagged.ensures.promised (g.S.Site.world c.args.site) (g.S.Site.moment c.args.site) kept.tells kept.means (c.in-Ok.ensures.prepared kept.tells g.R.Runner.next kept.kept)).kept
-    (none_stopped c.run_flagged.result.stopped c.run_flagged.ensures.stops whole)
+returns-in-Ok-clause-kept g c = λ here. (promised g c here).kept
 
 pub returns-in-Ok-clause-settled : goal.returns-in-Ok-clause-settled
-returns-in-Ok-clause-settled g c = λ kept.
-    (c.run_flagged.ensures.promised (g.S.Site.world c.args.site) (g.S.Site.moment c.args.site) kept.tells kept.means (c.in-Ok.ensures.prepared kept.tells g.R.Runner.next kept.kept)).settled
+returns-in-Ok-clause-settled g c = λ here. (promised g c here).settled
 
 pub returns-in-Ok-clause-sources_stay : goal.returns-in-Ok-clause-sources_stay
 returns-in-Ok-clause-sources_stay g c = λ tells some. c.run_flagged.ensures.sources some.0 c.args.site tells (c.in-Ok.ensures.prepared tells some.0 some.1)
@@ -51,22 +61,32 @@ returns-in-Ok-clause-sources_stay g c = λ tells some. c.run_flagged.ensures.sou
 -- ---- it stopped before any rule was run
 
 pub returns-in-Err-clause-kept : goal.returns-in-Err-clause-kept
-returns-in-Err-clause-kept g c = λ kept whole. c.prepared.ensures.kept kept.tells g.R.Runner.next kept.kept
+returns-in-Err-clause-kept g c = λ here. c.prepared.ensures.kept here.tells g.R.Runner.next here.kept
+
+pub returns-in-Err-clause-sources_and_crashes : goal.returns-in-Err-clause-sources_and_crashes
+returns-in-Err-clause-sources_and_crashes g c = λ here. record {
+  kept = c.prepared.ensures.crash here.tells g.R.Runner.next here.kept;
+  owned = c.prepared.ensures.owns here.tells g.R.Runner.next here.kept;
+}
+
+pub returns-in-Err-clause-states : goal.returns-in-Err-clause-states
+returns-in-Err-clause-states g c = λ here.
+    kept_stated g.R.Runner.next (g.S.Site.world c.args.site) (g.S.Site.world c.prepared.new.site) (c.prepared.ensures.states here.tells g.R.Runner.next here.kept)
+
+pub returns-in-Err-clause-blamed : goal.returns-in-Err-clause-blamed
+returns-in-Err-clause-blamed g c = λ here.
+    blames_sources g.R.Runner.next (g.S.Site.world c.args.site) c.prepared.new.log.ran c.in-Err.stop c.in-Err.ensures.stops (c.in-Err.ensures.blame here.tells g.R.Runner.next here.kept)
+
+pub returns-in-Err-clause-only_what_is_needed : goal.returns-in-Err-clause-only_what_is_needed
+returns-in-Err-clause-only_what_is_needed g c = λ here. record {
+  runs = runs_before g.R.Runner.next c.args.keep_going (g.S.Site.world c.args.site) c.prepared.new.log.ran c.in-Err.stop c.in-Err.ensures.stops (c.prepared.ensures.none.ran ∙ c.new-log.ensures.ran);
+  flagged = c.prepared.ensures.due here.tells g.R.Runner.next here.kept;
+}
 
 pub returns-in-Err-clause-sources_stay : goal.returns-in-Err-clause-sources_stay
 returns-in-Err-clause-sources_stay g c = λ tells some.
     let new = c.prepared.new.site in
     sources_kept g.S.Site some.0 (g.S.Site.known new) c.args.site new (c.prepared.ensures.crash tells some.0 some.1)
-
-pub returns-in-Err-clause-only_what_is_needed : goal.returns-in-Err-clause-only_what_is_needed
-returns-in-Err-clause-only_what_is_needed g c = λ kept.
-    runs_before g.R.Runner.next c.args.keep_going (g.S.Site.world c.args.site) c.prepared.new.log.ran c.in-Err.stop c.in-Err.ensures.stops (c.prepared.ensures.none.ran ∙ c.new-log.ensures.ran)
-
-pub returns-in-Err-clause-flags_what_was_due : goal.returns-in-Err-clause-flags_what_was_due
-returns-in-Err-clause-flags_what_was_due g c = λ kept ran. absurd (before_rules c.in-Err.stop c.in-Err.ensures.stops ran)
-
-pub returns-in-Err-clause-crash : goal.returns-in-Err-clause-crash
-returns-in-Err-clause-crash g c = λ kept. c.prepared.ensures.crash kept.tells g.R.Runner.next kept.kept
 
 pub returns-in-Err-clause-run_cause : goal.returns-in-Err-clause-run_cause
 returns-in-Err-clause-run_cause g c = before_run_cause (g.R.Runner.faults c.args.runner.now) c.in-Err.stop c.in-Err.ensures.stops
