@@ -10,7 +10,7 @@ JOBS ?= $(shell nproc)
 TEXTS := crates.txt HANDLES $(shell find crates -name out -prune -o '(' -name '*.rt' -o -name '*.antt' ')' -print)
 VERSION = $(shell sed -n 's/^const VERSION: &str = "\(.*\)";/\1/p' crates/tup/src/main.rt)
 
-.PHONY: help look build runners demo check above rows test edits try shell killed model figures fmt times install uninstall clean
+.PHONY: help look build runners demo check above promises rows test edits try shell killed model figures fmt times install uninstall clean
 
 help:
 	@echo 'make build      proves and builds the program, and has it print its version; JOBS=2 proves two crates at once (else as many as processors)'
@@ -18,6 +18,7 @@ help:
 	@echo 'make demo       builds the programs and shows them on copies of examples/tree, examples/hello and examples/c'
 	@echo 'make check      proves one crate and what is below it: CRATE=tup_stamp'
 	@echo 'make above      lists the crates that a change of one reaches: CRATE=tup_stamp'
+	@echo 'make promises   prints what each public function promises, crate by crate; CRATE=tup_stamp of that crate alone'
 	@echo 'make rows       tries one file of rows: FILE=crates/tup_store_rows/data/kept.rows'
 	@echo 'make test       the gate: every proof, the edits of must-fail/ that must be refused, every test, the program as a user meets it'
 	@echo 'make edits      the edits that must be refused and that the gate leaves out; CRATES=tup_stamp tries those of that crate alone'
@@ -60,6 +61,10 @@ check:
 
 above:
 	@sh tests/above.sh $(CRATE)
+
+# It also compares docs/PROOF.md and docs/DEFINITIONS.md with the code, and ends with 2 where they differ.
+promises:
+	@python3 -B tests/promises.py $(CRATE)
 
 rows:
 	@sh tests/rows.sh $(FILE)

@@ -1,5 +1,5 @@
 #!/bin/sh
-# What each crate costs the gate from nothing, as a table for docs/ARCHITECTURE.md: processor seconds of its proof, of
+# What each crate costs the gate from nothing, as a table for docs/GATE.md: processor seconds of its proof, of
 # its tests (which prove it once more), of its must-fail edits, and of building its program. It runs the gate once on
 # copies of the checkout and of the toolchain, so that nothing kept is used, and notes each process that proves or
 # builds. Run it on a quiet machine; it takes as long as the first gate of a new machine.
