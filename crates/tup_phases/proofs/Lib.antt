@@ -6,3 +6,4 @@ mod Brought
 mod Within
 mod Blaming
 mod Owning
+mod Telling

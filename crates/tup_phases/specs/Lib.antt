@@ -1,2 +1,4 @@
 pub mod Prepared
 pub mod Kept
+pub mod Logged
+pub mod Spared

@@ -1,10 +1,11 @@
 -- What the phases leave that come before any rule is run (own).
-use Rattle.std.specs.Prelude.{◌≡◌, ⊤}
+use Rattle.std.specs.Prelude.{◌≡◌, ⊤, []}
 use Rattle.std.specs.FinMap as finite
 use Rattle.tup_path.specs.Name.{Names}
 use Rattle.tup_path.specs.Tree.{Tree}
 use Rattle.tup_graph.specs.Graph.{GraphState}
 use Rattle.tup_graph.specs.Reach.{stamp_in}
+use Rattle.tup_promise.specs.Unopened.{IsEmptyLog}
 use Rattle.tup_promise.specs.declared.log.Log.{Log}
 use Rattle.tup_promise.specs.declared.stop.Stop.{Stop}
 use Rattle.tup_promise.specs.declared.stop.Stop.TheVariants.{NoStore, BadStore, Sources, UserFile, Bad, Run, Full, Outside}
@@ -39,3 +40,23 @@ StopsOpened (Bad name verdict) = ⊥
 StopsOpened Run = ⊥
 StopsOpened Full = ⊤
 StopsOpened (Outside failed) = ⊤
+
+-- what may stop the removal of files that no rule makes
+abbrev pub StopsClearing : Stop → Type 0
+StopsClearing NoStore = ⊥
+StopsClearing (BadStore offset) = ⊥
+StopsClearing (Sources fault) = ⊥
+StopsClearing (UserFile path written found) = ⊤
+StopsClearing (Bad name verdict) = ⊥
+StopsClearing Run = ⊥
+StopsClearing Full = ⊤
+StopsClearing (Outside failed) = ⊤
+
+-- what a log tells that stopped so: no folder was read where the sources have a fault, and no file was removed there, nor where
+-- one is the user's
+abbrev pub LogsBefore : Log → Stop → Type 0
+LogsBefore log NoStore = IsEmptyLog log
+LogsBefore log (BadStore offset) = IsEmptyLog log
+LogsBefore log (Sources fault) = IsEmptyLog log
+LogsBefore log (UserFile path written found) = log.removed ≡ []
+LogsBefore log stop = ⊤

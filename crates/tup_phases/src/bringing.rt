@@ -1,5 +1,5 @@
 //! What the Tupfiles say by now.
-ghost use Rattle.std.specs.Prelude.{◌≡◌, ℕ, Ok, IsTrue, IfOk, IfErr, OnOk, map};
+ghost use Rattle.std.specs.Prelude.{◌≡◌, ℕ, Ok, IsTrue, IfOk, IfErr, OnErr, OnOk, map};
 ghost use Rattle.std.specs.FinMap as finite;
 ghost use Rattle.std.specs.Result.{result_err};
 ghost use Rattle.tup_site.specs.World.{World};
@@ -73,6 +73,8 @@ pub(crate) fn brought<S: Site>(
         → OwnsNoMore S.Site.own begun since site.old
         → OwnsNoMore S.Site.own begun since site.new }
     ensures none { RunsNone log.old log.new }
+    ensures removed { log.new.removed ≡ log.old.removed }
+    ensures told { OnErr result (log.new ≡ log.old) }
     ensures stops { IfErr result StopsOpened }
     ensures counted { HasCountedCause (S.faults site.old) (S.faults site.new) (result_err result) }
 {
@@ -144,6 +146,8 @@ fn swapped<S: Site>(
         → OwnsNoMore S.Site.own begun since site.old
         → OwnsNoMore S.Site.own begun since site.new }
     ensures none { RunsNone log.old log.new }
+    ensures removed { log.new.removed ≡ log.old.removed }
+    ensures told { OnErr result (log.new ≡ log.old) }
     ensures stops { IfErr result StopsOpened }
     ensures counted { HasCountedCause (S.faults site.old) (S.faults site.new) (result_err result) }
 {

@@ -1,5 +1,5 @@
 //! The phases in their order.
-ghost use Rattle.std.specs.Prelude.{◌≡◌, ℕ, IsTrue, IfOk, IfErr, OnOk};
+ghost use Rattle.std.specs.Prelude.{◌≡◌, ℕ, IsTrue, IfOk, IfErr, OnOk, OnErr};
 ghost use Rattle.std.specs.FinMap as finite;
 ghost use Rattle.std.specs.Result.{result_err};
 ghost use Rattle.tup_site.specs.Known.{Keeps};
@@ -22,7 +22,9 @@ ghost use Rattle.tup_promise.specs.States.{KeepsStates};
 ghost use Rattle.tup_promise.specs.Unopened.{IsEmptyLog, Unopened};
 ghost use Rattle.tup_promise.specs.declared.log.Log.{Log as LogValue};
 ghost use Rattle.tup_phases.specs.Kept.{BlamesSources, HoldsWithin, IsKeptSince, IsScannedFrom, KeepsOn, LeavesFiles, OwnsOn, StaysBrought};
-ghost use Rattle.tup_phases.specs.Prepared.{HasSeen, RunsNone, StopsBefore, StopsOpened};
+ghost use Rattle.tup_phases.specs.Prepared.{HasSeen, LogsBefore, RunsNone};
+ghost use Rattle.tup_phases.specs.Prepared.{StopsBefore, StopsClearing, StopsOpened};
+ghost use Rattle.tup_phases.specs.Spared.{LeavesTree};
 
 use crate::bringing::brought;
 use std::alloc::Global;
@@ -82,6 +84,9 @@ pub fn prepared<S: Site>(alloc: Global, site: &mut S, log: &mut Log) -> Result<G
     ensures unopened { IsTrue S.tells
         → Unopened (S.world site.old) (S.world site.new) log.new (result_err result) }
     ensures none { RunsNone log.old log.new }
+    ensures logged { IfErr result (LogsBefore log.new) }
+    ensures spares { IsTrue S.tells
+        → IfErr result (LeavesTree (S.world site.old) (S.world site.new)) }
     ensures stops { IfErr result StopsBefore }
     ensures counted { HasCountedCause (S.faults site.old) (S.faults site.new) (result_err result) }
 {
@@ -188,6 +193,10 @@ fn cleared<S: Site>(
     ensures owns { IsTrue S.tells → OwnsOn S.Site.own site.old site.new }
     ensures blame { (first : World) → IfErr result (BlamesSources first) }
     ensures none { RunsNone log.old log.new }
+    ensures told { OnErr result (log.new ≡ log.old) }
+    ensures clears { IfErr result StopsClearing }
+    ensures spares { IsTrue S.tells
+        → IfErr result (LeavesTree (S.world site.old) (S.world site.new)) }
     ensures stops { IfErr result StopsOpened }
     ensures counted { HasCountedCause (S.faults site.old) (S.faults site.new) (result_err result) }
 {

@@ -1,15 +1,15 @@
 -- How an order ends whose update came out so: what is promised of the update holds of the status that tells of it.
-use Rattle.std.proofs.Common.{◌≡◌, inl, inr, ℕ, zero, suc, Bool, IsTrue, List, [], ◌∷◌, Option, None, Some, refl, sym, ap, subst, ◌∙◌, append-nil, arith}
+use Rattle.std.proofs.Common.{◌≡◌, inl, inr, ℕ, zero, suc, Bool, IsTrue, List, [], ◌∷◌, Option, None, Some, refl, sym, ap, subst, ◌∙◌, append-nil, arith, false}
 use Rattle.std.specs.List.{slice_get}
 use Rattle.std.proofs.lemmas.Bool.{false≢true}
 use Rattle.tup_path.specs.Count.{Rose}
 use Rattle.tup_path.specs.Name.{Names}
 use Rattle.tup_site.specs.World.{World}
-use Rattle.tup_site.specs.declared.fault.SiteFailed.{SiteFailed}
 use Rattle.tup_site.specs.declared.fault.SiteFailed.TheVariants.{Fault, TooLarge, Memory as NoMemory}
 use Rattle.tup_rule.specs.declared.rule.RuleName.{RuleName}
 use Rattle.tup_access.specs.declared.verdict.Verdict.TheVariants.{Good, Failed, IllegalRead as ReadsIllegally, IllegalWrite as WritesIllegally, Unwritten as LeavesUnwritten, TooManyReads as ReadsTooOften}
 use Rattle.tup_promise.specs.Cause.{HasRunCause, HasCountedCause as StopHasCountedCause, PassesLimit}
+use Rattle.tup_phases.specs.Logged.{IsLogged}
 use Rattle.tup_promise.specs.Ran.{RunsThese}
 use Rattle.tup_promise.specs.Unopened.{Unopened}
 use Rattle.tup_promise.specs.declared.fault.SourcesFault.{SourcesFault}
@@ -19,7 +19,7 @@ use Rattle.tup_promise.specs.declared.stop.Stop.{Stop}
 use Rattle.tup_promise.specs.declared.stop.Stop.TheVariants.{NoStore, BadStore as StoreDamaged, Sources, UserFile as IsUsers, Bad, Run, Full, Outside}
 use Rattle.tup_top.specs.Lines.{lines}
 use Rattle.tup_top.specs.Crew.{OneRose}
-use Rattle.tup_top.specs.Promise.{Counts, AreSteady, OneFailedAtMost, HasCountedCause, OpensStore}
+use Rattle.tup_top.specs.Promise.{Counts, AreSteady, OneFailedAtMost, HasCountedCause, Logs, OpensStore}
 use Rattle.tup_top.specs.Printed.{IsDone, Ends, Prints, Told, PrintsUpdate}
 use Rattle.tup_top.specs.Status.{status_of, status_of_sources, IfCame, after_sink_fault}
 use Rattle.tup_top.specs.declared.status.Status.{Status}
@@ -262,20 +262,21 @@ never_rose one = by one.at one.was one.is one.stood one.stands one.rose
     by zero was is stood stands (inr end) = let same : is ≡ 0 = cc stands in omega (arith, same, end)
     by (suc at) was is stood stands rose = absurd (cc stood)
 
--- an update that the outside stopped before it began
-abbrev pub told_nothing : (site : Bool) (w : World) (failed : SiteFailed) → Told site w w []
-told_nothing site w failed = record {
+-- an update for which there was no memory before it began
+abbrev pub told_nothing : (site : Bool) (w : World) → Told site w w []
+told_nothing site w = record {
   log = record { read = []; removed = []; ran = []; ended = [] };
-  stopped = Some (Outside failed);
+  stopped = Some (Outside NoMemory);
   begun = refl;
+  logged = record { rest = []; first = refl };
   unopened = λ _. inr (record { world = inl refl; empty = record { read = refl; removed = refl; ran = refl; ended = refl } });
 }
 
 pub prints_no_update : (site : Bool) (w : World) (before now : ℕ) (held : List ℕ) → PrintsUpdate site w w [] before now held held Memory
 prints_no_update site w before now held = record {
-  told = told_nothing site w NoMemory;
+  told = told_nothing site w;
   ends = inl refl;
-  prints = prints_nothing Memory (lines (told_nothing site w NoMemory).log Memory) before now held;
+  prints = prints_nothing Memory (lines (told_nothing site w).log Memory) before now held;
 }
 
 -- ---- how the store was gone on from
@@ -293,6 +294,26 @@ module _ (old new : World) (ran : List RuleName) (log : Log) (begun : log.ran �
   opens_so (Some (Outside Fault)) it = (log, begun, it)
   opens_so (Some (Outside (TooLarge number))) it = (log, begun, it)
   opens_so (Some (Outside NoMemory)) it = (Some (Outside NoMemory), log, begun, it)
+
+-- ---- what its log says
+
+-- nothing was begun
+pub logs_nothing : Logs [] (Some (Outside NoMemory))
+logs_nothing = (Some (Outside NoMemory), record { read = []; removed = []; ran = []; ended = [] }, refl, record { rest = []; first = refl })
+
+module _ (ran : List RuleName) (log : Log) (begun : log.ran ≡ ran) where
+  pub logs_so : (stopped : Option Stop) → IsLogged false log stopped → Logs ran stopped
+  logs_so None it = (log, begun, it)
+  logs_so (Some NoStore) it = (log, begun, it)
+  logs_so (Some (StoreDamaged offset)) it = (log, begun, it)
+  logs_so (Some (Sources fault)) it = (log, begun, it)
+  logs_so (Some (IsUsers path written found)) it = (log, begun, it)
+  logs_so (Some (Bad rule verdict)) it = (log, begun, it)
+  logs_so (Some Run) it = (log, begun, it)
+  logs_so (Some Full) it = (log, begun, it)
+  logs_so (Some (Outside Fault)) it = (log, begun, it)
+  logs_so (Some (Outside (TooLarge number))) it = (log, begun, it)
+  logs_so (Some (Outside NoMemory)) it = (Some (Outside NoMemory), log, begun, it)
 
 -- ---- what was run
 

@@ -14,10 +14,10 @@ use Rattle.tup_compare.proofs.Held.{holds_itself}
 use Rattle.tup_top.specs.Lines.{last_line, begun_line, compared_line}
 use Rattle.tup_top.specs.Order.{Wanted}
 use Rattle.tup_top.specs.Printed.{Printed, PrintsBegun, PrintsUpdate, demo_world}
-use Rattle.tup_top.specs.Promise.{Counts, ForUpdate, ForInit, ForVerify, HasPlainCause, NothingDone, OpensStore}
+use Rattle.tup_top.specs.Promise.{Counts, ForUpdate, ForInit, ForVerify, HasPlainCause, Logs, NothingDone, OpensStore}
 use Rattle.tup_top.specs.declared.order.Order.TheVariants.{Init, Upd, Verify, Demo}
 use Rattle.tup_top.specs.declared.status.Status.TheVariants.{Usage, Memory}
-use Rattle.tup_top.proofs.Causes.{opens_so, prints_nothing, prints_no_update, told_nothing}
+use Rattle.tup_top.proofs.Causes.{logs_nothing, opens_so, prints_nothing, prints_no_update, told_nothing}
 
 -- nothing was done
 pub idle : (wanted : Wanted) (w : World) → NothingDone wanted w w
@@ -77,8 +77,12 @@ memory_prints site runner (Ok Verify) next w ran count held none = record {
 memory_prints site runner (Ok Demo) next w ran count held none = ([], demo_world, prints_no_update true demo_world count count held)
 memory_prints site runner (Err place) next w ran count held none = prints_nothing (Usage place) (last_line (Usage place)) count count held
 
+-- what its log says
+pub memory_logs : (wanted : Wanted) (ran : List RuleName) → ran ≡ [] → ForUpdate wanted Memory (Logs ran)
+memory_logs wanted ran none = memory_for_update wanted (Logs ran) (subst (λ (l : List RuleName). Logs l (Some (Outside NoMemory))) (sym none) logs_nothing)
+
 -- how the store was gone on from
 pub memory_opens : (wanted : Wanted) (w : World) (ran : List RuleName) → ran ≡ [] → ForUpdate wanted Memory (OpensStore w w ran)
 memory_opens wanted w ran none =
-    let told = told_nothing true w NoMemory in
+    let told = told_nothing true w in
     memory_for_update wanted (OpensStore w w ran) (opens_so w w ran told.log (sym none) (Some (Outside NoMemory)) (told.unopened refl))

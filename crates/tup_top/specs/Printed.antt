@@ -1,5 +1,5 @@
 -- What is printed of one call: the lines of an update, or the line of a refusal; a front of them where the sink failed.
-use Rattle.std.specs.Prelude.{◌≡◌, ◌≢◌, ◌⊎◌, ⊤, ℕ, Bool, true, List, [], ◌∷◌, ◌++◌, Option, IsTrue, Result, Ok, Err}
+use Rattle.std.specs.Prelude.{◌≡◌, ◌≢◌, ◌⊎◌, ⊤, ℕ, Bool, true, List, [], ◌∷◌, ◌++◌, Option, IsTrue, Result, Ok, Err, false}
 use Rattle.tup_path.specs.Count.{Rose}
 use Rattle.tup_site.specs.World.{World}
 use Rattle.tup_rule.specs.declared.rule.RuleName.{RuleName}
@@ -11,6 +11,7 @@ use Rattle.tup_graph.specs.declared.fault.GraphFault.{GraphFault}
 use Rattle.tup_ledger.specs.declared.beginning.Begun.{Begun}
 use Rattle.tup_compare.specs.Compared.{HasCompared}
 use Rattle.tup_compare.specs.declared.compare.Compared.{Compared}
+use Rattle.tup_phases.specs.Logged.{IsLogged}
 use Rattle.tup_promise.specs.Unopened.{Unopened}
 use Rattle.tup_promise.specs.declared.log.Log.{Log}
 use Rattle.tup_promise.specs.declared.stop.Stop.{Stop}
@@ -39,11 +40,13 @@ pub record Prints (status : Status) (text : List ℕ) (before now : ℕ) (old ne
   pub all : answer ≢ Memory → ¬ Rose before now → new ≡ old ++ text
   pub untold : answer ≡ Memory → status ≢ Memory → new ≡ old
 
--- What an update told of itself that began these rules and led from one world to another. The site tells its worlds or doesn't.
+-- What an update told of itself that began these rules and led from one world to another. The site tells its worlds or doesn't:
+-- what the log says by why it stopped is said of every site.
 pub record Told (site : Bool) (old new : World) (ran : List RuleName) : Type 0 where
   pub log : Log
   pub stopped : Option Stop
   pub begun : log.ran ≡ ran
+  pub logged : IsLogged false log stopped
   pub unopened : IsTrue site → Unopened old new log stopped
 
 -- the lines of such an update

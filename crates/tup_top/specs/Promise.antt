@@ -1,6 +1,6 @@
 -- What the program promises of one call, each promise a word. What it says of an update it says of what the status tells that
 -- the update came to.
-use Rattle.std.specs.Prelude.{◌≡◌, ◌⊎◌, ◌<◌, ◌≤◌, ⊤, ℕ, ◌-◌, ◌^◌, List, [], length, map, slice_get, Option, None, Some, IsTrue, OnOk, Result, Ok, Err}
+use Rattle.std.specs.Prelude.{◌≡◌, ◌⊎◌, ◌<◌, ◌≤◌, ⊤, ℕ, ◌-◌, ◌^◌, List, [], length, map, slice_get, Option, None, Some, IfSome, IsTrue, OnOk, Result, Ok, Err, false}
 use Rattle.std.specs.FinMap as finite
 use Rattle.tup_path.specs.Count.{Rose}
 use Rattle.tup_path.specs.Name.{Names, Content}
@@ -15,6 +15,8 @@ use Rattle.tup_compare.specs.Holding.{Holding, HoldsOn, Shows}
 use Rattle.tup_compare.specs.Sources.{IsRefused}
 use Rattle.tup_compare.specs.declared.compare.Compared.{Compared}
 use Rattle.tup_promise.specs.declared.fault.SourcesFault.{SourcesFault}
+use Rattle.tup_phases.specs.Logged.{IsLogged}
+use Rattle.tup_phases.specs.Spared.{LeavesTree}
 use Rattle.tup_promise.specs.Unopened.{Unopened}
 use Rattle.tup_promise.specs.declared.log.Log.{Log}
 use Rattle.tup_promise.specs.declared.stop.Stop.{Stop}
@@ -79,6 +81,16 @@ OpensStore old new ran stopped = (log : Log) × (log.ran ≡ ran) × Unopened ol
 -- a promise of an update that nothing stopped
 abbrev pub OnceDone : Type 0 → Option Stop → Type 0
 OnceDone promise stopped = stopped ≡ None → promise
+
+-- the files stay where an update stops before any is removed or made
+abbrev pub Spares : World → World → Option Stop → Type 0
+Spares old new stopped = IfSome stopped (LeavesTree old new)
+
+-- What an update did that began these rules and stopped so, by its log. Where there was no memory, for its lines too, it had come
+-- to any of its ends.
+abbrev pub Logs : List RuleName → Option Stop → Type 0
+Logs ran (Some (Outside NoMemory)) = (stopped : Option Stop) × (log : Log) × (log.ran ≡ ran) × IsLogged false log stopped
+Logs ran stopped = (log : Log) × (log.ran ≡ ran) × IsLogged false log stopped
 
 -- the failures that a site, the runners of a crew and a sink have counted
 pub record Counts : Type 0 where

@@ -17,8 +17,8 @@ ghost use Rattle.tup_top.specs.Order.{IsUpdate, order};
 ghost use Rattle.tup_top.specs.Crew.{IsCrew, CrewRuns, CrewCompares, NothingRun};
 ghost use Rattle.tup_top.specs.Lines.{last_line as line_of};
 ghost use Rattle.tup_top.specs.Printed.{Printed, Prints};
-ghost use Rattle.tup_top.specs.Promise.{ForUpdate, ForInit, ForVerify, Lasts, NothingDone, OpensStore, QuietStep};
-ghost use Rattle.tup_top.specs.Promise.{OnceDone};
+ghost use Rattle.tup_top.specs.Promise.{ForUpdate, ForInit, ForVerify, Lasts, Logs, NothingDone};
+ghost use Rattle.tup_top.specs.Promise.{OnceDone, OpensStore, QuietStep, Spares};
 ghost use Rattle.tup_top.specs.Promise.{HasPlainCause, IsRefusal, Initializes, Compares, counts};
 ghost use Rattle.tup_top.specs.declared.status.Status.TheVariants.{Usage};
 
@@ -67,6 +67,14 @@ pub fn tup<S: Site, R: Runner, K: Sink>(
     ensures opens_store { IsTrue S.tells → let old = S.world site in
         let new = S.world result.site in
         ForUpdate (order words.now) result.status (OpensStore old new result.ran) }
+    // And where the sources have a fault, or a file of the user's stands in the way, no file is
+    // touched.
+    ensures spares { IsTrue S.tells → let old = S.world site in
+        let new = S.world result.site in
+        ForUpdate (order words.now) result.status (Spares old new) }
+    // Nothing is begun before the sources are read, and each rule that is begun comes to its end,
+    // but the last one where something else than a bad verdict stops it.
+    ensures logged { ForUpdate (order words.now) result.status (Logs result.ran) }
     // Any other order adds no more than a beginning, or a comparison's opening of the store.
     ensures quiet { IsTrue S.tells → (IsUpdate (order words.now) → ⊥)
         → let step = QuietStep (order words.now) (S.world site) in

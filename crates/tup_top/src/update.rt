@@ -13,7 +13,8 @@ ghost use Rattle.tup_promise.specs.States.{States};
 ghost use Rattle.tup_promise.specs.Ran.{RunsThese};
 ghost use Rattle.tup_top.specs.Lines.{lines as lines_of};
 ghost use Rattle.tup_top.specs.Printed.{Ends, IsDone, Prints, PrintsDemo, PrintsUpdate, demo_world};
-ghost use Rattle.tup_top.specs.Promise.{HasCountedCause, HasDemoCause, OnceDone, OpensStore, counts};
+ghost use Rattle.tup_top.specs.Promise.{HasCountedCause, HasDemoCause, Logs, OnceDone};
+ghost use Rattle.tup_top.specs.Promise.{OpensStore, Spares, counts};
 ghost use Rattle.tup_top.specs.Status.{IfCame, status_of as told_by};
 
 use crate::print::{lines, print, tell};
@@ -72,7 +73,10 @@ pub(crate) fn update<S: Site, R: Runner, K: Sink>(
     // Whatever the runner is.
     ensures sources_stay { IsTrue S.tells → IsKeptBySome S.Site.own site
         → SourcesStay S.Site.own site result.site }
-    // Whatever site and runner are.
+    ensures spares { IsTrue S.tells → let old = S.world site in
+        let new = S.world result.site in IfCame result.status (Spares old new) }
+    // Whatever site and runner are: how far it came, what became of the rules, and why it ended.
+    ensures logged { IfCame result.status (Logs result.ran) }
     ensures counted_cause { let counted = counts S.faults R.faults K.faults in
         let before = counted site (runner.old ∷ []) out.old in
         let now = counted result.site (runner.new ∷ []) out.new in

@@ -62,6 +62,9 @@ module _ (plan : Plan) (names : Names) (are : AreNamesOf plan names) (range : Is
       by None some = absurd (cc)
       by (Some rule) some = refl
 
+  pub all_named : (numbers : List ℕ) → All (λ number. is_reached plan number ≡ true) numbers → All (IsNamed plan.rules (name_at names)) numbers
+  all_named numbers reached = All-weaker (λ number. is_reached plan number ≡ true) (IsNamed plan.rules (name_at names)) has_name numbers reached
+
   pub all_some : (numbers : List ℕ) → All (λ number. is_reached plan number ≡ true) numbers → All (λ number. IsSome (name_at names number)) numbers
   all_some numbers reached = All-weaker (λ number. is_reached plan number ≡ true) (λ number. IsSome (name_at names number)) some_name numbers reached
 

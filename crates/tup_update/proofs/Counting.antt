@@ -31,7 +31,7 @@ use Rattle.tup_update.specs.Run.{IsEnd, OfBads, StopsBy, StopsRunning}
 use Rattle.tup_update.proofs.FirstBad.{Own}
 
 -- a board that was left for another cause than a bad verdict has stopped for it
-left_for : (end : State) (why : Cause) → why ≢ cause.Bad → Drains end (Left why) → end.stopped ≡ Some why
+pub left_for : (end : State) (why : Cause) → why ≢ cause.Bad → Drains end (Left why) → end.stopped ≡ Some why
 left_for end why other (inl is) = is
 left_for end why other (inr (none, bad, some)) = absurd (other bad)
 

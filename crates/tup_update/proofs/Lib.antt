@@ -5,3 +5,6 @@ mod Promised
 mod Taking
 mod Waiting
 mod Whole
+mod Ending
+mod Telling
+mod Logging

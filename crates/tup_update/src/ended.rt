@@ -1,10 +1,11 @@
 //! What became of the commands of an update.
-ghost use Rattle.std.specs.Prelude.{◌≡◌, ◌≢◌, false, IfOk, IfErr, IfSome, Some, slice_get};
+ghost use Rattle.std.specs.Prelude.{◌≡◌, ◌≢◌, false, IfOk, IfErr, IfSome, Some, slice_get, ◌++◌, [], OnErr, OnOk};
 ghost use Rattle.tup_rule.specs.Rule.{label_of, name_of as name_in};
 ghost use Rattle.tup_rule.specs.declared.rule.Rule.{Rule as RuleValue};
 ghost use Rattle.tup_access.specs.declared.verdict.Verdict.TheVariants.{Good};
 ghost use Rattle.tup_clean.specs.Clean.{is_good};
 ghost use Rattle.tup_promise.specs.Stopped.{no_memory};
+ghost use Rattle.tup_update.specs.Ended.{TellsAll, TellsFor, TellsFront, ends, ends_at, told_ends};
 ghost use Rattle.tup_update.specs.Run.{IsBadRule, IsEnd, IsLower, IsLowest, OfBads, StopsBy};
 
 use crate::names::name_of;
@@ -26,7 +27,9 @@ pub(crate) fn stopped_by(
     drained: Drained,
     ended: &mut Items<EndedRule>,
 ) -> Option<Stop>
-    ensures { OfBads plan.now history.now (StopsBy plan.now.rules drained result) }
+    ensures stops { OfBads plan.now history.now (StopsBy plan.now.rules drained result) }
+    ensures tells { let told = told_ends plan.now.rules (ends history.now) in
+        TellsFor told ended.old ended.new result }
 {
     let told = told(alloc, plan, history, ended);
     match drained {
@@ -57,8 +60,12 @@ fn told(
     history: &[CoreEvent],
     ended: &mut Items<EndedRule>,
 ) -> Result<Option<Stop>, AllocError>
-    ensures { IfOk result (λ stopped.
+    ensures stops { IfOk result (λ stopped.
         OfBads plan.now history.now (λ bad. IsEnd plan.now.rules bad stopped)) }
+    ensures front { let told = told_ends plan.now.rules (ends history.now) in
+        TellsFront told ended.old ended.new }
+    ensures all { let told = told_ends plan.now.rules (ends history.now) in
+        OnOk result (TellsAll told ended.old ended.new) }
 {
     add_ended(alloc, plan.rules.as_slice(), history, ended)?;
     match first_bad(plan, history) {
@@ -73,12 +80,19 @@ fn add_ended(
     rules: &[Rule],
     history: &[CoreEvent],
     ended: &mut Items<EndedRule>,
-) -> Result<(), AllocError> {
+) -> Result<(), AllocError>
+    ensures front { let told = told_ends rules.now (ends history.now) in
+        TellsFront told ended.old ended.new }
+    ensures all { let told = told_ends rules.now (ends history.now) in
+        OnOk result (TellsAll told ended.old ended.new) }
+{
     let mut running = None;
     for event in history {
         match event {
-            CoreEvent::Claim { rule, .. } => running = rules.get(*rule as usize),
-            CoreEvent::Finish { verdict, .. } => add_verdict(alloc, running, verdict, ended)?,
+            CoreEvent::Claim { rule, .. } => running = Some(*rule),
+            CoreEvent::Finish { verdict, .. } => {
+                add_verdict(alloc, rules, running, verdict, ended)?;
+            }
             _ => {}
         }
     }
@@ -88,14 +102,22 @@ fn add_ended(
 /// Adds what became of the command that was begun last.
 fn add_verdict(
     alloc: Global,
-    running: Option<&Rule>,
+    rules: &[Rule],
+    running: Option<u32>,
     verdict: &Verdict,
     ended: &mut Items<EndedRule>,
-) -> Result<(), AllocError> {
-    if let Some(rule) = running {
-        ended.push(ended_rule(alloc, rule, verdict)?)?;
+) -> Result<(), AllocError>
+    ensures ok { OnOk result
+        (ended.new ≡ ended.old ++ told_ends rules.now (ends_at running verdict.now [])) }
+    ensures err { OnErr result (ended.new ≡ ended.old) }
+{
+    let Some(number) = running else {
+        return Ok(());
+    };
+    match rules.get(number as usize) {
+        Some(rule) => Ok(ended.push(ended_rule(alloc, rule, verdict)?)?),
+        None => Ok(()),
     }
-    Ok(())
 }
 
 /// What is told of a rule whose command came to this verdict.

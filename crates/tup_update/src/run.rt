@@ -5,17 +5,19 @@ ghost use Rattle.tup_stamp.specs.declared.Stamp.{Stamp as StampValue};
 ghost use Rattle.tup_site.specs.declared.fault.SiteFailed.TheVariants.{Memory};
 ghost use Rattle.tup_graph.specs.Graph.{is_flagged};
 ghost use Rattle.tup_stored_graph.specs.Held.{is_fresh, StandsFor};
-ghost use Rattle.tup_core.specs.Run.{IsRun};
+ghost use Rattle.tup_core.specs.Run.{IsRun, claims};
 ghost use Rattle.tup_core.specs.Sound.{IsInRange};
 ghost use Rattle.tup_core.specs.Step.{opening};
 ghost use Rattle.tup_board.specs.Board.{plan_of};
 ghost use Rattle.tup_board.specs.Calls.{commands, opened_as};
 ghost use Rattle.tup_apart.specs.Run.{MayRun, OutputsOnce};
 ghost use Rattle.tup_promise.specs.Cause.{HasCountedCause, HasRunCause};
+ghost use Rattle.tup_phases.specs.Logged.{BeginsNone, IsLogged};
 ghost use Rattle.tup_promise.specs.Ran.{RunsThese, command_of};
 ghost use Rattle.tup_promise.specs.declared.stop.Stop.TheVariants.{Outside};
 ghost use Rattle.tup_phases.specs.Prepared.{HasSeen};
-ghost use Rattle.tup_update.specs.Names.{AreNamesOf};
+ghost use Rattle.tup_update.specs.Ended.{TellsFor, ends, told_ends};
+ghost use Rattle.tup_update.specs.Names.{AreNamesOf, name_in};
 ghost use Rattle.tup_update.specs.Promised.{KeepsSources, PromisesOver};
 ghost use Rattle.tup_update.specs.Run.{OfBads, StopsBy, StopsRunning};
 
@@ -50,7 +52,8 @@ pub(crate) fn run_flagged<S: Site, R: Runner>(
     requires stands { IsTrue S.tells
         → StandsFor S.world S.moment S.left_since graph site }
     requires seen { IsTrue S.tells → HasSeen graph.nodes (S.world site).tree }
-    requires none { log.ran ≡ [] }
+    requires none { BeginsNone log }
+    ensures logged { IsLogged keep_going result.log result.stopped }
     ensures stops { IfSome result.stopped StopsRunning }
     ensures promised { PromisesOver S.Site.own R.Runner.own keep_going
         graph site result.site result.log.ran result.stopped }
@@ -96,7 +99,8 @@ fn run_plan<S: Site, R: Runner>(
         → StandsFor S.world S.moment S.left_since graph site }
     requires seen { IsTrue S.tells → HasSeen graph.nodes (S.world site).tree }
     requires may_run { MayRun graph.nodes plan.now }
-    requires none { log.ran ≡ [] }
+    requires none { BeginsNone log }
+    ensures logged { IsLogged plan.now.keep_going result.log result.stopped }
     ensures stops { IfSome result.stopped StopsRunning }
     ensures promised { PromisesOver S.Site.own R.Runner.own plan.now.keep_going
         graph site result.site result.log.ran result.stopped }
@@ -128,6 +132,8 @@ fn run_board<S: Site, R: Runner>(
     requires range { IsInRange plan.now }
     requires once { OutputsOnce plan.now.rules }
     requires names { AreNamesOf plan.now names }
+    requires none { log.ended ≡ [] }
+    ensures logged { IsLogged plan.now.keep_going result.log result.stopped }
     ensures stops { IfSome result.stopped StopsRunning }
     ensures promised { let opening = board.opening in
         PromisesOver S.Site.own R.Runner.own plan.now.keep_going
@@ -170,10 +176,15 @@ fn told<S: Site>(
     requires run { (files : List (PathNames × StampValue)) × IsRun plan.now (opening plan.now files) parts.history }
     requires range { IsInRange plan.now }
     requires names { AreNamesOf plan.now names }
+    requires none { log.ended ≡ [] }
     ensures stops { OfBads plan.now parts.history
         (StopsBy plan.now.rules drained result.stopped) }
     ensures ran { map command_of result.log.ran ≡ commands plan.now parts.history }
     ensures site { result.site ≡ parts.site }
+    ensures tells { let told = told_ends plan.now.rules (ends parts.history) in
+        TellsFor told [] result.log.ended result.stopped }
+    ensures named { map Some result.log.ran
+        ≡ map (name_in plan.now.rules) (claims parts.history) }
 {
     claimed_once();
     let history = parts.history.as_slice();

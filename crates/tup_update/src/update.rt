@@ -1,5 +1,5 @@
 //! One update, from the store and the sources to the files.
-ghost use Rattle.std.specs.Prelude.{◌≡◌, None, IsTrue};
+ghost use Rattle.std.specs.Prelude.{◌≡◌, None, IsTrue, IfSome};
 ghost use Rattle.tup_law_site.specs.Over.{IsKeptNow};
 ghost use Rattle.tup_law_phases.specs.Language.{tupfiles};
 ghost use Rattle.tup_promise.specs.Cause.{HasCountedCause, HasRunCause};
@@ -8,6 +8,8 @@ ghost use Rattle.tup_promise.specs.Crashes.{SourcesAndCrashes, SourcesStay};
 ghost use Rattle.tup_promise.specs.Finished.{AreFilesSettled, ExactlyTheFiles};
 ghost use Rattle.tup_promise.specs.Kept.{IsKeptBySome, KeptHere};
 ghost use Rattle.tup_promise.specs.Needed.{OnlyWhatIsNeeded};
+ghost use Rattle.tup_phases.specs.Logged.{IsLogged};
+ghost use Rattle.tup_phases.specs.Spared.{LeavesTree};
 ghost use Rattle.tup_promise.specs.Ran.{RunsThese};
 ghost use Rattle.tup_promise.specs.States.{States};
 ghost use Rattle.tup_promise.specs.Unopened.{Unopened};
@@ -60,7 +62,11 @@ pub fn update_site<S: Site, R: Runner>(
     // Whatever the runner is.
     ensures sources_stay { IsTrue S.tells → IsKeptBySome S.Site.own site
         → SourcesStay S.Site.own site result.site }
+    // And where the sources have a fault, or a file of the user's stands in the way, no file is touched.
+    ensures spares { IsTrue S.tells
+        → IfSome result.stopped (LeavesTree (S.world site) (S.world result.site)) }
     // Whatever site and runner are.
+    ensures logged { IsLogged keep_going result.log result.stopped }
     ensures counted_cause { HasCountedCause (S.faults site) (S.faults result.site) result.stopped }
     ensures run_cause { HasRunCause (R.faults runner.old) (R.faults runner.new) result.stopped }
     ensures ran { IsTrue R.tells_ran

@@ -11,15 +11,29 @@ use Rattle.tup_phases.proofs.Keeping.{cleared_keeps, cleared_present}
 use Rattle.tup_promise.specs.Cause.{HasCountedCause}
 use Rattle.tup_promise.specs.Stopped.{stop_of_stale}
 use Rattle.tup_promise.proofs.Handed.{err_if, err_so}
-use Rattle.tup_phases.specs.Prepared.{StopsOpened}
+use Rattle.tup_phases.specs.Spared.{LeavesTree}
+use Rattle.tup_phases.specs.Prepared.{StopsClearing, StopsOpened}
 use Rattle.tup_phases.proofs.Seeing.{seen_cleared}
 use Rattle.tup_phases.proofs.Stopping.{stale_counted, stale_opened}
+use Rattle.tup_phases.proofs.Telling.{stale_clears, stale_spares}
 use Rattle.tup_phases.proofs.preparing.cleared.Goals as goal
 
 pub returns-in_err-log-clause-stops : goal.returns-in_err-log-clause-stops
 returns-in_err-log-clause-stops g c =
     let fault = c.in_err-log.field-0.0 in
     err_if c.from_residual.result (stop_of_stale fault) StopsOpened c.from_residual.ensures.1 (stale_opened fault)
+
+pub returns-in_err-log-clause-clears : goal.returns-in_err-log-clause-clears
+returns-in_err-log-clause-clears g c =
+    let fault = c.in_err-log.field-0.0 in
+    err_if c.from_residual.result (stop_of_stale fault) StopsClearing c.from_residual.ensures.1 (stale_clears fault)
+
+pub returns-in_err-log-clause-spares : goal.returns-in_err-log-clause-spares
+returns-in_err-log-clause-spares g c = λ tells.
+    let fault = c.in_err-log.field-0.0 in
+    let old = g.S.Site.world c.args.site.now in
+    let new = g.S.Site.world c.clear.new.site in
+    err_if c.from_residual.result (stop_of_stale fault) (LeavesTree old new) c.from_residual.ensures.1 (stale_spares g.S.Site.tells _ _ c.args.graph.now c.clear.new.graph old new fault tells c.in_err-log.ensures.leaves)
 
 pub returns-in_err-log-clause-counted : goal.returns-in_err-log-clause-counted
 returns-in_err-log-clause-counted g c =

@@ -1,4 +1,4 @@
-use Rattle.std.proofs.Common.{inl, ap, sym, ◌∙◌, Some}
+use Rattle.std.proofs.Common.{inl, ap, sym, ◌∙◌, Some, subst, ◌≡◌}
 use Rattle.tup_promise.specs.Crashes.{OwnsNoMore}
 use Rattle.tup_phases.specs.Kept.{BlamesSources, IsNoted}
 use Rattle.tup_phases.proofs.Within.{within_over}
@@ -8,11 +8,14 @@ use Rattle.tup_graph.specs.Answers.{tup_config}
 use Rattle.tup_phases.proofs.Brought.{brought_on}
 use Rattle.tup_phases.proofs.Keeping.{files_both, keeps_same, now_kept, over, since_now}
 use Rattle.tup_promise.specs.Cause.{HasCountedCause}
-use Rattle.tup_promise.specs.Unopened.{Unopened}
+use Rattle.tup_promise.specs.Unopened.{IsEmptyLog, Unopened}
+use Rattle.tup_promise.specs.declared.log.Log.{Log}
 use Rattle.tup_promise.proofs.Handed.{err_if, err_so}
-use Rattle.tup_phases.specs.Prepared.{StopsBefore}
+use Rattle.tup_phases.specs.Spared.{LeavesTree}
+use Rattle.tup_phases.specs.Prepared.{LogsBefore, StopsBefore}
 use Rattle.tup_phases.proofs.Opening.{stopped_later}
 use Rattle.tup_phases.proofs.Stopping.{counted_before, none_both, opened_before}
+use Rattle.tup_phases.proofs.Telling.{cleared_logs, empty_logs, same_tree, tree_on}
 use Rattle.tup_phases.proofs.preparing.prepared.Goals as goal
 
 -- ---- the store couldn't be opened
@@ -539,3 +542,59 @@ returns-clause-owns g c = λ tells next kept.
     let at_brought = c.brought.ensures.owns tells next since old noted scanned at_noted in
     let brought = c.brought.ensures.kept tells next first since noted scanned in
     c.cleared.ensures.owns tells old since brought.began at_brought
+
+-- ---- what the log tells then, and which files stay
+
+pub returns-in_err-graph-clause-logged : goal.returns-in_err-graph-clause-logged
+returns-in_err-graph-clause-logged g c =
+    let stop = c.in_err-graph.field-0.0 in
+    err_if c.from_residual.result stop (LogsBefore c.args.log.now) c.from_residual.ensures.1 (empty_logs c.args.log.now stop c.requires)
+
+pub returns-in_err-graph-clause-spares : goal.returns-in_err-graph-clause-spares
+returns-in_err-graph-clause-spares g c = λ tells.
+    let stop = c.in_err-graph.field-0.0 in
+    let first = g.S.Site.world c.args.site.now in
+    let new = g.S.Site.world c.opened.new.site in
+    err_if c.from_residual.result stop (LeavesTree first new) c.from_residual.ensures.1 (same_tree first new stop (c.opened.ensures.files tells).tree)
+
+pub returns-in_err-config-clause-logged : goal.returns-in_err-config-clause-logged
+returns-in_err-config-clause-logged g c =
+    let stop = c.in_err-config.field-0.0 in
+    err_if c.from_residual-in_err-config.result stop (LogsBefore c.args.log.now) c.from_residual-in_err-config.ensures.1 (empty_logs c.args.log.now stop c.requires)
+
+pub returns-in_err-config-clause-spares : goal.returns-in_err-config-clause-spares
+returns-in_err-config-clause-spares g c = λ tells.
+    let stop = c.in_err-config.field-0.0 in
+    let first = g.S.Site.world c.args.site.now in
+    let new = g.S.Site.world c.noted.new.site in
+    err_if c.from_residual-in_err-config.result stop (LeavesTree first new) c.from_residual-in_err-config.ensures.1 (same_tree first new stop ((c.noted.ensures.files tells).tree ∙ (c.opened.ensures.files tells).tree))
+
+pub returns-in_err-brought-clause-logged : goal.returns-in_err-brought-clause-logged
+returns-in_err-brought-clause-logged g c =
+    let stop = c.in_err-brought.field-0.0 in
+    let log = c.brought.new.log in
+    err_if c.from_residual-in_err-brought.result stop (LogsBefore log) c.from_residual-in_err-brought.ensures.1 (empty_logs log stop (subst IsEmptyLog (sym c.in_err-brought.ensures.told) c.requires))
+
+pub returns-in_err-brought-clause-spares : goal.returns-in_err-brought-clause-spares
+returns-in_err-brought-clause-spares g c = λ tells.
+    let stop = c.in_err-brought.field-0.0 in
+    let first = g.S.Site.world c.args.site.now in
+    let new = g.S.Site.world c.brought.new.site in
+    err_if c.from_residual-in_err-brought.result stop (LeavesTree first new) c.from_residual-in_err-brought.ensures.1
+    (same_tree first new stop ((c.brought.ensures.files tells).tree ∙ (c.noted.ensures.files tells).tree ∙ (c.opened.ensures.files tells).tree))
+
+pub returns-in_err-cleared-clause-logged : goal.returns-in_err-cleared-clause-logged
+returns-in_err-cleared-clause-logged g c =
+    let stop = c.in_err-cleared.field-0.0 in
+    let log = c.cleared.new.log in
+    err_if c.from_residual-in_err-cleared.result stop (LogsBefore log) c.from_residual-in_err-cleared.ensures.1
+    (cleared_logs log stop (ap (λ (l : Log). l.removed) c.in_err-cleared.ensures.told ∙ c.brought.ensures.removed ∙ c.requires.removed) c.in_err-cleared.ensures.clears)
+
+pub returns-in_err-cleared-clause-spares : goal.returns-in_err-cleared-clause-spares
+returns-in_err-cleared-clause-spares g c = λ tells.
+    let stop = c.in_err-cleared.field-0.0 in
+    let first = g.S.Site.world c.args.site.now in
+    let before = g.S.Site.world c.brought.new.site in
+    let new = g.S.Site.world c.cleared.new.site in
+    err_if c.from_residual-in_err-cleared.result stop (LeavesTree first new) c.from_residual-in_err-cleared.ensures.1
+    (tree_on first before new stop ((c.brought.ensures.files tells).tree ∙ (c.noted.ensures.files tells).tree ∙ (c.opened.ensures.files tells).tree) (c.in_err-cleared.ensures.spares tells))

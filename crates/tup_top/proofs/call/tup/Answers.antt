@@ -12,10 +12,10 @@ use Rattle.tup_promise.specs.Needed.{OnlyWhatIsNeeded}
 use Rattle.tup_ends.proofs.Staying.{sources_kept}
 use Rattle.tup_top.specs.Crew.{CrewRuns, CrewCompares}
 use Rattle.tup_top.specs.Order.{Wanted, order}
-use Rattle.tup_top.specs.Promise.{OnceDone, ForUpdate, ForVerify, Lasts, NothingDone, QuietStep, HasPlainCause, counts}
+use Rattle.tup_top.specs.Promise.{OnceDone, ForUpdate, ForVerify, Lasts, NothingDone, QuietStep, HasPlainCause, Spares, counts}
 use Rattle.tup_top.proofs.Begun.{initializes_so}
 use Rattle.tup_top.proofs.Crewed.{crew_cause, crew_compared, crew_runs, crew_compares, no_crew_ran, others_stay}
-use Rattle.tup_top.proofs.Idle.{idle, memory_causes, memory_for_init, memory_for_update, memory_for_verify, memory_opens, memory_prints}
+use Rattle.tup_top.proofs.Idle.{idle, memory_causes, memory_for_init, memory_for_update, memory_for_verify, memory_logs, memory_opens, memory_prints}
 use Rattle.tup_top.proofs.Success.{compares_so}
 use Rattle.tup_top.proofs.Untouched.{untouched_needed, untouched_crashes, untouched_states}
 use Rattle.tup_top.proofs.call.tup.Goals as goal
@@ -92,6 +92,14 @@ pub returns-clause-printed : goal.returns-clause-printed
 returns-clause-printed g c = λ _.
     memory_prints g.S.Site.tells g.R.Runner.tells (order c.args.words.now) g.R.Runner.next (g.S.Site.world c.args.site) c.new-in-Err-Memory.result (g.K.Sink.faults c.args.out.now) (g.K.Sink.held c.args.out.now)
     c.new-in-Err-Memory.ensures
+
+pub returns-clause-logged : goal.returns-clause-logged
+returns-clause-logged g c = memory_logs (order c.args.words.now) c.new-in-Err-Memory.result c.new-in-Err-Memory.ensures
+
+pub returns-clause-spares : goal.returns-clause-spares
+returns-clause-spares g c = λ _.
+    let world = g.S.Site.world c.args.site in
+    memory_for_update (order c.args.words.now) (Spares world world) tt
 
 pub returns-clause-plain_cause : goal.returns-clause-plain_cause
 returns-clause-plain_cause g c =

@@ -3,8 +3,8 @@ use Rattle.tup_promise.specs.Blamed.{IsToBlame}
 use Rattle.tup_promise.specs.Finished.{AreFilesSettled, ExactlyTheFiles}
 use Rattle.tup_promise.specs.Needed.{OnlyWhatIsNeeded}
 use Rattle.tup_promise.specs.Ran.{RunsThese}
-use Rattle.tup_top.specs.Promise.{OnceDone, OpensStore}
-use Rattle.tup_top.proofs.Causes.{answered, counted_cause, opens_so, untold_runs}
+use Rattle.tup_top.specs.Promise.{Logs, OnceDone, OpensStore, Spares}
+use Rattle.tup_top.proofs.Causes.{answered, counted_cause, logs_so, opens_so, untold_runs}
 use Rattle.tup_top.proofs.update.update.Goals as goal
 
 pub returns-clause-opens_store : goal.returns-clause-opens_store
@@ -15,6 +15,19 @@ returns-clause-opens_store g c = λ tells.
     let opens = update.ensures.unopened tells in
     answered (OpensStore old new update.result.log.ran) _ _ _ _ update.result.log update.result.stopped _ _ refl c.tell_all-status.ensures.ends
     update.ensures.counted_cause (opens_so old new update.result.log.ran update.result.log refl update.result.stopped opens) (update.result.stopped, update.result.log, refl, opens)
+
+pub returns-clause-logged : goal.returns-clause-logged
+returns-clause-logged g c =
+    let update = c.update_site-site in
+    let ran = update.result.log.ran in
+    answered (Logs ran) _ _ _ _ update.result.log update.result.stopped _ _ refl c.tell_all-status.ensures.ends
+    update.ensures.counted_cause (logs_so ran update.result.log refl update.result.stopped update.ensures.logged) (update.result.stopped, update.result.log, refl, update.ensures.logged)
+
+pub returns-clause-spares : goal.returns-clause-spares
+returns-clause-spares g c = λ tells.
+    let update = c.update_site-site in
+    answered (Spares (g.S.Site.world c.args.site) (g.S.Site.world update.result.site)) _ _ _ _ update.result.log update.result.stopped _ _ refl c.tell_all-status.ensures.ends
+    update.ensures.counted_cause (update.ensures.spares tells) tt
 
 pub returns-clause-ran : goal.returns-clause-ran
 returns-clause-ran g c = λ tells.
@@ -36,7 +49,7 @@ pub returns-clause-printed : goal.returns-clause-printed
 returns-clause-printed g c = λ shows.
     let update = c.update_site-site in
     record {
-      told = record { log = update.result.log; stopped = update.result.stopped; begun = refl; unopened = λ tells. update.ensures.unopened tells };
+      told = record { log = update.result.log; stopped = update.result.stopped; begun = refl; logged = update.ensures.logged; unopened = λ tells. update.ensures.unopened tells };
       ends = c.tell_all-status.ensures.ends;
       prints = c.tell_all-status.ensures.prints shows;
     }

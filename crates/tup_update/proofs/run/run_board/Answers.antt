@@ -1,9 +1,9 @@
 use Rattle.std.specs.Prelude.{IsTrue}
-use Rattle.std.proofs.Common.{◌≡◌, ◌++◌, ℕ, false, List, map, Option, None, Some, All, ap, refl, sym, subst, ◌∙◌}
+use Rattle.std.proofs.Common.{◌≡◌, ◌++◌, ℕ, false, List, map, Option, None, Some, All, ap, refl, sym, subst, ◌∙◌, []}
 use Rattle.std.specs.FinMap as finite
 use Rattle.tup_core.specs.declared.event.CoreEvent.{CoreEvent}
 use Rattle.tup_core.specs.declared.plan.Plan.{Plan}
-use Rattle.tup_core.specs.Run.{IsRun}
+use Rattle.tup_core.specs.Run.{IsRun, claims}
 use Rattle.tup_core.specs.Step.{opening}
 use Rattle.tup_schedule.specs.Course.{NoneRuns}
 use Rattle.tup_board.specs.Board.{BoardState, Opening, course_of, plan_of, state}
@@ -14,7 +14,6 @@ use Rattle.tup_promise.specs.declared.stop.Stop.TheVariants as stop
 use Rattle.tup_update.specs.Run.{OfBads, StopsAtBad, StopsBy}
 use Rattle.tup_update.proofs.Counting.{counted, own_all, ran_these, run_caused, stops_running, stops_so}
 use Rattle.tup_apart.specs.Run.{OutputsOnce}
-use Rattle.tup_law_phases.specs.Language.{tupfiles}
 use Rattle.tup_rule.specs.declared.rule.RuleName.{RuleName}
 use Rattle.tup_table.specs.Table.{entries_in}
 use Rattle.tup_graph.specs.Graph.{GraphState}
@@ -30,6 +29,9 @@ use Rattle.tup_update.proofs.FirstBad.{HasBad, Own, bad_is_there}
 use Rattle.tup_update.proofs.Promised.{blames_rules, done_by, files_by, goes_on, runs_all_by, stops_at_bad}
 use Rattle.tup_update.proofs.run.run_board.Given.{Over}
 use Rattle.tup_update.proofs.run.run_board.Goals.{After-told}
+use Rattle.tup_update.specs.Ended.{TellsFor, ends, told_ends}
+use Rattle.tup_update.specs.Names.{name_in}
+use Rattle.tup_update.proofs.Logging.{board_logged}
 use Rattle.tup_update.proofs.run.run_board.Goals as goal
 
 pub drain-drained-requires-clause-plan : goal.drain-drained-requires-clause-plan
@@ -175,3 +177,17 @@ returns-clause-sources g c = λ next old tells prepared.
     subst (λ (o : Opening _). IsPrepared g.S.Site next (g.S.Site.world old) (g.S.Site.moment old) o.graph o.site) (sym c.drain-drained.ensures.opening) prepared in
     subst (λ at. SourcesStay g.S.Site old at) (sym (c.told.ensures.site ∙ c.into_parts-parts.ensures.site))
     (c.boards_leave_sources.ensures next board old tells c.into_parts-parts.ensures.keeps opened)
+
+-- ---- what its log says
+
+pub returns-clause-logged : goal.returns-clause-logged
+returns-clause-logged g c =
+    let board = c.drain-drained.new.self in
+    let told = c.told in
+    let here = c.into_parts-parts.ensures.history in
+    board_logged board c.args.plan.now (plan_is g c) c.into_parts-parts.ensures.keeps.run (own g c) (c.drain-drained.ensures.over.0 0) told.result.log c.drain-drained.result told.result.stopped c.drain-drained.ensures.drains (stops_by g c)
+    (subst (λ (events : List CoreEvent). map Some told.result.log.ran ≡ map (name_in c.args.plan.now.rules) (claims events)) here told.ensures.named)
+    (subst (λ (events : List CoreEvent). TellsFor (told_ends c.args.plan.now.rules (ends events)) [] told.result.log.ended told.result.stopped) here told.ensures.tells)
+
+pub told-requires-clause-none : goal.told-requires-clause-none
+told-requires-clause-none g c = c.requires.none

@@ -8,6 +8,8 @@ use Rattle.tup_site.specs.declared.fault.SiteFailed.TheVariants as failed
 use Rattle.tup_ends.proofs.Done.{flags_due}
 use Rattle.tup_update.specs.Promised.{PromisesOver}
 use Rattle.tup_update.proofs.Promised.{nothing_due, unchanged, unchanged_sources}
+use Rattle.tup_phases.specs.Logged.{IsLogged}
+use Rattle.tup_update.proofs.Logging.{memory_logged, none_logged}
 use Rattle.tup_update.proofs.Whole.{memory_counted, memory_ran, memory_run_cause, memory_stops, none_ran}
 use Rattle.tup_update.proofs.run.run_flagged.Goals as goal
 
@@ -22,7 +24,7 @@ found_going keep_going found plan is same = subst (λ (given : Option Plan). IfS
 -- ---- nothing is flagged
 
 pub returns-then-none_flagged-clause-ran : goal.returns-then-none_flagged-clause-ran
-returns-then-none_flagged-clause-ran g c = λ tells. none_ran c.args.log.ran (g.R.Runner.ran c.args.runner.now) c.requires.none
+returns-then-none_flagged-clause-ran g c = λ tells. none_ran c.args.log.ran (g.R.Runner.ran c.args.runner.now) c.requires.none.ran
 
 pub returns-then-none_flagged-clause-promised : goal.returns-then-none_flagged-clause-promised
 returns-then-none_flagged-clause-promised g c =
@@ -30,7 +32,7 @@ returns-then-none_flagged-clause-promised g c =
     subst (λ (nodes : GraphState). (number : ℕ) → is_flagged nodes number ≡ false) c.nodes.ensures.value (c.none_flagged.ensures c.if-none_flagged.true) in
     nothing_due g.S.Site g.R.Runner c.args.keep_going c.args.graph c.args.site c.args.log.ran
     (λ tells first since prepared. let site_laws = g.met.S.Site in flags_due g.S.Site g.R.Runner.next first since c.args.graph c.args.site prepared (λ t u w within left. site_laws.earlier c.args.site t u w tells within left) (site_laws.present c.args.site tells))
-    c.requires.none unflagged (λ first since tells prepared. c.prepared_is_finished.ensures g.R.Runner.next first since c.args.graph tells prepared unflagged)
+    c.requires.none.ran unflagged (λ first since tells prepared. c.prepared_is_finished.ensures g.R.Runner.next first since c.args.graph tells prepared unflagged)
     (λ first since tells prepared. c.prepared_is_settled.ensures g.R.Runner.next first since c.args.graph tells prepared unflagged)
 
 pub returns-then-none_flagged-clause-sources : goal.returns-then-none_flagged-clause-sources
@@ -57,7 +59,7 @@ returns-in_default-clause-promised g c =
     let done = c.without_memory in
     unchanged g.S.Site g.R.Runner c.args.keep_going c.args.graph c.args.site done.result.site done.result.log.ran failed.Memory done.result.stopped
     (λ tells first since prepared. let site_laws = g.met.S.Site in flags_due g.S.Site g.R.Runner.next first since c.args.graph c.args.site prepared (λ t u w within left. site_laws.earlier c.args.site t u w tells within left) (site_laws.present c.args.site tells))
-    done.ensures.site (ap (λ (log : Log). log.ran) done.ensures.log ∙ c.requires.none) done.ensures.stopped
+    done.ensures.site (ap (λ (log : Log). log.ran) done.ensures.log ∙ c.requires.none.ran) done.ensures.stopped
 
 pub returns-in_default-clause-stops : goal.returns-in_default-clause-stops
 returns-in_default-clause-stops g c = memory_stops c.without_memory.result.stopped c.without_memory.ensures.stopped
@@ -71,4 +73,19 @@ returns-in_default-clause-cause g c = memory_run_cause c.without_memory.result.s
 
 pub returns-in_default-clause-ran : goal.returns-in_default-clause-ran
 returns-in_default-clause-ran g c = λ tells.
-    memory_ran c.without_memory.result.stopped c.without_memory.ensures.stopped c.without_memory.result.log.ran (g.R.Runner.ran c.args.runner.now) (ap (λ (log : Log). log.ran) c.without_memory.ensures.log ∙ c.requires.none)
+    memory_ran c.without_memory.result.stopped c.without_memory.ensures.stopped c.without_memory.result.log.ran (g.R.Runner.ran c.args.runner.now) (ap (λ (log : Log). log.ran) c.without_memory.ensures.log ∙ c.requires.none.ran)
+
+-- ---- what its log says
+
+pub returns-then-none_flagged-clause-logged : goal.returns-then-none_flagged-clause-logged
+returns-then-none_flagged-clause-logged g c = none_logged c.args.keep_going c.args.log c.requires.none
+
+pub returns-in-Ok-Some-clause-logged : goal.returns-in-Ok-Some-clause-logged
+returns-in-Ok-Some-clause-logged g c =
+    let done = c.run_plan.result in
+    subst (λ (going : Bool). IsLogged going done.log done.stopped) (found_going c.args.keep_going c.in-Ok-Some.field-0 c.in-Ok-Some.plan c.in-Ok-Some.field-0-is c.in-Ok-Some.ensures.keep_going) c.run_plan.ensures.logged
+
+pub returns-in_default-clause-logged : goal.returns-in_default-clause-logged
+returns-in_default-clause-logged g c =
+    let done = c.without_memory in
+    memory_logged c.args.keep_going c.args.log done.result.log done.result.stopped done.ensures.log done.ensures.stopped c.requires.none

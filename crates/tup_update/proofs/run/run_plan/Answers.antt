@@ -10,6 +10,7 @@ use Rattle.tup_site.specs.declared.fault.SiteFailed.TheVariants as failed
 use Rattle.tup_ends.proofs.Done.{flags_due}
 use Rattle.tup_update.specs.Promised.{KeepsSources, PromisesOver}
 use Rattle.tup_update.proofs.Promised.{unchanged, unchanged_sources}
+use Rattle.tup_update.proofs.Logging.{memory_logged}
 use Rattle.tup_update.proofs.Whole.{memory_counted, memory_ran, memory_run_cause, memory_stops}
 use Rattle.tup_update.proofs.run.run_plan.Goals as goal
 
@@ -58,7 +59,7 @@ returns-in-Err-clause-promised g c =
     let done = c.without_memory-in-Err in
     unchanged g.S.Site g.R.Runner c.args.plan.now.keep_going c.args.graph c.args.site done.result.site done.result.log.ran failed.Memory done.result.stopped
     (λ tells first since prepared. let site_laws = g.met.S.Site in flags_due g.S.Site g.R.Runner.next first since c.args.graph c.args.site prepared (λ t u w within left. site_laws.earlier c.args.site t u w tells within left) (site_laws.present c.args.site tells))
-    (done.ensures.site ∙ ap (λ (back : _ × Held × BoardFault). back.0) c.in-Err.ensures.memory) (ap (λ (log : Log). log.ran) done.ensures.log ∙ c.requires.none) done.ensures.stopped
+    (done.ensures.site ∙ ap (λ (back : _ × Held × BoardFault). back.0) c.in-Err.ensures.memory) (ap (λ (log : Log). log.ran) done.ensures.log ∙ c.requires.none.ran) done.ensures.stopped
 
 pub returns-in-Err-clause-stops : goal.returns-in-Err-clause-stops
 returns-in-Err-clause-stops g c = memory_stops c.without_memory-in-Err.result.stopped c.without_memory-in-Err.ensures.stopped
@@ -74,7 +75,7 @@ returns-in-Err-clause-cause g c = memory_run_cause c.without_memory-in-Err.resul
 
 pub returns-in-Err-clause-ran : goal.returns-in-Err-clause-ran
 returns-in-Err-clause-ran g c = λ tells.
-    memory_ran c.without_memory-in-Err.result.stopped c.without_memory-in-Err.ensures.stopped c.without_memory-in-Err.result.log.ran (g.R.Runner.ran c.args.runner.now) (ap (λ (log : Log). log.ran) c.without_memory-in-Err.ensures.log ∙ c.requires.none)
+    memory_ran c.without_memory-in-Err.result.stopped c.without_memory-in-Err.ensures.stopped c.without_memory-in-Err.result.log.ran (g.R.Runner.ran c.args.runner.now) (ap (λ (log : Log). log.ran) c.without_memory-in-Err.ensures.log ∙ c.requires.none.ran)
 
 -- ---- nor for the names of its rules
 
@@ -86,7 +87,7 @@ returns-in_default-clause-promised g c =
     let done = c.without_memory in
     unchanged g.S.Site g.R.Runner c.args.plan.now.keep_going c.args.graph c.args.site done.result.site done.result.log.ran failed.Memory done.result.stopped
     (λ tells first since prepared. let site_laws = g.met.S.Site in flags_due g.S.Site g.R.Runner.next first since c.args.graph c.args.site prepared (λ t u w within left. site_laws.earlier c.args.site t u w tells within left) (site_laws.present c.args.site tells))
-    done.ensures.site (ap (λ (log : Log). log.ran) done.ensures.log ∙ c.requires.none) done.ensures.stopped
+    done.ensures.site (ap (λ (log : Log). log.ran) done.ensures.log ∙ c.requires.none.ran) done.ensures.stopped
 
 pub returns-in_default-clause-stops : goal.returns-in_default-clause-stops
 returns-in_default-clause-stops g c = memory_stops c.without_memory.result.stopped c.without_memory.ensures.stopped
@@ -102,4 +103,19 @@ returns-in_default-clause-cause g c = memory_run_cause c.without_memory.result.s
 pub returns-in_default-clause-ran : goal.returns-in_default-clause-ran
 returns-in_default-clause-ran g c = λ tells.
     let done = c.without_memory in
-    memory_ran done.result.stopped done.ensures.stopped done.result.log.ran (g.R.Runner.ran c.args.runner.now) (ap (λ (log : Log). log.ran) done.ensures.log ∙ c.requires.none)
+    memory_ran done.result.stopped done.ensures.stopped done.result.log.ran (g.R.Runner.ran c.args.runner.now) (ap (λ (log : Log). log.ran) done.ensures.log ∙ c.requires.none.ran)
+
+-- ---- what its log says
+
+pub returns-in-Err-clause-logged : goal.returns-in-Err-clause-logged
+returns-in-Err-clause-logged g c =
+    let done = c.without_memory-in-Err in
+    memory_logged c.args.plan.now.keep_going c.args.log done.result.log done.result.stopped done.ensures.log done.ensures.stopped c.requires.none
+
+pub returns-in_default-clause-logged : goal.returns-in_default-clause-logged
+returns-in_default-clause-logged g c =
+    let done = c.without_memory in
+    memory_logged c.args.plan.now.keep_going c.args.log done.result.log done.result.stopped done.ensures.log done.ensures.stopped c.requires.none
+
+pub run_board-requires-clause-none : goal.run_board-requires-clause-none
+run_board-requires-clause-none g c = c.requires.none.ended

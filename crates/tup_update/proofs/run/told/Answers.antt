@@ -1,12 +1,15 @@
-use Rattle.std.proofs.Common.{◌≡◌, true, List, map, Some, All, sym, subst}
+use Rattle.std.proofs.Common.{◌≡◌, true, List, map, Some, All, sym, subst, ◌∙◌}
 use Rattle.std.specs.Bool.{nat_eq}
 use Rattle.std.specs.List.{IsDistinct}
 use Rattle.std.specs.Option.{is_some}
 use Rattle.tup_core.specs.declared.event.CoreEvent.{CoreEvent}
 use Rattle.tup_core.specs.Run.{claims}
+use Rattle.tup_promise.specs.declared.log.EndedRule.{EndedRule}
+use Rattle.tup_update.specs.Ended.{TellsFor, ends, told_ends}
 use Rattle.tup_update.specs.Names.{name_at}
 use Rattle.tup_update.specs.Run.{OfBads, StopsBy}
-use Rattle.tup_update.proofs.Commands.{all_some, ran_commands}
+use Rattle.tup_update.proofs.Commands.{all_named, all_some, ran_commands}
+use Rattle.tup_update.proofs.Telling.{names_alike}
 use Rattle.tup_update.proofs.run.told.Goals as goal
 
 pub claimed-requires-clause-room : goal.claimed-requires-clause-room
@@ -38,4 +41,21 @@ returns-clause-ran g c =
 pub returns-clause-stops : goal.returns-clause-stops
 returns-clause-stops g c =
     let plan = c.args.plan.now in
-    subst (λ (events : List CoreEvent). OfBads plan events (StopsBy plan.rules c.args.drained c.stopped_by-stopped.result)) c.as_slice-history.ensures c.stopped_by-stopped.ensures
+    subst (λ (events : List CoreEvent). OfBads plan events (StopsBy plan.rules c.args.drained c.stopped_by-stopped.result)) c.as_slice-history.ensures c.stopped_by-stopped.ensures.stops
+
+pub returns-clause-tells : goal.returns-clause-tells
+returns-clause-tells g c =
+    let told = c.stopped_by-stopped in
+    let plan = c.args.plan.now in
+    let ended = told.new.ended in
+    subst (λ (old : List EndedRule). TellsFor (told_ends plan.rules (ends c.args.parts.history)) old ended told.result) c.requires.none
+    (subst (λ (events : List CoreEvent). TellsFor (told_ends plan.rules (ends events)) c.args.log.ended ended told.result) c.as_slice-history.ensures told.ensures.tells)
+
+pub returns-clause-named : goal.returns-clause-named
+returns-clause-named g c =
+    let plan = c.args.plan.now in
+    let names = c.args.names in
+    let history = c.args.parts.history in
+    let reached = c.claimed_once.ensures.reached plan c.requires.run.0 history c.requires.run.1 in
+    subst (λ (events : List CoreEvent). map Some c.claimed.result ≡ map (name_at names) (claims events)) c.as_slice-history.ensures c.claimed.ensures
+    ∙ names_alike plan.rules (name_at names) (claims history) (all_named plan names c.requires.names c.requires.range (claims history) reached)

@@ -4,6 +4,7 @@ use Rattle.tup_promise.specs.Kept.{KeptHere}
 use Rattle.tup_ends.proofs.Stated.{kept_stated}
 use Rattle.tup_ends.proofs.Staying.{sources_kept}
 use Rattle.tup_update.proofs.Promised.{blames_sources, runs_before}
+use Rattle.tup_update.proofs.Logging.{before_logged, running_spares}
 use Rattle.tup_update.proofs.Whole.{before_ran, before_run_cause, opened_running}
 use Rattle.tup_update.specs.Promised.{Promises}
 use Rattle.tup_update.proofs.update.update_site.Given.{Over}
@@ -13,7 +14,7 @@ use Rattle.tup_update.proofs.update.update_site.Goals as goal
 -- ---- it was brought up to date
 
 pub run_flagged-requires-clause-none : goal.run_flagged-requires-clause-none
-run_flagged-requires-clause-none g c = c.prepared.ensures.none.ran ∙ c.new-log.ensures.ran
+run_flagged-requires-clause-none g c = record { ran = c.prepared.ensures.none.ran ∙ c.new-log.ensures.ran; ended = c.prepared.ensures.none.ended ∙ c.new-log.ensures.ended }
 
 pub returns-in-Ok-clause-unopened : goal.returns-in-Ok-clause-unopened
 returns-in-Ok-clause-unopened g c = λ tells.
@@ -93,3 +94,15 @@ returns-in-Err-clause-run_cause g c = before_run_cause (g.R.Runner.faults c.args
 
 pub returns-in-Err-clause-ran : goal.returns-in-Err-clause-ran
 returns-in-Err-clause-ran g c = λ tells. before_ran c.prepared.new.log.ran (g.R.Runner.ran c.args.runner.now) c.in-Err.stop (c.prepared.ensures.none.ran ∙ c.new-log.ensures.ran)
+
+-- ---- what its log says, and which files stay
+
+pub returns-in-Err-clause-logged : goal.returns-in-Err-clause-logged
+returns-in-Err-clause-logged g c =
+    let none = c.prepared.ensures.none in
+    before_logged c.args.keep_going c.prepared.new.log c.in-Err.stop c.in-Err.ensures.stops (record { ran = none.ran ∙ c.new-log.ensures.ran; ended = none.ended ∙ c.new-log.ensures.ended }) c.in-Err.ensures.logged
+
+pub returns-in-Ok-clause-spares : goal.returns-in-Ok-clause-spares
+returns-in-Ok-clause-spares g c = λ tells.
+    let done = c.run_flagged.result in
+    running_spares (g.S.Site.world c.args.site) (g.S.Site.world done.site) done.stopped c.run_flagged.ensures.stops

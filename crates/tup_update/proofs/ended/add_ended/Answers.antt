@@ -1,0 +1,49 @@
+use Rattle.std.proofs.Common.{◌≡◌, ◌+◌, ◌++◌, ℕ, List, [], ◌∷◌, Option, Some, drop, sym, subst, append-nil, ◌∙◌}
+use Rattle.std.proofs.lemmas.List.{drop_all}
+use Rattle.tup_core.specs.declared.event.CoreEvent.{CoreEvent}
+use Rattle.tup_promise.specs.declared.log.EndedRule.{EndedRule}
+use Rattle.tup_update.proofs.Taking.{next_left}
+use Rattle.tup_update.proofs.Telling.{IsTelling, tells_claim, tells_finish, tells_other}
+use Rattle.tup_update.proofs.ended.add_ended.Goals.{in-Claim, in-Finish+in_ok-add_verdict-in-Finish, in_default}
+use Rattle.tup_update.proofs.ended.add_ended.Goals as goal
+
+pub loop-event-preserved : goal.loop-event-preserved
+loop-event-preserved c =
+    let rules = c.args.rules.now in
+    let old = c.args.ended.now in
+    let history = c.args.history.now in
+    let k = c.loop-event.event-index in
+    let event = c.event-item.result in
+    let running = c.loop-event.running in
+    let ended = c.loop-event.ended in
+    let rest = drop (k + 1) history in
+    let telling : IsTelling rules old history (event ∷ rest) running ended =
+    subst (λ (left : List CoreEvent). IsTelling rules old history left running ended) (next_left history k event c.loop-event-test.true c.event-item.is) c.loop-event.invariant in
+    elim c.match-event.branch [
+      | in-Claim w ↦
+          subst (λ (r : Option ℕ). IsTelling rules old history rest r c.match-event.ended) (sym w.running-is)
+          (subst (λ (l : List EndedRule). IsTelling rules old history rest (Some w.in-Claim.rule) l) (sym w.ended-is) (tells_claim rules old history rest event running ended telling w.in-Claim.seat w.in-Claim.rule w.in-Claim.is))
+      | in-Finish+in_ok-add_verdict-in-Finish w ↦
+          subst (λ (r : Option ℕ). IsTelling rules old history rest r c.match-event.ended) (sym w.running-is)
+          (subst (λ (l : List EndedRule). IsTelling rules old history rest running l) (sym w.ended-is)
+          (tells_finish rules old history rest event running ended telling w.in-Finish.seat w.in-Finish.verdict w.in-Finish.writes w.in-Finish.is w.add_verdict.new.ended w.in_ok-add_verdict-in-Finish.ensures.ok))
+      | in_default w ↦
+          subst (λ (r : Option ℕ). IsTelling rules old history rest r c.match-event.ended) (sym w.running-is)
+          (subst (λ (l : List EndedRule). IsTelling rules old history rest running l) (sym w.ended-is) (tells_other rules old history rest event running ended telling w.in_default.not-Claim w.in_default.not-Finish))
+    ]
+
+pub returns-clause-all : goal.returns-clause-all
+returns-clause-all c =
+    let rules = c.args.rules.now in
+    let history = c.args.history.now in
+    let k = c.loop-event.event-index in
+    let ended = c.loop-event.ended in
+    sym (append-nil ended)
+    ∙ subst (λ (left : List CoreEvent). IsTelling rules c.args.ended.now history left c.loop-event.running ended) (drop_all k history c.loop-event-test.false) c.loop-event.invariant
+
+pub returns-clause-front : goal.returns-clause-front
+returns-clause-front c =
+    let rules = c.args.rules.now in
+    let history = c.args.history.now in
+    let k = c.loop-event.event-index in
+    ([], subst (λ (left : List CoreEvent). IsTelling rules c.args.ended.now history left c.loop-event.running c.loop-event.ended) (drop_all k history c.loop-event-test.false) c.loop-event.invariant)
