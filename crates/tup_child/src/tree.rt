@@ -3,7 +3,7 @@ use crate::failure::Failure;
 use crate::standing::{Standing, look};
 use std::alloc::Global;
 use std::fs::File;
-use std::io::Read;
+use std::io::{ErrorKind, Read};
 use std::rt::Files;
 use std::{fs, io, str};
 use tup_path::{Path, PathFault, Text};
@@ -50,6 +50,35 @@ impl<R: Files<File = File> + Clone + Drop> Tree<R> {
         }
         let place = self.source(path)?;
         self.at(place.as_str())
+    }
+
+    /// What was found at a path before the command: what the file there holds, or where the link
+    /// there leads. `None` where neither stood there.
+    pub fn found(&self, path: &Path) -> Result<Option<Vec<u8>>, Failure> {
+        match self.before(path)? {
+            Standing::File => Ok(Some(self.source_content(path)?)),
+            Standing::Link => self.link_text(path),
+            Standing::Nothing | Standing::Folder | Standing::Other => Ok(None),
+        }
+    }
+
+    /// Where the link of a source leads, as bytes. `None` where that isn't UTF-8.
+    fn link_text(&self, path: &Path) -> Result<Option<Vec<u8>>, Failure> {
+        let place = self.source(path)?;
+        match self.target(place.as_str())? {
+            Some(target) => Ok(Some(target.into_bytes())),
+            None => Ok(None),
+        }
+    }
+
+    /// Where the link at a place leads. `None` where that isn't UTF-8.
+    pub fn target(&self, place: &str) -> Result<Option<String>, Failure> {
+        let runtime = (self.rt.clone()?, self.alloc);
+        match fs::read_link(&runtime, place) {
+            Ok(target) => Ok(Some(target.into_string())),
+            Err(e) if e.kind() == ErrorKind::InvalidFilename => Ok(None),
+            Err(e) => Err(Failure::System(e)),
+        }
     }
 
     /// What stands at a place. No link is followed.

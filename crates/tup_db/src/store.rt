@@ -217,7 +217,7 @@ impl Store {
     ) -> Result<Standing, Refused> {
         let store = self.own.store.as_str();
         match disk.standing(store)? {
-            Standing::Folder | Standing::Other => Err(disk.in_the_way(store)),
+            Standing::Folder | Standing::Link | Standing::Other => Err(disk.in_the_way(store)),
             found => Ok(found),
         }
     }

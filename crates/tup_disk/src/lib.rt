@@ -1,8 +1,8 @@
 //! The real files below a folder: their places, what stands there, and all of them in order.
 //!
-//! The files are the regular files all of whose names are visible, at most 32 names deep. No link
-//! is followed. What is proved is which place belongs to which path, that the files come in order,
-//! that each refusal of the system is told as such, what is to be made durable, and that
+//! The files are the regular files and the links all of whose names are visible, at most 32 names
+//! deep. No link is followed. What is proved is which place belongs to which path, that the files come
+//! in order, that each refusal of the system is told as such, what is to be made durable, and that
 //! nothing settles after a write that was lost; what stands on the disk no clause says.
 #![tactic(auto)]
 

@@ -21,7 +21,8 @@ struct Found {
 }
 
 impl<R: Files<File = File> + Clone + Drop> Disk<R> {
-    /// The regular files below the top whose names are all visible, in the order of paths.
+    /// The regular files and the links below the top whose names are all visible, in the order of paths. No link is
+    /// followed.
     pub fn files(&self, seen: &mut Seen) -> Result<Vec<Path>, Refused>
         ensures { IfOk result (λ files. IsSorted by_names files.items) }
     {
@@ -69,10 +70,19 @@ impl<R: Files<File = File> + Clone + Drop> Disk<R> {
         match self.found_at(place.as_str())? {
             Standing::File { .. } => found.files.push(path)?,
             Standing::Folder if path.depth() < MAX_DEPTH => found.folders.push(path)?,
-            Standing::Other if is_read_by_name(name) => {
+            Standing::Link | Standing::Other if is_read_by_name(name) => {
                 return Err(self.in_the_way(place.as_str()));
             }
+            Standing::Link => self.add_link(path, place.as_str(), found)?,
             _ => {}
+        }
+        Ok(())
+    }
+
+    // A link is found where it can be told where it leads.
+    fn add_link(&self, path: Path, place: &str, found: &mut Found) -> Result<(), Refused> {
+        if self.target(place)?.is_some() {
+            found.files.push(path)?;
         }
         Ok(())
     }

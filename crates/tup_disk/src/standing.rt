@@ -19,13 +19,16 @@ use tup_path::Path;
 /// The bits of a mode by which its owner, its group and all others may run a file.
 const RUN_BITS: u32 = 0o111;
 
-/// What stands at a place. A link is `Other`, wherever it leads.
+/// What stands at a place. A link is one, wherever it leads.
 #[derive(Clone, Copy, PartialEq, Eq)]
 pub enum Standing {
     Nothing,
     /// A regular file of so many bytes, which has so many names. `runs` says whether anybody may run it.
     File { len: u64, names: u64, runs: bool },
     Folder,
+    /// A link, whether anything stands where it leads or not.
+    Link,
+    /// A pipe, a socket or a device.
     Other,
 }
 
@@ -59,6 +62,15 @@ impl<R: Files<File = File> + Clone + Drop> Disk<R> {
     /// What stands at a place; it is a failure that nothing does.
     pub(crate) fn look(&self, place: &str) -> io::Result<Standing> {
         Ok(kind_of(&fs::symlink_metadata(&self.rt, place)?))
+    }
+
+    /// Where the link at a place leads. `None` where that isn't UTF-8, or nothing stands there any more.
+    pub fn target(&self, place: &str) -> Result<Option<String>, Refused> {
+        let runtime = (self.rt.clone()?, self.alloc);
+        match fs::read_link(&runtime, place) {
+            Err(e) if is_absence(e.kind()) => Ok(None),
+            found => Ok(Some(self.at(Operation::Look, place, found)?.into_string())),
+        }
     }
 
     /// What stands above a path: a folder if all is, or else the first that is none. A folder that
@@ -161,6 +173,8 @@ fn kind_of(found: &Metadata) -> Standing {
         }
     } else if found.is_dir() {
         Standing::Folder
+    } else if found.is_symlink() {
+        Standing::Link
     } else {
         Standing::Other
     }

@@ -1,5 +1,6 @@
 -- What is found where a file is asked for. Own.
-use Rattle.std.specs.Prelude.{ℕ, ◌<◌, ◌≤◌, length}
+use Rattle.std.specs.Prelude.{◌≡◌, ℕ, ◌<◌, ◌≤◌, List, length, Option, Some, None, String, string_bytes}
+use Rattle.std.specs.Global.{Global}
 use Rattle.tup_fs.specs.declared.reading.Found.{Found}
 use Rattle.tup_fs.specs.declared.reading.Found.TheVariants.{Nothing, Content, TooLarge}
 
@@ -8,3 +9,14 @@ abbrev pub IsWithin : Found → Type 0
 IsWithin Nothing = Unit {0}
 IsWithin (Content bytes) = length bytes ≤ 16777216
 IsWithin (TooLarge len) = 16777216 < len
+
+-- these bytes were found, or that they are so many
+abbrev pub IsFoundAs : List ℕ → Found → Type 0
+IsFoundAs bytes Nothing = ⊥
+IsFoundAs bytes (Content found) = found ≡ bytes
+IsFoundAs bytes (TooLarge len) = len ≡ length bytes
+
+-- what is found at a link is the text of where it leads, and nothing where that can't be told
+abbrev pub IsTextOf : Option (String Global) → Found → Type 0
+IsTextOf None found = found ≡ Nothing
+IsTextOf (Some target) found = IsFoundAs (string_bytes target) found

@@ -1,6 +1,6 @@
-//! One file, read as a whole.
+//! One file, read as a whole, or where a link leads.
 ghost use Rattle.std.specs.Prelude.{IfOk};
-ghost use Rattle.tup_fs.specs.Found.{IsWithin};
+ghost use Rattle.tup_fs.specs.Found.{IsFoundAs, IsTextOf, IsWithin};
 
 use crate::tree::Tree;
 use std::fs::File;
@@ -22,7 +22,8 @@ pub(crate) enum Found {
 }
 
 impl Tree {
-    /// What the file at a path holds. A file that is too large isn't read.
+    /// What the file at a path holds. A file that is too large isn't read. A link holds where it leads: nothing is
+    /// read through it.
     pub fn find<R: Files<File = File> + Clone + Drop>(
         &mut self,
         disk: &Disk<R>,
@@ -42,8 +43,33 @@ impl Tree {
                 place.as_str(),
                 len,
             ),
+            Standing::Link => Ok(text_of(disk.target(place.as_str())?)),
             _ => Ok(Found::Nothing),
         }
+    }
+}
+
+/// What is found at a link that leads there.
+fn text_of(target: Option<String>) -> Found
+    ensures within { IsWithin result }
+    ensures text { IsTextOf target result }
+{
+    match target {
+        Some(text) => whole(text.into_bytes()),
+        None => Found::Nothing,
+    }
+}
+
+/// What is found where these are all bytes.
+fn whole(bytes: Vec<u8>) -> Found
+    ensures within { IsWithin result }
+    ensures bytes { IsFoundAs bytes.items result }
+{
+    let len = bytes.len() as u64;
+    if len > MAX_FILE_BYTES {
+        Found::TooLarge(len)
+    } else {
+        Found::Content(Bytes::new(bytes))
     }
 }
 
@@ -61,11 +87,7 @@ pub(crate) fn read<R: Files<File = File> + Clone + Drop>(
         Err(e) if e.kind() == ErrorKind::OutOfMemory => return Err(Refused::Memory),
         done => disk.at(Operation::Read, place, done)?,
     }
-    let len = bytes.len() as u64;
-    if len > MAX_FILE_BYTES {
-        return Ok(Found::TooLarge(len));
-    }
-    Ok(Found::Content(Bytes::new(bytes)))
+    Ok(whole(bytes))
 }
 
 // Where one call gives just the bytes that were to be expected, with room for one more, there are no

@@ -36,7 +36,7 @@ impl Tree {
                 self.remove_folder(disk, &place)?;
                 make(disk, place.as_str(), content)
             }
-            Standing::Other => Err(disk.in_the_way(place.as_str())),
+            Standing::Link | Standing::Other => Err(disk.in_the_way(place.as_str())),
         }
     }
 
@@ -104,7 +104,7 @@ impl Tree {
         match disk.standing(place.as_str())? {
             Standing::File { .. } => self.remove_file(disk, path, place.as_str()),
             // Not a file of ours: what somebody put there stays.
-            Standing::Other => Err(disk.in_the_way(place.as_str())),
+            Standing::Link | Standing::Other => Err(disk.in_the_way(place.as_str())),
             Standing::Nothing | Standing::Folder => Ok(()),
         }
     }

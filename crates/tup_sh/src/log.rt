@@ -7,7 +7,7 @@ use tup_path::{Items, Path, Text};
 use tup_proc::LogLine;
 use tup_stamp::stamp_of;
 
-/// The lines of what a command asked for. A folder says nothing; a link is no file.
+/// The lines of what a command asked for. A folder says nothing; a link is a file that holds where it leads.
 pub(crate) fn asks<R: Files<File = File> + Clone + Drop>(
     alloc: Global,
     tree: &Tree<R>,
@@ -30,27 +30,28 @@ fn add_ask<R: Files<File = File> + Clone + Drop>(
     path: &Path,
 ) -> Result<(), Failure> {
     match tree.before(path)? {
-        Standing::File => add_read(alloc, log, tree, dir, path),
         Standing::Folder => Ok(()),
-        Standing::Nothing | Standing::Link | Standing::Other => {
-            let text = shown(alloc, path, dir)?;
-            log.push(LogLine::Absent { text })?;
-            Ok(())
-        }
+        _ => add_found(alloc, log, tree, dir, path),
     }
 }
 
-/// Adds an ask that found a content.
-fn add_read<R: Files<File = File> + Clone + Drop>(
+/// Adds what was found at a path that isn't a folder's.
+fn add_found<R: Files<File = File> + Clone + Drop>(
     alloc: Global,
     log: &mut Items<LogLine>,
     tree: &Tree<R>,
     dir: &Path,
     path: &Path,
 ) -> Result<(), Failure> {
-    let stamp = stamp_of(tree.source_content(path)?.as_slice());
+    let found = tree.found(path)?;
     let text = shown(alloc, path, dir)?;
-    log.push(LogLine::Read { stamp, text })?;
+    log.push(match found {
+        Some(bytes) => LogLine::Read {
+            stamp: stamp_of(bytes.as_slice()),
+            text,
+        },
+        None => LogLine::Absent { text },
+    })?;
     Ok(())
 }
 

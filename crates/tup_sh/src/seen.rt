@@ -1,5 +1,5 @@
 //! What a command did, with the links on the way to each place.
-use crate::upper::{target, written};
+use crate::upper::written;
 use crate::walk::{MAX_NAMES, Walk, path_below, unseen_name};
 use std::alloc::Global;
 use std::fs::File;
@@ -81,10 +81,8 @@ impl<R: Files<File = File> + Clone + Drop> Seen<'_, R> {
         let Ok(place) = str::from_utf8(place) else {
             return Ok(None);
         };
-        match unseen_name(alloc, self.tree.root.as_str(), place)? {
-            Some(name) if self.tree.at(place)? == Standing::File => {
-                Ok(Some(Text::from_str(alloc, name)?))
-            }
+        match self.unseen(alloc, place)? {
+            Some(name) if self.tree.at(place)? == Standing::File => Ok(Some(name)),
             _ => Ok(None),
         }
     }
@@ -277,7 +275,24 @@ impl<R: Files<File = File> + Clone + Drop> Seen<'_, R> {
     fn link(&mut self, alloc: Global, place: String) -> Result<Option<String>, Failure> {
         match path_below(alloc, self.tree.root.as_str(), place.as_str())? {
             Some(path) => self.link_of(path),
-            None => self.link_at(place.as_str()),
+            None => self.link_unnamed(alloc, place.as_str()),
+        }
+    }
+
+    /// The same of a place that no path names. A link there that lies in the project is noted, if nothing is yet.
+    fn link_unnamed(&mut self, alloc: Global, place: &str) -> Result<Option<String>, Failure> {
+        let target = self.link_at(place)?;
+        if target.is_some() && self.untracked.file.is_none() {
+            self.untracked.file = self.unseen(alloc, place)?;
+        }
+        Ok(target)
+    }
+
+    /// The name from the top of a place that tup doesn't see.
+    fn unseen(&self, alloc: Global, place: &str) -> Result<Option<Text>, Failure> {
+        match unseen_name(alloc, self.tree.root.as_str(), place)? {
+            Some(name) => Ok(Some(Text::from_str(alloc, name)?)),
+            None => Ok(None),
         }
     }
 
@@ -327,10 +342,10 @@ impl<R: Files<File = File> + Clone + Drop> Seen<'_, R> {
         Ok(Some(target))
     }
 
-    /// Where the link that stands at a place leads, if there is one.
+    /// Where the link that stands at a place leads, if there is one and that is UTF-8.
     fn link_at(&self, place: &str) -> Result<Option<String>, Failure> {
         match self.tree.at(place) {
-            Ok(Standing::Link) => Ok(Some(target(self.tree, place)?)),
+            Ok(Standing::Link) => self.tree.target(place),
             _ => Ok(None),
         }
     }

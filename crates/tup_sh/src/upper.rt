@@ -1,5 +1,4 @@
 //! The folder above the sources that has what the command wrote.
-use std::fs;
 use std::fs::File;
 use std::rt::Files;
 use tup_child::{Failure, Tree};
@@ -21,13 +20,4 @@ pub(crate) fn written_content<R: Files<File = File> + Clone + Drop>(
 ) -> Result<Vec<u8>, Failure> {
     let place = written(tree, path)?;
     tree.content(place.as_str())
-}
-
-/// Where the link at a place leads.
-pub(crate) fn target<R: Files<File = File> + Clone + Drop>(
-    tree: &Tree<R>,
-    place: &str,
-) -> Result<String, Failure> {
-    let runtime = (tree.rt.clone()?, tree.alloc);
-    Ok(fs::read_link(&runtime, place)?.into_string())
 }

@@ -4,7 +4,7 @@ ghost use Rattle.std.specs.Prelude.{◌≡◌};
 use std::alloc::Global;
 use std::fs::File;
 use std::rt::Files;
-use tup_child::{Failure, Standing, Tree};
+use tup_child::{Failure, Tree};
 use tup_path::{Bytes, Items, Path, PathFault, Text};
 use tup_proc::LogLine;
 use tup_runner::{Answer, View, ViewFailed};
@@ -30,11 +30,11 @@ impl<R: Files<File = File> + Clone + Drop> Project<'_, R> {
         }
     }
 
-    /// What the file at a path holds. A link is no file.
+    /// What the file at a path holds: a link holds where it leads.
     fn read(&self, path: &Path) -> Result<Option<Bytes>, Failure> {
-        match self.tree.before(path)? {
-            Standing::File => Ok(Some(Bytes::new(self.tree.source_content(path)?))),
-            _ => Ok(None),
+        match self.tree.found(path)? {
+            Some(bytes) => Ok(Some(Bytes::new(bytes))),
+            None => Ok(None),
         }
     }
 
