@@ -19,7 +19,7 @@ wrong() {
 }
 
 # The project: in src the hidden file .quiet, one with a blank in its name, and the files a, b, o, sub/s, s.c with h.h, interp, script and lost, whose interpreters are interp and none,
-# the folder e, and links to a and to sub.
+# the folder e, links to a and to sub, chain to the first of them, one to nowhere, one to itself, one to a file of the system and the hidden .hl.
 project() {
     root=$work/root
     stage=$root/.tup/stage/0
@@ -27,6 +27,8 @@ project() {
     mkdir -p "$root/src/sub" "$root/src/e" "$stage"
     cd "$root/src" || exit 1
     echo a > a && echo two > b && echo o > o && echo s > sub/s && ln -s a ln && ln -s sub dl
+    mkdir links && ln -s ../ln links/chain && ln -s none links/nowhere && ln -s circle links/circle && ln -s /etc/passwd links/outside && ln -s a .hl
+    ln -s "$(printf 'n\377')" links/strange
     printf '#!%s/src/interp\n' "$root" > script && chmod +x script && cp /bin/cat interp
     printf '#!%s/src/none\n' "$root" > lost && chmod +x lost
     echo '#include "h.h"' > s.c && echo 'int h;' > h.h
@@ -66,6 +68,12 @@ kept() {
     [ "$(cat "$stage/w$1")" = "$2" ] || wrong "w$1 holds $(cat "$stage/w$1"), wanted $2"
 }
 
+# stamped PATH BYTES: the digest with which the log says that a path was read is that of these bytes.
+stamped() {
+    wanted=$(printf %s "$2" | sha256sum | cut -d ' ' -f 1)
+    grep -q "^R $wanted $1\$" "$stage/log" || wrong "the digest of $1 isn't that of $2"
+}
+
 # told TEXT: a line that the program printed.
 told() {
     grep -qF -- "$1" "$work/said" || wrong "it didn't say: $1"
@@ -102,23 +110,34 @@ if unshare -U --map-user=1000 --map-group=1000 --keep-caps true 2> /dev/null; th
     lacking 'without namespaces' 'no namespace could be made: allow user namespaces' \
         unshare -U --map-user=1000 --map-group=1000 --keep-caps sh -c 'echo 0 > /proc/sys/user/max_user_namespaces; exec "$@"' sh
 fi
-# -- reading: files, nothing, folders; through links, which are no files
+# -- reading: files, nothing, folders; through links, which are files that hold where they lead
 try '' 'cat a b nope; [ -e sub/s ]' 'R a,R b,A nope,R sub/s,E 0'
 told two
 told 'nope: No such file'
-try '' 'cat ln dl/s a/x; [ -d sub ]; [ -d nodir ]' 'A ln,R a,A dl,R sub/s,A a/x,A nodir,E 1'
+try '' 'cat ln dl/s a/x; [ -d sub ]; [ -d nodir ]' 'R ln,R a,R dl,R sub/s,A a/x,A nodir,E 1'
 # -- a folder isn't reached through a link, which may lead elsewhere some day
 through="tup_sh: src/dl: a folder can't be reached through a link: name it by its own path"
-try '' 'cat dl/s' 'A dl,R sub/s,E 1'
+try '' 'cat dl/s' 'R dl,R sub/s,E 1'
 told "$through"
-try '' 'cd dl; cat s' 'A dl,R sub/s,E 1'
+try '' 'cd dl; cat s' 'R dl,R sub/s,E 1'
 told "$through"
-try '' 'ls dl/' 'A dl,E 1'
+try '' 'ls dl/' 'R dl,E 1'
 told "$through"
-try '' 'cat dl/s; exit 3' 'A dl,R sub/s,E 3'
+try '' 'cat dl/s; exit 3' 'R dl,R sub/s,E 3'
 told "$through"
-try '' 'readlink dl; ls; cat sub/s ln; cat ln/x' 'A dl,R sub/s,A ln,R a,A a/x,E 1'
+try '' 'readlink dl; ls; cat sub/s ln; cat ln/x' 'R dl,R sub/s,R ln,R a,A a/x,E 1'
 silent
+try '' 'cat links/chain; [ -e links/nowhere ] || [ -L links/nowhere ]' 'R links/chain,R ln,R a,R links/nowhere,A links/none,E 0'
+silent
+stamped links/chain ../ln
+stamped ln a
+stamped a 'a
+'
+try '' 'cat links/circle; head -c 0 links/outside' 'R links/circle,R links/outside,E 0'
+try '' 'cat links/strange' 'A links/strange,E 1'
+# -- a hidden link isn't seen, and it says so
+try '' 'cat .hl' 'R a,E 0'
+told "tup_sh: reads src/.hl, which tup doesn't see: its changes won't run this command again"
 # -- own outputs aren't there before they are written; what is written isn't asked for
 try 'o' 'cat o; echo x >o; cat o; echo y >>o' 'A o,W o,E 0'
 kept 0 'x
@@ -150,11 +169,11 @@ if command -v gcc > /dev/null; then
 fi
 # -- what outlives the command is ended with it; a signal's number comes as a shell tells it
 try '' '(setsid sleep 9; echo late >late) & echo now >now' 'W now,E 0'
-try '' 'rm -f ln; cp -P dl dl2; set -C; echo >b; kill -9 $$' 'A ln,A dl2,A dl,R b,W ln,E 137'
+try '' 'rm -f ln; cp -P dl dl2; set -C; echo >b; kill -9 $$' 'R ln,A dl2,R dl,R b,W ln,E 137'
 try '' 'kill -TERM $$' 'E 143'
 try '' 'exit 3' 'E 3'
 # -- whatever a command does, no source changes
-try '' 'rm -rf *; echo x > ../source; echo y > ../src/a' 'R a,R b,A dl,R h.h,R interp,A ln,R lost,R o,R s.c,R script,R sub/s,W a,W b,W dl,W h.h,W interp,W ln,W lost,W o,W s.c,W script,W sub/s,W ../source,E 0'
+try '' 'rm -rf links/* *; echo x > ../source; echo y > ../src/a' 'R links/chain,R links/circle,R links/nowhere,R links/outside,A links/strange,R a,R b,R dl,R h.h,R interp,R ln,R lost,R o,R s.c,R script,R sub/s,W links/chain,W links/circle,W links/nowhere,W links/outside,W links/strange,W a,W b,W dl,W h.h,W interp,W ln,W lost,W o,W s.c,W script,W sub/s,W ../source,E 0'
 try '' 'mkfifo p; :' 'E 1'
 told "p: a link, a pipe"
 try '' 'mknod d c 1 3' 'A d,E 1'
@@ -169,6 +188,9 @@ try '' "echo x > 'a b'; cat 'a b' 'no such'; cat '\"q\\'" 'A "q\,E 1'
 told "weren't kept: 1"
 try '' 'cat ../.git/HEAD; echo x >.hidden' 'E 0'
 told "weren't kept: 1"
+# -- names that aren't UTF-8: their files are counted, their folders aren't
+try '' 'n=$(printf "\351"); mkdir "$n" && echo x >"$n/a" && echo x >"$n/b" && echo x >c"$n" && mkdir d"$n" && echo x >out' 'W out,E 0'
+told "weren't kept: 3"
 # -- a file of the project that tup doesn't see is named where it is read, the first of a command
 try '' 'cat .quiet; cat ./.quiet "qui et" ../src/.quiet' 'E 0'
 told "tup_sh: reads src/.quiet, which tup doesn't see: its changes won't run this command again"
@@ -184,6 +206,22 @@ try 'big' 'head -c 16777216 /dev/zero >big' 'W big,E 0'
 silent
 # -- folders of processes
 try '' 'cd sub; cat s; cd ..; (cd e; cat ../a nope); env -C sub cat s no' 'R sub/s,R a,A e/nope,A sub/no,E 1'
+
+# -- files and folders that nobody may read
+try '' 'mkdir c && echo x >c/out && chmod 0 c/out c' 'W c/out,E 0'
+kept 0 x
+try '' 'mkdir -p c/d && chmod 0 c/d c; chmod 0 .' 'E 0'
+# -- outputs from before in folders: each is absent until it is written, and its folder has its mode
+try 'sub/s sub/t e/u' 'cat sub/s e/u; stat -c %a sub; echo x >sub/s' 'A sub/s,A e/u,W sub/s,E 0'
+told 'cat: sub/s: No such file'
+# -- a stage that a stopped command left serves the next one
+try '' 'mkdir c && echo x >c/f && chmod 0 c; kill -9 $$' 'W c/f,E 137'
+text='a stage that was left'
+all=$((all + 1))
+mkdir "$stage/up/src/more" && chmod 0 "$stage/up/src/more" "$stage/wk/work"
+"$sh" "$root" src "$stage" 'echo y >new' > "$work/said" 2>&1 || wrong "exit number $?: $(cat "$work/said")"
+[ "$(lines)" = 'W new,E 0' ] || wrong "its log says $(lines)"
+kept 0 y
 
 printf '%s commands, %s wrong\n' "$all" "$failures"
 [ "$failures" = 0 ]

@@ -4,11 +4,21 @@ use std::str;
 use tup_child::Failure;
 use tup_path::{Path, PathFault};
 
+/// What something in the upper folder is.
+#[derive(Clone, Copy, PartialEq, Eq)]
+pub(crate) enum Kind {
+    File,
+    Folder,
+    /// The mark that a source was removed.
+    Mark,
+    /// A link, a pipe, a socket or a device, which no output can be.
+    Strange,
+}
+
 /// Something that stands in the upper folder.
 #[derive(Drop)]
 pub(crate) struct Entry {
-    /// The letter of its kind: a file, a folder, a link, a mark that a source was removed, or another one.
-    pub(crate) kind: u8,
+    pub(crate) kind: Kind,
     pub(crate) path: Path,
 }
 
@@ -21,47 +31,57 @@ pub(crate) struct Entries {
 }
 
 impl Entries {
-    /// The entries of a list, which end with a zero byte each.
-    pub(crate) fn read(alloc: Global, list: &[u8]) -> Result<Entries, Failure> {
-        let mut entries = Entries {
+    pub(crate) fn none(alloc: Global) -> Entries {
+        Entries {
             list: Vec::new(alloc),
             lost: 0,
-        };
+        }
+    }
+
+    /// The entries of a list, which end with a zero byte each and begin with the letters of their kinds.
+    pub(crate) fn read(alloc: Global, list: &[u8]) -> Result<Entries, Failure> {
+        let mut entries = Entries::none(alloc);
         for line in list.split(|byte| *byte == 0) {
-            entries.add(alloc, line)?;
+            if let Some((letter, name)) = line.split_first() {
+                entries.add(alloc, kind_of(*letter), name)?;
+            }
         }
         Ok(entries)
     }
 
-    /// Adds the entry that a line says.
-    fn add(&mut self, alloc: Global, line: &[u8]) -> Result<(), Failure> {
-        match entry_of(alloc, line)? {
-            Some(entry) => self.list.push(entry)?,
-            None if is_lost(line) => self.lost = self.lost.saturating_add(1),
+    /// Adds what has a name.
+    pub(crate) fn add(&mut self, alloc: Global, kind: Kind, name: &[u8]) -> Result<(), Failure> {
+        match path_of(alloc, name)? {
+            Some(path) => self.list.push(Entry { kind, path })?,
+            None if is_lost(kind) => self.lost = self.lost.saturating_add(1),
             None => {}
         }
         Ok(())
     }
 }
 
-/// Whether a line says something that isn't kept: no folder, and no mark that a source was removed.
-fn is_lost(line: &[u8]) -> bool {
-    match line {
-        [kind, ..] => *kind != b'd' && *kind != b'c',
-        [] => false,
+/// The kind that a letter of `find` says.
+fn kind_of(letter: u8) -> Kind {
+    match letter {
+        b'f' => Kind::File,
+        b'd' => Kind::Folder,
+        b'c' => Kind::Mark,
+        _ => Kind::Strange,
     }
 }
 
-/// The entry that a line says.
-fn entry_of(alloc: Global, line: &[u8]) -> Result<Option<Entry>, Failure> {
-    let Some((kind, name)) = line.split_first() else {
-        return Ok(None);
-    };
+/// Whether something isn't kept where no path has its name: no folder, and no mark that a source was removed.
+fn is_lost(kind: Kind) -> bool {
+    kind != Kind::Folder && kind != Kind::Mark
+}
+
+/// The path of a name.
+fn path_of(alloc: Global, name: &[u8]) -> Result<Option<Path>, Failure> {
     let Ok(text) = str::from_utf8(name) else {
         return Ok(None);
     };
     match Path::from_top(alloc, text) {
-        Ok(path) => Ok(Some(Entry { kind: *kind, path })),
+        Ok(path) => Ok(Some(path)),
         Err(PathFault::Memory) => Err(Failure::Memory),
         Err(_) => Ok(None),
     }

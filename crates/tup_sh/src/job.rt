@@ -1,12 +1,13 @@
 //! The command, run and followed.
-use crate::entries::{Entries, Entry};
+use crate::entries::Entries;
+use crate::listing::entries;
 use crate::log::asks;
-use crate::script::{INSIDE, OUTSIDE, WRAP};
 use crate::seen::{Seen, Untracked};
+use crate::start::start;
 use crate::writes::{Large, Remarks, Writes};
 use std::alloc::Global;
 use std::fs::File;
-use std::process::{Command, Processes};
+use std::process::Processes;
 use std::rt::Files;
 use std::{fs, str};
 use tup_child::{Failure, Tree, Words, path_of};
@@ -22,6 +23,13 @@ pub(crate) struct Job<R: Files<File = File> + Processes + Eprint + Clone + Drop>
     pub(crate) rt: R,
     pub(crate) alloc: Global,
     pub(crate) words: Words,
+}
+
+/// What a command left: the files in the upper folder, and what its calls did.
+#[derive(Clone, Copy)]
+struct Left<'a> {
+    entries: &'a Entries,
+    account: &'a Account,
 }
 
 /// Runs a command and leaves its log.
@@ -48,50 +56,16 @@ impl<R: Files<File = File> + Processes + Eprint + Clone + Drop> Job<R> {
     /// Runs the command over a project.
     fn run_over(&self, tree: &Tree<R>) -> Result<(), Failure> {
         let dir = path_of(self.alloc, self.words.dir.as_str())?;
-        self.start(tree)?;
-        self.account(tree, &dir)
+        start(tree, &self.words)?;
+        let entries = entries(tree)?;
+        self.account(tree, &dir, &entries)
     }
 
-    /// Runs the command under the tracer. The scripts print what went wrong.
-    fn start(&self, tree: &Tree<R>) -> Result<(), Failure> {
-        let mut command = Command::new(self.alloc, "sh")?;
-        self.start_as(&mut command, tree)
-    }
-
-    /// The same, by a shell that has no words yet.
-    fn start_as(&self, command: &mut Command, tree: &Tree<R>) -> Result<(), Failure> {
-        self.add_words(command, tree)?;
-        if command.status(&self.rt)?.success() {
-            Ok(())
-        } else {
-            Err(Failure::Because("the command wasn't run"))
-        }
-    }
-
-    /// Gives the shell its scripts and words.
-    fn add_words(&self, command: &mut Command, tree: &Tree<R>) -> Result<(), Failure> {
-        let words = [
-            "-c",
-            OUTSIDE,
-            "sh",
-            tree.stage.as_str(),
-            tree.root.as_str(),
-            self.words.dir.as_str(),
-            self.words.text.as_str(),
-            INSIDE,
-            WRAP,
-        ];
-        for word in words {
-            command.arg(word)?;
-        }
-        Ok(())
-    }
-
-    /// Leaves the log of a command that was run.
-    fn account(&self, tree: &Tree<R>, dir: &Path) -> Result<(), Failure> {
+    /// Writes the log of a command that was run.
+    fn account(&self, tree: &Tree<R>, dir: &Path, entries: &Entries) -> Result<(), Failure> {
         let calls = self.calls(tree)?;
         match ending(calls.as_slice()) {
-            Some(status) => self.follow(tree, dir, calls.as_slice(), status),
+            Some(status) => self.follow(tree, dir, entries, calls.as_slice(), status),
             None => Err(Failure::Because("the tracer failed, and the command wasn't run")),
         }
     }
@@ -107,6 +81,7 @@ impl<R: Files<File = File> + Processes + Eprint + Clone + Drop> Job<R> {
         &self,
         tree: &Tree<R>,
         dir: &Path,
+        entries: &Entries,
         calls: &[Call],
         status: u8,
     ) -> Result<(), Failure> {
@@ -114,7 +89,11 @@ impl<R: Files<File = File> + Processes + Eprint + Clone + Drop> Job<R> {
         let account = self.account_of(tree, dir, calls, &mut untracked)?;
         self.tell_untracked(&untracked);
         let status = status_with(status, untracked.link.is_some());
-        self.leave(tree, dir, &account, status)
+        let left = Left {
+            entries,
+            account: &account,
+        };
+        self.leave(tree, dir, &left, status)
     }
 
     /// What the command did, resolved, and what of it isn't tracked.
@@ -136,15 +115,9 @@ impl<R: Files<File = File> + Processes + Eprint + Clone + Drop> Job<R> {
     }
 
     /// Leaves what was written, and the log with its end.
-    fn leave(
-        &self,
-        tree: &Tree<R>,
-        dir: &Path,
-        account: &Account,
-        status: u8,
-    ) -> Result<(), Failure> {
-        let mut log = asks(self.alloc, tree, dir, account.asks.as_slice())?;
-        self.end(tree, dir, account, &mut log, status)?;
+    fn leave(&self, tree: &Tree<R>, dir: &Path, left: &Left, status: u8) -> Result<(), Failure> {
+        let mut log = asks(self.alloc, tree, dir, left.account.asks.as_slice())?;
+        self.end(tree, dir, left, &mut log, status)?;
         tree.write_log(log.as_slice())
     }
 
@@ -153,11 +126,11 @@ impl<R: Files<File = File> + Processes + Eprint + Clone + Drop> Job<R> {
         &self,
         tree: &Tree<R>,
         dir: &Path,
-        account: &Account,
+        left: &Left,
         log: &mut Items<LogLine>,
         status: u8,
     ) -> Result<(), Failure> {
-        let status = self.keep(tree, dir, account, log, status)?;
+        let status = self.keep(tree, dir, left, log, status)?;
         log.push(LogLine::End { status })?;
         Ok(())
     }
@@ -167,22 +140,15 @@ impl<R: Files<File = File> + Processes + Eprint + Clone + Drop> Job<R> {
         &self,
         tree: &Tree<R>,
         dir: &Path,
-        account: &Account,
+        left: &Left,
         log: &mut Items<LogLine>,
         status: u8,
     ) -> Result<u8, Failure> {
-        let entries = self.entries(tree)?;
-        self.tell_lost(entries.lost);
-        let remarks = written(self.alloc, tree, dir, account, log, entries.list.as_slice())?;
+        self.tell_lost(left.entries.lost);
+        let remarks = written(self.alloc, tree, dir, left, log)?;
         self.tell_strange(remarks.strange.as_slice());
         self.tell_large(remarks.large.as_slice());
         Ok(status_with(status, !remarks.strange.as_slice().is_empty()))
-    }
-
-    /// What the command left in the upper folder.
-    fn entries(&self, tree: &Tree<R>) -> Result<Entries, Failure> {
-        let list = tree.staged_content("entries")?;
-        Entries::read(self.alloc, list.as_slice())
     }
 
     /// Tells that files weren't kept. A line that can't be printed changes nothing.
@@ -249,9 +215,8 @@ fn written<R: Files<File = File> + Clone + Drop>(
     alloc: Global,
     tree: &Tree<R>,
     dir: &Path,
-    account: &Account,
+    left: &Left,
     log: &mut Items<LogLine>,
-    entries: &[Entry],
 ) -> Result<Remarks, Failure> {
     let mut remarks = Remarks::none(alloc);
     let mut writes = Writes {
@@ -261,7 +226,7 @@ fn written<R: Files<File = File> + Clone + Drop>(
         count: 0,
         remarks: &mut remarks,
     };
-    writes.add_all(alloc, account, entries)?;
+    writes.add_all(alloc, left.account, left.entries.list.as_slice())?;
     Ok(remarks)
 }
 

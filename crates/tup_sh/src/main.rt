@@ -7,9 +7,13 @@
 
 mod entries;
 mod job;
+mod listing;
 mod log;
+mod programs;
 mod script;
 mod seen;
+mod stage;
+mod start;
 mod upper;
 mod walk;
 mod writes;

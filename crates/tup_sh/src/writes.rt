@@ -1,5 +1,5 @@
 //! What a command left in the stage.
-use crate::entries::Entry;
+use crate::entries::{Entry, Kind};
 use crate::log::shown;
 use crate::upper::{written, written_content};
 use std::alloc::Global;
@@ -104,7 +104,7 @@ impl<R: Files<File = File> + Clone + Drop> Writes<'_, R> {
         &mut self,
         alloc: Global,
         path: &Path,
-        kind: Option<u8>,
+        kind: Option<Kind>,
         sure: bool,
     ) -> Result<(), Failure> {
         match self.verdict(path, kind, sure)? {
@@ -122,12 +122,12 @@ impl<R: Files<File = File> + Clone + Drop> Writes<'_, R> {
     }
 
     /// What is at a path: a file that isn't as it was before, or a source that is gone.
-    fn verdict(&self, path: &Path, kind: Option<u8>, sure: bool) -> Result<Verdict, Failure> {
+    fn verdict(&self, path: &Path, kind: Option<Kind>, sure: bool) -> Result<Verdict, Failure> {
         match kind {
-            Some(b'f') if sure => Ok(Verdict::Written),
-            Some(b'f') => self.changed(path),
-            Some(b'd') | Some(b'c') => self.gone(path),
-            Some(_) => Ok(Verdict::Strange),
+            Some(Kind::File) if sure => Ok(Verdict::Written),
+            Some(Kind::File) => self.changed(path),
+            Some(Kind::Folder) | Some(Kind::Mark) => self.gone(path),
+            Some(Kind::Strange) => Ok(Verdict::Strange),
             None if sure => self.gone(path),
             None => Ok(Verdict::Nothing),
         }
@@ -225,7 +225,7 @@ impl<R: Files<File = File> + Clone + Drop> Writes<'_, R> {
 }
 
 /// The kind of what stands at a path.
-fn kind_at(entries: &[Entry], path: &Path) -> Option<u8> {
+fn kind_at(entries: &[Entry], path: &Path) -> Option<Kind> {
     let entry = entries.iter().find(|entry| entry.path == *path)?;
     Some(entry.kind)
 }

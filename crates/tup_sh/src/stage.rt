@@ -1,0 +1,161 @@
+//! The stage before the command: the upper folder, which takes what it writes and hides what it mustn't see, and the folder
+//! that the overlay works in.
+use crate::programs::{command, shell, succeeds};
+use crate::script::REMAKE;
+use crate::upper::written;
+use std::fs;
+use std::fs::{File, Permissions};
+use std::io::ErrorKind;
+use std::os::unix::fs::PermissionsExt;
+use std::process::Processes;
+use std::rt::Files;
+use tup_child::{Failure, Tree};
+use tup_path::{Path, Text};
+
+/// Makes the stage ready for a command.
+pub(crate) fn prepare<R: Files<File = File> + Processes + Clone + Drop>(
+    tree: &Tree<R>,
+) -> Result<(), Failure> {
+    match make(tree) {
+        Err(Failure::System(_)) => Err(refused()),
+        made => made,
+    }
+}
+
+/// The failure of a stage that can't be made.
+fn refused() -> Failure {
+    Failure::Because("the stage can't be made")
+}
+
+/// Makes the folders, and hides the program's own folder and the rule's outputs from before.
+fn make<R: Files<File = File> + Processes + Clone + Drop>(tree: &Tree<R>) -> Result<(), Failure> {
+    make_folders(tree)?;
+    make_mark(tree)?;
+    for path in &tree.own {
+        hide(tree, path)?;
+    }
+    Ok(())
+}
+
+/// Makes the two folders. Where a stopped command left them, a shell removes them first.
+fn make_folders<R: Files<File = File> + Processes + Clone + Drop>(
+    tree: &Tree<R>,
+) -> Result<(), Failure> {
+    if makes(tree, "up")? && makes(tree, "wk")? {
+        return Ok(());
+    }
+    let mut shell = shell(tree, REMAKE)?;
+    if succeeds(&tree.rt, &mut shell) {
+        Ok(())
+    } else {
+        Err(refused())
+    }
+}
+
+/// Makes a folder of the stage, and returns whether it could.
+fn makes<R: Files<File = File> + Clone + Drop>(
+    tree: &Tree<R>,
+    name: &str,
+) -> Result<bool, Failure> {
+    let place = tree.staged(name)?;
+    Ok(fs::create_dir(&tree.rt, place.as_str()).is_ok())
+}
+
+/// Makes the mark that hides the program's own folder. The library has no call for it.
+fn make_mark<R: Files<File = File> + Processes + Clone + Drop>(
+    tree: &Tree<R>,
+) -> Result<(), Failure> {
+    let mark = mark(tree)?;
+    let words = [mark.as_str(), "c", "0", "0"];
+    let mut mknod = command(tree.alloc, "mknod", words.as_slice())?;
+    if succeeds(&tree.rt, &mut mknod) {
+        Ok(())
+    } else {
+        Err(refused())
+    }
+}
+
+/// The place of the mark.
+fn mark<R: Files<File = File> + Clone + Drop>(tree: &Tree<R>) -> Result<String, Failure> {
+    tree.staged("up/.tup")
+}
+
+/// Hides an output from before, if there is one, by a hard link to the mark.
+fn hide<R: Files<File = File> + Clone + Drop>(tree: &Tree<R>, path: &Path) -> Result<(), Failure> {
+    let source = tree.source(path)?;
+    if fs::symlink_metadata(&tree.rt, source.as_str()).is_err() {
+        return Ok(());
+    }
+    make_above(tree, path)?;
+    link(tree, path)
+}
+
+/// Links the mark to a path.
+fn link<R: Files<File = File> + Clone + Drop>(tree: &Tree<R>, path: &Path) -> Result<(), Failure> {
+    let mark = mark(tree)?;
+    let place = written(tree, path)?;
+    fs::hard_link(&tree.rt, mark.as_str(), place.as_str())?;
+    Ok(())
+}
+
+/// Makes the folders above a path, as they are in the project.
+fn make_above<R: Files<File = File> + Clone + Drop>(
+    tree: &Tree<R>,
+    path: &Path,
+) -> Result<(), Failure> {
+    match path.names() {
+        [above @ .., _] => make_all(tree, above),
+        [] => Ok(()),
+    }
+}
+
+/// Makes the folders that names lead through.
+fn make_all<R: Files<File = File> + Clone + Drop>(
+    tree: &Tree<R>,
+    names: &[Text],
+) -> Result<(), Failure> {
+    let mut source = String::from_str(tree.alloc, tree.root.as_str())?;
+    let mut place = tree.staged("up")?;
+    for name in names {
+        add_name(&mut source, name)?;
+        add_name(&mut place, name)?;
+        make_as(tree, source.as_str(), place.as_str())?;
+    }
+    Ok(())
+}
+
+/// Adds a name to a place.
+fn add_name(place: &mut String, name: &Text) -> Result<(), Failure> {
+    place.push('/')?;
+    place.push_str(name.as_str())?;
+    Ok(())
+}
+
+/// Makes a folder with the mode of a source, unless it exists.
+fn make_as<R: Files<File = File> + Clone + Drop>(
+    tree: &Tree<R>,
+    source: &str,
+    place: &str,
+) -> Result<(), Failure> {
+    match fs::create_dir(&tree.rt, place) {
+        Err(e) if e.kind() == ErrorKind::AlreadyExists => Ok(()),
+        Err(e) => Err(Failure::System(e)),
+        Ok(()) => {
+            let permissions = fs::metadata(&tree.rt, source)?.permissions();
+            fs::set_permissions(&tree.rt, place, permissions)?;
+            Ok(())
+        }
+    }
+}
+
+/// Gives the owner access to the folders that the overlay works in. The kernel makes them without permissions, so that only root
+/// could remove the stage of a stopped command. A folder that doesn't exist is skipped.
+pub(crate) fn open_work<R: Files<File = File> + Clone + Drop>(
+    tree: &Tree<R>,
+) -> Result<(), Failure> {
+    for name in ["wk/work", "wk/work/incompat", "wk/work/incompat/volatile"] {
+        let place = tree.staged(name)?;
+        drop(fs::set_permissions(&tree.rt, place.as_str(), Permissions::from_mode(0o700)));
+    }
+    Ok(())
+}
