@@ -136,6 +136,14 @@ done_row "a new file that a glob matches" 'read .;run .: cp b.c b.o;' "$one"
 rm a.c
 done_row "a file less" 'read .;remove a.o;' 'done: 1 read, 0 run, 1 removed'
 
+project ': a |> fail 3 |> c' "$copy" ': a |> cp a d |> d'
+row "a bad rule, and the rules behind it" 1 'read .;bad .: fail 3;run .: cp a b;run .: cp a d;fault: .: fail 3: status 3;' upd -k
+row "the bad rule alone is left" 1 'bad .: fail 3;fault: .: fail 3: status 3;' upd -k
+echo ho > a
+row "a source of all" 1 'bad .: fail 3;run .: cp a b;run .: cp a d;fault: .: fail 3: status 3;' upd -k
+rules "$copy" ': a |> cp a d |> d'
+done_row "without the bad rule" 'read .;' 'done: 1 read, 0 run, 0 removed'
+
 project ': a |> cat a k > b |> b'
 echo ho > k
 done_row "a source that isn't declared" 'read .;run .: cat a k > b;' "$one"

@@ -37,7 +37,7 @@ class World:
             return 3, b'fault: no tup project here\n'
         if words == ['verify']:
             return self.refused([]) or self.verify(Project(self.sources()).rules())
-        return self.update()
+        return self.update('-k' in words)
 
     def init(self):
         if self.kept is not None:
@@ -61,7 +61,7 @@ class World:
             return 5, None
         return None
 
-    def update(self):
+    def update(self, keep_going):
         sources = self.sources()
         self.kept.scan(self.tree, sources)
         refused = self.refused([])
@@ -72,14 +72,16 @@ class World:
             removed = self.kept.clear(self.tree)
         except UserFile as users:
             return 6, b'\n'.join(lines + [b'fault: %s was changed by hand and no rule makes it' % show(users.path)]) + b'\n'
-        read, rules = len(lines), self.kept.rules
+        read, rules, bad = len(lines), self.kept.rules, {}
         lines += [b'remove ' + show(path) for path in removed]
-        for at, verdict in self.kept.run(self.tree):
+        for at, verdict in self.kept.run(self.tree, keep_going):
             self.begun.append(rules[at]['text'])
             is_good = verdict == ('good',)
             lines.append((b'run ' if is_good else b'bad ') + show(rules[at]['folder']) + b': ' + label(rules[at]))
             if not is_good:
-                return 1, b'\n'.join(lines + [fault_of(rules[at], verdict)]) + b'\n'
+                bad[at] = verdict
+        if bad:
+            return 1, b'\n'.join(lines + [fault_of(rules[min(bad)], bad[min(bad)])]) + b'\n'
         done = b'done: %d read, %d run, %d removed' % (read, len(self.begun), len(removed))
         return 0, b'\n'.join(lines + [done]) + b'\n'
 
@@ -178,11 +180,12 @@ class Kept:
             tree.pop(path, None)
         return files
 
-    def run(self, tree):
-        """Runs the rules that are to be run, up to the first bad one; gives each with its verdict."""
-        waits, generated = makers(self.rules), outputs_of(self.rules)
-        while self.flags:
-            at = next(at for at in sorted(self.flags) if not waits[at] & self.flags)
+    def run(self, tree, keep_going):
+        """Runs the rules that are to be run, up to the first bad one, or all that need no bad one; gives each with its verdict."""
+        waits, generated, bad = makers(self.rules), outputs_of(self.rules), set()
+        ready = lambda: [at for at in sorted(self.flags - bad) if not waits[at] & self.flags]
+        while ready() and (keep_going or not bad):
+            at = ready()[0]
             rule = self.rules[at]
             verdict, files, asked = run(rule, generated, tree)
             if verdict == ('good',):
@@ -191,9 +194,9 @@ class Kept:
                 self.owned.update((path, (at, content)) for path, content in files)
                 self.runs[at] = (asked, dict(files))
                 self.flags.remove(at)
+            else:
+                bad.add(at)
             yield at, verdict
-            if verdict != ('good',):
-                return
 
 
 def is_told_otherwise(project, asked):

@@ -113,8 +113,8 @@ module _ (old new : MemSite) (next : Next) where
 -- every run, by what its words ask for
 pub run_keeps : (tells : Bool) (next : Next) (wanted : Wanted) (end : End) (status : Status) (ran : List RuleName) (old new : MemSite) → end.status ≡ Some status → Leaves wanted old new status → NothingDone wanted (world_in old) (world_in new) → ForInit wanted status (Begins (world_in old) (world_in new)) →
     (IsTrue tells → IsKept next old → Updates next wanted old new status ran) → (stage : Stage) → Stands next stage old → BehindRun tells next wanted (world_in old) (world_in new) end stage (λ later. Stands next later new)
-run_keeps tells next (Ok (Upd program)) end status ran old new is leaves nothing begins updates Unbegun kept = tt
-run_keeps tells next (Ok (Upd program)) end status ran old new is leaves nothing begins updates Begun kept = λ means.
+run_keeps tells next (Ok (Upd program keep_going quiet verbose)) end status ran old new is leaves nothing begins updates Unbegun kept = tt
+run_keeps tells next (Ok (Upd program keep_going quiet verbose)) end status ran old new is leaves nothing begins updates Begun kept = λ means.
     let by = updates means kept in
     (subst (Builds next (world_in old) (world_in new)) (sym is) by.files, by.kept tt)
 run_keeps tells next (Ok Init) end status ran old new is leaves nothing begins updates stage kept = init_keeps old new next end status is leaves nothing begins stage kept

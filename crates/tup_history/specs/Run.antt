@@ -1,5 +1,5 @@
 -- What a run of the program leaves, by what the program promises of each run (tup_top). Own.
-use Rattle.std.specs.Prelude.{◌≡◌, ⊤, false, Bool, ℕ, List, [], Option, None, Some, IsTrue}
+use Rattle.std.specs.Prelude.{◌≡◌, ⊤, Bool, ℕ, List, [], Option, None, Some, IsTrue}
 use Rattle.tup_site.specs.Crash.{GoesOn}
 use Rattle.tup_site.specs.World.{World}
 use Rattle.tup_site.specs.Memory.{world_in, known_in, first_of, changes_of, moment_of, left_since, calls_of, faults_of, fails_of, left_of}
@@ -13,7 +13,7 @@ use Rattle.tup_promise.specs.Blamed.{IsToBlame}
 use Rattle.tup_promise.specs.Finished.{ExactlyTheFiles}
 use Rattle.tup_promise.specs.Needed.{OnlyWhatIsNeeded}
 use Rattle.tup_compare.specs.Compared.{HasCompared}
-use Rattle.tup_top.specs.Order.{Wanted, IsUpdate}
+use Rattle.tup_top.specs.Order.{Wanted, IsUpdate, goes_on}
 use Rattle.tup_top.specs.Promise.{ForUpdate, ForInit, ForVerify, Lasts, NothingDone, OpensStore, QuietStep, Counts, HasPlainCause, Initializes, Compares}
 use Rattle.tup_top.specs.declared.status.Status.{Status}
 use Rattle.tup_top.specs.declared.status.Status.TheVariants.{Done, SinkFault}
@@ -48,7 +48,7 @@ pub record Leaves (wanted : Wanted) (old new : MemSite) (status : Status) : Type
 -- beginning may leave.
 pub record Updates (next : Next) (wanted : Wanted) (old new : MemSite) (status : Status) (ran : List RuleName) : Type 0 where
   pub files : ForUpdate wanted status (ExactlyTheFiles next (world_in old) (world_in new))
-  pub needed : ForUpdate wanted status (OnlyWhatIsNeeded next false (world_in old) (world_in new) ran)
+  pub needed : ForUpdate wanted status (OnlyWhatIsNeeded next (goes_on wanted) (world_in old) (world_in new) ran)
   pub blamed : ForUpdate wanted status (IsToBlame next (world_in old) ran)
   pub crash : IsUpdate wanted → IsKeptSite next tupfiles (known_in new) (world_in old) (left_since new (moment_of old))
   pub kept : IsUpdate wanted → IsKept next new

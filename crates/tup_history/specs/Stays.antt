@@ -43,7 +43,7 @@ BehindUpdate tells next old new end Begun promise = IsTrue tells → Builds next
 
 -- behind a run of the program
 abbrev pub BehindRun : Bool → Next → Wanted → World → World → End → Stage → (Stage → Type 0) → Type 0
-BehindRun tells next (Ok (Upd program)) old new end stage promise = BehindUpdate tells next old new end stage promise
+BehindRun tells next (Ok (Upd program keep_going quiet verbose)) old new end stage promise = BehindUpdate tells next old new end stage promise
 BehindRun tells next (Ok Init) old new end stage promise = BehindInit end stage promise
 BehindRun tells next other old new end stage promise = promise stage
 

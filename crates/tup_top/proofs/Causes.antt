@@ -1,5 +1,5 @@
 -- How an order ends whose update came out so: what is promised of the update holds of the status that tells of it.
-use Rattle.std.proofs.Common.{◌≡◌, inl, inr, ℕ, zero, suc, Bool, IsTrue, List, [], ◌∷◌, Option, None, Some, refl, sym, ap, subst, ◌∙◌, append-nil, arith, false}
+use Rattle.std.proofs.Common.{◌≡◌, inl, inr, ℕ, zero, suc, Bool, IsTrue, List, [], ◌∷◌, Option, None, Some, refl, sym, ap, subst, ◌∙◌, append-nil, arith}
 use Rattle.std.specs.List.{slice_get}
 use Rattle.std.proofs.lemmas.Bool.{false≢true}
 use Rattle.tup_path.specs.Count.{Rose}
@@ -263,8 +263,8 @@ never_rose one = by one.at one.was one.is one.stood one.stands one.rose
     by (suc at) was is stood stands rose = absurd (cc stood)
 
 -- an update for which there was no memory before it began
-abbrev pub told_nothing : (site : Bool) (w : World) → Told site w w []
-told_nothing site w = record {
+abbrev pub told_nothing : (site keep_going : Bool) (w : World) → Told site keep_going w w []
+told_nothing site keep_going w = record {
   log = record { read = []; removed = []; ran = []; ended = [] };
   stopped = Some (Outside NoMemory);
   begun = refl;
@@ -272,11 +272,11 @@ told_nothing site w = record {
   unopened = λ _. inr (record { world = inl refl; empty = record { read = refl; removed = refl; ran = refl; ended = refl } });
 }
 
-pub prints_no_update : (site : Bool) (w : World) (before now : ℕ) (held : List ℕ) → PrintsUpdate site w w [] before now held held Memory
-prints_no_update site w before now held = record {
-  told = told_nothing site w;
+pub prints_no_update : (site keep_going : Bool) (w : World) (before now : ℕ) (held : List ℕ) → PrintsUpdate site keep_going w w [] before now held held Memory
+prints_no_update site keep_going w before now held = record {
+  told = told_nothing site keep_going w;
   ends = inl refl;
-  prints = prints_nothing Memory (lines (told_nothing site w).log Memory) before now held;
+  prints = prints_nothing Memory (lines (told_nothing site keep_going w).log Memory) before now held;
 }
 
 -- ---- how the store was gone on from
@@ -298,11 +298,11 @@ module _ (old new : World) (ran : List RuleName) (log : Log) (begun : log.ran �
 -- ---- what its log says
 
 -- nothing was begun
-pub logs_nothing : Logs [] (Some (Outside NoMemory))
-logs_nothing = (Some (Outside NoMemory), record { read = []; removed = []; ran = []; ended = [] }, refl, record { rest = []; first = refl })
+pub logs_nothing : (keep_going : Bool) → Logs keep_going [] (Some (Outside NoMemory))
+logs_nothing keep_going = (Some (Outside NoMemory), record { read = []; removed = []; ran = []; ended = [] }, refl, record { rest = []; first = refl })
 
-module _ (ran : List RuleName) (log : Log) (begun : log.ran ≡ ran) where
-  pub logs_so : (stopped : Option Stop) → IsLogged false log stopped → Logs ran stopped
+module _ (keep_going : Bool) (ran : List RuleName) (log : Log) (begun : log.ran ≡ ran) where
+  pub logs_so : (stopped : Option Stop) → IsLogged keep_going log stopped → Logs keep_going ran stopped
   logs_so None it = (log, begun, it)
   logs_so (Some NoStore) it = (log, begun, it)
   logs_so (Some (StoreDamaged offset)) it = (log, begun, it)

@@ -1,5 +1,5 @@
 -- A call that found no memory to read its words did nothing.
-use Rattle.std.proofs.Common.{◌≡◌, ℕ, Bool, true, List, [], Option, Some, Result, Ok, Err, inl, refl, sym, subst}
+use Rattle.std.proofs.Common.{◌≡◌, ℕ, Bool, true, false, List, [], Option, Some, Result, Ok, Err, inl, refl, sym, subst}
 use Rattle.tup_site.specs.World.{World}
 use Rattle.tup_site.specs.declared.fault.SiteFailed.TheVariants.{Memory as NoMemory}
 use Rattle.tup_rule.specs.declared.rule.RuleName.{RuleName}
@@ -21,7 +21,7 @@ use Rattle.tup_top.proofs.Causes.{logs_nothing, opens_so, prints_nothing, prints
 
 -- nothing was done
 pub idle : (wanted : Wanted) (w : World) → NothingDone wanted w w
-idle (Ok (Upd program)) w = tt
+idle (Ok (Upd program keep_going quiet verbose)) w = tt
 idle (Ok Init) w = inl refl
 idle (Ok Verify) w = holds_itself w
 idle (Ok Demo) w = refl
@@ -29,7 +29,7 @@ idle (Err place) w = refl
 
 -- what an update promises where there was no memory
 pub memory_for_update : (wanted : Wanted) (P : Option Stop → Type 0) → P (Some (Outside NoMemory)) → ForUpdate wanted Memory P
-memory_for_update (Ok (Upd program)) P p = p
+memory_for_update (Ok (Upd program keep_going quiet verbose)) P p = p
 memory_for_update (Ok Init) P p = tt
 memory_for_update (Ok Verify) P p = tt
 memory_for_update (Ok Demo) P p = tt
@@ -37,7 +37,7 @@ memory_for_update (Err place) P p = tt
 
 -- and a comparison
 pub memory_for_verify : (wanted : Wanted) (P : Result Compared Stop → Type 0) → P (Err (Outside NoMemory)) → ForVerify wanted Memory P
-memory_for_verify (Ok (Upd program)) P p = tt
+memory_for_verify (Ok (Upd program keep_going quiet verbose)) P p = tt
 memory_for_verify (Ok Init) P p = tt
 memory_for_verify (Ok Verify) P p = p
 memory_for_verify (Ok Demo) P p = tt
@@ -45,7 +45,7 @@ memory_for_verify (Err place) P p = tt
 
 -- and a beginning
 pub memory_for_init : (wanted : Wanted) (P : Result Begun GraphFault → Type 0) → P (Err graph.Memory) → ForInit wanted Memory P
-memory_for_init (Ok (Upd program)) P p = tt
+memory_for_init (Ok (Upd program keep_going quiet verbose)) P p = tt
 memory_for_init (Ok Init) P p = p
 memory_for_init (Ok Verify) P p = tt
 memory_for_init (Ok Demo) P p = tt
@@ -53,7 +53,7 @@ memory_for_init (Err place) P p = tt
 
 -- nothing failed
 pub memory_causes : (wanted : Wanted) (count : Counts) → HasPlainCause wanted count count Memory
-memory_causes (Ok (Upd program)) count = inl (refl, refl)
+memory_causes (Ok (Upd program keep_going quiet verbose)) count = inl (refl, refl)
 memory_causes (Ok Init) count = (refl, inl refl)
 memory_causes (Ok Verify) count = inl (refl, refl)
 memory_causes (Ok Demo) count = ((refl, refl), tt)
@@ -65,8 +65,8 @@ begun_nothing count held = record { begun = Err graph.Memory; ends = inl refl; p
 
 -- and what is printed then
 pub memory_prints : (site runner : Bool) (wanted : Wanted) (next : Next) (w : World) (ran : List RuleName) (count : ℕ) (held : List ℕ) → ran ≡ [] → Printed site runner wanted next w w ran count count held held Memory
-memory_prints site runner (Ok (Upd program)) next w ran count held none =
-    subst (λ (l : List RuleName). PrintsUpdate site w w l count count held held Memory) (sym none) (prints_no_update site w count count held)
+memory_prints site runner (Ok (Upd program keep_going quiet verbose)) next w ran count held none =
+    subst (λ (l : List RuleName). PrintsUpdate site keep_going w w l count count held held Memory) (sym none) (prints_no_update site keep_going w count count held)
 memory_prints site runner (Ok Init) next w ran count held none = begun_nothing count held
 memory_prints site runner (Ok Verify) next w ran count held none = record {
   compared = Err (Outside NoMemory);
@@ -74,15 +74,15 @@ memory_prints site runner (Ok Verify) next w ran count held none = record {
   ends = inl refl;
   prints = prints_nothing Memory (compared_line Memory) count count held;
 }
-memory_prints site runner (Ok Demo) next w ran count held none = ([], demo_world, prints_no_update true demo_world count count held)
+memory_prints site runner (Ok Demo) next w ran count held none = ([], demo_world, prints_no_update true false demo_world count count held)
 memory_prints site runner (Err place) next w ran count held none = prints_nothing (Usage place) (last_line (Usage place)) count count held
 
 -- what its log says
-pub memory_logs : (wanted : Wanted) (ran : List RuleName) → ran ≡ [] → ForUpdate wanted Memory (Logs ran)
-memory_logs wanted ran none = memory_for_update wanted (Logs ran) (subst (λ (l : List RuleName). Logs l (Some (Outside NoMemory))) (sym none) logs_nothing)
+pub memory_logs : (wanted : Wanted) (keep_going : Bool) (ran : List RuleName) → ran ≡ [] → ForUpdate wanted Memory (Logs keep_going ran)
+memory_logs wanted keep_going ran none = memory_for_update wanted (Logs keep_going ran) (subst (λ (l : List RuleName). Logs keep_going l (Some (Outside NoMemory))) (sym none) (logs_nothing keep_going))
 
 -- how the store was gone on from
 pub memory_opens : (wanted : Wanted) (w : World) (ran : List RuleName) → ran ≡ [] → ForUpdate wanted Memory (OpensStore w w ran)
 memory_opens wanted w ran none =
-    let told = told_nothing true w in
+    let told = told_nothing true false w in
     memory_for_update wanted (OpensStore w w ran) (opens_so w w ran told.log (sym none) (Some (Outside NoMemory)) (told.unopened refl))

@@ -1,5 +1,5 @@
 -- What an update promises of a kept site to which nothing was done.
-use Rattle.std.proofs.Common.{◌≡◌, ◌⊎◌, inl, inr, ℕ, ◌≤◌, ◌<◌, zero, List, [], length, true, false, None, Some, refl, sym, subst, arith, get_or}
+use Rattle.std.proofs.Common.{◌≡◌, ◌⊎◌, inl, inr, ℕ, ◌≤◌, ◌<◌, zero, List, [], length, Bool, true, None, Some, refl, sym, subst, arith, get_or}
 use Rattle.std.specs.Prelude.{slice_get}
 use Rattle.std.proofs.lemmas.Bool.{ltb-true}
 use Rattle.std.proofs.lemmas.Option.{slice_get_cases}
@@ -41,11 +41,11 @@ module _ {S R : Type 0} (site : Site S) (runner : Runner R) (at : S) (here : Kep
       let root : ReachedOver zero now.graph (site.world at).tree now.graph.rules number = (rule.0, rule.1, inr (inl (number, rule.1, inl flagged))) in
       (zero, root)
 
-  pub untouched_needed : ((entries : Standing) (g : GraphState) → IsGraphOf entries g → AreFlagsOfRules g) → (ran : List RuleName) → ran ≡ [] → OnlyWhatIsNeeded runner.next false (site.world at) (site.world at) ran (Some (Outside NoMemory))
-  untouched_needed flags ran none =
+  pub untouched_needed : ((entries : Standing) (g : GraphState) → IsGraphOf entries g → AreFlagsOfRules g) → (keep_going : Bool) (ran : List RuleName) → ran ≡ [] → OnlyWhatIsNeeded runner.next keep_going (site.world at) (site.world at) ran (Some (Outside NoMemory))
+  untouched_needed flags keep_going ran none =
       let of_rules = flags (entries_of now.reads.commits) now.graph now.reads.graph in
-      subst (λ (names : List RuleName). OnlyWhatIsNeeded runner.next false (site.world at) (site.world at) names (Some (Outside NoMemory))) (sym none) (record {
-        runs = none_runs runner.next false (site.world at) (Some (Outside NoMemory)) tt;
+      subst (λ (names : List RuleName). OnlyWhatIsNeeded runner.next keep_going (site.world at) (site.world at) names (Some (Outside NoMemory))) (sym none) (record {
+        runs = none_runs runner.next keep_going (site.world at) (Some (Outside NoMemory)) tt;
         flagged = (now.graph, now.reads, λ number flagged. (now.graph, now.reads, flagged_reached of_rules number flagged));
       })
 

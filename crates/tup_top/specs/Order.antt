@@ -1,5 +1,8 @@
 -- What the words of a command line ask for (own). A word that isn't known here can't stand anywhere.
-use Rattle.std.specs.Prelude.{◌≡◌, ◌+◌, ◌==◌, ℕ, ⊤, Bool, false, if◌then◌else◌, List, [], ◌∷◌, None, Some, Result, Ok, Err, codes, bytes_eq}
+use Rattle.std.specs.Prelude.{◌≡◌, ◌+◌, ◌==◌, ℕ, ⊤, Bool, true, false, ◌||◌, if◌then◌else◌, List, [], ◌∷◌, Option, None, Some, Result, Ok, Err, codes, bytes_eq}
+use Rattle.tup_top.specs.declared.options.Options.{Options}
+use Rattle.tup_top.specs.declared.options.Program.{Program}
+use Rattle.tup_top.specs.declared.options.Program.TheVariants.{NotNamed, Awaited, Named}
 use Rattle.tup_top.specs.declared.order.Word.{Word}
 use Rattle.tup_top.specs.declared.order.Order.{Order}
 use Rattle.tup_top.specs.declared.order.Order.TheVariants.{Init, Upd, Verify, Demo}
@@ -13,7 +16,7 @@ Wanted = Result Order ℕ
 
 -- the words ask for an update
 abbrev pub IsUpdate : Wanted → Type 0
-IsUpdate (Ok (Upd program)) = ⊤
+IsUpdate (Ok (Upd program keep_going quiet verbose)) = ⊤
 IsUpdate (Ok Init) = ⊥
 IsUpdate (Ok Verify) = ⊥
 IsUpdate (Ok Demo) = ⊥
@@ -21,7 +24,7 @@ IsUpdate (Err place) = ⊥
 
 -- the words ask for a comparison
 abbrev pub IsVerify : Wanted → Type 0
-IsVerify (Ok (Upd program)) = ⊥
+IsVerify (Ok (Upd program keep_going quiet verbose)) = ⊥
 IsVerify (Ok Init) = ⊥
 IsVerify (Ok Verify) = ⊤
 IsVerify (Ok Demo) = ⊥
@@ -29,7 +32,7 @@ IsVerify (Err place) = ⊥
 
 -- the words ask that a project begins
 abbrev pub IsInit : Wanted → Type 0
-IsInit (Ok (Upd program)) = ⊥
+IsInit (Ok (Upd program keep_going quiet verbose)) = ⊥
 IsInit (Ok Init) = ⊤
 IsInit (Ok Verify) = ⊥
 IsInit (Ok Demo) = ⊥
@@ -37,11 +40,19 @@ IsInit (Err place) = ⊥
 
 -- the words ask for an update or a comparison, which have commands run
 abbrev pub HasCommandsRun : Wanted → Type 0
-HasCommandsRun (Ok (Upd program)) = ⊤
+HasCommandsRun (Ok (Upd program keep_going quiet verbose)) = ⊤
 HasCommandsRun (Ok Init) = ⊥
 HasCommandsRun (Ok Verify) = ⊤
 HasCommandsRun (Ok Demo) = ⊥
 HasCommandsRun (Err place) = ⊥
+
+-- whether what is asked for goes on after a bad verdict
+abbrev pub goes_on : Wanted → Bool
+goes_on (Ok (Upd program keep_going quiet verbose)) = keep_going
+goes_on (Ok Init) = false
+goes_on (Ok Verify) = false
+goes_on (Ok Demo) = false
+goes_on (Err place) = false
 
 -- whether a word says this
 abbrev pub says : List ℕ → Word → Bool
@@ -56,22 +67,74 @@ abbrev pub alone : ℕ → Order → List Word → Wanted
 alone place order [] = Ok order
 alone place order (word ∷ words) = Err place
 
--- an update by a program, which is the word at a place
-abbrev pub program : ℕ → List Word → Wanted
-program place [] = Err place
-program place (word ∷ words) = alone (place + 1) (Upd (Some word.0)) words
+-- the options of no words
+abbrev pub no_options : Options
+no_options = record { program = NotNamed; keep_going = false; quiet = false; verbose = false }
 
--- the options of an update, from a place on
-abbrev pub options : ℕ → List Word → Wanted
-options place [] = Ok (Upd None)
-options place (word ∷ words) = if says (codes "--proc") word then program (place + 1) words else Err place
+-- whether the next word names the program
+abbrev pub is_awaited : Program → Bool
+is_awaited NotNamed = false
+is_awaited Awaited = true
+is_awaited (Named program) = false
+
+-- options where the next word names the program; none where one is named
+abbrev pub awaiting_program : Options → Option Options
+awaiting_program options = elim options.program [ NotNamed ↦ Some (record options { program = Awaited }) | Awaited ↦ None | Named program ↦ None ]
+
+-- options and that it goes on; none where they say so
+abbrev pub going_on : Options → Option Options
+going_on options = if options.keep_going then None else Some (record options { keep_going = true })
+
+-- options and what is shown; none where they say anything of that
+abbrev pub showing : Bool → Bool → Options → Option Options
+showing quiet verbose options = if options.quiet || options.verbose then None else Some (record options { quiet = quiet; verbose = verbose })
+
+-- options and one more of a name; each stands once, and one of `--quiet` and `--verbose` alone
+abbrev pub with_option : List ℕ → Options → Option Options
+with_option name options =
+    if bytes_eq name (codes "--proc") then awaiting_program options
+    else if bytes_eq name (codes "-k") then going_on options
+    else if bytes_eq name (codes "--quiet") then showing true false options
+    else if bytes_eq name (codes "--verbose") then showing false true options
+    else None
+
+-- options and one word more, which names the program behind `--proc`, whatever it is
+abbrev pub taken : Word → Options → Option Options
+taken word options = if is_awaited options.program then Some (record options { program = Named word.0 }) else with_option word.0 options
+
+-- the update that options ask for; where their program is missing, it would stand at a place
+abbrev pub ended : ℕ → Options → Wanted
+ended place options = elim options.program [
+  | NotNamed ↦ Ok (Upd None options.keep_going options.quiet options.verbose)
+  | Awaited ↦ Err place
+  | Named program ↦ Ok (Upd (Some program) options.keep_going options.quiet options.verbose)
+]
+
+-- the update that options ask for, and those of further words, the first of which stands at a place
+abbrev pub options : ℕ → Options → List Word → Wanted
+options place given [] = ended place given
+options place given (word ∷ words) = elim (taken word given) [ None ↦ Err place | Some more ↦ options (place + 1) more words ]
+
+-- how many words speak of a program
+abbrev pub words_of_program : Program → ℕ
+words_of_program NotNamed = 0
+words_of_program Awaited = 1
+words_of_program (Named program) = 2
+
+-- one where it is so, and none else
+abbrev pub one_if : Bool → ℕ
+one_if b = if b then 1 else 0
+
+-- how many words made these options
+abbrev pub count : Options → ℕ
+count options = words_of_program options.program + one_if options.keep_going + one_if options.quiet + one_if options.verbose
 
 -- no words mean an update, and so do options without an order
 abbrev pub order : List Word → Wanted
-order [] = Ok (Upd None)
+order [] = ended 1 no_options
 order (word ∷ words) =
-    if is_option word then options 1 (word ∷ words)
-    else if says (codes "upd") word then options 2 words
+    if is_option word then options 1 no_options (word ∷ words)
+    else if says (codes "upd") word then options 2 no_options words
     else if says (codes "init") word then alone 2 Init words
     else if says (codes "verify") word then alone 2 Verify words
     else if says (codes "demo") word then alone 2 Demo words

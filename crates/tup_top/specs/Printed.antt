@@ -40,18 +40,18 @@ pub record Prints (status : Status) (text : List ℕ) (before now : ℕ) (old ne
   pub all : answer ≢ Memory → ¬ Rose before now → new ≡ old ++ text
   pub untold : answer ≡ Memory → status ≢ Memory → new ≡ old
 
--- What an update told of itself that began these rules and led from one world to another. The site tells its worlds or doesn't:
--- what the log says by why it stopped is said of every site.
-pub record Told (site : Bool) (old new : World) (ran : List RuleName) : Type 0 where
+-- What an update told of itself that began these rules, was to go on after a bad verdict or not, and led from one world to another.
+-- The site tells its worlds or doesn't: what the log says by why it stopped is said of every site.
+pub record Told (site keep_going : Bool) (old new : World) (ran : List RuleName) : Type 0 where
   pub log : Log
   pub stopped : Option Stop
   pub begun : log.ran ≡ ran
-  pub logged : IsLogged false log stopped
+  pub logged : IsLogged keep_going log stopped
   pub unopened : IsTrue site → Unopened old new log stopped
 
 -- the lines of such an update
-pub record PrintsUpdate (site : Bool) (world left : World) (ran : List RuleName) (before now : ℕ) (old new : List ℕ) (answer : Status) : Type 0 where
-  pub told : Told site world left ran
+pub record PrintsUpdate (site keep_going : Bool) (world left : World) (ran : List RuleName) (before now : ℕ) (old new : List ℕ) (answer : Status) : Type 0 where
+  pub told : Told site keep_going world left ran
   pub ends : Ends before now (status_of told.log told.stopped) answer
   pub prints : Prints (status_of told.log told.stopped) (lines told.log (status_of told.log told.stopped)) before now old new answer
 
@@ -74,12 +74,12 @@ demo_world = record { tree = demo_tree; store = header ++ 0 ∷ [] }
 
 -- the lines of the update that a demo shows, over a site of its own
 abbrev pub PrintsDemo : ℕ → ℕ → List ℕ → List ℕ → Status → Type 0
-PrintsDemo before now old new answer = (ran : List RuleName) × (left : World) × PrintsUpdate true demo_world left ran before now old new answer
+PrintsDemo before now old new answer = (ran : List RuleName) × (left : World) × PrintsUpdate true false demo_world left ran before now old new answer
 
 -- the lines of what was asked for: of the update, of the beginning, of the comparison, of the demo's update, or the line of the
 -- refusal
 abbrev pub Printed : Bool → Bool → Wanted → Next → World → World → List RuleName → ℕ → ℕ → List ℕ → List ℕ → Status → Type 0
-Printed site runner (Ok (Upd program)) next world left ran before now old new answer = PrintsUpdate site world left ran before now old new answer
+Printed site runner (Ok (Upd program keep_going quiet verbose)) next world left ran before now old new answer = PrintsUpdate site keep_going world left ran before now old new answer
 Printed site runner (Ok Init) next world left ran before now old new answer = PrintsBegun before now old new answer
 Printed site runner (Ok Verify) next world left ran before now old new answer = PrintsComparison site runner next world before now old new answer
 Printed site runner (Ok Demo) next world left ran before now old new answer = PrintsDemo before now old new answer

@@ -1,6 +1,6 @@
 -- What the program promises of one call, each promise a word. What it says of an update it says of what the status tells that
 -- the update came to.
-use Rattle.std.specs.Prelude.{◌≡◌, ◌⊎◌, ◌<◌, ◌≤◌, ⊤, ℕ, ◌-◌, ◌^◌, List, [], length, map, slice_get, Option, None, Some, IfSome, IsTrue, OnOk, Result, Ok, Err, false}
+use Rattle.std.specs.Prelude.{◌≡◌, ◌⊎◌, ◌<◌, ◌≤◌, ⊤, ℕ, ◌-◌, ◌^◌, List, [], length, map, slice_get, Option, None, Some, IfSome, IsTrue, OnOk, Result, Ok, Err, Bool}
 use Rattle.std.specs.FinMap as finite
 use Rattle.tup_path.specs.Count.{Rose}
 use Rattle.tup_path.specs.Name.{Names, Content}
@@ -30,7 +30,7 @@ use Rattle.tup_top.specs.declared.status.Status.TheVariants.{Done, Command, Ille
 
 -- a promise of an update, of what the update came to
 abbrev pub ForUpdate : Wanted → Status → (Option Stop → Type 0) → Type 0
-ForUpdate (Ok (Upd program)) status promise = IfCame status promise
+ForUpdate (Ok (Upd program keep_going quiet verbose)) status promise = IfCame status promise
 ForUpdate (Ok Init) status promise = ⊤
 ForUpdate (Ok Verify) status promise = ⊤
 ForUpdate (Ok Demo) status promise = ⊤
@@ -38,7 +38,7 @@ ForUpdate (Err place) status promise = ⊤
 
 -- a promise of a comparison, of what it came to
 abbrev pub ForVerify : Wanted → Status → (Result Compared Stop → Type 0) → Type 0
-ForVerify (Ok (Upd program)) status promise = ⊤
+ForVerify (Ok (Upd program keep_going quiet verbose)) status promise = ⊤
 ForVerify (Ok Init) status promise = ⊤
 ForVerify (Ok Verify) status promise = IfCompared status promise
 ForVerify (Ok Demo) status promise = ⊤
@@ -46,7 +46,7 @@ ForVerify (Err place) status promise = ⊤
 
 -- a promise of a beginning, of how the project began
 abbrev pub ForInit : Wanted → Status → (Result Begun GraphFault → Type 0) → Type 0
-ForInit (Ok (Upd program)) status promise = ⊤
+ForInit (Ok (Upd program keep_going quiet verbose)) status promise = ⊤
 ForInit (Ok Init) status promise = IfBegan status promise
 ForInit (Ok Verify) status promise = ⊤
 ForInit (Ok Demo) status promise = ⊤
@@ -60,7 +60,7 @@ Lasts left now begun = OnOk begun (PinsStore left now)
 -- where there was none; a comparison leaves a world that holds the same; and any other call the world as it was. None touches
 -- a file.
 abbrev pub NothingDone : Wanted → World → World → Type 0
-NothingDone (Ok (Upd program)) old new = ⊤
+NothingDone (Ok (Upd program keep_going quiet verbose)) old new = ⊤
 NothingDone (Ok Init) old new = (new ≡ old) ⊎ BeginStep old old new
 NothingDone (Ok Verify) old new = HoldsOn old new
 NothingDone (Ok Demo) old new = new ≡ old
@@ -86,11 +86,11 @@ OnceDone promise stopped = stopped ≡ None → promise
 abbrev pub Spares : World → World → Option Stop → Type 0
 Spares old new stopped = IfSome stopped (LeavesTree old new)
 
--- What an update did that began these rules and stopped so, by its log. Where there was no memory, for its lines too, it had come
--- to any of its ends.
-abbrev pub Logs : List RuleName → Option Stop → Type 0
-Logs ran (Some (Outside NoMemory)) = (stopped : Option Stop) × (log : Log) × (log.ran ≡ ran) × IsLogged false log stopped
-Logs ran stopped = (log : Log) × (log.ran ≡ ran) × IsLogged false log stopped
+-- What an update did that began these rules and stopped so, by its log, where it was to go on after a bad verdict or not. Where
+-- there was no memory, for its lines too, it had come to any of its ends.
+abbrev pub Logs : Bool → List RuleName → Option Stop → Type 0
+Logs keep_going ran (Some (Outside NoMemory)) = (stopped : Option Stop) × (log : Log) × (log.ran ≡ ran) × IsLogged keep_going log stopped
+Logs keep_going ran stopped = (log : Log) × (log.ran ≡ ran) × IsLogged keep_going log stopped
 
 -- the failures that a site, the runners of a crew and a sink have counted
 pub record Counts : Type 0 where
@@ -169,7 +169,7 @@ IsRefusal wrong other = ⊥
 
 -- the causes of every order
 abbrev pub HasPlainCause : Wanted → Counts → Counts → Status → Type 0
-HasPlainCause (Ok (Upd program)) before now status = HasCountedCause before now status
+HasPlainCause (Ok (Upd program keep_going quiet verbose)) before now status = HasCountedCause before now status
 HasPlainCause (Ok Init) before now status = (now.runners ≡ before.runners) × HasBegunCause before.site now.site before.sink now.sink status
 HasPlainCause (Ok Verify) before now status = HasComparedCause before now status
 HasPlainCause (Ok Demo) before now status = AreSteady before now × HasDemoCause before.sink now.sink status

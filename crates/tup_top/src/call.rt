@@ -1,5 +1,5 @@
 //! The top call.
-ghost use Rattle.std.specs.Prelude.{◌≡◌, false, IsTrue, drop, length, map};
+ghost use Rattle.std.specs.Prelude.{◌≡◌, IsTrue, drop, length, map};
 ghost use Rattle.std.specs.Result.{result_err};
 ghost use Rattle.tup_site.specs.Crash.{GoesOn};
 ghost use Rattle.tup_law_phases.specs.Language.{tupfiles};
@@ -13,7 +13,7 @@ ghost use Rattle.tup_promise.specs.Needed.{OnlyWhatIsNeeded};
 ghost use Rattle.tup_promise.specs.States.{States};
 ghost use Rattle.tup_compare.specs.Compared.{HasCompared};
 ghost use Rattle.tup_compare.specs.Opened.{JustOpens};
-ghost use Rattle.tup_top.specs.Order.{IsUpdate, order};
+ghost use Rattle.tup_top.specs.Order.{IsUpdate, goes_on, order};
 ghost use Rattle.tup_top.specs.Crew.{IsCrew, CrewRuns, CrewCompares, NothingRun};
 ghost use Rattle.tup_top.specs.Lines.{last_line as line_of};
 ghost use Rattle.tup_top.specs.Printed.{Printed, Prints};
@@ -50,7 +50,8 @@ pub struct Ran<S, R> {
 /// Carries out what the words ask for, and prints its lines to `out` in one write.
 ///
 /// `init` makes the store of a project where there is none. No words, or `upd`, update the files of
-/// the site; the first runner of the crew runs the commands. `verify` has it run those of a clean
+/// the site; the first runner of the crew runs the commands, and `-k` goes on after a bad one with
+/// the rules that don't need it. `verify` has it run those of a clean
 /// build beside them, and touches no file. `demo` shows an update of a small project in memory, and
 /// leaves site and crew alone. Other words are refused by the place of the first that can't stand
 /// there. A crew has 1 to 16 runners.
@@ -74,7 +75,8 @@ pub fn tup<S: Site, R: Runner, K: Sink>(
         ForUpdate (order words.now) result.status (Spares old new) }
     // Nothing is begun before the sources are read, and each rule that is begun comes to its end,
     // but the last one where something else than a bad verdict stops it.
-    ensures logged { ForUpdate (order words.now) result.status (Logs result.ran) }
+    ensures logged { ForUpdate (order words.now) result.status
+        (Logs (goes_on (order words.now)) result.ran) }
     // Any other order adds no more than a beginning, or a comparison's opening of the store.
     ensures quiet { IsTrue S.tells → (IsUpdate (order words.now) → ⊥)
         → let step = QuietStep (order words.now) (S.world site) in
@@ -92,7 +94,7 @@ pub fn tup<S: Site, R: Runner, K: Sink>(
     ensures only_what_is_needed { KeptHere S.Site.own R.Runner.own site
         → let old = S.world site in let new = S.world result.site in
         ForUpdate (order words.now) result.status
-        (OnlyWhatIsNeeded R.next false old new result.ran) }
+        (OnlyWhatIsNeeded R.next (goes_on (order words.now)) old new result.ran) }
     ensures blamed { KeptHere S.Site.own R.Runner.own site
         → ForUpdate (order words.now) result.status (IsToBlame R.next (S.world site) result.ran) }
     ensures settled { KeptHere S.Site.own R.Runner.own site
@@ -151,9 +153,9 @@ pub fn tup<S: Site, R: Runner, K: Sink>(
 {
     flags_are_of_rules();
     match order_of(words) {
-        Ok(Order::Upd { .. }) => {
+        Ok(Order::Upd { keep_going, .. }) => {
             let mut crew = crew;
-            let Ended { status, site, ran } = update(alloc, site, &mut crew[0], out);
+            let Ended { status, site, ran } = update(alloc, site, &mut crew[0], keep_going, out);
             Ran {
                 status,
                 site,

@@ -8,6 +8,7 @@
 mod call;
 mod circle;
 mod init;
+mod options;
 mod order;
 mod print;
 mod status;

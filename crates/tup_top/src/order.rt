@@ -1,8 +1,9 @@
 //! The words of the command line.
-ghost use Rattle.std.specs.Prelude.{◌≡◌, ◌≤◌};
+ghost use Rattle.std.specs.Prelude.{◌≡◌, ◌+◌, ◌≤◌};
 ghost use Rattle.tup_top.specs.Order as specs;
 ghost use Rattle.tup_top.specs.Order.{Answers, order};
 
+use crate::options::{Options, Program};
 use std::alloc::AllocError;
 use thiserror::Error;
 use tup_path::Text;
@@ -18,7 +19,15 @@ pub enum Order {
     Init,
     /// Update the files; commands are run by the runner that comes with the program, or through
     /// this program.
-    Upd { program: Option<Text> },
+    Upd {
+        program: Option<Text>,
+        /// Whether it goes on after a bad command.
+        keep_going: bool,
+        /// Whether nothing is shown while it runs.
+        quiet: bool,
+        /// Whether each command is shown while it runs.
+        verbose: bool,
+    },
     /// Compare the files with a clean build of the sources, and change nothing.
     Verify,
     /// Show an update of a small project in memory.
@@ -53,13 +62,13 @@ pub fn order_of(words: &[Word]) -> Result<Order, OrderFault>
     ensures { Answers (order words.now) result }
 {
     let Some((first, rest)) = words.split_first() else {
-        return Ok(Order::Upd { program: None });
+        return ended(1, Options::none());
     };
     if is_option(first) {
-        return options(words, 1);
+        return options(words, 1, Options::none());
     }
     match first.0.as_str() {
-        "upd" => options(rest, 2),
+        "upd" => options(rest, 2, Options::none()),
         "init" => alone(Order::Init, rest, 2),
         "verify" => alone(Order::Verify, rest, 2),
         "demo" => alone(Order::Demo, rest, 2),
@@ -85,34 +94,39 @@ fn alone(order: Order, rest: &[Word], place: u32) -> Result<Order, OrderFault>
     }
 }
 
-/// The options of an update; the first of them stands at this place, 1 or 2.
-fn options(words: &[Word], place: u32) -> Result<Order, OrderFault>
-    requires { place ≤ 2 }
-    ensures { Answers (specs.options place words.now) result }
+/// An update by these options and those of further words, the first of which stands at this place.
+fn options(words: &[Word], place: u32, given: Options) -> Result<Order, OrderFault>
+    requires { place ≤ 2 + specs.count given }
+    ensures { Answers (specs.options place given words.now) result }
 {
-    let Some((option, rest)) = words.split_first() else {
-        return Ok(Order::Upd { program: None });
+    let Some((word, rest)) = words.split_first() else {
+        return ended(place, given);
     };
-    match option.0.as_str() {
-        "--proc" => program(rest, place + 1),
-        _ => Err(OrderFault::Usage { place }),
+    match given.with(word)? {
+        Some(more) => options(rest, place + 1, more),
+        None => Err(OrderFault::Usage { place }),
     }
 }
 
-/// An update by a program, which is the word at this place, at most 3.
-fn program(words: &[Word], place: u32) -> Result<Order, OrderFault>
-    requires { place ≤ 3 }
-    ensures { Answers (specs.program place words.now) result }
+/// An update by these options, where the words end at this place.
+fn ended(place: u32, given: Options) -> Result<Order, OrderFault>
+    ensures { Answers (specs.ended place given) result }
 {
-    let Some((word, rest)) = words.split_first() else {
-        return Err(OrderFault::Usage { place });
+    let Options {
+        program,
+        keep_going,
+        quiet,
+        verbose,
+    } = given;
+    let program = match program {
+        Program::NotNamed => None,
+        Program::Awaited => return Err(OrderFault::Usage { place }),
+        Program::Named(program) => Some(program),
     };
-    let program = word.0.clone()?;
-    alone(
-        Order::Upd {
-            program: Some(program),
-        },
-        rest,
-        place + 1,
-    )
+    Ok(Order::Upd {
+        program,
+        keep_going,
+        quiet,
+        verbose,
+    })
 }

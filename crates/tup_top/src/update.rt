@@ -1,5 +1,5 @@
 //! An update, and what is told of it.
-ghost use Rattle.std.specs.Prelude.{◌≡◌, [], ◌∷◌, ◌++◌, false, IsTrue, IfOk, IfErr};
+ghost use Rattle.std.specs.Prelude.{◌≡◌, [], ◌∷◌, ◌++◌, IsTrue, IfOk, IfErr};
 ghost use Rattle.tup_demo.specs.Steady.{world_in, tree_in, store_in};
 ghost use Rattle.tup_table.specs.Store.{header};
 ghost use Rattle.tup_law_phases.specs.Language.{tupfiles};
@@ -41,11 +41,13 @@ pub(crate) struct Ended<S> {
     pub ran: Items<RuleName>,
 }
 
-/// Updates the files of a site by a runner, and prints the lines of this update.
+/// Updates the files of a site by a runner, going on after a bad verdict or not, and prints the
+/// lines of this update.
 pub(crate) fn update<S: Site, R: Runner, K: Sink>(
     alloc: Global,
     site: S,
     runner: &mut R,
+    keep_going: bool,
     out: &mut K,
 ) -> Ended<S>
     ensures opens_store { IsTrue S.tells → let old = S.world site in
@@ -58,7 +60,7 @@ pub(crate) fn update<S: Site, R: Runner, K: Sink>(
     ensures only_what_is_needed { KeptHere S.Site.own R.Runner.own site
         → let old = S.world site in let new = S.world result.site in
         IfCame result.status
-        (OnlyWhatIsNeeded R.next false old new result.ran) }
+        (OnlyWhatIsNeeded R.next keep_going old new result.ran) }
     ensures blamed { KeptHere S.Site.own R.Runner.own site
         → IfCame result.status (IsToBlame R.next (S.world site) result.ran) }
     ensures settled { KeptHere S.Site.own R.Runner.own site
@@ -76,7 +78,7 @@ pub(crate) fn update<S: Site, R: Runner, K: Sink>(
     ensures spares { IsTrue S.tells → let old = S.world site in
         let new = S.world result.site in IfCame result.status (Spares old new) }
     // Whatever site and runner are: how far it came, what became of the rules, and why it ended.
-    ensures logged { IfCame result.status (Logs result.ran) }
+    ensures logged { IfCame result.status (Logs keep_going result.ran) }
     ensures counted_cause { let counted = counts S.faults R.faults K.faults in
         let before = counted site (runner.old ∷ []) out.old in
         let now = counted result.site (runner.new ∷ []) out.new in
@@ -86,10 +88,10 @@ pub(crate) fn update<S: Site, R: Runner, K: Sink>(
     ensures printed { IsTrue K.tells
         → let before = K.faults out.old in let now = K.faults out.new in
         let old = S.world site in let new = S.world result.site in
-        PrintsUpdate S.tells old new result.ran before now
+        PrintsUpdate S.tells keep_going old new result.ran before now
         (K.held out.old) (K.held out.new) result.status }
 {
-    let Updated { site, log, stopped } = update_site(alloc, site, runner, false);
+    let Updated { site, log, stopped } = update_site(alloc, site, runner, keep_going);
     let status = tell_all(alloc, &log, stopped, out);
     Ended {
         status,
@@ -123,7 +125,7 @@ pub(crate) fn demo<K: Sink>(alloc: Global, out: &mut K) -> Status
         PrintsDemo before now (K.held out.old) (K.held out.new) result }
 {
     match demo_site(alloc) {
-        Ok(site) => update(alloc, site, &mut Mini::new(alloc), out).status,
+        Ok(site) => update(alloc, site, &mut Mini::new(alloc), false, out).status,
         Err(fault) => tell(alloc, status_of_begun(Err(fault)), out),
     }
 }

@@ -1,4 +1,4 @@
-use Rattle.std.proofs.Common.{false, map, inl, refl, sym, subst}
+use Rattle.std.proofs.Common.{map, inl, refl, sym, subst}
 use Rattle.std.specs.Prelude.{slice_set}
 use Rattle.std.specs.Result.{result_err}
 use Rattle.tup_site.specs.Crash.{GoesOn}
@@ -11,8 +11,8 @@ use Rattle.tup_promise.specs.Finished.{AreFilesSettled, ExactlyTheFiles}
 use Rattle.tup_promise.specs.Needed.{OnlyWhatIsNeeded}
 use Rattle.tup_ends.proofs.Staying.{sources_kept}
 use Rattle.tup_top.specs.Crew.{CrewRuns, CrewCompares}
-use Rattle.tup_top.specs.Order.{Wanted, order}
-use Rattle.tup_top.specs.Promise.{OnceDone, ForUpdate, ForVerify, Lasts, NothingDone, QuietStep, HasPlainCause, Spares, counts}
+use Rattle.tup_top.specs.Order.{Wanted, goes_on, order}
+use Rattle.tup_top.specs.Promise.{OnceDone, ForUpdate, ForVerify, Lasts, Logs, NothingDone, QuietStep, HasPlainCause, Spares, counts}
 use Rattle.tup_top.proofs.Begun.{initializes_so}
 use Rattle.tup_top.proofs.Crewed.{crew_cause, crew_compared, crew_runs, crew_compares, no_crew_ran, others_stay}
 use Rattle.tup_top.proofs.Idle.{idle, memory_causes, memory_for_init, memory_for_update, memory_for_verify, memory_logs, memory_opens, memory_prints}
@@ -30,6 +30,12 @@ returns-in-Ok-Upd-clause-plain_cause g c =
     subst (λ (w : Wanted). HasPlainCause w before now c.update-status.result.status) (sym is)
     (crew_cause g.R.Runner.faults c.args.crew.items c.index_mut.result.now c.update-status.new.runner (g.S.Site.faults c.args.site) (g.S.Site.faults c.update-status.result.site) (g.K.Sink.faults c.args.out.now) (g.K.Sink.faults c.update-status.new.out)
     c.update-status.result.status c.requires.crew.0 c.index_mut.ensures.value c.update-status.ensures.counted_cause)
+
+pub returns-in-Ok-Upd-clause-logged : goal.returns-in-Ok-Upd-clause-logged
+returns-in-Ok-Upd-clause-logged g c =
+    let wanted = rw c.in-Ok-Upd.is at c.order_of.ensures in
+    let is = rw c.in-Ok-Upd.field-0-is at wanted in
+    subst (λ (w : Wanted). ForUpdate w c.update-status.result.status (Logs (goes_on w) c.update-status.result.ran)) (sym is) c.update-status.ensures.logged
 
 pub returns-in-Ok-Upd-clause-ran : goal.returns-in-Ok-Upd-clause-ran
 returns-in-Ok-Upd-clause-ran g c = λ tells.
@@ -94,7 +100,7 @@ returns-clause-printed g c = λ _.
     c.new-in-Err-Memory.ensures
 
 pub returns-clause-logged : goal.returns-clause-logged
-returns-clause-logged g c = memory_logs (order c.args.words.now) c.new-in-Err-Memory.result c.new-in-Err-Memory.ensures
+returns-clause-logged g c = memory_logs (order c.args.words.now) (goes_on (order c.args.words.now)) c.new-in-Err-Memory.result c.new-in-Err-Memory.ensures
 
 pub returns-clause-spares : goal.returns-clause-spares
 returns-clause-spares g c = λ _.
@@ -186,7 +192,8 @@ pub returns-clause-only_what_is_needed : goal.returns-clause-only_what_is_needed
 returns-clause-only_what_is_needed g c = λ here.
     let world = g.S.Site.world c.args.site in
     let ran = c.new-in-Err-Memory.result in
-    memory_for_update (order c.args.words.now) (OnlyWhatIsNeeded g.R.Runner.next false world world ran) (untouched_needed g.S.Site g.R.Runner c.args.site here c.flags_are_of_rules.ensures ran c.new-in-Err-Memory.ensures)
+    memory_for_update (order c.args.words.now) (OnlyWhatIsNeeded g.R.Runner.next (goes_on (order c.args.words.now)) world world ran)
+    (untouched_needed g.S.Site g.R.Runner c.args.site here c.flags_are_of_rules.ensures (goes_on (order c.args.words.now)) ran c.new-in-Err-Memory.ensures)
 
 pub returns-clause-blamed : goal.returns-clause-blamed
 returns-clause-blamed g c = λ _. memory_for_update (order c.args.words.now) (IsToBlame g.R.Runner.next (g.S.Site.world c.args.site) c.new-in-Err-Memory.result) tt

@@ -1,4 +1,4 @@
-use Rattle.std.proofs.Common.{true, refl, subst}
+use Rattle.std.proofs.Common.{true, false, refl, subst}
 use Rattle.tup_site.specs.World.{World}
 use Rattle.tup_demo.specs.Steady.{world_in}
 use Rattle.tup_top.specs.Printed.{PrintsUpdate}
@@ -16,7 +16,7 @@ returns-in-Ok g c =
     record {
       cause = demo_cause left ran (g.K.Sink.faults c.args.out.now) (g.K.Sink.faults c.update.new.out) status
           (subst (λ (w : World). IfCame status (OpensStore w left ran)) c.in-Ok.ensures.holds (c.update.ensures.opens_store refl)) c.update.ensures.counted_cause;
-      printed = λ shows. (ran, left, subst (λ (w : World). PrintsUpdate true w left ran (g.K.Sink.faults c.args.out.now) (g.K.Sink.faults c.update.new.out) (g.K.Sink.held c.args.out.now) (g.K.Sink.held c.update.new.out) status) c.in-Ok.ensures.holds (c.update.ensures.printed shows));
+      printed = λ shows. (ran, left, subst (λ (w : World). PrintsUpdate true false w left ran (g.K.Sink.faults c.args.out.now) (g.K.Sink.faults c.update.new.out) (g.K.Sink.held c.args.out.now) (g.K.Sink.held c.update.new.out) status) c.in-Ok.ensures.holds (c.update.ensures.printed shows));
     }
 
 pub returns-in-Err : goal.returns-in-Err

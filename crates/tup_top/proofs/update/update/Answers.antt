@@ -1,4 +1,4 @@
-use Rattle.std.proofs.Common.{false, refl}
+use Rattle.std.proofs.Common.{refl}
 use Rattle.tup_promise.specs.Blamed.{IsToBlame}
 use Rattle.tup_promise.specs.Finished.{AreFilesSettled, ExactlyTheFiles}
 use Rattle.tup_promise.specs.Needed.{OnlyWhatIsNeeded}
@@ -20,8 +20,8 @@ pub returns-clause-logged : goal.returns-clause-logged
 returns-clause-logged g c =
     let update = c.update_site-site in
     let ran = update.result.log.ran in
-    answered (Logs ran) _ _ _ _ update.result.log update.result.stopped _ _ refl c.tell_all-status.ensures.ends
-    update.ensures.counted_cause (logs_so ran update.result.log refl update.result.stopped update.ensures.logged) (update.result.stopped, update.result.log, refl, update.ensures.logged)
+    answered (Logs c.args.keep_going ran) _ _ _ _ update.result.log update.result.stopped _ _ refl c.tell_all-status.ensures.ends
+    update.ensures.counted_cause (logs_so c.args.keep_going ran update.result.log refl update.result.stopped update.ensures.logged) (update.result.stopped, update.result.log, refl, update.ensures.logged)
 
 pub returns-clause-spares : goal.returns-clause-spares
 returns-clause-spares g c = λ tells.
@@ -70,7 +70,7 @@ returns-clause-only_what_is_needed g c = λ kept.
     let new = g.S.Site.world update.result.site in
     let needed = update.ensures.only_what_is_needed kept in
     let runs = needed.runs in
-    answered (OnlyWhatIsNeeded g.R.Runner.next false old new update.result.log.ran) _ _ _ _ update.result.log update.result.stopped _ _ refl c.tell_all-status.ensures.ends update.ensures.counted_cause
+    answered (OnlyWhatIsNeeded g.R.Runner.next c.args.keep_going old new update.result.log.ran) _ _ _ _ update.result.log update.result.stopped _ _ refl c.tell_all-status.ensures.ends update.ensures.counted_cause
     needed (record { runs = record { once = runs.once; due = runs.due; in_order = runs.in_order; all = tt }; flagged = needed.flagged })
 
 pub returns-clause-blamed : goal.returns-clause-blamed

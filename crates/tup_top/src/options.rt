@@ -1,0 +1,115 @@
+//! The options of an update.
+ghost use Rattle.std.specs.Prelude.{◌≡◌, ◌+◌, false, IfOk, IfSome};
+ghost use Rattle.tup_top.specs.Order as specs;
+
+use crate::order::Word;
+use std::alloc::AllocError;
+use tup_path::Text;
+
+/// The program of an update, as far as the words were read.
+#[derive(Drop)]
+pub(crate) enum Program {
+    NotNamed,
+    /// The next word names it.
+    Awaited,
+    Named(Text),
+}
+
+/// The options of an update, as far as the words were read.
+#[derive(Drop)]
+pub(crate) struct Options {
+    pub(crate) program: Program,
+    pub(crate) keep_going: bool,
+    pub(crate) quiet: bool,
+    pub(crate) verbose: bool,
+}
+
+impl Options {
+    /// The options of no words.
+    pub(crate) fn none() -> Options
+        ensures { result ≡ specs.no_options }
+    {
+        Options {
+            program: Program::NotNamed,
+            keep_going: false,
+            quiet: false,
+            verbose: false,
+        }
+    }
+
+    /// These options and one word more; none where the word can't stand there.
+    pub(crate) fn with(self, word: &Word) -> Result<Option<Options>, AllocError>
+        ensures taken { IfOk result (λ more. more ≡ specs.taken word.now self) }
+        ensures counted { IfOk result (λ more. IfSome more
+            (λ options. specs.count options ≡ specs.count self + 1)) }
+    {
+        if matches!(self.program, Program::Awaited) {
+            let program = Program::Named(word.0.clone()?);
+            return Ok(Some(Options { program, ..self }));
+        }
+        Ok(self.with_option(word.0.as_str()))
+    }
+
+    /// These options and one more of this name; none where it can't stand there.
+    fn with_option(self, name: &str) -> Option<Options>
+        requires { specs.is_awaited self.program ≡ false }
+        ensures taken { result ≡ specs.with_option name.now self }
+        ensures counted { IfSome result
+            (λ options. specs.count options ≡ specs.count self + 1) }
+    {
+        match name {
+            "--proc" => self.awaiting_program(),
+            "-k" => self.going_on(),
+            "--quiet" => self.showing(true, false),
+            "--verbose" => self.showing(false, true),
+            _ => None,
+        }
+    }
+
+    /// These options where the next word names the program; none where one is named.
+    fn awaiting_program(self) -> Option<Options>
+        requires { specs.is_awaited self.program ≡ false }
+        ensures taken { result ≡ specs.awaiting_program self }
+        ensures counted { IfSome result
+            (λ options. specs.count options ≡ specs.count self + 1) }
+    {
+        match self.program {
+            Program::NotNamed => Some(Options {
+                program: Program::Awaited,
+                ..self
+            }),
+            _ => None,
+        }
+    }
+
+    /// These options and that it goes on; none where they say so.
+    fn going_on(self) -> Option<Options>
+        ensures taken { result ≡ specs.going_on self }
+        ensures counted { IfSome result
+            (λ options. specs.count options ≡ specs.count self + 1) }
+    {
+        if self.keep_going {
+            return None;
+        }
+        Some(Options {
+            keep_going: true,
+            ..self
+        })
+    }
+
+    /// These options and one of what is shown; none where they say anything of that.
+    fn showing(self, quiet: bool, verbose: bool) -> Option<Options>
+        ensures taken { result ≡ specs.showing quiet verbose self }
+        ensures counted { IfSome result (λ options.
+            specs.count options ≡ specs.count self + specs.one_if quiet + specs.one_if verbose) }
+    {
+        if self.quiet || self.verbose {
+            return None;
+        }
+        Some(Options {
+            quiet,
+            verbose,
+            ..self
+        })
+    }
+}
