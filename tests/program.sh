@@ -91,7 +91,7 @@ row "an unknown option" 2 '' upd
 said '.tup/options: unknown word --fast'
 row "an unknown option, compared" 2 '' verify
 row "an unknown option, without an order" 2 ''
-row "an unknown option, and one asks for the version" 0 'tup 0.1;' --version
+row "an unknown option, and one asks for the version" 0 'tup 0.2;' --version
 printf '\377' > .tup/options
 row "options that are no text" 2 '' upd
 said ".tup/options: unknown word that isn't UTF-8"
@@ -234,6 +234,17 @@ project ': a |> cat a k > b |> b'
 echo ho > k
 row "a source that isn't declared" 0 'read .;run .: cat a k > b;done: 1 read, 1 run, 0 removed;' upd
 file "its content" b "$(printf 'hi\nho')"
+project ': a |> cp a b |> b' ': a |> fail 3 |> c' ': c |> cp c e |> e' ': a |> cp a d |> d'
+row "going on behind a rule that fails" 1 'read .;run .: cp a b;bad .: fail 3;run .: cp a d;fault: .: fail 3: status 3;' upd -k
+file "the rule behind it was run" d hi
+gone "the one that needs it wasn't" e
+row "that rule is left" 1 'bad .: fail 3;fault: .: fail 3: status 3;' -k
+sed -i 's/fail 3 |> c/cp a c |> c/' Tupfile
+row "it is put right" 0 'read .;run .: cp a c;run .: cp c e;done: 1 read, 2 run, 0 removed;' -k
+row "nothing is left to do" 0 "$nothing" upd -k
+row "the option twice" 2 'fault: usage, word 3;' upd -k -k
+row "the option behind another order" 2 'fault: usage, word 2;' verify -k
+
 project ': a |> cp a g |> g' ': a |> cat a g > h |> h'
 row "a generated file that isn't declared" 1 'read .;run .: cp a g;bad .: cat a g > h;fault: .: cat a g > h: reads g;' upd
 file "what ran before stands" g hi
@@ -550,9 +561,37 @@ same "a full output" "$?" 9
 file "the update is done" b hi
 project "$copy"
 echo mine > target && ln -s target b
-row "a link at the output" 7 'read .;fault: the file tree or the store failed;' upd
-said 'look at ./b: a link or a special file stands here'
+row "a link at the output" 5 'fault: Tupfile:1: output is a source file, read for .;' upd
 file "its target" target mine
+rm b
+row "an update without it" 0 "$done_copy" upd
+rm b && ln -s target b
+row "a link in the place of an output" 7 'fault: the file tree or the store failed;' upd
+said 'look at ./b: a link or a special file stands here'
+file "its target, once more" target mine
+rm b
+row "it is taken away" 0 "$again" upd
+file "the output is a file again" b hi
+# A link is a file that holds where it leads.
+project ': ln |> cp ln b |> b' ': foreach *.t |> cp %f %o |> %B.o'
+ln -s a ln && ln -s a one.t && ln -s none two.t
+row "links" 0 'read .;run .: cp ln b;run .: cp one.t one.o;run .: cp two.t two.o;done: 1 read, 3 run, 0 removed;' upd
+file "where the first leads" b a
+row "the same links" 0 "$nothing" upd
+echo ho > a
+row "what they lead to is another" 0 "$nothing" upd
+ln -sfn elsewhere ln && ln -sfn /etc/passwd two.t
+row "they lead elsewhere" 0 'run .: cp ln b;run .: cp two.t two.o;done: 0 read, 2 run, 0 removed;' upd
+file "where the first leads now" b elsewhere
+rm one.t && echo file > one.t
+row "a file in the place of a link" 0 'run .: cp one.t one.o;done: 0 read, 1 run, 0 removed;' upd
+rm ln
+row "a link that is gone" 5 'fault: Tupfile:1: missing input, read for .;' upd
+ln -s "$(printf 'n\377')" ln
+row "a link that leads to no text" 5 'fault: Tupfile:1: missing input, read for .;' upd
+ln -sfn ln ln
+row "a link to itself" 0 'read .;run .: cp ln b;done: 1 read, 1 run, 0 removed;' upd
+row "they are compared" 0 'same;' verify
 project "$copy"
 mkdir b
 row "an empty folder at the output" 0 "$done_copy" upd
@@ -673,7 +712,7 @@ row "an output that is its source by another name" 0 "$again" upd
 same "each is a file of its own" "$(stat -c %h a) $(cat a b | tr '\n' ' ')" '1 ho ho '
 echo mine > c && rm b && ln -s c b
 : > Tupfile
-row "a link where an output was, and its rule goes" 0 'read .;done: 1 read, 0 run, 0 removed;' upd
+row "a link where an output was, and its rule goes" 6 'read .;fault: b was changed by hand and no rule makes it;' upd
 file "it stays" b mine
 project "$copy"
 row "one update" 0 "$done_copy" upd
@@ -718,7 +757,7 @@ row "what was made is a source" 5 'fault: Tupfile:1: output is a source file, re
 file "it stays" b hi
 for word in -h Upd '' --help=all; do row "the word '$word'" 2 'fault: usage, word 1;' "$word"; done
 row "two orders" 2 'fault: usage, word 2;' upd demo
-row "an option that isn't known" 2 'fault: usage, word 1;' -k
+row "an option that isn't known" 2 'fault: usage, word 1;' -x
 row "a word behind --version" 2 'fault: usage, word 1;' --version upd
 
 project ': big |> cp big b |> b'

@@ -127,7 +127,7 @@ row "two folders below" 0 'run .: cp a b;done: 0 read, 1 run, 0 removed;' ''
 row "it is compared" 0 'same;' '' verify
 row "a word that is none" 2 'fault: usage, word 2;' '' upd now
 row "an option that is none" 2 'fault: usage, word 1;' '' --fast
-row "the version" 0 'tup 0.1;' '' --version
+row "the version" 0 'tup 0.2;' '' --version
 for there in '.hidden/with blank' 'with blank' .tup; do
     cd "$top/$there" || exit 1
     row "in the folder $there" 0 'done: 0 read, 0 run, 0 removed;' ''
@@ -202,6 +202,7 @@ row "a program that looks like an option" 2 'fault: usage, word 3;' '' init --pr
 row "a program without a name" 2 'fault: usage, word 3;' '' init --proc ''
 row "a program of two lines" 2 'fault: usage, word 3;' '' init --proc "$(printf 'a\nb')"
 row "two programs" 2 'fault: usage, word 4;' '' init --proc one --proc two
+row "both words for what is shown" 2 'fault: usage, word 3;' '' init --quiet --verbose
 row "an option twice" 2 'fault: usage, word 3;' '' init --no-sync --no-sync
 row "an option that is none" 2 'fault: usage, word 2;' '' init --fast
 row "a word that is none" 2 'fault: usage, word 4;' '' init --proc one now
@@ -243,9 +244,30 @@ options "a word that is none" '--fast\n' 2 '' 'tup: .tup/options: unknown word -
 mkdir sub && cd sub || exit 1
 row "a word that is none, for a call below the top" 2 '' 'tup: ../.tup/options: unknown word --fast;'
 row "a word that is none, where files are compared" 2 '' 'tup: ../.tup/options: unknown word --fast;' verify
-row "a word that is none, and one asks for the version" 0 'tup 0.1;' '' --version
+row "a word that is none, and one asks for the version" 0 'tup 0.2;' '' --version
 options "a word without dashes" 'proc tup_sh\n' 2 '' 'tup: .tup/options: unknown word proc tup_sh;'
 options "a word that was joined" '--proc=tup_sh\n' 2 '' 'tup: .tup/options: unknown word --proc=tup_sh;'
+options "a project that goes on" '-k\n' 0 "$made" ''
+options "it goes on, and the words ask for it" '-k\n' 0 "$made" ''
+row "they ask for it too" 0 'done: 0 read, 0 run, 0 removed;' '' -k
+goes_on='read .;bad .: fail 3;run .: cp a b;fault: .: fail 3: status 3;'
+project ': a |> fail 3 |> c' "$copy"
+row "it stops at a bad command" 1 'read .;bad .: fail 3;fault: .: fail 3: status 3;' ''
+printf -- '-k\n' > .tup/options
+row "it goes on, as its options say" 1 'bad .: fail 3;run .: cp a b;fault: .: fail 3: status 3;' '' upd
+folder ': a |> fail 3 |> c' "$copy"
+printf -- '-k\n' > Tupfile.ini
+row "it goes on, as all who check it out" 1 "initialized;$goes_on" ''
+folder ': a |> fail 3 |> c' "$copy"
+row "it begins so" 0 'initialized;' '' init -k
+row "and goes on" 1 "$goes_on" '' upd
+options "each command is shown" '--verbose\n' 0 "$made" '[1] .: cp a b;'
+rm b
+row "the call is quiet" 0 'run .: cp a b;done: 0 read, 1 run, 0 removed;' '' upd --quiet
+options "a word for what is shown, twice" '--quiet\n--quiet\n' 2 '' 'tup: .tup/options: a second --quiet;'
+options "both words for what is shown" '--quiet\n--verbose\n' 2 '' 'tup: .tup/options: --quiet and --verbose;'
+options "both words in the other order" '--verbose --quiet\n' 2 '' 'tup: .tup/options: --quiet and --verbose;'
+options "-k twice" '-k -k\n' 2 '' 'tup: .tup/options: a second -k;'
 options "bytes that are no text" '\377\n' 2 '' "tup: .tup/options: unknown word that isn't UTF-8;"
 project "$copy"
 mkdir .tup/options
@@ -298,6 +320,73 @@ folder "$copy"
 : > Tupfile.ini && mkdir sub && ln -s "$top/none" .tup && cd sub || exit 1
 row "a link in the place of .tup" 7 "$failed" 'tup: look at ../.tup: a link or a special file stands here;'
 
+# What is shown of commands while they run. Without a terminal it is what --verbose asks for.
+two_rules() { project ': a |> cp a b |> b' ': a |> cat a a > c |> c'; }
+ran_both='read .;run .: cp a b;run .: cat a a > c;done: 1 read, 2 run, 0 removed;'
+two_rules
+row "no terminal" 0 "$ran_both" '' upd
+two_rules
+row "no terminal, and each command is shown" 0 "$ran_both" '[1] .: cp a b;[2] .: cat a a > c;' upd --verbose
+row "nothing is run" 0 'done: 0 read, 0 run, 0 removed;' '' --verbose
+two_rules
+row "no terminal, and nothing is shown" 0 "$ran_both" '' --quiet
+row "both words for what is shown" 2 'fault: usage, word 2;' '' --quiet --verbose
+row "a word for what is shown, twice" 2 'fault: usage, word 3;' '' upd --verbose --verbose
+row "they ask for an update alone" 2 'fault: usage, word 2;' '' verify --verbose
+project ': a |> cp a b && fail 3 |> b'
+row "a command that fails" 1 'read .;bad .: cp a b && fail 3;fault: .: cp a b && fail 3: status 3;' \
+    '[1] .: cp a b && fail 3;.: cp a b && fail 3: status 3;' --verbose
+project ': a |> cp a c |> b'
+row "a command that writes another file" 1 'read .;bad .: cp a c;fault: .: cp a c: writes c;' '[1] .: cp a c;' --verbose
+two_rules
+same "standard error that is closed" "$("$tup" --verbose 2>&- | tr '\n' ';')" "$ran_both"
+two_rules
+same "standard error that takes nothing" "$("$tup" --verbose 2> /dev/full | tr '\n' ';')" "$ran_both"
+two_rules
+"$tup" --verbose 2> "$work/said" >&-
+same "standard output that is closed" "$?: $(tr '\n' ';' < "$work/said")" '9: [1] .: cp a b;[2] .: cat a a > c;'
+
+# The same on a terminal, which is standard error alone: what it is given, with R for a return, ^ for an escape and ; for a line
+# feed. Its lines are those of a file.
+screen() {
+    name=$1 status=$2 wanted=$3
+    shift 3
+    found=$(script -qec "'$tup' $* > '$work/lines'" /dev/null < /dev/null; printf 'exit %s' "$?")
+    same "$name" "$(printf '%s' "$found" | tr '\r\033\n' 'R^;')" "${wanted}exit $status"
+}
+lines() { same "$name, its lines" "$(tr '\n' ';' < "$work/lines")" "$1"; }
+over() { printf 'R^[K^[?7l%s^[?7h^[999C ' "$1"; }
+cleared='R^[K'
+if script -qec true /dev/null < /dev/null > /dev/null 2>&1; then
+    export TERM=xterm
+    two_rules
+    screen "a terminal" 0 "$(over '[1] .: cp a b')$(over '[2] .: cat a a > c')$cleared" upd
+    lines "$ran_both"
+    two_rules
+    screen "a terminal, and nothing is shown" 0 '' --quiet
+    lines "$ran_both"
+    two_rules
+    screen "a terminal, and each command is shown" 0 '[1] .: cp a bR;[2] .: cat a a > cR;' --verbose
+    lines "$ran_both"
+    project ': a |> cp a b && fail 3 |> b'
+    screen "a command that fails on a terminal" 1 "$(over '[1] .: cp a b && fail 3')R;.: cp a b && fail 3: status 3R;$cleared"
+    lines 'read .;bad .: cp a b && fail 3;fault: .: cp a b && fail 3: status 3;'
+    long=$(printf '%0900d' 7)
+    project ": a |> echo é-$long > b |> b"
+    screen "a long command" 0 "$(over "[1] .: echo é-$long > b")$cleared"
+    project "$(printf ': a |> echo x\033[31m\302\233my > b |> b')"
+    screen "a command with control characters" 0 "$(over '[1] .: echo x?[31m?my > b')$cleared"
+    two_rules
+    TERM=dumb
+    screen "a terminal that only prints" 0 '' upd
+    two_rules
+    unset TERM
+    screen "a terminal without a name" 0 '' upd
+    export TERM=xterm
+else
+    echo "passed over: a terminal"
+fi
+
 # A command that is none of the small ones.
 unknown() {
     project ": a |> $1 |> b"
@@ -323,6 +412,29 @@ if [ -x "$sh" ] && "$tup" > /dev/null 2>&1; then
     printf '%s\n' ': |> printf "#!/bin/sh\necho two\n" > gen |> gen' ': gen |> ./gen > o |> o' > ../Tupfile
     row "another, for a call below the top" 0 'read .;run .: printf "#!/bin/sh\necho two\n" > gen;run .: ./gen > o;done: 1 read, 2 run, 0 removed;' ''
     file "what it made" ../o two
+    # A command that reads through a link runs again where the link leads elsewhere, and where what it leads to is another.
+    folder ': |> cat ln > o |> o' ': a |> cp %f %o |> made' ': made |> cat to > p |> p'
+    echo two > two && ln -s a ln && ln -s made to
+    "$tup" init --proc "$sh" > /dev/null
+    row "commands that read through links" 0 'read .;run .: cat ln > o;run .: cp a made;run .: cat to > p;done: 1 read, 3 run, 0 removed;' ''
+    row "the same links" 0 'done: 0 read, 0 run, 0 removed;' ''
+    ln -sfn two ln
+    row "a link leads elsewhere" 0 'run .: cat ln > o;done: 0 read, 1 run, 0 removed;' ''
+    file "what it made" o two
+    echo three > two
+    row "what it leads to is another" 0 'run .: cat ln > o;done: 0 read, 1 run, 0 removed;' ''
+    file "what it made" o three
+    echo ho > a
+    row "a link to an output that is made anew" 0 'run .: cp a made;run .: cat to > p;done: 0 read, 2 run, 0 removed;' ''
+    file "what it made" p ho
+    row "nothing is left to do" 0 'done: 0 read, 0 run, 0 removed;' ''
+    ln -sfn made ln
+    row "a link leads to an output that isn't named" 1 'bad .: cat ln > o;fault: .: cat ln > o: reads made;' ''
+    rm ln
+    row "a link that is gone" 1 'bad .: cat ln > o;fault: .: cat ln > o: status 1;' 'cat: ln: No such file or directory;'
+    echo file > ln
+    row "a file in its place" 0 'run .: cat ln > o;done: 0 read, 1 run, 0 removed;' ''
+    file "what it made" o file
 else
     echo "passed over: shell commands"
 fi

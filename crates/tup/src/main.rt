@@ -9,12 +9,14 @@ mod hint;
 mod option_files;
 mod options;
 mod output;
+mod screen;
 mod streams;
 mod top;
 mod words;
 
-use options::Options;
+use options::{Options, Voice};
 use output::Output;
+use screen::{ErrorScreen, manner};
 use std::alloc::{AllocError, Global};
 use std::io;
 use std::process::ExitCode;
@@ -23,6 +25,7 @@ use tup_fs::{FsSite, Syncs};
 use tup_mini::Mini;
 use tup_path::Text;
 use tup_proc_runner::ProcRunner;
+use tup_progress::{Manner, Progress};
 use tup_runner::Runner;
 use tup_top::{Order, Status, Word, order_of, tup};
 use words::words;
@@ -39,6 +42,9 @@ tup makes the files that the Tupfiles of a project ask for. It may be called in 
   tup verify      compare the files with a clean build, and touch none
   tup demo        show an update of a small project in memory
   tup --proc P    update, each command run through the program P; also tup upd --proc P
+  tup -k          update, and go on after a bad command with what doesn't need it; also tup upd -k
+  tup --verbose   update, and print each command before it is run; also tup upd --verbose
+  tup --quiet     update, and show nothing while it runs; also tup upd --quiet
   tup --help      print this
   tup --version   print the version
 
@@ -51,7 +57,7 @@ Exit numbers: 0 done, 1 a command's fault, 2 usage, 3 no project here, or one al
 const STAGE: &str = ".tup/stage";
 
 /// The version, which stands here alone.
-const VERSION: &str = "0.1";
+const VERSION: &str = "0.2";
 
 fn main(rt: HostRuntime) -> ExitCode {
     streams::fill(rt);
@@ -74,6 +80,15 @@ fn answer(rt: HostRuntime, alloc: Global, words: &[Word]) -> u8 {
     }
 }
 
+/// What a call is about.
+#[derive(Drop)]
+struct Call<'a> {
+    words: &'a [Word],
+    top: &'a Top,
+    syncs: Syncs,
+    manner: Manner,
+}
+
 /// Begins a project in the working folder, with these options.
 fn init(rt: HostRuntime, alloc: Global, word: &[Word], options: &[Word]) -> u8 {
     let Options { syncs, .. } = match option_files::check(rt, alloc, options) {
@@ -83,7 +98,7 @@ fn init(rt: HostRuntime, alloc: Global, word: &[Word], options: &[Word]) -> u8 {
     let Ok(here) = Top::here(alloc) else {
         return told(&rt, Status::Memory);
     };
-    match run(rt, alloc, word, &here, syncs, Mini::new(alloc)).0 {
+    match run_small(rt, alloc, word, &here, syncs) {
         Status::Done { .. } => option_files::write(rt, alloc, options),
         status => status.exit(),
     }
@@ -92,9 +107,34 @@ fn init(rt: HostRuntime, alloc: Global, word: &[Word], options: &[Word]) -> u8 {
 /// Carries out an order; only what works on a project looks for it.
 fn obey(rt: HostRuntime, alloc: Global, words: &[Word]) -> u8 {
     match order_of(words) {
-        Ok(Order::Upd { program }) => update(rt, alloc, words, program),
+        Ok(
+            Order::Upd {
+                program,
+                keep_going,
+                quiet,
+                verbose,
+            },
+        ) => {
+            let asked = Options {
+                program,
+                syncs: Syncs::Done,
+                keep_going,
+                voice: voice(quiet, verbose),
+                awaits_program: false,
+            };
+            update(rt, alloc, words, asked)
+        }
         Ok(Order::Verify) => verify(rt, alloc, words),
         _ => without_project(rt, alloc, words),
+    }
+}
+
+/// How much an update shows, if its words say that.
+fn voice(quiet: bool, verbose: bool) -> Option<Voice> {
+    match (quiet, verbose) {
+        (true, _) => Some(Voice::Quiet),
+        (false, true) => Some(Voice::Verbose),
+        (false, false) => None,
     }
 }
 
@@ -103,16 +143,14 @@ fn without_project(rt: HostRuntime, alloc: Global, words: &[Word]) -> u8 {
     let Ok(here) = Top::here(alloc) else {
         return told(&rt, Status::Memory);
     };
-    run(rt, alloc, words, &here, Syncs::Done, Mini::new(alloc))
-        .0
-        .exit()
+    run_small(rt, alloc, words, &here, Syncs::Done).exit()
 }
 
 /// Compares the files of the project.
 fn verify(rt: HostRuntime, alloc: Global, words: &[Word]) -> u8 {
     match project(rt, alloc) {
         Ok((top, options)) => {
-            let status = run(rt, alloc, words, &top, options.syncs, Mini::new(alloc)).0;
+            let status = run_small(rt, alloc, words, &top, options.syncs);
             hint::name_program(rt, alloc, &status, "`tup verify` runs no others");
             status.exit()
         }
@@ -120,13 +158,17 @@ fn verify(rt: HostRuntime, alloc: Global, words: &[Word]) -> u8 {
     }
 }
 
-/// Updates the files of the project. A program that the call names comes before that of the options.
-fn update(rt: HostRuntime, alloc: Global, words: &[Word], program: Option<Text>) -> u8 {
+/// Updates the files of the project. What the call asks for comes before what the options say.
+fn update(rt: HostRuntime, alloc: Global, words: &[Word], asked: Options) -> u8 {
     match project(rt, alloc) {
         Ok((top, options)) => {
-            let syncs = options.syncs;
-            match begin(rt, alloc, &top, syncs) {
-                0 => update_by(rt, alloc, words, &top, syncs, program.or(options.program)),
+            let is_in_words = asked.keep_going;
+            let options = asked.before(options);
+            match begin(rt, alloc, &top, options.syncs) {
+                0 if options.keep_going && !is_in_words => {
+                    keep_going(rt, alloc, words, &top, options)
+                }
+                0 => update_by(rt, alloc, words, &top, options),
                 status => status,
             }
         }
@@ -149,9 +191,7 @@ fn begin(rt: HostRuntime, alloc: Global, top: &Top, syncs: Syncs) -> u8 {
     let Ok(words) = init_word(alloc) else {
         return told(&rt, Status::Memory);
     };
-    run(rt, alloc, &words, top, syncs, Mini::new(alloc))
-        .0
-        .exit()
+    run_small(rt, alloc, &words, top, syncs).exit()
 }
 
 /// The word that begins a project.
@@ -160,48 +200,71 @@ fn init_word(alloc: Global) -> Result<Vec<Word>, AllocError> {
     Ok(vec![in alloc; word]?)
 }
 
+/// Updates the files of a project, and goes on after a bad command, as its options say.
+fn keep_going(rt: HostRuntime, alloc: Global, words: &[Word], top: &Top, options: Options) -> u8 {
+    match words_with(alloc, words, "-k") {
+        Ok(words) => update_by(rt, alloc, &words, top, options),
+        Err(_) => told(&rt, Status::Memory),
+    }
+}
+
+/// Words, and one more behind them.
+fn words_with(alloc: Global, words: &[Word], more: &str) -> Result<Vec<Word>, AllocError> {
+    let mut all = Vec::new(alloc);
+    for word in words {
+        all.push(Word(word.0.clone()?))?;
+    }
+    all.push(Word(Text::from_str(alloc, more)?))?;
+    Ok(all)
+}
+
 /// Updates the files of a project, by the small commands or through a program.
-fn update_by(
-    rt: HostRuntime,
-    alloc: Global,
-    words: &[Word],
-    top: &Top,
-    syncs: Syncs,
-    program: Option<Text>,
-) -> u8 {
-    match program {
-        Some(program) => run_through(rt, alloc, words, top, syncs, &program),
+fn update_by(rt: HostRuntime, alloc: Global, words: &[Word], top: &Top, options: Options) -> u8 {
+    let call = Call {
+        words,
+        top,
+        syncs: options.syncs,
+        manner: manner(rt, options.voice),
+    };
+    match options.program {
+        Some(program) => run_through(rt, alloc, &call, &program),
         None => {
-            let status = run(rt, alloc, words, top, syncs, Mini::new(alloc)).0;
+            let status = run(rt, alloc, &call, Mini::new(alloc)).0;
             hint::name_program(rt, alloc, &status, "`--proc tup_sh` runs shell commands");
             status.exit()
         }
     }
 }
 
-/// Has a crew of this one runner carry out the words; gives how they ended, and the runner back.
-fn run<R: Runner>(
-    rt: HostRuntime,
-    alloc: Global,
-    words: &[Word],
-    top: &Top,
-    syncs: Syncs,
-    runner: R,
-) -> (Status, Option<R>) {
-    let Ok(site) = FsSite::new(rt, alloc, top.root.as_str(), syncs) else {
+/// Carries out words by the small commands, and shows none of them.
+fn run_small(rt: HostRuntime, alloc: Global, words: &[Word], top: &Top, syncs: Syncs) -> Status {
+    let call = Call {
+        words,
+        top,
+        syncs,
+        manner: Manner::Silent,
+    };
+    run(rt, alloc, &call, Mini::new(alloc)).0
+}
+
+/// Has a crew of this one runner carry out a call; gives how it ended, and the runner back.
+fn run<R: Runner>(rt: HostRuntime, alloc: Global, call: &Call, runner: R) -> (Status, Option<R>) {
+    let Ok(site) = FsSite::new(rt, alloc, call.top.root.as_str(), call.syncs) else {
         return (no_memory(rt), None);
     };
     let mut crew = Vec::new(alloc);
-    let Ok(()) = crew.push(runner) else {
+    let Ok(()) = crew.push(Progress::new(runner, ErrorScreen::new(rt), call.manner)) else {
         return (no_memory(rt), None);
     };
-    let mut ran = tup(alloc, words, site, crew, &mut Output::new(&rt));
+    let mut output = Output::new(&rt, call.manner == Manner::Over);
+    let mut ran = tup(alloc, call.words, site, crew, &mut output);
     if let Some(failure) = ran.site.last() {
         // Words that can't be printed change nothing: the exit number tells as much.
         drop(eprintln!(rt; "tup: {failure}"));
     }
-    hint::begin(rt, top, &ran.status);
-    (ran.status, ran.crew.pop())
+    hint::begin(rt, call.top, &ran.status);
+    let progress = ran.crew.pop();
+    (ran.status, progress.map(Progress::into_runner))
 }
 
 /// Prints that there was no memory.
@@ -210,20 +273,12 @@ fn no_memory(rt: HostRuntime) -> Status {
     Status::Memory
 }
 
-/// Has the runner that starts this program for each command carry out the words; gives the exit
-/// number.
-fn run_through(
-    rt: HostRuntime,
-    alloc: Global,
-    words: &[Word],
-    top: &Top,
-    syncs: Syncs,
-    program: &Text,
-) -> u8 {
-    let Ok(runner) = starter(rt, alloc, top, program) else {
+/// Has the runner that starts this program for each command carry out a call; gives the exit number.
+fn run_through(rt: HostRuntime, alloc: Global, call: &Call, program: &Text) -> u8 {
+    let Ok(runner) = starter(rt, alloc, call.top, program) else {
         return told(&rt, Status::Memory);
     };
-    let (status, runner) = run(rt, alloc, words, top, syncs, runner);
+    let (status, runner) = run(rt, alloc, call, runner);
     if let Some(fault) = runner.and_then(|runner| runner.last()) {
         // Words that can't be printed change nothing: the exit number tells as much.
         drop(eprintln!(rt; "tup: {program}: {fault}"));

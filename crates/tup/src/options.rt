@@ -1,12 +1,21 @@
 //! The options of a project: words that hold for each update in it.
-ghost use Rattle.std.specs.Prelude.{◌≡◌, ◌⊎◌, Ok, Err, IfOk, IfErr};
-ghost use Rattle.tup.specs.Options.{added, behind};
+ghost use Rattle.std.specs.Prelude.{◌≡◌, ◌⊎◌, Ok, Err, IfOk, IfErr, false};
+ghost use Rattle.tup.specs.Options.{added, behind, with_voice};
 ghost use Rattle.tup.specs.declared.options.Fault.TheVariants.{Memory};
 
 use std::alloc::{AllocError, AllocFailed, Global};
 use std::fmt;
 use tup_fs::Syncs;
 use tup_path::Text;
+
+/// How much an update shows while it runs.
+#[derive(Clone, Copy, Debug, PartialEq, Eq)]
+pub(crate) enum Voice {
+    /// Nothing.
+    Quiet,
+    /// Each command in a line of its own.
+    Verbose,
+}
 
 /// What the words of options ask for.
 #[derive(Drop)]
@@ -15,6 +24,10 @@ pub(crate) struct Options {
     pub(crate) program: Option<Text>,
     /// Whether what is written is made durable.
     pub(crate) syncs: Syncs,
+    /// Whether an update goes on after a bad command.
+    pub(crate) keep_going: bool,
+    /// How much it shows while it runs, if that is said.
+    pub(crate) voice: Option<Voice>,
     /// Whether a program has to follow.
     pub(crate) awaits_program: bool,
 }
@@ -27,6 +40,8 @@ pub(crate) enum Fault {
     Twice(Text),
     /// The words end where a program has to follow.
     NoProgram,
+    /// An update can't be quiet and verbose.
+    Both,
     Memory,
 }
 
@@ -36,6 +51,7 @@ impl fmt::Display for Fault {
             Fault::Unknown(word) => write!(f, "unknown word {word}"),
             Fault::Twice(word) => write!(f, "a second {word}"),
             Fault::NoProgram => f.write_str("no program behind --proc"),
+            Fault::Both => f.write_str("--quiet and --verbose"),
             Fault::Memory => f.write_str("no memory"),
         }
     }
@@ -69,6 +85,8 @@ impl Options {
         Options {
             program: None,
             syncs: Syncs::Done,
+            keep_going: false,
+            voice: None,
             awaits_program: false,
         }
     }
@@ -111,10 +129,34 @@ impl Options {
         match word {
             "--proc" if self.program.is_none() => self.awaits_program = true,
             "--no-sync" if self.syncs == Syncs::Done => self.syncs = Syncs::Skipped,
-            "--proc" | "--no-sync" => return Err(Fault::Twice(Text::from_str(alloc, word)?)),
+            "-k" if !self.keep_going => self.keep_going = true,
+            "--quiet" => return self.speak(alloc, word, Voice::Quiet),
+            "--verbose" => return self.speak(alloc, word, Voice::Verbose),
+            "--proc" | "--no-sync" | "-k" => {
+                return Err(Fault::Twice(Text::from_str(alloc, word)?));
+            }
             _ => return Err(Fault::Unknown(Text::from_str(alloc, word)?)),
         }
         Ok(())
+    }
+
+    /// Reads the word that says how much an update shows.
+    fn speak(&mut self, alloc: Global, word: &str, voice: Voice) -> Result<(), Fault>
+        requires { self.old.awaits_program ≡ false }
+        ensures spoken { IfOk result
+            (λ _. with_voice voice word.now self.old self.old.voice ≡ Ok self.new) }
+        ensures refused { IfErr result (λ fault. (fault ≡ Memory)
+            ⊎ (with_voice voice word.now self.old self.old.voice ≡ Err fault)) }
+    {
+        let before = self.voice;
+        match before {
+            None => {
+                self.voice = Some(voice);
+                Ok(())
+            }
+            Some(said) if said == voice => Err(Fault::Twice(Text::from_str(alloc, word)?)),
+            Some(_) => Err(Fault::Both),
+        }
     }
 
     /// The options, where no program is missing behind the last word.
@@ -138,6 +180,8 @@ impl Options {
                 Syncs::Skipped => Syncs::Skipped,
                 Syncs::Done => others.syncs,
             },
+            keep_going: self.keep_going || others.keep_going,
+            voice: self.voice.or(others.voice),
             awaits_program: false,
         }
     }

@@ -1,0 +1,14 @@
+//! What a person sees while commands are run.
+//!
+//! `Progress` is a runner over a runner. It means what the inner one means, and shows each command on a `Screen` before it
+//! is run. What the screen does with a text changes nothing.
+#![tactic(auto)]
+
+mod lines;
+mod plain;
+mod progress;
+mod screen;
+
+pub use lines::CLEAR;
+pub use progress::{Manner, Progress};
+pub use screen::Screen;

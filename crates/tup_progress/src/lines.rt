@@ -1,0 +1,61 @@
+//! The lines that are shown of a command.
+ghost use Rattle.std.specs.Prelude.{◌≡◌, IfOk, string_bytes};
+ghost use Rattle.tup_progress.specs.Lines as specs;
+
+use crate::plain::plain;
+use std::alloc::{AllocError, Global};
+use tup_path::{Path, Text};
+
+/// Takes away the line in which the cursor stands.
+pub const CLEAR: &str = "\r\x1b[K";
+
+/// Has the terminal cut what is wider than it is.
+const CUT: &str = "\x1b[?7l";
+
+/// Ends the cutting, and puts the cursor behind the last column: what is printed next begins a line of its own, and before
+/// that `CLEAR` takes away this one.
+const AT_END: &str = "\x1b[?7h\x1b[999C ";
+
+/// The line of a command that is to be run, written over the one that stands there.
+pub(crate) fn over(
+    alloc: Global,
+    number: u64,
+    dir: &Path,
+    text: &Text,
+) -> Result<String, AllocError> {
+    let line = started(alloc, number, dir, text)?;
+    format!(in alloc; "{CLEAR}{CUT}{line}{AT_END}")
+}
+
+/// The line of a command that is to be run, for itself.
+pub(crate) fn own(alloc: Global, number: u64, dir: &Path, text: &Text) -> Result<String, AllocError>
+    ensures { IfOk result
+        (λ line. string_bytes line ≡ specs.own_line number dir.now text.now) }
+{
+    let line = started(alloc, number, dir, text)?;
+    format!(in alloc; "{line}\n")
+}
+
+/// A command that is to be run.
+fn started(alloc: Global, number: u64, dir: &Path, text: &Text) -> Result<String, AllocError>
+    ensures { IfOk result
+        (λ line. string_bytes line ≡ specs.started number dir.now text.now) }
+{
+    let line = format!(in alloc; "[{number}] {dir}: {text}")?;
+    plain(alloc, line.as_str())
+}
+
+/// The line of a command that failed.
+pub(crate) fn failed(
+    alloc: Global,
+    dir: &Path,
+    text: &Text,
+    status: u8,
+) -> Result<String, AllocError>
+    ensures { IfOk result
+        (λ line. string_bytes line ≡ specs.failed_line dir.now text.now status) }
+{
+    let line = format!(in alloc; "{dir}: {text}: status {status}")?;
+    let line = plain(alloc, line.as_str())?;
+    format!(in alloc; "{line}\n")
+}
