@@ -10,7 +10,7 @@ JOBS ?= $(shell nproc)
 TEXTS := crates.txt HANDLES $(shell find crates -name out -prune -o '(' -name '*.rt' -o -name '*.antt' ')' -print)
 VERSION = $(shell sed -n 's/^const VERSION: &str = "\(.*\)";/\1/p' crates/tup/src/main.rt)
 
-.PHONY: help look build runners demo check above promises rows test edits try shell killed model figures fmt times install uninstall clean
+.PHONY: help look build runners demo check above promises rows test edits try shell real killed model figures fmt times install uninstall clean
 
 help:
 	@echo 'make build      proves and builds the program, and has it print its version; JOBS=2 proves two crates at once (else as many as processors)'
@@ -23,7 +23,8 @@ help:
 	@echo 'make test       the gate: every proof, the edits of must-fail/ that must be refused, every test, the program as a user meets it'
 	@echo 'make edits      the edits that must be refused and that the gate leaves out; CRATES=tup_stamp tries those of that crate alone'
 	@echo 'make try        the last part of the gate alone: the program over small projects, full disks, damaged stores'
-	@echo 'make shell      runs shell commands under tup_sh, builds examples/c and runs hostile commands (passed over where there is no strace)'
+	@echo 'make shell      runs shell commands under tup_sh, builds examples/c, runs hostile commands, clangd and distcc (passed over where there is no strace)'
+	@echo 'make real       builds and edits Lua, zlib, brotli and ninja, fetched from Debian, and compares with clean builds and with ninja (passed over without a network)'
 	@echo 'make killed     fails and kills each system call of an update in turn, and what else only strace can show (ten minutes)'
 	@echo 'make model      compares the programs with a second reading of the language, in Python, over rows and projects drawn by lot'
 	@echo 'make figures    tells what opening a graph, noting a scan and ending a run cost, over graphs of up to 65,536 rules'
@@ -87,6 +88,12 @@ try: build
 shell: build runners
 	sh tests/shell.sh $(SH)
 	sh tests/c-example.sh $(TUP) $(SH)
+	sh tests/tools.sh $(TUP) $(SH)
+
+# The sources stay in REAL, so that a second call fetches nothing.
+REAL ?= $(or $(TMPDIR),/tmp)/tup-real
+real: build runners
+	sh tests/real/real.sh $(TUP) $(SH) $(REAL)
 
 killed: build
 	sh tests/edge.sh $(TUP)

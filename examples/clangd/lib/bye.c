@@ -1,0 +1,6 @@
+#include <stdio.h>
+#include "bye.h"
+
+void bye(void) {
+    puts("Bye");
+}

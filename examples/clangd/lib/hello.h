@@ -1,0 +1,1 @@
+void hello(const char *greeting, const char *version);
