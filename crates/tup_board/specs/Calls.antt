@@ -1,5 +1,7 @@
 -- What each call of a board leaves, by its answer (own). All that happens to the core is told by the events that the call
 -- adds to the history.
+-- A claim, the end of a denied command and a stop are one call of the course each; of their promise the board says
+-- only that all else is as it was.
 use Rattle.std.specs.Prelude.{◌≡◌, ◌≢◌, ◌⊎◌, ℕ, ◌<◌, true, false, List, [], ◌∷◌, ◌++◌, length, Option, None, Some, IsSome, Result, Ok, Err, Contains, map, filter_map, option_map, slice_get, take, ◌-◌, All, IsTrue}
 use Rattle.std.specs.FinMap as finite
 use Rattle.tup_path.specs.Count.{Rose}

@@ -1,4 +1,5 @@
 -- The formats of truths, texts, paths and stamps (own).
+-- The bytes of a name have to be whole before it is looked at: one that is cut off is short, whatever it holds.
 use Rattle.std.specs.Prelude.{ℕ, Bool, true, false, ◌&&◌, nat_le, List, [], ◌∷◌}
 use Rattle.std.specs.Str.{is_utf8}
 use Rattle.tup_path.specs.Name.{Names, IsPath}

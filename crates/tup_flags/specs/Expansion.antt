@@ -1,4 +1,6 @@
 -- What a text with percent flags expands to.
+-- Of what is refused the first from the left is named; too long is the place at which the text so far passes the
+-- limit, for which a group counts nothing.
 use Rattle.std.specs.Prelude.{ℕ, List, map, Result}
 use Rattle.tup_rule.specs.declared.draft.Piece.{Piece}
 use Rattle.tup_flags.specs.declared.answer.Answer.{Answer}

@@ -1,4 +1,7 @@
 -- What each flag is and where it may stand, from the manual; the places of `%g` and `%O`, and those past the manual's, are own.
+-- With `foreach` the current file is the one input. A flag over no files is the empty text. `%O` cuts the shown path
+-- at its last dot, if no slash follows. `%<name>` is the first group of that name in whatever folder, up to the first
+-- `>`.
 use Rattle.std.specs.Prelude.{ℕ, ◌==◌, nat_lt, Bool, true, false, not, ◌&&◌, ◌||◌, if◌then◌else◌, List, [], ◌∷◌, length, codes, bytes_eq, Option, Some, None, unwrap_or, is_some, option_and_then, position, Result, Ok, Err}
 use Rattle.tup_rule.specs.declared.draft.Piece.{Piece}
 use Rattle.tup_rule.specs.declared.draft.Piece.TheVariants.{Text, Group}

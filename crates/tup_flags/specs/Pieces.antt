@@ -1,4 +1,5 @@
 -- Values of the parts of a text, one behind the other, and the pieces that they make (own).
+-- The text of a flag is joined with its neighbours into one piece, and an empty text is no piece.
 use Rattle.std.specs.Prelude.{ℕ, ◌+◌, nat_lt, if◌then◌else◌, List, [], ◌∷◌, ◌++◌, length, Option, Some, None, Result, Ok, Err}
 use Rattle.tup_rule.specs.declared.draft.Piece.{Piece}
 use Rattle.tup_rule.specs.declared.draft.Piece.TheVariants.{Text, Group}

@@ -1,4 +1,5 @@
 -- What is found where a file is asked for. Own.
+-- A file that grows past the limit while it is read is refused as one byte over it.
 use Rattle.std.specs.Prelude.{◌≡◌, ℕ, ◌<◌, ◌≤◌, List, length, Option, Some, None, String, string_bytes}
 use Rattle.std.specs.Global.{Global}
 use Rattle.tup_fs.specs.declared.reading.Found.{Found}

@@ -1,4 +1,5 @@
 -- Which names a glob matches, in characters (from the manual).
+-- The first `*` of `**` takes nothing where the second can take it: the shortest run that lets the rest match.
 use Rattle.std.specs.Prelude.{ℕ, Bool, true, false, ◌&&◌, if◌then◌else◌, List, [], ◌∷◌, Option, Some, None, is_some}
 use Rattle.tup_glob.specs.declared.symbol.Symbol.{Symbol}
 use Rattle.tup_glob.specs.declared.symbol.Symbol.TheVariants.{Run}

@@ -1,4 +1,5 @@
 -- What each transaction does to the graph (own): the edits that it makes, and the graph that it leaves.
+-- The beginning of a run keeps the maker that the graph has; only a path that nothing owns gets the rule itself.
 use Rattle.std.specs.Prelude.{◌≡◌, ℕ, List, [], ◌∷◌, ◌++◌, Option, None, Some, All, fold, map, filter_map, option_map}
 use Rattle.std.specs.FinMap as finite
 use Rattle.tup_path.specs.Name.{Names}

@@ -1,4 +1,5 @@
 -- Which files are sources, and what a crash leaves of them (own).
+-- Which paths may be owned is a test, so that it can be said of any.
 use Rattle.std.specs.Prelude.{◌≡◌, ℕ, Bool, true, false, not, List, None, All}
 use Rattle.std.specs.FinMap as finite
 use Rattle.tup_path.specs.Name.{Names}

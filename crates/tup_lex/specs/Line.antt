@@ -1,4 +1,6 @@
 -- The lines of a Tupfile, from the manual; the limit, the trimming, and the numbers of joined lines are own.
+-- Only the last backslash of a continued line is dropped, and a byte order mark is an ordinary character. The number
+-- of a line stays at the last number of 32 bits.
 use Rattle.std.specs.Prelude.{ℕ, ◌+◌, ◌-◌, min, nat_lt, Bool, false, not, ◌==◌, if◌then◌else◌, List, [], ◌∷◌, ◌++◌, length, take, slice_index, slice_get, count_by, Some, None, Result, Ok, Err}
 use Rattle.std.specs.List.{filter, flat_map}
 use Rattle.std.specs.Str.{is_utf8}

@@ -1,4 +1,6 @@
 -- The parts of a rule line, from the manual; what is refused is own.
+-- Every byte of a line belongs to a part or to the blanks and marks between parts. A blank command is an empty part.
+-- A missing arrow is named before a bad brace.
 use Rattle.std.specs.Prelude.{ℕ, ◌+◌, ◌-◌, nat_lt, Bool, false, not, ◌&&◌, if◌then◌else◌, List, [], ◌∷◌, length, take, drop, map, count_by, codes, Option, Some, None, option_map, Result, Ok, Err}
 use Rattle.std.specs.List.{list_all, list_any, find, prefix_len, position_or_len, before_first, after_first}
 use Rattle.bstr.specs.Find.{matches}

@@ -1,5 +1,6 @@
 -- What a command under way keeps (own): its folder, its writes in the order of the first to each path, and how often it
 -- read one of them.
+-- A text that names no path is never read back, and is there once for each write.
 use Rattle.std.specs.Prelude.{ℕ, Bool, false, if◌then◌else◌, List, [], ◌∷◌, ◌++◌, Option, None, Some}
 use Rattle.std.specs.Result.{result_ok}
 use Rattle.tup_path.specs.Name.{Names, Content}

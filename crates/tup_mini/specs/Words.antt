@@ -1,5 +1,7 @@
 -- The words of a small command (own): its text is cut at blanks, and a blank beside another makes no word. What an arrow
 -- before the last of them parts, and the number that a word names.
+-- An arrow in another place comes before everything else: `nope > a b` and `nope >` end with 2, `nope > a` is unknown
+-- and ends with 127.
 use Rattle.std.specs.Prelude.{ℕ, Bool, true, false, not, ◌&&◌, ◌||◌, ◌==◌, ◌+◌, ◌*◌, ◌-◌, nat_le, nat_lt, if◌then◌else◌, List, [], ◌∷◌, length, filter, Option, None, Some, option_map, bytes_eq}
 use Rattle.std.specs.List.{slice_split, list_all}
 

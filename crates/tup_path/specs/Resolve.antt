@@ -1,4 +1,6 @@
 -- What a text names, read from a folder. The dots and slashes are the manual's, the limits and the order of refusals own.
+-- A name that is joined is one part: `.`, `..`, the empty name and a name with a slash are hidden names. A name that
+-- is too long is refused for that before anything else.
 use Rattle.std.specs.Prelude.{ℕ, Bool, false, not, ◌&&◌, ◌==◌, nat_lt, nat_le, if◌then◌else◌, List, [], ◌∷◌, ◌++◌, length, Result, Ok, Err, bytes_eq}
 use Rattle.std.specs.List.{list_all, slice_split}
 use Rattle.tup_path.specs.Name.{Names}

@@ -1,4 +1,5 @@
 -- How a path is written. The form is that of every Unix tool.
+-- A folder above is written `..`, without a slash after it: `lib` seen from `lib/x` is `..`.
 use Rattle.std.specs.Prelude.{◌≡◌, ℕ, suc, ◌≤◌, All, ◌-◌, if◌then◌else◌, List, [], ◌∷◌, ◌++◌, length, drop, bytes_eq, replicate}
 use Rattle.std.specs.List.{join_with_byte}
 use Rattle.tup_path.specs.Name.{Names}

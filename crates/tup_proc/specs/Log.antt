@@ -1,6 +1,8 @@
 -- The access log of a started program (own). Each line says one thing that it did: `R HEX TEXT` asked TEXT and found
 -- a content with this stamp, `A TEXT` asked TEXT and found nothing, `W K TEXT` wrote TEXT with the content of file K,
 -- `E N` ended with status N. The last line, and no other, is the end.
+-- A writer may spell any list of lines. Only a log (texts of UTF-8 without a line feed, then one end) has one
+-- spelling and reads back. The number of a line stays at the last of 32 bits.
 use Rattle.std.specs.Prelude.{◌≡◌, ◌≢◌, ℕ, suc, ◌<◌, Bool, true, false, List, [], ◌∷◌, ◌++◌, length, nat_lt, if◌then◌else◌, All, IsUtf8}
 use Rattle.std.specs.Fmt.{decimal}
 use Rattle.hex.specs.Hex.{IsBytes}

@@ -1,4 +1,5 @@
 -- What a text stands for where it stands, from the manual: variables, and settings, which are asked in order first (own).
+-- All settings of a text are asked before it is expanded, also those after a place at which it is refused.
 use Rattle.std.specs.Prelude.{ℕ, if◌then◌else◌, List, [], ◌∷◌, Option, None, Result, Ok, Err, bytes_eq}
 use Rattle.tup_lex.specs.declared.kind.ParseKind.{ParseKind}
 use Rattle.tup_lex.specs.declared.kind.ParseKind.TheVariants as kind

@@ -1,6 +1,7 @@
 -- The readings of a project's folders, each over the sources and the readings that it asks about, which stand before it. So no
 -- folder waits for itself, over any number of folders. Folders are read in the order of their paths, but one that another waits
 -- for before that one (own; what a reading is, is the manual's).
+-- A circle is named from that of its folders on which was begun first.
 use Rattle.std.specs.Prelude.{◌≡◌, ◌⊎◌, List, [], ◌∷◌, ◌++◌, codes, Some, None, Result, Ok, Err, IsTrue, IsSome}
 use Rattle.std.specs.declared.cmp.Ordering.TheVariants.{Less}
 use Rattle.std.specs.FinMap as finite

@@ -1,4 +1,6 @@
 -- The one spelling of each record: a key, which begins with the byte of its kind, and a value (own).
+-- A record with a text or a list of 2^32 or more, or with an answer of another kind than its question, has no
+-- spelling.
 use Rattle.std.specs.Prelude.{◌≡◌, ℕ, List, [], ◌∷◌}
 use Rattle.tup_field.specs.Parts.{number, ◌&◌, option}
 use Rattle.tup_field.specs.Values.{path, stamp}

@@ -1,4 +1,5 @@
 -- Words that name folders and groups, from the manual; that a word without a slash stands in the folder that is read is own.
+-- A word is a bin or a group by what is between its marks, since the name is needed there.
 use Rattle.std.specs.Prelude.{ℕ, ◌+◌, ◌-◌, ◌==◌, Bool, if◌then◌else◌, List, [], length, take, slice_get, codes, Option, Some, None, is_some, option_and_then, unwrap_or, Result, Ok}
 use Rattle.std.specs.Result.{result_ok}
 use Rattle.tup_path.specs.Name.{Names}

@@ -1,4 +1,5 @@
 -- The files that a glob gives, from the manual; what is refused, and in which order, is own.
+-- The names of an answer and the outputs so far are one ordered set, so nothing depends on the order of the answer.
 use Rattle.std.specs.Prelude.{ℕ, ◌-◌, ◌==◌, ◌||◌, Bool, if◌then◌else◌, List, [], ◌++◌, take, drop, fold, Option, None, option_map}
 use Rattle.std.specs.List.{filter_map, list_any}
 use Rattle.std.specs.Str.{chars}

@@ -1,4 +1,5 @@
 -- What a choice leaves of a tree, and which choices leave a tree. Own.
+-- A choice may name a path with the content that it has: what counts is the world that is left.
 use Rattle.std.specs.Prelude.{Bool, true, not, ◌&&◌, List, [], ◌∷◌, Option, None, Some, IsTrue}
 use Rattle.std.specs.List.{list_any}
 use Rattle.tup_path.specs.Name.{Names, Content}

@@ -1,4 +1,7 @@
 -- Files given as a list, the place of a file among them, and one file set or taken away. Own.
+-- An edit is durable at once, and so is that no file is above or below the one that is set. What a crash may leave
+-- right after it is the same either way, as it leaves a tree. But a later put could otherwise change two paths of
+-- what a crash may leave.
 use Rattle.std.specs.Prelude.{◌≡◌, ◌≢◌, List, [], Option, None, Some, IsSome}
 use Rattle.std.proofs.Props.{props}
 use Rattle.std.specs.Coded.{Coded-set, coded_ℕ, coded_list, coded_option}

@@ -1,4 +1,6 @@
 -- What a site in memory is after all that happened to it, and what a crash may then leave: exactly this. Own.
+-- A removal is noted only where a file was there. Otherwise the path of a folder would count as removed, with files
+-- below it that no call touched.
 use Rattle.std.specs.Prelude.{◌≡◌, ℕ, ◌+◌, ◌<◌, ◌≤◌, Bool, false, not, ◌||◌, ◌&&◌, min, max, List, [], ◌∷◌, ◌++◌, Option, None, Some, length, take, drop, filter, get_or, nat_le, nat_lt}
 use Rattle.std.specs.List.{list_any}
 use Rattle.std.specs.FinMap as finite

@@ -1,4 +1,6 @@
 -- What conditionals test, from the manual; the bracket at the line's end and the first comma are own.
+-- The test (its text, and what it asks) comes before the fault that too many conditionals are open at the same line.
+-- In lines that are off a conditional is counted, and its text isn't read.
 use Rattle.std.specs.Prelude.{ℕ, Bool, if◌then◌else◌, List, Option, Some, None, option_and_then, is_some, bytes_eq, not, codes}
 use Rattle.tup_lex.specs.declared.kind.ParseKind.TheVariants.{Unclosed, BadName}
 use Rattle.tup_vars.specs.Name.{is_name}

@@ -1,4 +1,5 @@
 -- What tup.config sets. The two forms of a line are the manual's; the rest is own.
+-- Lines that are too long are looked for before any line is read. A `#` line whose name isn't a name is a comment.
 use Rattle.std.specs.Prelude.{◌≡◌, ℕ, nat_lt, IsTrue, Bool, ◌&&◌, ◌==◌, if◌then◌else◌, List, [], ◌∷◌, ◌++◌, length, position, fold, codes, bytes_eq, Option, None, Some, is_none, option_and_then, Result, Ok, Err}
 use Rattle.std.specs.List.{filter_map, position_or_len, before_first, after_first}
 use Rattle.std.specs.Str.{is_utf8}

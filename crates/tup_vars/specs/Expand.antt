@@ -1,4 +1,6 @@
 -- What a text stands for, from the manual: each name is replaced once, from left to right. What is refused is own.
+-- Of what is refused the first from the left is named; too long is the place at which the text so far passes the
+-- limit.
 use Rattle.std.specs.Prelude.{◌≡◌, ◌⊎◌, ℕ, ◌+◌, ◌≤◌, Bool, true, false, not, ◌&&◌, if◌then◌else◌, List, [], ◌∷◌, ◌++◌, length, Option, unwrap_or, Result, Ok, Err, MatchResult}
 use Rattle.std.specs.List.{list_all}
 use Rattle.tup_vars.specs.Name.{is_name, is_cwd, is_free}

@@ -1,4 +1,5 @@
 -- What the variables of a Tupfile are set to. How values are joined is the manual's; what is refused is own.
+-- A lookup that finds no memory has stopped. The blank before added text counts.
 use Rattle.std.specs.Prelude.{ℕ, nat_lt, Bool, if◌then◌else◌, List, [], ◌∷◌, ◌++◌, length, Result, Ok, Err}
 use Rattle.tup_vars.specs.Name.{is_free}
 use Rattle.tup_vars.specs.Table.{Entries, put, value_of}
