@@ -314,10 +314,10 @@ takes_none plan (Finish seat verdict files ∷ events) at none = takes_none plan
 takes_none plan (Stop seat cause ∷ events) at none = takes_none plan events (after plan at (Stop seat cause)) none
 
 -- ---- the commands of the rules that were claimed
-commands_more : (plan : Plan) (events more : List CoreEvent) (number : ℕ) (rule : Rule) → slice_get plan.rules number ≡ Some rule → claims more ≡ []
-    → commands plan (events ++ Claim 0 number ∷ more) ≡ commands plan events ++ command_of rule ∷ []
-commands_more plan events more number rule here none =
-    ap (filter_map command) (claims_both events (Claim 0 number ∷ more) ∙ ap (λ (rest : List ℕ). claims events ++ number ∷ rest) none)
+pub commands_more : (plan : Plan) (events more : List CoreEvent) (seat number : ℕ) (rule : Rule) → slice_get plan.rules number ≡ Some rule → claims more ≡ []
+    → commands plan (events ++ Claim seat number ∷ more) ≡ commands plan events ++ command_of rule ∷ []
+commands_more plan events more seat number rule here none =
+    ap (filter_map command) (claims_both events (Claim seat number ∷ more) ∙ ap (λ (rest : List ℕ). claims events ++ number ∷ rest) none)
     ∙ filter_map-append command (claims events) (number ∷ []) ∙ ap (λ (o : Option (Names × List ℕ)). filter_map command (claims events) ++ cons_option o []) (ap (option_map command_of) here)
   where
     command : ℕ → Option (Names × List ℕ)
@@ -327,7 +327,7 @@ take_front : {A : Type 0} (xs : List A) (x : A) → take (length xs) (xs ++ x �
 take_front [] x = refl
 take_front (y ∷ xs) x = ap (λ (l : List _). y ∷ l) (take_front xs x)
 
-all_but_last : {A : Type 0} (xs : List A) (x : A) → xs ≡ take (length (xs ++ x ∷ []) - 1) (xs ++ x ∷ [])
+pub all_but_last : {A : Type 0} (xs : List A) (x : A) → xs ≡ take (length (xs ++ x ∷ []) - 1) (xs ++ x ∷ [])
 all_but_last xs x = sym (ap (λ (n : ℕ). take n (xs ++ x ∷ [])) (one_less (length-append xs (x ∷ []))) ∙ take_front xs x)
   where
     one_less : {n m : ℕ} → n ≡ m + 1 → n - 1 ≡ m
@@ -379,7 +379,7 @@ module _ {S : Type 0} (tells_ran : Bool) (old now mid new : BoardState S) (was r
   steady_now = has.steady (λ run. none-some causes.Run (sym first.ready.going ∙ run))
 
   commands_are : commands (plan_of old) more ≡ commands (plan_of old) has.events ++ command_of rule ∷ []
-  commands_are = commands_more (plan_of old) has.events one.events number rule (ap (λ (p : Plan). slice_get p.rules number) (sym plan_is) ∙ first.ready.clear.1) one.none_claimed
+  commands_are = commands_more (plan_of old) has.events one.events 0 number rule (ap (λ (p : Plan). slice_get p.rules number) (sym plan_is) ∙ first.ready.clear.1) one.none_claimed
 
   ran_before : IsTrue tells_ran → ran ≡ was ++ commands (plan_of old) has.events
   ran_before tells = ⊎_elim (λ all. all) (λ stopped. absurd (none-some causes.Memory (sym first.ready.going ∙ stopped.0))) (has.ran_all tells)

@@ -211,7 +211,7 @@ module _ {S : Type 0} (site : Site S) (seat : ℕ) (text : List ℕ) (old new : 
 same_holds : (one other : Content) → Holds one ≡ Holds other → one ≡ other
 same_holds one other e = cc
 
-one_known : (known : List Content) (text : List ℕ) (content : Content) → Contains known content → AreKnown known ((text, Holds content) ∷ [])
+pub one_known : (known : List Content) (text : List ℕ) (content : Content) → Contains known content → AreKnown known ((text, Holds content) ∷ [])
 one_known known text content there t other within =
     All-contains (λ (ask : List ℕ × Answer). (d : Content) → ask.1 ≡ Holds d → Contains known d) ((text, Holds content) ∷ []) (t, Holds other)
     (All-cons (λ (ask : List ℕ × Answer). (d : Content) → ask.1 ≡ Holds d → Contains known d) (text, Holds content) [] (λ d e. subst (Contains known) (same_holds content d e) there) (All-nil _)) within other refl
@@ -229,6 +229,16 @@ pub told_known : {S : Type 0} (site : Site S) (old new : BoardState S) (text : L
     → finite.get (site.world old.site).tree path ≡ Some content → site.known new.site ≡ site.known old.site → AreKnown (site.known new.site) ((text, Holds content) ∷ [])
 told_known site old new text path content knows_tree here same =
     one_known (site.known new.site) text content (subst (λ (known : List Content). Contains known content) (sym same) (known_among (site.known old.site) content (knows_tree path content here)))
+
+-- what the view notes is what it refuses
+pub refuses_by : (text : List ℕ) (result : Result Asked BoardFault) → refused_by text result ≡ refused_of text (answer_by result)
+refuses_by text (Ok (reply_by.Content content)) = refl
+refuses_by text (Ok reply_by.Absent) = refl
+refuses_by text (Ok (reply_by.Denied verdict)) = refl
+refuses_by text (Err fault_by.Site) = refl
+refuses_by text (Err (fault_by.TooLarge bytes)) = refl
+refuses_by text (Err fault_by.Full) = refl
+refuses_by text (Err fault_by.Memory) = refl
 
 -- ---- what an ask of a board is for the view of the seat, by the reply
 module _ {S : Type 0} (site : Site S) (seat : ℕ) (text : List ℕ) (old new : BoardState S) where
@@ -300,16 +310,7 @@ module _ {S : Type 0} (site : Site S) (seat : ℕ) (text : List ℕ) (old new : 
         by (Err fault_by.Memory) came = λ other. came
 
     pub refuses_so : (answer : Result Answer ViewFailed) → answer ≡ answer_by result → is ≡ refused_of text answer
-    refuses_so answer is_so = noted ∙ by result ∙ ap (refused_of text) (sym is_so)
-      where
-        by : (r : Result Asked BoardFault) → refused_by text r ≡ refused_of text (answer_by r)
-        by (Ok (reply_by.Content content)) = refl
-        by (Ok reply_by.Absent) = refl
-        by (Ok (reply_by.Denied verdict)) = refl
-        by (Err fault_by.Site) = refl
-        by (Err (fault_by.TooLarge bytes)) = refl
-        by (Err fault_by.Full) = refl
-        by (Err fault_by.Memory) = refl
+    refuses_so answer is_so = noted ∙ refuses_by text result ∙ ap (refused_of text) (sym is_so)
 
     pub granted_so : is_granted ((state old).seats seat) ≡ true → is ≡ None → is_granted ((state new).seats seat) ≡ true
     granted_so granted nothing = granted_on result asks granted (sym noted ∙ nothing)

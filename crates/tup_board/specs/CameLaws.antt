@@ -28,20 +28,20 @@ claims_both (Deny seat text verdict ∷ some) more = claims_both some more
 claims_both (Finish seat given files ∷ some) more = claims_both some more
 claims_both (Stop seat cause ∷ some) more = claims_both some more
 
-stamped_both : (asks more : List (List ℕ × Option Stamp)) (answers others : Asks) → AreStamped asks answers → AreStamped more others → AreStamped (asks ++ more) (answers ++ others)
+pub stamped_both : (asks more : List (List ℕ × Option Stamp)) (answers others : Asks) → AreStamped asks answers → AreStamped more others → AreStamped (asks ++ more) (answers ++ others)
 stamped_both [] more [] others one two = two
 stamped_both [] more (given ∷ answers) others one two = absurd one
 stamped_both (ask ∷ asks) more [] others one two = absurd one
 stamped_both (ask ∷ asks) more (given ∷ answers) others one two = (one.0, one.1, stamped_both asks more answers others one.2 two)
 
-known_both : (known : List Content) (some more : Asks) → AreKnown known some → AreKnown known more → AreKnown known (some ++ more)
+pub known_both : (known : List Content) (some more : Asks) → AreKnown known some → AreKnown known more → AreKnown known (some ++ more)
 known_both known some more one two text content within = ⊎_elim (one text content) (two text content) (Contains-append_cases some more (text, Holds content) within)
 
 pub no_place : {A : Type 0} (k : ℕ) → k < 0 → A
 no_place k below = absurd (omega arith)
 
 -- a refusal that was none failed at nothing
-none_failed : (refusal : Option Refusal) → refusal ≡ None → has_failed refusal ≡ false
+pub none_failed : (refusal : Option Refusal) → refusal ≡ None → has_failed refusal ≡ false
 none_failed refusal none = ap has_failed none
 
 module _ {S : Type 0} (seat : ℕ) where

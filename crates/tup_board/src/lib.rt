@@ -21,6 +21,7 @@ mod shared;
 
 pub use answers::{Asked, BoardParts, Drained};
 pub use board::Board;
+pub use seat::{Refused, answer, refusal};
 pub use shared::Shared;
 pub use tup_rule_outputs::BoardFault;
 pub use tup_schedule::{Claimed, Events};

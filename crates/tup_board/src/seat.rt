@@ -15,7 +15,7 @@ use tup_runner::{Answer, View, ViewFailed};
 
 /// A text that wasn't answered, for contracts alone.
 #[derive(Drop)]
-pub(crate) struct Refused {
+pub struct Refused {
     text: Snapshot<Text>,
     why: ViewFailed,
 }
@@ -111,7 +111,7 @@ impl<D: Desk> View for SeatView<'_, '_, '_, '_, D> {
 }
 
 /// What is noted of a text by what the board replied.
-fn refusal(text: &Text, reply: &Result<Asked, BoardFault>) -> Option<Refused>
+pub fn refusal(text: &Text, reply: &Result<Asked, BoardFault>) -> Option<Refused>
     ensures { refusal_of result ≡ refused_by text.now reply.now }
 {
     let why = match reply {
@@ -126,7 +126,7 @@ fn refusal(text: &Text, reply: &Result<Asked, BoardFault>) -> Option<Refused>
 }
 
 /// What the view answers then.
-fn answer(reply: Result<Asked, BoardFault>) -> Result<Answer, ViewFailed>
+pub fn answer(reply: Result<Asked, BoardFault>) -> Result<Answer, ViewFailed>
     ensures { result ≡ answer_by reply }
 {
     match reply {
