@@ -1,0 +1,9 @@
+pub mod Histories
+pub mod Places
+pub mod Steps
+pub mod Entering
+pub mod Closing
+pub mod Drawing
+pub mod Boards
+pub mod Leaving
+pub mod Sent

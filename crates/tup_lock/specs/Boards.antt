@@ -1,0 +1,40 @@
+-- A board as what lies under a lock (own).
+use Rattle.std.specs.Prelude.{◌≡◌, Bool, List, IsTrue}
+use Rattle.tup_path.specs.Name.{Content}
+use Rattle.tup_site.specs.Known.{knows}
+use Rattle.tup_site.specs.declared.site.Site.{Ghosts as Site}
+use Rattle.tup_core.specs.declared.event.CoreEvent.{CoreEvent}
+use Rattle.tup_board.specs.Board.{BoardState, plan_of, seat_of}
+use Rattle.tup_board.specs.Calls.{opened_as}
+use Rattle.tup_alone.specs.Own.{entries_at}
+use Rattle.tup_lock.specs.declared.logged.Logged.{Ghosts as Log}
+use Rattle.tup_lock.specs.declared.seat.Seat.{Seat}
+use Rattle.tup_lock.specs.Held.{log_of}
+
+-- what it was when nothing had happened
+abbrev pub board_origin : {S : Type 0} → BoardState S → BoardState S
+board_origin board = opened_as board.opening.plan board.opening.graph board.opening.site
+
+-- all that happened on it
+abbrev pub board_history : {S : Type 0} → BoardState S → List CoreEvent
+board_history board = board.history
+
+-- a content is known to its site, where that tells
+abbrev pub board_knows : {S : Type 0} → Bool → (S → List Content) → BoardState S → Content → Type 0
+board_knows tells known board content = IsTrue tells × IsTrue (knows (known board.site) content)
+
+-- a board with all that happened on it
+abbrev pub board_log : {S : Type 0} → Site S → Log (BoardState S) CoreEvent
+board_log site = log_of seat_of board_history board_origin (board_knows site.tells site.known)
+
+-- the same, by what its site tells
+abbrev pub board_log_by : {S : Type 0} → Bool → (S → List Content) → Log (BoardState S) CoreEvent
+board_log_by tells known = log_of seat_of board_history board_origin (board_knows tells known)
+
+-- the entries of a seat, as it left the board
+abbrev pub entries_by : {S : Type 0} {log : Log (BoardState S) CoreEvent} → Seat (BoardState S) CoreEvent log → List CoreEvent
+entries_by seat = entries_at seat.number seat.last.value.history
+
+-- a seat has the number that it had, and its board the plan
+abbrev pub IsStill : {S : Type 0} {log : Log (BoardState S) CoreEvent} → Seat (BoardState S) CoreEvent log → Seat (BoardState S) CoreEvent log → Type 0
+IsStill old new = (new.number ≡ old.number) × (plan_of new.last.value ≡ plan_of old.last.value)

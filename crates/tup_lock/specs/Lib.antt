@@ -1,0 +1,4 @@
+pub mod Held
+pub mod Seats
+pub mod Within
+pub mod Boards
