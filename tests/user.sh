@@ -439,6 +439,53 @@ else
     echo "passed over: shell commands"
 fi
 
+# A user saves, makes or deletes a file while an update runs. The commands: `edit` does what the user does, `cat F` reads a file.
+cat > "$work/edits" << EOF
+#!/bin/sh
+: > "\$3/w0"
+case "\$4" in
+    edit) sh -e "$work/edit" ;;
+    'cat '*) file=\${4#cat }
+        if [ -f "\$file" ]; then
+            cp "\$file" "\$3/w0"
+            echo "R \$(sha256sum < "\$file" | cut -c1-64) \$file"
+        else
+            echo "A \$file"
+        fi ;;
+esac > "\$3/log"
+printf 'W 0 %s\nE 0\n' "\$(cat "\$3/own")" >> "\$3/log"
+EOF
+chmod +x "$work/edits"
+# A project in which `edit` comes first, then `cat` of a file. Words: the file, what the user does.
+edited() {
+    folder ': |> edit |> o' ": o |> cat $1 |> b"
+    echo "$2" > "$work/edit"
+    "$tup" init --proc "$work/edits" > /dev/null
+}
+# The update ends there, and says why; the next one does the rest. Words: the row's name, those of `edited`, what standard error
+# says, and what the output holds at last.
+edited_row() {
+    edited "$2" "$3"
+    row "$1" 7 "read .;run .: edit;$failed" "tup: read ./$2: $4;"
+    row "$1: the next update" 0 "run .: cat $2;done: 0 read, 1 run, 0 removed;" ''
+    file "$1: what it made" b "$5"
+    row "$1: nothing is left to do" 0 'done: 0 read, 0 run, 0 removed;' ''
+}
+edited_row "a source that is saved while an update runs" a 'echo ho > a' 'it was changed while tup ran' ho
+edited_row "a source that is replaced" a 'echo ho > new; mv new a' 'it was changed while tup ran' ho
+edited_row "a source that is deleted" a 'rm a' 'it was removed while tup ran' ''
+edited_row "a file that is made" none 'echo ho > none' 'it was not there before' ho
+edited "a" 'echo hi > new; mv new a; touch a'
+row "a source that is saved as it was" 0 'read .;run .: edit;run .: cat a;done: 1 read, 2 run, 0 removed;' ''
+edited none 'echo ho > a'
+row "a source that nobody reads afterwards" 0 'read .;run .: edit;run .: cat none;done: 1 read, 2 run, 0 removed;' ''
+folder ': |> make |> m' ': m |> edit |> o' ': m o |> cat m |> b'
+echo 'echo mine > m' > "$work/edit"
+"$tup" init --proc "$work/edits" > /dev/null
+row "an output that is edited while an update runs" 7 "read .;run .: make;run .: edit;$failed" 'tup: read ./m: it was changed while tup ran;'
+row "it is made anew" 0 'run .: make;run .: cat m;done: 0 read, 2 run, 0 removed;' ''
+file "what it made" b ''
+
 # What belongs to another user runs nothing where it wasn't called for.
 if [ "$(id -u)" = 0 ] && setpriv --reuid=65534 --regid=65534 --clear-groups true 2> /dev/null; then
     # The program as nobody, with the words of a row.

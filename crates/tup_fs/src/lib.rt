@@ -7,6 +7,7 @@
 //! which contents are programs, and what is to be made durable; what the system does is tested.
 #![tactic(auto)]
 
+mod answers;
 mod failures;
 mod program;
 mod reading;

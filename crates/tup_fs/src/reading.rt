@@ -1,5 +1,7 @@
 //! One file, read as a whole, or where a link leads.
-ghost use Rattle.std.specs.Prelude.{IfOk};
+ghost use Rattle.std.specs.Prelude.{◌≡◌, IfOk, string_bytes};
+ghost use Rattle.tup_disk.specs.Place.{place_of};
+ghost use Rattle.tup_fs.specs.Answers.{Follows, Learns, known_of};
 ghost use Rattle.tup_fs.specs.Found.{IsFoundAs, IsTextOf, IsWithin};
 
 use crate::tree::Tree;
@@ -23,27 +25,40 @@ pub(crate) enum Found {
 
 impl Tree {
     /// What the file at a path holds. A file that is too large isn't read. A link holds where it leads: nothing is
-    /// read through it.
+    /// read through it. It is refused if it isn't what was answered before.
     pub fn find<R: Files<File = File> + Clone + Drop>(
         &mut self,
         disk: &Disk<R>,
         path: &Path,
     ) -> Result<Found, Refused>
-        ensures { IfOk result IsWithin }
+        ensures within { IfOk result IsWithin }
+        ensures follows { IfOk result (λ found. Follows self.old.answers
+            (place_of (string_bytes disk.now.root) path.now) (known_of found)) }
+        ensures learns { IfOk result (λ found. Learns self.old.answers self.new.answers
+            (place_of (string_bytes disk.now.root) path.now) (known_of found)) }
+    {
+        let place = disk.place(path.names())?;
+        let found = self.look(disk, path, place.as_str())?;
+        self.answers.follow(disk, place, found)
+    }
+
+    // What stands at a path now.
+    fn look<R: Files<File = File> + Clone + Drop>(
+        &mut self,
+        disk: &Disk<R>,
+        path: &Path,
+        place: &str,
+    ) -> Result<Found, Refused>
+        ensures within { IfOk result IsWithin }
+        ensures answers { self.new.answers ≡ self.old.answers }
     {
         if disk.standing_above(&mut self.seen, path)? != Standing::Folder {
             return Ok(Found::Nothing);
         }
-        let place = disk.place(path.names())?;
-        match disk.standing(place.as_str())? {
+        match disk.standing(place)? {
             Standing::File { len, .. } if len > MAX_FILE_BYTES => Ok(Found::TooLarge(len)),
-            Standing::File { len, .. } => read(
-                disk,
-                disk.open(place.as_str())?,
-                place.as_str(),
-                len,
-            ),
-            Standing::Link => Ok(text_of(disk.target(place.as_str())?)),
+            Standing::File { len, .. } => read(disk, disk.open(place)?, place, len),
+            Standing::Link => Ok(text_of(disk.target(place)?)),
             _ => Ok(Found::Nothing),
         }
     }

@@ -5,7 +5,9 @@ ghost use Rattle.std.specs.FinMap as finite;
 ghost use Rattle.tup_db.specs.Own.{IsOwnBelow};
 ghost use Rattle.tup_disk.specs.Marked.{IsMarked, AllMarked, StayMarked, places_above};
 ghost use Rattle.tup_disk.specs.Place.{place_of};
+ghost use Rattle.tup_fs.specs.Answers.{Follows, Learns, known_at, known_by, sum};
 ghost use Rattle.tup_fs.specs.Last.{CountsOnce, CountsPlainly};
+ghost use Rattle.tup_fs.specs.declared.answers.Known.TheVariants.{Absent, Sum};
 ghost use Rattle.tup_site.specs.Cause.{OnlyLarge, IsSmall};
 
 use crate::failures::Failures;
@@ -67,6 +69,7 @@ impl<R: Files<File = File> + Clone + Drop> FsSite<R> {
         ensures touched { self.new.touched ≡ self.old.touched }
         ensures store { self.new.store ≡ self.old.store }
         ensures disk { self.new.disk ≡ self.old.disk }
+        ensures tree { self.new.tree ≡ self.old.tree }
     {
         if self.lock.is_some() {
             return Ok(());
@@ -150,7 +153,7 @@ impl<R: Files<File = File> + Clone + Drop + Send> Site for FsSite<R> {
         ensures store { self.new.store ≡ self.old.store }
     {
         self.begin()?;
-        let files = self.disk.files(&mut self.tree.seen);
+        let files = self.tree.list(&self.disk);
         Ok(Paths::from_vec(self.failures.told(files)?))
     }
 
@@ -159,6 +162,10 @@ impl<R: Files<File = File> + Clone + Drop + Send> Site for FsSite<R> {
         ensures small { IfOk result IsSmall }
         ensures too_large { OnlyLarge result }
         ensures cause { CountsOnce self.old.failures.count self.new.failures.count result }
+        ensures follows { IfOk result (λ found. Follows self.old.tree.answers
+            (place_of (string_bytes self.old.disk.root) path.now) (known_by found)) }
+        ensures learns { IfOk result (λ found. Learns self.old.tree.answers self.new.tree.answers
+            (place_of (string_bytes self.old.disk.root) path.now) (known_by found)) }
         ensures touched { self.new.touched ≡ self.old.touched }
         ensures store { self.new.store ≡ self.old.store }
     {
@@ -178,6 +185,8 @@ impl<R: Files<File = File> + Clone + Drop + Send> Site for FsSite<R> {
             (places_above (string_bytes self.old.disk.root) path.now)) }
         ensures file { OnOk result (IsMarked self.new.touched.places
             (place_of (string_bytes self.old.disk.root) path.now)) }
+        ensures learns { OnOk result (known_at self.new.tree.answers
+            (place_of (string_bytes self.old.disk.root) path.now) ≡ Sum (sum content.now)) }
         ensures keeps { StayMarked self.old.touched.places self.new.touched.places }
         ensures lost { self.new.touched.is_lost ≡ self.old.touched.is_lost }
         ensures disk { self.new.disk ≡ self.old.disk }
@@ -194,6 +203,8 @@ impl<R: Files<File = File> + Clone + Drop + Send> Site for FsSite<R> {
         ensures cause { CountsPlainly self.old.failures.count self.new.failures.count result }
         ensures touched { OnOk result (AllMarked self.new.touched.places
             (places_above (string_bytes self.old.disk.root) path.now)) }
+        ensures learns { OnOk result (known_at self.new.tree.answers
+            (place_of (string_bytes self.old.disk.root) path.now) ≡ Absent) }
         ensures keeps { StayMarked self.old.touched.places self.new.touched.places }
         ensures lost { self.new.touched.is_lost ≡ self.old.touched.is_lost }
         ensures disk { self.new.disk ≡ self.old.disk }

@@ -1,13 +1,22 @@
 //! The files below the folder.
-use std::alloc::Global;
-use tup_disk::Seen;
+ghost use Rattle.std.specs.Prelude.{IfOk};
+ghost use Rattle.std.specs.List.Sorted.{IsSorted};
+ghost use Rattle.tup_path.specs.Order.{by_names};
 
-/// What is known of the tree: the folders that were seen, and whether the file system may ignore
-/// case, once that was asked.
+use crate::answers::Answers;
+use std::alloc::Global;
+use std::fs::File;
+use std::rt::Files;
+use tup_disk::{Disk, Refused, Seen};
+use tup_path::Path;
+
+/// What is known of the tree: the folders that were seen, whether the file system may ignore case,
+/// once that was asked, and what was answered for its files.
 #[derive(Drop)]
 pub(crate) struct Tree {
     pub seen: Seen,
     pub ignores_case: Option<bool>,
+    pub answers: Answers,
 }
 
 impl Tree {
@@ -15,6 +24,19 @@ impl Tree {
         Tree {
             seen: Seen::new(alloc),
             ignores_case: None,
+            answers: Answers::new(alloc),
         }
+    }
+
+    /// All files, in the order of paths.
+    pub fn list<R: Files<File = File> + Clone + Drop>(
+        &mut self,
+        disk: &Disk<R>,
+    ) -> Result<Vec<Path>, Refused>
+        ensures { IfOk result (λ files. IsSorted by_names files.items) }
+    {
+        let files = disk.files(&mut self.seen)?;
+        self.answers.list(disk, files.as_slice())?;
+        Ok(files)
     }
 }

@@ -1,7 +1,12 @@
 //! One file, written as a whole or removed. All memory is taken before the tree changes.
-ghost use Rattle.std.specs.Prelude.{◌≡◌, ◌<◌, length};
+ghost use Rattle.std.specs.Prelude.{◌≡◌, ◌<◌, length, OnOk, string_bytes};
+ghost use Rattle.tup_disk.specs.Place.{place_of};
+ghost use Rattle.tup_fs.specs.Answers as specs;
+ghost use Rattle.tup_fs.specs.Answers.{known_at};
+ghost use Rattle.tup_fs.specs.declared.answers.Known.TheVariants.{Absent, Sum};
 ghost use Rattle.tup_fs.specs.Program.{mode_for};
 
+use crate::answers::{Known, sum};
 use crate::program::is_program;
 use crate::reading::{Found, read};
 use crate::tree::Tree;
@@ -21,9 +26,24 @@ impl Tree {
         disk: &Disk<R>,
         path: &Path,
         content: &[u8],
+    ) -> Result<(), Refused>
+        ensures { OnOk result (known_at self.new.answers
+            (place_of (string_bytes disk.now.root) path.now) ≡ Sum (specs.sum content.now)) }
+    {
+        let place = disk.place(path.names())?;
+        self.answers.learn(place.clone()?, Known::Unknown)?;
+        self.write(disk, path, &place, content)?;
+        self.answers.learn(place, Known::Sum(sum(content)))
+    }
+
+    fn write<R: Files<File = File> + Clone + Drop>(
+        &mut self,
+        disk: &Disk<R>,
+        path: &Path,
+        place: &String,
+        content: &[u8],
     ) -> Result<(), Refused> {
         self.make_folders(disk, path)?;
-        let place = disk.place(path.names())?;
         match disk.standing(place.as_str())? {
             Standing::Nothing => make(disk, place.as_str(), content),
             Standing::File { len, names, runs } => {
@@ -33,7 +53,7 @@ impl Tree {
                 replace(disk, place.as_str(), may_stay, content)
             }
             Standing::Folder => {
-                self.remove_folder(disk, &place)?;
+                self.remove_folder(disk, place)?;
                 make(disk, place.as_str(), content)
             }
             Standing::Link | Standing::Other => Err(disk.in_the_way(place.as_str())),
@@ -96,15 +116,29 @@ impl Tree {
         &mut self,
         disk: &Disk<R>,
         path: &Path,
+    ) -> Result<(), Refused>
+        ensures { OnOk result (known_at self.new.answers
+            (place_of (string_bytes disk.now.root) path.now) ≡ Absent) }
+    {
+        let place = disk.place(path.names())?;
+        self.answers.learn(place.clone()?, Known::Unknown)?;
+        self.clear(disk, path, place.as_str())?;
+        self.answers.learn(place, Known::Absent)
+    }
+
+    fn clear<R: Files<File = File> + Clone + Drop>(
+        &mut self,
+        disk: &Disk<R>,
+        path: &Path,
+        place: &str,
     ) -> Result<(), Refused> {
         if disk.standing_above(&mut self.seen, path)? != Standing::Folder {
             return Ok(());
         }
-        let place = disk.place(path.names())?;
-        match disk.standing(place.as_str())? {
-            Standing::File { .. } => self.remove_file(disk, path, place.as_str()),
+        match disk.standing(place)? {
+            Standing::File { .. } => self.remove_file(disk, path, place),
             // Not a file of ours: what somebody put there stays.
-            Standing::Link | Standing::Other => Err(disk.in_the_way(place.as_str())),
+            Standing::Link | Standing::Other => Err(disk.in_the_way(place)),
             Standing::Nothing | Standing::Folder => Ok(()),
         }
     }

@@ -1,0 +1,64 @@
+-- What is known of the files by what was answered for them, and what may be found next. Own.
+use Rattle.std.specs.Prelude.{◌≡◌, ◌≢◌, ℕ, Bool, true, false, IsTrue, ◌==◌, List, Option, Some, None, if◌then◌else◌}
+use Rattle.std.specs.BTreeMap.{get_by_text}
+use Rattle.std.specs.Hash.DefaultHasher.{initial, write, finish}
+use Rattle.std.specs.Str.{bytes_eq}
+use Rattle.tup_path.specs.Name.{Content}
+use Rattle.tup_fs.specs.declared.answers.Answers.{Answers}
+use Rattle.tup_fs.specs.declared.answers.Known.{Known}
+use Rattle.tup_fs.specs.declared.answers.Known.TheVariants.{Unknown, Absent, File, Sum}
+use Rattle.tup_fs.specs.declared.reading.Found.{Found}
+use Rattle.tup_fs.specs.declared.reading.Found.TheVariants as found
+
+-- a sum of a content, in 64 bits
+abbrev pub sum : List ℕ → ℕ
+sum content = finish (write initial content)
+
+-- what is known of a place: what was noted of it, or else that no file is there once all files were listed
+abbrev pub known_from : Bool → Option Known → Known
+known_from is_listed (Some known) = known
+known_from true None = Absent
+known_from false None = Unknown
+
+-- the same of a place of the map
+abbrev pub known_at : Answers → List ℕ → Known
+known_at answers place = known_from answers.is_listed (get_by_text answers.places place)
+
+-- what is known of a place where this was found
+abbrev pub known_of : Found → Known
+known_of found.Nothing = Absent
+known_of (found.Content bytes) = Sum (sum bytes)
+known_of (found.TooLarge len) = File
+
+-- the same of what the site answers
+abbrev pub known_by : Option Content → Known
+known_by None = Absent
+known_by (Some content) = Sum (sum content)
+
+-- whether a place of which one thing was known may have another one now, unless somebody else changed it
+abbrev pub may_follow : Known → Known → Bool
+may_follow Unknown now = true
+may_follow Absent Absent = true
+may_follow Absent Unknown = false
+may_follow Absent File = false
+may_follow Absent (Sum after) = false
+may_follow File Absent = false
+may_follow File Unknown = false
+may_follow File File = true
+may_follow File (Sum after) = true
+may_follow (Sum before) Absent = false
+may_follow (Sum before) Unknown = false
+may_follow (Sum before) File = false
+may_follow (Sum before) (Sum after) = before == after
+
+-- what is known now may follow what was known of a place
+abbrev pub Follows : Answers → List ℕ → Known → Type 0
+Follows answers place now = IsTrue (may_follow (known_at answers place) now)
+
+-- this is known of a place from now on, and of each other place what was known before
+abbrev pub Learns : Answers → Answers → List ℕ → Known → Type 0
+Learns old new place known = (other : List ℕ) → known_at new other ≡ (if bytes_eq place other then known else known_at old other)
+
+-- what was known of a place still is
+abbrev pub StayKnown : Answers → Answers → Type 0
+StayKnown old new = (place : List ℕ) → known_at old place ≢ Unknown → known_at new place ≡ known_at old place

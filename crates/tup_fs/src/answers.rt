@@ -1,0 +1,163 @@
+//! What was answered for the files, so that no later answer says anything else.
+ghost use Rattle.std.specs.Prelude.{◌≡◌, ◌⊎◌, not, is_some, IfOk, IfErr, OnOk, OnErr, string_bytes};
+ghost use Rattle.tup_disk.specs.Told.{IsNamed};
+ghost use Rattle.tup_disk.specs.declared.failure.Operation.TheVariants as operation;
+ghost use Rattle.tup_disk.specs.declared.failure.Refused.TheVariants.{Memory};
+ghost use Rattle.tup_fs.specs.Answers.{Follows, Learns, StayKnown};
+ghost use Rattle.tup_fs.specs.Answers as specs;
+ghost use Rattle.tup_fs.specs.declared.answers.Known.TheVariants.{Unknown};
+
+use crate::reading::Found;
+use std::alloc::Global;
+use std::collections::BTreeMap;
+use std::fs::File;
+use std::hash::{DefaultHasher, Hasher};
+use std::io;
+use std::rt::Files;
+use tup_disk::{Disk, Operation, Refused};
+use tup_path::Path;
+
+/// What is known of a place.
+#[derive(Clone, Copy)]
+pub(crate) enum Known {
+    /// Anything may be there.
+    Unknown,
+    /// No file is there.
+    Absent,
+    /// A file is there.
+    File,
+    /// A file is there, and its content has this sum.
+    Sum(u64),
+}
+
+/// What is known of all places, by what was listed, read, put and removed.
+#[derive(Drop)]
+pub(crate) struct Answers {
+    places: BTreeMap<String, Known>,
+    is_listed: bool,
+}
+
+impl Answers {
+    /// Nothing was answered yet.
+    pub fn new(alloc: Global) -> Answers
+        ensures { (place : _) → specs.known_at result place ≡ Unknown }
+    {
+        Answers {
+            places: BTreeMap::new(alloc),
+            is_listed: false,
+        }
+    }
+
+    /// What is known of a place. Once the files were listed, none is at any other place.
+    pub fn known_at(&self, place: &str) -> Known
+        ensures { result ≡ specs.known_at self.now place.now }
+    {
+        match self.places.get(place) {
+            Some(known) => *known,
+            None if self.is_listed => Known::Absent,
+            None => Known::Unknown,
+        }
+    }
+
+    /// From now on this is known of a place.
+    pub fn learn(&mut self, place: String, known: Known) -> Result<(), Refused>
+        ensures learns { OnOk result (Learns self.old self.new (string_bytes place) known) }
+        ensures unchanged { OnErr result ((other : _)
+            → specs.known_at self.new other ≡ specs.known_at self.old other) }
+        ensures memory { IfErr result (λ refused. refused ≡ Memory) }
+        ensures list { self.new.is_listed ≡ self.old.is_listed }
+    {
+        self.places.insert(place, known)?;
+        Ok(())
+    }
+
+    /// These are all files that there are. What was answered before still holds, as after the second time.
+    pub fn list<R: Files<File = File> + Clone + Drop>(
+        &mut self,
+        disk: &Disk<R>,
+        files: &[Path],
+    ) -> Result<(), Refused>
+        ensures keeps { StayKnown self.old self.new }
+    {
+        if self.is_listed {
+            return Ok(());
+        }
+        for path in files {
+            self.add(disk.place(path.names())?)?;
+        }
+        self.is_listed = true;
+        Ok(())
+    }
+
+    // A file is at a place, if nothing else is known of it.
+    fn add(&mut self, place: String) -> Result<(), Refused>
+        ensures keeps { StayKnown self.old self.new }
+        ensures list { self.new.is_listed ≡ self.old.is_listed }
+    {
+        match self.known_at(place.as_str()) {
+            Known::Unknown => self.learn(place, Known::File),
+            _ => Ok(()),
+        }
+    }
+
+    /// Gives on what was found at a place, and remembers it. It is refused where something else is known of the place.
+    pub fn follow<R: Files<File = File> + Clone + Drop>(
+        &mut self,
+        disk: &Disk<R>,
+        place: String,
+        found: Found,
+    ) -> Result<Found, Refused>
+        ensures given { IfOk result (λ answer. answer ≡ found) }
+        ensures follows { OnOk result (Follows self.old (string_bytes place) (specs.known_of found)) }
+        ensures learns { OnOk result
+            (Learns self.old self.new (string_bytes place) (specs.known_of found)) }
+        ensures unchanged { OnErr result ((other : _)
+            → specs.known_at self.new other ≡ specs.known_at self.old other) }
+        ensures cause { IfErr result (λ refused. (refused ≡ Memory)
+            ⊎ (IsNamed operation.Read (string_bytes place) refused
+            × ¬ Follows self.old (string_bytes place) (specs.known_of found))) }
+    {
+        let now = known_of(&found);
+        if let Some(change) = change(self.known_at(place.as_str()), now) {
+            let error = io::Error::other(change);
+            return Err(disk.refused(Operation::Read, place.as_str(), error));
+        }
+        self.learn(place, now)?;
+        Ok(found)
+    }
+}
+
+/// What is known of a place where this was found.
+fn known_of(found: &Found) -> Known
+    ensures { result ≡ specs.known_of found.now }
+{
+    match found {
+        Found::Nothing => Known::Absent,
+        Found::Content(bytes) => Known::Sum(sum(bytes.as_slice())),
+        Found::TooLarge(_) => Known::File,
+    }
+}
+
+/// A sum of a content. That two contents have the same one is as good as impossible.
+pub(crate) fn sum(content: &[u8]) -> u64
+    ensures { result ≡ specs.sum content.now }
+{
+    let mut hasher = DefaultHasher::new();
+    hasher.write(content);
+    hasher.finish()
+}
+
+/// What happened to a file, if what is known now can't follow from what was known.
+fn change(known: Known, now: Known) -> Option<&'static str>
+    ensures { is_some result ≡ not (specs.may_follow known now) }
+{
+    match (known, now) {
+        (Known::Unknown, _) => None,
+        (Known::Absent, Known::Absent) => None,
+        (Known::Absent, _) => Some("it was not there before"),
+        (_, Known::Absent) => Some("it was removed while tup ran"),
+        (Known::File, Known::File | Known::Sum(_)) => None,
+        (Known::Sum(before), Known::Sum(after)) if before == after => None,
+        _ => Some("it was changed while tup ran"),
+    }
+}
