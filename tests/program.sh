@@ -245,6 +245,19 @@ row "nothing is left to do" 0 "$nothing" upd -k
 row "the option twice" 2 'fault: usage, word 3;' upd -k -k
 row "the option behind another order" 2 'fault: usage, word 2;' verify -k
 
+project "$copy"
+row "what an update would do" 0 'read .;todo run .: cp a b;done: 1 read, 0 run, 0 removed;' todo
+gone "it did none of it" b
+row "the same again" 0 'todo run .: cp a b;done: 0 read, 0 run, 0 removed;' todo
+row "the update" 0 'run .: cp a b;done: 0 read, 1 run, 0 removed;' upd
+row "nothing would be done" 0 "$nothing" todo
+: > Tupfile
+row "a rule that vanished" 0 'read .;todo remove b;done: 1 read, 0 run, 0 removed;' todo
+file "its file stands" b hi
+row "a word behind it" 2 'fault: usage, word 2;' todo now
+folder
+row "without a project" 3 'fault: no tup project here;' todo
+
 project ': a |> cp a g |> g' ': a |> cat a g > h |> h'
 row "a generated file that isn't declared" 1 'read .;run .: cp a g;bad .: cat a g > h;fault: .: cat a g > h: reads g;' upd
 file "what ran before stands" g hi

@@ -37,7 +37,7 @@ class World:
             return 3, b'fault: no tup project here\n'
         if words == ['verify']:
             return self.refused([]) or self.verify(Project(self.sources()).rules())
-        return self.update('-k' in words)
+        return self.todo() if words == ['todo'] else self.update('-k' in words)
 
     def init(self):
         if self.kept is not None:
@@ -60,6 +60,20 @@ class World:
         except CommandsCircle:
             return 5, None
         return None
+
+    def todo(self):
+        """What an update would remove and run."""
+        sources = self.sources()
+        self.kept.scan(self.tree, sources)
+        refused = self.refused([])
+        if refused:
+            return refused
+        lines = [b'read ' + show(folder) for folder in self.kept.bring(sources)]
+        done = b'done: %d read, 0 run, 0 removed' % len(lines)
+        lines += [b'todo remove ' + show(path) for path in self.kept.vanished(self.tree)]
+        rules = [self.kept.rules[at] for at in sorted(self.kept.flags)]
+        lines += [b'todo run ' + show(rule['folder']) + b': ' + label(rule) for rule in rules]
+        return 0, b'\n'.join(lines + [done]) + b'\n'
 
     def update(self, keep_going):
         sources = self.sources()
@@ -167,10 +181,14 @@ class Kept:
         self.owned = {path: (maker.get(path), state) for path, state in states.items()}
         self.flags = flags | self.above({at for at, was in enumerate(before) if was is None})
 
+    def vanished(self, tree):
+        """The paths of the files that no rule makes any more."""
+        return sorted(path for path, (maker, _) in self.owned.items() if maker is None and path in tree)
+
     def clear(self, tree):
         """Removes the files that no rule makes any more, and gives their paths."""
-        unmade = sorted(path for path, (maker, _) in self.owned.items() if maker is None)
-        files = [path for path in unmade if path in tree]
+        unmade = [path for path, (maker, _) in self.owned.items() if maker is None]
+        files = self.vanished(tree)
         for path in files:
             if self.owned[path][1] != tree[path]:
                 raise UserFile(path)

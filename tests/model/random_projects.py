@@ -121,7 +121,7 @@ class Player:
         for turn in range(self.lot.randint(2, 6)):
             for _ in range(self.lot.randint(0, 2) if turn else 0):
                 self.edit()
-            words = self.lot.choice([['upd'], ['upd'], [], ['upd', '-k'], ['-k'], ['verify'], ['init']])
+            words = self.lot.choice([['upd'], ['upd'], [], ['upd', '-k'], ['-k'], ['todo'], ['verify'], ['init']])
             before = self.world.copy()
             status, lines = self.world.call(words)
             if lines is None or not self.does.call(words, status, lines, before, self.world):

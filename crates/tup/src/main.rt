@@ -39,6 +39,7 @@ tup makes the files that the Tupfiles of a project ask for. It may be called in 
   tup init --no-sync
                   begin one that is faster: its files are safe if tup is killed, but not if the power is cut
   tup, tup upd    update: remove the files of vanished rules, run the rules that aren't up to date, and no others
+  tup todo        list what an update would remove and run, and change no file
   tup verify      compare the files with a clean build, and touch none
   tup demo        show an update of a small project in memory
   tup --proc P    update, each command run through the program P; also tup upd --proc P
@@ -124,6 +125,7 @@ fn obey(rt: HostRuntime, alloc: Global, words: &[Word]) -> u8 {
             };
             update(rt, alloc, words, asked)
         }
+        Ok(Order::Todo) => todo(rt, alloc, words),
         Ok(Order::Verify) => verify(rt, alloc, words),
         _ => without_project(rt, alloc, words),
     }
@@ -144,6 +146,14 @@ fn without_project(rt: HostRuntime, alloc: Global, words: &[Word]) -> u8 {
         return told(&rt, Status::Memory);
     };
     run_small(rt, alloc, words, &here, Syncs::Done).exit()
+}
+
+/// Lists what an update of the project would do.
+fn todo(rt: HostRuntime, alloc: Global, words: &[Word]) -> u8 {
+    match project(rt, alloc) {
+        Ok((top, options)) => run_small(rt, alloc, words, &top, options.syncs).exit(),
+        Err(status) => status,
+    }
 }
 
 /// Compares the files of the project.

@@ -18,7 +18,7 @@ use Rattle.tup_compare.proofs.Held.{still_none}
 use Rattle.tup_top.specs.Order.{Wanted}
 use Rattle.tup_top.specs.Promise.{ForInit, Lasts, NothingDone}
 use Rattle.tup_top.specs.Status.{IfBegan}
-use Rattle.tup_top.specs.declared.order.Order.TheVariants.{Init, Upd, Verify, Demo}
+use Rattle.tup_top.specs.declared.order.Order.TheVariants.{Init, Upd, Todo, Verify, Demo}
 use Rattle.tup_top.specs.declared.status.Status.{Status}
 use Rattle.tup_top.specs.declared.status.Status.TheVariants.{Done, Command, IllegalRead, IllegalWrite, Unwritten, TooManyReads, Usage, NotInit, AlreadyInit, BadStore, Parse, CircularDirs, CircularCommands, NoSuchGroup, UserFile, SiteFault, RunFault, SinkFault, Limit, Memory, Differs}
 use Rattle.tup_history.specs.History.{AnswersDone}
@@ -117,6 +117,8 @@ run_keeps tells next (Ok (Upd program keep_going quiet verbose)) end status ran 
 run_keeps tells next (Ok (Upd program keep_going quiet verbose)) end status ran old new is leaves nothing begins updates Begun kept = λ means.
     let by = updates means kept in
     (subst (Builds next (world_in old) (world_in new)) (sym is) by.files, by.kept tt)
+run_keeps tells next (Ok Todo) end status ran old new is leaves nothing begins updates Unbegun kept = tt
+run_keeps tells next (Ok Todo) end status ran old new is leaves nothing begins updates Begun kept = λ means. (updates means kept).kept tt
 run_keeps tells next (Ok Init) end status ran old new is leaves nothing begins updates stage kept = init_keeps old new next end status is leaves nothing begins stage kept
 run_keeps tells next (Ok Verify) end status ran old new is leaves nothing begins updates stage kept = compare_keeps old new next status leaves nothing stage kept
 run_keeps tells next (Ok Demo) end status ran old new is leaves nothing begins updates stage kept = idle_keeps old new next (leaves.quiet (λ no. no)) nothing (leaves.known (λ no. no)) stage kept

@@ -8,7 +8,7 @@ use Rattle.tup_site.specs.declared.memory.MemSite.{MemSite}
 use Rattle.tup_site.specs.declared.refused.MemRefused.{MemRefused}
 use Rattle.tup_runner.specs.Next.{Next}
 use Rattle.tup_top.specs.Order.{Wanted, order}
-use Rattle.tup_top.specs.declared.order.Order.TheVariants.{Init, Upd, Verify, Demo}
+use Rattle.tup_top.specs.declared.order.Order.TheVariants.{Init, Upd, Todo, Verify, Demo}
 use Rattle.tup_history.specs.History.{Standing, Takes, IsHistory, AreLived}
 use Rattle.tup_history.specs.Kept.{Stage, Unbegun, Begun, Stands}
 use Rattle.tup_history.specs.Stays.{BehindRun, Behind, StaysKept, AreKept}
@@ -22,6 +22,8 @@ use Rattle.tup_history.proofs.Runs.{run_keeps}
 run_on : (tells : Bool) (next : Next) (wanted : Wanted) (old new : World) (end : End) (stage : Stage) (P Q : Stage → Type 0) → ((later : Stage) → P later → Q later) → BehindRun tells next wanted old new end stage P → BehindRun tells next wanted old new end stage Q
 run_on tells next (Ok (Upd program keep_going quiet verbose)) old new end Unbegun P Q on p = tt
 run_on tells next (Ok (Upd program keep_going quiet verbose)) old new end Begun P Q on p = λ means. let is = p means in (is.0, on Begun is.1)
+run_on tells next (Ok Todo) old new end Unbegun P Q on p = tt
+run_on tells next (Ok Todo) old new end Begun P Q on p = λ means. on Begun (p means)
 run_on tells next (Ok Init) old new end Unbegun P Q on p = λ done. on Begun (p done)
 run_on tells next (Ok Init) old new end Begun P Q on p = on Begun p
 run_on tells next (Ok Verify) old new end stage P Q on p = on stage p

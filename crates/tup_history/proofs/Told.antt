@@ -11,7 +11,7 @@ use Rattle.tup_site.specs.declared.change.Change.TheVariants.{Edited, Crashed}
 use Rattle.tup_site.specs.declared.choice.Deed.TheVariants.{Edit, Crash}
 use Rattle.tup_site.specs.declared.memory.MemSite.{MemSite}
 use Rattle.tup_runner.specs.Next.{Next}
-use Rattle.tup_top.specs.Order.{Wanted, IsUpdate, order}
+use Rattle.tup_top.specs.Order.{Wanted, BringsUp, order}
 use Rattle.tup_top.specs.declared.status.Status.{Status}
 use Rattle.tup_history.specs.History.{Standing, StandsAs, Takes, HasNoUpdate, IsHistory, StillTells}
 use Rattle.tup_history.specs.Run.{Leaves}
@@ -48,7 +48,7 @@ more_goes old new first changes more = (
 pub still_goes : (old new : MemSite) → first_of new ≡ first_of old → changes_of new ≡ changes_of old → Goes old new
 still_goes old new first none = more_goes old new first [] (none ∙ sym (append-nil (changes_of old)))
 
-run_goes : (wanted : Wanted) (status : Status) (old new : MemSite) → (IsUpdate wanted → ⊥) → Leaves wanted old new status → Goes old new
+run_goes : (wanted : Wanted) (status : Status) (old new : MemSite) → (BringsUp wanted → ⊥) → Leaves wanted old new status → Goes old new
 run_goes wanted status old new none leaves = let on = leaves.quiet none in (on.later, on.kept)
 
 module _ (tells : Bool) (next : Next) where

@@ -6,7 +6,7 @@ use Rattle.tup_site.specs.declared.memory.MemSite.{MemSite}
 use Rattle.tup_site.specs.declared.refused.MemRefused.{MemRefused}
 use Rattle.tup_site.specs.declared.refused.MemRefused.TheVariants.{Memory}
 use Rattle.tup_runner.specs.Next.{Next}
-use Rattle.tup_top.specs.Order.{IsUpdate, order}
+use Rattle.tup_top.specs.Order.{BringsUp, order}
 use Rattle.tup_top.specs.Promise.{Counts}
 use Rattle.tup_top.specs.declared.order.Word.{Word}
 use Rattle.tup_top.specs.declared.status.Status.{Status}
@@ -68,11 +68,11 @@ Takes tells next (Run words stop_after) end from to = TakesRun tells next words 
 abbrev pub IsHistory : Bool → Next → List Turn → List End → Standing → Standing → Type 0
 IsHistory tells next turns ends from to = Leads (Takes tells next) turns ends from to
 
--- none of these turns is an update
+-- none of these turns is an update, or finds out what one would do
 abbrev pub HasNoUpdate : List Turn → Type 0
 HasNoUpdate [] = ⊤
 HasNoUpdate (Deed deed ∷ turns) = HasNoUpdate turns
-HasNoUpdate (Run words stop_after ∷ turns) = (IsUpdate (order words) → ⊥) × HasNoUpdate turns
+HasNoUpdate (Run words stop_after ∷ turns) = (BringsUp (order words) → ⊥) × HasNoUpdate turns
 
 -- A site still tells what was there behind each of these turns behind which no update came: a crash since the moment of the
 -- turn's end may have left it.

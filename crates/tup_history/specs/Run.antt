@@ -13,8 +13,8 @@ use Rattle.tup_promise.specs.Blamed.{IsToBlame}
 use Rattle.tup_promise.specs.Finished.{ExactlyTheFiles}
 use Rattle.tup_promise.specs.Needed.{OnlyWhatIsNeeded}
 use Rattle.tup_compare.specs.Compared.{HasCompared}
-use Rattle.tup_top.specs.Order.{Wanted, IsUpdate, goes_on}
-use Rattle.tup_top.specs.Promise.{ForUpdate, ForInit, ForVerify, Lasts, NothingDone, OpensStore, QuietStep, Counts, HasPlainCause, Initializes, Compares}
+use Rattle.tup_top.specs.Order.{Wanted, BringsUp, IsUpdate, goes_on}
+use Rattle.tup_top.specs.Promise.{FindsOut, ForUpdate, ForInit, ForTodo, ForVerify, Lasts, NothingDone, OpensStore, QuietStep, Counts, HasPlainCause, Initializes, Compares}
 use Rattle.tup_top.specs.declared.status.Status.{Status}
 use Rattle.tup_top.specs.declared.status.Status.TheVariants.{Done, SinkFault}
 use Rattle.tup_history.specs.Kept.{IsKept}
@@ -37,11 +37,12 @@ pub record Keeps (tells : Bool) (next : Next) (wanted : Wanted) (old new : World
   pub compared : IsTrue tells → ForVerify wanted status (HasCompared next old)
   pub compares : IsTrue tells → Compares wanted old before now status
 
--- What a crash may leave since such a run began, and once it has ended.
+-- What a crash may leave since such a run began, and once it has ended; and what a run tells that finds out what an update would do.
 pub record Leaves (wanted : Wanted) (old new : MemSite) (status : Status) : Type 0 where
-  pub quiet : (IsUpdate wanted → ⊥) → GoesOn moment_of left_since old new (QuietStep wanted (world_in old))
+  pub quiet : (BringsUp wanted → ⊥) → GoesOn moment_of left_since old new (QuietStep wanted (world_in old))
   pub lasts : ForInit wanted status (Lasts (left_since new (moment_of new)) (world_in new))
   pub known : (IsUpdate wanted → ⊥) → known_in new ≡ known_in old
+  pub found_out : ForTodo wanted status (FindsOut ((next : Next) × IsKept next old) (world_in old) (world_in new))
 
 -- What an update leaves of a kept project, whose commands mean this: exactly the files of a clean build where it is done. Whatever
 -- it answers only what is needed was run, a blame is true, the project is kept, and so is each world that a crash since its
@@ -50,8 +51,8 @@ pub record Updates (next : Next) (wanted : Wanted) (old new : MemSite) (status :
   pub files : ForUpdate wanted status (ExactlyTheFiles next (world_in old) (world_in new))
   pub needed : ForUpdate wanted status (OnlyWhatIsNeeded next (goes_on wanted) (world_in old) (world_in new) ran)
   pub blamed : ForUpdate wanted status (IsToBlame next (world_in old) ran)
-  pub crash : IsUpdate wanted → IsKeptSite next tupfiles (known_in new) (world_in old) (left_since new (moment_of old))
-  pub kept : IsUpdate wanted → IsKept next new
+  pub crash : BringsUp wanted → IsKeptSite next tupfiles (known_in new) (world_in old) (left_since new (moment_of old))
+  pub kept : BringsUp wanted → IsKept next new
 
 -- ---- the calls that pass
 

@@ -9,7 +9,7 @@ use Rattle.tup_runner.specs.Next.{Next}
 use Rattle.tup_law_graph.specs.Edited.{IsOwnedAlike}
 use Rattle.tup_promise.specs.Finished.{ExactlyTheFiles}
 use Rattle.tup_top.specs.Order.{Wanted, order}
-use Rattle.tup_top.specs.declared.order.Order.TheVariants.{Init, Upd}
+use Rattle.tup_top.specs.declared.order.Order.TheVariants.{Init, Upd, Todo}
 use Rattle.tup_top.specs.declared.status.Status.{Status}
 use Rattle.tup_top.specs.Status.{IfCame}
 use Rattle.tup_history.specs.History.{Standing, StandsAs, IsHistory, AnswersDone}
@@ -41,9 +41,15 @@ abbrev pub BehindUpdate : Bool → Next → World → World → End → Stage �
 BehindUpdate tells next old new end Unbegun promise = ⊤
 BehindUpdate tells next old new end Begun promise = IsTrue tells → Builds next old new end.status × promise Begun
 
+-- behind a call that finds out what an update would do; of one in a project that hasn't begun nothing is said
+abbrev pub BehindTodo : Bool → Stage → (Stage → Type 0) → Type 0
+BehindTodo tells Unbegun promise = ⊤
+BehindTodo tells Begun promise = IsTrue tells → promise Begun
+
 -- behind a run of the program
 abbrev pub BehindRun : Bool → Next → Wanted → World → World → End → Stage → (Stage → Type 0) → Type 0
 BehindRun tells next (Ok (Upd program keep_going quiet verbose)) old new end stage promise = BehindUpdate tells next old new end stage promise
+BehindRun tells next (Ok Todo) old new end stage promise = BehindTodo tells stage promise
 BehindRun tells next (Ok Init) old new end stage promise = BehindInit end stage promise
 BehindRun tells next other old new end stage promise = promise stage
 

@@ -1,9 +1,9 @@
 mod Stopping
 mod Opening
 mod Seeing
-mod Keeping
+pub mod Keeping
 mod Brought
-mod Within
+pub mod Within
 mod Blaming
 mod Owning
 mod Telling

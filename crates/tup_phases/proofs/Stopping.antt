@@ -28,7 +28,7 @@ use Rattle.tup_promise.specs.declared.stop.Stop.{Stop}
 use Rattle.tup_promise.specs.declared.stop.Stop.TheVariants as stop
 use Rattle.tup_promise.proofs.Limits.{linking_stops}
 use Rattle.tup_promise.specs.declared.log.Log.{Log}
-use Rattle.tup_phases.specs.Prepared.{RunsNone, StopsBefore, StopsOpened}
+use Rattle.tup_phases.specs.Prepared.{RunsNone, StopsBefore, StopsOpened, StopsReading, StopsSurvey}
 
 -- ---- by the count
 module _ {T : Type 0} (before now : ℕ) where
@@ -69,27 +69,27 @@ pub counted_before : (first before now : ℕ) (stopped : Option Stop) → before
 counted_before first before now stopped same cause = subst (λ (n : ℕ). HasCountedCause n now stopped) same cause
 
 -- ---- by its kind
-pub graph_before : (fault : GraphFault) → StopsBefore (stop_of_graph fault)
+pub graph_before : (fault : GraphFault) → StopsSurvey (stop_of_graph fault)
 graph_before graph.NotThere = tt
 graph_before (graph.BadStore offset) = tt
 graph_before graph.Site = tt
 graph_before graph.Full = tt
 graph_before graph.Memory = tt
 
-pub scan_opened : (fault : ScanFault) → StopsOpened (stop_of_scan fault)
+pub scan_opened : (fault : ScanFault) → StopsReading (stop_of_scan fault)
 scan_opened scan.Site = tt
 scan_opened (scan.TooLarge n) = tt
 scan_opened (scan.TooManyFiles n) = tt
 scan_opened scan.Memory = tt
 
-pub refresh_opened : (fault : RefreshFault) → StopsOpened (stop_of_refresh fault)
+pub refresh_opened : (fault : RefreshFault) → StopsReading (stop_of_refresh fault)
 refresh_opened (refresh.Parse fault) = tt
 refresh_opened (refresh.Circular dirs) = tt
 refresh_opened refresh.Site = tt
 refresh_opened (refresh.TooLarge n) = tt
 refresh_opened refresh.Memory = tt
 
-pub link_opened : (fault : ProjectFault) → StopsOpened (stop_of_project fault)
+pub link_opened : (fault : ProjectFault) → StopsReading (stop_of_project fault)
 link_opened (project.Parse fault) = tt
 link_opened (project.CircularDirs dirs) = tt
 link_opened (project.NoSuchGroup group) = tt
@@ -106,15 +106,47 @@ stale_opened stale.Memory = tt
 
 -- a commit is refused for nothing that only an opening is
 pub note_opened : {S : Type 0} (Are : List Edit → Type 0) (old new : Held) (before now : S) (result : Result (Unit {0}) GraphFault) (fault : GraphFault) → result ≡ Err fault
-    → Notes Are old new before now result → StopsOpened (stop_of_graph fault)
+    → Notes Are old new before now result → StopsReading (stop_of_graph fault)
 note_opened Are old new before now result fault is notes = by fault (subst (Notes Are old new before now) is notes)
   where
-    by : (why : GraphFault) → Notes Are old new before now (Err why) → StopsOpened (stop_of_graph why)
+    by : (why : GraphFault) → Notes Are old new before now (Err why) → StopsReading (stop_of_graph why)
     by graph.NotThere noted = absurd noted.leaves
     by (graph.BadStore offset) noted = absurd noted.leaves
     by graph.Site noted = tt
     by graph.Full noted = tt
     by graph.Memory noted = tt
+
+-- what stops the reading of what an opened store is behind with
+pub reading_opened : (by : Stop) → StopsReading by → StopsOpened by
+reading_opened stop.NoStore is = absurd is
+reading_opened (stop.BadStore offset) is = absurd is
+reading_opened (stop.Sources fault) is = tt
+reading_opened (stop.UserFile path written found) is = absurd is
+reading_opened (stop.Bad name verdict) is = absurd is
+reading_opened stop.Run is = absurd is
+reading_opened stop.Full is = tt
+reading_opened (stop.Outside failed) is = tt
+
+pub reading_surveys : (by : Stop) → StopsReading by → StopsSurvey by
+reading_surveys stop.NoStore is = absurd is
+reading_surveys (stop.BadStore offset) is = absurd is
+reading_surveys (stop.Sources fault) is = tt
+reading_surveys (stop.UserFile path written found) is = absurd is
+reading_surveys (stop.Bad name verdict) is = absurd is
+reading_surveys stop.Run is = absurd is
+reading_surveys stop.Full is = tt
+reading_surveys (stop.Outside failed) is = tt
+
+-- that stops an update before any rule is run
+pub survey_before : (by : Stop) → StopsSurvey by → StopsBefore by
+survey_before stop.NoStore is = tt
+survey_before (stop.BadStore offset) is = tt
+survey_before (stop.Sources fault) is = tt
+survey_before (stop.UserFile path written found) is = absurd is
+survey_before (stop.Bad name verdict) is = absurd is
+survey_before stop.Run is = absurd is
+survey_before stop.Full is = tt
+survey_before (stop.Outside failed) is = tt
 
 -- what stops an opened update stops it before any rule is run
 pub opened_before : (by : Stop) → StopsOpened by → StopsBefore by

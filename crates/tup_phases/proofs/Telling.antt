@@ -12,7 +12,7 @@ use Rattle.tup_promise.specs.declared.log.Log.{Log}
 use Rattle.tup_promise.specs.declared.stop.Stop.{Stop}
 use Rattle.tup_promise.specs.declared.stop.Stop.TheVariants.{NoStore, BadStore, Sources, UserFile, Bad, Run, Full, Outside}
 use Rattle.tup_phases.specs.Spared.{LeavesTree}
-use Rattle.tup_phases.specs.Prepared.{LogsBefore, StopsClearing, StopsOpened}
+use Rattle.tup_phases.specs.Prepared.{LogsBefore, StopsClearing}
 
 -- nothing was told yet
 pub empty_logs : (log : Log) (by : Stop) → IsEmptyLog log → LogsBefore log by

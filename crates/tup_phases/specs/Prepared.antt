@@ -41,6 +41,28 @@ StopsOpened Run = ⊥
 StopsOpened Full = ⊤
 StopsOpened (Outside failed) = ⊤
 
+-- what may stop it from then on until the files that no rule makes any more are to be removed
+abbrev pub StopsReading : Stop → Type 0
+StopsReading NoStore = ⊥
+StopsReading (BadStore offset) = ⊥
+StopsReading (Sources fault) = ⊤
+StopsReading (UserFile path written found) = ⊥
+StopsReading (Bad name verdict) = ⊥
+StopsReading Run = ⊥
+StopsReading Full = ⊤
+StopsReading (Outside failed) = ⊤
+
+-- what may stop it before that, its store included
+abbrev pub StopsSurvey : Stop → Type 0
+StopsSurvey NoStore = ⊤
+StopsSurvey (BadStore offset) = ⊤
+StopsSurvey (Sources fault) = ⊤
+StopsSurvey (UserFile path written found) = ⊥
+StopsSurvey (Bad name verdict) = ⊥
+StopsSurvey Run = ⊥
+StopsSurvey Full = ⊤
+StopsSurvey (Outside failed) = ⊤
+
 -- what may stop the removal of files that no rule makes
 abbrev pub StopsClearing : Stop → Type 0
 StopsClearing NoStore = ⊥

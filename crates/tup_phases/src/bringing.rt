@@ -12,7 +12,7 @@ ghost use Rattle.tup_refresh.specs.Refresh.{AreSorted, IsRefresh};
 ghost use Rattle.tup_promise.specs.Cause.{HasCountedCause};
 ghost use Rattle.tup_promise.specs.Crashes.{OwnsNoMore};
 ghost use Rattle.tup_phases.specs.Kept.{BlamesSources, BringsNothing, HoldsWithin, IsBrought, IsKeptSince, IsNoted, LeavesFiles};
-ghost use Rattle.tup_phases.specs.Prepared.{HasSeen, RunsNone, StopsOpened};
+ghost use Rattle.tup_phases.specs.Prepared.{HasSeen, RunsNone, StopsReading};
 
 use std::alloc::{AllocError, Global};
 use tup_commit::swap_rules;
@@ -75,7 +75,7 @@ pub(crate) fn brought<S: Site>(
     ensures none { RunsNone log.old log.new }
     ensures removed { log.new.removed ≡ log.old.removed }
     ensures told { OnErr result (log.new ≡ log.old) }
-    ensures stops { IfErr result StopsOpened }
+    ensures stops { IfErr result StopsReading }
     ensures counted { HasCountedCause (S.faults site.old) (S.faults site.new) (result_err result) }
 {
     reads_keep_graphs(&*site);
@@ -148,7 +148,7 @@ fn swapped<S: Site>(
     ensures none { RunsNone log.old log.new }
     ensures removed { log.new.removed ≡ log.old.removed }
     ensures told { OnErr result (log.new ≡ log.old) }
-    ensures stops { IfErr result StopsOpened }
+    ensures stops { IfErr result StopsReading }
     ensures counted { HasCountedCause (S.faults site.old) (S.faults site.new) (result_err result) }
 {
     sorted_may_be_swapped();

@@ -1,13 +1,11 @@
 //! The phases in their order.
 ghost use Rattle.std.specs.Prelude.{◌≡◌, ℕ, IsTrue, IfOk, IfErr, OnOk, OnErr};
-ghost use Rattle.std.specs.FinMap as finite;
 ghost use Rattle.std.specs.Result.{result_err};
 ghost use Rattle.tup_site.specs.Known.{Keeps};
-ghost use Rattle.tup_site.specs.World.{TreeStays, World};
+ghost use Rattle.tup_site.specs.World.{World};
 ghost use Rattle.tup_runner.specs.Next.{Next};
 ghost use Rattle.tup_table.specs.Table.{entries_in};
-ghost use Rattle.tup_graph.specs.Answers.{tup_config};
-ghost use Rattle.tup_graph.specs.Kept.{IsGraphIn, IsKeptSite};
+ghost use Rattle.tup_graph.specs.Kept.{IsKeptSite};
 ghost use Rattle.tup_graph.specs.Opening.{IsGraphOf};
 ghost use Rattle.tup_stored_graph.specs.Held.{is_fresh, StandsFor};
 ghost use Rattle.tup_stale.specs.Cleared.{AllAreMade};
@@ -20,23 +18,18 @@ ghost use Rattle.tup_promise.specs.Needed.{FlagsWhatWasDue};
 ghost use Rattle.tup_promise.specs.Prepared.{IsPrepared};
 ghost use Rattle.tup_promise.specs.States.{KeepsStates};
 ghost use Rattle.tup_promise.specs.Unopened.{IsEmptyLog, Unopened};
-ghost use Rattle.tup_promise.specs.declared.log.Log.{Log as LogValue};
-ghost use Rattle.tup_phases.specs.Kept.{BlamesSources, HoldsWithin, IsKeptSince, IsScannedFrom, KeepsOn, LeavesFiles, OwnsOn, StaysBrought};
+ghost use Rattle.tup_phases.specs.Kept.{BlamesSources, HoldsWithin, IsKeptSince, OwnsOn, StaysBrought};
 ghost use Rattle.tup_phases.specs.Prepared.{HasSeen, LogsBefore, RunsNone};
 ghost use Rattle.tup_phases.specs.Prepared.{StopsBefore, StopsClearing, StopsOpened};
 ghost use Rattle.tup_phases.specs.Spared.{LeavesTree};
 
-use crate::bringing::brought;
+use crate::surveying::surveyed;
 use std::alloc::Global;
-use tup_commit::{note_scan, scans_see};
 use tup_law_board::cleared_are_unseen;
-use tup_partial::flags_are_of_rules;
-use tup_path::Bytes;
 use tup_promise::{Log, Stop};
-use tup_scan::{Still, scan};
 use tup_site::Site;
 use tup_stale::clear;
-use tup_stored_graph::{Graph, reads_keep_graphs};
+use tup_stored_graph::Graph;
 
 /// The graph of a site's store once it is up to date: its flagged rules are those that have to be run. The log is told
 /// which Tupfiles were read and which files were removed.
@@ -90,70 +83,9 @@ pub fn prepared<S: Site>(alloc: Global, site: &mut S, log: &mut Log) -> Result<G
     ensures stops { IfErr result StopsBefore }
     ensures counted { HasCountedCause (S.faults site.old) (S.faults site.new) (result_err result) }
 {
-    let mut graph = opened(alloc, site)?;
-    let config = noted(alloc, site, &mut graph)?;
-    brought(alloc, site, &mut graph, &config, log)?;
+    let mut graph = surveyed(alloc, site, log)?;
     cleared(alloc, site, &mut graph, log)?;
     Ok(graph)
-}
-
-/// Opens the graph of the store of a site.
-fn opened<S: Site>(alloc: Global, site: &mut S) -> Result<Graph, Stop>
-    ensures fresh { IfOk result (λ graph. IsTrue (is_fresh graph)) }
-    ensures stands { IsTrue S.tells
-        → IfOk result (λ graph. StandsFor S.world S.moment S.left_since graph site.new) }
-    // It is that of the store.
-    ensures stored { IsTrue S.tells
-        → IfOk result (λ graph. IsGraphIn (S.world site.old).store graph.nodes) }
-    ensures files { IsTrue S.tells → LeavesFiles S.Site.own site.old site.new }
-    ensures kept { IsTrue S.tells → KeepsOn S.Site.own site.old site.new }
-    ensures within { IsTrue S.tells → HoldsWithin (S.world site.old) (S.world site.new) }
-    ensures owns { IsTrue S.tells → OwnsOn S.Site.own site.old site.new }
-    ensures blame { (first : World) → IfErr result (BlamesSources first) }
-    // Nothing else was done.
-    ensures unopened { IsTrue S.tells → (log : LogValue) → IsEmptyLog log
-        → Unopened (S.world site.old) (S.world site.new) log (result_err result) }
-    ensures stops { IfErr result StopsBefore }
-    ensures counted { HasCountedCause (S.faults site.old) (S.faults site.new) (result_err result) }
-{
-    flags_are_of_rules();
-    Ok(Graph::open(alloc, site)?)
-}
-
-/// Notes in the graph what changed among the files, and gives the content of tup.config.
-fn noted<S: Site>(alloc: Global, site: &mut S, graph: &mut Graph) -> Result<Option<Bytes>, Stop>
-    requires fresh { IsTrue (is_fresh graph.old) }
-    requires stands { IsTrue S.tells
-        → StandsFor S.world S.moment S.left_since graph.old site.old }
-    ensures fresh { OnOk result (IsTrue (is_fresh graph.new)) }
-    ensures stands { IsTrue S.tells
-        → OnOk result (StandsFor S.world S.moment S.left_since graph.new site.new) }
-    ensures seen { IsTrue S.tells
-        → OnOk result (HasSeen graph.new.nodes (S.world site.new).tree) }
-    ensures scanned { OnOk result (IsScannedFrom graph.old.nodes graph.new.nodes) }
-    ensures config { IsTrue S.tells
-        → IfOk result (λ config. config ≡ finite.get (S.world site.old).tree tup_config) }
-    ensures files { IsTrue S.tells → LeavesFiles S.Site.own site.old site.new }
-    ensures kept { IsTrue S.tells → KeepsOn S.Site.own site.old site.new }
-    // Where the graph is that of a kept world, what stands in the store then stays within what that world had.
-    ensures within { IsTrue S.tells → (next : Next) (first : World) (since : ℕ)
-        → IsGraphIn first.store graph.old.nodes → TreeStays first (S.world site.old)
-        → IsKeptSince S.Site.own next first since site.old
-        → HoldsWithin first (S.world site.new) }
-    ensures owns { IsTrue S.tells → OwnsOn S.Site.own site.old site.new }
-    ensures blame { IsTrue S.tells → (first : World) → TreeStays first (S.world site.old)
-        → IfErr result (BlamesSources first) }
-    ensures stops { IfErr result StopsOpened }
-    ensures counted { HasCountedCause (S.faults site.old) (S.faults site.new) (result_err result) }
-{
-    reads_keep_graphs(&*site);
-    scans_see();
-    flags_are_of_rules();
-    // A law: while the graph is fresh, the store stands for its nodes.
-    let _ = graph.nodes();
-    let seen = scan(alloc, site, &Still)?;
-    note_scan(alloc, graph, site, &seen)?;
-    Ok(seen.config)
 }
 
 /// Removes the files that no rule makes any more, and tells the log of them.

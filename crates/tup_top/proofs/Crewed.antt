@@ -13,11 +13,11 @@ use Rattle.tup_compare.specs.declared.compare.Compared.{Compared}
 use Rattle.tup_promise.specs.declared.stop.Stop.{Stop}
 use Rattle.tup_promise.specs.declared.stop.Stop.TheVariants.{Outside}
 use Rattle.tup_top.specs.Crew.{OneRose, CrewRuns, CrewCompares}
-use Rattle.tup_top.specs.Promise.{Counts, AreSteady, OneFailedAtMost, HasCountedCause, HasComparedCause}
+use Rattle.tup_top.specs.Promise.{Counts, beside, AreSteady, OneFailedAtMost, HasCountedCause, HasComparedCause}
 use Rattle.tup_top.specs.declared.status.Status.{Status}
 use Rattle.tup_top.specs.declared.status.Status.TheVariants.{Done, Command, IllegalRead, IllegalWrite, Unwritten, TooManyReads, Usage, NotInit, AlreadyInit, BadStore, Parse, CircularDirs, CircularCommands, NoSuchGroup, UserFile, SiteFault, RunFault, SinkFault, Limit, Memory, Differs}
 use Rattle.tup_top.specs.Status.{IfCame, IfCompared}
-use Rattle.tup_top.proofs.Causes.{of_one, came_on}
+use Rattle.tup_top.proofs.Causes.{of_one, came_on, never_rose}
 use Rattle.tup_top.proofs.Verified.{compared_on}
 
 -- a count of one runner that rose is one of the crew's
@@ -153,3 +153,38 @@ no_crew_ran {R} ran_by next w (one ∷ others) some = (inl refl, refl)
 pub others_stay : {R : Type 0} (crew : List R) (now : R) → drop 1 (slice_set crew 0 now) ≡ drop 1 crew
 others_stay [] now = refl
 others_stay (one ∷ others) now = refl
+
+-- ---- a crew that did nothing
+
+-- what is counted beside a runner that never failed is counted beside any crew
+module _ (site_before site_now sink_before sink_now : ℕ) (runners : List ℕ) where
+  still : AreSteady (of_one site_before 0 sink_before) (of_one site_now 0 sink_now) → AreSteady (beside runners site_before sink_before) (beside runners site_now sink_now)
+  still steady = (steady.0, refl)
+
+  one_failed : OneFailedAtMost (of_one site_before 0 sink_before) (of_one site_now 0 sink_now) → OneFailedAtMost (beside runners site_before sink_before) (beside runners site_now sink_now)
+  one_failed (inl steady) = inl (still steady)
+  one_failed (inr (inl site)) = inr (inl (site.0, refl))
+  one_failed (inr (inr runner)) = absurd (never_rose runner.1)
+
+  pub idle_crew : (status : Status) → HasCountedCause (of_one site_before 0 sink_before) (of_one site_now 0 sink_now) status → HasCountedCause (beside runners site_before sink_before) (beside runners site_now sink_now) status
+  idle_crew (Done read ran removed) cause = (still cause.0, cause.1)
+  idle_crew (Command rule status) cause = still cause
+  idle_crew (IllegalRead rule text) cause = still cause
+  idle_crew (IllegalWrite rule text) cause = still cause
+  idle_crew (Unwritten rule path) cause = still cause
+  idle_crew (TooManyReads rule) cause = still cause
+  idle_crew (Usage place) cause = cause
+  idle_crew NotInit cause = still cause
+  idle_crew AlreadyInit cause = cause
+  idle_crew (BadStore offset) cause = still cause
+  idle_crew (Parse fault) cause = still cause
+  idle_crew (CircularDirs cycle) cause = still cause
+  idle_crew (CircularCommands cycle) cause = still cause
+  idle_crew (NoSuchGroup group) cause = still cause
+  idle_crew (UserFile path) cause = still cause
+  idle_crew SiteFault cause = (cause.0, refl)
+  idle_crew RunFault cause = absurd (never_rose cause.1)
+  idle_crew SinkFault cause = (still cause.0, cause.1)
+  idle_crew (Limit what number) cause = (still cause.0, cause.1)
+  idle_crew Memory cause = one_failed cause
+  idle_crew (Differs path) cause = cause

@@ -8,3 +8,4 @@ pub mod Begun
 pub mod Shown
 pub mod Demo
 pub mod Untouched
+pub mod Foreseen

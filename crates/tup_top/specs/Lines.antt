@@ -1,5 +1,5 @@
 -- What is printed of an update (the wording is own): a line for each thing done, and a last one for how it ended.
-use Rattle.std.specs.Prelude.{ℕ, if◌then◌else◌, List, [], ◌∷◌, ◌++◌, drop, fold, take, None, Some, slice_get, unwrap_or, codes, decimal}
+use Rattle.std.specs.Prelude.{ℕ, if◌then◌else◌, List, [], ◌∷◌, ◌++◌, drop, fold, take, None, Some, slice_get, unwrap_or, codes, decimal, Result, Ok, Err}
 use Rattle.std.specs.List.{flat_map, position_or_len}
 use Rattle.tup_path.specs.Name.{Names}
 use Rattle.tup_path.specs.Order.{same_path}
@@ -12,6 +12,10 @@ use Rattle.tup_query.specs.declared.fault.ParseFault.{ParseFault}
 use Rattle.tup_compare.specs.Compared.{first_of}
 use Rattle.tup_promise.specs.declared.log.EndedRule.{EndedRule}
 use Rattle.tup_promise.specs.declared.log.Log.{Log}
+use Rattle.tup_promise.specs.declared.stop.Stop.{Stop}
+use Rattle.tup_todo.specs.declared.listing.DueRule.{DueRule}
+use Rattle.tup_todo.specs.declared.todo.Todo.{Todo}
+use Rattle.tup_top.specs.Status.{status_of_todo}
 use Rattle.tup_top.specs.declared.status.Status.{Status}
 use Rattle.tup_top.specs.declared.status.Status.TheVariants.{Done, Command, IllegalRead, IllegalWrite, Unwritten, TooManyReads, Usage, NotInit, AlreadyInit, BadStore, Parse, CircularDirs, CircularCommands, NoSuchGroup, UserFile, SiteFault, RunFault, SinkFault, Limit, Memory, Differs}
 use Rattle.tup_top.specs.declared.status.What.{What}
@@ -29,6 +33,14 @@ removed_line path = codes "remove " ++ (show path ++ 10 ∷ [])
 abbrev pub ended_line : EndedRule → List ℕ
 ended_line ended =
     (if is_good (Some ended.verdict) then codes "run " else codes "bad ") ++ (show ended.rule.dir ++ (codes ": " ++ (ended.label ++ 10 ∷ [])))
+
+-- a file that an update would remove
+abbrev pub removes_line : Names → List ℕ
+removes_line path = codes "todo remove " ++ (show path ++ 10 ∷ [])
+
+-- a rule that it would run
+abbrev pub runs_line : DueRule → List ℕ
+runs_line due = codes "todo run " ++ (show due.rule.dir ++ (codes ": " ++ (due.label ++ 10 ∷ [])))
 
 -- what has a limit
 abbrev pub what_text : What → List ℕ
@@ -128,3 +140,12 @@ compared_line other = last_line other
 abbrev pub lines : Log → Status → List ℕ
 lines log status =
     flat_map read_line log.read ++ (flat_map removed_line log.removed ++ (flat_map ended_line log.ended ++ last_line status))
+
+-- the lists of what an update would do, behind the folders that were read
+abbrev pub listed_lines : Todo → List ℕ
+listed_lines todo = flat_map read_line todo.read ++ (flat_map removes_line todo.removes ++ flat_map runs_line todo.runs)
+
+-- all lines of what an update would do
+abbrev pub todo_lines : Result Todo Stop → List ℕ
+todo_lines (Ok todo) = listed_lines todo ++ last_line (status_of_todo (Ok todo))
+todo_lines (Err stop) = last_line (status_of_todo (Err stop))

@@ -5,7 +5,7 @@ use Rattle.tup_top.specs.declared.options.Program.{Program}
 use Rattle.tup_top.specs.declared.options.Program.TheVariants.{NotNamed, Awaited, Named}
 use Rattle.tup_top.specs.declared.order.Word.{Word}
 use Rattle.tup_top.specs.declared.order.Order.{Order}
-use Rattle.tup_top.specs.declared.order.Order.TheVariants.{Init, Upd, Verify, Demo}
+use Rattle.tup_top.specs.declared.order.Order.TheVariants.{Init, Upd, Todo, Verify, Demo}
 use Rattle.tup_top.specs.declared.order.OrderFault.{OrderFault}
 use Rattle.tup_top.specs.declared.order.OrderFault.TheVariants.{Usage, Memory}
 
@@ -18,14 +18,25 @@ Wanted = Result Order ℕ
 abbrev pub IsUpdate : Wanted → Type 0
 IsUpdate (Ok (Upd program keep_going quiet verbose)) = ⊤
 IsUpdate (Ok Init) = ⊥
+IsUpdate (Ok Todo) = ⊥
 IsUpdate (Ok Verify) = ⊥
 IsUpdate (Ok Demo) = ⊥
 IsUpdate (Err place) = ⊥
+
+-- the words ask for an update, or for what it would do: both bring the store up to date with the files
+abbrev pub BringsUp : Wanted → Type 0
+BringsUp (Ok (Upd program keep_going quiet verbose)) = ⊤
+BringsUp (Ok Init) = ⊥
+BringsUp (Ok Todo) = ⊤
+BringsUp (Ok Verify) = ⊥
+BringsUp (Ok Demo) = ⊥
+BringsUp (Err place) = ⊥
 
 -- the words ask for a comparison
 abbrev pub IsVerify : Wanted → Type 0
 IsVerify (Ok (Upd program keep_going quiet verbose)) = ⊥
 IsVerify (Ok Init) = ⊥
+IsVerify (Ok Todo) = ⊥
 IsVerify (Ok Verify) = ⊤
 IsVerify (Ok Demo) = ⊥
 IsVerify (Err place) = ⊥
@@ -34,6 +45,7 @@ IsVerify (Err place) = ⊥
 abbrev pub IsInit : Wanted → Type 0
 IsInit (Ok (Upd program keep_going quiet verbose)) = ⊥
 IsInit (Ok Init) = ⊤
+IsInit (Ok Todo) = ⊥
 IsInit (Ok Verify) = ⊥
 IsInit (Ok Demo) = ⊥
 IsInit (Err place) = ⊥
@@ -42,6 +54,7 @@ IsInit (Err place) = ⊥
 abbrev pub HasCommandsRun : Wanted → Type 0
 HasCommandsRun (Ok (Upd program keep_going quiet verbose)) = ⊤
 HasCommandsRun (Ok Init) = ⊥
+HasCommandsRun (Ok Todo) = ⊥
 HasCommandsRun (Ok Verify) = ⊤
 HasCommandsRun (Ok Demo) = ⊥
 HasCommandsRun (Err place) = ⊥
@@ -50,6 +63,7 @@ HasCommandsRun (Err place) = ⊥
 abbrev pub goes_on : Wanted → Bool
 goes_on (Ok (Upd program keep_going quiet verbose)) = keep_going
 goes_on (Ok Init) = false
+goes_on (Ok Todo) = false
 goes_on (Ok Verify) = false
 goes_on (Ok Demo) = false
 goes_on (Err place) = false
@@ -136,6 +150,7 @@ order (word ∷ words) =
     if is_option word then options 1 no_options (word ∷ words)
     else if says (codes "upd") word then options 2 no_options words
     else if says (codes "init") word then alone 2 Init words
+    else if says (codes "todo") word then alone 2 Todo words
     else if says (codes "verify") word then alone 2 Verify words
     else if says (codes "demo") word then alone 2 Demo words
     else Err 1

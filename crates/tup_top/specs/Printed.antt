@@ -1,5 +1,5 @@
 -- What is printed of one call: the lines of an update, or the line of a refusal; a front of them where the sink failed.
-use Rattle.std.specs.Prelude.{◌≡◌, ◌≢◌, ◌⊎◌, ⊤, ℕ, Bool, true, List, [], ◌∷◌, ◌++◌, Option, IsTrue, Result, Ok, Err, false}
+use Rattle.std.specs.Prelude.{◌≡◌, ◌≢◌, ◌⊎◌, ⊤, ℕ, Bool, true, List, [], ◌∷◌, ◌++◌, Option, IsTrue, IfOk, Result, Ok, Err, false}
 use Rattle.tup_path.specs.Count.{Rose}
 use Rattle.tup_site.specs.World.{World}
 use Rattle.tup_rule.specs.declared.rule.RuleName.{RuleName}
@@ -15,10 +15,12 @@ use Rattle.tup_phases.specs.Logged.{IsLogged}
 use Rattle.tup_promise.specs.Unopened.{Unopened}
 use Rattle.tup_promise.specs.declared.log.Log.{Log}
 use Rattle.tup_promise.specs.declared.stop.Stop.{Stop}
-use Rattle.tup_top.specs.Lines.{lines, last_line, begun_line, compared_line}
+use Rattle.tup_todo.specs.Lists.{ListsWhatIsDue}
+use Rattle.tup_todo.specs.declared.todo.Todo.{Todo as TodoLists}
+use Rattle.tup_top.specs.Lines.{lines, last_line, begun_line, compared_line, todo_lines}
 use Rattle.tup_top.specs.Order.{Wanted}
-use Rattle.tup_top.specs.Status.{status_of, status_of_begun, status_of_compared}
-use Rattle.tup_top.specs.declared.order.Order.TheVariants.{Init, Upd, Verify, Demo}
+use Rattle.tup_top.specs.Status.{status_of, status_of_begun, status_of_compared, status_of_todo}
+use Rattle.tup_top.specs.declared.order.Order.TheVariants.{Init, Upd, Todo, Verify, Demo}
 use Rattle.tup_top.specs.declared.status.Status.{Status}
 use Rattle.tup_top.specs.declared.status.Status.TheVariants.{Done, Usage, SinkFault, Memory}
 
@@ -62,6 +64,13 @@ pub record PrintsComparison (site runner : Bool) (next : Next) (world : World) (
   pub ends : Ends before now (status_of_compared compared) answer
   pub prints : Prints (status_of_compared compared) (compared_line (status_of_compared compared)) before now old new answer
 
+-- The lines of what an update would do. Over a kept site they list the rules that are due and the files that no rule makes any more.
+pub record PrintsTodo (kept : Type 0) (world left : World) (before now : ℕ) (old new : List ℕ) (answer : Status) : Type 0 where
+  pub todo : Result TodoLists Stop
+  pub lists : kept → IfOk todo (ListsWhatIsDue world left)
+  pub ends : Ends before now (status_of_todo todo) answer
+  pub prints : Prints (status_of_todo todo) (todo_lines todo) before now old new answer
+
 -- the line of a beginning
 pub record PrintsBegun (before now : ℕ) (old new : List ℕ) (answer : Status) : Type 0 where
   pub begun : Result Begun GraphFault
@@ -76,11 +85,12 @@ demo_world = record { tree = demo_tree; store = header ++ 0 ∷ [] }
 abbrev pub PrintsDemo : ℕ → ℕ → List ℕ → List ℕ → Status → Type 0
 PrintsDemo before now old new answer = (ran : List RuleName) × (left : World) × PrintsUpdate true false demo_world left ran before now old new answer
 
--- the lines of what was asked for: of the update, of the beginning, of the comparison, of the demo's update, or the line of the
--- refusal
-abbrev pub Printed : Bool → Bool → Wanted → Next → World → World → List RuleName → ℕ → ℕ → List ℕ → List ℕ → Status → Type 0
-Printed site runner (Ok (Upd program keep_going quiet verbose)) next world left ran before now old new answer = PrintsUpdate site keep_going world left ran before now old new answer
-Printed site runner (Ok Init) next world left ran before now old new answer = PrintsBegun before now old new answer
-Printed site runner (Ok Verify) next world left ran before now old new answer = PrintsComparison site runner next world before now old new answer
-Printed site runner (Ok Demo) next world left ran before now old new answer = PrintsDemo before now old new answer
-Printed site runner (Err place) next world left ran before now old new answer = Prints (Usage place) (last_line (Usage place)) before now old new answer
+-- the lines of what was asked for: of the update, of what it would do where the site is kept, of the beginning, of the comparison, of
+-- the demo's update, or the line of the refusal
+abbrev pub Printed : Bool → Bool → Type 0 → Wanted → Next → World → World → List RuleName → ℕ → ℕ → List ℕ → List ℕ → Status → Type 0
+Printed site runner kept (Ok (Upd program keep_going quiet verbose)) next world left ran before now old new answer = PrintsUpdate site keep_going world left ran before now old new answer
+Printed site runner kept (Ok Init) next world left ran before now old new answer = PrintsBegun before now old new answer
+Printed site runner kept (Ok Todo) next world left ran before now old new answer = PrintsTodo kept world left before now old new answer
+Printed site runner kept (Ok Verify) next world left ran before now old new answer = PrintsComparison site runner next world before now old new answer
+Printed site runner kept (Ok Demo) next world left ran before now old new answer = PrintsDemo before now old new answer
+Printed site runner kept (Err place) next world left ran before now old new answer = Prints (Usage place) (last_line (Usage place)) before now old new answer

@@ -1,11 +1,11 @@
 -- What the program promises of one call, each promise a word. What it says of an update it says of what the status tells that
 -- the update came to.
-use Rattle.std.specs.Prelude.{◌≡◌, ◌⊎◌, ◌<◌, ◌≤◌, ⊤, ℕ, ◌-◌, ◌^◌, List, [], length, map, slice_get, Option, None, Some, IfSome, IsTrue, OnOk, Result, Ok, Err, Bool}
+use Rattle.std.specs.Prelude.{◌≡◌, ◌⊎◌, ◌<◌, ◌≤◌, ⊤, ℕ, ◌-◌, ◌^◌, List, [], length, map, slice_get, Option, None, Some, IfSome, OnOk, Result, Ok, Err, Bool}
 use Rattle.std.specs.FinMap as finite
 use Rattle.tup_path.specs.Count.{Rose}
 use Rattle.tup_path.specs.Name.{Names, Content}
 use Rattle.tup_site.specs.Crash.{PinsStore}
-use Rattle.tup_site.specs.World.{World}
+use Rattle.tup_site.specs.World.{World, TreeStays}
 use Rattle.tup_site.specs.declared.fault.SiteFailed.TheVariants.{Memory as NoMemory}
 use Rattle.tup_rule.specs.declared.rule.RuleName.{RuleName}
 use Rattle.tup_graph.specs.declared.fault.GraphFault.{GraphFault}
@@ -15,16 +15,19 @@ use Rattle.tup_compare.specs.Holding.{Holding, HoldsOn, Shows}
 use Rattle.tup_compare.specs.Sources.{IsRefused}
 use Rattle.tup_compare.specs.declared.compare.Compared.{Compared}
 use Rattle.tup_promise.specs.declared.fault.SourcesFault.{SourcesFault}
+use Rattle.tup_phases.specs.Kept.{BlamesSources}
 use Rattle.tup_phases.specs.Logged.{IsLogged}
+use Rattle.tup_phases.specs.Prepared.{StopsSurvey}
 use Rattle.tup_phases.specs.Spared.{LeavesTree}
+use Rattle.tup_promise.specs.Needed.{FlagsWhatWasDue}
 use Rattle.tup_promise.specs.Unopened.{Unopened}
 use Rattle.tup_promise.specs.declared.log.Log.{Log}
 use Rattle.tup_promise.specs.declared.stop.Stop.{Stop}
 use Rattle.tup_promise.specs.declared.stop.Stop.TheVariants.{Outside}
 use Rattle.tup_top.specs.Status.{most, IfCame, IfCompared, IfBegan}
-use Rattle.tup_top.specs.Order.{Wanted, IsUpdate, IsVerify, IsInit}
+use Rattle.tup_top.specs.Order.{Wanted, IsVerify, IsInit}
 use Rattle.tup_top.specs.Crew.{OneRose}
-use Rattle.tup_top.specs.declared.order.Order.TheVariants.{Init, Upd, Verify, Demo}
+use Rattle.tup_top.specs.declared.order.Order.TheVariants.{Init, Upd, Todo, Verify, Demo}
 use Rattle.tup_top.specs.declared.status.Status.{Status}
 use Rattle.tup_top.specs.declared.status.Status.TheVariants.{Done, Command, IllegalRead, IllegalWrite, Unwritten, TooManyReads, Usage, NotInit, AlreadyInit, BadStore, SiteFault, RunFault, SinkFault, Limit, Memory, Differs}
 
@@ -32,14 +35,25 @@ use Rattle.tup_top.specs.declared.status.Status.TheVariants.{Done, Command, Ille
 abbrev pub ForUpdate : Wanted → Status → (Option Stop → Type 0) → Type 0
 ForUpdate (Ok (Upd program keep_going quiet verbose)) status promise = IfCame status promise
 ForUpdate (Ok Init) status promise = ⊤
+ForUpdate (Ok Todo) status promise = ⊤
 ForUpdate (Ok Verify) status promise = ⊤
 ForUpdate (Ok Demo) status promise = ⊤
 ForUpdate (Err place) status promise = ⊤
+
+-- a promise of what finding out what an update would do came to
+abbrev pub ForTodo : Wanted → Status → (Option Stop → Type 0) → Type 0
+ForTodo (Ok (Upd program keep_going quiet verbose)) status promise = ⊤
+ForTodo (Ok Init) status promise = ⊤
+ForTodo (Ok Todo) status promise = IfCame status promise
+ForTodo (Ok Verify) status promise = ⊤
+ForTodo (Ok Demo) status promise = ⊤
+ForTodo (Err place) status promise = ⊤
 
 -- a promise of a comparison, of what it came to
 abbrev pub ForVerify : Wanted → Status → (Result Compared Stop → Type 0) → Type 0
 ForVerify (Ok (Upd program keep_going quiet verbose)) status promise = ⊤
 ForVerify (Ok Init) status promise = ⊤
+ForVerify (Ok Todo) status promise = ⊤
 ForVerify (Ok Verify) status promise = IfCompared status promise
 ForVerify (Ok Demo) status promise = ⊤
 ForVerify (Err place) status promise = ⊤
@@ -48,6 +62,7 @@ ForVerify (Err place) status promise = ⊤
 abbrev pub ForInit : Wanted → Status → (Result Begun GraphFault → Type 0) → Type 0
 ForInit (Ok (Upd program keep_going quiet verbose)) status promise = ⊤
 ForInit (Ok Init) status promise = IfBegan status promise
+ForInit (Ok Todo) status promise = ⊤
 ForInit (Ok Verify) status promise = ⊤
 ForInit (Ok Demo) status promise = ⊤
 ForInit (Err place) status promise = ⊤
@@ -57,11 +72,12 @@ abbrev pub Lasts : (World → Type 0) → World → Result Begun GraphFault → 
 Lasts left now begun = OnOk begun (PinsStore left now)
 
 -- Only an update does more than this: a beginning leaves the world as it was, or with a store of the same entries, or makes one
--- where there was none; a comparison leaves a world that holds the same; and any other call the world as it was. None touches
--- a file.
+-- where there was none; finding out what an update would do leaves all files; a comparison leaves a world that holds the same; and
+-- any other call the world as it was. None touches a file.
 abbrev pub NothingDone : Wanted → World → World → Type 0
 NothingDone (Ok (Upd program keep_going quiet verbose)) old new = ⊤
 NothingDone (Ok Init) old new = (new ≡ old) ⊎ BeginStep old old new
+NothingDone (Ok Todo) old new = TreeStays old new
 NothingDone (Ok Verify) old new = HoldsOn old new
 NothingDone (Ok Demo) old new = new ≡ old
 NothingDone (Err place) old new = new ≡ old
@@ -77,6 +93,15 @@ QuietStep other was v w = ⊥
 abbrev pub OpensStore : World → World → List RuleName → Option Stop → Type 0
 OpensStore old new ran (Some (Outside NoMemory)) = (stopped : Option Stop) × (log : Log) × (log.ran ≡ ran) × Unopened old new log stopped
 OpensStore old new ran stopped = (log : Log) × (log.ran ≡ ran) × Unopened old new log stopped
+
+-- What came of finding out what an update would do, which was stopped so, or by nothing: how it went on from the store, and that
+-- nothing stops it that stops only a removal or a run. Over a kept site a blame of the sources is true, and no more is to be run
+-- then than was due.
+pub record FindsOut (kept : Type 0) (old new : World) (stopped : Option Stop) : Type 0 where
+  pub opens : OpensStore old new [] stopped
+  pub stops : IfSome stopped StopsSurvey
+  pub blamed : kept → IfSome stopped (BlamesSources old)
+  pub flagged : kept → FlagsWhatWasDue old new
 
 -- a promise of an update that nothing stopped
 abbrev pub OnceDone : Type 0 → Option Stop → Type 0
@@ -101,6 +126,10 @@ pub record Counts : Type 0 where
 -- what these count
 abbrev pub counts : {S R K : Type 0} → (S → ℕ) → (R → ℕ) → (K → ℕ) → S → List R → K → Counts
 counts of_site of_runner of_sink site crew sink = record { site = of_site site; runners = map of_runner crew; sink = of_sink sink }
+
+-- what a site and a sink count, beside what some runners do
+abbrev pub beside : List ℕ → ℕ → ℕ → Counts
+beside runners site sink = record { site = site; runners = runners; sink = sink }
 
 -- neither the site nor a runner failed
 abbrev pub AreSteady : Counts → Counts → Type 0
@@ -171,6 +200,7 @@ IsRefusal wrong other = ⊥
 abbrev pub HasPlainCause : Wanted → Counts → Counts → Status → Type 0
 HasPlainCause (Ok (Upd program keep_going quiet verbose)) before now status = HasCountedCause before now status
 HasPlainCause (Ok Init) before now status = (now.runners ≡ before.runners) × HasBegunCause before.site now.site before.sink now.sink status
+HasPlainCause (Ok Todo) before now status = HasCountedCause before now status
 HasPlainCause (Ok Verify) before now status = HasComparedCause before now status
 HasPlainCause (Ok Demo) before now status = AreSteady before now × HasDemoCause before.sink now.sink status
 HasPlainCause (Err place) before now status = AreSteady before now × IsRefusal place status

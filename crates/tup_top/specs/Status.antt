@@ -14,6 +14,7 @@ use Rattle.tup_compare.specs.declared.compare.Compared.{Compared}
 use Rattle.tup_compare.specs.declared.compare.Compared.TheVariants as compared
 use Rattle.tup_promise.specs.declared.fault.SourcesFault.{SourcesFault}
 use Rattle.tup_promise.specs.declared.fault.SourcesFault.TheVariants as sources
+use Rattle.tup_todo.specs.declared.todo.Todo.{Todo}
 use Rattle.tup_promise.specs.declared.log.Log.{Log}
 use Rattle.tup_promise.specs.declared.stop.Stop.{Stop}
 use Rattle.tup_promise.specs.declared.stop.Stop.TheVariants.{NoStore, BadStore as StoreDamaged, Sources, UserFile as IsUsers, Bad, Run, Full, Outside}
@@ -98,6 +99,11 @@ status_of_stop (Outside failed) = status_of_outside failed
 abbrev pub status_of : Log → Option Stop → Status
 status_of log None = Done (capped (length log.read)) (capped (length log.ended)) (capped (length log.removed))
 status_of log (Some stop) = status_of_stop stop
+
+-- the status of what an update would do; nothing of it was done but to read Tupfiles
+abbrev pub status_of_todo : Result Todo Stop → Status
+status_of_todo (Ok todo) = Done (capped (length todo.read)) 0 0
+status_of_todo (Err stop) = status_of_stop stop
 
 -- the status of a comparison of the files with a clean build
 abbrev pub status_of_compared : Result Compared Stop → Status

@@ -13,11 +13,12 @@ ghost use Rattle.tup_promise.specs.Needed.{OnlyWhatIsNeeded};
 ghost use Rattle.tup_promise.specs.States.{States};
 ghost use Rattle.tup_compare.specs.Compared.{HasCompared};
 ghost use Rattle.tup_compare.specs.Opened.{JustOpens};
-ghost use Rattle.tup_top.specs.Order.{IsUpdate, goes_on, order};
+ghost use Rattle.tup_top.specs.Order.{BringsUp, IsUpdate, goes_on, order};
 ghost use Rattle.tup_top.specs.Crew.{IsCrew, CrewRuns, CrewCompares, NothingRun};
 ghost use Rattle.tup_top.specs.Lines.{last_line as line_of};
 ghost use Rattle.tup_top.specs.Printed.{Printed, Prints};
-ghost use Rattle.tup_top.specs.Promise.{ForUpdate, ForInit, ForVerify, Lasts, Logs, NothingDone};
+ghost use Rattle.tup_top.specs.Promise.{FindsOut, ForUpdate, ForInit, ForTodo, ForVerify};
+ghost use Rattle.tup_top.specs.Promise.{Lasts, Logs, NothingDone};
 ghost use Rattle.tup_top.specs.Promise.{OnceDone, OpensStore, QuietStep, Spares};
 ghost use Rattle.tup_top.specs.Promise.{HasPlainCause, IsRefusal, Initializes, Compares, counts};
 ghost use Rattle.tup_top.specs.declared.status.Status.TheVariants.{Usage};
@@ -26,6 +27,7 @@ use crate::init::init;
 use crate::order::{Order, OrderFault, Word, order_of};
 use crate::print::tell;
 use crate::status::Status;
+use crate::todo::todo;
 use crate::update::{Ended, demo, update};
 use crate::verify::verify;
 use std::alloc::Global;
@@ -51,10 +53,10 @@ pub struct Ran<S, R> {
 ///
 /// `init` makes the store of a project where there is none. No words, or `upd`, update the files of
 /// the site; the first runner of the crew runs the commands, and `-k` goes on after a bad one with
-/// the rules that don't need it. `verify` has it run those of a clean
-/// build beside them, and touches no file. `demo` shows an update of a small project in memory, and
-/// leaves site and crew alone. Other words are refused by the place of the first that can't stand
-/// there. A crew has 1 to 16 runners.
+/// the rules that don't need it. `todo` lists what an update would remove and run, and changes no
+/// file. `verify` has it run those of a clean build beside them, and touches no file. `demo` shows
+/// an update of a small project in memory, and leaves site and crew alone. Other words are refused
+/// by the place of the first that can't stand there. A crew has 1 to 16 runners.
 pub fn tup<S: Site, R: Runner, K: Sink>(
     alloc: Global,
     words: &[Word],
@@ -77,8 +79,13 @@ pub fn tup<S: Site, R: Runner, K: Sink>(
     // but the last one where something else than a bad verdict stops it.
     ensures logged { ForUpdate (order words.now) result.status
         (Logs (goes_on (order words.now)) result.ran) }
+    // Finding out what an update would do tells how it went on from the store, too. Over a kept site
+    // a blame of the sources is true, and no more is to be run then than was due.
+    ensures found_out { IsTrue S.tells → let old = S.world site in
+        let kept = IsKeptBySome S.Site.own site in
+        ForTodo (order words.now) result.status (FindsOut kept old (S.world result.site)) }
     // Any other order adds no more than a beginning, or a comparison's opening of the store.
-    ensures quiet { IsTrue S.tells → (IsUpdate (order words.now) → ⊥)
+    ensures quiet { IsTrue S.tells → (BringsUp (order words.now) → ⊥)
         → let step = QuietStep (order words.now) (S.world site) in
         GoesOn S.moment S.left_since site result.site step }
     ensures nothing_done { IsTrue S.tells
@@ -100,18 +107,18 @@ pub fn tup<S: Site, R: Runner, K: Sink>(
     ensures settled { KeptHere S.Site.own R.Runner.own site
         → ForUpdate (order words.now) result.status (OnceDone (AreFilesSettled S.Site.own result.site)) }
     ensures sources_and_crashes { KeptHere S.Site.own R.Runner.own site
-        → IsUpdate (order words.now)
+        → BringsUp (order words.now)
         → SourcesAndCrashes S.Site.own R.next site result.site }
     ensures states { KeptHere S.Site.own R.Runner.own site
-        → IsUpdate (order words.now)
+        → BringsUp (order words.now)
         → States R.next (S.world site) (S.world result.site) }
     ensures kept { KeptHere S.Site.own R.Runner.own site
-        → IsUpdate (order words.now)
+        → BringsUp (order words.now)
         → let known = S.known result.site in
         IsKeptNow S.Site.own R.next tupfiles known result.site }
     // And its sources stay, whatever the runner is.
     ensures sources_stay { IsTrue S.tells → IsKeptBySome S.Site.own site
-        → IsUpdate (order words.now)
+        → BringsUp (order words.now)
         → SourcesStay S.Site.own site result.site }
     ensures crew { length result.crew.items ≡ length crew.items }
     // All runners but the first are as they were.
@@ -148,7 +155,8 @@ pub fn tup<S: Site, R: Runner, K: Sink>(
     ensures printed { IsTrue K.tells
         → let before = K.faults out.old in let now = K.faults out.new in
         let old = S.world site in let new = S.world result.site in
-        Printed S.tells R.tells (order words.now) R.next old new result.ran before now
+        let kept = IsTrue S.tells × IsKeptBySome S.Site.own site in
+        Printed S.tells R.tells kept (order words.now) R.next old new result.ran before now
         (K.held out.old) (K.held out.new) result.status }
 {
     flags_are_of_rules();
@@ -166,6 +174,16 @@ pub fn tup<S: Site, R: Runner, K: Sink>(
         Ok(Order::Init) => {
             let mut site = site;
             let status = init(alloc, &mut site, out);
+            Ran {
+                status,
+                site,
+                crew,
+                ran: Items::new(alloc),
+            }
+        }
+        Ok(Order::Todo) => {
+            let mut site = site;
+            let status = todo(alloc, &mut site, out);
             Ran {
                 status,
                 site,

@@ -12,6 +12,7 @@ mod options;
 mod order;
 mod print;
 mod status;
+mod todo;
 mod update;
 mod verify;
 

@@ -28,6 +28,8 @@ pub enum Order {
         /// Whether each command is shown while it runs.
         verbose: bool,
     },
+    /// List what an update would remove and run, and do neither.
+    Todo,
     /// Compare the files with a clean build of the sources, and change nothing.
     Verify,
     /// Show an update of a small project in memory.
@@ -70,6 +72,7 @@ pub fn order_of(words: &[Word]) -> Result<Order, OrderFault>
     match first.0.as_str() {
         "upd" => options(rest, 2, Options::none()),
         "init" => alone(Order::Init, rest, 2),
+        "todo" => alone(Order::Todo, rest, 2),
         "verify" => alone(Order::Verify, rest, 2),
         "demo" => alone(Order::Demo, rest, 2),
         _ => Err(OrderFault::Usage { place: 1 }),

@@ -11,6 +11,7 @@ use tup_access::Verdict;
 use tup_path::{Bytes, Path};
 use tup_promise::{EndedRule, Log};
 use tup_tell::{Sink, SinkFailed};
+use tup_todo::{DueRule, Todo};
 
 /// All lines of an update with this log, the last one for its status.
 pub(crate) fn lines(alloc: Global, log: &Log, status: &Status) -> Result<Bytes, AllocError>
@@ -20,6 +21,19 @@ pub(crate) fn lines(alloc: Global, log: &Log, status: &Status) -> Result<Bytes, 
     add_read(&mut text, log.read.as_slice())?;
     add_removed(&mut text, log.removed.as_slice())?;
     add_ended(&mut text, log.ended.as_slice())?;
+    writeln!(text, "{status}")?;
+    Ok(Bytes::new(text.into_bytes()))
+}
+
+/// All lines of what an update would do, the last one for its status.
+pub(crate) fn todo_lines(alloc: Global, todo: &Todo, status: &Status) -> Result<Bytes, AllocError>
+    ensures { IfOk result
+        (λ text. text ≡ specs.listed_lines todo.now ++ specs.last_line status.now) }
+{
+    let mut text = String::new(alloc);
+    add_read(&mut text, todo.read.as_slice())?;
+    add_removes(&mut text, todo.removes.as_slice())?;
+    add_runs(&mut text, todo.runs.as_slice())?;
     writeln!(text, "{status}")?;
     Ok(Bytes::new(text.into_bytes()))
 }
@@ -70,6 +84,36 @@ fn add_removed(text: &mut String, paths: &[Path]) -> Result<(), AllocError>
 {
     for path in paths {
         writeln!(text, "remove {path}")?;
+    }
+    Ok(())
+}
+
+/// Adds a line for each file that is to be removed.
+fn add_removes(text: &mut String, paths: &[Path]) -> Result<(), AllocError>
+    ensures { OnOk result
+        (string_bytes text.new ≡ string_bytes text.old ++ flat_map specs.removes_line paths.now) }
+{
+    for path in paths {
+        add_removal(text, path)?;
+    }
+    Ok(())
+}
+
+/// Adds the line of a file that is to be removed.
+fn add_removal(text: &mut String, path: &Path) -> Result<(), AllocError>
+    ensures { OnOk result
+        (string_bytes text.new ≡ string_bytes text.old ++ specs.removes_line path.now) }
+{
+    writeln!(text, "todo remove {path}")
+}
+
+/// Adds a line for each rule that is to be run.
+fn add_runs(text: &mut String, rules: &[DueRule]) -> Result<(), AllocError>
+    ensures { OnOk result
+        (string_bytes text.new ≡ string_bytes text.old ++ flat_map specs.runs_line rules.now) }
+{
+    for due in rules {
+        writeln!(text, "todo run {}: {}", due.rule.dir, due.label)?;
     }
     Ok(())
 }

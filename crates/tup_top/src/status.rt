@@ -1,5 +1,5 @@
 //! How an order ended.
-ghost use Rattle.std.specs.Prelude.{◌≡◌, Some};
+ghost use Rattle.std.specs.Prelude.{◌≡◌, Some, Ok};
 ghost use Rattle.tup_top.specs.Lines.{status_text, what_text};
 ghost use Rattle.tup_top.specs.Status as specs;
 ghost use Rattle.tup_top.specs.declared.status.Status.TheVariants.{Limit};
@@ -16,6 +16,7 @@ use tup_promise::{Log, SourcesFault, Stop};
 use tup_query::ParseFault;
 use tup_rule::{GroupRef, RuleName};
 use tup_site::SiteFailed;
+use tup_todo::Todo;
 
 /// What has a limit.
 #[derive(Clone, Copy, PartialEq, Eq)]
@@ -140,6 +141,17 @@ pub(crate) fn status_of(log: &Log, stopped: Option<Stop>) -> Status
     }
 }
 
+/// The status of what an update would do.
+pub(crate) fn status_of_listed(todo: &Todo) -> Status
+    ensures { result ≡ specs.status_of_todo (Ok todo.now) }
+{
+    Status::Done {
+        read: capped(todo.read.len()),
+        ran: 0,
+        removed: 0,
+    }
+}
+
 /// The status of a comparison of the files with a clean build.
 pub(crate) fn status_of_compared(compared: Result<Compared, Stop>) -> Status
     ensures { result ≡ specs.status_of_compared compared }
@@ -174,7 +186,7 @@ pub(crate) fn status_of_begun(begun: Result<Begun, GraphFault>) -> Status
 }
 
 /// Why an order is stopped.
-fn status_of_stop(stop: Stop) -> Status
+pub(crate) fn status_of_stop(stop: Stop) -> Status
     ensures { result ≡ specs.status_of_stop stop }
 {
     match stop {

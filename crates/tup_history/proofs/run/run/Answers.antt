@@ -20,6 +20,7 @@ returns-clause-leaves g c = record {
   quiet = c.tup.ensures.quiet refl;
   lasts = c.tup.ensures.lasts refl;
   known = c.tup.ensures.known refl;
+  found_out = c.tup.ensures.found_out refl;
 }
 
 pub returns-clause-updates : goal.returns-clause-updates

@@ -18,7 +18,7 @@ use Rattle.tup_site.specs.World.{World}
 use Rattle.tup_promise.specs.Cause.{HasCountedCause}
 use Rattle.tup_promise.specs.Stopped.{stop_of_refresh}
 use Rattle.tup_promise.proofs.Handed.{err_if, err_so}
-use Rattle.tup_phases.specs.Prepared.{StopsOpened}
+use Rattle.tup_phases.specs.Prepared.{StopsReading}
 use Rattle.tup_phases.proofs.Seeing.{seen_again}
 use Rattle.tup_phases.proofs.Stopping.{counted_before, refresh_counted, refresh_opened}
 use Rattle.tup_phases.proofs.bringing.brought.Goals as goal
@@ -28,7 +28,7 @@ use Rattle.tup_phases.proofs.bringing.brought.Goals as goal
 pub returns-in_err-found-clause-stops : goal.returns-in_err-found-clause-stops
 returns-in_err-found-clause-stops g c =
     let fault = c.in_err-found.field-0.0 in
-    err_if c.from_residual.result (stop_of_refresh fault) StopsOpened c.from_residual.ensures.1 (refresh_opened fault)
+    err_if c.from_residual.result (stop_of_refresh fault) StopsReading c.from_residual.ensures.1 (refresh_opened fault)
 
 pub returns-in_err-found-clause-counted : goal.returns-in_err-found-clause-counted
 returns-in_err-found-clause-counted g c =

@@ -25,7 +25,7 @@ use Rattle.tup_rule_diff.specs.Edits.{AreSwapEdits}
 use Rattle.tup_promise.specs.Cause.{HasCountedCause}
 use Rattle.tup_promise.specs.Stopped.{no_memory, stop_of_graph, stop_of_project}
 use Rattle.tup_promise.proofs.Handed.{err_if, err_so}
-use Rattle.tup_phases.specs.Prepared.{StopsOpened}
+use Rattle.tup_phases.specs.Prepared.{StopsReading}
 use Rattle.tup_phases.proofs.Seeing.{seen_again, seen_alike}
 use Rattle.tup_phases.proofs.Stopping.{graph_counted, link_counted, link_opened, note_opened}
 use Rattle.tup_phases.proofs.bringing.swapped.Goals as goal
@@ -35,7 +35,7 @@ use Rattle.tup_phases.proofs.bringing.swapped.Goals as goal
 pub returns-in_err-rules-clause-stops : goal.returns-in_err-rules-clause-stops
 returns-in_err-rules-clause-stops g c =
     let fault = c.in_err-rules.field-0.0 in
-    err_if c.from_residual.result (stop_of_project fault) StopsOpened c.from_residual.ensures.1 (link_opened fault)
+    err_if c.from_residual.result (stop_of_project fault) StopsReading c.from_residual.ensures.1 (link_opened fault)
 
 pub returns-in_err-rules-clause-counted : goal.returns-in_err-rules-clause-counted
 returns-in_err-rules-clause-counted g c =
@@ -46,7 +46,7 @@ returns-in_err-rules-clause-counted g c =
 -- ---- no memory for their folders
 
 pub returns-in_err-read-clause-stops : goal.returns-in_err-read-clause-stops
-returns-in_err-read-clause-stops g c = err_if c.from_residual-in_err-read.result no_memory StopsOpened c.from_residual-in_err-read.ensures.1 tt
+returns-in_err-read-clause-stops g c = err_if c.from_residual-in_err-read.result no_memory StopsReading c.from_residual-in_err-read.ensures.1 tt
 
 pub returns-in_err-read-clause-counted : goal.returns-in_err-read-clause-counted
 returns-in_err-read-clause-counted g c =
@@ -59,7 +59,7 @@ pub returns-in_err-swap_rules-clause-stops : goal.returns-in_err-swap_rules-clau
 returns-in_err-swap_rules-clause-stops g c =
     let fault = c.in_err-swap_rules.field-0.0 in
     let old = c.args.graph.now in
-    err_if c.from_residual-in_err-swap_rules.result (stop_of_graph fault) StopsOpened c.from_residual-in_err-swap_rules.ensures.1
+    err_if c.from_residual-in_err-swap_rules.result (stop_of_graph fault) StopsReading c.from_residual-in_err-swap_rules.ensures.1
     (note_opened (AreSwapEdits old.nodes c.args.found.fresh c.args.found.gone c.as_slice-3.result.now) old c.swap_rules.new.graph c.args.site.now c.swap_rules.new.site c.swap_rules.result fault c.in_err-swap_rules.was c.swap_rules.ensures.swaps)
 
 pub returns-in_err-swap_rules-clause-counted : goal.returns-in_err-swap_rules-clause-counted

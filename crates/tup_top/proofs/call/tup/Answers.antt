@@ -1,4 +1,4 @@
-use Rattle.std.proofs.Common.{map, inl, refl, sym, subst}
+use Rattle.std.proofs.Common.{IsTrue, map, inl, refl, sym, subst}
 use Rattle.std.specs.Prelude.{slice_set}
 use Rattle.std.specs.Result.{result_err}
 use Rattle.tup_site.specs.Crash.{GoesOn}
@@ -8,16 +8,17 @@ use Rattle.tup_compare.specs.Compared.{HasCompared}
 use Rattle.tup_compare.specs.Opened.{JustOpens}
 use Rattle.tup_promise.specs.Blamed.{IsToBlame}
 use Rattle.tup_promise.specs.Finished.{AreFilesSettled, ExactlyTheFiles}
+use Rattle.tup_promise.specs.Kept.{IsKeptBySome}
 use Rattle.tup_promise.specs.Needed.{OnlyWhatIsNeeded}
 use Rattle.tup_ends.proofs.Staying.{sources_kept}
 use Rattle.tup_top.specs.Crew.{CrewRuns, CrewCompares}
 use Rattle.tup_top.specs.Order.{Wanted, goes_on, order}
-use Rattle.tup_top.specs.Promise.{OnceDone, ForUpdate, ForVerify, Lasts, Logs, NothingDone, QuietStep, HasPlainCause, Spares, counts}
+use Rattle.tup_top.specs.Promise.{OnceDone, FindsOut, ForTodo, ForUpdate, ForVerify, Lasts, Logs, NothingDone, QuietStep, HasPlainCause, Spares, counts}
 use Rattle.tup_top.proofs.Begun.{initializes_so}
 use Rattle.tup_top.proofs.Crewed.{crew_cause, crew_compared, crew_runs, crew_compares, no_crew_ran, others_stay}
-use Rattle.tup_top.proofs.Idle.{idle, memory_causes, memory_for_init, memory_for_update, memory_for_verify, memory_logs, memory_opens, memory_prints}
+use Rattle.tup_top.proofs.Idle.{idle, memory_causes, memory_found_out, memory_for_init, memory_for_update, memory_for_verify, memory_logs, memory_opens, memory_prints}
 use Rattle.tup_top.proofs.Success.{compares_so}
-use Rattle.tup_top.proofs.Untouched.{untouched_needed, untouched_crashes, untouched_states}
+use Rattle.tup_top.proofs.Untouched.{untouched_crashes, untouched_flags, untouched_needed, untouched_states}
 use Rattle.tup_top.proofs.call.tup.Goals as goal
 
 pub returns-in-Ok-Upd-clause-plain_cause : goal.returns-in-Ok-Upd-clause-plain_cause
@@ -59,6 +60,44 @@ returns-in-Ok-Upd-clause-kept g c = λ here _. c.update-status.ensures.kept here
 pub returns-in-Ok-Upd-clause-sources_stay : goal.returns-in-Ok-Upd-clause-sources_stay
 returns-in-Ok-Upd-clause-sources_stay g c = λ tells some _. c.update-status.ensures.sources_stay tells some
 
+-- what an update would do
+
+pub returns-in-Ok-Todo-clause-nothing_done : goal.returns-in-Ok-Todo-clause-nothing_done
+returns-in-Ok-Todo-clause-nothing_done g c = λ tells.
+    let wanted = rw c.in-Ok-Todo.is at c.order_of.ensures in
+    let is = rw c.in-Ok-Todo.field-0-is at wanted in
+    subst (λ (w : Wanted). NothingDone w (g.S.Site.world c.args.site) (g.S.Site.world c.todo-status.new.site)) (sym is) (c.todo-status.ensures.tree tells)
+
+pub returns-in-Ok-Todo-clause-plain_cause : goal.returns-in-Ok-Todo-clause-plain_cause
+returns-in-Ok-Todo-clause-plain_cause g c =
+    let wanted = rw c.in-Ok-Todo.is at c.order_of.ensures in
+    let is = rw c.in-Ok-Todo.field-0-is at wanted in
+    let before = counts g.S.Site.faults g.R.Runner.faults g.K.Sink.faults c.args.site c.args.crew.items c.args.out.now in
+    let now = counts g.S.Site.faults g.R.Runner.faults g.K.Sink.faults c.todo-status.new.site c.args.crew.items c.todo-status.new.out in
+    subst (λ (w : Wanted). HasPlainCause w before now c.todo-status.result) (sym is) (c.todo-status.ensures.counted_cause (map g.R.Runner.faults c.args.crew.items))
+
+pub returns-in-Ok-Todo-clause-found_out : goal.returns-in-Ok-Todo-clause-found_out
+returns-in-Ok-Todo-clause-found_out g c = λ tells.
+    let wanted = rw c.in-Ok-Todo.is at c.order_of.ensures in
+    let is = rw c.in-Ok-Todo.field-0-is at wanted in
+    let kept = IsKeptBySome g.S.Site c.args.site in
+    subst (λ (w : Wanted). ForTodo w c.todo-status.result (FindsOut kept (g.S.Site.world c.args.site) (g.S.Site.world c.todo-status.new.site))) (sym is) (c.todo-status.ensures.found_out tells)
+
+pub returns-in-Ok-Todo-clause-known : goal.returns-in-Ok-Todo-clause-known
+returns-in-Ok-Todo-clause-known g c = λ tells _. c.todo-status.ensures.known tells
+
+pub returns-in-Ok-Todo-clause-sources_and_crashes : goal.returns-in-Ok-Todo-clause-sources_and_crashes
+returns-in-Ok-Todo-clause-sources_and_crashes g c = λ here _. c.todo-status.ensures.sources_and_crashes here.tells g.R.Runner.next here.kept
+
+pub returns-in-Ok-Todo-clause-states : goal.returns-in-Ok-Todo-clause-states
+returns-in-Ok-Todo-clause-states g c = λ here _. c.todo-status.ensures.states here.tells g.R.Runner.next here.kept
+
+pub returns-in-Ok-Todo-clause-kept : goal.returns-in-Ok-Todo-clause-kept
+returns-in-Ok-Todo-clause-kept g c = λ here _. c.todo-status.ensures.kept here.tells g.R.Runner.next here.kept
+
+pub returns-in-Ok-Todo-clause-sources_stay : goal.returns-in-Ok-Todo-clause-sources_stay
+returns-in-Ok-Todo-clause-sources_stay g c = λ tells some _. c.todo-status.ensures.sources_stay tells some
+
 -- a comparison
 
 pub returns-in-Ok-Verify-clause-others : goal.returns-in-Ok-Verify-clause-others
@@ -96,11 +135,15 @@ returns-in-Ok-Verify-clause-compares g c = λ tells means _ can fine.
 
 pub returns-clause-printed : goal.returns-clause-printed
 returns-clause-printed g c = λ _.
-    memory_prints g.S.Site.tells g.R.Runner.tells (order c.args.words.now) g.R.Runner.next (g.S.Site.world c.args.site) c.new-in-Err-Memory.result (g.K.Sink.faults c.args.out.now) (g.K.Sink.held c.args.out.now)
+    memory_prints g.S.Site.tells g.R.Runner.tells (IsTrue g.S.Site.tells × IsKeptBySome g.S.Site c.args.site) (order c.args.words.now) g.R.Runner.next (g.S.Site.world c.args.site) c.new-in-Err-Memory.result (g.K.Sink.faults c.args.out.now) (g.K.Sink.held c.args.out.now)
     c.new-in-Err-Memory.ensures
 
 pub returns-clause-logged : goal.returns-clause-logged
 returns-clause-logged g c = memory_logs (order c.args.words.now) (goes_on (order c.args.words.now)) c.new-in-Err-Memory.result c.new-in-Err-Memory.ensures
+
+pub returns-clause-found_out : goal.returns-clause-found_out
+returns-clause-found_out g c = λ _.
+    memory_found_out (order c.args.words.now) (IsKeptBySome g.S.Site c.args.site) (g.S.Site.world c.args.site) (λ kept. untouched_flags g.S.Site c.args.site kept.0 kept.1 c.flags_are_of_rules.ensures)
 
 pub returns-clause-spares : goal.returns-clause-spares
 returns-clause-spares g c = λ _.

@@ -10,10 +10,10 @@ use Rattle.tup_promise.specs.Cause.{HasCountedCause}
 use Rattle.tup_promise.specs.Stopped.{stop_of_graph}
 use Rattle.tup_promise.specs.Unopened.{Unopened}
 use Rattle.tup_promise.proofs.Handed.{err_if, err_so}
-use Rattle.tup_phases.specs.Prepared.{StopsBefore}
+use Rattle.tup_phases.specs.Prepared.{StopsSurvey}
 use Rattle.tup_phases.proofs.Opening.{readable, refused}
 use Rattle.tup_phases.proofs.Stopping.{graph_before, graph_counted}
-use Rattle.tup_phases.proofs.preparing.opened.Goals as goal
+use Rattle.tup_phases.proofs.surveying.opened.Goals as goal
 
 pub returns-in_err-open-clause-unopened : goal.returns-in_err-open-clause-unopened
 returns-in_err-open-clause-unopened g c = λ tells log empty.
@@ -26,7 +26,7 @@ returns-in_err-open-clause-unopened g c = λ tells log empty.
 pub returns-in_err-open-clause-stops : goal.returns-in_err-open-clause-stops
 returns-in_err-open-clause-stops g c =
     let fault = c.in_err-open.field-0.0 in
-    err_if c.from_residual.result (stop_of_graph fault) StopsBefore c.from_residual.ensures.1 (graph_before fault)
+    err_if c.from_residual.result (stop_of_graph fault) StopsSurvey c.from_residual.ensures.1 (graph_before fault)
 
 pub returns-in_err-open-clause-counted : goal.returns-in_err-open-clause-counted
 returns-in_err-open-clause-counted g c =

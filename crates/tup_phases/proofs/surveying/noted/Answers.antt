@@ -16,17 +16,17 @@ use Rattle.tup_scan_diff.specs.Edits.{AreScanEdits}
 use Rattle.tup_promise.specs.Cause.{HasCountedCause}
 use Rattle.tup_promise.specs.Stopped.{stop_of_graph, stop_of_scan}
 use Rattle.tup_promise.proofs.Handed.{err_if, err_so}
-use Rattle.tup_phases.specs.Prepared.{StopsOpened}
+use Rattle.tup_phases.specs.Prepared.{StopsReading}
 use Rattle.tup_phases.proofs.Seeing.{seen_again}
 use Rattle.tup_phases.proofs.Stopping.{counted_before, graph_counted, note_opened, scan_counted, scan_opened}
-use Rattle.tup_phases.proofs.preparing.noted.Goals as goal
+use Rattle.tup_phases.proofs.surveying.noted.Goals as goal
 
 -- ---- the scan failed
 
 pub returns-in_err-seen-clause-stops : goal.returns-in_err-seen-clause-stops
 returns-in_err-seen-clause-stops g c =
     let fault = c.in_err-seen.field-0.0 in
-    err_if c.from_residual.result (stop_of_scan fault) StopsOpened c.from_residual.ensures.1 (scan_opened fault)
+    err_if c.from_residual.result (stop_of_scan fault) StopsReading c.from_residual.ensures.1 (scan_opened fault)
 
 pub returns-in_err-seen-clause-counted : goal.returns-in_err-seen-clause-counted
 returns-in_err-seen-clause-counted g c =
@@ -46,7 +46,7 @@ returns-in_err-note_scan-clause-stops g c =
     let fault = c.in_err-note_scan.field-0.0 in
     let seen = c.in_ok-seen.seen in
     let old = c.args.graph.now in
-    err_if c.from_residual-in_err-note_scan.result (stop_of_graph fault) StopsOpened c.from_residual-in_err-note_scan.ensures.1
+    err_if c.from_residual-in_err-note_scan.result (stop_of_graph fault) StopsReading c.from_residual-in_err-note_scan.ensures.1
     (note_opened (AreScanEdits old.nodes seen.files seen.config) old c.note_scan.new.graph c.scan.new.site c.note_scan.new.site c.note_scan.result fault c.in_err-note_scan.was c.note_scan.ensures.notes)
 
 pub returns-in_err-note_scan-clause-counted : goal.returns-in_err-note_scan-clause-counted

@@ -1,0 +1,134 @@
+//! What there is to be done.
+ghost use Rattle.std.specs.Prelude.{◌≡◌, ℕ, IsTrue, IfOk, IfErr, OnOk};
+ghost use Rattle.std.specs.FinMap as finite;
+ghost use Rattle.std.specs.Result.{result_err};
+ghost use Rattle.tup_site.specs.World.{TreeStays, World};
+ghost use Rattle.tup_runner.specs.Next.{Next};
+ghost use Rattle.tup_graph.specs.Answers.{tup_config};
+ghost use Rattle.tup_graph.specs.Kept.{IsGraphIn};
+ghost use Rattle.tup_stored_graph.specs.Held.{is_fresh, StandsFor};
+ghost use Rattle.tup_law_site.specs.Over.{IsKeptNow};
+ghost use Rattle.tup_law_phases.specs.Language.{tupfiles};
+ghost use Rattle.tup_promise.specs.Cause.{HasCountedCause};
+ghost use Rattle.tup_promise.specs.Crashes.{OwnsNoMore};
+ghost use Rattle.tup_promise.specs.Unopened.{IsEmptyLog, Unopened};
+ghost use Rattle.tup_promise.specs.declared.log.Log.{Log as LogValue};
+ghost use Rattle.tup_phases.specs.Kept.{BlamesSources, HoldsWithin, IsBrought, IsKeptSince, IsScannedFrom, KeepsOn, LeavesFiles, OwnsOn};
+ghost use Rattle.tup_phases.specs.Prepared.{HasSeen, RunsNone};
+ghost use Rattle.tup_phases.specs.Prepared.{StopsReading, StopsSurvey};
+
+use crate::bringing::brought;
+use std::alloc::Global;
+use tup_commit::{note_scan, scans_see};
+use tup_partial::flags_are_of_rules;
+use tup_path::Bytes;
+use tup_promise::{Log, Stop};
+use tup_scan::{Still, scan};
+use tup_site::Site;
+use tup_stored_graph::{Graph, reads_keep_graphs};
+
+/// The graph of a site's store once it knows what is to be done: its flagged rules are those that have to be run, and what
+/// it owns without a rule is what no rule makes any more. The log is told which Tupfiles were read. No file changes.
+///
+/// A store that is empty or can't be read is told so, and then nothing else is done.
+pub fn surveyed<S: Site>(alloc: Global, site: &mut S, log: &mut Log) -> Result<Graph, Stop>
+    requires { IsEmptyLog log.old }
+    ensures fresh { IfOk result (λ graph. IsTrue (is_fresh graph)) }
+    ensures stands { IsTrue S.tells
+        → IfOk result (λ graph. StandsFor S.world S.moment S.left_since graph site.new) }
+    ensures seen { IsTrue S.tells
+        → IfOk result (λ graph. HasSeen graph.nodes (S.world site.new).tree) }
+    ensures files { IsTrue S.tells → LeavesFiles S.Site.own site.old site.new }
+    // A site that was kept stays so whenever since then a crash comes, whatever the answer.
+    ensures kept { IsTrue S.tells → (next : Next)
+        → IsKeptNow S.Site.own next tupfiles (S.known site.old) site.old
+        → let first = S.world site.old in let since = S.moment site.old in
+        IsKeptSince S.Site.own next first since site.new }
+    // And then the graph has what its Tupfiles say, where there is a graph.
+    ensures brought { IsTrue S.tells → (next : Next)
+        → IsKeptNow S.Site.own next tupfiles (S.known site.old) site.old
+        → IfOk result (λ graph. IsBrought (S.world site.old) graph.nodes) }
+    // Whatever the answer, what stands in the store stays within what stood there.
+    ensures within { IsTrue S.tells → (next : Next)
+        → IsKeptNow S.Site.own next tupfiles (S.known site.old) site.old
+        → HoldsWithin (S.world site.old) (S.world site.new) }
+    // Whenever since then a crash comes, no more is owned than was, but the outputs of the rules that are asked for.
+    ensures owns { IsTrue S.tells → (next : Next)
+        → IsKeptNow S.Site.own next tupfiles (S.known site.old) site.old
+        → OwnsNoMore S.Site.own site.old (S.moment site.old) site.new }
+    // What it blames the sources for is so.
+    ensures blame { IsTrue S.tells → (next : Next)
+        → IsKeptNow S.Site.own next tupfiles (S.known site.old) site.old
+        → IfErr result (BlamesSources (S.world site.old)) }
+    ensures unopened { IsTrue S.tells
+        → Unopened (S.world site.old) (S.world site.new) log.new (result_err result) }
+    ensures none { RunsNone log.old log.new }
+    ensures removed { log.new.removed ≡ log.old.removed }
+    ensures logged { IfErr result (λ _. IsEmptyLog log.new) }
+    ensures stops { IfErr result StopsSurvey }
+    ensures counted { HasCountedCause (S.faults site.old) (S.faults site.new) (result_err result) }
+{
+    let mut graph = opened(alloc, site)?;
+    let config = noted(alloc, site, &mut graph)?;
+    brought(alloc, site, &mut graph, &config, log)?;
+    Ok(graph)
+}
+
+/// Opens the graph of the store of a site.
+fn opened<S: Site>(alloc: Global, site: &mut S) -> Result<Graph, Stop>
+    ensures fresh { IfOk result (λ graph. IsTrue (is_fresh graph)) }
+    ensures stands { IsTrue S.tells
+        → IfOk result (λ graph. StandsFor S.world S.moment S.left_since graph site.new) }
+    // It is that of the store.
+    ensures stored { IsTrue S.tells
+        → IfOk result (λ graph. IsGraphIn (S.world site.old).store graph.nodes) }
+    ensures files { IsTrue S.tells → LeavesFiles S.Site.own site.old site.new }
+    ensures kept { IsTrue S.tells → KeepsOn S.Site.own site.old site.new }
+    ensures within { IsTrue S.tells → HoldsWithin (S.world site.old) (S.world site.new) }
+    ensures owns { IsTrue S.tells → OwnsOn S.Site.own site.old site.new }
+    ensures blame { (first : World) → IfErr result (BlamesSources first) }
+    // Nothing else was done.
+    ensures unopened { IsTrue S.tells → (log : LogValue) → IsEmptyLog log
+        → Unopened (S.world site.old) (S.world site.new) log (result_err result) }
+    ensures stops { IfErr result StopsSurvey }
+    ensures counted { HasCountedCause (S.faults site.old) (S.faults site.new) (result_err result) }
+{
+    flags_are_of_rules();
+    Ok(Graph::open(alloc, site)?)
+}
+
+/// Notes in the graph what changed among the files, and gives the content of tup.config.
+fn noted<S: Site>(alloc: Global, site: &mut S, graph: &mut Graph) -> Result<Option<Bytes>, Stop>
+    requires fresh { IsTrue (is_fresh graph.old) }
+    requires stands { IsTrue S.tells
+        → StandsFor S.world S.moment S.left_since graph.old site.old }
+    ensures fresh { OnOk result (IsTrue (is_fresh graph.new)) }
+    ensures stands { IsTrue S.tells
+        → OnOk result (StandsFor S.world S.moment S.left_since graph.new site.new) }
+    ensures seen { IsTrue S.tells
+        → OnOk result (HasSeen graph.new.nodes (S.world site.new).tree) }
+    ensures scanned { OnOk result (IsScannedFrom graph.old.nodes graph.new.nodes) }
+    ensures config { IsTrue S.tells
+        → IfOk result (λ config. config ≡ finite.get (S.world site.old).tree tup_config) }
+    ensures files { IsTrue S.tells → LeavesFiles S.Site.own site.old site.new }
+    ensures kept { IsTrue S.tells → KeepsOn S.Site.own site.old site.new }
+    // Where the graph is that of a kept world, what stands in the store then stays within what that world had.
+    ensures within { IsTrue S.tells → (next : Next) (first : World) (since : ℕ)
+        → IsGraphIn first.store graph.old.nodes → TreeStays first (S.world site.old)
+        → IsKeptSince S.Site.own next first since site.old
+        → HoldsWithin first (S.world site.new) }
+    ensures owns { IsTrue S.tells → OwnsOn S.Site.own site.old site.new }
+    ensures blame { IsTrue S.tells → (first : World) → TreeStays first (S.world site.old)
+        → IfErr result (BlamesSources first) }
+    ensures stops { IfErr result StopsReading }
+    ensures counted { HasCountedCause (S.faults site.old) (S.faults site.new) (result_err result) }
+{
+    reads_keep_graphs(&*site);
+    scans_see();
+    flags_are_of_rules();
+    // A law: while the graph is fresh, the store stands for its nodes.
+    let _ = graph.nodes();
+    let seen = scan(alloc, site, &Still)?;
+    note_scan(alloc, graph, site, &seen)?;
+    Ok(seen.config)
+}
