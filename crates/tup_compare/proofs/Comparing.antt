@@ -32,7 +32,8 @@ use Rattle.tup_clean.proofs.Whole.{good_is}
 use Rattle.tup_clean.proofs.Turns.{all_are_good, is_the_good, succeeds_all}
 use Rattle.tup_compare.proofs.Reading.{from_T, source_is}
 use Rattle.tup_compare.specs.Compared.{AreCompared, HasCompared, HasBuilt, BuildsWell, BuildsAlike, IsGoodBuild, NoneIsBad, RunsBuildOf, RunsIt, RunsToCompare, compared_at, difference, first_of, same_file}
-use Rattle.tup_compare.specs.Found.{HasFileOf, IsUnread}
+use Rattle.tup_promise.specs.Blamed.{HasFileOf}
+use Rattle.tup_compare.specs.Found.{IsUnread}
 use Rattle.tup_compare.specs.Opened.{NoDamage}
 use Rattle.tup_compare.proofs.Held.{shown_before}
 use Rattle.tup_compare.specs.Sources.{AsksFor, build, sources}

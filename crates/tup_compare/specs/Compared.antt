@@ -22,7 +22,7 @@ use Rattle.tup_compare.specs.declared.compare.Compared.{Compared}
 use Rattle.tup_compare.specs.declared.compare.Compared.TheVariants.{Same, Differs}
 use Rattle.tup_promise.specs.declared.stop.Stop.{Stop}
 use Rattle.tup_promise.specs.declared.stop.Stop.TheVariants.{NoStore, BadStore, Sources, UserFile, Bad, Run, Full, Outside}
-use Rattle.tup_compare.specs.Found.{HasFileOf}
+use Rattle.tup_promise.specs.Blamed.{HasFileOf}
 use Rattle.tup_compare.specs.Sources.{AsksFor, IsRefused, build, sources}
 
 -- two trees differ at a path, and at none before it

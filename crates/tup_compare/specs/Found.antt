@@ -9,6 +9,7 @@ use Rattle.tup_site.specs.Cause.{IsTooLarge}
 use Rattle.tup_site.specs.declared.fault.SiteFailed.{SiteFailed}
 use Rattle.tup_site.specs.declared.fault.SiteFailed.TheVariants.{Fault, TooLarge, Memory}
 use Rattle.tup_rule.specs.Rule.{among}
+use Rattle.tup_promise.specs.Blamed.{HasFileOf}
 use Rattle.tup_promise.specs.Cause.{PassesLimit}
 use Rattle.tup_promise.specs.declared.fault.SourcesFault.TheVariants.{TooManyFiles}
 use Rattle.tup_compare.specs.Holding.{Holding, Lists, Shows, holding}
@@ -31,10 +32,6 @@ IsTooMany count unread = (unread ≡ NoRules (TooManyFiles count)) × (65536 < c
 abbrev pub IsRefusal : Holding → Unread → Type 0
 IsRefusal held (NoRules fault) = Refuses held fault
 IsRefusal held (Outside failed) = failed ≡ Memory
-
--- some file of the tree has so many bytes
-abbrev pub HasFileOf : ℕ → Tree → Type 0
-HasFileOf n tree = (path : Names) × IsTooLarge tree path n
 
 -- some source has so many bytes
 abbrev pub HasSourceOf : ℕ → World → Type 0

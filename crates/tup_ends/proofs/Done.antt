@@ -38,12 +38,12 @@ use Rattle.tup_law_board.specs.Kept.{HoldsTogether}
 use Rattle.tup_law_board.proofs.Sites.{kept_now, seen_now, site_kept}
 use Rattle.tup_law_phases.specs.Language.{tupfiles}
 use Rattle.tup_law_phases.proofs.Seen.{is_beside}
-use Rattle.tup_promise.specs.Finished.{AreFilesSettled, ExactlyTheFiles, IsFinished}
+use Rattle.tup_promise.specs.Finished.{IsSettled, ExactlyTheFiles, IsFinished}
 use Rattle.tup_promise.specs.Needed.{FlagsWhatWasDue, IsDue, NamesAllDue}
 use Rattle.tup_promise.specs.Prepared.{IsPrepared}
 use Rattle.tup_ends.proofs.Completed.{finished}
-use Rattle.tup_ends.proofs.Due.{one_asked}
-use Rattle.tup_ends.proofs.Settled.{files_settled}
+use Rattle.tup_promise.proofs.Asked.{one_asked}
+use Rattle.tup_ends.proofs.Settled.{settled}
 
 -- two worlds that have the same files beside what their graphs own have the same sources
 pub same_sources : (w v : World) (g h : GraphState) → ((path : Names) → file_beside w g path ≡ file_beside v h path) → sources_of g w.tree ≡ sources_of h v.tree
@@ -88,8 +88,8 @@ module _ {S : Type 0} (site : Site S) (next : Next) (first : World) (since : ℕ
 
   -- and a crash leaves them
   pub settled_at_once : IsKnown (site.known at) → KnowsTree (site.known at) now.tree → ((w : World) → LeftNow site at w → Joins (site.known at) w.tree)
-      → ((number : ℕ) → is_flagged graph.nodes number ≡ false) → AreFilesSettled site at
-  settled_at_once apart knows joins none = files_settled site next graph at over_now earlier present knows joins (sources_of graph.nodes now.tree) (is_finished apart knows none)
+      → ((number : ℕ) → is_flagged graph.nodes number ≡ false) → IsSettled site at
+  settled_at_once apart knows joins none = settled site next graph at over_now earlier present knows joins (sources_of graph.nodes now.tree) (is_finished apart knows none)
 
   -- its flagged rules were due
   pub flags_due : FlagsWhatWasDue first now
@@ -196,5 +196,5 @@ module _ {S R : Type 0} (site : Site S) (runner : Runner R) (b : BoardState S) (
   pub at_end : ExactlyTheFiles runner.next first end None
   at_end = ended_so runner.next first end prepared.rules.0 h prepared.rules.1 in_end sources_end is_done
 
-  pub settled_at_end : ((w : World) → LeftNow site b.site w → Joins (site.known b.site) w.tree) → AreFilesSettled site b.site
-  settled_at_end joins = files_settled site runner.next b.graph b.site over_end earlier_now present_now knows joins (sources_of h end.tree) is_done
+  pub settled_at_end : ((w : World) → LeftNow site b.site w → Joins (site.known b.site) w.tree) → IsSettled site b.site
+  settled_at_end joins = settled site runner.next b.graph b.site over_end earlier_now present_now knows joins (sources_of h end.tree) is_done

@@ -1,5 +1,5 @@
 -- What a board ran that was made once its graph was up to date.
-use Rattle.std.proofs.Common.{◌≡◌, inl, inr, ⊎_elim, ℕ, ◌<◌, Bool, true, false, cond, is_some, List, [], ◌∷◌, ◌++◌, map, Option, None, Some, Ok, IsTrue, All, refl, sym, ap, subst, ◌∙◌, arith}
+use Rattle.std.proofs.Common.{◌≡◌, inl, inr, ⊎_elim, ℕ, ◌<◌, Bool, true, false, cond, is_some, List, [], ◌∷◌, ◌++◌, map, Option, None, Some, IsTrue, All, refl, sym, ap, subst, ◌∙◌, arith}
 use Rattle.std.specs.FinMap as finite
 use Rattle.std.specs.Cmp.{nat_cmp_total}
 use Rattle.std.specs.Ordering.{is_eq}
@@ -17,12 +17,9 @@ use Rattle.tup_rule.specs.declared.rule.RuleName.{RuleName}
 use Rattle.tup_runner.specs.Next.{Next}
 use Rattle.tup_runner.specs.declared.runner.Runner.{Ghosts as Runner}
 use Rattle.tup_access.specs.declared.verdict.Verdict.{Verdict}
-use Rattle.tup_project.specs.Project.{ComeTo}
-use Rattle.tup_project.proofs.Alike.{projects_alike}
 use Rattle.tup_record.specs.declared.run.RunRecord.{RunRecord}
 use Rattle.tup_graph.specs.Graph.{GraphState, is_flagged}
 use Rattle.tup_graph.specs.Transactions.{finished}
-use Rattle.tup_ledger.specs.Sources.{sources_of}
 use Rattle.tup_law_graph.specs.Linking.{HaveOwnNames}
 use Rattle.tup_law_graph.proofs.Named.{linked_names}
 use Rattle.tup_core.specs.Laws.{BadIsLast, ClaimsInOrder, IsClaimed}
@@ -39,8 +36,9 @@ use Rattle.tup_board.specs.Calls.{commands}
 use Rattle.tup_board.specs.Come.{HasCome}
 use Rattle.tup_board.specs.Images.{IsImageOver}
 use Rattle.tup_board.specs.Sound.{IsSound}
-use Rattle.tup_law_site.proofs.Stores.{in_bytes, one_in_bytes}
+use Rattle.tup_law_site.proofs.Stores.{in_bytes}
 use Rattle.tup_promise.specs.Kept.{AsksFor}
+use Rattle.tup_promise.proofs.Asked.{one_asked}
 use Rattle.tup_promise.specs.Needed.{AreInOrder, FlagsWhatWasDue, HasName, IsDue, IsDueName, NamesAllDue, OnlyWhatIsNeeded, RunsAll, RunsWhatIsNeeded}
 use Rattle.tup_promise.specs.Prepared.{IsPrepared}
 use Rattle.tup_promise.specs.Ran.{command_of}
@@ -48,11 +46,6 @@ use Rattle.tup_promise.specs.declared.stop.Stop.{Stop}
 use Rattle.tup_ends.proofs.Names.{AreNames, are_names, claimed_there, contains_at, last_name, name_at, number_of, one_place}
 
 -- ---- the rules that the sources of a world ask for
-
--- they are one list
-pub one_asked : (w : World) (rules others : List Rule) → AsksFor w rules → AsksFor w others → rules ≡ others
-one_asked w rules others (g, mine, come) (h, theirs, came) =
-    projects_alike (sources_of g w.tree) (Ok rules) (Ok others) come (subst (λ (k : GraphState). ComeTo (sources_of k w.tree) (Ok others)) (one_in_bytes w.store h g theirs mine) came)
 
 -- no two of them have one name
 asked_names : (w : World) (rules : List Rule) → AsksFor w rules → HaveOwnNames rules

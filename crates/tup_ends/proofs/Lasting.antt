@@ -1,5 +1,5 @@
 -- A site on which a board works stays kept, whatever happens on the board.
-use Rattle.std.proofs.Common.{◌≡◌, ◌⊎◌, inl, inr, ℕ, ◌≤◌, Bool, true, false, is_some, Option, None, Some, IsTrue, refl, sym, ap, subst, ◌∙◌}
+use Rattle.std.proofs.Common.{◌≡◌, ◌⊎◌, inl, inr, ℕ, ◌≤◌, Bool, true, false, is_some, Option, None, Some, IsTrue, refl, sym, ap, subst, ◌∙◌, arith}
 use Rattle.std.specs.List.{IsDistinct}
 use Rattle.std.specs.Prelude.{is_none, slice_get}
 use Rattle.tup_path.specs.Name.{Names}
@@ -86,6 +86,7 @@ module _ {S R : Type 0} (site : Site S) (runner : Runner R) (b : BoardState S) (
 
   pub crashes_left : SourcesAndCrashes site runner.next old b.site
   crashes_left = record {
+    later = (let began = prepared.over.began in let later = sound.later tells in omega (arith, began, later));
     kept = site_kept site runner b sound tells told tupfiles (site.world old) (site.moment old) prepared.over (record { made = prepared.made; once = once }) earlier present;
     owned = owns_then;
   }

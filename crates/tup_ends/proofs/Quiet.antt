@@ -39,7 +39,8 @@ use Rattle.tup_promise.specs.Needed.{IsDue, NamesAllThatCan}
 use Rattle.tup_promise.specs.Prepared.{IsPrepared}
 use Rattle.tup_promise.specs.Ran.{command_of}
 use Rattle.tup_ends.proofs.Done.{sources_are}
-use Rattle.tup_ends.proofs.Due.{among_ran, one_asked, reached_due}
+use Rattle.tup_promise.proofs.Asked.{one_asked}
+use Rattle.tup_ends.proofs.Due.{among_ran, reached_due}
 
 module _ {S R : Type 0} (site : Site S) (runner : Runner R) (b : BoardState S) (sound : IsSound site runner b) (tells : IsTrue site.tells) (told : IsTrue runner.tells) (first : World) (since : ℕ)
     (prepared : IsPrepared site runner.next first since b.opening.graph b.opening.site)

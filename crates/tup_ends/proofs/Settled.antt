@@ -1,4 +1,4 @@
--- What a crash leaves of a finished project has its files.
+-- A crash leaves a finished project as it is.
 use Rattle.std.proofs.Common.{◌≡◌, inl, inr, ℕ, ◌≤◌, Bool, true, false, is_some, Option, None, Some, refl, sym, ap, ◌∙◌}
 use Rattle.std.specs.FinMap as finite
 use Rattle.std.specs.Option.{option_map}
@@ -22,7 +22,7 @@ use Rattle.tup_law_site.specs.Over.{LeftNow, StandsOver}
 use Rattle.tup_law_site.proofs.Remaining.{has_graph, holds_before, sources_before}
 use Rattle.tup_law_site.proofs.Stores.{one_in_bytes}
 use Rattle.tup_law_phases.specs.Language.{tupfiles}
-use Rattle.tup_promise.specs.Finished.{AreFilesSettled, IsAsWritten, IsFinished}
+use Rattle.tup_promise.specs.Finished.{IsAsWritten, IsFinished, IsSettled}
 
 -- two stamps that are written at once are one
 written_one : (state : OwnedState) (one other : Stamp) → state ≡ Written one → state ≡ Written other → one ≡ other
@@ -75,5 +75,8 @@ module _ {S : Type 0} (site : Site S) (next : Next) (graph : Held) (at : S) (ove
           ∙ sources_before site next tupfiles (site.known at) now (site.moment at) graph at over earlier w left path
           ∙ ap (λ (g : GraphState). file_beside now g path) first_is ∙ beside_plain now h path (ap is_some here)
 
-  pub files_settled : AreFilesSettled site at
-  files_settled w left = finite.same_map by_names-total by_names-antisymmetric w.tree now.tree (same_file w left)
+  pub settled : IsSettled site at
+  settled w left =
+      let files : w.tree ≡ now.tree = finite.same_map by_names-total by_names-antisymmetric w.tree now.tree (same_file w left) in
+      let store : w.store ≡ now.store = over.stands.rests.durable w left in
+      λ i. record { tree = files i; store = store i }

@@ -1,5 +1,5 @@
 -- The sources of a site stay while an update goes on.
-use Rattle.std.proofs.Common.{◌≡◌, ◌⊎◌, inl, inr, ℕ, ◌≤◌, List, IsTrue}
+use Rattle.std.proofs.Common.{◌≡◌, ◌⊎◌, inl, inr, ℕ, ◌≤◌, List, IsTrue, arith}
 use Rattle.tup_path.specs.Name.{Content}
 use Rattle.tup_site.specs.World.{World}
 use Rattle.tup_site.specs.declared.site.Site.{Ghosts as Site}
@@ -26,9 +26,9 @@ left_of_kept next known first Left kept w left =
     let there = kept.later w left in
     (kept.now.graph, kept.now.reads, (there.graph, there.reads, same_sources w first there.graph kept.now.graph (λ path. kept.sources w there.graph left there.reads path)))
 
-pub sources_kept : {S : Type 0} (site : Site S) (next : Next) (known : List Content) (old new : S) → IsKeptSite next tupfiles known (site.world old) (site.left_since new (site.moment old))
-    → SourcesStay site old new
-sources_kept site next known old new kept w left = left_of_kept next known (site.world old) (site.left_since new (site.moment old)) kept w left
+pub sources_kept : {S : Type 0} (site : Site S) (next : Next) (known : List Content) (old new : S) → site.moment old ≤ site.moment new
+    → IsKeptSite next tupfiles known (site.world old) (site.left_since new (site.moment old)) → SourcesStay site old new
+sources_kept site next known old new later kept = record { later = later; each = left_of_kept next known (site.world old) (site.left_since new (site.moment old)) kept }
 
 module _ {S R : Type 0} (site : Site S) (runner : Runner R) (next : Next) (b : BoardState S) (old : S) (tells : IsTrue site.tells) (sound : IsSound site runner b)
     (prepared : IsPrepared site next (site.world old) (site.moment old) b.opening.graph b.opening.site)
@@ -39,9 +39,12 @@ module _ {S R : Type 0} (site : Site S) (runner : Runner R) (next : Next) (b : B
       let stays = image_stays site runner b sound tells next tupfiles (site.known b.opening.site) (site.world old) (site.moment old) prepared.over earlier present v w before g image g stored in
       (prepared.over.kept.now.graph, prepared.over.kept.now.reads, (g, stored, same_sources w (site.world old) g prepared.over.kept.now.graph stays.sources))
 
-  pub board_stays : SourcesStay site old b.site
-  board_stays w left = by (sound.since tells (site.moment old) w prepared.over.began left)
+  since_has : (w : World) → site.left_since b.site (site.moment old) w → HasSourcesOf (site.world old) w
+  since_has w left = by (sound.since tells (site.moment old) w prepared.over.began left)
     where
       by : site.left_since b.opening.site (site.moment old) w ⊎ IsImage site b w → HasSourcesOf (site.world old) w
       by (inl before) = left_of_kept next (site.known b.opening.site) (site.world old) (site.left_since b.opening.site (site.moment old)) prepared.over.kept w before
       by (inr image) = image_has w image
+
+  pub board_stays : SourcesStay site old b.site
+  board_stays = record { later = (let began = prepared.over.began in let later = sound.later tells in omega (arith, began, later)); each = since_has }

@@ -23,7 +23,7 @@ ghost use Rattle.tup_board.specs.Board.{BoardState, plan_of, state};
 ghost use Rattle.tup_board.specs.Sound.{IsSound};
 ghost use Rattle.tup_law_site.specs.Over.{IsKeptNow};
 ghost use Rattle.tup_law_phases.specs.Language.{tupfiles};
-ghost use Rattle.tup_promise.specs.Finished.{AreFilesSettled, ExactlyTheFiles, IsFinished};
+ghost use Rattle.tup_promise.specs.Finished.{IsSettled, ExactlyTheFiles, IsFinished};
 ghost use Rattle.tup_promise.specs.Prepared.{IsPrepared};
 
 use tup_runner::Runner;
@@ -68,12 +68,12 @@ pub fn done_is_finished<S: Site, R: Runner>(site: &S, runner: &R)
     let _ = runner;
 }
 
-/// A law: and a crash leaves these files, where an update has no rule to run once its graph is up to date.
+/// A law: and a crash leaves all as it is, the store too, where an update has no rule to run once its graph is up to date.
 pub fn prepared_is_settled<S: Site>(site: &S)
     ensures { (next : Next) (first : World) (since : ℕ) (graph : Held) → IsTrue S.tells
         → IsPrepared S.Site.own next first since graph site.now
         → ((number : ℕ) → is_flagged graph.nodes number ≡ false)
-        → AreFilesSettled S.Site.own site.now }
+        → IsSettled S.Site.own site.now }
 {
     let _ = site;
 }
@@ -88,7 +88,7 @@ pub fn done_is_settled<S: Site, R: Runner>(site: &S, runner: &R)
         → ((number : ℕ) (rule : Rule) → slice_get (plan_of board).rules number ≡ Some rule
         → IsDistinct same_path rule.outputs)
         → (IsAcyclic (plan_of board).rules → (number : ℕ) → (state board).pending number ≡ false)
-        → AreFilesSettled S.Site.own board.site }
+        → IsSettled S.Site.own board.site }
 {
     let _ = site;
     let _ = runner;

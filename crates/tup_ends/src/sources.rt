@@ -1,5 +1,5 @@
 //! The sources stay, whatever an update answers and whatever its commands mean.
-ghost use Rattle.std.specs.Prelude.{List, IsTrue};
+ghost use Rattle.std.specs.Prelude.{◌≤◌, List, IsTrue};
 ghost use Rattle.tup_path.specs.Name.{Content};
 ghost use Rattle.tup_runner.specs.Next.{Next};
 ghost use Rattle.tup_graph.specs.Kept.{IsKeptSite};
@@ -15,6 +15,7 @@ use tup_site::Site;
 /// A law: a site that is kept, whenever a crash comes, has kept its sources.
 pub fn kept_sites_keep_sources<S: Site>(site: &S)
     ensures { (next : Next) (known : List Content) (old new : S)
+        → S.moment old ≤ S.moment new
         → IsKeptSite next tupfiles known (S.world old) (S.left_since new (S.moment old))
         → SourcesStay S.Site.own old new }
 {

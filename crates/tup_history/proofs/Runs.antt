@@ -14,7 +14,8 @@ use Rattle.tup_graph.specs.Kept.{IsGraphIn}
 use Rattle.tup_ledger.specs.Begin.{Begins, BeginStep}
 use Rattle.tup_law_phases.proofs.Beginning.{begun_kept}
 use Rattle.tup_compare.specs.Holding.{HasSameEntries, HoldsOn}
-use Rattle.tup_compare.proofs.Held.{still_none}
+use Rattle.tup_compare.proofs.Held.{opened_holds, still_none}
+use Rattle.tup_promise.specs.Unopened.{IsReadable}
 use Rattle.tup_top.specs.Order.{Wanted}
 use Rattle.tup_top.specs.Promise.{ForInit, Lasts, NothingDone}
 use Rattle.tup_top.specs.Status.{IfBegan}
@@ -44,7 +45,16 @@ as_opened v w on = by on.store
 some_bytes : (bytes : List ℕ) (g : GraphState) → IsGraphIn bytes g → bytes ≡ [] → ⊥
 some_bytes bytes g is none = let no : [] ≡ header ++ (blocks is.commits ++ is.reads.0) = sym none ∙ is.reads.1.whole in cc
 
+-- without a store nothing is read
+nothing_reads : (bytes : List ℕ) → bytes ≡ [] → IsReadable bytes → ⊥
+nothing_reads bytes none (graph, left, ((commits, store, is), closes)) = let no : [] ≡ header ++ (blocks commits ++ store.0) = sym none ∙ store.1.whole in cc
+
 module _ (old new : MemSite) (next : Next) where
+  -- an update without a store
+  unbegun_keeps : ((IsReadable (store_in old) → ⊥) → GoesOn moment_of left_since old new OpenStep) → IsUnbegun old → IsUnbegun new
+  unbegun_keeps closed kept =
+      unbegun_on old new OpenStep (closed (nothing_reads (store_in old) kept.no_store)) (λ w step. none_held (world_in old) w kept.no_store (opened_holds (world_in old) w step)) kept
+
   -- a project begins
   made : IsUnbegun old → GoesOn moment_of left_since old new (BeginStep (world_in old)) → PinsStore (left_since new (moment_of new)) (world_in new) → store_in new ≡ header ++ 0 ∷ [] → IsKept next new
   made kept on pins first = begun_kept next (known_in new) (world_in new) (left_since new (moment_of new)) first durable
@@ -113,11 +123,11 @@ module _ (old new : MemSite) (next : Next) where
 -- every run, by what its words ask for
 pub run_keeps : (tells : Bool) (next : Next) (wanted : Wanted) (end : End) (status : Status) (ran : List RuleName) (old new : MemSite) → end.status ≡ Some status → Leaves wanted old new status → NothingDone wanted (world_in old) (world_in new) → ForInit wanted status (Begins (world_in old) (world_in new)) →
     (IsTrue tells → IsKept next old → Updates next wanted old new status ran) → (stage : Stage) → Stands next stage old → BehindRun tells next wanted (world_in old) (world_in new) end stage (λ later. Stands next later new)
-run_keeps tells next (Ok (Upd program keep_going quiet verbose)) end status ran old new is leaves nothing begins updates Unbegun kept = tt
+run_keeps tells next (Ok (Upd program keep_going quiet verbose)) end status ran old new is leaves nothing begins updates Unbegun kept = unbegun_keeps old new next (leaves.closed tt) kept
 run_keeps tells next (Ok (Upd program keep_going quiet verbose)) end status ran old new is leaves nothing begins updates Begun kept = λ means.
     let by = updates means kept in
     (subst (Builds next (world_in old) (world_in new)) (sym is) by.files, by.kept tt)
-run_keeps tells next (Ok Todo) end status ran old new is leaves nothing begins updates Unbegun kept = tt
+run_keeps tells next (Ok Todo) end status ran old new is leaves nothing begins updates Unbegun kept = unbegun_keeps old new next (leaves.closed tt) kept
 run_keeps tells next (Ok Todo) end status ran old new is leaves nothing begins updates Begun kept = λ means. (updates means kept).kept tt
 run_keeps tells next (Ok Init) end status ran old new is leaves nothing begins updates stage kept = init_keeps old new next end status is leaves nothing begins stage kept
 run_keeps tells next (Ok Verify) end status ran old new is leaves nothing begins updates stage kept = compare_keeps old new next status leaves nothing stage kept

@@ -2,19 +2,25 @@
 use Rattle.std.specs.Prelude.{◌≡◌, ⊤, Bool, ℕ, List, [], Option, None, Some, IsTrue}
 use Rattle.tup_site.specs.Crash.{GoesOn}
 use Rattle.tup_site.specs.World.{World}
-use Rattle.tup_site.specs.Memory.{world_in, known_in, first_of, changes_of, moment_of, left_since, calls_of, faults_of, fails_of, left_of}
+use Rattle.tup_site.specs.Memory.{world_in, store_in, known_in, first_of, changes_of, moment_of, left_since, calls_of, faults_of, fails_of, left_of}
+use Rattle.tup_site.specs.contracts.memory_calls.MemSiteSite.TheImpl as memory
 use Rattle.tup_site.specs.declared.memory.MemSite.{MemSite}
 use Rattle.tup_rule.specs.declared.rule.RuleName.{RuleName}
 use Rattle.tup_runner.specs.Next.{Next}
+use Rattle.tup_table.specs.Images.{OpenStep}
 use Rattle.tup_ledger.specs.Begin.{Begins}
+use Rattle.tup_ledger.specs.Sources.{IsDurable}
 use Rattle.tup_graph.specs.Kept.{IsKeptSite}
 use Rattle.tup_law_phases.specs.Language.{tupfiles}
 use Rattle.tup_promise.specs.Blamed.{IsToBlame}
 use Rattle.tup_promise.specs.Finished.{ExactlyTheFiles}
 use Rattle.tup_promise.specs.Needed.{OnlyWhatIsNeeded}
+use Rattle.tup_promise.specs.States.{States}
+use Rattle.tup_promise.specs.Unopened.{IsReadable}
+use Rattle.tup_promise.specs.Users.{HasUsersFile, IsHeldUp}
 use Rattle.tup_compare.specs.Compared.{HasCompared}
 use Rattle.tup_top.specs.Order.{Wanted, BringsUp, IsUpdate, goes_on}
-use Rattle.tup_top.specs.Promise.{FindsOut, ForUpdate, ForInit, ForTodo, ForVerify, Lasts, NothingDone, OpensStore, QuietStep, Counts, HasPlainCause, Initializes, Compares}
+use Rattle.tup_top.specs.Promise.{FindsOut, ForUpdate, ForInit, ForTodo, ForVerify, Lasts, NothingDone, OnceDone, OpensStore, QuietStep, Counts, HasPlainCause, Initializes, Compares}
 use Rattle.tup_top.specs.declared.status.Status.{Status}
 use Rattle.tup_top.specs.declared.status.Status.TheVariants.{Done, SinkFault}
 use Rattle.tup_history.specs.Kept.{IsKept}
@@ -39,18 +45,23 @@ pub record Keeps (tells : Bool) (next : Next) (wanted : Wanted) (old new : World
 
 -- What a crash may leave since such a run began, and once it has ended; and what a run tells that finds out what an update would do.
 pub record Leaves (wanted : Wanted) (old new : MemSite) (status : Status) : Type 0 where
+  pub closed : BringsUp wanted → (IsReadable (store_in old) → ⊥) → GoesOn moment_of left_since old new OpenStep
   pub quiet : (BringsUp wanted → ⊥) → GoesOn moment_of left_since old new (QuietStep wanted (world_in old))
   pub lasts : ForInit wanted status (Lasts (left_since new (moment_of new)) (world_in new))
   pub known : (IsUpdate wanted → ⊥) → known_in new ≡ known_in old
   pub found_out : ForTodo wanted status (FindsOut ((next : Next) × IsKept next old) (world_in old) (world_in new))
 
--- What an update leaves of a kept project, whose commands mean this: exactly the files of a clean build where it is done. Whatever
--- it answers only what is needed was run, a blame is true, the project is kept, and so is each world that a crash since its
--- beginning may leave.
+-- What an update leaves of a kept project, whose commands mean this: exactly the files of a clean build where it is done, and a
+-- crash leaves all as it is then. Whatever it answers only what is needed was run, a blame is true, each owned path is in the state
+-- that it was in, or in one of this update, a file of the user's at a path that no rule makes holds it up, the project is kept, and so
+-- is each world that a crash since its beginning may leave.
 pub record Updates (next : Next) (wanted : Wanted) (old new : MemSite) (status : Status) (ran : List RuleName) : Type 0 where
   pub files : ForUpdate wanted status (ExactlyTheFiles next (world_in old) (world_in new))
   pub needed : ForUpdate wanted status (OnlyWhatIsNeeded next (goes_on wanted) (world_in old) (world_in new) ran)
-  pub blamed : ForUpdate wanted status (IsToBlame next (world_in old) ran)
+  pub blamed : ForUpdate wanted status (IsToBlame next (world_in old) (world_in new) ran)
+  pub settled : ForUpdate wanted status (OnceDone (IsDurable (left_since new (moment_of new)) (world_in new)))
+  pub states : BringsUp wanted → States next (world_in old) (world_in new)
+  pub users : HasUsersFile (world_in old) → ForUpdate wanted status (IsHeldUp memory.ghosts old new ran)
   pub crash : BringsUp wanted → IsKeptSite next tupfiles (known_in new) (world_in old) (left_since new (moment_of old))
   pub kept : BringsUp wanted → IsKept next new
 

@@ -35,15 +35,15 @@ abbrev pub Builds : Next → World → World → Option Status → Type 0
 Builds next old new None = ⊤
 Builds next old new (Some status) = IfCame status (ExactlyTheFiles next old new)
 
--- Behind an update that led from one world to another, where the runner tells what commands mean. Of one in a project that hasn't
--- begun nothing is said.
+-- Behind an update that led from one world to another, where the runner tells what commands mean. Where the project hasn't begun
+-- nothing is done.
 abbrev pub BehindUpdate : Bool → Next → World → World → End → Stage → (Stage → Type 0) → Type 0
-BehindUpdate tells next old new end Unbegun promise = ⊤
+BehindUpdate tells next old new end Unbegun promise = promise Unbegun
 BehindUpdate tells next old new end Begun promise = IsTrue tells → Builds next old new end.status × promise Begun
 
--- behind a call that finds out what an update would do; of one in a project that hasn't begun nothing is said
+-- behind a call that finds out what an update would do; where the project hasn't begun nothing is done
 abbrev pub BehindTodo : Bool → Stage → (Stage → Type 0) → Type 0
-BehindTodo tells Unbegun promise = ⊤
+BehindTodo tells Unbegun promise = promise Unbegun
 BehindTodo tells Begun promise = IsTrue tells → promise Begun
 
 -- behind a run of the program

@@ -1,7 +1,8 @@
 -- What the sources are blamed for.
-use Rattle.std.proofs.Common.{◌≡◌, inl, length, Err, Result, refl, sym, ap, ◌∙◌}
+use Rattle.std.proofs.Common.{◌≡◌, inl, ℕ, length, Err, Result, refl, sym, ap, subst, ◌∙◌}
 use Rattle.std.specs.FinMap as finite
 use Rattle.tup_path.specs.Tree.{Tree}
+use Rattle.tup_site.specs.Cause.{IsTooLarge}
 use Rattle.tup_site.specs.World.{World}
 use Rattle.tup_link.specs.declared.fault.What.TheVariants.{Commands, Links}
 use Rattle.tup_project.specs.Project.{ComeTo}
@@ -22,10 +23,13 @@ use Rattle.tup_readings.specs.declared.fault.FoldersFault.TheVariants as folders
 use Rattle.tup_refresh.proofs.Ending.{refreshed_read}
 use Rattle.tup_stale.specs.declared.fault.StaleFault.{StaleFault}
 use Rattle.tup_stale.specs.declared.fault.StaleFault.TheVariants as stale
+use Rattle.tup_stale.specs.Unmade.{Sees, unmade}
+use Rattle.tup_promise.specs.Blamed.{HasFileOf}
 use Rattle.tup_promise.specs.Stopped.{stop_of_graph, stop_of_project, stop_of_refresh, stop_of_scan, stop_of_stale}
-use Rattle.tup_phases.specs.Kept.{BlamesSources}
+use Rattle.tup_phases.specs.Kept.{BlamesSources, IsBrought}
+use Rattle.tup_phases.proofs.Users.{met_users}
 
--- a commit, and a clearing, blame no sources
+-- a commit blames no sources
 pub graph_blames : (first : World) (fault : GraphFault) → BlamesSources first (stop_of_graph fault)
 graph_blames first graph.NotThere = tt
 graph_blames first (graph.BadStore offset) = tt
@@ -33,17 +37,18 @@ graph_blames first graph.Site = tt
 graph_blames first graph.Full = tt
 graph_blames first graph.Memory = tt
 
-pub stale_blames : (first : World) (fault : StaleFault) → BlamesSources first (stop_of_stale fault)
-stale_blames first (stale.UserFile path written found) = tt
-stale_blames first stale.Site = tt
-stale_blames first (stale.TooLarge n) = tt
-stale_blames first stale.Full = tt
-stale_blames first stale.Memory = tt
+-- a clearing blames a file of the user's, or one that is too large
+pub stale_blames : (first : World) (g : GraphState) (tree : Tree) (fault : StaleFault) → IsBrought first g → tree ≡ first.tree → Sees g tree (unmade g) (Err fault) → BlamesSources first (stop_of_stale fault)
+stale_blames first g tree (stale.UserFile path written found) brought same sees = met_users first g tree brought same path written found sees
+stale_blames first g tree stale.Site brought same sees = tt
+stale_blames first g tree (stale.TooLarge n) brought same sees = (sees.path, subst (λ (t : Tree). IsTooLarge t sees.path n) same sees.large)
+stale_blames first g tree stale.Full brought same sees = tt
+stale_blames first g tree stale.Memory brought same sees = tt
 
--- a scan counts the files
+-- a scan counts the files, and looks at each
 pub scan_blames : {T : Type 0} (first : World) (tree : Tree) (result : Result T ScanFault) (fault : ScanFault) → tree ≡ first.tree → result ≡ Err fault → IsOf tree result → BlamesSources first (stop_of_scan fault)
 scan_blames first tree result scan.Site same is named = tt
-scan_blames first tree result (scan.TooLarge n) same is named = tt
+scan_blames first tree result (scan.TooLarge n) same is named = let it = named.bytes n is in (it.0, subst (λ (t : Tree). IsTooLarge t it.0 n) same it.1)
 scan_blames first tree result (scan.TooManyFiles n) same is named = sym (named.files n is ∙ ap (λ (t : Tree). length (finite.keys t)) same)
 scan_blames first tree result scan.Memory same is named = tt
 
@@ -59,11 +64,12 @@ module _ (first : World) (was : GraphState) (stored : IsGraphIn first.store was)
   link_blames project.Memory comes = tt
 
   -- so is one of the readings
-  pub refresh_blames : (g : GraphState) (fault : RefreshFault) → IsRefreshOf g (sources_of was first.tree) (Err fault) → BlamesSources first (stop_of_refresh fault)
-  refresh_blames g (refresh.Parse fault) is =
+  pub refresh_blames : (g : GraphState) (fault : RefreshFault) → IsRefreshOf g (sources_of was first.tree) (Err fault) → ((n : ℕ) → fault ≡ refresh.TooLarge n → HasFileOf n first.tree)
+      → BlamesSources first (stop_of_refresh fault)
+  refresh_blames g (refresh.Parse fault) is large =
       (was, stored, (project.Parse fault, inl (refreshed_read g (sources_of was first.tree) (Err (folders.Parse fault)) is), refl))
-  refresh_blames g (refresh.Circular dirs) is =
+  refresh_blames g (refresh.Circular dirs) is large =
       (was, stored, (project.CircularDirs dirs, refreshed_read g (sources_of was first.tree) (Err (folders.Circular dirs)) is, refl))
-  refresh_blames g refresh.Site is = tt
-  refresh_blames g (refresh.TooLarge n) is = tt
-  refresh_blames g refresh.Memory is = tt
+  refresh_blames g refresh.Site is large = tt
+  refresh_blames g (refresh.TooLarge n) is large = large n refl
+  refresh_blames g refresh.Memory is large = tt

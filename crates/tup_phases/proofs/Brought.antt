@@ -42,6 +42,7 @@ use Rattle.tup_promise.specs.Kept.{AsksFor}
 use Rattle.tup_promise.specs.Needed.{IsDue}
 use Rattle.tup_phases.specs.Kept.{BringsNothing, IsBrought, IsNoted, StaysBrought}
 use Rattle.tup_phases.specs.Prepared.{HasSeen}
+use Rattle.tup_phases.proofs.Users.{still_unmade, swap_unmade}
 
 -- an iterator that gives nothing is at its end
 pub ended : {X : Type 0} (result : Option X) (none : Bool) (Ended : Type 0) (Goes : X → Type 0) → is_some result ≡ not none → none ≡ true → MatchOption result Ended Goes → Ended
@@ -96,6 +97,7 @@ module _ (first now : World) (g : GraphState) (noted : IsNoted first now g) wher
       created = nothing.created;
       rules = (was, noted.stored, comes_to g sources found nothing.fresh nothing.gone next tupfiles known is_language.1 kept refreshed);
       due = λ number. due_if first was noted.stored now.tree g.rules number (is_flagged g number ≡ true) noted.tree (reach number);
+      unmade = (was, noted.stored, still_unmade was g kept.owners noted.scanned.2.owned);
     }
       where
         reach : (number : ℕ) → (is_flagged g number ≡ true) ↔ IsReached was now.tree g.rules number
@@ -106,11 +108,12 @@ module _ (first now : World) (g : GraphState) (noted : IsNoted first now g) wher
 
     -- and where readings were swapped in
     pub swap_brought : (found : Refreshed) (rules : List Rule) (new : GraphState) → SeesSources sources g → IsRefresh g sources (Ok found) → AreLinked found.all rules → IsSwapped g found.fresh found.gone rules new
-        → IsBrought first new
-    swap_brought found rules new as_seen refreshed linked swapped = record {
+        → AreFitting tupfiles known g found.fresh found.gone rules → IsBrought first new
+    swap_brought found rules new as_seen refreshed linked swapped fits = record {
       created = swapped.created;
       rules = (was, noted.stored, subst (λ (l : List Rule). ComeTo sources (Ok l)) (sym swapped.rules_are) comes);
       due = λ number. due_if first was noted.stored now.tree new.rules number (is_flagged new number ≡ true) noted.tree (reach number);
+      unmade = (was, noted.stored, swap_unmade known was g new noted.scanned.2.owned found.fresh found.gone rules fits swapped);
     }
       where
         comes : ComeTo sources (Ok rules)
@@ -122,15 +125,16 @@ module _ (first now : World) (g : GraphState) (noted : IsNoted first now g) wher
             (flags_are_reach next tupfiles known was g new noted.scanned.0 noted.scanned.1 found.fresh found.gone rules now.tree sources number is_language.1 was_kept noted.scanned.2 seen as_seen comes swapped)
 
 -- what stays so is brought still
-pub brought_on : (first : World) (g h : GraphState) → StaysBrought g h → IsBrought first g → IsBrought first h
-brought_on first g h stays brought = record {
-  created = stays.created ∙ brought.created;
-  rules = subst (AsksFor first) (sym stays.rules) brought.rules;
-  due = λ number. (
+pub brought_on : (first : World) (g h : GraphState) → StaysBrought g h → IsBrought first g
+    → (h.created ≡ finite.empty) × AsksFor first h.rules × ((number : ℕ) → (is_flagged h number ≡ true) ↔ IsDue first h.rules number)
+brought_on first g h stays brought = (
+  stays.created ∙ brought.created,
+  subst (AsksFor first) (sym stays.rules) brought.rules,
+  λ number. (
     λ flag. subst (λ (rules : List Rule). IsDue first rules number) (sym stays.rules) ((brought.due number).0 (sym (same number) ∙ flag)),
     λ due. same number ∙ (brought.due number).1 (subst (λ (rules : List Rule). IsDue first rules number) stays.rules due),
-  );
-}
+  ),
+)
   where
     same : (number : ℕ) → is_flagged h number ≡ is_flagged g number
     same number = ap (λ (flags : finite.FinMap nat_cmp (Unit {0})). finite.contains_key flags number) stays.flags

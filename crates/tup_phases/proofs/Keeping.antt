@@ -9,7 +9,7 @@ use Rattle.tup_path.proofs.Same.{same_tree}
 use Rattle.tup_stamp.specs.declared.Stamp.{Stamp}
 use Rattle.tup_site.specs.Crash.{GoesOn, NoStep}
 use Rattle.tup_site.specs.Known.{Keeps, KnowsTree, knows}
-use Rattle.tup_site.specs.World.{World}
+use Rattle.tup_site.specs.World.{World, TreeStays}
 use Rattle.tup_site.specs.declared.site.Site.{Ghosts as Site}
 use Rattle.tup_rule.specs.Rule.{among}
 use Rattle.tup_rule.specs.declared.question.Reading.{Reading}
@@ -18,6 +18,7 @@ use Rattle.tup_record.specs.declared.run.RunRecord.{RunRecord}
 use Rattle.tup_runner.specs.Next.{Next}
 use Rattle.tup_table.specs.Images.{OpenStep}
 use Rattle.tup_table.specs.Table.{entries_in}
+use Rattle.tup_table.proofs.Going.{as_step, then_on}
 use Rattle.tup_graph.specs.Answers.{tup_config}
 use Rattle.tup_graph.specs.Graph.{GraphState, is_owned}
 use Rattle.tup_graph.specs.Kept.{Asked, IsGraphIn, IsKept, IsKeptSite, IsUnflagged, file_beside}
@@ -91,6 +92,13 @@ module _ {S : Type 0} (site : Site S) (tells : IsTrue site.tells) (earlier : (s 
   pub now_kept : (next : Next) (old new : S) → LeavesFiles site old new → IsKeptSince site next (site.world old) (site.moment old) new → IsKeptNow site next tupfiles (site.known new) new
   now_kept next old new files kept =
       remains_now site next tupfiles (site.known new) old new (present new tells) (before site tells earlier present new) files.later files.tree kept.kept
+
+  -- what a crash may leave of files, by a step that leaves them, and by two phases one behind the other
+  pub trees_by : (old new : S) (step : World → World → Type 0) → ((v w : World) → step v w → TreeStays v w) → GoesOn site.moment site.left_since old new step → GoesOn site.moment site.left_since old new TreeStays
+  trees_by old new step stays on = as_step site.moment site.left_since old new step TreeStays (λ v w left one. stays v w one) on
+
+  pub trees_both : (old mid new : S) → GoesOn site.moment site.left_since old mid TreeStays → GoesOn site.moment site.left_since mid new TreeStays → GoesOn site.moment site.left_since old new TreeStays
+  trees_both old mid new one two = then_on site.moment site.left_since old mid new TreeStays (before site tells earlier present mid) (λ u v w before after. after ∙ before) one two
 
   -- a store is opened
   pub opened_keeps : (old new : S) → LeavesFiles site old new → GoesOn site.moment site.left_since old new OpenStep → KeepsOn site old new

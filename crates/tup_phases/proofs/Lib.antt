@@ -2,6 +2,7 @@ mod Stopping
 mod Opening
 mod Seeing
 pub mod Keeping
+pub mod Users
 mod Brought
 pub mod Within
 mod Blaming

@@ -1,6 +1,7 @@
 -- What the opening of a store tells an update.
 use Rattle.std.proofs.Common.{◌≡◌, ◌⊎◌, inl, inr, Some, Ok, Err}
 use Rattle.tup_site.specs.World.{World, TreeStays}
+use Rattle.tup_site.specs.declared.fault.SiteFailed.TheVariants as failed
 use Rattle.tup_table.specs.Images.{OpenStep}
 use Rattle.tup_graph.specs.declared.fault.GraphFault.{GraphFault}
 use Rattle.tup_graph.specs.declared.fault.GraphFault.TheVariants as graph
@@ -37,4 +38,6 @@ stopped_later old new log (stop.UserFile path written found) reads is = reads
 stopped_later old new log (stop.Bad name verdict) reads is = absurd is
 stopped_later old new log stop.Run reads is = absurd is
 stopped_later old new log stop.Full reads is = reads
-stopped_later old new log (stop.Outside failed) reads is = inl reads
+stopped_later old new log (stop.Outside failed.Fault) reads is = inl reads
+stopped_later old new log (stop.Outside (failed.TooLarge bytes)) reads is = reads
+stopped_later old new log (stop.Outside failed.Memory) reads is = inl reads

@@ -1,21 +1,25 @@
 -- What the phases make of a site that was kept (own).
-use Rattle.std.specs.Prelude.{◌≡◌, ◌↔◌, ⊤, ℕ, ◌≤◌, true, List, [], Option}
+use Rattle.std.specs.Prelude.{◌≡◌, ◌↔◌, ⊤, ℕ, ◌≤◌, true, false, List, [], Option, None, Some}
 use Rattle.std.specs.FinMap as finite
 use Rattle.tup_path.specs.Name.{Names, Content}
 use Rattle.tup_stamp.specs.declared.Stamp.{Stamp}
 use Rattle.tup_site.specs.World.{World, TreeStays}
+use Rattle.tup_site.specs.declared.fault.SiteFailed.TheVariants.{Fault, TooLarge, Memory}
 use Rattle.tup_site.specs.declared.site.Site.{Ghosts as Site}
+use Rattle.tup_rule.specs.Rule.{is_generated}
 use Rattle.tup_runner.specs.Next.{Next}
+use Rattle.tup_graph.specs.declared.owned.Owned.{Owned}
 use Rattle.tup_graph.specs.Graph.{GraphState, is_flagged}
 use Rattle.tup_graph.specs.Kept.{IsGraphIn, IsKeptSite}
 use Rattle.tup_graph.specs.Scan.{IsScanned}
 use Rattle.tup_refresh.specs.declared.refreshed.Refreshed.{Refreshed}
 use Rattle.tup_law_phases.specs.Language.{tupfiles}
-use Rattle.tup_promise.specs.Blamed.{IsFaultOf}
+use Rattle.tup_promise.specs.Blamed.{HasFileOf, IsFaultOf}
 use Rattle.tup_promise.specs.Crashes.{OwnsNoMore}
-use Rattle.tup_promise.specs.Kept.{AsksFor}
+use Rattle.tup_promise.specs.Kept.{AsksFor, OfGraph}
 use Rattle.tup_promise.specs.Needed.{IsDue}
-use Rattle.tup_promise.specs.States.{KeepsStates}
+use Rattle.tup_promise.specs.States.{KeepsStates, StateStays}
+use Rattle.tup_promise.specs.Users.{IsUsersFile}
 use Rattle.tup_promise.specs.declared.stop.Stop.{Stop}
 use Rattle.tup_promise.specs.declared.stop.Stop.TheVariants.{NoStore, BadStore, Sources, UserFile, Bad, Run, Full, Outside}
 
@@ -49,11 +53,21 @@ pub record IsNoted (first now : World) (g : GraphState) : Type 0 where
   pub scanned : IsScannedFrom was g
   pub tree : TreeStays first now
 
--- no folder is to be read, the rules are those that the sources of a world ask for, and just those that are due there are flagged
+-- The paths that no rule makes. One that has lost its maker was owned in the state in which it is, and none of the rules makes it;
+-- and one that was owned and that none of the rules makes is owned in that state, and has no maker.
+pub record KeepsUnmade (was now : GraphState) : Type 0 where
+  pub before : (path : Names) (owned : Owned) → finite.get now.owned path ≡ Some owned → owned.maker ≡ None
+      → StateStays was path owned × (is_generated now.rules path ≡ false)
+  pub after : (path : Names) (old : Owned) → finite.get was.owned path ≡ Some old → is_generated now.rules path ≡ false
+      → (owned : Owned) × (finite.get now.owned path ≡ Some owned) × (owned.maker ≡ None) × (owned.state ≡ old.state)
+
+-- no folder is to be read, the rules are those that the sources of a world ask for, just those that are due there are flagged, and
+-- the paths that none of them makes are owned as they were
 pub record IsBrought (first : World) (g : GraphState) : Type 0 where
   pub created : g.created ≡ finite.empty
   pub rules : AsksFor first g.rules
   pub due : (number : ℕ) → (is_flagged g number ≡ true) ↔ IsDue first g.rules number
+  pub unmade : OfGraph first (λ was. KeepsUnmade was g)
 
 -- a refresh read no folder and lost none, and the graph waits for none
 pub record BringsNothing (g : GraphState) (given : Refreshed) : Type 0 where
@@ -77,16 +91,18 @@ pub record StaysWithin (first : World) (g : GraphState) : Type 0 where
 abbrev pub HoldsWithin : World → World → Type 0
 HoldsWithin first w = (g : GraphState) → IsGraphIn w.store g → StaysWithin first g
 
--- where the sources of a world are blamed for a stop, it is so
+-- where the sources of a world are blamed for a stop, or one of its files, it is so
 abbrev pub BlamesSources : World → Stop → Type 0
 BlamesSources w (Sources fault) = IsFaultOf w fault
 BlamesSources w NoStore = ⊤
 BlamesSources w (BadStore offset) = ⊤
-BlamesSources w (UserFile path written found) = ⊤
+BlamesSources w (UserFile path written found) = IsUsersFile w path written found
 BlamesSources w (Bad name verdict) = ⊤
 BlamesSources w Run = ⊤
 BlamesSources w Full = ⊤
-BlamesSources w (Outside failed) = ⊤
+BlamesSources w (Outside Fault) = ⊤
+BlamesSources w (Outside (TooLarge bytes)) = HasFileOf bytes w.tree
+BlamesSources w (Outside Memory) = ⊤
 
 -- what owned no more before a phase owns no more after it
 abbrev pub OwnsOn : {S : Type 0} → Site S → S → S → Type 0

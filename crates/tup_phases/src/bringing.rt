@@ -2,7 +2,8 @@
 ghost use Rattle.std.specs.Prelude.{◌≡◌, ℕ, Ok, IsTrue, IfOk, IfErr, OnErr, OnOk, map};
 ghost use Rattle.std.specs.FinMap as finite;
 ghost use Rattle.std.specs.Result.{result_err};
-ghost use Rattle.tup_site.specs.World.{World};
+ghost use Rattle.tup_site.specs.Crash.{GoesOn};
+ghost use Rattle.tup_site.specs.World.{TreeStays, World};
 ghost use Rattle.tup_runner.specs.Next.{Next};
 ghost use Rattle.tup_graph.specs.Answers.{tup_config};
 ghost use Rattle.tup_ledger.specs.Sources.{sources_of};
@@ -50,6 +51,8 @@ pub(crate) fn brought<S: Site>(
     ensures seen { IsTrue S.tells
         → OnOk result (HasSeen graph.new.nodes (S.world site.new).tree) }
     ensures files { IsTrue S.tells → LeavesFiles S.Site.own site.old site.new }
+    ensures trees { IsTrue S.tells
+        → GoesOn S.moment S.left_since site.old site.new TreeStays }
     // Where a kept site was scanned it is kept on, and then the graph has what its Tupfiles say.
     ensures kept { IsTrue S.tells → (next : Next) (first : World) (since : ℕ)
         → IsNoted first (S.world site.old) graph.old.nodes
@@ -113,6 +116,8 @@ fn swapped<S: Site>(
     ensures seen { IsTrue S.tells
         → OnOk result (HasSeen graph.new.nodes (S.world site.new).tree) }
     ensures files { IsTrue S.tells → LeavesFiles S.Site.own site.old site.new }
+    ensures trees { IsTrue S.tells
+        → GoesOn S.moment S.left_since site.old site.new TreeStays }
     // The same, where these are the readings of the sources.
     ensures kept { IsTrue S.tells → (next : Next) (first : World) (since : ℕ)
         → let sources = sources_of graph.old.nodes (S.world site.old).tree in

@@ -1,11 +1,13 @@
 //! The phases in their order.
 ghost use Rattle.std.specs.Prelude.{◌≡◌, ℕ, IsTrue, IfOk, IfErr, OnOk, OnErr};
 ghost use Rattle.std.specs.Result.{result_err};
+ghost use Rattle.tup_site.specs.Crash.{GoesOn};
 ghost use Rattle.tup_site.specs.Known.{Keeps};
-ghost use Rattle.tup_site.specs.World.{World};
+ghost use Rattle.tup_site.specs.World.{TreeStays, World};
 ghost use Rattle.tup_runner.specs.Next.{Next};
+ghost use Rattle.tup_table.specs.Images.{OpenStep};
 ghost use Rattle.tup_table.specs.Table.{entries_in};
-ghost use Rattle.tup_graph.specs.Kept.{IsKeptSite};
+ghost use Rattle.tup_scan.specs.Cause.{IsWithinLimits};
 ghost use Rattle.tup_graph.specs.Opening.{IsGraphOf};
 ghost use Rattle.tup_stored_graph.specs.Held.{is_fresh, StandsFor};
 ghost use Rattle.tup_stale.specs.Cleared.{AllAreMade};
@@ -17,8 +19,9 @@ ghost use Rattle.tup_promise.specs.Kept.{AsksFor, OfGraph};
 ghost use Rattle.tup_promise.specs.Needed.{FlagsWhatWasDue};
 ghost use Rattle.tup_promise.specs.Prepared.{IsPrepared};
 ghost use Rattle.tup_promise.specs.States.{KeepsStates};
-ghost use Rattle.tup_promise.specs.Unopened.{IsEmptyLog, Unopened};
-ghost use Rattle.tup_phases.specs.Kept.{BlamesSources, HoldsWithin, IsKeptSince, OwnsOn, StaysBrought};
+ghost use Rattle.tup_promise.specs.Unopened.{IsEmptyLog, IsReadable, Unopened};
+ghost use Rattle.tup_promise.specs.Users.{HasUsersFile};
+ghost use Rattle.tup_phases.specs.Kept.{BlamesSources, HoldsWithin, IsBrought, IsKeptSince, OwnsOn, StaysBrought};
 ghost use Rattle.tup_phases.specs.Prepared.{HasSeen, LogsBefore, RunsNone};
 ghost use Rattle.tup_phases.specs.Prepared.{StopsBefore, StopsClearing, StopsOpened};
 ghost use Rattle.tup_phases.specs.Spared.{LeavesTree};
@@ -42,14 +45,15 @@ pub fn prepared<S: Site>(alloc: Global, site: &mut S, log: &mut Log) -> Result<G
         → IfOk result (λ graph. StandsFor S.world S.moment S.left_since graph site.new) }
     ensures seen { IsTrue S.tells
         → IfOk result (λ graph. HasSeen graph.nodes (S.world site.new).tree) }
+    ensures limits { IsTrue S.tells
+        → IfOk result (λ _. IsWithinLimits (S.world site.old).tree) }
     // A site that was kept stays so, as it is and whenever since then a crash comes, whatever the answer.
     ensures kept { IsTrue S.tells → (next : Next)
         → IsKeptNow S.Site.own next tupfiles (S.known site.old) site.old
         → IsKeptNow S.Site.own next tupfiles (S.known site.new) site.new }
     ensures crash { IsTrue S.tells → (next : Next)
         → IsKeptNow S.Site.own next tupfiles (S.known site.old) site.old
-        → IsKeptSite next tupfiles (S.known site.new) (S.world site.old)
-        (S.left_since site.new (S.moment site.old)) }
+        → IsKeptSince S.Site.own next (S.world site.old) (S.moment site.old) site.new }
     // And then it is prepared, where there is a graph.
     ensures prepared { IsTrue S.tells → (next : Next)
         → IsKeptNow S.Site.own next tupfiles (S.known site.old) site.old
@@ -74,8 +78,22 @@ pub fn prepared<S: Site>(alloc: Global, site: &mut S, log: &mut Log) -> Result<G
     ensures blame { IsTrue S.tells → (next : Next)
         → IsKeptNow S.Site.own next tupfiles (S.known site.old) site.old
         → IfErr result (BlamesSources (S.world site.old)) }
+    // Where a file of the user's stands at a path that no rule makes, it is stopped, and no file is touched.
+    ensures held { IsTrue S.tells → (next : Next)
+        → IsKeptNow S.Site.own next tupfiles (S.known site.old) site.old
+        → HasUsersFile (S.world site.old) → OnOk result ⊥ }
+    ensures users { IsTrue S.tells → (next : Next)
+        → IsKeptNow S.Site.own next tupfiles (S.known site.old) site.old
+        → HasUsersFile (S.world site.old) → TreeStays (S.world site.old) (S.world site.new) }
+    ensures trees { IsTrue S.tells → (next : Next)
+        → IsKeptNow S.Site.own next tupfiles (S.known site.old) site.old
+        → HasUsersFile (S.world site.old)
+        → GoesOn S.moment S.left_since site.old site.new TreeStays }
     ensures unopened { IsTrue S.tells
         → Unopened (S.world site.old) (S.world site.new) log.new (result_err result) }
+    // And then a crash leaves no more than what was, or an opening of the store.
+    ensures closed { IsTrue S.tells → (IsReadable (S.world site.old).store → ⊥)
+        → GoesOn S.moment S.left_since site.old site.new OpenStep }
     ensures none { RunsNone log.old log.new }
     ensures logged { IfErr result (LogsBefore log.new) }
     ensures spares { IsTrue S.tells
@@ -123,7 +141,17 @@ fn cleared<S: Site>(
         → IsKeptSince S.Site.own next first since site.old
         → HoldsWithin first (S.world site.new) }
     ensures owns { IsTrue S.tells → OwnsOn S.Site.own site.old site.new }
-    ensures blame { (first : World) → IfErr result (BlamesSources first) }
+    ensures blame { IsTrue S.tells → (first : World) → IsBrought first graph.old.nodes
+        → TreeStays first (S.world site.old) → IfErr result (BlamesSources first) }
+    // Where a file of the user's stands at such a path, it is stopped, and no file is touched.
+    ensures held { IsTrue S.tells → (first : World) → IsBrought first graph.old.nodes
+        → TreeStays first (S.world site.old) → HasUsersFile first → OnOk result ⊥ }
+    ensures users { IsTrue S.tells → (first : World) → IsBrought first graph.old.nodes
+        → TreeStays first (S.world site.old) → HasUsersFile first
+        → TreeStays first (S.world site.new) }
+    ensures trees { IsTrue S.tells → (first : World) → IsBrought first graph.old.nodes
+        → TreeStays first (S.world site.old) → HasUsersFile first
+        → GoesOn S.moment S.left_since site.old site.new TreeStays }
     ensures none { RunsNone log.old log.new }
     ensures told { OnErr result (log.new ≡ log.old) }
     ensures clears { IfErr result StopsClearing }

@@ -2,8 +2,11 @@
 ghost use Rattle.std.specs.Prelude.{◌≡◌, ℕ, IsTrue, IfOk, IfErr, OnOk};
 ghost use Rattle.std.specs.FinMap as finite;
 ghost use Rattle.std.specs.Result.{result_err};
+ghost use Rattle.tup_site.specs.Crash.{GoesOn};
 ghost use Rattle.tup_site.specs.World.{TreeStays, World};
 ghost use Rattle.tup_runner.specs.Next.{Next};
+ghost use Rattle.tup_table.specs.Images.{OpenStep};
+ghost use Rattle.tup_scan.specs.Cause.{IsWithinLimits};
 ghost use Rattle.tup_graph.specs.Answers.{tup_config};
 ghost use Rattle.tup_graph.specs.Kept.{IsGraphIn};
 ghost use Rattle.tup_stored_graph.specs.Held.{is_fresh, StandsFor};
@@ -11,7 +14,7 @@ ghost use Rattle.tup_law_site.specs.Over.{IsKeptNow};
 ghost use Rattle.tup_law_phases.specs.Language.{tupfiles};
 ghost use Rattle.tup_promise.specs.Cause.{HasCountedCause};
 ghost use Rattle.tup_promise.specs.Crashes.{OwnsNoMore};
-ghost use Rattle.tup_promise.specs.Unopened.{IsEmptyLog, Unopened};
+ghost use Rattle.tup_promise.specs.Unopened.{IsEmptyLog, IsReadable, Unopened};
 ghost use Rattle.tup_promise.specs.declared.log.Log.{Log as LogValue};
 ghost use Rattle.tup_phases.specs.Kept.{BlamesSources, HoldsWithin, IsBrought, IsKeptSince, IsScannedFrom, KeepsOn, LeavesFiles, OwnsOn};
 ghost use Rattle.tup_phases.specs.Prepared.{HasSeen, RunsNone};
@@ -38,7 +41,11 @@ pub fn surveyed<S: Site>(alloc: Global, site: &mut S, log: &mut Log) -> Result<G
         → IfOk result (λ graph. StandsFor S.world S.moment S.left_since graph site.new) }
     ensures seen { IsTrue S.tells
         → IfOk result (λ graph. HasSeen graph.nodes (S.world site.new).tree) }
+    ensures limits { IsTrue S.tells
+        → IfOk result (λ _. IsWithinLimits (S.world site.old).tree) }
     ensures files { IsTrue S.tells → LeavesFiles S.Site.own site.old site.new }
+    ensures trees { IsTrue S.tells
+        → GoesOn S.moment S.left_since site.old site.new TreeStays }
     // A site that was kept stays so whenever since then a crash comes, whatever the answer.
     ensures kept { IsTrue S.tells → (next : Next)
         → IsKeptNow S.Site.own next tupfiles (S.known site.old) site.old
@@ -62,6 +69,9 @@ pub fn surveyed<S: Site>(alloc: Global, site: &mut S, log: &mut Log) -> Result<G
         → IfErr result (BlamesSources (S.world site.old)) }
     ensures unopened { IsTrue S.tells
         → Unopened (S.world site.old) (S.world site.new) log.new (result_err result) }
+    // And then a crash leaves no more than what was, or an opening of the store.
+    ensures closed { IsTrue S.tells → (IsReadable (S.world site.old).store → ⊥)
+        → GoesOn S.moment S.left_since site.old site.new OpenStep }
     ensures none { RunsNone log.old log.new }
     ensures removed { log.new.removed ≡ log.old.removed }
     ensures logged { IfErr result (λ _. IsEmptyLog log.new) }
@@ -87,6 +97,8 @@ fn opened<S: Site>(alloc: Global, site: &mut S) -> Result<Graph, Stop>
     ensures within { IsTrue S.tells → HoldsWithin (S.world site.old) (S.world site.new) }
     ensures owns { IsTrue S.tells → OwnsOn S.Site.own site.old site.new }
     ensures blame { (first : World) → IfErr result (BlamesSources first) }
+    ensures crash { IsTrue S.tells
+        → GoesOn S.moment S.left_since site.old site.new OpenStep }
     // Nothing else was done.
     ensures unopened { IsTrue S.tells → (log : LogValue) → IsEmptyLog log
         → Unopened (S.world site.old) (S.world site.new) log (result_err result) }
@@ -110,7 +122,11 @@ fn noted<S: Site>(alloc: Global, site: &mut S, graph: &mut Graph) -> Result<Opti
     ensures scanned { OnOk result (IsScannedFrom graph.old.nodes graph.new.nodes) }
     ensures config { IsTrue S.tells
         → IfOk result (λ config. config ≡ finite.get (S.world site.old).tree tup_config) }
+    ensures limits { IsTrue S.tells
+        → IfOk result (λ _. IsWithinLimits (S.world site.old).tree) }
     ensures files { IsTrue S.tells → LeavesFiles S.Site.own site.old site.new }
+    ensures trees { IsTrue S.tells
+        → GoesOn S.moment S.left_since site.old site.new TreeStays }
     ensures kept { IsTrue S.tells → KeepsOn S.Site.own site.old site.new }
     // Where the graph is that of a kept world, what stands in the store then stays within what that world had.
     ensures within { IsTrue S.tells → (next : Next) (first : World) (since : ℕ)

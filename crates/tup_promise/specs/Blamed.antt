@@ -1,8 +1,12 @@
--- What is blamed where an update stops for its sources: a rule whose command comes to a bad verdict, or a fault for which they
--- ask for no rules (own).
-use Rattle.std.specs.Prelude.{◌≡◌, ⊤, ℕ, length, List, Option, None, Some, Err, Contains, slice_get}
+-- What is blamed where an update stops for its sources: a rule whose command comes to a bad verdict, a fault for which they ask
+-- for no rules, a file of the user's in the way, or a file that is too large to be read (own).
+use Rattle.std.specs.Prelude.{◌≡◌, ◌⊎◌, ⊤, ℕ, length, List, Option, None, Some, Err, Contains, slice_get}
 use Rattle.std.specs.FinMap as finite
+use Rattle.tup_path.specs.Name.{Names}
+use Rattle.tup_path.specs.Tree.{Tree}
+use Rattle.tup_site.specs.Cause.{IsTooLarge}
 use Rattle.tup_site.specs.World.{World}
+use Rattle.tup_site.specs.declared.fault.SiteFailed.TheVariants.{Fault, TooLarge, Memory}
 use Rattle.tup_rule.specs.declared.rule.Rule.{Rule}
 use Rattle.tup_rule.specs.declared.rule.RuleName.{RuleName}
 use Rattle.tup_runner.specs.Next.{Next}
@@ -14,6 +18,7 @@ use Rattle.tup_ledger.specs.Sources.{sources_of}
 use Rattle.tup_promise.specs.Kept.{AsksFor, OfGraph}
 use Rattle.tup_promise.specs.Needed.{HasName}
 use Rattle.tup_promise.specs.Stopped.{stop_of_project}
+use Rattle.tup_promise.specs.Users.{IsUsersFile}
 use Rattle.tup_promise.specs.declared.fault.SourcesFault.{SourcesFault}
 use Rattle.tup_promise.specs.declared.fault.SourcesFault.TheVariants.{TooManyFiles, Parse, CircularDirs, TooManyCommands, NoSuchGroup, TooManyLinks, CircularCommands}
 use Rattle.tup_promise.specs.declared.stop.Stop.{Stop}
@@ -42,14 +47,21 @@ IsFaultOf w (NoSuchGroup group) = ComesToFault w (NoSuchGroup group)
 IsFaultOf w (TooManyLinks number) = ComesToFault w (TooManyLinks number)
 IsFaultOf w (CircularCommands rules) = ComesToFault w (CircularCommands rules)
 
--- who is blamed where an update stops for its sources
-abbrev pub IsToBlame : Next → World → List RuleName → Option Stop → Type 0
-IsToBlame next w ran None = ⊤
-IsToBlame next w ran (Some NoStore) = ⊤
-IsToBlame next w ran (Some (BadStore offset)) = ⊤
-IsToBlame next w ran (Some (Sources fault)) = IsFaultOf w fault
-IsToBlame next w ran (Some (UserFile path written found)) = ⊤
-IsToBlame next w ran (Some (Bad name verdict)) = IsBadRule next w ran name verdict
-IsToBlame next w ran (Some Run) = ⊤
-IsToBlame next w ran (Some Full) = ⊤
-IsToBlame next w ran (Some (Outside failed)) = ⊤
+-- some file of a tree has so many bytes
+abbrev pub HasFileOf : ℕ → Tree → Type 0
+HasFileOf bytes tree = (path : Names) × IsTooLarge tree path bytes
+
+-- Who is blamed where an update that led from one world to another stops for its sources, or for a file. One that is too large
+-- was there when it began, or is there now.
+abbrev pub IsToBlame : Next → World → World → List RuleName → Option Stop → Type 0
+IsToBlame next w now ran None = ⊤
+IsToBlame next w now ran (Some NoStore) = ⊤
+IsToBlame next w now ran (Some (BadStore offset)) = ⊤
+IsToBlame next w now ran (Some (Sources fault)) = IsFaultOf w fault
+IsToBlame next w now ran (Some (UserFile path written found)) = IsUsersFile w path written found
+IsToBlame next w now ran (Some (Bad name verdict)) = IsBadRule next w ran name verdict
+IsToBlame next w now ran (Some Run) = ⊤
+IsToBlame next w now ran (Some Full) = ⊤
+IsToBlame next w now ran (Some (Outside Fault)) = ⊤
+IsToBlame next w now ran (Some (Outside (TooLarge bytes))) = HasFileOf bytes w.tree ⊎ HasFileOf bytes now.tree
+IsToBlame next w now ran (Some (Outside Memory)) = ⊤

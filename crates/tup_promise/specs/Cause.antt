@@ -2,7 +2,9 @@
 -- a limit only where it is passed.
 use Rattle.std.specs.Prelude.{◌≡◌, ◌<◌, ⊤, ℕ, false, Option, None, Some}
 use Rattle.tup_path.specs.Count.{Rose}
+use Rattle.tup_site.specs.World.{World}
 use Rattle.tup_site.specs.declared.fault.SiteFailed.TheVariants.{Fault as SiteFault, TooLarge, Memory}
+use Rattle.tup_scan.specs.Cause.{IsWithinLimits}
 use Rattle.tup_clean.specs.Clean.{is_good}
 use Rattle.tup_promise.specs.declared.fault.SourcesFault.{SourcesFault}
 use Rattle.tup_promise.specs.declared.fault.SourcesFault.TheVariants.{TooManyFiles, TooManyCommands, TooManyLinks}
@@ -34,3 +36,15 @@ HasCountedCause before now None = now ≡ before
 abbrev pub HasRunCause : ℕ → ℕ → Option Stop → Type 0
 HasRunCause before now (Some Run) = Rose before now
 HasRunCause before now stopped = now ≡ before
+
+-- an update that wasn't stopped before its rules found no more files than may be, and none too large
+abbrev pub IsWithin : World → Option Stop → Type 0
+IsWithin w None = IsWithinLimits w.tree
+IsWithin w (Some (Bad name verdict)) = IsWithinLimits w.tree
+IsWithin w (Some Run) = IsWithinLimits w.tree
+IsWithin w (Some NoStore) = ⊤
+IsWithin w (Some (BadStore offset)) = ⊤
+IsWithin w (Some (Sources fault)) = ⊤
+IsWithin w (Some (UserFile path written found)) = ⊤
+IsWithin w (Some Full) = ⊤
+IsWithin w (Some (Outside failed)) = ⊤

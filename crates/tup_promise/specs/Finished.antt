@@ -15,7 +15,7 @@ use Rattle.tup_record.specs.declared.owned.OwnedState.TheVariants.{Written}
 use Rattle.tup_graph.specs.declared.owned.Owned.{Owned}
 use Rattle.tup_graph.specs.Graph.{GraphState, is_owned}
 use Rattle.tup_graph.specs.Reach.{stamp_in, IsReached}
-use Rattle.tup_ledger.specs.Sources.{sources_of}
+use Rattle.tup_ledger.specs.Sources.{IsDurable, sources_of}
 use Rattle.tup_law_site.specs.Over.{LeftNow}
 use Rattle.tup_promise.specs.Kept.{OfGraph}
 use Rattle.tup_promise.specs.declared.stop.Stop.{Stop}
@@ -44,6 +44,6 @@ abbrev pub ExactlyTheFiles : Next → World → World → Option Stop → Type 0
 ExactlyTheFiles next old new None = OfGraph old (λ g. OfGraph new (λ h. IsFinished next (sources_of g old.tree) h new.tree))
 ExactlyTheFiles next old new (Some stop) = ⊤
 
--- whatever a crash now leaves of a site has the files that it has as it is
-abbrev pub AreFilesSettled : {S : Type 0} → Site S → S → Type 0
-AreFilesSettled site at = (w : World) → LeftNow site at w → w.tree ≡ (site.world at).tree
+-- a crash now leaves a site as it is, all its files and its store
+abbrev pub IsSettled : {S : Type 0} → Site S → S → Type 0
+IsSettled site at = IsDurable (LeftNow site at) (site.world at)

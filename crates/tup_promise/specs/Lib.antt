@@ -5,6 +5,7 @@ pub mod Unopened
 pub mod Kept
 pub mod Finished
 pub mod Needed
+pub mod Users
 pub mod Crashes
 pub mod States
 pub mod Prepared

@@ -1,6 +1,7 @@
 -- What becomes of a store that is empty or can't be read: it is told so exactly there, and nothing is done.
 use Rattle.std.specs.Prelude.{◌≡◌, ◌⊎◌, ℕ, List, [], Option, None, Some, Ok, Err}
 use Rattle.tup_site.specs.World.{World, TreeStays}
+use Rattle.tup_site.specs.declared.fault.SiteFailed.TheVariants.{Fault, TooLarge, Memory}
 use Rattle.tup_table.specs.Images.{OpenStep}
 use Rattle.tup_graph.specs.declared.fault.GraphFault.TheVariants as graph
 use Rattle.tup_stored_graph.specs.Held.{Held}
@@ -41,7 +42,7 @@ pub record HasFailedToOpen (old new : World) (log : Log) : Type 0 where
   pub empty : IsEmptyLog log
 
 -- how an update that stopped so went on from its store: one that is empty, or damaged, is told so and is left alone, and
--- every other one was read, unless the outside stopped that
+-- every other one was read, unless the site failed meanwhile, or there was no memory
 abbrev pub Unopened : World → World → Log → Option Stop → Type 0
 Unopened old new log (Some NoStore) = (old.store ≡ []) × DoesNothing old new log
 Unopened old new log (Some (BadStore offset)) = IsDamaged old.store offset × DoesNothing old new log
@@ -50,5 +51,7 @@ Unopened old new log (Some (UserFile path written found)) = IsReadable old.store
 Unopened old new log (Some (Bad name verdict)) = IsReadable old.store
 Unopened old new log (Some Run) = IsReadable old.store
 Unopened old new log (Some Full) = IsReadable old.store
-Unopened old new log (Some (Outside failed)) = IsReadable old.store ⊎ HasFailedToOpen old new log
+Unopened old new log (Some (Outside (TooLarge bytes))) = IsReadable old.store
+Unopened old new log (Some (Outside Fault)) = IsReadable old.store ⊎ HasFailedToOpen old new log
+Unopened old new log (Some (Outside Memory)) = IsReadable old.store ⊎ HasFailedToOpen old new log
 Unopened old new log None = IsReadable old.store

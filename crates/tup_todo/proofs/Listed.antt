@@ -2,6 +2,7 @@
 use Rattle.std.proofs.Common.{◌≡◌, ◌&&◌, ℕ, Bool, true, false, cond, List, [], ◌∷◌, Option, None, Some, is_some, map, filter, refl, sym, ap, subst, ◌∙◌}
 use Rattle.std.specs.FinMap as finite
 use Rattle.std.specs.Option.{option_map}
+use Rattle.std.specs.Prelude.{slice_get}
 use Rattle.std.specs.List.{flat_map}
 use Rattle.tup_path.specs.Name.{Names, Content}
 use Rattle.tup_path.specs.Tree.{Tree}
@@ -11,7 +12,7 @@ use Rattle.tup_graph.specs.Graph.{GraphState}
 use Rattle.tup_graph.specs.declared.owned.Owned.{Owned}
 use Rattle.tup_stale.specs.Unmade.{lacks_maker, unmade, standing}
 use Rattle.tup_phases.specs.Prepared.{HasSeen}
-use Rattle.tup_todo.specs.Listing.{due_at, is_vanished, vanished}
+use Rattle.tup_todo.specs.Listing.{due_at, due_of, is_vanished, vanished}
 use Rattle.tup_todo.specs.declared.listing.DueRule.{DueRule}
 
 -- the vanished paths of some entries
@@ -21,6 +22,10 @@ vanished_of g entries = map (λ (entry : Names × Owned). entry.0) (filter (is_v
 -- the rules of some flags
 abbrev pub due_of_flags : {T : Type 0} → List Rule → List (ℕ × T) → List DueRule
 due_of_flags {T} rules entries = flat_map (λ (entry : ℕ × T). due_at rules entry.0) entries
+
+-- where there is no rule of a number, none is due
+pub due_none : (rules : List Rule) (number : ℕ) → slice_get rules number ≡ None → due_at rules number ≡ []
+due_none rules number none = ap (λ (found : Option Rule). elim found as (λ _. List DueRule) [ Some rule ↦ due_of rule ∷ [] | None ↦ [] ]) none
 
 -- two tests of entries, one after the other
 both_tests : (test other : Names → Bool) → ((path : Names) → other path ≡ test path) → (entries : List (Names × Owned)) →

@@ -1,15 +1,14 @@
 -- Which paths are listed as those of which an update removes the file.
-use Rattle.std.proofs.Common.{◌≡◌, ◌↔◌, ℕ, Bool, true, false, not, cond, List, filter, Option, None, Some, is_none, is_some, Contains, refl, sym, ap, subst, ◌∙◌}
+use Rattle.std.proofs.Common.{◌≡◌, ◌↔◌, Bool, true, false, not, cond, List, filter, Option, None, Some, is_none, is_some, Contains, refl, sym, ap, subst, ◌∙◌}
 use Rattle.std.specs.FinMap as finite
-use Rattle.std.proofs.lemmas.Bool.{true≢false, false≢true}
-use Rattle.std.proofs.lemmas.Option.{none-some, same_Some}
+use Rattle.std.proofs.lemmas.Bool.{false≢true}
+use Rattle.std.proofs.lemmas.Option.{none-some}
 use Rattle.tup_path.specs.Name.{Names, Content}
 use Rattle.tup_path.specs.Tree.{Tree}
 use Rattle.tup_site.specs.World.{World}
-use Rattle.tup_rule.specs.Rule.{among, is_generated}
+use Rattle.tup_rule.specs.Rule.{is_generated}
 use Rattle.tup_rule.specs.declared.rule.Rule.{Rule}
-use Rattle.tup_rule.proofs.Laws.{among-decides, is_generated-at, maker-Some}
-use Rattle.tup_clean.proofs.Among.{is_generated-maker}
+use Rattle.tup_rule.proofs.Laws.{among-decides}
 use Rattle.tup_graph.specs.declared.owned.Owned.{Owned}
 use Rattle.tup_graph.specs.Graph.{GraphState, is_owned}
 use Rattle.tup_graph.specs.Kept.{HasMakers, IsGraphIn}
@@ -21,7 +20,8 @@ use Rattle.tup_law_site.proofs.Stores.{one_in_bytes}
 use Rattle.tup_law_board.proofs.Unmade.{unmade_at}
 use Rattle.tup_stale.specs.Unmade.{lacks_maker, standing, unmade}
 use Rattle.tup_promise.specs.Kept.{AsksFor}
-use Rattle.tup_ends.proofs.Due.{one_asked}
+use Rattle.tup_promise.proofs.Asked.{one_asked}
+use Rattle.tup_phases.proofs.Users.{no_maker, not_made}
 use Rattle.tup_todo.specs.Lists.{IsToRemove}
 
 -- a file is hidden beside one graph just where it is beside another
@@ -32,29 +32,6 @@ hidden_alike true false None same some = absurd (false≢true some)
 hidden_alike true false (Some content) same some = absurd (none-some content same)
 hidden_alike false true None same some = absurd (false≢true some)
 hidden_alike false true (Some content) same some = absurd (none-some content (sym same))
-
--- an owned path has no maker just where no rule makes it
-module _ (g : GraphState) (makers : HasMakers g) (path : Names) (owned : Owned) (here : finite.get g.owned path ≡ Some owned) where
-  made_by : is_generated g.rules path ≡ true → owned.maker ≡ None → ⊥
-  made_by made none =
-      let at = is_generated-maker g.rules path made in
-      let it = maker-Some g.rules path at.0 at.1 in
-      let owns = makers.made at.0 it.rule path it.here it.writes_it in
-      none-some at.0 (sym none ∙ ap (λ (o : Owned). o.maker) (same_Some owned owns.0 (sym here ∙ owns.1)) ∙ owns.2)
-
-  not_made : owned.maker ≡ None → is_generated g.rules path ≡ false
-  not_made none = by (is_generated g.rules path) refl
-    where
-      by : (made : Bool) → is_generated g.rules path ≡ made → is_generated g.rules path ≡ false
-      by true made = absurd (made_by made none)
-      by false made = made
-
-  no_maker : is_generated g.rules path ≡ false → owned.maker ≡ None
-  no_maker unmade = by owned.maker refl
-    where
-      by : (maker : Option ℕ) → owned.maker ≡ maker → owned.maker ≡ None
-      by None is = is
-      by (Some number) is = absurd (let it = makers.makers path owned number here is in true≢false (sym (is_generated-at g.rules path number it.0 it.1 it.2) ∙ unmade))
 
 module _ (old new : World) (was g : GraphState) (stored : IsGraphIn old.store was) (makers : HasMakers g) (asks : AsksFor old g.rules) (tree : new.tree ≡ old.tree)
     (sources : sources_of g new.tree ≡ sources_of was old.tree) (path : Names) where

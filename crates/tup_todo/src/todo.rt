@@ -1,7 +1,9 @@
 //! What an update of a site would do.
 ghost use Rattle.std.specs.Prelude.{◌≡◌, IsTrue, IfOk, IfErr};
 ghost use Rattle.std.specs.Result.{result_err};
+ghost use Rattle.tup_site.specs.Crash.{GoesOn};
 ghost use Rattle.tup_runner.specs.Next.{Next};
+ghost use Rattle.tup_table.specs.Images.{OpenStep};
 ghost use Rattle.tup_law_site.specs.Over.{IsKeptNow};
 ghost use Rattle.tup_law_phases.specs.Language.{tupfiles};
 ghost use Rattle.tup_phases.specs.Kept.{BlamesSources, LeavesFiles};
@@ -11,6 +13,7 @@ ghost use Rattle.tup_promise.specs.Crashes.{SourcesAndCrashes, SourcesStay};
 ghost use Rattle.tup_promise.specs.Kept.{IsKeptBySome};
 ghost use Rattle.tup_promise.specs.Needed.{FlagsWhatWasDue};
 ghost use Rattle.tup_promise.specs.States.{States};
+ghost use Rattle.tup_promise.specs.Unopened.{IsReadable};
 ghost use Rattle.tup_todo.specs.Lists.{GoesOnFromStore, ListsWhatIsDue};
 
 use crate::listing::{DueRule, due, vanished};
@@ -41,6 +44,8 @@ pub fn todo_site<S: Site>(alloc: Global, site: &mut S) -> Result<Todo, Stop>
     // Whatever the store is.
     ensures unopened { IsTrue S.tells
         → GoesOnFromStore (S.world site.old) (S.world site.new) (result_err result) }
+    ensures closed { IsTrue S.tells → (IsReadable (S.world site.old).store → ⊥)
+        → GoesOn S.moment S.left_since site.old site.new OpenStep }
     ensures files { IsTrue S.tells → LeavesFiles S.Site.own site.old site.new }
     // Where the site is kept: what is listed is what is due and what vanished. Whatever the answer, it is kept, loses no source
     // whenever a crash comes, and no more is due than was; and a blame is true.

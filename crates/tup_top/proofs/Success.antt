@@ -6,7 +6,7 @@ use Rattle.tup_site.specs.World.{World}
 use Rattle.tup_runner.specs.Next.{Next}
 use Rattle.tup_promise.specs.declared.fault.SourcesFault.TheVariants as sources
 use Rattle.tup_compare.specs.Compared.{HasCompared}
-use Rattle.tup_compare.specs.Found.{HasFileOf}
+use Rattle.tup_promise.specs.Blamed.{HasFileOf}
 use Rattle.tup_compare.proofs.Held.{undamaged, there}
 use Rattle.tup_top.specs.Status.{IfCompared}
 use Rattle.tup_top.specs.Crew.{OneRose}

@@ -1,5 +1,5 @@
 -- What an update promises of a kept site to which nothing was done.
-use Rattle.std.proofs.Common.{◌≡◌, inl, List, [], Bool, Some, refl, sym, subst}
+use Rattle.std.proofs.Common.{◌≡◌, inl, List, [], Bool, Some, refl, sym, subst, arith}
 use Rattle.tup_site.specs.declared.fault.SiteFailed.TheVariants.{Memory as NoMemory}
 use Rattle.tup_site.specs.declared.site.Site.{Ghosts as Site}
 use Rattle.tup_rule.specs.declared.rule.RuleName.{RuleName}
@@ -41,6 +41,7 @@ module _ {S R : Type 0} (site : Site S) (runner : Runner R) (at : S) (here : Kep
 
   pub untouched_crashes : SourcesAndCrashes site runner.next at at
   untouched_crashes = record {
+    later = omega arith;
     kept = here.kept;
     owned = λ w left. let there = here.kept.later w left in (there.graph, there.reads, λ path owned. inl (w, left, (there.graph, there.reads, owned)));
   }

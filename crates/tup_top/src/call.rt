@@ -2,15 +2,19 @@
 ghost use Rattle.std.specs.Prelude.{◌≡◌, IsTrue, drop, length, map};
 ghost use Rattle.std.specs.Result.{result_err};
 ghost use Rattle.tup_site.specs.Crash.{GoesOn};
+ghost use Rattle.tup_table.specs.Images.{OpenStep};
 ghost use Rattle.tup_law_phases.specs.Language.{tupfiles};
 ghost use Rattle.tup_law_site.specs.Over.{IsKeptNow};
 ghost use Rattle.tup_ledger.specs.Begin.{Begins};
 ghost use Rattle.tup_promise.specs.Blamed.{IsToBlame};
+ghost use Rattle.tup_promise.specs.Cause.{IsWithin};
 ghost use Rattle.tup_promise.specs.Crashes.{SourcesAndCrashes, SourcesStay};
-ghost use Rattle.tup_promise.specs.Finished.{AreFilesSettled, ExactlyTheFiles};
+ghost use Rattle.tup_promise.specs.Finished.{IsSettled, ExactlyTheFiles};
 ghost use Rattle.tup_promise.specs.Kept.{IsKeptBySome, KeptHere};
 ghost use Rattle.tup_promise.specs.Needed.{OnlyWhatIsNeeded};
 ghost use Rattle.tup_promise.specs.States.{States};
+ghost use Rattle.tup_promise.specs.Unopened.{IsReadable};
+ghost use Rattle.tup_promise.specs.Users.{HasUsersFile, IsHeldUp};
 ghost use Rattle.tup_compare.specs.Compared.{HasCompared};
 ghost use Rattle.tup_compare.specs.Opened.{JustOpens};
 ghost use Rattle.tup_top.specs.Order.{BringsUp, IsUpdate, goes_on, order};
@@ -70,11 +74,18 @@ pub fn tup<S: Site, R: Runner, K: Sink>(
     ensures opens_store { IsTrue S.tells → let old = S.world site in
         let new = S.world result.site in
         ForUpdate (order words.now) result.status (OpensStore old new result.ran) }
+    // Where it wasn't, a crash leaves no more than what was, or an opening of the store.
+    ensures closed { IsTrue S.tells → BringsUp (order words.now)
+        → (IsReadable (S.world site).store → ⊥)
+        → GoesOn S.moment S.left_since site result.site OpenStep }
     // And where the sources have a fault, or a file of the user's stands in the way, no file is
     // touched.
     ensures spares { IsTrue S.tells → let old = S.world site in
         let new = S.world result.site in
         ForUpdate (order words.now) result.status (Spares old new) }
+    // An update that comes to its rules finds no more files than may be, and none too large.
+    ensures limits { IsTrue S.tells
+        → ForUpdate (order words.now) result.status (IsWithin (S.world site)) }
     // Nothing is begun before the sources are read, and each rule that is begun comes to its end,
     // but the last one where something else than a bad verdict stops it.
     ensures logged { ForUpdate (order words.now) result.status
@@ -103,9 +114,10 @@ pub fn tup<S: Site, R: Runner, K: Sink>(
         ForUpdate (order words.now) result.status
         (OnlyWhatIsNeeded R.next (goes_on (order words.now)) old new result.ran) }
     ensures blamed { KeptHere S.Site.own R.Runner.own site
-        → ForUpdate (order words.now) result.status (IsToBlame R.next (S.world site) result.ran) }
+        → let old = S.world site in let new = S.world result.site in
+        ForUpdate (order words.now) result.status (IsToBlame R.next old new result.ran) }
     ensures settled { KeptHere S.Site.own R.Runner.own site
-        → ForUpdate (order words.now) result.status (OnceDone (AreFilesSettled S.Site.own result.site)) }
+        → ForUpdate (order words.now) result.status (OnceDone (IsSettled S.Site.own result.site)) }
     ensures sources_and_crashes { KeptHere S.Site.own R.Runner.own site
         → BringsUp (order words.now)
         → SourcesAndCrashes S.Site.own R.next site result.site }
@@ -120,6 +132,10 @@ pub fn tup<S: Site, R: Runner, K: Sink>(
     ensures sources_stay { IsTrue S.tells → IsKeptBySome S.Site.own site
         → BringsUp (order words.now)
         → SourcesStay S.Site.own site result.site }
+    // Nor is a file of the user's touched at a path that no rule makes: it holds the update up.
+    ensures users { IsTrue S.tells → IsKeptBySome S.Site.own site → HasUsersFile (S.world site)
+        → ForUpdate (order words.now) result.status
+        (IsHeldUp S.Site.own site result.site result.ran) }
     ensures crew { length result.crew.items ≡ length crew.items }
     // All runners but the first are as they were.
     ensures others { drop 1 result.crew.items ≡ drop 1 crew.items }

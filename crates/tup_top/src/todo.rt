@@ -1,12 +1,15 @@
 //! What an update would do, and what is told of it.
 ghost use Rattle.std.specs.Prelude.{◌≡◌, ℕ, List, IsTrue, Ok};
 ghost use Rattle.tup_runner.specs.Next.{Next};
+ghost use Rattle.tup_site.specs.Crash.{GoesOn};
 ghost use Rattle.tup_site.specs.World.{TreeStays};
+ghost use Rattle.tup_table.specs.Images.{OpenStep};
 ghost use Rattle.tup_law_phases.specs.Language.{tupfiles};
 ghost use Rattle.tup_law_site.specs.Over.{IsKeptNow};
 ghost use Rattle.tup_promise.specs.Crashes.{SourcesAndCrashes, SourcesStay};
 ghost use Rattle.tup_promise.specs.Kept.{IsKeptBySome};
 ghost use Rattle.tup_promise.specs.States.{States};
+ghost use Rattle.tup_promise.specs.Unopened.{IsReadable};
 ghost use Rattle.tup_top.specs.Lines.{todo_lines as lines_of};
 ghost use Rattle.tup_top.specs.Printed.{Ends, IsDone, Prints, PrintsTodo};
 ghost use Rattle.tup_top.specs.Status.{IfCame, status_of_todo};
@@ -22,6 +25,8 @@ use tup_todo::{Todo, todo_site};
 /// Finds out what an update of a site would do, and prints the lines of this.
 pub(crate) fn todo<S: Site, K: Sink>(alloc: Global, site: &mut S, out: &mut K) -> Status
     ensures tree { IsTrue S.tells → TreeStays (S.world site.old) (S.world site.new) }
+    ensures closed { IsTrue S.tells → (IsReadable (S.world site.old).store → ⊥)
+        → GoesOn S.moment S.left_since site.old site.new OpenStep }
     ensures known { IsTrue S.tells → S.known site.new ≡ S.known site.old }
     ensures found_out { IsTrue S.tells → let old = S.world site.old in
         IfCame result (FindsOut (IsKeptBySome S.Site.own site.old) old (S.world site.new)) }

@@ -1,16 +1,21 @@
 //! An update, and what is told of it.
 ghost use Rattle.std.specs.Prelude.{◌≡◌, [], ◌∷◌, ◌++◌, IsTrue, IfOk, IfErr};
 ghost use Rattle.tup_demo.specs.Steady.{world_in, tree_in, store_in};
+ghost use Rattle.tup_site.specs.Crash.{GoesOn};
+ghost use Rattle.tup_table.specs.Images.{OpenStep};
 ghost use Rattle.tup_table.specs.Store.{header};
 ghost use Rattle.tup_law_phases.specs.Language.{tupfiles};
 ghost use Rattle.tup_law_site.specs.Over.{IsKeptNow};
 ghost use Rattle.tup_promise.specs.Blamed.{IsToBlame};
+ghost use Rattle.tup_promise.specs.Cause.{IsWithin};
 ghost use Rattle.tup_promise.specs.Crashes.{SourcesAndCrashes, SourcesStay};
-ghost use Rattle.tup_promise.specs.Finished.{AreFilesSettled, ExactlyTheFiles};
+ghost use Rattle.tup_promise.specs.Finished.{IsSettled, ExactlyTheFiles};
 ghost use Rattle.tup_promise.specs.Kept.{IsKeptBySome, KeptHere};
 ghost use Rattle.tup_promise.specs.Needed.{OnlyWhatIsNeeded};
 ghost use Rattle.tup_promise.specs.States.{States};
 ghost use Rattle.tup_promise.specs.Ran.{RunsThese};
+ghost use Rattle.tup_promise.specs.Unopened.{IsReadable};
+ghost use Rattle.tup_promise.specs.Users.{HasUsersFile, IsHeldUp};
 ghost use Rattle.tup_top.specs.Lines.{lines as lines_of};
 ghost use Rattle.tup_top.specs.Printed.{Ends, IsDone, Prints, PrintsDemo, PrintsUpdate, demo_world};
 ghost use Rattle.tup_top.specs.Promise.{HasCountedCause, HasDemoCause, Logs, OnceDone};
@@ -53,6 +58,8 @@ pub(crate) fn update<S: Site, R: Runner, K: Sink>(
     ensures opens_store { IsTrue S.tells → let old = S.world site in
         let new = S.world result.site in
         IfCame result.status (OpensStore old new result.ran) }
+    ensures closed { IsTrue S.tells → (IsReadable (S.world site).store → ⊥)
+        → GoesOn S.moment S.left_since site result.site OpenStep }
     // Over a kept site, where site and runner tell.
     ensures exactly_the_files { KeptHere S.Site.own R.Runner.own site
         → let old = S.world site in let new = S.world result.site in
@@ -62,9 +69,10 @@ pub(crate) fn update<S: Site, R: Runner, K: Sink>(
         IfCame result.status
         (OnlyWhatIsNeeded R.next keep_going old new result.ran) }
     ensures blamed { KeptHere S.Site.own R.Runner.own site
-        → IfCame result.status (IsToBlame R.next (S.world site) result.ran) }
+        → let old = S.world site in let new = S.world result.site in
+        IfCame result.status (IsToBlame R.next old new result.ran) }
     ensures settled { KeptHere S.Site.own R.Runner.own site
-        → IfCame result.status (OnceDone (AreFilesSettled S.Site.own result.site)) }
+        → IfCame result.status (OnceDone (IsSettled S.Site.own result.site)) }
     ensures sources_and_crashes { KeptHere S.Site.own R.Runner.own site
         → SourcesAndCrashes S.Site.own R.next site result.site }
     ensures states { KeptHere S.Site.own R.Runner.own site
@@ -75,6 +83,9 @@ pub(crate) fn update<S: Site, R: Runner, K: Sink>(
     // Whatever the runner is.
     ensures sources_stay { IsTrue S.tells → IsKeptBySome S.Site.own site
         → SourcesStay S.Site.own site result.site }
+    ensures users { IsTrue S.tells → IsKeptBySome S.Site.own site → HasUsersFile (S.world site)
+        → IfCame result.status (IsHeldUp S.Site.own site result.site result.ran) }
+    ensures limits { IsTrue S.tells → IfCame result.status (IsWithin (S.world site)) }
     ensures spares { IsTrue S.tells → let old = S.world site in
         let new = S.world result.site in IfCame result.status (Spares old new) }
     // Whatever site and runner are: how far it came, what became of the rules, and why it ended.

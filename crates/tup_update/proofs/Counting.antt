@@ -2,6 +2,7 @@
 use Rattle.std.proofs.Common.{◌≡◌, ◌≢◌, ◌⊎◌, inl, inr, ℕ, ◌-◌, List, [], ◌∷◌, ◌++◌, map, length, take, Option, Some, None, All, refl, sym, ap, subst, arith, length-append, ◌∙◌}
 use Rattle.std.specs.FinMap as finite
 use Rattle.std.specs.Option.{IfSome}
+use Rattle.std.specs.Prelude.{IsTrue}
 use Rattle.std.proofs.Math.Seq.{take-append_seam}
 use Rattle.std.proofs.lemmas.List.{map-append}
 use Rattle.tup_path.specs.Count.{Rose}
@@ -19,10 +20,12 @@ use Rattle.tup_core.specs.declared.plan.Plan.{Plan}
 use Rattle.tup_core.specs.Run.{IsRun, end_of}
 use Rattle.tup_core.specs.Step.{State, opening}
 use Rattle.tup_board.specs.Board.{BoardState, plan_of, start, state}
+use Rattle.tup_board.specs.Cause.{HasLargeFile}
 use Rattle.tup_board.specs.Calls.{Drains, RanAll as BoardRan, HasRunCause as BoardRunCause, commands}
 use Rattle.tup_board.specs.Sound.{IsSound}
 use Rattle.tup_board.specs.declared.answers.Drained.{Drained}
 use Rattle.tup_board.specs.declared.answers.Drained.TheVariants.{Done, Left}
+use Rattle.tup_promise.specs.Blamed.{HasFileOf}
 use Rattle.tup_promise.specs.Cause.{HasCountedCause, HasRunCause}
 use Rattle.tup_promise.specs.Ran.{RanAll, RanAllButLast, RunsThese, command_of}
 use Rattle.tup_promise.specs.declared.stop.Stop.{Stop}
@@ -94,6 +97,26 @@ module _ (rules : List Rule) (bad : ℕ → Option Verdict) where
     counted (Left cause.Memory) stopped drains stops =
         let is = left_for (state board) cause.Memory (λ e. cc) drains in
         counted_as (stop.Outside failed.Memory) stopped stops (keeps (λ e. cc))
+
+  -- ---- a file that is too large is there
+  module _ {S R : Type 0} (site : Site S) (runner : Runner R) (board : BoardState S) (sound : IsSound site runner board) (tells : IsTrue site.tells) where
+    at_end : (n : ℕ) (stopped : Option Stop) → IsEnd rules bad stopped → stopped ≡ Some (stop.Outside (failed.TooLarge n)) → ⊥
+    at_end n stopped ends is = subst (IsEnd rules bad) is ends
+
+    there : (n m : ℕ) → m ≡ n → HasLargeFile board (site.world board.site) m → HasFileOf n (site.world board.site).tree
+    there n m same file = (file.path, record { content = file.content; found = file.here; bytes = file.long ∙ same })
+
+    pub large_there : (drained : Drained) (stopped : Option Stop) → Drains (state board) drained → StopsBy rules drained stopped bad → (n : ℕ) → stopped ≡ Some (stop.Outside (failed.TooLarge n)) → HasFileOf n (site.world board.site).tree
+    large_there Done stopped drains stops n is = absurd (at_end n stopped stops is)
+    large_there (Left cause.Bad) stopped drains stops n is = absurd (at_end n stopped stops is)
+    large_there (Left cause.Site) stopped drains stops n is = absurd (cc (stops, is))
+    large_there (Left (cause.TooLarge m)) stopped drains stops n is =
+        let one : Some (stop.Outside (failed.TooLarge m)) ≡ Some (stop.Outside (failed.TooLarge n)) = sym stops ∙ is in
+        let same : m ≡ n = cc in
+        there n m same ((sound.cause (cause.TooLarge m) (left_for (state board) (cause.TooLarge m) (λ e. cc) drains)).1 tells)
+    large_there (Left cause.Full) stopped drains stops n is = absurd (cc (stops, is))
+    large_there (Left cause.Run) stopped drains stops n is = absurd (cc (stops, is))
+    large_there (Left cause.Memory) stopped drains stops n is = absurd (cc (stops, is))
 
   -- ---- what the runner counted
   module _ (was is : ℕ) where

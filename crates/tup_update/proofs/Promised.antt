@@ -7,7 +7,7 @@ use Rattle.std.specs.Prelude.{IsTrue}
 use Rattle.std.proofs.lemmas.Bool.{true≢false}
 use Rattle.std.proofs.lemmas.Option.{none-some, same_Some}
 use Rattle.tup_site.specs.World.{World}
-use Rattle.tup_site.specs.declared.fault.SiteFailed.{SiteFailed}
+use Rattle.tup_site.specs.declared.fault.SiteFailed.TheVariants as failed
 use Rattle.tup_site.specs.declared.site.Site.{Ghosts as Site}
 use Rattle.tup_rule.specs.declared.rule.RuleName.{RuleName}
 use Rattle.tup_runner.specs.declared.runner.Runner.{Ghosts as Runner}
@@ -22,9 +22,9 @@ use Rattle.tup_core.specs.Step.{State}
 use Rattle.tup_board.specs.Calls.{Drains}
 use Rattle.tup_board.specs.declared.answers.Drained.{Drained}
 use Rattle.tup_board.specs.declared.answers.Drained.TheVariants.{Done, Left}
-use Rattle.tup_promise.specs.Blamed.{IsBadRule, IsToBlame}
+use Rattle.tup_promise.specs.Blamed.{HasFileOf, IsBadRule, IsToBlame}
 use Rattle.tup_promise.specs.Crashes.{SourcesStay}
-use Rattle.tup_promise.specs.Finished.{AreFilesSettled, ExactlyTheFiles}
+use Rattle.tup_promise.specs.Finished.{IsSettled, ExactlyTheFiles}
 use Rattle.tup_promise.specs.Needed.{FlagsWhatWasDue, NamesAllDue, NamesAllThatCan, RunsAll, RunsWhatIsNeeded}
 use Rattle.tup_promise.specs.Prepared.{IsPrepared}
 use Rattle.tup_promise.specs.declared.stop.Stop.{Stop}
@@ -66,33 +66,33 @@ done_by plan end (Left cause.Memory) stopped has drains stops none = absurd (cc 
 abbrev pub LeavesDue : {S : Type 0} → Site S → Next → Held → S → Type 0
 LeavesDue site next graph at = IsTrue site.tells → (first : World) (since : ℕ) → IsPrepared site next first since graph at → FlagsWhatWasDue first (site.world at)
 
--- it owes no rule where it stopped for the outside
-runs_outside : (next : Next) (keep_going : Bool) (first : World) (ran : List RuleName) (why : SiteFailed) → RunsAll next keep_going first ran (Some (stop.Outside why))
-runs_outside next true first ran why = tt
-runs_outside next false first ran why = tt
+-- it owes no rule where there was no memory
+runs_without : (next : Next) (keep_going : Bool) (first : World) (ran : List RuleName) → RunsAll next keep_going first ran (Some (stop.Outside failed.Memory))
+runs_without next true first ran = tt
+runs_without next false first ran = tt
 
-pub unchanged : {S R : Type 0} (site : Site S) (runner : Runner R) (keep_going : Bool) (graph : Held) (at new : S) (ran : List RuleName) (why : SiteFailed) (stopped : Option Stop) → LeavesDue site runner.next graph at
-    → new ≡ at → ran ≡ [] → stopped ≡ Some (stop.Outside why) → PromisesOver site runner keep_going graph at new ran stopped
-unchanged {S} site runner keep_going graph at new ran why stopped due same none is = λ old tells means was.
+pub unchanged : {S R : Type 0} (site : Site S) (runner : Runner R) (keep_going : Bool) (graph : Held) (at new : S) (ran : List RuleName) (stopped : Option Stop) → LeavesDue site runner.next graph at
+    → new ≡ at → ran ≡ [] → stopped ≡ Some (stop.Outside failed.Memory) → PromisesOver site runner keep_going graph at new ran stopped
+unchanged {S} site runner keep_going graph at new ran stopped due same none is = λ old tells means was.
     subst (λ (one : S). Promises site runner keep_going old one ran stopped) (sym same)
     (subst (λ (names : List RuleName). Promises site runner keep_going old at names stopped) (sym none)
     (subst (λ (s : Option Stop). Promises site runner keep_going old at [] s) (sym is) (record {
       files = tt;
       needed = record {
-        runs = none_runs runner.next keep_going (site.world old) (Some (stop.Outside why)) (runs_outside runner.next keep_going (site.world old) [] why);
+        runs = none_runs runner.next keep_going (site.world old) (Some (stop.Outside failed.Memory)) (runs_without runner.next keep_going (site.world old) []);
         flagged = due tells (site.world old) (site.moment old) was.prepared;
       };
-      crashes = record { kept = was.prepared.over.kept; owned = was.owns };
+      crashes = record { later = was.prepared.over.began; kept = was.prepared.over.kept; owned = was.owns };
       states = kept_stated runner.next (site.world old) (site.world at) was.stored;
       blamed = tt;
       kept = was.prepared.kept;
-      settled = λ none. absurd (none-some (stop.Outside why) (sym none));
+      settled = λ none. absurd (none-some (stop.Outside failed.Memory) (sym none));
     })))
 
 -- and so it is where none had to be run
 pub nothing_due : {S R : Type 0} (site : Site S) (runner : Runner R) (keep_going : Bool) (graph : Held) (at : S) (ran : List RuleName) → LeavesDue site runner.next graph at → ran ≡ [] → ((number : ℕ) → is_flagged graph.nodes number ≡ false)
     → ((first : World) (since : ℕ) → IsTrue site.tells → IsPrepared site runner.next first since graph at → ExactlyTheFiles runner.next first (site.world at) None)
-    → ((first : World) (since : ℕ) → IsTrue site.tells → IsPrepared site runner.next first since graph at → AreFilesSettled site at) → PromisesOver site runner keep_going graph at at ran None
+    → ((first : World) (since : ℕ) → IsTrue site.tells → IsPrepared site runner.next first since graph at → IsSettled site at) → PromisesOver site runner keep_going graph at at ran None
 nothing_due site runner keep_going graph at ran due none unflagged files settled = λ old tells means was.
     let first = site.world old in
     let since = site.moment old in
@@ -102,7 +102,7 @@ nothing_due site runner keep_going graph at ran due none unflagged files settled
         runs = none_runs runner.next keep_going first None (none_due site runner.next first since graph at was.prepared unflagged);
         flagged = due tells first since was.prepared;
       };
-      crashes = record { kept = was.prepared.over.kept; owned = was.owns };
+      crashes = record { later = was.prepared.over.began; kept = was.prepared.over.kept; owned = was.owns };
       states = kept_stated runner.next first (site.world at) was.stored;
       blamed = tt;
       kept = was.prepared.kept;
@@ -111,7 +111,7 @@ nothing_due site runner keep_going graph at ran due none unflagged files settled
 
 -- its sources are kept
 pub unchanged_sources : {S : Type 0} (site : Site S) (graph : Held) (at new : S) → new ≡ at → KeepsSources site graph at new
-unchanged_sources {S} site graph at new same = λ next old tells prepared. subst (λ (one : S). SourcesStay site old one) (sym same) (sources_kept site next (site.known at) old at prepared.over.kept)
+unchanged_sources {S} site graph at new same = λ next old tells prepared. subst (λ (one : S). SourcesStay site old one) (sym same) (sources_kept site next (site.known at) old at prepared.over.began prepared.over.kept)
 
 -- ---- no rule is flagged
 pub no_flags : (g : GraphState) → finite.entries g.flags ≡ [] → (number : ℕ) → is_flagged g number ≡ false
@@ -167,26 +167,31 @@ runs_before next keep_going w ran by before none =
     (λ name verdict is off. absurd (subst StopsBefore (same_Some by (stop.Bad name verdict) is) before))))
 
 -- ---- who is blamed
--- an update whose rules were run blames a rule at most
-pub blames_rules : (next : Next) (w : World) (ran : List RuleName) (stopped : Option Stop) → IfSome stopped StopsRunning
-    → ((name : RuleName) (verdict : Verdict) → stopped ≡ Some (stop.Bad name verdict) → IsBadRule next w ran name verdict) → IsToBlame next w ran stopped
-blames_rules next w ran None running bad = tt
-blames_rules next w ran (Some stop.NoStore) running bad = tt
-blames_rules next w ran (Some (stop.BadStore offset)) running bad = tt
-blames_rules next w ran (Some (stop.Sources fault)) running bad = absurd running
-blames_rules next w ran (Some (stop.UserFile path written found)) running bad = tt
-blames_rules next w ran (Some (stop.Bad name verdict)) running bad = bad name verdict refl
-blames_rules next w ran (Some stop.Run) running bad = tt
-blames_rules next w ran (Some stop.Full) running bad = tt
-blames_rules next w ran (Some (stop.Outside why)) running bad = tt
+-- an update whose rules were run blames a rule at most, or a file that is there
+pub blames_rules : (next : Next) (w now : World) (ran : List RuleName) (stopped : Option Stop) → IfSome stopped StopsRunning
+    → ((name : RuleName) (verdict : Verdict) → stopped ≡ Some (stop.Bad name verdict) → IsBadRule next w ran name verdict)
+    → ((n : ℕ) → stopped ≡ Some (stop.Outside (failed.TooLarge n)) → HasFileOf n now.tree) → IsToBlame next w now ran stopped
+blames_rules next w now ran None running bad large = tt
+blames_rules next w now ran (Some stop.NoStore) running bad large = tt
+blames_rules next w now ran (Some (stop.BadStore offset)) running bad large = tt
+blames_rules next w now ran (Some (stop.Sources fault)) running bad large = absurd running
+blames_rules next w now ran (Some (stop.UserFile path written found)) running bad large = absurd running
+blames_rules next w now ran (Some (stop.Bad name verdict)) running bad large = bad name verdict refl
+blames_rules next w now ran (Some stop.Run) running bad large = tt
+blames_rules next w now ran (Some stop.Full) running bad large = tt
+blames_rules next w now ran (Some (stop.Outside failed.Fault)) running bad large = tt
+blames_rules next w now ran (Some (stop.Outside (failed.TooLarge n))) running bad large = inr (large n refl)
+blames_rules next w now ran (Some (stop.Outside failed.Memory)) running bad large = tt
 
--- and one that was stopped before, the sources at most
-pub blames_sources : (next : Next) (w : World) (ran : List RuleName) (by : Stop) → StopsBefore by → BlamesSources w by → IsToBlame next w ran (Some by)
-blames_sources next w ran stop.NoStore before blames = tt
-blames_sources next w ran (stop.BadStore offset) before blames = tt
-blames_sources next w ran (stop.Sources fault) before blames = blames
-blames_sources next w ran (stop.UserFile path written found) before blames = tt
-blames_sources next w ran (stop.Bad name verdict) before blames = absurd before
-blames_sources next w ran stop.Run before blames = absurd before
-blames_sources next w ran stop.Full before blames = tt
-blames_sources next w ran (stop.Outside why) before blames = tt
+-- and one that was stopped before, the sources or a file that was there
+pub blames_sources : (next : Next) (w now : World) (ran : List RuleName) (by : Stop) → StopsBefore by → BlamesSources w by → IsToBlame next w now ran (Some by)
+blames_sources next w now ran stop.NoStore before blames = tt
+blames_sources next w now ran (stop.BadStore offset) before blames = tt
+blames_sources next w now ran (stop.Sources fault) before blames = blames
+blames_sources next w now ran (stop.UserFile path written found) before blames = blames
+blames_sources next w now ran (stop.Bad name verdict) before blames = absurd before
+blames_sources next w now ran stop.Run before blames = absurd before
+blames_sources next w now ran stop.Full before blames = tt
+blames_sources next w now ran (stop.Outside failed.Fault) before blames = tt
+blames_sources next w now ran (stop.Outside (failed.TooLarge n)) before blames = inl blames
+blames_sources next w now ran (stop.Outside failed.Memory) before blames = tt

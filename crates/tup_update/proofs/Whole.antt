@@ -4,7 +4,7 @@ use Rattle.std.specs.Option.{IfSome}
 use Rattle.tup_path.specs.Name.{Names as PathNames}
 use Rattle.tup_site.specs.World.{World}
 use Rattle.tup_rule.specs.declared.rule.RuleName.{RuleName}
-use Rattle.tup_promise.specs.Cause.{HasCountedCause, HasRunCause}
+use Rattle.tup_promise.specs.Cause.{HasCountedCause, HasRunCause, IsWithin}
 use Rattle.tup_promise.specs.Ran.{RunsThese}
 use Rattle.tup_promise.specs.Unopened.{IsReadable, Unopened}
 use Rattle.tup_promise.specs.declared.log.Log.{Log}
@@ -24,7 +24,9 @@ opened_running old new log (Some (stop.UserFile path written found)) reads stops
 opened_running old new log (Some (stop.Bad name verdict)) reads stops = reads
 opened_running old new log (Some stop.Run) reads stops = reads
 opened_running old new log (Some stop.Full) reads stops = reads
-opened_running old new log (Some (stop.Outside why)) reads stops = inl reads
+opened_running old new log (Some (stop.Outside failed.Fault)) reads stops = inl reads
+opened_running old new log (Some (stop.Outside (failed.TooLarge bytes))) reads stops = reads
+opened_running old new log (Some (stop.Outside failed.Memory)) reads stops = inl reads
 
 -- ---- one that stopped before any rule was run
 pub before_run_cause : (count : ℕ) (by : Stop) → StopsBefore by → HasRunCause count count (Some by)
@@ -73,3 +75,27 @@ module _ (stopped : Option Stop) (is : stopped ≡ Some (stop.Outside failed.Mem
 
   pub memory_ran : (ran : List RuleName) (given : List (PathNames × List ℕ)) → ran ≡ [] → RunsThese ran given given stopped
   memory_ran ran given none = subst (RunsThese ran given given) (sym is) (before_ran ran given (stop.Outside failed.Memory) none)
+
+-- ---- the limits
+-- whose rules were run, its files were within them
+pub within_running : (w : World) (stopped : Option Stop) → IsWithin w None → IsWithin w stopped
+within_running w None within = within
+within_running w (Some stop.NoStore) within = tt
+within_running w (Some (stop.BadStore offset)) within = tt
+within_running w (Some (stop.Sources fault)) within = tt
+within_running w (Some (stop.UserFile path written found)) within = tt
+within_running w (Some (stop.Bad name verdict)) within = within
+within_running w (Some stop.Run) within = within
+within_running w (Some stop.Full) within = tt
+within_running w (Some (stop.Outside why)) within = tt
+
+-- of one that stopped before nothing is said
+pub within_before : (w : World) (by : Stop) → StopsBefore by → IsWithin w (Some by)
+within_before w stop.NoStore is = tt
+within_before w (stop.BadStore offset) is = tt
+within_before w (stop.Sources fault) is = tt
+within_before w (stop.UserFile path written found) is = tt
+within_before w (stop.Bad name verdict) is = absurd is
+within_before w stop.Run is = absurd is
+within_before w stop.Full is = tt
+within_before w (stop.Outside why) is = tt

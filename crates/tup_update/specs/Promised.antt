@@ -9,7 +9,7 @@ use Rattle.tup_law_site.specs.Over.{IsKeptNow}
 use Rattle.tup_law_phases.specs.Language.{tupfiles}
 use Rattle.tup_promise.specs.Blamed.{IsToBlame}
 use Rattle.tup_promise.specs.Crashes.{OwnsNoMore, SourcesAndCrashes, SourcesStay}
-use Rattle.tup_promise.specs.Finished.{AreFilesSettled, ExactlyTheFiles}
+use Rattle.tup_promise.specs.Finished.{IsSettled, ExactlyTheFiles}
 use Rattle.tup_promise.specs.Kept.{OfGraph}
 use Rattle.tup_promise.specs.Needed.{OnlyWhatIsNeeded}
 use Rattle.tup_promise.specs.Prepared.{IsPrepared}
@@ -30,10 +30,10 @@ pub record Promises {S R : Type 0} (site : Site S) (runner : Runner R) (keep_goi
   pub needed : OnlyWhatIsNeeded runner.next keep_going (site.world old) (site.world new) ran stopped
   pub crashes : SourcesAndCrashes site runner.next old new
   pub states : States runner.next (site.world old) (site.world new)
-  pub blamed : IsToBlame runner.next (site.world old) ran stopped
-  -- the site is kept as it is, and a crash leaves its files where nothing stopped it
+  pub blamed : IsToBlame runner.next (site.world old) (site.world new) ran stopped
+  -- the site is kept as it is, and a crash leaves it as it is where nothing stopped it
   pub kept : IsKeptNow site runner.next tupfiles (site.known new) new
-  pub settled : stopped ≡ None → AreFilesSettled site new
+  pub settled : stopped ≡ None → IsSettled site new
 
 -- that is promised where the graph over the site was up to date, and site and runner tell
 abbrev pub PromisesOver : {S R : Type 0} → Site S → Runner R → Bool → Held → S → S → List RuleName → Option Stop → Type 0

@@ -1,18 +1,21 @@
 //! One update, from the store and the sources to the files.
 ghost use Rattle.std.specs.Prelude.{◌≡◌, None, IsTrue, IfSome};
+ghost use Rattle.tup_site.specs.Crash.{GoesOn};
+ghost use Rattle.tup_table.specs.Images.{OpenStep};
 ghost use Rattle.tup_law_site.specs.Over.{IsKeptNow};
 ghost use Rattle.tup_law_phases.specs.Language.{tupfiles};
-ghost use Rattle.tup_promise.specs.Cause.{HasCountedCause, HasRunCause};
+ghost use Rattle.tup_promise.specs.Cause.{HasCountedCause, HasRunCause, IsWithin};
 ghost use Rattle.tup_promise.specs.Blamed.{IsToBlame};
 ghost use Rattle.tup_promise.specs.Crashes.{SourcesAndCrashes, SourcesStay};
-ghost use Rattle.tup_promise.specs.Finished.{AreFilesSettled, ExactlyTheFiles};
+ghost use Rattle.tup_promise.specs.Finished.{IsSettled, ExactlyTheFiles};
 ghost use Rattle.tup_promise.specs.Kept.{IsKeptBySome, KeptHere};
 ghost use Rattle.tup_promise.specs.Needed.{OnlyWhatIsNeeded};
 ghost use Rattle.tup_phases.specs.Logged.{IsLogged};
 ghost use Rattle.tup_phases.specs.Spared.{LeavesTree};
 ghost use Rattle.tup_promise.specs.Ran.{RunsThese};
 ghost use Rattle.tup_promise.specs.States.{States};
-ghost use Rattle.tup_promise.specs.Unopened.{Unopened};
+ghost use Rattle.tup_promise.specs.Unopened.{IsReadable, Unopened};
+ghost use Rattle.tup_promise.specs.Users.{HasUsersFile, IsHeldUp};
 
 use crate::run::run_flagged;
 use std::alloc::Global;
@@ -42,6 +45,9 @@ pub fn update_site<S: Site, R: Runner>(
     // Whatever the store is: where it is empty or can't be read nothing is done, and it is told exactly there.
     ensures unopened { IsTrue S.tells
         → Unopened (S.world site) (S.world result.site) result.log result.stopped }
+    // Then a crash leaves no more than what was, or an opening of the store, whatever the answer.
+    ensures closed { IsTrue S.tells → (IsReadable (S.world site).store → ⊥)
+        → GoesOn S.moment S.left_since site result.site OpenStep }
     // Where the site is kept, and site and runner tell. Whatever the answer, rules were run only where they were due, no source
     // is lost whenever a crash comes, and a blame is true; where nothing stopped it, the files are those of a clean build.
     ensures exactly_the_files { KeptHere S.Site.own R.Runner.own site
@@ -54,17 +60,23 @@ pub fn update_site<S: Site, R: Runner>(
     ensures states { KeptHere S.Site.own R.Runner.own site
         → States R.next (S.world site) (S.world result.site) }
     ensures blamed { KeptHere S.Site.own R.Runner.own site
-        → IsToBlame R.next (S.world site) result.log.ran result.stopped }
+        → let old = S.world site in let new = S.world result.site in
+        IsToBlame R.next old new result.log.ran result.stopped }
     ensures kept { KeptHere S.Site.own R.Runner.own site
         → IsKeptNow S.Site.own R.next tupfiles (S.known result.site) result.site }
     ensures settled { KeptHere S.Site.own R.Runner.own site → result.stopped ≡ None
-        → AreFilesSettled S.Site.own result.site }
+        → IsSettled S.Site.own result.site }
     // Whatever the runner is.
     ensures sources_stay { IsTrue S.tells → IsKeptBySome S.Site.own site
         → SourcesStay S.Site.own site result.site }
+    // Nor is a file of the user's touched at a path that no rule makes: it holds the update up.
+    ensures users { IsTrue S.tells → IsKeptBySome S.Site.own site → HasUsersFile (S.world site)
+        → IsHeldUp S.Site.own site result.site result.log.ran result.stopped }
     // And where the sources have a fault, or a file of the user's stands in the way, no file is touched.
     ensures spares { IsTrue S.tells
         → IfSome result.stopped (LeavesTree (S.world site) (S.world result.site)) }
+    // Where it came to its rules, the files were within the limits.
+    ensures limits { IsTrue S.tells → IsWithin (S.world site) result.stopped }
     // Whatever site and runner are.
     ensures logged { IsLogged keep_going result.log result.stopped }
     ensures counted_cause { HasCountedCause (S.faults site) (S.faults result.site) result.stopped }

@@ -17,6 +17,7 @@ returns-clause-keeps g c = record {
 
 pub returns-clause-leaves : goal.returns-clause-leaves
 returns-clause-leaves g c = record {
+  closed = c.tup.ensures.closed refl;
   quiet = c.tup.ensures.quiet refl;
   lasts = c.tup.ensures.lasts refl;
   known = c.tup.ensures.known refl;
@@ -30,6 +31,9 @@ returns-clause-updates g c = λ means kept.
       files = c.tup.ensures.exactly_the_files here;
       needed = c.tup.ensures.only_what_is_needed here;
       blamed = c.tup.ensures.blamed here;
+      settled = c.tup.ensures.settled here;
+      states = c.tup.ensures.states here;
+      users = c.tup.ensures.users refl (g.R.Runner.next, kept);
       crash = λ updates. (c.tup.ensures.sources_and_crashes here updates).kept;
       kept = c.tup.ensures.kept here;
     }

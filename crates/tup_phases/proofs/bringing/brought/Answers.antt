@@ -1,5 +1,6 @@
 use Rattle.tup_phases.proofs.Owning.{read_owns}
-use Rattle.std.proofs.Common.{Err, sym, subst, Ok, ap}
+use Rattle.std.proofs.Common.{Err, sym, subst, Ok, ap, ◌∙◌}
+use Rattle.tup_site.specs.Cause.{IsTooLarge}
 use Rattle.tup_refresh.specs.Cause.{IsRefreshOf}
 use Rattle.tup_phases.specs.Kept.{BlamesSources, BringsNothing, IsNoted}
 use Rattle.tup_phases.proofs.Blaming.{refresh_blames}
@@ -12,8 +13,9 @@ use Rattle.tup_graph.specs.Opening.{IsGraphOf}
 use Rattle.tup_refresh.specs.Refresh.{IsRefresh}
 use Rattle.tup_ledger.specs.Sources.{sources_of}
 use Rattle.tup_phases.proofs.Brought.{idle_brought, refreshed_of}
-use Rattle.tup_phases.proofs.Keeping.{files_both, files_read, first_kept, graph_kept, same_sources, since_read}
+use Rattle.tup_phases.proofs.Keeping.{files_both, files_read, first_kept, graph_kept, same_sources, since_read, trees_both, trees_by}
 use Rattle.std.specs.Result.{result_err}
+use Rattle.tup_site.specs.Crash.{NoStep}
 use Rattle.tup_site.specs.World.{World}
 use Rattle.tup_promise.specs.Cause.{HasCountedCause}
 use Rattle.tup_promise.specs.Stopped.{stop_of_refresh}
@@ -214,7 +216,8 @@ returns-in_err-found-clause-blame g c = λ tells next first since noted kept.
     let refreshed = refreshed_of next known graph.nodes c.nodes.result.now tree c.args.config.now (Err fault) c.nodes.ensures.value (site_laws.is_known at tells) (site_laws.knows_tree at tells) kept_now (c.requires.seen tells) (c.requires.config tells) (c.in_err-found.ensures.refreshed tells) in
     err_if c.from_residual.result (stop_of_refresh fault) (BlamesSources first) c.from_residual.ensures.1
     (refresh_blames first noted.was noted.stored graph.nodes fault
-    (subst (λ (sources : Tree). IsRefreshOf graph.nodes sources (Err fault)) (same_sources g.S.Site tells site_laws.earlier site_laws.present next first since graph at stands is kept noted.was noted.stored) refreshed))
+    (subst (λ (sources : Tree). IsRefreshOf graph.nodes sources (Err fault)) (same_sources g.S.Site tells site_laws.earlier site_laws.present next first since graph at stands is kept noted.was noted.stored) refreshed)
+    (λ n large. let it = c.refresh.ensures.named tells n (c.in_err-found.was ∙ ap Err large) in (it.0, subst (λ (t : Tree). IsTooLarge t it.0 n) noted.tree it.1)))
 
 pub returns-clause-blame : goal.returns-clause-blame
 returns-clause-blame g c = λ tells next first since noted kept.
@@ -267,3 +270,22 @@ returns-clause-owns g c = λ tells next since begun noted kept owns.
     (subst (λ (w : World). IsNoted first w graph.nodes) (sym same) noted)
     (since_read g.S.Site next first since at mid (files_read g.S.Site at mid same crash (c.refresh.ensures.known tells)) crash kept)
     (read_owns g.S.Site tells site_laws.earlier site_laws.present at mid crash begun since kept.began owns)
+
+-- ---- what a crash may leave of files
+
+pub returns-in_err-found-clause-trees : goal.returns-in_err-found-clause-trees
+returns-in_err-found-clause-trees g c = λ tells.
+    let site_laws = g.met.S.Site in
+    trees_by g.S.Site tells site_laws.earlier site_laws.present c.args.site.now c.refresh.new.site NoStep (λ v w none. absurd none) (c.refresh.ensures.crash tells)
+
+pub returns-then-brings_nothing-clause-trees : goal.returns-then-brings_nothing-clause-trees
+returns-then-brings_nothing-clause-trees g c = λ tells.
+    let site_laws = g.met.S.Site in
+    trees_by g.S.Site tells site_laws.earlier site_laws.present c.args.site.now c.refresh.new.site NoStep (λ v w none. absurd none) (c.refresh.ensures.crash tells)
+
+pub returns-clause-trees : goal.returns-clause-trees
+returns-clause-trees g c = λ tells.
+    let site_laws = g.met.S.Site in
+    let mid = c.refresh.new.site in
+    trees_both g.S.Site tells site_laws.earlier site_laws.present c.args.site.now mid c.swapped.new.site (trees_by g.S.Site tells site_laws.earlier site_laws.present c.args.site.now mid NoStep (λ v w none. absurd none) (c.refresh.ensures.crash tells))
+    (c.swapped.ensures.trees tells)

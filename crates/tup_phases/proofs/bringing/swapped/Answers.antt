@@ -20,7 +20,10 @@ use Rattle.tup_law_phases.proofs.Seen.{sees}
 use Rattle.tup_refresh.specs.Refresh.{IsRefresh}
 use Rattle.tup_refresh.specs.Untouched.{SeesSources}
 use Rattle.tup_phases.proofs.Brought.{fits_so, owned_still, swap_brought}
-use Rattle.tup_phases.proofs.Keeping.{first_kept, same_sources, swapped_keeps}
+use Rattle.tup_site.specs.World.{TreeStays}
+use Rattle.tup_stale.proofs.Going.{at_rest}
+use Rattle.tup_commit.specs.Crash.{NoteStep}
+use Rattle.tup_phases.proofs.Keeping.{first_kept, same_sources, swapped_keeps, trees_by}
 use Rattle.tup_rule_diff.specs.Edits.{AreSwapEdits}
 use Rattle.tup_promise.specs.Cause.{HasCountedCause}
 use Rattle.tup_promise.specs.Stopped.{no_memory, stop_of_graph, stop_of_project}
@@ -150,13 +153,16 @@ returns-clause-brought g c = λ tells next first since refreshed noted kept.
     let rules = c.as_slice-3.result.now in
     let is = subst (IsGraphOf (entries_in graph.table)) c.nodes.ensures.value (c.nodes.ensures.graph c.requires.fresh) in
     let linked = subst (λ (all : List (Names × Reading)). AreLinked all rules) c.as_slice.ensures (subst (AreLinked c.as_slice.result.now) (sym c.as_slice-3.ensures) c.in_ok-rules.ensures.linked) in
+    let can = subst (λ (all : List (Names × Reading)). (sources : Tree) → IsOutcome sources (Ok all) → IsTree sources → IsBuildable sources rules) c.as_slice.ensures
+    (subst (λ (l : List Rule). (sources : Tree) → IsOutcome sources (Ok c.as_slice.result.now) → IsTree sources → IsBuildable sources l) (sym c.as_slice-3.ensures) c.in_ok-rules.ensures.buildable) in
+    let fits = fits_so known graph.nodes tree found rules (site_laws.knows_tree at tells) (site_laws.is_tree at tells) (c.requires.seen tells) refreshed linked can in
     let stands = c.requires.stands tells in
     let seen = c.requires.seen tells in
     let same = same_sources g.S.Site tells site_laws.earlier site_laws.present next first since graph at stands is kept noted.was noted.stored in
     swap_brought first (g.S.Site.world at) graph.nodes noted next known
     (first_kept g.S.Site tells site_laws.earlier site_laws.present next first since graph at stands is kept noted.was noted.stored) seen found rules c.swap_rules.new.graph.nodes
     (subst (λ (sources : Tree). SeesSources sources graph.nodes) same (sees graph.nodes tree seen))
-    (subst (λ (sources : Tree). IsRefresh graph.nodes sources (Ok found)) same refreshed) linked c.in_ok-swap_rules.ensures.swapped
+    (subst (λ (sources : Tree). IsRefresh graph.nodes sources (Ok found)) same refreshed) linked c.in_ok-swap_rules.ensures.swapped fits
 
 -- ---- what stands in the store then stays within what a world had
 
@@ -207,7 +213,7 @@ returns-in_err-swap_rules-clause-within g c = λ tells next first since refreshe
     (λ new swapped. swap_within known first noted.was graph.nodes new noted.stored noted.scanned.2.owned found.fresh found.gone rules fits swapped
     (swap_brought first (g.S.Site.world at) graph.nodes noted next known was_kept (c.requires.seen tells) found rules new
     (subst (λ (sources : Tree). SeesSources sources graph.nodes) same (sees graph.nodes tree (c.requires.seen tells)))
-    (subst (λ (sources : Tree). IsRefresh graph.nodes sources (Ok found)) same refreshed) linked swapped))
+    (subst (λ (sources : Tree). IsRefresh graph.nodes sources (Ok found)) same refreshed) linked swapped fits))
 
 pub returns-clause-within : goal.returns-clause-within
 returns-clause-within g c = λ tells next first since refreshed noted kept.
@@ -232,7 +238,7 @@ returns-clause-within g c = λ tells next first since refreshed noted kept.
     (λ new swapped. swap_within known first noted.was graph.nodes new noted.stored noted.scanned.2.owned found.fresh found.gone rules fits swapped
     (swap_brought first (g.S.Site.world at) graph.nodes noted next known was_kept (c.requires.seen tells) found rules new
     (subst (λ (sources : Tree). SeesSources sources graph.nodes) same (sees graph.nodes tree (c.requires.seen tells)))
-    (subst (λ (sources : Tree). IsRefresh graph.nodes sources (Ok found)) same refreshed) linked swapped))
+    (subst (λ (sources : Tree). IsRefresh graph.nodes sources (Ok found)) same refreshed) linked swapped fits))
 
 -- ---- what the sources are blamed for
 
@@ -291,7 +297,7 @@ returns-in_err-swap_rules-clause-owns g c = λ tells next since begun refreshed 
     (swap_owned known graph.nodes new found.fresh found.gone rules fits swapped first
     (swap_brought first (g.S.Site.world at) graph.nodes noted next known was_kept (c.requires.seen tells) found rules new
     (subst (λ (sources : Tree). SeesSources sources graph.nodes) same (sees graph.nodes tree (c.requires.seen tells)))
-    (subst (λ (sources : Tree). IsRefresh graph.nodes sources (Ok found)) same refreshed) linked swapped) path mine))
+    (subst (λ (sources : Tree). IsRefresh graph.nodes sources (Ok found)) same refreshed) linked swapped fits) path mine))
 
 pub returns-clause-owns : goal.returns-clause-owns
 returns-clause-owns g c = λ tells next since begun refreshed noted kept owns.
@@ -317,4 +323,26 @@ returns-clause-owns g c = λ tells next since begun refreshed noted kept owns.
     (swap_owned known graph.nodes new found.fresh found.gone rules fits swapped first
     (swap_brought first (g.S.Site.world at) graph.nodes noted next known was_kept (c.requires.seen tells) found rules new
     (subst (λ (sources : Tree). SeesSources sources graph.nodes) same (sees graph.nodes tree (c.requires.seen tells)))
-    (subst (λ (sources : Tree). IsRefresh graph.nodes sources (Ok found)) same refreshed) linked swapped) path mine))
+    (subst (λ (sources : Tree). IsRefresh graph.nodes sources (Ok found)) same refreshed) linked swapped fits) path mine))
+
+-- ---- what a crash may leave of files
+
+pub returns-in_err-rules-clause-trees : goal.returns-in_err-rules-clause-trees
+returns-in_err-rules-clause-trees g c = λ tells. at_rest g.S.Site.moment g.S.Site.left_since c.args.site.now TreeStays
+
+pub returns-in_err-read-clause-trees : goal.returns-in_err-read-clause-trees
+returns-in_err-read-clause-trees g c = λ tells. at_rest g.S.Site.moment g.S.Site.left_since c.args.site.now TreeStays
+
+pub returns-in_err-swap_rules-clause-trees : goal.returns-in_err-swap_rules-clause-trees
+returns-in_err-swap_rules-clause-trees g c = λ tells.
+    let site_laws = g.met.S.Site in
+    let found = c.args.found in
+    trees_by g.S.Site tells site_laws.earlier site_laws.present c.args.site.now c.swap_rules.new.site (NoteStep c.args.graph.now.nodes (IsSwapped c.args.graph.now.nodes found.fresh found.gone c.as_slice-3.result.now)) (λ v w step. step.tree)
+    (c.swap_rules.ensures.crash tells).on
+
+pub returns-clause-trees : goal.returns-clause-trees
+returns-clause-trees g c = λ tells.
+    let site_laws = g.met.S.Site in
+    let found = c.args.found in
+    trees_by g.S.Site tells site_laws.earlier site_laws.present c.args.site.now c.swap_rules.new.site (NoteStep c.args.graph.now.nodes (IsSwapped c.args.graph.now.nodes found.fresh found.gone c.as_slice-3.result.now)) (λ v w step. step.tree)
+    (c.swap_rules.ensures.crash tells).on

@@ -3,11 +3,14 @@ use Rattle.tup_phases.specs.Kept.{BlamesSources}
 use Rattle.tup_phases.proofs.Blaming.{stale_blames}
 use Rattle.tup_stale.specs.Unmade.{standing, unmade}
 use Rattle.tup_phases.proofs.Within.{cleared_within, within_over}
-use Rattle.std.proofs.Common.{ap, subst}
+use Rattle.std.proofs.Common.{ap, subst, ⊎_elim, ◌∙◌}
+use Rattle.tup_site.specs.World.{World}
+use Rattle.tup_phases.proofs.Users.{none_met}
 use Rattle.tup_table.specs.Table.{entries_in}
 use Rattle.tup_graph.specs.Opening.{IsGraphOf}
 use Rattle.tup_stored_graph.specs.Held.{Held}
-use Rattle.tup_phases.proofs.Keeping.{cleared_keeps, cleared_present}
+use Rattle.tup_site.specs.Crash.{NoStep}
+use Rattle.tup_phases.proofs.Keeping.{cleared_keeps, cleared_present, trees_by}
 use Rattle.tup_promise.specs.Cause.{HasCountedCause}
 use Rattle.tup_promise.specs.Stopped.{stop_of_stale}
 use Rattle.tup_promise.proofs.Handed.{err_if, err_so}
@@ -115,9 +118,10 @@ returns-clause-within g c = λ tells next first since holds kept.
     (within_over g.S.Site tells site_laws.earlier site_laws.present first next first since graph at (c.requires.stands tells) is kept holds)
 
 pub returns-in_err-log-clause-blame : goal.returns-in_err-log-clause-blame
-returns-in_err-log-clause-blame g c = λ first.
+returns-in_err-log-clause-blame g c = λ tells first brought same.
     let fault = c.in_err-log.field-0.0 in
-    err_if c.from_residual.result (stop_of_stale fault) (BlamesSources first) c.from_residual.ensures.1 (stale_blames first fault)
+    err_if c.from_residual.result (stop_of_stale fault) (BlamesSources first) c.from_residual.ensures.1
+    (stale_blames first c.args.graph.now.nodes (g.S.Site.world c.args.site.now).tree fault brought same (c.in_err-log.ensures.sees tells))
 
 pub returns-in_err-log-clause-owns : goal.returns-in_err-log-clause-owns
 returns-in_err-log-clause-owns g c = λ tells begun since within owns.
@@ -138,3 +142,28 @@ returns-clause-owns g c = λ tells begun since within owns.
     let is = subst (IsGraphOf (entries_in graph.table)) c.nodes.ensures.value (c.nodes.ensures.graph c.requires.fresh) in
     let stored = stored_over g.S.Site tells site_laws.earlier site_laws.present graph at (c.requires.stands tells) is in
     cleared_owns g.S.Site tells site_laws.earlier site_laws.present begun since at c.clear.new.site within owns graph.nodes stored (standing tree (unmade graph.nodes)) tree (c.clear.ensures.crash tells)
+
+-- ---- where a file of the user's stands at such a path
+
+pub returns-clause-held : goal.returns-clause-held
+returns-clause-held g c = λ tells first brought same has. none_met first c.args.graph.now.nodes (g.S.Site.world c.args.site.now).tree brought same has (c.in_ok-log.ensures.sees tells).1
+
+pub returns-in_err-log-clause-users : goal.returns-in_err-log-clause-users
+returns-in_err-log-clause-users g c = λ tells first brought same has.
+    ⊎_elim (λ none. absurd (none_met first c.args.graph.now.nodes (g.S.Site.world c.args.site.now).tree brought same has none)) (λ all. ap (λ (w : World). w.tree) all.1 ∙ same) (c.clear.ensures.users tells)
+
+pub returns-clause-users : goal.returns-clause-users
+returns-clause-users g c = λ tells first brought same has.
+    ⊎_elim (λ none. absurd (none_met first c.args.graph.now.nodes (g.S.Site.world c.args.site.now).tree brought same has none)) (λ all. ap (λ (w : World). w.tree) all.1 ∙ same) (c.clear.ensures.users tells)
+
+pub returns-in_err-log-clause-trees : goal.returns-in_err-log-clause-trees
+returns-in_err-log-clause-trees g c = λ tells first brought same has.
+    let site_laws = g.met.S.Site in
+    ⊎_elim (λ none. absurd (none_met first c.args.graph.now.nodes (g.S.Site.world c.args.site.now).tree brought same has none))
+    (λ all. trees_by g.S.Site tells site_laws.earlier site_laws.present c.args.site.now c.clear.new.site NoStep (λ v w none. absurd none) all.2) (c.clear.ensures.users tells)
+
+pub returns-clause-trees : goal.returns-clause-trees
+returns-clause-trees g c = λ tells first brought same has.
+    let site_laws = g.met.S.Site in
+    ⊎_elim (λ none. absurd (none_met first c.args.graph.now.nodes (g.S.Site.world c.args.site.now).tree brought same has none))
+    (λ all. trees_by g.S.Site tells site_laws.earlier site_laws.present c.args.site.now c.clear.new.site NoStep (λ v w none. absurd none) all.2) (c.clear.ensures.users tells)

@@ -7,7 +7,7 @@ use Rattle.tup_phases.specs.Kept.{BlamesSources}
 use Rattle.tup_phases.specs.Prepared.{LogsBefore, StopsBefore}
 use Rattle.tup_phases.specs.Spared.{LeavesTree}
 use Rattle.tup_phases.proofs.Brought.{brought_on}
-use Rattle.tup_phases.proofs.Keeping.{keeps_same, now_kept, over}
+use Rattle.tup_phases.proofs.Keeping.{keeps_same, now_kept, over, trees_both}
 use Rattle.tup_phases.proofs.Opening.{stopped_later}
 use Rattle.tup_phases.proofs.Stopping.{counted_before, none_both, opened_before, survey_before}
 use Rattle.tup_phases.proofs.Telling.{cleared_logs, empty_logs, same_tree, tree_on}
@@ -45,7 +45,7 @@ returns-in_err-graph-clause-kept g c = λ tells next kept.
 
 pub returns-in_err-graph-clause-crash : goal.returns-in_err-graph-clause-crash
 returns-in_err-graph-clause-crash g c = λ tells next kept.
-    (c.surveyed.ensures.kept tells next kept).kept
+    c.surveyed.ensures.kept tells next kept
 
 pub returns-in_err-graph-clause-known : goal.returns-in_err-graph-clause-known
 returns-in_err-graph-clause-known g c = λ tells.
@@ -123,7 +123,7 @@ returns-in_err-cleared-clause-crash g c = λ tells next kept.
     let since = g.S.Site.moment old in
     let asks = (c.in_ok-graph.ensures.brought tells next kept).rules in
     let surveyed = c.surveyed.ensures.kept tells next kept in
-    (c.cleared.ensures.kept tells next first since asks surveyed).kept
+    c.cleared.ensures.kept tells next first since asks surveyed
 
 pub returns-in_err-cleared-clause-known : goal.returns-in_err-cleared-clause-known
 returns-in_err-cleared-clause-known g c = λ tells content is.
@@ -155,7 +155,8 @@ returns-in_err-cleared-clause-owns g c = λ tells next kept.
 pub returns-in_err-cleared-clause-blame : goal.returns-in_err-cleared-clause-blame
 returns-in_err-cleared-clause-blame g c = λ tells next kept.
     let first = g.S.Site.world c.args.site.now in
-    err_if c.from_residual-in_err-cleared.result c.in_err-cleared.field-0.0 (BlamesSources first) c.from_residual-in_err-cleared.ensures.1 (c.in_err-cleared.ensures.blame first)
+    err_if c.from_residual-in_err-cleared.result c.in_err-cleared.field-0.0 (BlamesSources first) c.from_residual-in_err-cleared.ensures.1
+    (c.in_err-cleared.ensures.blame tells first (c.in_ok-graph.ensures.brought tells next kept) (c.surveyed.ensures.files tells).tree)
 
 -- ---- all is up to date
 
@@ -188,7 +189,7 @@ returns-clause-crash g c = λ tells next kept.
     let since = g.S.Site.moment old in
     let asks = (c.in_ok-graph.ensures.brought tells next kept).rules in
     let surveyed = c.surveyed.ensures.kept tells next kept in
-    (c.cleared.ensures.kept tells next first since asks surveyed).kept
+    c.cleared.ensures.kept tells next first since asks surveyed
 
 pub returns-clause-known : goal.returns-clause-known
 returns-clause-known g c = λ tells content is.
@@ -228,11 +229,11 @@ returns-clause-prepared g c = λ tells next kept.
     record {
       over = over g.S.Site next first since c.cleared.new.graph c.cleared.new.site (c.in_ok-cleared.ensures.stands tells) c.in_ok-cleared.ensures.graph (c.cleared.ensures.kept tells next first since asks surveyed);
       kept = returns-clause-kept g c tells next kept;
-      created = it.created;
+      created = it.0;
       seen = c.in_ok-cleared.ensures.seen tells;
       made = c.in_ok-cleared.ensures.made;
-      rules = it.rules;
-      due = it.due;
+      rules = it.1;
+      due = it.2;
     }
 
 pub returns-clause-prepared_states : goal.returns-clause-prepared_states
@@ -244,3 +245,51 @@ returns-clause-prepared_states g c = λ tells next kept.
     let site_laws = g.met.S.Site in
     let ready = returns-clause-prepared g c tells next kept in
     (within_over g.S.Site tells site_laws.earlier site_laws.present first next first since c.cleared.new.graph c.cleared.new.site ready.over.stands ready.over.is_graph (record { began = ready.over.began; kept = ready.over.kept }) within).states
+
+-- ---- what a crash may leave of a store that can't be read
+
+pub returns-in_err-graph-clause-closed : goal.returns-in_err-graph-clause-closed
+returns-in_err-graph-clause-closed g c = λ tells closed. c.surveyed.ensures.closed tells closed
+
+pub returns-in_err-cleared-clause-closed : goal.returns-in_err-cleared-clause-closed
+returns-in_err-cleared-clause-closed g c = λ tells closed. absurd (closed (c.in_ok-graph.ensures.unopened tells))
+
+pub returns-clause-closed : goal.returns-clause-closed
+returns-clause-closed g c = λ tells closed. absurd (closed (c.in_ok-graph.ensures.unopened tells))
+
+-- ---- where a file of the user's stands at a path that no rule makes
+
+pub returns-in_err-graph-clause-users : goal.returns-in_err-graph-clause-users
+returns-in_err-graph-clause-users g c = λ tells next kept has. (c.surveyed.ensures.files tells).tree
+
+pub returns-in_err-cleared-clause-users : goal.returns-in_err-cleared-clause-users
+returns-in_err-cleared-clause-users g c = λ tells next kept has.
+    c.cleared.ensures.users tells (g.S.Site.world c.args.site.now) (c.in_ok-graph.ensures.brought tells next kept) (c.surveyed.ensures.files tells).tree has
+
+pub returns-clause-users : goal.returns-clause-users
+returns-clause-users g c = λ tells next kept has.
+    c.cleared.ensures.users tells (g.S.Site.world c.args.site.now) (c.in_ok-graph.ensures.brought tells next kept) (c.surveyed.ensures.files tells).tree has
+
+pub returns-clause-held : goal.returns-clause-held
+returns-clause-held g c = λ tells next kept has.
+    c.in_ok-cleared.ensures.held tells (g.S.Site.world c.args.site.now) (c.in_ok-graph.ensures.brought tells next kept) (c.surveyed.ensures.files tells).tree has
+
+pub returns-in_err-graph-clause-trees : goal.returns-in_err-graph-clause-trees
+returns-in_err-graph-clause-trees g c = λ tells next kept has. c.surveyed.ensures.trees tells
+
+pub returns-in_err-cleared-clause-trees : goal.returns-in_err-cleared-clause-trees
+returns-in_err-cleared-clause-trees g c = λ tells next kept has.
+    let site_laws = g.met.S.Site in
+    trees_both g.S.Site tells site_laws.earlier site_laws.present c.args.site.now c.surveyed.new.site c.cleared.new.site (c.surveyed.ensures.trees tells)
+    (c.cleared.ensures.trees tells (g.S.Site.world c.args.site.now) (c.in_ok-graph.ensures.brought tells next kept) (c.surveyed.ensures.files tells).tree has)
+
+pub returns-clause-trees : goal.returns-clause-trees
+returns-clause-trees g c = λ tells next kept has.
+    let site_laws = g.met.S.Site in
+    trees_both g.S.Site tells site_laws.earlier site_laws.present c.args.site.now c.surveyed.new.site c.cleared.new.site (c.surveyed.ensures.trees tells)
+    (c.cleared.ensures.trees tells (g.S.Site.world c.args.site.now) (c.in_ok-graph.ensures.brought tells next kept) (c.surveyed.ensures.files tells).tree has)
+
+-- ---- the limits
+
+pub returns-clause-limits : goal.returns-clause-limits
+returns-clause-limits g c = λ tells. c.in_ok-graph.ensures.limits tells

@@ -5,7 +5,9 @@ use Rattle.tup_phases.proofs.Owning.{noted_owns, own_here, read_owns, stored_ove
 use Rattle.tup_phases.specs.Kept.{BlamesSources}
 use Rattle.tup_phases.proofs.Blaming.{graph_blames, scan_blames}
 use Rattle.tup_graph.specs.Scan.{IsScanned}
-use Rattle.tup_phases.proofs.Keeping.{first_kept, config_known, files_both, files_read, noted_keeps, since_read}
+use Rattle.tup_site.specs.Crash.{NoStep}
+use Rattle.tup_commit.specs.Crash.{NoteStep}
+use Rattle.tup_phases.proofs.Keeping.{first_kept, config_known, files_both, files_read, noted_keeps, since_read, trees_both, trees_by}
 use Rattle.tup_phases.proofs.Within.{noted_within, over_within, own_within, scan_within}
 use Rattle.tup_table.specs.Table.{entries_in}
 use Rattle.tup_graph.specs.Opening.{IsGraphOf}
@@ -234,3 +236,33 @@ returns-clause-owns g c = λ tells begun since within owns.
     noted_owns g.S.Site tells site_laws.earlier site_laws.present begun since mid c.note_scan.new.site there owned graph.nodes stored (IsScanned graph.nodes seen.files seen.config) (c.note_scan.ensures.crash tells)
     (λ new scanned path mine. own_here g.S.Site tells site_laws.earlier site_laws.present begun since mid c.note_scan.new.site there owned graph.nodes stored path
     (sym (ap (λ (m : finite.FinMap by_names Owned). is_some (finite.get m path)) scanned.owned) ∙ mine))
+
+-- ---- what a crash may leave of files
+
+pub returns-in_err-seen-clause-trees : goal.returns-in_err-seen-clause-trees
+returns-in_err-seen-clause-trees g c = λ tells.
+    let site_laws = g.met.S.Site in
+    trees_by g.S.Site tells site_laws.earlier site_laws.present c.args.site.now c.scan.new.site NoStep (λ v w none. absurd none) (c.scan.ensures.crash tells)
+
+pub returns-in_err-note_scan-clause-trees : goal.returns-in_err-note_scan-clause-trees
+returns-in_err-note_scan-clause-trees g c = λ tells.
+    let site_laws = g.met.S.Site in
+    let nodes = c.args.graph.now.nodes in
+    let mid = c.scan.new.site in
+    let seen = c.in_ok-seen.seen in
+    trees_both g.S.Site tells site_laws.earlier site_laws.present c.args.site.now mid c.note_scan.new.site (trees_by g.S.Site tells site_laws.earlier site_laws.present c.args.site.now mid NoStep (λ v w none. absurd none) (c.scan.ensures.crash tells))
+    (trees_by g.S.Site tells site_laws.earlier site_laws.present mid c.note_scan.new.site (NoteStep nodes (IsScanned nodes seen.files seen.config)) (λ v w step. step.tree) (c.note_scan.ensures.crash tells).on)
+
+pub returns-clause-trees : goal.returns-clause-trees
+returns-clause-trees g c = λ tells.
+    let site_laws = g.met.S.Site in
+    let nodes = c.args.graph.now.nodes in
+    let mid = c.scan.new.site in
+    let seen = c.in_ok-seen.seen in
+    trees_both g.S.Site tells site_laws.earlier site_laws.present c.args.site.now mid c.note_scan.new.site (trees_by g.S.Site tells site_laws.earlier site_laws.present c.args.site.now mid NoStep (λ v w none. absurd none) (c.scan.ensures.crash tells))
+    (trees_by g.S.Site tells site_laws.earlier site_laws.present mid c.note_scan.new.site (NoteStep nodes (IsScanned nodes seen.files seen.config)) (λ v w step. step.tree) (c.note_scan.ensures.crash tells).on)
+
+-- ---- the limits
+
+pub returns-clause-limits : goal.returns-clause-limits
+returns-clause-limits g c = λ tells. c.in_ok-seen.ensures.within tells

@@ -95,3 +95,11 @@ pub returns-clause-owns : goal.returns-clause-owns
 returns-clause-owns g c = λ tells.
     let site_laws = g.met.S.Site in
     opening_owns g.S.Site tells site_laws.earlier site_laws.present c.args.site.now c.open.new.site (c.open.ensures.crash tells)
+
+-- ---- what a crash may leave then
+
+pub returns-in_err-open-clause-crash : goal.returns-in_err-open-clause-crash
+returns-in_err-open-clause-crash g c = λ tells. c.open.ensures.crash tells
+
+pub returns-clause-crash : goal.returns-clause-crash
+returns-clause-crash g c = λ tells. c.open.ensures.crash tells

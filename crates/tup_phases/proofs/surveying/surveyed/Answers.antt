@@ -1,6 +1,8 @@
 use Rattle.std.proofs.Common.{inl, ap, sym, ◌∙◌, Some, subst}
 use Rattle.std.specs.FinMap as finite
 use Rattle.tup_path.specs.Tree.{Tree}
+use Rattle.tup_scan.specs.Cause.{IsWithinLimits}
+use Rattle.tup_table.specs.Images.{OpenStep}
 use Rattle.tup_graph.specs.Answers.{tup_config}
 use Rattle.tup_promise.specs.Cause.{HasCountedCause}
 use Rattle.tup_promise.specs.Crashes.{OwnsNoMore}
@@ -8,7 +10,7 @@ use Rattle.tup_promise.specs.Unopened.{IsEmptyLog, Unopened}
 use Rattle.tup_promise.proofs.Handed.{err_if, err_so}
 use Rattle.tup_phases.specs.Kept.{BlamesSources, IsNoted}
 use Rattle.tup_phases.specs.Prepared.{StopsSurvey}
-use Rattle.tup_phases.proofs.Keeping.{files_both, since_now}
+use Rattle.tup_phases.proofs.Keeping.{files_both, since_now, trees_both, trees_by}
 use Rattle.tup_phases.proofs.Opening.{stopped_later}
 use Rattle.tup_phases.proofs.Stopping.{counted_before, reading_opened, reading_surveys}
 use Rattle.tup_phases.proofs.surveying.surveyed.Goals as goal
@@ -252,3 +254,49 @@ returns-clause-owns g c = λ tells next kept.
     let files = files_both g.S.Site old c.opened.new.site c.noted.new.site (c.opened.ensures.files tells) (c.noted.ensures.files tells) in
     let noted : IsNoted first (g.S.Site.world c.noted.new.site) c.noted.new.graph.nodes = record { was = c.in_ok-graph.graph.nodes; stored = c.in_ok-graph.ensures.stored tells; scanned = c.in_ok-config.ensures.scanned; tree = files.tree } in
     c.brought.ensures.owns tells next since old noted scanned at_noted
+
+-- ---- what a crash may leave of a store that can't be read
+
+pub returns-in_err-graph-clause-closed : goal.returns-in_err-graph-clause-closed
+returns-in_err-graph-clause-closed g c = λ tells closed. c.opened.ensures.crash tells
+
+pub returns-in_err-config-clause-closed : goal.returns-in_err-config-clause-closed
+returns-in_err-config-clause-closed g c = λ tells closed. absurd (closed (c.in_ok-graph.ensures.unopened tells c.args.log.now c.requires))
+
+pub returns-in_err-brought-clause-closed : goal.returns-in_err-brought-clause-closed
+returns-in_err-brought-clause-closed g c = λ tells closed. absurd (closed (c.in_ok-graph.ensures.unopened tells c.args.log.now c.requires))
+
+pub returns-clause-closed : goal.returns-clause-closed
+returns-clause-closed g c = λ tells closed. absurd (closed (c.in_ok-graph.ensures.unopened tells c.args.log.now c.requires))
+
+-- ---- what a crash may leave of files
+
+pub returns-in_err-graph-clause-trees : goal.returns-in_err-graph-clause-trees
+returns-in_err-graph-clause-trees g c = λ tells.
+    let site_laws = g.met.S.Site in
+    trees_by g.S.Site tells site_laws.earlier site_laws.present c.args.site.now c.opened.new.site OpenStep (λ v w step. step.tree) (c.opened.ensures.crash tells)
+
+pub returns-in_err-config-clause-trees : goal.returns-in_err-config-clause-trees
+returns-in_err-config-clause-trees g c = λ tells.
+    let site_laws = g.met.S.Site in
+    let opened_on = trees_by g.S.Site tells site_laws.earlier site_laws.present c.args.site.now c.opened.new.site OpenStep (λ v w step. step.tree) (c.opened.ensures.crash tells) in
+    trees_both g.S.Site tells site_laws.earlier site_laws.present c.args.site.now c.opened.new.site c.noted.new.site opened_on (c.noted.ensures.trees tells)
+
+pub returns-in_err-brought-clause-trees : goal.returns-in_err-brought-clause-trees
+returns-in_err-brought-clause-trees g c = λ tells.
+    let site_laws = g.met.S.Site in
+    let opened_on = trees_by g.S.Site tells site_laws.earlier site_laws.present c.args.site.now c.opened.new.site OpenStep (λ v w step. step.tree) (c.opened.ensures.crash tells) in
+    let noted_on = trees_both g.S.Site tells site_laws.earlier site_laws.present c.args.site.now c.opened.new.site c.noted.new.site opened_on (c.noted.ensures.trees tells) in
+    trees_both g.S.Site tells site_laws.earlier site_laws.present c.args.site.now c.noted.new.site c.brought.new.site noted_on (c.brought.ensures.trees tells)
+
+pub returns-clause-trees : goal.returns-clause-trees
+returns-clause-trees g c = λ tells.
+    let site_laws = g.met.S.Site in
+    let opened_on = trees_by g.S.Site tells site_laws.earlier site_laws.present c.args.site.now c.opened.new.site OpenStep (λ v w step. step.tree) (c.opened.ensures.crash tells) in
+    let noted_on = trees_both g.S.Site tells site_laws.earlier site_laws.present c.args.site.now c.opened.new.site c.noted.new.site opened_on (c.noted.ensures.trees tells) in
+    trees_both g.S.Site tells site_laws.earlier site_laws.present c.args.site.now c.noted.new.site c.brought.new.site noted_on (c.brought.ensures.trees tells)
+
+-- ---- the limits
+
+pub returns-clause-limits : goal.returns-clause-limits
+returns-clause-limits g c = λ tells. subst IsWithinLimits (c.opened.ensures.files tells).tree (c.in_ok-config.ensures.limits tells)

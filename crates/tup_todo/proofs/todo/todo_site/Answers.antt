@@ -48,7 +48,7 @@ returns-in_err-graph-clause-kept g c = λ tells next kept.
 
 pub returns-in_err-graph-clause-sources_and_crashes : goal.returns-in_err-graph-clause-sources_and_crashes
 returns-in_err-graph-clause-sources_and_crashes g c = λ tells next kept.
-    record { kept = (c.surveyed.ensures.kept tells next kept).kept; owned = c.surveyed.ensures.owns tells next kept }
+    record { later = (c.surveyed.ensures.kept tells next kept).began; kept = (c.surveyed.ensures.kept tells next kept).kept; owned = c.surveyed.ensures.owns tells next kept }
 
 pub returns-in_err-graph-clause-due : goal.returns-in_err-graph-clause-due
 returns-in_err-graph-clause-due g c = λ tells next kept.
@@ -63,7 +63,7 @@ returns-in_err-graph-clause-states g c = λ tells next kept.
 pub returns-in_err-graph-clause-sources_stay : goal.returns-in_err-graph-clause-sources_stay
 returns-in_err-graph-clause-sources_stay g c = λ tells some.
     let crashes = returns-in_err-graph-clause-sources_and_crashes g c tells some.0 some.1 in
-    c.kept_sites_keep_sources.ensures some.0 (g.S.Site.known c.surveyed.new.site) c.args.site.now c.surveyed.new.site crashes.kept
+    c.kept_sites_keep_sources.ensures some.0 (g.S.Site.known c.surveyed.new.site) c.args.site.now c.surveyed.new.site crashes.later crashes.kept
 
 -- ---- no memory for the files
 
@@ -94,7 +94,7 @@ returns-in_err-removes-clause-kept g c = λ tells next kept.
 
 pub returns-in_err-removes-clause-sources_and_crashes : goal.returns-in_err-removes-clause-sources_and_crashes
 returns-in_err-removes-clause-sources_and_crashes g c = λ tells next kept.
-    record { kept = (c.surveyed.ensures.kept tells next kept).kept; owned = c.surveyed.ensures.owns tells next kept }
+    record { later = (c.surveyed.ensures.kept tells next kept).began; kept = (c.surveyed.ensures.kept tells next kept).kept; owned = c.surveyed.ensures.owns tells next kept }
 
 pub returns-in_err-removes-clause-due : goal.returns-in_err-removes-clause-due
 returns-in_err-removes-clause-due g c = λ tells next kept.
@@ -109,7 +109,7 @@ returns-in_err-removes-clause-states g c = λ tells next kept.
 pub returns-in_err-removes-clause-sources_stay : goal.returns-in_err-removes-clause-sources_stay
 returns-in_err-removes-clause-sources_stay g c = λ tells some.
     let crashes = returns-in_err-removes-clause-sources_and_crashes g c tells some.0 some.1 in
-    c.kept_sites_keep_sources.ensures some.0 (g.S.Site.known c.surveyed.new.site) c.args.site.now c.surveyed.new.site crashes.kept
+    c.kept_sites_keep_sources.ensures some.0 (g.S.Site.known c.surveyed.new.site) c.args.site.now c.surveyed.new.site crashes.later crashes.kept
 
 -- ---- no memory for the rules
 
@@ -140,7 +140,7 @@ returns-in_err-runs-clause-kept g c = λ tells next kept.
 
 pub returns-in_err-runs-clause-sources_and_crashes : goal.returns-in_err-runs-clause-sources_and_crashes
 returns-in_err-runs-clause-sources_and_crashes g c = λ tells next kept.
-    record { kept = (c.surveyed.ensures.kept tells next kept).kept; owned = c.surveyed.ensures.owns tells next kept }
+    record { later = (c.surveyed.ensures.kept tells next kept).began; kept = (c.surveyed.ensures.kept tells next kept).kept; owned = c.surveyed.ensures.owns tells next kept }
 
 pub returns-in_err-runs-clause-due : goal.returns-in_err-runs-clause-due
 returns-in_err-runs-clause-due g c = λ tells next kept.
@@ -155,7 +155,7 @@ returns-in_err-runs-clause-states g c = λ tells next kept.
 pub returns-in_err-runs-clause-sources_stay : goal.returns-in_err-runs-clause-sources_stay
 returns-in_err-runs-clause-sources_stay g c = λ tells some.
     let crashes = returns-in_err-runs-clause-sources_and_crashes g c tells some.0 some.1 in
-    c.kept_sites_keep_sources.ensures some.0 (g.S.Site.known c.surveyed.new.site) c.args.site.now c.surveyed.new.site crashes.kept
+    c.kept_sites_keep_sources.ensures some.0 (g.S.Site.known c.surveyed.new.site) c.args.site.now c.surveyed.new.site crashes.later crashes.kept
 
 -- ---- all is listed
 
@@ -174,7 +174,7 @@ returns-clause-kept g c = λ tells next kept.
 
 pub returns-clause-sources_and_crashes : goal.returns-clause-sources_and_crashes
 returns-clause-sources_and_crashes g c = λ tells next kept.
-    record { kept = (c.surveyed.ensures.kept tells next kept).kept; owned = c.surveyed.ensures.owns tells next kept }
+    record { later = (c.surveyed.ensures.kept tells next kept).began; kept = (c.surveyed.ensures.kept tells next kept).kept; owned = c.surveyed.ensures.owns tells next kept }
 
 pub returns-clause-due : goal.returns-clause-due
 returns-clause-due g c = λ tells next kept.
@@ -189,7 +189,7 @@ returns-clause-states g c = λ tells next kept.
 pub returns-clause-sources_stay : goal.returns-clause-sources_stay
 returns-clause-sources_stay g c = λ tells some.
     let crashes = returns-clause-sources_and_crashes g c tells some.0 some.1 in
-    c.kept_sites_keep_sources.ensures some.0 (g.S.Site.known c.surveyed.new.site) c.args.site.now c.surveyed.new.site crashes.kept
+    c.kept_sites_keep_sources.ensures some.0 (g.S.Site.known c.surveyed.new.site) c.args.site.now c.surveyed.new.site crashes.later crashes.kept
 
 pub returns-clause-lists : goal.returns-clause-lists
 returns-clause-lists g c = λ tells next kept.
@@ -211,7 +211,7 @@ returns-clause-lists g c = λ tells next kept.
     let brought = c.in_ok-graph.ensures.brought tells next kept in
     let here = own_within left graph.nodes stored (c.flags_are_of_rules.ensures (entries_of stored.commits) graph.nodes stored.graph) in
     let removes_are = c.in_ok-removes.ensures ∙ ap vanished c.nodes.ensures.value ∙ vanished_stand graph.nodes left.tree seen in
-    let listed = λ path. listed_is_to_remove first left kept.now.graph graph.nodes kept.now.reads is_kept.owners brought.rules (c.surveyed.ensures.files tells).tree sources path in
+    let listed = λ (path : Names). listed_is_to_remove first left kept.now.graph graph.nodes kept.now.reads is_kept.owners brought.rules (c.surveyed.ensures.files tells).tree sources path in
     record {
       graph = graph.nodes;
       stored = stored;
@@ -222,3 +222,17 @@ returns-clause-lists g c = λ tells next kept.
       removes = removes_are;
       removed = λ path. subst (λ (paths : List Names). Contains paths path ↔ IsToRemove first path) (sym removes_are) (listed path);
     }
+
+-- ---- what a crash may leave of a store that can't be read
+
+pub returns-in_err-graph-clause-closed : goal.returns-in_err-graph-clause-closed
+returns-in_err-graph-clause-closed g c = λ tells closed. c.surveyed.ensures.closed tells closed
+
+pub returns-in_err-removes-clause-closed : goal.returns-in_err-removes-clause-closed
+returns-in_err-removes-clause-closed g c = λ tells closed. c.surveyed.ensures.closed tells closed
+
+pub returns-in_err-runs-clause-closed : goal.returns-in_err-runs-clause-closed
+returns-in_err-runs-clause-closed g c = λ tells closed. c.surveyed.ensures.closed tells closed
+
+pub returns-clause-closed : goal.returns-clause-closed
+returns-clause-closed g c = λ tells closed. c.surveyed.ensures.closed tells closed

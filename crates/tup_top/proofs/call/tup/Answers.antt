@@ -1,15 +1,20 @@
-use Rattle.std.proofs.Common.{IsTrue, map, inl, refl, sym, subst}
+use Rattle.std.proofs.Common.{IsTrue, map, inl, refl, sym, subst, arith}
 use Rattle.std.specs.Prelude.{slice_set}
+use Rattle.std.proofs.lemmas.Option.{none-some}
 use Rattle.std.specs.Result.{result_err}
 use Rattle.tup_site.specs.Crash.{GoesOn}
+use Rattle.tup_site.specs.World.{TreeStays}
 use Rattle.tup_ledger.specs.Begin.{Begins}
+use Rattle.tup_table.specs.Images.{OpenStep}
 use Rattle.tup_stale.proofs.Going.{at_rest}
 use Rattle.tup_compare.specs.Compared.{HasCompared}
 use Rattle.tup_compare.specs.Opened.{JustOpens}
 use Rattle.tup_promise.specs.Blamed.{IsToBlame}
-use Rattle.tup_promise.specs.Finished.{AreFilesSettled, ExactlyTheFiles}
+use Rattle.tup_promise.specs.Cause.{IsWithin}
+use Rattle.tup_promise.specs.Finished.{IsSettled, ExactlyTheFiles}
 use Rattle.tup_promise.specs.Kept.{IsKeptBySome}
 use Rattle.tup_promise.specs.Needed.{OnlyWhatIsNeeded}
+use Rattle.tup_promise.specs.Users.{IsHeldUp}
 use Rattle.tup_ends.proofs.Staying.{sources_kept}
 use Rattle.tup_top.specs.Crew.{CrewRuns, CrewCompares}
 use Rattle.tup_top.specs.Order.{Wanted, goes_on, order}
@@ -239,10 +244,10 @@ returns-clause-only_what_is_needed g c = λ here.
     (untouched_needed g.S.Site g.R.Runner c.args.site here c.flags_are_of_rules.ensures (goes_on (order c.args.words.now)) ran c.new-in-Err-Memory.ensures)
 
 pub returns-clause-blamed : goal.returns-clause-blamed
-returns-clause-blamed g c = λ _. memory_for_update (order c.args.words.now) (IsToBlame g.R.Runner.next (g.S.Site.world c.args.site) c.new-in-Err-Memory.result) tt
+returns-clause-blamed g c = λ _. memory_for_update (order c.args.words.now) (IsToBlame g.R.Runner.next (g.S.Site.world c.args.site) (g.S.Site.world c.args.site) c.new-in-Err-Memory.result) tt
 
 pub returns-clause-settled : goal.returns-clause-settled
-returns-clause-settled g c = λ _. memory_for_update (order c.args.words.now) (OnceDone (AreFilesSettled g.S.Site c.args.site)) (λ done. cc done)
+returns-clause-settled g c = λ _. memory_for_update (order c.args.words.now) (OnceDone (IsSettled g.S.Site c.args.site)) (λ done. cc done)
 
 pub returns-clause-sources_and_crashes : goal.returns-clause-sources_and_crashes
 returns-clause-sources_and_crashes g c = λ here _. untouched_crashes g.S.Site g.R.Runner c.args.site here
@@ -254,4 +259,35 @@ pub returns-clause-kept : goal.returns-clause-kept
 returns-clause-kept g c = λ here _. here.kept
 
 pub returns-clause-sources_stay : goal.returns-clause-sources_stay
-returns-clause-sources_stay g c = λ _ some _. let site = c.args.site in sources_kept g.S.Site some.0 (g.S.Site.known site) site site some.1
+returns-clause-sources_stay g c = λ _ some _. let site = c.args.site in sources_kept g.S.Site some.0 (g.S.Site.known site) site site (omega arith) some.1
+
+-- what a crash may leave of a store that can't be read
+
+pub returns-in-Ok-Upd-clause-closed : goal.returns-in-Ok-Upd-clause-closed
+returns-in-Ok-Upd-clause-closed g c = λ tells _ closed. c.update-status.ensures.closed tells closed
+
+pub returns-in-Ok-Todo-clause-closed : goal.returns-in-Ok-Todo-clause-closed
+returns-in-Ok-Todo-clause-closed g c = λ tells _ closed. c.todo-status.ensures.closed tells closed
+
+pub returns-clause-closed : goal.returns-clause-closed
+returns-clause-closed g c = λ _ _ _. at_rest g.S.Site.moment g.S.Site.left_since c.args.site OpenStep
+
+-- where a file of the user's stands at a path that no rule makes
+
+pub returns-in-Ok-Upd-clause-users : goal.returns-in-Ok-Upd-clause-users
+returns-in-Ok-Upd-clause-users g c = λ tells some has.
+    let wanted = rw c.in-Ok-Upd.is at c.order_of.ensures in
+    let is = rw c.in-Ok-Upd.field-0-is at wanted in
+    let held = IsHeldUp g.S.Site c.args.site c.update-status.result.site c.update-status.result.ran in
+    subst (λ (w : Wanted). ForUpdate w c.update-status.result.status held) (sym is) (c.update-status.ensures.users tells some has)
+
+pub returns-clause-users : goal.returns-clause-users
+returns-clause-users g c = λ _ _ _.
+    let site = c.args.site in
+    memory_for_update (order c.args.words.now) (IsHeldUp g.S.Site site site c.new-in-Err-Memory.result)
+    (record { stops = λ none. none-some _ (sym none); none = c.new-in-Err-Memory.ensures; files = refl; crash = at_rest g.S.Site.moment g.S.Site.left_since site TreeStays })
+
+-- the limits
+
+pub returns-clause-limits : goal.returns-clause-limits
+returns-clause-limits g c = λ _. memory_for_update (order c.args.words.now) (IsWithin (g.S.Site.world c.args.site)) tt

@@ -66,3 +66,9 @@ returns-in-Err-clause-printed g c = λ shows.
       ends = subst (λ (s : Status). Ends before now s c.tell.result) c.status_of_stop.ensures c.tell.ensures.ends;
       prints = subst (λ (s : Status). Prints s (last_line s) before now (g.K.Sink.held c.args.out.now) (g.K.Sink.held c.tell.new.out) c.tell.result) c.status_of_stop.ensures (c.tell.ensures.prints shows);
     }
+
+pub returns-in-Ok-clause-closed : goal.returns-in-Ok-clause-closed
+returns-in-Ok-clause-closed g c = λ tells closed. c.todo_site.ensures.closed tells closed
+
+pub returns-in-Err-clause-closed : goal.returns-in-Err-clause-closed
+returns-in-Err-clause-closed g c = λ tells closed. c.todo_site.ensures.closed tells closed

@@ -1,8 +1,11 @@
-use Rattle.std.proofs.Common.{refl}
+use Rattle.std.proofs.Common.{refl, sym}
+use Rattle.std.proofs.lemmas.Option.{none-some}
 use Rattle.tup_promise.specs.Blamed.{IsToBlame}
-use Rattle.tup_promise.specs.Finished.{AreFilesSettled, ExactlyTheFiles}
+use Rattle.tup_promise.specs.Cause.{IsWithin}
+use Rattle.tup_promise.specs.Finished.{IsSettled, ExactlyTheFiles}
 use Rattle.tup_promise.specs.Needed.{OnlyWhatIsNeeded}
 use Rattle.tup_promise.specs.Ran.{RunsThese}
+use Rattle.tup_promise.specs.Users.{IsHeldUp}
 use Rattle.tup_top.specs.Promise.{Logs, OnceDone, OpensStore, Spares}
 use Rattle.tup_top.proofs.Causes.{answered, counted_cause, logs_so, opens_so, untold_runs}
 use Rattle.tup_top.proofs.update.update.Goals as goal
@@ -76,13 +79,13 @@ returns-clause-only_what_is_needed g c = λ kept.
 pub returns-clause-blamed : goal.returns-clause-blamed
 returns-clause-blamed g c = λ kept.
     let update = c.update_site-site in
-    answered (IsToBlame g.R.Runner.next (g.S.Site.world c.args.site) update.result.log.ran) _ _ _ _ update.result.log update.result.stopped _ _ refl c.tell_all-status.ensures.ends update.ensures.counted_cause
+    answered (IsToBlame g.R.Runner.next (g.S.Site.world c.args.site) (g.S.Site.world update.result.site) update.result.log.ran) _ _ _ _ update.result.log update.result.stopped _ _ refl c.tell_all-status.ensures.ends update.ensures.counted_cause
     (update.ensures.blamed kept) tt
 
 pub returns-clause-settled : goal.returns-clause-settled
 returns-clause-settled g c = λ kept.
     let update = c.update_site-site in
-    answered (OnceDone (AreFilesSettled g.S.Site update.result.site)) _ _ _ _ update.result.log update.result.stopped _ _ refl c.tell_all-status.ensures.ends update.ensures.counted_cause
+    answered (OnceDone (IsSettled g.S.Site update.result.site)) _ _ _ _ update.result.log update.result.stopped _ _ refl c.tell_all-status.ensures.ends update.ensures.counted_cause
     (update.ensures.settled kept) (λ done. cc done)
 
 pub returns-clause-sources_and_crashes : goal.returns-clause-sources_and_crashes
@@ -96,3 +99,19 @@ returns-clause-kept g c = c.update_site-site.ensures.kept
 
 pub returns-clause-sources_stay : goal.returns-clause-sources_stay
 returns-clause-sources_stay g c = c.update_site-site.ensures.sources_stay
+
+pub returns-clause-closed : goal.returns-clause-closed
+returns-clause-closed g c = c.update_site-site.ensures.closed
+
+pub returns-clause-users : goal.returns-clause-users
+returns-clause-users g c = λ tells some has.
+    let update = c.update_site-site in
+    let held = update.ensures.users tells some has in
+    answered (IsHeldUp g.S.Site c.args.site update.result.site update.result.log.ran) _ _ _ _ update.result.log update.result.stopped _ _ refl c.tell_all-status.ensures.ends
+    update.ensures.counted_cause held (record { stops = λ none. none-some _ (sym none); none = held.none; files = held.files; crash = held.crash })
+
+pub returns-clause-limits : goal.returns-clause-limits
+returns-clause-limits g c = λ tells.
+    let update = c.update_site-site in
+    answered (IsWithin (g.S.Site.world c.args.site)) _ _ _ _ update.result.log update.result.stopped _ _ refl c.tell_all-status.ensures.ends
+    update.ensures.counted_cause (update.ensures.limits tells) tt

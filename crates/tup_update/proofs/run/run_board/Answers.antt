@@ -12,7 +12,7 @@ use Rattle.tup_promise.specs.Cause.{HasCountedCause}
 use Rattle.tup_access.specs.declared.verdict.Verdict.{Verdict}
 use Rattle.tup_promise.specs.declared.stop.Stop.TheVariants as stop
 use Rattle.tup_update.specs.Run.{OfBads, StopsAtBad, StopsBy}
-use Rattle.tup_update.proofs.Counting.{counted, own_all, ran_these, run_caused, stops_running, stops_so}
+use Rattle.tup_update.proofs.Counting.{counted, large_there, own_all, ran_these, run_caused, stops_running, stops_so}
 use Rattle.tup_apart.specs.Run.{OutputsOnce}
 use Rattle.tup_rule.specs.declared.rule.RuleName.{RuleName}
 use Rattle.tup_table.specs.Table.{entries_in}
@@ -163,9 +163,10 @@ returns-clause-promised g c = λ old tells means was.
       needed = c.ran_what_was_due.ensures board first since keep_going ran stopped tells means keeps opened.prepared (names_run g c) runs;
       crashes = c.boards_leave_crashes.ensures board old tells means keeps opened.prepared once opened.owns;
       states = c.boards_leave_states.ensures board first since tells means keeps opened.prepared once opened.states;
-      blamed = blames_rules next first ran stopped (stops_running c.args.plan.now.rules (bads g c) c.drain-drained.result stopped (stops_by g c)) (λ name verdict is.
+      blamed = blames_rules next first (g.S.Site.world board.site) ran stopped (stops_running c.args.plan.now.rules (bads g c) c.drain-drained.result stopped (stops_by g c)) (λ name verdict is.
           let at = bad_at g c name verdict is in
-          c.bad_rules_are_bad.ensures board first since at.at ran name verdict tells means keeps opened.prepared (names_run g c) at.is.came (has_name g c name verdict at));
+          c.bad_rules_are_bad.ensures board first since at.at ran name verdict tells means keeps opened.prepared (names_run g c) at.is.came (has_name g c name verdict at))
+          (large_there c.args.plan.now.rules (bads g c) g.S.Site g.R.Runner board keeps tells c.drain-drained.result stopped c.drain-drained.ensures.drains (stops_by g c));
       kept = c.boards_are_kept.ensures board first since tells means keeps (graph_read g c) opened.prepared once;
       settled = λ none. c.done_is_settled.ensures board first since tells means keeps (graph_read g c) opened.prepared once (all_done g c none);
     })

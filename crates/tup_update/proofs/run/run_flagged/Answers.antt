@@ -4,7 +4,6 @@ use Rattle.tup_graph.specs.Graph.{GraphState, is_flagged}
 use Rattle.tup_core.specs.declared.plan.Plan.{Plan}
 use Rattle.tup_apart.specs.Run.{MayRun}
 use Rattle.tup_promise.specs.declared.log.Log.{Log}
-use Rattle.tup_site.specs.declared.fault.SiteFailed.TheVariants as failed
 use Rattle.tup_ends.proofs.Done.{flags_due}
 use Rattle.tup_update.specs.Promised.{PromisesOver}
 use Rattle.tup_update.proofs.Promised.{nothing_due, unchanged, unchanged_sources}
@@ -57,7 +56,7 @@ returns-in_default-clause-sources g c = unchanged_sources g.S.Site c.args.graph 
 pub returns-in_default-clause-promised : goal.returns-in_default-clause-promised
 returns-in_default-clause-promised g c =
     let done = c.without_memory in
-    unchanged g.S.Site g.R.Runner c.args.keep_going c.args.graph c.args.site done.result.site done.result.log.ran failed.Memory done.result.stopped
+    unchanged g.S.Site g.R.Runner c.args.keep_going c.args.graph c.args.site done.result.site done.result.log.ran done.result.stopped
     (λ tells first since prepared. let site_laws = g.met.S.Site in flags_due g.S.Site g.R.Runner.next first since c.args.graph c.args.site prepared (λ t u w within left. site_laws.earlier c.args.site t u w tells within left) (site_laws.present c.args.site tells))
     done.ensures.site (ap (λ (log : Log). log.ran) done.ensures.log ∙ c.requires.none.ran) done.ensures.stopped
 

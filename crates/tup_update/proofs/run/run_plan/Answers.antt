@@ -6,7 +6,6 @@ use Rattle.tup_board.specs.Board.{BoardState, Opening}
 use Rattle.tup_board.specs.Calls.{opened_as}
 use Rattle.tup_promise.specs.Cause.{HasCountedCause}
 use Rattle.tup_promise.specs.declared.log.Log.{Log}
-use Rattle.tup_site.specs.declared.fault.SiteFailed.TheVariants as failed
 use Rattle.tup_ends.proofs.Done.{flags_due}
 use Rattle.tup_update.specs.Promised.{KeepsSources, PromisesOver}
 use Rattle.tup_update.proofs.Promised.{unchanged, unchanged_sources}
@@ -57,7 +56,7 @@ returns-in-Err-clause-sources g c =
 pub returns-in-Err-clause-promised : goal.returns-in-Err-clause-promised
 returns-in-Err-clause-promised g c =
     let done = c.without_memory-in-Err in
-    unchanged g.S.Site g.R.Runner c.args.plan.now.keep_going c.args.graph c.args.site done.result.site done.result.log.ran failed.Memory done.result.stopped
+    unchanged g.S.Site g.R.Runner c.args.plan.now.keep_going c.args.graph c.args.site done.result.site done.result.log.ran done.result.stopped
     (λ tells first since prepared. let site_laws = g.met.S.Site in flags_due g.S.Site g.R.Runner.next first since c.args.graph c.args.site prepared (λ t u w within left. site_laws.earlier c.args.site t u w tells within left) (site_laws.present c.args.site tells))
     (done.ensures.site ∙ ap (λ (back : _ × Held × BoardFault). back.0) c.in-Err.ensures.memory) (ap (λ (log : Log). log.ran) done.ensures.log ∙ c.requires.none.ran) done.ensures.stopped
 
@@ -85,7 +84,7 @@ returns-in_default-clause-sources g c = unchanged_sources g.S.Site c.args.graph 
 pub returns-in_default-clause-promised : goal.returns-in_default-clause-promised
 returns-in_default-clause-promised g c =
     let done = c.without_memory in
-    unchanged g.S.Site g.R.Runner c.args.plan.now.keep_going c.args.graph c.args.site done.result.site done.result.log.ran failed.Memory done.result.stopped
+    unchanged g.S.Site g.R.Runner c.args.plan.now.keep_going c.args.graph c.args.site done.result.site done.result.log.ran done.result.stopped
     (λ tells first since prepared. let site_laws = g.met.S.Site in flags_due g.S.Site g.R.Runner.next first since c.args.graph c.args.site prepared (λ t u w within left. site_laws.earlier c.args.site t u w tells within left) (site_laws.present c.args.site tells))
     done.ensures.site (ap (λ (log : Log). log.ran) done.ensures.log ∙ c.requires.none.ran) done.ensures.stopped
 

@@ -1,11 +1,12 @@
-use Rattle.std.proofs.Common.{ℕ, subst, ◌∙◌}
+use Rattle.std.proofs.Common.{ℕ, subst, sym, ◌∙◌}
+use Rattle.std.proofs.lemmas.Option.{none-some}
 use Rattle.tup_promise.specs.Cause.{HasCountedCause}
 use Rattle.tup_promise.specs.Kept.{KeptHere}
 use Rattle.tup_ends.proofs.Stated.{kept_stated}
 use Rattle.tup_ends.proofs.Staying.{sources_kept}
 use Rattle.tup_update.proofs.Promised.{blames_sources, runs_before}
 use Rattle.tup_update.proofs.Logging.{before_logged, running_spares}
-use Rattle.tup_update.proofs.Whole.{before_ran, before_run_cause, opened_running}
+use Rattle.tup_update.proofs.Whole.{before_ran, before_run_cause, opened_running, within_before, within_running}
 use Rattle.tup_update.specs.Promised.{Promises}
 use Rattle.tup_update.proofs.update.update_site.Given.{Over}
 use Rattle.tup_update.proofs.update.update_site.Goals.{After-run_flagged}
@@ -66,7 +67,8 @@ returns-in-Err-clause-kept g c = λ here. c.prepared.ensures.kept here.tells g.R
 
 pub returns-in-Err-clause-sources_and_crashes : goal.returns-in-Err-clause-sources_and_crashes
 returns-in-Err-clause-sources_and_crashes g c = λ here. record {
-  kept = c.prepared.ensures.crash here.tells g.R.Runner.next here.kept;
+  later = (c.prepared.ensures.crash here.tells g.R.Runner.next here.kept).began;
+  kept = (c.prepared.ensures.crash here.tells g.R.Runner.next here.kept).kept;
   owned = c.prepared.ensures.owns here.tells g.R.Runner.next here.kept;
 }
 
@@ -76,7 +78,7 @@ returns-in-Err-clause-states g c = λ here.
 
 pub returns-in-Err-clause-blamed : goal.returns-in-Err-clause-blamed
 returns-in-Err-clause-blamed g c = λ here.
-    blames_sources g.R.Runner.next (g.S.Site.world c.args.site) c.prepared.new.log.ran c.in-Err.stop c.in-Err.ensures.stops (c.in-Err.ensures.blame here.tells g.R.Runner.next here.kept)
+    blames_sources g.R.Runner.next (g.S.Site.world c.args.site) (g.S.Site.world c.prepared.new.site) c.prepared.new.log.ran c.in-Err.stop c.in-Err.ensures.stops (c.in-Err.ensures.blame here.tells g.R.Runner.next here.kept)
 
 pub returns-in-Err-clause-only_what_is_needed : goal.returns-in-Err-clause-only_what_is_needed
 returns-in-Err-clause-only_what_is_needed g c = λ here. record {
@@ -87,7 +89,8 @@ returns-in-Err-clause-only_what_is_needed g c = λ here. record {
 pub returns-in-Err-clause-sources_stay : goal.returns-in-Err-clause-sources_stay
 returns-in-Err-clause-sources_stay g c = λ tells some.
     let new = c.prepared.new.site in
-    sources_kept g.S.Site some.0 (g.S.Site.known new) c.args.site new (c.prepared.ensures.crash tells some.0 some.1)
+    let crash = c.prepared.ensures.crash tells some.0 some.1 in
+    sources_kept g.S.Site some.0 (g.S.Site.known new) c.args.site new crash.began crash.kept
 
 pub returns-in-Err-clause-run_cause : goal.returns-in-Err-clause-run_cause
 returns-in-Err-clause-run_cause g c = before_run_cause (g.R.Runner.faults c.args.runner.now) c.in-Err.stop c.in-Err.ensures.stops
@@ -106,3 +109,32 @@ pub returns-in-Ok-clause-spares : goal.returns-in-Ok-clause-spares
 returns-in-Ok-clause-spares g c = λ tells.
     let done = c.run_flagged.result in
     running_spares (g.S.Site.world c.args.site) (g.S.Site.world done.site) done.stopped c.run_flagged.ensures.stops
+
+-- ---- what a crash may leave of a store that can't be read
+
+pub returns-in-Ok-clause-closed : goal.returns-in-Ok-clause-closed
+returns-in-Ok-clause-closed g c = λ tells closed. absurd (closed (c.in-Ok.ensures.unopened tells))
+
+pub returns-in-Err-clause-closed : goal.returns-in-Err-clause-closed
+returns-in-Err-clause-closed g c = λ tells closed. c.prepared.ensures.closed tells closed
+
+-- ---- where a file of the user's stands at a path that no rule makes
+
+pub returns-in-Ok-clause-users : goal.returns-in-Ok-clause-users
+returns-in-Ok-clause-users g c = λ tells some has. absurd (c.in-Ok.ensures.held tells some.0 some.1 has)
+
+pub returns-in-Err-clause-users : goal.returns-in-Err-clause-users
+returns-in-Err-clause-users g c = λ tells some has. record {
+  stops = λ none. none-some c.in-Err.stop (sym none);
+  none = c.prepared.ensures.none.ran ∙ c.new-log.ensures.ran;
+  files = c.prepared.ensures.users tells some.0 some.1 has;
+  crash = c.prepared.ensures.trees tells some.0 some.1 has;
+}
+
+-- ---- the limits
+
+pub returns-in-Ok-clause-limits : goal.returns-in-Ok-clause-limits
+returns-in-Ok-clause-limits g c = λ tells. within_running (g.S.Site.world c.args.site) c.run_flagged.result.stopped (c.in-Ok.ensures.limits tells)
+
+pub returns-in-Err-clause-limits : goal.returns-in-Err-clause-limits
+returns-in-Err-clause-limits g c = λ tells. within_before (g.S.Site.world c.args.site) c.in-Err.stop c.in-Err.ensures.stops
