@@ -1,6 +1,6 @@
 #!/bin/sh
-# Each system call of an update over real files, of the beginning of a project and of a comparison, is failed and killed in turn, by strace: whatever stops the program, no
-# source may be lost, and the next update has to end with `done` and leave just the files of a clean build. A call that
+# Each system call of an update over real files, of the beginning of a project, of a comparison and of a list of what is to be done is failed and killed in turn, by strace:
+# whatever stops the program, no source may be lost, and the next update has to end with `done` and leave just the files of a clean build. A call that
 # failed is told with its error; only where nothing is lost by it may the update go on. Before, the order of its syncs is
 # looked at: which calls of the system make a file durable no clause says. Then the store is torn in the range of each of its
 # writes, in each way that a cut of power may leave it: by a change of the file, in place of the cut. So are the outputs, at each
@@ -53,6 +53,9 @@ after_changes() {
     printf 'mine\n' > page
     rm index
 }
+
+# The same, and what is stopped is the list of what an update would do.
+listing() { after_changes; }
 
 # Of the owned paths `a`, `az` the first is given up; beside them stands a file of the user's with a name like theirs.
 fewer_paths() {
@@ -116,6 +119,7 @@ made_all() {
     case $order in
         init) [ -s .tup/db ] || wrong "exit $exit, and there is no store" ;;
         verify) [ "$exit $(tail -1 "$work/told")" = '0 same' ] || [ $exit = 9 ] || wrong "exit $exit: $(tail -1 "$work/told")" ;;
+        todo) [ "$exit $(tail -1 "$work/told")" = '0 done: 1 read, 0 run, 0 removed' ] || [ $exit = 9 ] || wrong "exit $exit: $(tail -1 "$work/told")" ;;
         *) [ "$(files)" = "$wanted_files" ] || wrong "exit $exit, and the files aren't those of a clean build" ;;
     esac
 }
@@ -157,6 +161,7 @@ stop() {
     case $order in
         init) begin_again ;;
         verify) unchanged ;;
+        todo) [ "$(files)" = "$files_before" ] || wrong "a list of what is to be done changed a file" ;;
     esac
     go_on
 }
@@ -312,11 +317,12 @@ unsynced() {
 }
 
 # How often the update of a project commits: what it saw; the readings and rules; before and behind what it removes; before and
-# behind what each command makes.
+# behind what each command makes. A list commits the first two.
 commits_of() {
     case $1 in
         three_rules) echo 8 ;;
         after_changes) echo 10 ;;
+        listing) echo 2 ;;
         fewer_paths) echo 4 ;;
         after_a_kill | folders_below) echo 6 ;;
     esac
@@ -329,10 +335,12 @@ try() {
     case $1 in
         beginning) order=init stores=1 ;;
         comparison) order=verify stores=0 && "$tup" init > /dev/null ;;
+        listing) order=todo stores=$(($(commits_of "$1") * 2)) && "$tup" init > /dev/null ;;
         *) order=upd stores=$(($(commits_of "$1") * 2)) && "$tup" init > /dev/null ;;
     esac
     "$1"
     wanted_sources=$(sources)
+    files_before=$(files)
     names_of_sources | xargs -d '\n' cp --parents -t "$work/clean"
     cd "$work/clean" && "$tup" init > /dev/null && "$tup" > /dev/null || echo "the clean build of $1 isn't done"
     wanted_files=$(files)
@@ -378,7 +386,7 @@ behind_a_bad_rule() {
 }
 
 behind_a_bad_rule
-for project in ${*:-beginning comparison three_rules after_changes fewer_paths after_a_kill folders_below}; do try "$project"; done
+for project in ${*:-beginning comparison listing three_rules after_changes fewer_paths after_a_kill folders_below}; do try "$project"; done
 
 if [ "$failures" -gt 0 ]; then
     echo "$failures of $all updates that were stopped went wrong"

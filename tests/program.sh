@@ -251,12 +251,26 @@ gone "it did none of it" b
 row "the same again" 0 'todo run .: cp a b;done: 0 read, 0 run, 0 removed;' todo
 row "the update" 0 'run .: cp a b;done: 0 read, 1 run, 0 removed;' upd
 row "nothing would be done" 0 "$nothing" todo
+echo mine > b
+row "an output that was edited by hand" 0 'todo run .: cp a b;done: 0 read, 0 run, 0 removed;' todo
+file "it stays as it is" b mine
 : > Tupfile
 row "a rule that vanished" 0 'read .;todo remove b;done: 1 read, 0 run, 0 removed;' todo
-file "its file stands" b hi
+file "its file stands" b mine
+row "it is the user's now" 6 'fault: b was changed by hand and no rule makes it;' upd
+row "it is listed all the same" 0 'todo remove b;done: 0 read, 0 run, 0 removed;' todo
+rm b
+row "it has gone" 0 "$nothing" todo
+echo 'b: a' > Tupfile
+row "a fault of the Tupfile" 5 'fault: Tupfile:1: unknown line, read for .;' todo
 row "a word behind it" 2 'fault: usage, word 2;' todo now
-folder
+row "an option of an update" 2 'fault: usage, word 2;' todo -k
+row "it is no option" 2 'fault: usage, word 1;' --todo
+printf 'no store' > .tup/db
+row "a store that doesn't read" 4 'fault: the store is damaged at byte 0;' todo
+folder "$copy"
 row "without a project" 3 'fault: no tup project here;' todo
+same "nothing was made" "$(ls -A | tr '\n' ' ')" 'Tupfile a '
 
 project ': a |> cp a g |> g' ': a |> cat a g > h |> h'
 row "a generated file that isn't declared" 1 'read .;run .: cp a g;bad .: cat a g > h;fault: .: cat a g > h: reads g;' upd

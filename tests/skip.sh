@@ -101,6 +101,34 @@ done_row "a source of both" 'run .: cp a d;run .: cp a b;' 'done: 0 read, 2 run,
 rules ': a |> cp a d |> d' ': a |> ^ COPY %f^ cp a b |> b'
 done_row "another text to be shown" 'read .;run .: COPY a;' "$one"
 
+# What an update would do: its lines without those of what it reads, these, and how many they are. The second time it reads
+# nothing, and it writes nothing.
+would() {
+    row "$1: what would be done" 0 "$3${2}done: $4 read, 0 run, 0 removed;" todo
+    standing > "$work/before"
+    row "$1: listed twice" 0 "${2}done: 0 read, 0 run, 0 removed;" todo
+    same "$1: nothing is written by that" "$(standing | diff "$work/before" -)" ''
+}
+project "$copy" ': b |> cp b c |> c'
+would "two new rules" 'todo run .: cp a b;todo run .: cp b c;' 'read .;' 1
+done_row "two new rules" 'run .: cp a b;run .: cp b c;' 'done: 0 read, 2 run, 0 removed'
+would "nothing to do" '' '' 0
+echo mine > c
+would "an output that was edited by hand" 'todo run .: cp b c;' '' 0
+file "it stays as it is" c mine
+done_row "an output that was edited by hand" 'run .: cp b c;' 'done: 0 read, 1 run, 0 removed'
+echo ho > a
+would "a source that was edited" 'todo run .: cp a b;todo run .: cp b c;' '' 0
+echo hi > a
+would "a source that was put back" 'todo run .: cp a b;todo run .: cp b c;' '' 0
+done_row "a source that was put back" 'run .: cp a b;run .: cp b c;' 'done: 0 read, 2 run, 0 removed'
+rules "$copy"
+would "a rule that vanished" 'todo remove c;' 'read .;' 1
+file "its file stands" c hi
+rules "$copy" ': b |> cp b c |> c'
+would "it is there again" 'todo run .: cp b c;' 'read .;' 1
+done_row "it is there again" 'run .: cp b c;' 'done: 0 read, 1 run, 0 removed'
+
 # Three folders, a header that two of three sources include, and a group over them.
 folders() {
     project

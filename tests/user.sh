@@ -125,6 +125,7 @@ echo ho > ../a
 cd deep || exit 1
 row "two folders below" 0 'run .: cp a b;done: 0 read, 1 run, 0 removed;' ''
 row "it is compared" 0 'same;' '' verify
+row "what would be done" 0 'done: 0 read, 0 run, 0 removed;' '' todo
 row "a word that is none" 2 'fault: usage, word 2;' '' upd now
 row "an option that is none" 2 'fault: usage, word 1;' '' --fast
 row "the version" 0 'tup 0.2;' '' --version
@@ -151,6 +152,7 @@ row "a link named .tup above" 7 "$failed" 'tup: look at ../.tup: a link or a spe
 rm ../.tup
 row "no project above" 3 "$none" "$init_here"
 row "nor is there anything to compare" 3 "$none" "$init_here" verify
+row "nor anything to be done" 3 "$none" "$init_here" todo
 same "nothing was made" "$(names . ..)" '.: deep  ..: .hidden Tupfile a b sub with blank '
 
 # A project within another.
@@ -237,6 +239,9 @@ row "it has gone" 8 'fault: the runner failed;' "tup: ../tools/run: $no_start"
 row "a program of the call is one from here" 8 'fault: the runner failed;' "tup: ./tools/run: $no_start" --proc ./tools/run
 options "a program that isn't there" '--proc\nno_such_program\n' 8 'read .;fault: the runner failed;' "tup: no_such_program: $no_start"
 row "the call names another" 0 'run .: cp a b;done: 0 read, 1 run, 0 removed;' '' --proc "$work/two"
+options "a program that isn't there, -k and --verbose: it lists all the same" '--proc\nno_such_program\n-k\n--verbose\n' 8 \
+    'read .;fault: the runner failed;' "[1] .: cp a b;tup: no_such_program: $no_start"
+row "what would be done needs no program, and shows none" 0 'todo run .: cp a b;done: 0 read, 0 run, 0 removed;' '' todo
 options "no program behind --proc" '--proc\n' 2 '' 'tup: .tup/options: no program behind --proc;'
 options "two programs" "--proc one\n--proc two\n" 2 '' 'tup: .tup/options: a second --proc;'
 options "an option twice" '--no-sync\n--no-sync\n' 2 '' 'tup: .tup/options: a second --no-sync;'
@@ -244,6 +249,7 @@ options "a word that is none" '--fast\n' 2 '' 'tup: .tup/options: unknown word -
 mkdir sub && cd sub || exit 1
 row "a word that is none, for a call below the top" 2 '' 'tup: ../.tup/options: unknown word --fast;'
 row "a word that is none, where files are compared" 2 '' 'tup: ../.tup/options: unknown word --fast;' verify
+row "a word that is none, where one asks what would be done" 2 '' 'tup: ../.tup/options: unknown word --fast;' todo
 row "a word that is none, and one asks for the version" 0 'tup 0.2;' '' --version
 options "a word without dashes" 'proc tup_sh\n' 2 '' 'tup: .tup/options: unknown word proc tup_sh;'
 options "a word that was joined" '--proc=tup_sh\n' 2 '' 'tup: .tup/options: unknown word --proc=tup_sh;'
@@ -277,6 +283,7 @@ row "a folder in the place of the options" 7 "$failed" 'tup: read .tup/options: 
 folder "$copy"
 printf -- '--proc\n%s\n' "$work/one" > Tupfile.ini
 row "a project isn't begun for a comparison" 3 "$none" 'tup: `tup` begins the project of ./Tupfile.ini;' verify
+row "nor to list what would be done" 3 "$none" 'tup: `tup` begins the project of ./Tupfile.ini;' todo
 row "nor for a word that is none" 2 'fault: usage, word 1;' '' make
 same "nothing was made" "$(names .)" 'Tupfile Tupfile.ini a '
 mkdir -p sub/deep && cd sub/deep || exit 1

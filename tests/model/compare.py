@@ -14,7 +14,7 @@ import subprocess
 import sys
 import tempfile
 
-from random_projects import Player, project_call_rows
+from random_projects import player_of, project_call_rows
 from random_rows import glob_rows, project_rows, reading_rows
 from random_runs import board_rows, clean_build_rows, machine_rows, small_command_rows
 from real_folders import Folder
@@ -51,7 +51,7 @@ def compare_folders(command, kills):
     for number in range(max(1, int(100 * COUNT))):
         lot = random.Random('folders %d %d' % (SEED, number))
         folder = Folder(command[0], command[1:], lot, kills, problems)
-        Player(lot, folder).play()
+        player_of(lot, folder).play()
         calls, killed = calls + folder.calls, killed + folder.killed
         if not problems or problems[-1][0] != folder.top:
             folder.remove()

@@ -2,7 +2,7 @@
 import copy
 
 from commands import clean_build, outputs_of, run
-from language import CommandsCircle, Fault, FoldersCircle, NoGroup, Project, label, makers, settings, show
+from language import CommandsCircle, Fault, FoldersCircle, NoGroup, Project, label, producers, settings, show
 
 
 class UserFile(Exception):
@@ -200,7 +200,7 @@ class Kept:
 
     def run(self, tree, keep_going):
         """Runs the rules that are to be run, up to the first bad one, or all that need no bad one; gives each with its verdict."""
-        waits, generated, bad = makers(self.rules), outputs_of(self.rules), set()
+        waits, generated, bad = producers(self.rules), outputs_of(self.rules), set()
         ready = lambda: [at for at in sorted(self.flags - bad) if not waits[at] & self.flags]
         while ready() and (keep_going or not bad):
             at = ready()[0]

@@ -19,6 +19,18 @@ STATEMENTS = ['include_rules', 'V = v', 'V += w', 'V := @(S)$(V)', 'ifdef S\nRUL
               'ifndef S\nRULE\nendif', 'ifeq (@(S),1)\nRULE\nelse\nRULE\nendif', 'error stop', 'include none',
               '!m = |> cp %f %o |> m.o']
 
+# three storeys, so that an edit leads over several rules
+LIBRARY = [': |> ifexists UPk UPh.h %o |> made.h', ': foreach *.c | made.h |> ^ CC %b^ incl %f %o |> %B.o {o}',
+           ': {o} |> ^ AR^ cat %f > %o |> all.a UP<all>']
+STOREYS = {'': [': <all> |> ^ LINK^ cat %<all> > %o |> app', ': app |> cp %f %o |> app.x'],
+           'lib': [line.replace('UP', '../') for line in LIBRARY], 'lib/x': [line.replace('UP', '../../') for line in LIBRARY]}
+MORE = [': app |> ^ MORE^ cat app app > %o |> more', ': lib/all.a |> cp %f %o |> more', ': lib/made.h app |> cat %f > %o |> more']
+SOURCES = {'lib/l.c': 1, 'lib/x/y.c': 1, 'lib/x/z.c': .5, 'h.h': .8, 'k': .5, 'lib/m.h': .5}
+INCLUDING = [b'int a;\n', b'int b;\n', b'y', b'#include "made.h"\nz', b'#include "made.h"\n', b'#include "made.h"\nv', b'#include "m.h"\n',
+             b'#include "../h.h"\nx\n', b'#include "none"\n']
+
+CALLS = [['upd'], ['upd'], [], ['upd', '-k'], ['-k'], ['todo'], ['verify'], ['init']]
+
 
 def tupfile_line(drawn, folder):
     one_of, up = drawn.one_of, way_up(folder)
@@ -52,9 +64,11 @@ def tupfile_rule(drawn, up):
 
 class Player:
     """Somebody who edits a project and calls `tup`; each deed is told to `does`, which carries it out."""
+    sources, contents, calls, turns = [path_of(path) for path in FILES], CONTENTS, CALLS, (2, 6)
 
     def __init__(self, lot, does):
         self.drawn, self.lot, self.does, self.world = Drawn(lot), lot, does, World()
+        self.past = None
 
     def begin(self):
         if self.drawn.is_drawn(.95):
@@ -78,6 +92,10 @@ class Player:
             self.world.tree = tree
             self.does.write(path, content)
 
+    def delete(self, path):
+        del self.world.tree[path]
+        self.does.delete(path)
+
     def write_tupfile(self, folder):
         path = path_of(folder + '/Tupfile') if folder else (b'Tupfile',)
 
@@ -96,14 +114,23 @@ class Player:
         if folders:
             self.write(folders[-1] + (b'Tupfile',), b'')
 
+    def edit_source(self):
+        """Another content of a file, or that which the last such edit changed."""
+        if self.past and self.drawn.is_drawn(.35):
+            self.write(*self.past)
+            self.past = None
+            return
+        read = {path for asked, _ in (self.world.kept or Kept()).runs.values() for path, _ in asked} - (self.world.owned or set())
+        path = self.lot.choice(sorted(read) if read and self.drawn.is_drawn(.5) else self.sources)
+        self.past = (path, self.world.tree[path]) if path in self.world.tree else None
+        self.write(path, self.lot.choice(self.contents))
+
     def edit(self):
         drawn, owned = self.lot.random(), sorted(self.world.owned or ())
-        if drawn < .35:
-            self.write(path_of(self.lot.choice(FILES)), self.lot.choice(CONTENTS))
-        elif drawn < .5 and self.world.tree:
-            path = self.lot.choice(sorted(self.world.tree))
-            del self.world.tree[path]
-            self.does.delete(path)
+        if drawn < .45:
+            self.edit_source()
+        elif drawn < .55 and self.world.tree:
+            self.delete(self.lot.choice(sorted(self.world.tree)))
         elif drawn < .8:
             self.write_tupfile(self.lot.choice(FOLDERS))
         elif drawn < .9 and owned:
@@ -118,14 +145,48 @@ class Player:
 
     def play(self):
         self.begin()
-        for turn in range(self.lot.randint(2, 6)):
+        for turn in range(self.lot.randint(*self.turns)):
+            words = self.lot.choice(self.calls)
             for _ in range(self.lot.randint(0, 2) if turn else 0):
                 self.edit()
-            words = self.lot.choice([['upd'], ['upd'], [], ['upd', '-k'], ['-k'], ['todo'], ['verify'], ['init']])
             before = self.world.copy()
             status, lines = self.world.call(words)
             if lines is None or not self.does.call(words, status, lines, before, self.world):
                 return
+
+
+class Builder(Player):
+    """Somebody who edits the sources of three storeys of rules, and what is made of them."""
+    sources, contents, calls, turns = [path_of(path) for path in SOURCES], INCLUDING, CALLS[:-1], (4, 9)
+
+    def begin(self):
+        self.world.call(['init'])
+        self.does.begin(True)
+        for path, part in SOURCES.items():
+            if self.drawn.is_drawn(part):
+                self.write(path_of(path), self.lot.choice(INCLUDING))
+        for folder in STOREYS:
+            self.write_tupfile(folder)
+
+    def write_tupfile(self, folder):
+        more = [self.lot.choice(MORE)] if not folder and self.drawn.is_drawn(.3) else []
+        path = path_of(folder + '/Tupfile') if folder else (b'Tupfile',)
+        self.write(path, '\n'.join(STOREYS[folder] + more + ['']).encode())
+
+    def edit(self):
+        drawn, made = self.lot.random(), sorted(set(self.world.owned) & set(self.world.tree))
+        if drawn < .15 and made:
+            self.delete(self.lot.choice(made))
+        elif drawn < .25 and made:
+            self.write(self.lot.choice(made), b'mine\n')
+        elif drawn < .35:
+            self.write_tupfile('')
+        else:
+            self.edit_source()
+
+
+def player_of(lot, does):
+    return lot.choice([Player, Player, Player, Builder])(lot, does)
 
 
 class Rows:
@@ -156,5 +217,5 @@ class Rows:
 def project_call_rows(lot, count):
     for _ in range(count):
         rows = Rows()
-        Player(lot, rows).play()
+        player_of(lot, rows).play()
         yield from rows.rows

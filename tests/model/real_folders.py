@@ -1,9 +1,11 @@
 """The same deeds in a real folder, with the program itself; and what it leaves where it is killed on the way."""
 import os
+import re
 import shutil
 import subprocess
 import tempfile
 import time
+from collections import Counter
 
 from commands import outputs_of
 from language import Project, show
@@ -22,6 +24,12 @@ def tree_of(top):
     return tree
 
 
+def deeds(lines):
+    """What lines say was removed and run, whether well or not, or is to be."""
+    told = re.findall(rb'^(?:todo )?(remove|run|bad) (.*)', lines, re.MULTILINE)
+    return Counter((b'run' if deed == b'bad' else deed, of) for deed, of in told)
+
+
 class Folder:
     """A project in a folder of its own; `problems` are the calls that came out otherwise."""
 
@@ -29,13 +37,14 @@ class Folder:
         self.program, self.options, self.lot = os.path.abspath(program), options, lot
         self.kills, self.problems = kills, problems
         self.top, self.calls, self.killed = tempfile.mkdtemp(), 0, 0
+        self.listed = None  # what `todo` listed, while nothing is edited
 
     def place(self, path):
         return os.path.join(os.fsencode(self.top), *path)
 
     def start(self, words):
         """A call, with the options behind its words where it is an update."""
-        options = self.options if words in ([], ['upd']) else []
+        options = [] if words in (['init'], ['todo'], ['verify']) else self.options
         return subprocess.Popen([self.program, *words, *options], cwd=self.top, stdout=subprocess.PIPE,
                                 stderr=subprocess.DEVNULL)
 
@@ -49,6 +58,7 @@ class Folder:
             self.run(['init'])
 
     def write(self, path, content):
+        self.listed = None
         if os.path.isdir(self.place(path)):
             shutil.rmtree(self.place(path))  # it has empty folders alone
         os.makedirs(os.path.dirname(self.place(path)), exist_ok=True)
@@ -56,6 +66,7 @@ class Folder:
             file.write(content)
 
     def delete(self, path):
+        self.listed = None
         os.remove(self.place(path))
         for depth in range(len(path) - 1, 0, -1):
             if not os.listdir(self.place(path[:depth])):
@@ -66,6 +77,9 @@ class Folder:
         was_killed = self.kills and is_update and self.kill(words, before)
         found_status, found_lines = self.run(words)
         self.calls += 1
+        wrong, listed = [], self.listed
+        if not self.is_as_listed(words, found_status, found_lines):
+            wrong.append('todo listed %s' % listed)
         tree = tree_of(self.top)
         if was_killed and status == 1:
             # what the killed one made of rules behind the bad one's, or what an edit left at an output, stays
@@ -73,12 +87,20 @@ class Folder:
             same_tree = {path: tree[path] for path in tree if path not in owned} == before.sources()
         else:
             same_tree = tree == world.tree
-        if found_status != status or not was_killed and found_lines != lines or not same_tree:
+        if wrong or found_status != status or not was_killed and found_lines != lines or not same_tree:
             paths = sorted(set(tree) | set(world.tree))
             differ = [show(path).decode() for path in paths if tree.get(path) != world.tree.get(path)]
-            self.problems.append((self.top, words, (status, lines), (found_status, found_lines), differ))
+            self.problems.append((self.top, words, (status, lines), (found_status, found_lines), differ, wrong))
             return False
         return not (was_killed and status == 1)
+
+    def is_as_listed(self, words, status, lines):
+        """Whether an update removes and runs what `todo` listed, if nothing was edited between: all of it where it is done."""
+        listed, did = self.listed, deeds(lines)
+        if words in (['init'], ['verify']):
+            return True
+        self.listed = did if words == ['todo'] and status == 0 else None
+        return listed is None or did == listed or status and not did - listed
 
     def kill(self, words, before):
         """Ends a call at some moment; no source may be lost by that."""
@@ -86,7 +108,7 @@ class Folder:
         time.sleep(self.lot.random() * .006)
         process.kill()
         process.communicate()
-        self.killed += 1
+        self.killed, self.listed = self.killed + 1, None
         tree = tree_of(self.top)
         lost = [show(path).decode() for path, content in before.sources().items() if tree.get(path) != content]
         if lost:
