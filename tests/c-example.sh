@@ -159,7 +159,7 @@ stopped() {
     pgrep -f "sleep $nap" > /dev/null && wrong 'its command is still at work'
     printf ': a |> cp a made |> made\n' > src/Tupfile
     update "behind one that was $step" 0 'done: 1 read, 1 run, 0 removed'
-    [ "$(ls .tup)" = "$(printf 'db\nstage')" ] || wrong "more is left in .tup: $(ls .tup)"
+    [ "$(ls .tup)" = "$(printf 'db\nmark\nstage')" ] || wrong "more is left in .tup: $(ls .tup)"
 }
 # at_moments SIGNAL: the program in C, its update stopped at ten moments.
 at_moments() {

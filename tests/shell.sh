@@ -134,7 +134,14 @@ stamped ln a
 stamped a 'a
 '
 try '' 'cat links/circle; head -c 0 links/outside' 'R links/circle,R links/outside,E 0'
+# -- a link that leads to no text isn't followed, and it says so
 try '' 'cat links/strange' 'A links/strange,E 1'
+told "tup_sh: reads src/links/strange, which tup doesn't see: its changes won't run this command again"
+try '' 'cat links/strange .quiet; rm -f links/strange; ln -s a links/strange; cat links/strange' 'A links/strange,A links/a,E 1'
+told "tup_sh: reads src/links/strange, which"
+[ "$(grep -c "which tup doesn't see" "$work/said")" = 1 ] || wrong "it said $(cat "$work/said")"
+try '' 'readlink links/strange; ls links >/dev/null' 'A links/strange,E 0'
+silent
 # -- a hidden link isn't seen, and it says so
 try '' 'cat .hl' 'R a,E 0'
 told "tup_sh: reads src/.hl, which tup doesn't see: its changes won't run this command again"
@@ -222,6 +229,83 @@ mkdir "$stage/up/src/more" && chmod 0 "$stage/up/src/more" "$stage/wk/work"
 "$sh" "$root" src "$stage" 'echo y >new' > "$work/said" 2>&1 || wrong "exit number $?: $(cat "$work/said")"
 [ "$(lines)" = 'W new,E 0' ] || wrong "its log says $(lines)"
 kept 0 y
+
+# -- the environment is the command's own
+environment() {
+    text="the environment $1"
+    all=$((all + 1))
+    project
+    : > "$stage/own"
+    shift
+    env "$@" "$sh" "$root" src "$stage" 'env > out' > "$work/said" 2>&1 || wrong "exit number $?: $(cat "$work/said")"
+    env "$@" sh -c env > "$work/plain"
+    [ "$(grep -vE '^(PWD|OLDPWD|_)=' "$stage/w0" | sort)" = "$(grep -vE '^(PWD|OLDPWD|_)=' "$work/plain" | sort)" ] || wrong "it is $(cat "$stage/w0")"
+}
+environment 'without a locale' -u LC_ALL LANG=C.UTF-8
+environment 'with a locale' LC_ALL=C.UTF-8
+environment 'with an empty locale' LC_ALL=
+environment 'with the names of a script' root=1 dir=2 text=3 wrap=4 caps=5 options=6 r=7 locale=8
+# -- the folder of a command isn't there
+text='a folder that is missing'
+all=$((all + 1))
+project
+: > "$stage/own"
+"$sh" "$root" none "$stage" true > "$work/said" 2>&1
+status=$?
+[ $status = 1 ] || wrong "exit number $status"
+told "tup_sh: the folder of the command isn't there"
+# -- a project keeps the mark that hides .tup: only its first command makes one. What isn't one isn't taken
+text='the mark'
+all=$((all + 1))
+project
+mkdir "$work/bad" && printf '#!/bin/sh\nexit 1\n' > "$work/bad/mknod" && chmod +x "$work/bad/mknod"
+again() {
+    rm -rf "$stage" && mkdir "$stage" && : > "$stage/own"
+    "$@" "$sh" "$root" src "$stage" 'ls -a .. && cat ../.tup/options' > "$work/said" 2>&1
+}
+again env || wrong "exit number $?: $(cat "$work/said")"
+[ -c "$root/.tup/mark" ] || wrong 'it is not kept'
+again env PATH="$work/bad:$PATH" || wrong "exit number $? with one kept: $(cat "$work/said")"
+if grep -q '\.tup$' "$work/said"; then wrong '.tup is seen'; fi
+rm "$root/.tup/mark" && echo x > "$root/.tup/mark"
+again env || wrong "exit number $? with a file in its place: $(cat "$work/said")"
+if grep -q '\.tup$' "$work/said"; then wrong '.tup is seen behind a file'; fi
+again env PATH="$work/bad:$PATH" && wrong 'a file was taken for it'
+told "tup_sh: the stage can't be made"
+rm "$root/.tup/mark" && mkfifo "$root/.tup/mark"
+again env || wrong "exit number $? with a pipe in its place: $(cat "$work/said")"
+rm "$root/.tup/mark" && again env && [ -c "$root/.tup/mark" ] || wrong 'it is not kept again'
+# -- a stage that the next update takes while the command still runs stays the next one's
+text='a stage that is taken'
+all=$((all + 1))
+project
+: > "$stage/own"
+"$sh" "$root" src "$stage" 'echo x >first; sleep 3; echo x >last' > "$work/said" 2>&1 &
+first=$!
+sleep 1.5
+rm -rf "$stage" 2> /dev/null || wrong 'it could not be removed'
+mkdir -p "$stage/up/src" && echo next > "$stage/up/src/next" && echo next > "$stage/trace" && echo next > "$stage/log" && : > "$stage/own"
+before=$(cd "$stage" && find . | sort)
+wait $first
+status=$?
+[ $status = 1 ] || wrong "exit number $status"
+[ "$(cd "$stage" && find . | sort)" = "$before" ] || wrong "there is $(cd "$stage" && find . | paste -sd, -)"
+[ "$(cat "$stage/log")" = next ] || wrong 'its log was written'
+told 'tup_sh: another update has taken the stage away'
+# -- the same through a second command that begins while the first still runs
+text='a stage that another command takes'
+all=$((all + 1))
+project
+: > "$stage/own"
+"$sh" "$root" src "$stage" 'echo x >first; sleep 3; echo x >last' > "$work/said" 2>&1 &
+first=$!
+sleep 1
+rm -rf "$stage" 2> /dev/null || wrong 'it could not be removed'
+mkdir -p "$stage" && : > "$stage/own"
+"$sh" "$root" src "$stage" 'cat a; sleep 3; echo y >second' > "$work/other" 2>&1 || wrong "exit number $? of the second: $(cat "$work/other")"
+[ "$(lines)" = 'R a,W second,E 0' ] || wrong "its log says $(lines)"
+kept 0 y
+wait $first && wrong 'the first one ended well'
 
 printf '%s commands, %s wrong\n' "$all" "$failures"
 [ "$failures" = 0 ]

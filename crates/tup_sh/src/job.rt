@@ -7,6 +7,7 @@ use crate::start::start;
 use crate::writes::{Large, Remarks, Writes};
 use std::alloc::Global;
 use std::fs::File;
+use std::os::fd::AsRawFd;
 use std::process::Processes;
 use std::rt::Files;
 use std::{fs, str};
@@ -32,12 +33,13 @@ struct Left<'a> {
     account: &'a Account,
 }
 
-/// Runs a command and leaves its log.
+/// Runs a command and leaves its log. The folder of the stage is held open until the end.
 pub(crate) fn run<R: Files<File = File> + Processes + Eprint + Clone + Drop>(
     job: &Job<R>,
 ) -> Result<(), Failure> {
     let root = job.real(job.words.root.as_str())?;
-    job.run_over(&job.tree(root)?)
+    let stage = job.held_stage()?;
+    job.run_over(&job.tree(root, &stage)?)
 }
 
 impl<R: Files<File = File> + Processes + Eprint + Clone + Drop> Job<R> {
@@ -47,9 +49,16 @@ impl<R: Files<File = File> + Processes + Eprint + Clone + Drop> Job<R> {
         Ok(Text::from_string(fs::canonicalize(&runtime, place)?.into_string()))
     }
 
-    /// The project below a root, with the stage.
-    fn tree(&self, root: Text) -> Result<Tree<R>, Failure> {
-        let stage = self.real(self.words.stage.as_str())?;
+    /// The folder of the stage, open. The copy has a number that no standard stream has.
+    fn held_stage(&self) -> Result<File, Failure> {
+        Ok(File::open(&self.rt, self.words.stage.as_str())?.try_clone()?)
+    }
+
+    /// The project below a root, with the stage. Its places lead through the descriptor of its folder: so they lead into this
+    /// folder still when another update has put a new one in its place.
+    fn tree(&self, root: Text, stage: &File) -> Result<Tree<R>, Failure> {
+        let number = stage.as_raw_fd();
+        let stage = Text::from_string(format!(in self.alloc; "/proc/self/fd/{number}")?);
         Tree::read(self.rt.clone()?, self.alloc, root, stage)
     }
 

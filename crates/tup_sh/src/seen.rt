@@ -1,6 +1,6 @@
 //! What a command did, with the links on the way to each place.
 use crate::upper::written;
-use crate::walk::{MAX_NAMES, Walk, path_below, unseen_name};
+use crate::walk::{MAX_NAMES, Walk, name_below, path_below, unseen_name};
 use std::alloc::Global;
 use std::fs::File;
 use std::rt::Files;
@@ -24,7 +24,7 @@ pub(crate) struct Seen<'a, R: Files<File = File> + Clone + Drop> {
 /// the top.
 #[derive(Drop)]
 pub(crate) struct Untracked {
-    /// A file of a name that tup doesn't see.
+    /// A file of a name that tup doesn't see, or a link that leads to no text.
     pub(crate) file: Option<Text>,
     /// A link to a folder.
     pub(crate) link: Option<Text>,
@@ -274,14 +274,14 @@ impl<R: Files<File = File> + Clone + Drop> Seen<'_, R> {
     /// Where the link at a place leads, if there is one. A link of the project is asked for.
     fn link(&mut self, alloc: Global, place: String) -> Result<Option<String>, Failure> {
         match path_below(alloc, self.tree.root.as_str(), place.as_str())? {
-            Some(path) => self.link_of(path),
+            Some(path) => self.link_of(alloc, path),
             None => self.link_unnamed(alloc, place.as_str()),
         }
     }
 
     /// The same of a place that no path names. A link there that lies in the project is noted, if nothing is yet.
     fn link_unnamed(&mut self, alloc: Global, place: &str) -> Result<Option<String>, Failure> {
-        let target = self.link_at(place)?;
+        let target = self.link_at(alloc, place)?;
         if target.is_some() && self.untracked.file.is_none() {
             self.untracked.file = self.unseen(alloc, place)?;
         }
@@ -297,11 +297,11 @@ impl<R: Files<File = File> + Clone + Drop> Seen<'_, R> {
     }
 
     /// Where the link at a path leads, if there is one.
-    fn link_of(&mut self, path: Path) -> Result<Option<String>, Failure> {
+    fn link_of(&mut self, alloc: Global, path: Path) -> Result<Option<String>, Failure> {
         if self.tree.own.contains(&path) && !self.account.is_own(&path) {
             return Ok(None);
         }
-        match self.link_now(&path)? {
+        match self.link_now(alloc, &path)? {
             Some(target) => {
                 self.note_link(&path)?;
                 self.ask_link(path, target)
@@ -331,9 +331,9 @@ impl<R: Files<File = File> + Clone + Drop> Seen<'_, R> {
     }
 
     /// Where the link at a path leads as the command sees it, if there is one.
-    fn link_now(&self, path: &Path) -> Result<Option<String>, Failure> {
+    fn link_now(&mut self, alloc: Global, path: &Path) -> Result<Option<String>, Failure> {
         let place = self.now(path)?;
-        self.link_at(place.as_str())
+        self.link_at(alloc, place.as_str())
     }
 
     /// Adds that a link was asked for, and gives where it leads.
@@ -342,12 +342,27 @@ impl<R: Files<File = File> + Clone + Drop> Seen<'_, R> {
         Ok(Some(target))
     }
 
-    /// Where the link that stands at a place leads, if there is one and that is UTF-8.
-    fn link_at(&self, place: &str) -> Result<Option<String>, Failure> {
-        match self.tree.at(place) {
-            Ok(Standing::Link) => self.tree.target(place),
-            _ => Ok(None),
+    /// Where the link that stands at a place leads, if there is one and that is UTF-8. Else it isn't followed, and noted.
+    fn link_at(&mut self, alloc: Global, place: &str) -> Result<Option<String>, Failure> {
+        let Ok(Standing::Link) = self.tree.at(place) else {
+            return Ok(None);
+        };
+        let target = self.tree.target(place)?;
+        if target.is_none() {
+            self.note_strange(alloc, place)?;
         }
+        Ok(target)
+    }
+
+    /// Notes a link of the project that leads to no text, if nothing is noted yet.
+    fn note_strange(&mut self, alloc: Global, place: &str) -> Result<(), Failure> {
+        if self.untracked.file.is_some() {
+            return Ok(());
+        }
+        if let Some(name) = name_below(self.tree.root.as_str(), place) {
+            self.untracked.file = Some(Text::from_str(alloc, name)?);
+        }
+        Ok(())
     }
 }
 

@@ -6,7 +6,7 @@ use crate::upper::written;
 use std::fs;
 use std::fs::{File, Permissions};
 use std::io::ErrorKind;
-use std::os::unix::fs::PermissionsExt;
+use std::os::unix::fs::{FileTypeExt, MetadataExt, PermissionsExt};
 use std::process::Processes;
 use std::rt::Files;
 use tup_child::{Failure, Tree};
@@ -61,18 +61,47 @@ fn makes<R: Files<File = File> + Clone + Drop>(
     Ok(fs::create_dir(&tree.rt, place.as_str()).is_ok())
 }
 
-/// Makes the mark that hides the program's own folder. The library has no call for it.
+/// Makes the mark that hides the program's own folder: a second name of the one that the project keeps.
 fn make_mark<R: Files<File = File> + Processes + Clone + Drop>(
     tree: &Tree<R>,
 ) -> Result<(), Failure> {
     let mark = mark(tree)?;
-    let words = [mark.as_str(), "c", "0", "0"];
-    let mut mknod = command(tree.alloc, "mknod", words.as_slice())?;
+    let kept = kept_mark(tree)?;
+    if is_mark(tree, kept.as_str())
+        && fs::hard_link(&tree.rt, kept.as_str(), mark.as_str()).is_ok()
+    {
+        return Ok(());
+    }
+    make_first_mark(tree)?;
+    // Where it can't be kept, the next command makes another one.
+    drop(fs::hard_link(&tree.rt, mark.as_str(), kept.as_str()));
+    Ok(())
+}
+
+/// Makes a mark by a program, since the library has no call for it.
+fn make_first_mark<R: Files<File = File> + Processes + Clone + Drop>(
+    tree: &Tree<R>,
+) -> Result<(), Failure> {
+    let mut mknod = command(tree, "mknod", ["up/.tup", "c", "0", "0"].as_slice())?;
     if succeeds(&tree.rt, &mut mknod) {
         Ok(())
     } else {
         Err(refused())
     }
+}
+
+/// Whether a mark stands at a place.
+fn is_mark<R: Files<File = File> + Clone + Drop>(tree: &Tree<R>, place: &str) -> bool {
+    match fs::symlink_metadata(&tree.rt, place) {
+        Ok(found) => found.file_type().is_char_device() && found.rdev() == 0,
+        Err(_) => false,
+    }
+}
+
+/// The place of the mark that the project keeps for its commands.
+fn kept_mark<R: Files<File = File> + Clone + Drop>(tree: &Tree<R>) -> Result<String, Failure> {
+    let root = tree.root.as_str();
+    Ok(format!(in tree.alloc; "{root}/.tup/mark")?)
 }
 
 /// The place of the mark.
@@ -149,13 +178,17 @@ fn make_as<R: Files<File = File> + Clone + Drop>(
 }
 
 /// Gives the owner access to the folders that the overlay works in. The kernel makes them without permissions, so that only root
-/// could remove the stage of a stopped command. A folder that doesn't exist is skipped.
-pub(crate) fn open_work<R: Files<File = File> + Clone + Drop>(
-    tree: &Tree<R>,
-) -> Result<(), Failure> {
-    for name in ["wk/work", "wk/work/incompat", "wk/work/incompat/volatile"] {
-        let place = tree.staged(name)?;
-        drop(fs::set_permissions(&tree.rt, place.as_str(), Permissions::from_mode(0o700)));
+/// could remove the stage of a stopped command. What can't be opened is skipped: the command isn't stopped for it.
+pub(crate) fn open_work<R: Files<File = File> + Clone + Drop>(tree: &Tree<R>) {
+    for name in [
+        "wk/work",
+        "wk/index",
+        "wk/work/incompat",
+        "wk/work/incompat/volatile",
+    ] {
+        if let Ok(place) = tree.staged(name) {
+            let open = Permissions::from_mode(0o700);
+            drop(fs::set_permissions(&tree.rt, place.as_str(), open));
+        }
     }
-    Ok(())
 }

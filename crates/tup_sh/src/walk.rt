@@ -72,22 +72,28 @@ pub(crate) fn path_below(alloc: Global, root: &str, place: &str) -> Result<Optio
     }
 }
 
-/// The name from a root of a place below it that no path names. The program's own folder has none: no
-/// command sees it.
+/// The name from a root of a place below it that no path names.
 pub(crate) fn unseen_name<'a>(
     alloc: Global,
     root: &str,
     place: &'a str,
 ) -> Result<Option<&'a str>, Failure> {
-    let Some(name) = place
-        .strip_prefix(root)
-        .and_then(|rest| rest.strip_prefix('/'))
-    else {
+    let Some(name) = name_below(root, place) else {
         return Ok(None);
     };
     match Path::from_top(alloc, name) {
         Err(PathFault::Memory) => Err(Failure::Memory),
-        Err(_) if !name.starts_with(".tup/") => Ok(Some(name)),
-        _ => Ok(None),
+        Err(_) => Ok(Some(name)),
+        Ok(_) => Ok(None),
+    }
+}
+
+/// The name from a root of a place below it. What is in the program's own folder has none: no command sees it.
+pub(crate) fn name_below<'a>(root: &str, place: &'a str) -> Option<&'a str> {
+    let name = place.strip_prefix(root)?.strip_prefix('/')?;
+    if name.starts_with(".tup/") {
+        None
+    } else {
+        Some(name)
     }
 }
