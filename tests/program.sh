@@ -91,7 +91,7 @@ row "an unknown option" 2 '' upd
 said '.tup/options: unknown word --fast'
 row "an unknown option, compared" 2 '' verify
 row "an unknown option, without an order" 2 ''
-row "an unknown option, and one asks for the version" 0 'tup 0.2;' --version
+row "an unknown option, and one asks for the version" 0 'tup 0.3;' --version
 printf '\377' > .tup/options
 row "options that are no text" 2 '' upd
 said ".tup/options: unknown word that isn't UTF-8"

@@ -128,7 +128,7 @@ row "it is compared" 0 'same;' '' verify
 row "what would be done" 0 'done: 0 read, 0 run, 0 removed;' '' todo
 row "a word that is none" 2 'fault: usage, word 2;' '' upd now
 row "an option that is none" 2 'fault: usage, word 1;' '' --fast
-row "the version" 0 'tup 0.2;' '' --version
+row "the version" 0 'tup 0.3;' '' --version
 for there in '.hidden/with blank' 'with blank' .tup; do
     cd "$top/$there" || exit 1
     row "in the folder $there" 0 'done: 0 read, 0 run, 0 removed;' ''
@@ -250,7 +250,7 @@ mkdir sub && cd sub || exit 1
 row "a word that is none, for a call below the top" 2 '' 'tup: ../.tup/options: unknown word --fast;'
 row "a word that is none, where files are compared" 2 '' 'tup: ../.tup/options: unknown word --fast;' verify
 row "a word that is none, where one asks what would be done" 2 '' 'tup: ../.tup/options: unknown word --fast;' todo
-row "a word that is none, and one asks for the version" 0 'tup 0.2;' '' --version
+row "a word that is none, and one asks for the version" 0 'tup 0.3;' '' --version
 options "a word without dashes" 'proc tup_sh\n' 2 '' 'tup: .tup/options: unknown word proc tup_sh;'
 options "a word that was joined" '--proc=tup_sh\n' 2 '' 'tup: .tup/options: unknown word --proc=tup_sh;'
 options "a project that goes on" '-k\n' 0 "$made" ''

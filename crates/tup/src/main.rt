@@ -58,7 +58,7 @@ Exit numbers: 0 done, 1 a command's fault, 2 usage, 3 no project here, or one al
 const STAGE: &str = ".tup/stage";
 
 /// The version, which stands here alone.
-const VERSION: &str = "0.2";
+const VERSION: &str = "0.3";
 
 fn main(rt: HostRuntime) -> ExitCode {
     streams::fill(rt);
