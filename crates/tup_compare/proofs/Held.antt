@@ -7,11 +7,10 @@ use Rattle.tup_table.specs.Reading.{opened_of}
 use Rattle.tup_table.specs.declared.fault.TableFault.{TableFault}
 use Rattle.tup_table.specs.declared.fault.TableFault.TheVariants as table
 use Rattle.tup_table.specs.declared.opened.Opened.{Opened}
-use Rattle.tup_table.proofs.Stores.{reads_one}
+use Rattle.tup_table.proofs.Stores.{not_empty, reads_one}
 use Rattle.tup_graph.specs.Opening.{IsGraphOf}
 use Rattle.tup_graph.proofs.OneWay.{not_broken}
 use Rattle.tup_table.specs.Images.{Leaves, OpenStep}
-use Rattle.tup_table.specs.Store.{header, blocks}
 use Rattle.tup_ledger.specs.Listing.{StillLists}
 use Rattle.tup_ledger.proofs.Listing.{nothing_lists, opened_still}
 use Rattle.tup_compare.specs.Holding.{HasSameEntries, Holding, HoldsOn, Lists, Shows}
@@ -26,9 +25,7 @@ holds_same v w same = subst (HoldsOn v) (sym same) (holds_itself v)
 
 -- where nothing stands, no store does
 not_store : (entries : Standing) → Leaves entries [] → ⊥
-not_store entries (commits, store, is) =
-    let no : [] ≡ header ++ (blocks commits ++ store.0) = store.1.whole in
-    cc
+not_store entries (commits, store, is) = not_empty commits store
 
 -- as where a store was opened
 pub opened_holds : (v w : World) → OpenStep v w → HoldsOn v w

@@ -3,6 +3,7 @@ pub mod Quiet
 pub mod Beside
 pub mod Held
 pub mod Limits
+pub mod Written
 pub mod Opens
 pub mod Reading
 pub mod Comparing

@@ -3,7 +3,6 @@ use Rattle.std.proofs.Common.{◌≡◌, ◌≢◌, ◌⊎◌, ℕ, List, Option
 use Rattle.tup_site.specs.Crash.{GoesOn}
 use Rattle.tup_site.specs.World.{World}
 use Rattle.tup_table.specs.Images.{IsEndWritten, OpenStep}
-use Rattle.tup_table.proofs.Ends.{closed_written}
 use Rattle.tup_table.proofs.Going.{as_step}
 use Rattle.tup_graph.specs.declared.fault.GraphFault.{GraphFault}
 use Rattle.tup_graph.specs.declared.fault.GraphFault.TheVariants as graph
@@ -17,6 +16,7 @@ use Rattle.tup_compare.specs.Holding.{HoldsOn}
 use Rattle.tup_promise.specs.Unopened.{IsJustOpened}
 use Rattle.tup_compare.specs.Opened.{IsUnopened, JustOpens, StopsOpening}
 use Rattle.tup_compare.proofs.Held.{opened_holds}
+use Rattle.tup_compare.proofs.Written.{rested_written}
 
 -- ---- a refusal, and what the site counted
 pub graph_counts : {T : Type 0} (before now : ℕ) (result : Result T GraphFault) (fault : GraphFault) → result ≡ Err fault → CountsFaults before now result → HasCountedCause before now (Some (stop_of_graph fault))
@@ -49,7 +49,7 @@ opened_then before after (Some (UserFile path written found)) opens = opens
 opened_then before after (Some (Bad name verdict)) opens = opens
 opened_then before after (Some Run) opens = opens
 opened_then before after (Some Full) opens = opens
-opened_then before after (Some (Outside failed)) opens = ⊎_elim inl (λ closed. inr (closed_written before after closed.0 closed.1 closed.2)) opens
+opened_then before after (Some (Outside failed)) opens = ⊎_elim inl (λ rested. inr (rested_written before after rested)) opens
 
 -- ---- an opening
 

@@ -21,12 +21,12 @@ pub record Shows (w : World) (held : Holding) : Type 0 where
 abbrev pub holding : World → List Names → Holding
 holding w paths = record { tree = w.tree; owned = paths }
 
--- both are stores, of the same entries, and all bytes are the same but a closed gate that the end lacks
+-- both are stores, of the same entries, and nothing was written but what opening a store writes
 abbrev pub HasSameEntries : List ℕ → List ℕ → Type 0
 HasSameEntries before after = (entries : Standing) × Leaves entries before × Leaves entries after × IsEndWritten before after
 
 -- a later world holds what an earlier one did: it has the same files, and the same store, or one of the same entries of which
--- the end alone was written
+-- nothing was written but what opening a store writes
 pub record HoldsOn (old new : World) : Type 0 where
   pub tree : new.tree ≡ old.tree
   pub store : (new.store ≡ old.store) ⊎ HasSameEntries old.store new.store

@@ -27,7 +27,7 @@ IsUnopened old NoStore = old.store ≡ []
 IsUnopened old (BadStore offset) = IsDamaged old.store offset
 IsUnopened old stop = ⊤
 
--- a store that is just opened, and no more; where the outside stops that, its end may have one byte in place of the closed gate
+-- a store that is just opened, and no more; where the outside stops that, it is what a crash of an opening may leave
 abbrev pub JustOpens : List ℕ → List ℕ → Option Stop → Type 0
 JustOpens before after (Some (Outside failed)) = (after ≡ before) ⊎ IsEndWritten before after
 JustOpens before after stopped = IsJustOpened before after

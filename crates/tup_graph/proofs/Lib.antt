@@ -12,5 +12,6 @@ pub mod Lasts
 pub mod Committing
 pub mod Keeping
 pub mod OneWay
+pub mod Values
 pub mod Finishing
 pub mod Flagging

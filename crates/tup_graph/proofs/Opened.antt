@@ -1,5 +1,5 @@
 -- A loop over the entries of a table: the graph so far, and what refuses an entry.
-use Rattle.std.proofs.Common.{◌≡◌, ◌⊎◌, ℕ, true, List, [], ◌∷◌, ◌++◌, Option, Some, Result, Ok, Err, OnOk, IfErr, MatchResult, refl, sym, ap, subst, ◌∙◌, inl, inr, append_assoc, append-nil}
+use Rattle.std.proofs.Common.{◌≡◌, ◌⊎◌, ℕ, true, List, [], ◌∷◌, ◌++◌, Result, Ok, Err, OnOk, IfErr, MatchResult, refl, sym, ap, subst, ◌∙◌, inl, inr, append_assoc, append-nil}
 use Rattle.tup_record.specs.declared.record.Record.{Record}
 use Rattle.tup_field.specs.declared.fault.RecordFault.{RecordFault}
 use Rattle.tup_field.specs.declared.fault.RecordFault.TheVariants.{Short, BadKind, BadField, Trailing, Memory}
@@ -7,7 +7,6 @@ use Rattle.tup_record.specs.Reading.{Gives}
 use Rattle.tup_record.specs.Spelling.{IsSpelled}
 use Rattle.tup_table.specs.declared.entry.Entry.{Entry}
 use Rattle.tup_table.specs.Entries.{Standing}
-use Rattle.tup_table.specs.Slots.{Slots, in_front, standing}
 use Rattle.tup_graph.specs.Graph.{GraphState, empty_graph}
 use Rattle.tup_graph.specs.Opening.{fits, put, refusal, Takes, IsGraphOf, IsBroken}
 use Rattle.tup_graph.specs.declared.fault.GraphFault.{GraphFault}
@@ -37,11 +36,6 @@ pub record IsSoFar (entries left : Standing) (g : GraphState) : Type 0 where
   pub front : Standing
   pub whole : front ++ left ≡ entries
   pub graph : IsGraphOf front g
-
--- a slot that has an entry is the first that stands
-pub slot_taken : (left rest : Slots) (key : List ℕ) (slot : Option Entry) (entry : Entry) → left ≡ (key, slot) ∷ rest → slot ≡ Some entry
-    → standing left ≡ (key, entry) ∷ standing rest
-slot_taken left rest key slot entry first some = ap standing first ∙ ap (λ (s : Option Entry). in_front key s (standing rest)) some
 
 pub none_yet : (entries : Standing) (g : GraphState) → g ≡ empty_graph → IsSoFar entries entries g
 none_yet entries g none = record { front = []; whole = refl; graph = none }

@@ -88,7 +88,13 @@ empty_kept next known = record {
 first_reads : IsGraphIn (header ++ 0 ∷ []) empty_graph
 first_reads = record {
   commits = [];
-  reads = (0 ∷ [], record { fits = tt; whole = refl }, inl (λ e. cc e));
+  reads = inl (record {
+    head = header;
+    low = 0 ∷ [];
+    parts = record { is_head = record { long = refl; first = refl }; whole = refl };
+    closed = λ e. cc e;
+    area = (0 ∷ [], record { fits = tt; whole = refl }, inl (λ e. cc e));
+  });
   graph = refl;
 }
 

@@ -6,10 +6,10 @@ use Rattle.tup_site.specs.Crash.{GoesOn, NoStep, LeavesOnly, PinsTree}
 use Rattle.tup_site.specs.World.{World}
 use Rattle.tup_table.specs.Entries.{Standing}
 use Rattle.tup_table.specs.Images.{Leaves, OpenStep}
-use Rattle.tup_table.specs.Store.{header, blocks}
 use Rattle.tup_table.specs.Table.{entries_in, StandsFor}
 use Rattle.tup_table.specs.declared.table.Table.{Table}
 use Rattle.tup_table.proofs.Going.{IsEarlier, as_step, nothing_then}
+use Rattle.tup_table.proofs.Stores.{not_empty}
 use Rattle.tup_graph.specs.Graph.{GraphState}
 use Rattle.tup_graph.specs.Opening.{IsGraphOf}
 use Rattle.tup_graph.specs.declared.fault.GraphFault.{GraphFault}
@@ -24,10 +24,7 @@ pub lists_one : (bytes : List ℕ) (one other : List Names) → Lists bytes one 
 lists_one bytes one other first second = first.owned ∙ ap owned_in (one_store bytes first.graph second.graph first.store second.store) ∙ sym second.owned
 
 pub nothing_lists : (paths : List Names) → ¬ Lists [] paths
-nothing_lists paths lists =
-    let store = lists.store.leaves.1 in
-    let no : [] ≡ header ++ (blocks lists.store.leaves.0 ++ store.0) = store.1.whole in
-    cc
+nothing_lists paths lists = not_empty lists.store.leaves.0 lists.store.leaves.1
 
 -- ---- bytes that leave the same entries
 carried : (before after : List ℕ) (entries : Standing) → Leaves entries before → Leaves entries after → (paths : List Names) → Lists before paths → Lists after paths

@@ -64,8 +64,8 @@ module _ {S : Type 0} (moment : S → ℕ) (left_since : S → ℕ → World →
   opened_on old new on = as_step moment left_since old new OpenStep (BeginStep first) (λ v w left step. inl step) on
 
   -- and of one that was made where there was none
-  pub made_on : (old mid new : S) → IsEarlier moment left_since mid → first.store ≡ [] → GoesOn moment left_since old mid OpenStep → GoesOn moment left_since mid new (WriteStep 0 9)
+  pub made_on : (old mid new : S) → IsEarlier moment left_since mid → first.store ≡ [] → GoesOn moment left_since old mid OpenStep → GoesOn moment left_since mid new (WriteStep 0 18)
       → GoesOn moment left_since old new (BeginStep first)
   made_on old mid new earlier empty opened made =
       then_on moment left_since old mid new (BeginStep first) earlier (λ u v w one two. inr (empty, same_tree v w two ∙ same_tree u v one)) (opened_on old mid opened)
-      (as_step moment left_since mid new (WriteStep 0 9) (BeginStep first) (λ v w left step. inr (empty, step.tree)) made)
+      (as_step moment left_since mid new (WriteStep 0 18) (BeginStep first) (λ v w left step. inr (empty, step.tree)) made)

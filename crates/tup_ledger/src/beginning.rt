@@ -26,8 +26,8 @@ pub enum Begun {
 /// A refusal that comes while the store is made, or a crash then, may leave any bytes in it.
 pub fn begin<S: Site>(alloc: Global, site: &mut S) -> Result<Begun, GraphFault>
     ensures begins { IsTrue S.tells → Begins (S.world site.old) (S.world site.new) result }
-    // At every end all is as it was, or the store has the same entries and at most a closed gate was
-    // written at its end, or there was none.
+    // At every end all is as it was, or the store has the same entries and nothing was written but
+    // what opening it writes, or there was none.
     ensures keeps { IsTrue S.tells → (S.world site.new ≡ S.world site.old)
         ⊎ BeginStep (S.world site.old) (S.world site.old) (S.world site.new) }
     ensures tree { IsTrue S.tells → TreeStays (S.world site.old) (S.world site.new) }
@@ -54,7 +54,7 @@ fn make<S: Site>(alloc: Global, site: &mut S) -> Result<Begun, GraphFault>
     ensures durable { IsTrue S.tells → OnOk result
         (PinsStore (S.left_since site.new (S.moment site.new)) (S.world site.new)) }
     ensures crash { IsTrue S.tells
-        → GoesOn S.moment S.left_since site.old site.new (WriteStep 0 9) }
+        → GoesOn S.moment S.left_since site.old site.new (WriteStep 0 18) }
     ensures known { IsTrue S.tells → S.known site.new ≡ S.known site.old }
     ensures outside { OnlyOutside result }
     ensures cause { CountsFaults (S.faults site.old) (S.faults site.new) result }

@@ -28,8 +28,8 @@ pub fn open<S: Site>(alloc: Global, site: &mut S) -> Result<Graph, GraphFault>
     ensures opens { IsTrue S.tells
         → OpensAs (S.world site.old).store (S.world site.new).store result }
 
-    // At every end all is as it was, or the store has the same entries and at most a closed gate
-    // was written at its end; so it lists the same.
+    // At every end all is as it was, or the store has the same entries, and nothing was written but
+    // a closed gate at its end and what finishes compacting; so it lists the same.
     ensures keeps { IsTrue S.tells → (S.world site.new ≡ S.world site.old)
         ⊎ OpenStep (S.world site.old) (S.world site.new) }
     ensures still { IsTrue S.tells

@@ -10,7 +10,7 @@ use tup_rows::{Answers, RowFault, Words};
 use tup_table::{Change, Entries, TableFault, appended, have_short_keys, read};
 
 /// How a store begins, and the open gate of its first commit.
-pub const BEGIN: [u8; 9] = *b"tup-db\n\x01\x01";
+pub const BEGIN: [u8; 18] = *b"tup-db2\x01\x00\x00\x00\x00\x00\x00\x00\x00\x00\x01";
 
 /// Reads graphs.
 #[derive(Drop)]
@@ -46,7 +46,7 @@ fn add_commit(alloc: Global, said: &Words, bytes: &mut Vec<u8>, changes: &[Chang
     if !have_short_keys(changes) {
         return said.fail(RowFault::OtherKind);
     }
-    match appended(alloc, 8, changes) {
+    match appended(alloc, 17, changes) {
         Ok(more) => add_bytes(said, bytes, more.as_slice()),
         Err(_) => said.fail(RowFault::Memory),
     }

@@ -9,6 +9,7 @@ mod arguments;
 mod bytes;
 mod changes;
 mod clearing;
+mod damage;
 mod graph;
 mod kept;
 mod left;
@@ -42,7 +43,7 @@ fn main(rt: HostRuntime) -> io::Result<()> {
 /// The rows on records and tables.
 fn try_values<R: Files + Print>(rt: &R, alloc: Global) -> io::Result<()> {
     try_file(rt, alloc, "record.rows", &mut Records)?;
-    try_file(rt, alloc, "table.rows", &mut Tables)
+    try_file_by(rt, alloc, "table.rows", Tables::new(alloc))
 }
 
 /// The rows on graphs, and on their transactions over a site.

@@ -1,15 +1,21 @@
 -- What edits leave of a graph, and what is known of one that was opened by its fields.
-use Rattle.std.proofs.Common.{◌≡◌, ℕ, ◌&&◌, Bool, true, false, List, [], map, IsTrue, refl, sym, ap, subst, ◌∙◌}
+use Rattle.std.proofs.Common.{◌≡◌, ℕ, ◌&&◌, Bool, true, false, List, [], map, All, IsTrue, Result, Err, inl, inr, ⊎_elim, refl, sym, ap, subst, ◌∙◌}
+use Rattle.tup_path.specs.Gives.{GivesUnless}
 use Rattle.tup_table.specs.Entries.{Standing, IsAscending, committed}
-use Rattle.tup_table.specs.Table.{entries_in, is_fresh as is_fresh_table}
+use Rattle.tup_table.specs.Table.{entries_in, is_fresh as is_fresh_table, IsOver}
 use Rattle.tup_table.specs.declared.change.Change.{Change}
+use Rattle.tup_table.specs.declared.fault.TableFault.{TableFault}
+use Rattle.tup_table.specs.declared.fault.TableFault.TheVariants as table
 use Rattle.tup_graph.specs.Changes.{needed, once_made}
-use Rattle.tup_graph.specs.Edits.{change_of, edited_by}
+use Rattle.tup_graph.specs.Edits.{change_of, edited_by, HasSpelling}
+use Rattle.tup_graph.specs.Fault.{fault_of}
 use Rattle.tup_graph.specs.Opening.{IsGraphOf}
+use Rattle.tup_graph.specs.declared.fault.GraphFault.{GraphFault}
+use Rattle.tup_graph.specs.declared.fault.GraphFault.TheVariants as graph
 use Rattle.tup_graph.specs.declared.edit.Edit.{Edit}
 use Rattle.tup_graph.proofs.OneWay.{one_graph}
 use Rattle.tup_stored_graph.specs.Held.{Held, IsSound, is_fresh}
-use Rattle.tup_stored_graph.specs.Transaction.{to_write, with_changes, after}
+use Rattle.tup_stored_graph.specs.Transaction.{to_write, with_changes, after, IsFull}
 
 first_true : (a b : Bool) → IsTrue (a && b) → a ≡ true
 first_true true b is = refl
@@ -40,3 +46,14 @@ module _ (old inside : Held) (view : inside ≡ old) where
 
   pub written_now : (edits : List Edit) (es : Standing) (cs : List Change) → es ≡ entries_in inside.table → cs ≡ needed es (map change_of edits) → cs ≡ to_write old edits
   written_now edits es cs is cs_are = cs_are ∙ ap (λ (es : Standing). needed es (map change_of edits)) (entries_now es is)
+
+  -- and where a commit of edits was refused that have a spelling, the store may be full
+  pub full_refused : (edits : List Edit) (cs : List Change) → cs ≡ to_write old edits → All HasSpelling edits → (result : Result (Unit {0}) TableFault) (fault : TableFault) → result ≡ Err fault
+      → (IsOver inside.table cs → GivesUnless result table.Memory (Err table.Full)) → IsFull old edits → GivesUnless {T = Unit {0}} (Err (fault_of fault)) graph.Memory (Err graph.Full)
+  full_refused edits cs cs_are spelled result fault failed fits (inl none) = absurd (none spelled)
+  full_refused edits cs cs_are spelled result fault failed fits (inr over) =
+      let there : IsOver inside.table cs = subst (λ (h : Held). IsOver h.table cs) (sym view) (subst (λ (c : List Change). IsOver old.table c) (sym cs_are) over.1) in
+      ⊎_elim (λ memory. as_told table.Memory (cc (failed, memory)) (inl refl)) (λ full. as_told table.Full (cc (failed, full)) (inr refl)) (fits there)
+    where
+      as_told : (other : TableFault) → fault ≡ other → GivesUnless {T = Unit {0}} (Err (fault_of other)) graph.Memory (Err graph.Full) → GivesUnless {T = Unit {0}} (Err (fault_of fault)) graph.Memory (Err graph.Full)
+      as_told other is told = subst (λ (f : TableFault). GivesUnless {T = Unit {0}} (Err (fault_of f)) graph.Memory (Err graph.Full)) (sym is) told

@@ -2,30 +2,35 @@
 use Rattle.std.proofs.Common.{◌≡◌, ℕ, List, ⊎_elim, inl, inr, sym, subst, arith}
 use Rattle.tup_site.specs.Crash.{GoesOn}
 use Rattle.tup_site.specs.World.{World}
-use Rattle.tup_table.specs.Entries.{Standing, committed}
-use Rattle.tup_table.specs.Images.{CommitStep}
-use Rattle.tup_table.specs.Store.{IsStore}
-use Rattle.tup_table.specs.Table.{entries_in, gate_of, after_commit, StandsFor}
+use Rattle.tup_table.specs.Entries.{Standing, IsAscending, committed}
+use Rattle.tup_table.specs.Images.{CommitStep, CompactStep, Keeps}
+use Rattle.tup_table.specs.Table.{entries_in, after_commit, StandsFor}
 use Rattle.tup_table.specs.declared.change.Change.{Change}
 use Rattle.tup_table.specs.declared.table.Table.{Table}
-use Rattle.tup_table.proofs.Appends.{closed_store}
+use Rattle.tup_table.proofs.Appends.{rests_store}
 use Rattle.tup_table.proofs.Going.{as_step}
+use Rattle.tup_table.proofs.Readying.{after_values}
 use Rattle.tup_graph.specs.Changes.{once_made}
 use Rattle.tup_graph.specs.Edits.{edited_by}
 use Rattle.tup_graph.specs.declared.edit.Edit.{Edit}
 use Rattle.tup_graph.specs.Graph.{GraphState}
 use Rattle.tup_graph.specs.Opening.{IsGraphOf}
+use Rattle.tup_graph.proofs.Values.{graph_by_values}
 use Rattle.tup_stored_graph.specs.Held.{Held}
 use Rattle.tup_stored_graph.specs.Transaction.{to_write}
 use Rattle.tup_stored_graph.specs.Crash.{IsStoreOf, HasEither, GraphStep, LeavesEither}
 
+-- a store with the keys and values of entries has their graph
+kept_graph : (entries : Standing) (bytes : List ℕ) (g : GraphState) → Keeps entries bytes → IsGraphOf entries g → IsStoreOf g bytes
+kept_graph entries bytes g keeps is =
+    record { entries = keeps.0; leaves = keeps.1; stands = graph_by_values g entries keeps.0 (sym keeps.2) is }
+
 module _ {S : Type 0} (world : S → World) (moment : S → ℕ) (left_since : S → ℕ → World → Type 0) (table : Table) (g : GraphState) (old : S) (stands : StandsFor world moment left_since table old) (is : IsGraphOf (entries_in table) g) where
   present : IsStoreOf g (world old).store
   present =
-      let rested = stands.rests.bytes in
       record {
         entries = entries_in table;
-        leaves = (stands.commits, subst (λ (b : List ℕ). IsStore b stands.commits) (sym rested.whole) (closed_store stands.commits rested.gate rested.rest rested.fits rested.closed), stands.entries);
+        leaves = (stands.commits, rests_store stands.commits (world old).store stands.rests.bytes, stands.entries);
         stands = is;
       }
 
@@ -51,14 +56,37 @@ module _ {S : Type 0} (world : S → World) (moment : S → ℕ) (left_since : S
   as_committed new h later after on =
       either new h (as_step moment left_since old new (CommitStep (entries_in table) later) (GraphStep g h) (λ v w left step. record {
         tree = step.tree;
-        store = ⊎_elim (λ leaves. inl (record { entries = entries_in table; leaves = leaves; stands = is })) (λ leaves. inr (record { entries = later; leaves = leaves; stands = after })) step.store;
+        store = ⊎_elim (λ keeps. inl (kept_graph (entries_in table) w.store g keeps is)) (λ keeps. inr (kept_graph later w.store h keeps after)) step.store;
       }) on)
+
+  -- where the table is compacted
+  pub as_compacted : (new : S) → GoesOn moment left_since old new (CompactStep (entries_in table)) → LeavesEither moment left_since old new g g
+  as_compacted new on =
+      either new g (as_step moment left_since old new (CompactStep (entries_in table)) (GraphStep g g) (λ v w left step. record {
+        tree = step.tree;
+        store = inl (kept_graph (entries_in table) w.store g step.store is);
+      }) on)
+
+-- the graph that a commit of edits leaves, wherever its entries were put
+pub made_graph : (old : Held) (edits : List Edit) → IsAscending (entries_in old.table) → ((origin : ℕ) → IsGraphOf (once_made origin (entries_in old.table) edits) (edited_by old.nodes edits))
+    → (cs : List Change) → cs ≡ to_write old edits → IsGraphOf (entries_in (after_commit old.table cs)) (edited_by old.nodes edits)
+made_graph old edits up read cs cs_are =
+    let made = subst (λ (cs : List Change). IsGraphOf (committed 0 (entries_in old.table) cs) (edited_by old.nodes edits)) (sym cs_are) (read 0) in
+    graph_by_values (edited_by old.nodes edits) (committed 0 (entries_in old.table) cs) (entries_in (after_commit old.table cs)) (after_values 0 old.table cs up) made
 
 -- a graph that was opened by its fields commits edits
 module _ {S : Type 0} (world : S → World) (moment : S → ℕ) (left_since : S → ℕ → World → Type 0) (old inside : Held) (view : inside ≡ old) (edits : List Edit) (site : S) where
-  pub crash_now : StandsFor world moment left_since old.table site → IsGraphOf (entries_in old.table) old.nodes → ((origin : ℕ) → IsGraphOf (once_made origin (entries_in old.table) edits) (edited_by old.nodes edits))
+  pub crash_now : StandsFor world moment left_since old.table site → IsAscending (entries_in old.table) → IsGraphOf (entries_in old.table) old.nodes → ((origin : ℕ) → IsGraphOf (once_made origin (entries_in old.table) edits) (edited_by old.nodes edits))
       → (new : S) (cs : List Change) → cs ≡ to_write old edits → GoesOn moment left_since site new (CommitStep (entries_in inside.table) (entries_in (after_commit inside.table cs))) → LeavesEither moment left_since site new old.nodes (edited_by old.nodes edits)
-  crash_now stands is read new cs cs_are on =
+  crash_now stands up is read new cs cs_are on =
       let here : GoesOn moment left_since site new (CommitStep (entries_in old.table) (entries_in (after_commit old.table cs))) = subst (λ (h : Held). GoesOn moment left_since site new (CommitStep (entries_in h.table) (entries_in (after_commit h.table cs)))) view on in
-      as_committed world moment left_since old.table old.nodes site stands is new (edited_by old.nodes edits) (entries_in (after_commit old.table cs))
-      (subst (λ (cs : List Change). IsGraphOf (committed (gate_of old.table) (entries_in old.table) cs) (edited_by old.nodes edits)) (sym cs_are) (read (gate_of old.table))) here
+      as_committed world moment left_since old.table old.nodes site stands is new (edited_by old.nodes edits) (entries_in (after_commit old.table cs)) (made_graph old edits up read cs cs_are) here
+
+  -- and then its nodes are those of its table
+  pub sound_after : IsAscending (entries_in old.table) → ((origin : ℕ) → IsGraphOf (once_made origin (entries_in old.table) edits) (edited_by old.nodes edits)) → (cs : List Change) → cs ≡ to_write old edits
+      → (table : Table) (nodes : GraphState) → table ≡ after_commit inside.table cs → nodes ≡ edited_by inside.nodes edits → IsGraphOf (entries_in table) nodes
+  sound_after up read cs cs_are table nodes table_is nodes_are =
+      let made = made_graph old edits up read cs cs_are in
+      let here = subst (λ (h : Held). IsGraphOf (entries_in (after_commit h.table cs)) (edited_by h.nodes edits)) (sym view) made in
+      subst (λ (g : GraphState). IsGraphOf (entries_in table) g) (sym nodes_are)
+      (subst (λ (t : Table). IsGraphOf (entries_in t) (edited_by inside.nodes edits)) (sym table_is) here)

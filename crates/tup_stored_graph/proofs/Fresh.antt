@@ -10,7 +10,7 @@ use Rattle.tup_graph.specs.declared.fault.GraphFault.{GraphFault}
 use Rattle.tup_stored_graph.specs.Held.{Held, is_fresh, stale}
 use Rattle.tup_stored_graph.specs.Transaction.{to_write, with_changes, after, emptied, IsLost, Leaves}
 
-second : (a b : Bool) → (a && b) ≡ true → b ≡ true
+pub second : (a b : Bool) → (a && b) ≡ true → b ≡ true
 second true b is = is
 second false b is = absurd (cc)
 

@@ -3,8 +3,9 @@ use Rattle.std.proofs.Common.{◌≡◌, ◌⊎◌, ℕ, List, Ok, Err, sym, ap,
 use Rattle.tup_site.specs.World.{World}
 use Rattle.tup_table.specs.Cause.{IsOutside}
 use Rattle.tup_table.specs.Entries.{Standing}
+use Rattle.tup_table.specs.Images.{rested}
 use Rattle.tup_table.specs.Reading.{ReadsAs}
-use Rattle.tup_table.specs.Table.{entries_in, gate_of, OpensAs as TableOpensAs}
+use Rattle.tup_table.specs.Table.{entries_in, opened_in, OpensAs as TableOpensAs}
 use Rattle.tup_table.specs.declared.fault.TableFault.{TableFault}
 use Rattle.tup_table.specs.declared.fault.TableFault.TheVariants as table
 use Rattle.tup_table.specs.declared.table.Table.{Table}
@@ -12,15 +13,15 @@ use Rattle.tup_graph.specs.Fault.{fault_of}
 use Rattle.tup_graph.specs.Opening.{IsBroken}
 use Rattle.tup_graph.specs.declared.fault.GraphFault.{GraphFault}
 use Rattle.tup_graph.specs.declared.fault.GraphFault.TheVariants.{BadStore, Memory}
-use Rattle.tup_stored_graph.specs.Opening.{closed, OpensAs}
+use Rattle.tup_stored_graph.specs.Opening.{OpensAs}
 
-pub open_refused : (bytes left : List ℕ) (t : Table) (es : Standing) (f : GraphFault) → ReadsAs bytes (Ok (record { entries = entries_in t; gate = gate_of t })) → left ≡ closed (gate_of t) bytes → es ≡ entries_in t
+pub open_refused : (bytes left : List ℕ) (t : Table) (es : Standing) (f : GraphFault) → ReadsAs bytes (Ok (opened_in t)) → left ≡ rested bytes (opened_in t) → es ≡ entries_in t
     → (f ≡ Memory) ⊎ ((offset : ℕ) × (f ≡ BadStore offset) × IsBroken es offset) → OpensAs bytes left (Err f)
 open_refused bytes left t es f reads closes is why =
     ⊎_elim (λ memory. subst (λ (f : GraphFault). OpensAs bytes left (Err f)) (sym memory) tt)
     (λ broken. subst (λ (f : GraphFault). OpensAs bytes left (Err f)) (sym broken.1)
     (inr (record {
-      opened = record { entries = entries_in t; gate = gate_of t };
+      opened = opened_in t;
       reads = reads;
       broken = subst (λ (es : Standing). IsBroken es broken.0) is broken.2;
       closes = closes;

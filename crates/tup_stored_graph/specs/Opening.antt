@@ -1,6 +1,6 @@
 -- What opening a graph answers, by the bytes of the store (own).
-use Rattle.std.specs.Prelude.{◌≡◌, ◌⊎◌, ℕ, List, [], ◌++◌, take, drop, Result, Ok, Err}
-use Rattle.tup_table.specs.Images.{closed_end}
+use Rattle.std.specs.Prelude.{◌≡◌, ◌⊎◌, ℕ, List, [], Result, Ok, Err}
+use Rattle.tup_table.specs.Images.{rested}
 use Rattle.tup_table.specs.Reading.{ReadsAs}
 use Rattle.tup_table.specs.Table.{entries_in, gate_of}
 use Rattle.tup_table.specs.declared.fault.TableFault.TheVariants as table
@@ -9,10 +9,6 @@ use Rattle.tup_graph.specs.Opening.{IsBroken}
 use Rattle.tup_graph.specs.declared.fault.GraphFault.{GraphFault}
 use Rattle.tup_graph.specs.declared.fault.GraphFault.TheVariants.{NotThere, BadStore, Site, Memory, Full}
 use Rattle.tup_stored_graph.specs.Held.{Held}
-
--- a store whose end has a closed gate behind its commits, which end at this offset
-abbrev pub closed : ℕ → List ℕ → List ℕ
-closed gate bytes = take gate bytes ++ closed_end (drop gate bytes)
 
 -- what the table of a graph has, as the bytes of a store read
 abbrev pub opened_in : Held → Opened
@@ -24,12 +20,12 @@ pub record HasBrokenRecord (bytes : List ℕ) (offset : ℕ) (left : List ℕ) :
   pub opened : Opened
   pub reads : ReadsAs bytes (Ok opened)
   pub broken : IsBroken opened.entries offset
-  pub closes : left ≡ closed opened.gate bytes
+  pub closes : left ≡ rested bytes opened
 
 -- What opening a store of these bytes answers, and the bytes that it leaves; a failure of the site
--- and want of memory say nothing of them. Only the end of a store whose commits read is written.
+-- and want of memory say nothing of them. Only the end of a store whose commits read is written, and what finishes compacting.
 abbrev pub OpensAs : List ℕ → List ℕ → Result Held GraphFault → Type 0
-OpensAs bytes left (Ok graph) = ReadsAs bytes (Ok (opened_in graph)) × (left ≡ closed (gate_of graph.table) bytes)
+OpensAs bytes left (Ok graph) = ReadsAs bytes (Ok (opened_in graph)) × (left ≡ rested bytes (opened_in graph))
 OpensAs bytes left (Err NotThere) = (bytes ≡ []) × (left ≡ bytes)
 OpensAs bytes left (Err (BadStore offset)) = (ReadsAs bytes (Err (table.BadStore offset)) × (left ≡ bytes)) ⊎ HasBrokenRecord bytes offset left
 OpensAs bytes left (Err Site) = Unit {0}

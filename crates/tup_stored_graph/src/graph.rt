@@ -10,7 +10,7 @@ ghost use Rattle.tup_site.specs.World.{TreeStays};
 ghost use Rattle.tup_table.specs.Entries.{IsAscending};
 ghost use Rattle.tup_table.specs.Images.{OpenStep};
 ghost use Rattle.tup_table.specs.Store.{header};
-ghost use Rattle.tup_table.specs.Table.{entries_in};
+ghost use Rattle.tup_table.specs.Table.{entries_in, IsSparse};
 ghost use Rattle.tup_graph.specs.Above.{HasAsked};
 ghost use Rattle.tup_graph.specs.Changes.{once_made};
 ghost use Rattle.tup_graph.specs.Edits.{edited_by, HasSpelling};
@@ -74,7 +74,7 @@ impl Graph {
         // What it changes meanwhile, and what a crash may leave then: the first bytes of the store.
         ensures tree { IsTrue S.tells → TreeStays (S.world site.old) (S.world site.new) }
         ensures crash { IsTrue S.tells
-            → GoesOn S.moment S.left_since site.old site.new (WriteStep 0 9) }
+            → GoesOn S.moment S.left_since site.old site.new (WriteStep 0 18) }
         ensures known { IsTrue S.tells → S.known site.new ≡ S.known site.old }
 
         ensures outside { OnlyOutside result }
@@ -90,7 +90,7 @@ impl Graph {
 
     /// Opens the store of a site: the graph that it stands for is what a crash leaves from then on.
     /// A gate that is missing at the end of the store, or stands open there with nothing behind it,
-    /// is written closed, and nothing else is.
+    /// is written closed; where compacting was stopped, it is finished; and nothing else is written.
     ///
     /// `BadStore` names the first commit that doesn't read, or else the one that put the first
     /// record, in the byte order of keys, which isn't one or doesn't fit.
@@ -103,7 +103,8 @@ impl Graph {
         ensures stands { IsTrue S.tells
             → IfOk result (λ graph. StandsFor S.world S.moment S.left_since graph site.new) }
         // Whatever it answers, all is as it was, or the store has the same entries, and nothing but
-        // a closed gate that its end lacks was written: one byte, whichever, where that failed.
+        // a closed gate that its end lacks was written, one byte, whichever, where that failed; and
+        // what finishes compacting.
         ensures keeps { IsTrue S.tells → (S.world site.new ≡ S.world site.old)
             ⊎ OpenStep (S.world site.old) (S.world site.new) }
 
@@ -207,6 +208,36 @@ impl Graph {
         self.whole = false;
         self.nodes.edit_all(alloc, edits)?;
         self.whole = true;
+        Ok(())
+    }
+
+    /// Whether compacting the store is worth it: it has more than 1,048,576 bytes, and more than
+    /// four times as many as are live.
+    pub fn is_sparse(&self) -> bool
+        ensures { IsTrue result ↔ IsSparse self.now.table }
+    {
+        self.table.is_sparse()
+    }
+
+    /// Makes the store one commit of all records, and cuts off what was replaced or deleted. The
+    /// nodes stay, and from the first moment of the call on a crash leaves the same graph.
+    pub fn compact<S: Site>(&mut self, alloc: Global, site: &mut S) -> Result<(), GraphFault>
+        requires fresh { IsTrue (is_fresh self.old) }
+        requires stands { IsTrue S.tells
+            → StandsFor S.world S.moment S.left_since self.old site.old }
+        ensures nodes { self.new.nodes ≡ self.old.nodes }
+        ensures fresh { OnOk result (IsTrue (is_fresh self.new)) }
+        ensures stands { IsTrue S.tells → IsTrue (is_fresh self.new)
+            → StandsFor S.world S.moment S.left_since self.new site.new }
+        ensures tree { IsTrue S.tells → TreeStays (S.world site.old) (S.world site.new) }
+        ensures crash { IsTrue S.tells → LeavesEither S.moment S.left_since site.old site.new
+            self.old.nodes self.old.nodes }
+        ensures known { IsTrue S.tells → S.known site.new ≡ S.known site.old }
+        ensures outside { OnlyOutside result }
+        ensures cause { CountsFaults (S.faults site.old) (S.faults site.new) result }
+    {
+        self.table.entries().keys_ascend();
+        self.table.compact(alloc, site)?;
         Ok(())
     }
 }

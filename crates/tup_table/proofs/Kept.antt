@@ -152,6 +152,11 @@ rooms_kept : (old new : Slots) (changes : List Change) → RoomStays old new →
 rooms_kept old new [] kept all = tt
 rooms_kept old new (c ∷ changes) kept all = (kept c all.0, rooms_kept old new changes kept all.1)
 
+-- a slot that has an entry is the first that stands
+pub slot_taken : (left rest : Slots) (key : List ℕ) (slot : Option Entry) (entry : Entry) → left ≡ (key, slot) ∷ rest → slot ≡ Some entry
+    → standing left ≡ (key, entry) ∷ standing rest
+slot_taken left rest key slot entry first some = ap standing first ∙ ap (λ (s : Option Entry). in_front key s (standing rest)) some
+
 -- ---- for the calls: what a map tells
 module _ (es new : Slots) (up : IsStrictlySortedBy by_bytes (keys_of es)) (k : List ℕ) where
   pub put_slot : (v : Entry) → new ≡ insert_entry by_bytes es k (Some v) → standing new ≡ insert_entry by_bytes (standing es) k v

@@ -18,7 +18,7 @@ pub antisymmetric : IsAntisymmetric by_bytes
 antisymmetric = slice_cmp-IsAntisymmetric nat_cmp-IsAntisymmetric
 
 -- ---- tests of keys
-same_key : (k : List ℕ) → is_at (by_bytes k) k ≡ true
+pub same_key : (k : List ℕ) → is_at (by_bytes k) k ≡ true
 same_key k = ap is_eq (tied_itself nat_list_cmp_total k)
 
 other_key : (q k : List ℕ) → q ≢ k → is_at (by_bytes q) k ≡ false
@@ -141,4 +141,4 @@ after_others es origin (Put k v) q differs = put_others es k (record { value = v
 after_others es origin (Delete k) q differs = deleted_others es k q differs
 
 pub commits_ascending : (commits : List (List Change)) → IsAscending (entries_of commits)
-commits_ascending commits = left_ascending 8 [] commits tt
+commits_ascending commits = left_ascending 17 [] commits tt

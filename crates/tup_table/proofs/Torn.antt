@@ -1,10 +1,19 @@
 -- What a write leaves of bytes at their end, at a gate, and behind a gate: where it succeeds, and where it is torn.
-use Rattle.std.proofs.Common.{◌≡◌, ℕ, ◌+◌, ◌≤◌, List, [], ◌∷◌, ◌++◌, length, get_or, take, drop, refl, sym, ap, subst, ◌∙◌, append_assoc, length-append, length-drop, length-take-le, drop-drop, take-append-drop, arith, inl, inr}
+use Rattle.std.proofs.Common.{◌≡◌, ℕ, zero, suc, ◌+◌, ◌-◌, ◌≤◌, max, List, [], ◌∷◌, ◌++◌, length, get_or, take, drop, refl, sym, ap, subst, ◌∙◌, append_assoc, length-append, length-drop, length-take-le, drop-drop, take-append-drop, arith, inl, inr}
+use Rattle.std.proofs.Math.Nat.{le_trans, le-max_left, le-max_right, max-le}
 use Rattle.std.proofs.lemmas.List.{take_at, drop_at, drop_all, drop_more}
 use Rattle.tup_site.specs.Store.{Holds, IsTorn}
 use Rattle.tup_table.specs.Images.{LacksGate, MayClose}
 use Rattle.tup_table.specs.Store.{IsEnd}
 
+-- ---- bounds
+max_wider : (a b c k : ℕ) → b ≤ c → k ≤ max a b → k ≤ max a c
+max_wider a b c k le short = le_trans short (max-le (le-max_left a c) (le_trans le (le-max_right a c)))
+
+max_then : (a m b k : ℕ) → m ≤ max a b → k ≤ max m b → k ≤ max a b
+max_then a m b k first short = le_trans short (max-le first (le-max_right a b))
+
+-- ---- ends
 -- an end of at most one byte ends a store, whatever the byte
 short_end : (rest : List ℕ) → length rest ≤ 1 → IsEnd rest
 short_end [] le = tt
@@ -106,3 +115,39 @@ module _ (front : List ℕ) (at : ℕ) (ends : length front ≡ at) where
       holds
       ∙ ap (λ (t : List ℕ). t ++ gate ∷ drop (at + 1) (front ++ rest)) (take_at front rest at ends)
       ∙ ap (λ (t : List ℕ). front ++ gate ∷ t) (drop_all (at + 1) (front ++ rest) (omega (arith, length-whole rest)))
+
+-- ---- writes one behind another, and wider ones
+pub take-take : (n m : ℕ) (xs : List ℕ) → n ≤ m → take n (take m xs) ≡ take n xs
+take-take zero m xs le = refl
+take-take (suc n) zero xs le = absurd (omega (arith, le))
+take-take (suc n) (suc m) [] le = refl
+take-take (suc n) (suc m) (x ∷ xs) le = ap (λ (t : List ℕ). x ∷ t) (take-take n m xs (omega (arith, le)))
+
+pub take_front : (n m : ℕ) (one other : List ℕ) → n ≤ m → take m one ≡ take m other → take n one ≡ take n other
+take_front n m one other le same =
+    let cut : (xs : List ℕ) → take n (take m xs) ≡ take n xs = λ xs. take-take n m xs le in
+    sym (cut one) ∙ ap (take n) same ∙ cut other
+
+pub drop_behind : (n m : ℕ) (one other : List ℕ) → n ≤ m → drop n one ≡ drop n other → drop m one ≡ drop m other
+drop_behind n m one other le same =
+    let at : n + (m - n) ≡ m = omega (arith, le) in
+    let cut : (xs : List ℕ) → drop (m - n) (drop n xs) ≡ drop m xs = λ xs. drop-drop (m - n) n xs ∙ ap (λ (k : ℕ). drop k xs) at in
+    sym (cut one) ∙ ap (drop (m - n)) same ∙ cut other
+
+-- a write is one of a wider range
+pub torn_wider : (at n to m : ℕ) (old new : List ℕ) → to ≤ at → at + n ≤ to + m → IsTorn at n old new → IsTorn to m old new
+torn_wider at n to m old new front behind torn = record {
+  before = take_front to at new old front torn.before;
+  after = drop_behind (at + n) (to + m) new old behind torn.after;
+  no_shorter = torn.no_shorter;
+  no_longer = max_wider (length old) (at + n) (to + m) (length new) behind torn.no_longer;
+}
+
+-- two writes are one
+pub torn_then : (at n : ℕ) (old mid new : List ℕ) → IsTorn at n old mid → IsTorn at n mid new → IsTorn at n old new
+torn_then at n old mid new one two = record {
+  before = two.before ∙ one.before;
+  after = two.after ∙ one.after;
+  no_shorter = omega (arith, one.no_shorter, two.no_shorter);
+  no_longer = max_then (length old) (length mid) (at + n) (length new) one.no_longer two.no_longer;
+}

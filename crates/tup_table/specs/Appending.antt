@@ -2,7 +2,7 @@
 use Rattle.std.specs.Prelude.{ℕ, ◌≤◌, List, [], ◌∷◌, ◌++◌, length}
 use Rattle.tup_table.specs.declared.change.Change.{Change}
 use Rattle.tup_table.specs.declared.change.Change.TheVariants.{Put, Delete}
-use Rattle.tup_table.specs.Store.{commit}
+use Rattle.tup_table.specs.Spelling.{commit}
 
 -- the key has at most 65,535 bytes
 abbrev pub HasShortKey : Change → Type 0

@@ -9,7 +9,7 @@ use Rattle.tup_path.specs.Order.{by_bytes}
 use Rattle.tup_table.specs.declared.change.Change.{Change}
 use Rattle.tup_table.specs.declared.change.Change.TheVariants.{Put, Delete}
 use Rattle.tup_table.specs.declared.entry.Entry.{Entry}
-use Rattle.tup_table.specs.Store.{commit}
+use Rattle.tup_table.specs.Spelling.{commit}
 
 -- keys with what stands under them
 abbrev pub Standing : Type 0
@@ -44,6 +44,6 @@ abbrev pub left_from : ℕ → Standing → List (List Change) → Standing
 left_from gate entries [] = entries
 left_from gate entries (changes ∷ commits) = left_from (gate + (1 + length (commit changes))) (committed gate entries changes) commits
 
--- what the commits of a store leave
+-- what the commits of a low area leave
 abbrev pub entries_of : List (List Change) → Standing
-entries_of commits = left_from 8 [] commits
+entries_of commits = left_from 17 [] commits

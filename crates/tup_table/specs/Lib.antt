@@ -1,6 +1,8 @@
 pub mod Front
-pub mod Store
+pub mod Spelling
 pub mod Entries
+pub mod Compact
+pub mod Store
 pub mod Slots
 pub mod Reading
 pub mod Appending

@@ -1,6 +1,6 @@
 -- How entries are kept in memory (own): a key may have room without a value, so that a commit can be taken in without
 -- memory once it is written.
-use Rattle.std.specs.Prelude.{◌≡◌, ℕ, true, List, [], ◌∷◌, Option, Some, None, is_some}
+use Rattle.std.specs.Prelude.{◌≡◌, ℕ, ◌≤◌, true, List, [], ◌∷◌, Option, Some, None, is_some}
 use Rattle.std.specs.BTreeMap.{is_at}
 use Rattle.std.specs.List.{AllByRecursion}
 use Rattle.std.specs.Map.{lookup}
@@ -9,6 +9,7 @@ use Rattle.tup_table.specs.declared.change.Change.{Change}
 use Rattle.tup_table.specs.declared.change.Change.TheVariants.{Put, Delete}
 use Rattle.tup_table.specs.declared.entry.Entry.{Entry}
 use Rattle.tup_table.specs.Entries.{Standing}
+use Rattle.tup_table.specs.Compact.{EntriesFit, size_of}
 
 -- keys with room, each with what stands under it
 abbrev pub Slots : Type 0
@@ -23,6 +24,10 @@ in_front key (Some entry) more = (key, entry) ∷ more
 abbrev pub standing : Slots → Standing
 standing [] = []
 standing (slot ∷ slots) = in_front slot.0 slot.1 (standing slots)
+
+-- the entries of slots have spellings, and take this many bytes
+abbrev pub AreSlotsOf : ℕ → Slots → Type 0
+AreSlotsOf size slots = EntriesFit (standing slots) × (size ≡ size_of (standing slots)) × (size ≤ 4611686018427387904)
 
 -- a key has room
 abbrev pub HasSlot : Slots → List ℕ → Type 0

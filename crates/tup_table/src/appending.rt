@@ -10,7 +10,7 @@ use std::alloc::{AllocError, Global};
 use tup_path::Bytes;
 
 /// How many bytes a store may have.
-const MAX_STORE: u64 = 1_073_741_824;
+const MAX_STORE: u64 = 2_147_483_648;
 
 /// How many bytes a commit has beside its changes: its gate, its length, and the next gate.
 const AROUND: u64 = 6;
@@ -32,14 +32,14 @@ fn has_short_key(change: &Change) -> bool
 }
 
 /// The bytes that a commit puts behind the gate at an offset: its length, its changes, and the next gate, which is
-/// closed. `Full` where the store would then have more than 1,073,741,824 bytes.
+/// closed. `Full` where the store would then have more than 2,147,483,648 bytes.
 pub fn appended(alloc: Global, gate: u64, changes: &[Change]) -> Result<Bytes, TableFault>
     requires { All HasShortKey changes.now }
     ensures { MatchResult result
         (λ bytes. CommitFits changes.now × (bytes ≡ appending changes.now)
-        × (gate + (1 + length bytes) ≤ 1073741824))
+        × (gate + (1 + length bytes) ≤ 2147483648))
         (λ fault. (fault ≡ TableFault.Memory) ⊎ ((fault ≡ TableFault.Full)
-        × (1073741824 < gate + (1 + length (appending changes.now))))) }
+        × (2147483648 < gate + (1 + length (appending changes.now))))) }
 {
     let Some(length) = payload_len(gate, changes) else {
         return Err(TableFault::Full);
@@ -51,10 +51,18 @@ pub fn appended(alloc: Global, gate: u64, changes: &[Change]) -> Result<Bytes, T
     Ok(Bytes::new(bytes))
 }
 
+/// Whether a store has room for these bytes behind the gate at an offset.
+pub(crate) fn has_room(gate: u64, bytes: &Bytes) -> bool
+    ensures { IsTrue result ↔ (gate + (1 + length bytes.now) ≤ 2147483648) }
+{
+    let len = bytes.as_slice().len() as u64;
+    len < MAX_STORE && gate <= MAX_STORE - 1 - len
+}
+
 /// How many bytes the changes take, if a store has room for their commit behind the gate at an offset.
 fn payload_len(gate: u64, changes: &[Change]) -> Option<u32>
-    ensures { MatchOption result (1073741824 < gate + (6 + length (payload changes.now)))
-        (λ len. (len ≡ length (payload changes.now)) × (gate + (6 + len) ≤ 1073741824)) }
+    ensures { MatchOption result (2147483648 < gate + (6 + length (payload changes.now)))
+        (λ len. (len ≡ length (payload changes.now)) × (gate + (6 + len) ≤ 2147483648)) }
 {
     let room = (MAX_STORE - AROUND).checked_sub(gate)?;
     let left = room_left(room, changes)?;

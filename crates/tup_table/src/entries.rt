@@ -1,11 +1,14 @@
 //! The entries of a table.
-ghost use Rattle.std.specs.Prelude.{◌≡◌, [], OnOk, IfErr, option_map};
+ghost use Rattle.std.specs.Prelude.{◌≡◌, ◌≤◌, [], OnOk, IfErr, option_map};
 ghost use Rattle.std.specs.Option.{option_copied};
+ghost use Rattle.tup_table.specs.Compact.{EntriesFit, live_size, size_at, size_of};
 ghost use Rattle.tup_table.specs.Entries.{IsAscending, changed, entry_at};
+ghost use Rattle.tup_table.specs.Spelling.{ChangeFits};
 
 use crate::change::Change;
 use crate::entry::Entry;
 use crate::fault::TableFault;
+use crate::size::{live_of, put_size, size_with};
 use crate::slots::{Slots, apply};
 use std::alloc::Global;
 use std::collections::BTreeMap;
@@ -17,20 +20,22 @@ use tup_path::Bytes;
 #[derive(Drop)]
 pub struct Entries {
     pub(crate) slots: Slots,
+    /// How many bytes the entries take in a commit.
+    pub(crate) size: u64,
 }
 
 impl Model for Entries {
     ghost use Rattle.std.specs.Prelude.{List, ℕ};
     ghost use Rattle.std.specs.BTreeMap.{IsOrdered};
     ghost use Rattle.tup_path.specs.Order.{by_bytes};
-    ghost use Rattle.tup_table.specs.Slots.{standing};
+    ghost use Rattle.tup_table.specs.Slots.{AreSlotsOf, standing};
     ghost use Rattle.tup_table.specs.declared.entry.Entry.{Entry};
 
     ghost Value = { List (List ℕ × Entry) };
 
     ghost view = { λ e. standing e.slots.entries };
 
-    ghost invariant = { λ e. IsOrdered by_bytes e.slots };
+    ghost invariant = { λ e. IsOrdered by_bytes e.slots × AreSlotsOf e.size e.slots.entries };
 }
 
 impl Entries {
@@ -42,6 +47,7 @@ impl Entries {
     {
         Entries {
             slots: BTreeMap::new(alloc),
+            size: 0,
         }
     }
 
@@ -89,11 +95,47 @@ impl Entries {
         self.slots.iter()
     }
 
+    /// How many bytes a store of these entries has once it is compacted.
+    pub fn live(&self) -> u64
+        ensures { result ≡ live_size self.now }
+    {
+        live_of(self.size)
+    }
+
+    /// A law: each entry can be put by a commit.
+    pub(crate) fn fit(&self)
+        ensures { EntriesFit self.now }
+    {
+        let _slots = &self.slots;
+    }
+
+    /// How many bytes the entries take in a commit.
+    pub(crate) fn size(&self) -> u64
+        ensures { (result ≡ size_of self.now) × (result ≤ 4611686018427387904) }
+    {
+        self.size
+    }
+
+    /// How many bytes the entry of a key takes in a commit.
+    pub(crate) fn size_at(&self, key: &Bytes) -> u64
+        ensures { result ≡ size_at self.now key.now }
+    {
+        self.fit();
+        match self.entry(key) {
+            Some(entry) => put_size(key, &entry.value),
+            None => 0,
+        }
+    }
+
     /// Takes in a change of the commit behind the gate at an offset. After a refusal the entries are as they were.
     pub(crate) fn apply(&mut self, change: Change, origin: u64) -> Result<(), TableFault>
+        requires { ChangeFits change }
         ensures ok { OnOk result (self.new ≡ changed origin self.old change) }
         ensures err { IfErr result (λ fault. (fault ≡ TableFault.Memory) × (self.new ≡ self.old)) }
     {
-        apply(&mut self.slots, change, origin)
+        let size = size_with(self, &change)?;
+        apply(&mut self.slots, change, origin)?;
+        self.size = size;
+        Ok(())
     }
 }

@@ -9,14 +9,14 @@ pub enum TableFault {
     /// The store is empty.
     #[error("there is no store")]
     NotThere,
-    /// The bytes are no store: 0 where they don't begin with the header, and else the offset of the open gate behind
-    /// which something stands that is no commit.
+    /// The bytes are no store: 0 where they don't begin with a head, 9 where the start in it is wrong, and else the offset of
+    /// the open gate behind which something stands that is no commit.
     #[error("the store is damaged at byte {offset}")]
     BadStore { offset: u64 },
     /// The site failed, and counted it. The store is opened again.
     #[error("the store failed")]
     Site,
-    /// The store would have more than 1,073,741,824 bytes; nothing was written.
+    /// The store would have more than 268,435,456 live bytes; nothing was written.
     #[error("the store is full")]
     Full,
     /// There was no memory. The store is opened again where its table isn't fresh.

@@ -5,7 +5,7 @@ ghost use Rattle.tup_site.specs.Store.{Holds};
 ghost use Rattle.tup_site.specs.World.{TreeStays};
 ghost use Rattle.tup_table.specs.Cause.{CountsFaults, OnlyOutside};
 ghost use Rattle.tup_table.specs.Entries.{entries_of};
-ghost use Rattle.tup_table.specs.Images.{CommitStep, EndStep, IsNext, LacksGate, closed_end};
+ghost use Rattle.tup_table.specs.Images.{CommitStep, EndStep, IsNext, LacksGate, closed_end, written_at};
 ghost use Rattle.tup_table.specs.Store.{IsEnd};
 ghost use Rattle.tup_table.specs.Table.{Rests};
 ghost use Rattle.tup_table.specs.declared.change.Change.{Change};
@@ -104,13 +104,22 @@ pub(crate) fn write_commit<S: Site>(
     gate: u64,
     bytes: &[u8],
 ) -> Result<(), TableFault>
-    requires room { gate + (1 + length bytes.now) ≤ 1073741824 }
+    requires room { gate + (1 + length bytes.now) ≤ 2147483648 }
     requires inside { IsTrue S.tells → gate < length (S.world site.old).store }
     ensures rests { IsTrue S.tells → (commits : List (List Change)) (changes : List Change)
         → Rests S.world S.moment S.left_since commits site.old
         → IsNext commits changes gate bytes.now
         → OnOk result (Rests S.world S.moment S.left_since (commits ++ changes ∷ []) site.new) }
+    ensures bytes { IsTrue S.tells → (commits : List (List Change)) (changes : List Change)
+        → Rests S.world S.moment S.left_since commits site.old
+        → IsNext commits changes gate bytes.now
+        → OnOk result ((S.world site.new).store
+        ≡ written_at gate changes (S.world site.old).store) }
+    ensures step { IsTrue S.tells
+        → WriteStep gate (1 + length bytes.now) (S.world site.old) (S.world site.new) }
     ensures tree { IsTrue S.tells → TreeStays (S.world site.old) (S.world site.new) }
+    ensures behind { IsTrue S.tells → GoesOn S.moment S.left_since site.old site.new
+        (WriteStep gate (1 + length bytes.now)) }
     ensures crash { IsTrue S.tells → (commits : List (List Change)) (changes : List Change)
         → Rests S.world S.moment S.left_since commits site.old
         → IsNext commits changes gate bytes.now

@@ -2,7 +2,8 @@ use Rattle.std.specs.Map.Iter.{deref_pair}
 use Rattle.std.proofs.lemmas.Map.Iter.{rest_more}
 use Rattle.std.proofs.lemmas.Result.{err_from_is_err_and}
 use Rattle.tup_table.specs.Slots.{standing}
-use Rattle.tup_graph.proofs.Opened.{one_more, read_refused, slot_taken}
+use Rattle.tup_table.proofs.Kept.{slot_taken}
+use Rattle.tup_graph.proofs.Opened.{one_more, read_refused}
 use Rattle.tup_graph.proofs.opening.read_graph.Goals as goal
 
 pub loop-key-preserved-in-Continue-1 : goal.loop-key-preserved-in-Continue-1

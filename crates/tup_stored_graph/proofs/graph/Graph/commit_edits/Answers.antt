@@ -1,11 +1,16 @@
-use Rattle.std.proofs.Common.{◌≡◌, List, [], ◌∷◌, length, All, refl, sym, subst, ◌∙◌, arith}
+use Rattle.std.proofs.Common.{◌≡◌, List, [], ◌∷◌, length, All, Result, Err, refl, sym, subst, ◌∙◌, arith}
+use Rattle.tup_path.specs.Gives.{GivesUnless}
+use Rattle.tup_graph.specs.Edits.{edited_by}
+use Rattle.tup_graph.specs.Fault.{fault_of}
+use Rattle.tup_graph.specs.declared.fault.GraphFault.{GraphFault}
+use Rattle.tup_graph.specs.declared.fault.GraphFault.TheVariants.{Full, Memory}
 use Rattle.std.proofs.lemmas.Bool.{eqb-true}
 use Rattle.tup_table.specs.Appending.{HasShortKey}
 use Rattle.tup_table.specs.Table.{entries_in}
 use Rattle.tup_table.specs.declared.change.Change.{Change}
 use Rattle.tup_stored_graph.specs.Held.{Held}
-use Rattle.tup_stored_graph.proofs.Committing.{sound_now, ascending_now, written_now, unchanged}
-use Rattle.tup_stored_graph.proofs.Crashes.{crash_now}
+use Rattle.tup_stored_graph.proofs.Committing.{sound_now, ascending_now, written_now, unchanged, full_refused}
+use Rattle.tup_stored_graph.proofs.Crashes.{as_it_was, crash_now, sound_after}
 use Rattle.tup_stored_graph.proofs.Short.{needed_short}
 use Rattle.tup_stored_graph.proofs.graph.Graph.commit_edits.Goals as goal
 
@@ -30,6 +35,30 @@ commit-requires-clause-keys g c =
     let written = written_now old inside c.self.view_is c.args.edits c.entries-2.result.now c.in_ok-changes.changes.items c.entries-2.ensures c.in_ok-changes.ensures.0 in
     subst (λ (cs : List Change). All HasShortKey cs) (sym (c.deref.ensures.value ∙ written)) (needed_short (entries_in old.table) c.args.edits c.in_ok-changes.ensures.1)
 
+pub returns-in_err-changes-clause-crash : goal.returns-in_err-changes-clause-crash
+returns-in_err-changes-clause-crash g c = λ tells.
+    let old = c.args.self.now in
+    let inside : Held = record { table = c.self.inside.table; nodes = c.self.inside.nodes; whole = c.self.inside.whole } in
+    let is = sound_now old inside c.self.view_is c.self.invariant c.requires.fresh in
+    as_it_was g.S.Site.world g.S.Site.moment g.S.Site.left_since old.table old.nodes c.args.site.now (c.requires.stands tells) is (edited_by old.nodes c.args.edits)
+
+pub returns-then-is_empty-clause-crash : goal.returns-then-is_empty-clause-crash
+returns-then-is_empty-clause-crash g c = λ tells.
+    let old = c.args.self.now in
+    let inside : Held = record { table = c.self.inside.table; nodes = c.self.inside.nodes; whole = c.self.inside.whole } in
+    let is = sound_now old inside c.self.view_is c.self.invariant c.requires.fresh in
+    as_it_was g.S.Site.world g.S.Site.moment g.S.Site.left_since old.table old.nodes c.args.site.now (c.requires.stands tells) is (edited_by old.nodes c.args.edits)
+
+pub returns-in_err-commit-clause-full : goal.returns-in_err-commit-clause-full
+returns-in_err-commit-clause-full g c = λ full.
+    let old = c.args.self.now in
+    let inside : Held = record { table = c.self.inside.table; nodes = c.self.inside.nodes; whole = c.self.inside.whole } in
+    let fault = c.in_err-commit.field-0.0 in
+    let written = written_now old inside c.self.view_is c.args.edits c.entries-2.result.now c.in_ok-changes.changes.items c.entries-2.ensures c.in_ok-changes.ensures.0 in
+    let is : c.from_residual-in_err-commit.result ≡ Err (fault_of fault) = grind arith in
+    subst (λ (r : Result (Unit {0}) GraphFault). GivesUnless r Memory (Err Full)) (sym is)
+    (full_refused old inside c.self.view_is c.args.edits c.deref.result.now (c.deref.ensures.value ∙ written) c.in_ok-changes.ensures.1 c.commit.result fault c.in_err-commit.was c.commit.ensures.fits full)
+
 pub returns-in_err-commit-clause-crash : goal.returns-in_err-commit-clause-crash
 returns-in_err-commit-clause-crash g c = λ tells.
     let old = c.args.self.now in
@@ -37,7 +66,7 @@ returns-in_err-commit-clause-crash g c = λ tells.
     let is = sound_now old inside c.self.view_is c.self.invariant c.requires.fresh in
     let up = ascending_now old inside c.self.view_is c.entries.result.now c.entries.ensures c.keys_ascend.ensures in
     let written = written_now old inside c.self.view_is c.args.edits c.entries-2.result.now c.in_ok-changes.changes.items c.entries-2.ensures c.in_ok-changes.ensures.0 in
-    crash_now g.S.Site.world g.S.Site.moment g.S.Site.left_since old inside c.self.view_is c.args.edits c.args.site.now (c.requires.stands tells) is (λ origin. c.requires.read origin up is c.in_ok-changes.ensures.1)
+    crash_now g.S.Site.world g.S.Site.moment g.S.Site.left_since old inside c.self.view_is c.args.edits c.args.site.now (c.requires.stands tells) up is (λ origin. c.requires.read origin up is c.in_ok-changes.ensures.1)
     c.commit.new.site c.deref.result.now (c.deref.ensures.value ∙ written) (c.commit.ensures.crash tells)
 
 pub returns-in_err-edit_all-clause-crash : goal.returns-in_err-edit_all-clause-crash
@@ -47,7 +76,7 @@ returns-in_err-edit_all-clause-crash g c = λ tells.
     let is = sound_now old inside c.self.view_is c.self.invariant c.requires.fresh in
     let up = ascending_now old inside c.self.view_is c.entries.result.now c.entries.ensures c.keys_ascend.ensures in
     let written = written_now old inside c.self.view_is c.args.edits c.entries-2.result.now c.in_ok-changes.changes.items c.entries-2.ensures c.in_ok-changes.ensures.0 in
-    crash_now g.S.Site.world g.S.Site.moment g.S.Site.left_since old inside c.self.view_is c.args.edits c.args.site.now (c.requires.stands tells) is (λ origin. c.requires.read origin up is c.in_ok-changes.ensures.1)
+    crash_now g.S.Site.world g.S.Site.moment g.S.Site.left_since old inside c.self.view_is c.args.edits c.args.site.now (c.requires.stands tells) up is (λ origin. c.requires.read origin up is c.in_ok-changes.ensures.1)
     c.commit.new.site c.deref.result.now (c.deref.ensures.value ∙ written) (c.commit.ensures.crash tells)
 
 pub returns-clause-crash : goal.returns-clause-crash
@@ -57,5 +86,15 @@ returns-clause-crash g c = λ tells.
     let is = sound_now old inside c.self.view_is c.self.invariant c.requires.fresh in
     let up = ascending_now old inside c.self.view_is c.entries.result.now c.entries.ensures c.keys_ascend.ensures in
     let written = written_now old inside c.self.view_is c.args.edits c.entries-2.result.now c.in_ok-changes.changes.items c.entries-2.ensures c.in_ok-changes.ensures.0 in
-    crash_now g.S.Site.world g.S.Site.moment g.S.Site.left_since old inside c.self.view_is c.args.edits c.args.site.now (c.requires.stands tells) is (λ origin. c.requires.read origin up is c.in_ok-changes.ensures.1)
+    crash_now g.S.Site.world g.S.Site.moment g.S.Site.left_since old inside c.self.view_is c.args.edits c.args.site.now (c.requires.stands tells) up is (λ origin. c.requires.read origin up is c.in_ok-changes.ensures.1)
     c.commit.new.site c.deref.result.now (c.deref.ensures.value ∙ written) (c.commit.ensures.crash tells)
+
+pub invariant_of-self-2 : goal.invariant_of-self-2
+invariant_of-self-2 g c = λ whole.
+    let old = c.args.self.now in
+    let inside : Held = record { table = c.self.inside.table; nodes = c.self.inside.nodes; whole = c.self.inside.whole } in
+    let is = sound_now old inside c.self.view_is c.self.invariant c.requires.fresh in
+    let up = ascending_now old inside c.self.view_is c.entries.result.now c.entries.ensures c.keys_ascend.ensures in
+    let written = written_now old inside c.self.view_is c.args.edits c.entries-2.result.now c.in_ok-changes.changes.items c.entries-2.ensures c.in_ok-changes.ensures.0 in
+    sound_after g.S.Site.world g.S.Site.moment g.S.Site.left_since old inside c.self.view_is c.args.edits c.args.site.now up (λ origin. c.requires.read origin up is c.in_ok-changes.ensures.1) c.deref.result.now (c.deref.ensures.value ∙ written)
+    c.commit.new.self c.edit_all.new.self c.in_ok-commit.ensures.leaves c.in_ok-edit_all.ensures.ok
