@@ -52,6 +52,7 @@ impl<S: Site, R: Runner> OnlySeat<S, R> {
 
 impl Shared for Alone {
     ghost use Rattle.std.specs.Prelude.{true};
+    ghost use Rattle.std.specs.Coded.{Unit-prop};
     ghost use Rattle.tup_site.specs.Memory.{known_in};
     ghost use Rattle.tup_board.specs.Board.{plan_of as plan_at};
     ghost use Rattle.tup_alone.specs.Own.{entries_at};
@@ -107,4 +108,6 @@ impl Shared for Alone {
     fn stop(&self, seat: &mut OnlySeat<MemSite, Mini>, plan: &Plan, cause: Cause) {
         seat.board.stop(plan, seat.number, cause)
     }
+
+    ghost fact = { λ _ _. Unit-prop };
 }

@@ -453,6 +453,12 @@ module _ {S R : Type 0} (site : Site S) (runner : Runner R) (tells_ran : Bool) (
         reached : is_reached (plan_of mid) number ≡ true
         reached = in_order.reached number (in_order.pending 0 (record { rule = number; asks = []; denied = None }) starts_there.here)
 
+  -- on a board that was over there is none to give
+  pub gives_none : (number : ℕ) → result ≡ Gives number → now ≡ old → IsOver old → ⊥
+  gives_none number is same over =
+      let ready = (subst (λ (r : Claimed). Claims 0 (course_of now) r (course_of mid)) is claimed).0.ready in
+      ⊎_elim (λ some. never_some (state now).stopped ready.going some) (λ none. none number ready) (subst (λ (b : BoardState S). IsOver b) (sym same) over).1
+
   -- none is ready while none runs: nothing is to wait for
   pub never_waits : result ≡ Wait → ⊥
   never_waits is = (subst (λ (r : Claimed). Claims 0 (course_of now) r (course_of mid)) is claimed).2 has.none_runs
@@ -473,6 +479,9 @@ module _ {S R : Type 0} (site : Site S) (runner : Runner R) (tells_ran : Bool) (
 
     pub steady_there : KeepsCount site old now → KeepsCount site old mid
     steady_there stays = subst (λ (b : BoardState S). KeepsCount site old b) (sym nothing_more) stays
+
+    pub idle_there : {A : Type 0} (first last : A) → (IsOver old → (now ≡ old) × (last ≡ first)) → IsOver old → (mid ≡ old) × (last ≡ first)
+    idle_there first last idle over = (nothing_more ∙ (idle over).0, (idle over).1)
 
 -- ---- what happened is what was added
 pub order_as : {S : Type 0} (tells_ran : Bool) (old now : BoardState S) (was ran : List (Names × List ℕ)) (before faults : ℕ) → HasDrained tells_ran old now was ran before faults

@@ -38,7 +38,8 @@ impl<S: Site, R: Runner> Board<S, R> {
     /// of its sources. `Left` with `Bad` comes just where a verdict is bad and nothing was stopped for another cause
     /// before, and `Left` with another cause where that was the first of a stop. By itself it stops only for a failure of
     /// its runner, and for want of memory. A failure of its site is what it is left for, if nothing was stopped before.
-    /// Each rule that it claims is the first one that is ready.
+    /// Each rule that it claims is the first one that is ready. A board that is over is given back as it was, and so is
+    /// its runner.
     pub fn drain(&mut self, alloc: Global, plan: &Plan, runner: &mut R) -> Drained
         requires plan { plan.now ≡ plan_of self.old }
         requires none_runs { NoneRuns (course_of self.old) }
@@ -60,6 +61,7 @@ impl<S: Site, R: Runner> Board<S, R> {
         ensures cause { HasRunCause (state self.old).stopped
             (R.faults runner.old) (R.faults runner.new) result }
         ensures steady { KeepsCount S.Site.own self.old self.new }
+        ensures idle { IsOver self.old → (self.new ≡ self.old) × (runner.new ≡ runner.old) }
     {
         'rules: loop {
             match self.claim(plan, 0) {

@@ -127,4 +127,7 @@ pub trait Shared: Sync {
         ensures adds { (added : List CoreEventValue)
             × (entries seat.new ≡ entries seat.old ++ added)
             × StopsBy (entries seat.old) (number_of seat.old) cause added };
+
+    /// That a seat is one of a board is a fact: there is at most one proof of it.
+    ghost fact: { (board : Self) (seat : Self.Seat) → IsProp (belongs board seat) };
 }

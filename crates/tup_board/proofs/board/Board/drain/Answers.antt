@@ -5,11 +5,11 @@ use Rattle.tup_core.specs.Sound.{IsAcyclic}
 use Rattle.tup_board.specs.declared.answers.Drained.{Drained}
 use Rattle.tup_board.specs.Board.{state}
 use Rattle.tup_board.specs.Calls.{Drains, RanAll, TakesFirst}
-use Rattle.tup_board.proofs.Draining.{builds_clean, drained_none, drained_there, goes_further, is_smaller, none_pending, order_as, over_there, plan_there, ran_as, run_cause, starts_there, stays_steady, steady_there}
+use Rattle.tup_board.proofs.Draining.{builds_clean, drained_none, drained_there, gives_none, goes_further, idle_there, is_smaller, none_pending, order_as, over_there, plan_there, ran_as, run_cause, starts_there, stays_steady, steady_there}
 use Rattle.tup_board.proofs.board.Board.drain.Goals as goal
 
 pub rules-init : goal.rules-init
-rules-init g c = (drained_none g.R.Runner.tells_ran c.args.self.now (g.R.Runner.ran c.args.runner.now) (g.R.Runner.faults c.args.runner.now) c.requires.none_runs, λ _. refl)
+rules-init g c = (drained_none g.R.Runner.tells_ran c.args.self.now (g.R.Runner.ran c.args.runner.now) (g.R.Runner.faults c.args.runner.now) c.requires.none_runs, λ _. refl, λ _. (refl, refl))
 
 pub claim-requires-clause-plan : goal.claim-requires-clause-plan
 claim-requires-clause-plan g c = c.requires.plan ∙ sym (ap (λ o. o.plan) c.rules.invariant.0.opening)
@@ -29,6 +29,7 @@ rules-preserved g c = (
       (λ tells it placed. c.run.ensures.ran tells it (ap (λ (p : Plan). slice_get p.rules c.in-Rule.rule) (c.requires.plan ∙ sym (plan_there g.S.Site g.R.Runner g.R.Runner.tells_ran c.args.self.now c.rules.self c.claim.new.self (g.R.Runner.ran c.args.runner.now) (g.R.Runner.ran c.rules.runner) (g.R.Runner.faults c.args.runner.now) (g.R.Runner.faults c.rules.runner) c.rules.invariant.0 c.claim.result c.claim.ensures.claims c.claim.ensures.rest)) ∙ placed)) c.run.ensures.cause,
   stays_steady g.S.Site c.args.self.now c.rules.self c.claim.new.self c.run.new.self c.in-Rule.rule c.claim.result c.rules.invariant.1 c.claim.ensures.claims c.in-Rule.is c.claim.ensures.rest
       (starts_there g.S.Site g.R.Runner g.R.Runner.tells_ran c.args.self.now c.rules.self c.claim.new.self (g.R.Runner.ran c.args.runner.now) (g.R.Runner.ran c.rules.runner) (g.R.Runner.faults c.args.runner.now) (g.R.Runner.faults c.rules.runner) c.rules.invariant.0 c.claim.result c.claim.ensures.claims c.claim.ensures.rest c.in-Rule.rule c.in-Rule.is) c.run.ensures.steady,
+  λ over. absurd (gives_none g.S.Site g.R.Runner g.R.Runner.tells_ran c.args.self.now c.rules.self c.claim.new.self (g.R.Runner.ran c.args.runner.now) (g.R.Runner.ran c.rules.runner) (g.R.Runner.faults c.args.runner.now) (g.R.Runner.faults c.rules.runner) c.rules.invariant.0 c.claim.result c.claim.ensures.claims c.claim.ensures.rest c.in-Rule.rule c.in-Rule.is (c.rules.invariant.2 over).0 over),
 )
 
 pub rules-smaller : goal.rules-smaller
@@ -71,3 +72,6 @@ returns-in-Over-clause-opening g c = (drained_there g.S.Site g.R.Runner g.R.Runn
 
 pub returns-in-Over-clause-history : goal.returns-in-Over-clause-history
 returns-in-Over-clause-history g c = let it = drained_there g.S.Site g.R.Runner g.R.Runner.tells_ran c.args.self.now c.rules.self c.claim.new.self (g.R.Runner.ran c.args.runner.now) (g.R.Runner.ran c.rules.runner) (g.R.Runner.faults c.args.runner.now) (g.R.Runner.faults c.rules.runner) c.rules.invariant.0 c.claim.result c.claim.ensures.claims c.claim.ensures.rest c.in-Over.is in (it.events, it.adds, it.own)
+
+pub returns-in-Over-clause-idle : goal.returns-in-Over-clause-idle
+returns-in-Over-clause-idle g c = idle_there g.S.Site g.R.Runner g.R.Runner.tells_ran c.args.self.now c.rules.self c.claim.new.self (g.R.Runner.ran c.args.runner.now) (g.R.Runner.ran c.rules.runner) (g.R.Runner.faults c.args.runner.now) (g.R.Runner.faults c.rules.runner) c.rules.invariant.0 c.claim.result c.claim.ensures.claims c.claim.ensures.rest c.in-Over.is c.args.runner.now c.rules.runner c.rules.invariant.2
