@@ -38,3 +38,10 @@ pub began_alike : {T W E : Type 0} (log : Log T E) (lock : SeatLock T W E) (seat
     → log.origin t ≡ log.origin lock.first.value
 began_alike log lock [] t some numbered all = absurd (omega arith)
 began_alike log lock (seat ∷ seats) t some numbered all = (each_last (λ l. IsFound log l.0 l.1 t) (seat ∷ seats) all 0 seat some).later.began ∙ (numbered 0 seat some).0.is.began
+
+-- and what stands now stood then
+pub stood_alike : {T W E : Type 0} (log : Log T E) (lock : SeatLock T W E) (seats : List (Seat T E log)) (t : T) → 0 < length seats → AreNumbered log lock seats → All (λ (l : ℕ × T). IsFound log l.0 l.1 t) (map last_of seats)
+    → (count : ℕ) → log.stood t count → log.stood lock.first.value count
+stood_alike log lock [] t some numbered all count it = absurd (omega arith)
+stood_alike log lock (seat ∷ seats) t some numbered all count it =
+    (numbered 0 seat some).0.is.stood count ((each_last (λ l. IsFound log l.0 l.1 t) (seat ∷ seats) all 0 seat some).later.stood count it)

@@ -64,6 +64,7 @@ module _ {T W E : Type 0} (log : Log T E) (lock : SeatLock T W E) (value : T) (b
           first = λ zero. it.first (sym at ∙ zero);
           others = λ other. it.others (λ zero. other (at ∙ zero));
           began = ap log.origin (it.last_is ∙ sym began);
+          stood = λ count. subst (λ (t : T). log.stood t count) (it.last_is ∙ sym began);
         };
         slots = it.slots;
       }

@@ -30,7 +30,7 @@ module _ {T E : Type 0} (log : Log T E) where
 
   -- ---- a value goes on
   pub later_same : (t : T) → Later log t t
-  later_same t = record { began = refl; more = []; adds = sym (append-nil (log.history t)); known = λ text it. it }
+  later_same t = record { began = refl; more = []; adds = sym (append-nil (log.history t)); known = λ text it. it; stood = λ count it. it }
 
   pub later_then : (a b c : T) → Later log a b → Later log b c → Later log a c
   later_then a b c p q = record {
@@ -38,6 +38,7 @@ module _ {T E : Type 0} (log : Log T E) where
     more = p.more ++ q.more;
     adds = q.adds ∙ ap (λ (l : List E). l ++ q.more) p.adds ∙ append_assoc (log.history a) p.more q.more;
     known = λ text it. q.known text (p.known text it);
+    stood = λ count it. p.stood count (q.stood count it);
   }
 
   -- ---- a value that a seat finds

@@ -4,6 +4,7 @@ pub mod Steps
 pub mod Entering
 pub mod Closing
 pub mod Drawing
+pub mod Going
 pub mod Boards
 pub mod Leaving
 pub mod Sent

@@ -8,20 +8,21 @@ use Rattle.tup_lock.specs.declared.logged.Logged.{Ghosts as Log}
 
 -- ---- values that have a history
 -- what a lock is told of its values
-abbrev pub log_of : {T E : Type 0} → (E → ℕ) → (T → List E) → (T → T) → (T → List ℕ → Type 0) → Log T E
-log_of seat_of history origin knows = record { seat_of = seat_of; history = history; origin = origin; knows = knows }
+abbrev pub log_of : {T E : Type 0} → (E → ℕ) → (T → List E) → (T → T) → (T → List ℕ → Type 0) → (T → ℕ → Type 0) → Log T E
+log_of seat_of history origin knows stood = record { seat_of = seat_of; history = history; origin = origin; knows = knows; stood = stood }
 
 module _ {T E : Type 0} (log : Log T E) where
   -- the events of a seat's number, each once and in order
   abbrev pub entries_of : ℕ → List E → List E
   entries_of number events = filter (λ event. log.seat_of event == number) events
 
-  -- one value became the other: both began alike, more happened, and what was known still is
+  -- one value became the other: both began alike, more happened, what was known still is, and what stands now stood before
   pub record Later (old new : T) : Type 0 where
     pub began : log.origin new ≡ log.origin old
     pub more : List E
     pub adds : log.history new ≡ log.history old ++ more
     pub known : (text : List ℕ) → log.knows old text → log.knows new text
+    pub stood : (count : ℕ) → log.stood new count → log.stood old count
 
   -- what a seat of this number may do to a value: it goes on, by events of its own number
   pub record OwnStep (number : ℕ) (old new : T) : Type 0 where

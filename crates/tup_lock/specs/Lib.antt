@@ -2,3 +2,4 @@ pub mod Held
 pub mod Seats
 pub mod Within
 pub mod Boards
+pub mod Once

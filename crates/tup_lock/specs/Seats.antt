@@ -27,13 +27,15 @@ module _ {T E : Type 0} {log : Log T E} where
 
 -- ---- of a lock
 module _ {T W E : Type 0} (log : Log T E) where
-  -- a seat is one of this lock, with a number that was drawn; the first one draws them. Its value began as that of the lock
+  -- a seat is one of this lock, with a number that was drawn; the first one draws them. Its value began as that of the lock,
+  -- and what stands there stood at the beginning
   pub record IsOf (lock : SeatLock T W E) (seat : Seat T E log) : Type 0 where
     pub table : seat.place.table_id ≡ lock.lock.table.shared.table_id
     pub number : seat.number < lock.seats
     pub first : seat.number ≡ 0 → seat.place.me.0.count ≡ lock.seats
     pub others : seat.number ≢ 0 → seat.place.me.0.count ≡ 0
     pub began : log.origin seat.last.value ≡ log.origin lock.first.value
+    pub stood : (count : ℕ) → log.stood seat.last.value count → log.stood lock.first.value count
 
   -- and it isn't in
   pub record IsSeatOf (lock : SeatLock T W E) (seat : Seat T E log) : Type 0 where
@@ -46,6 +48,7 @@ module _ {T W E : Type 0} (log : Log T E) where
     pub number : seat.number ≡ was.number
     pub last : seat.last.value ≡ was.last.value
     pub began : log.origin found ≡ log.origin lock.first.value
+    pub stood : (count : ℕ) → log.stood found count → log.stood lock.first.value count
     pub holds : seat.place.me ≡ (holding was.place.me.0 found, (0, None) ∷ [])
 
   -- seats of a lock, each at its number

@@ -11,7 +11,7 @@ pub type BoardSeat<S, R> = Seat<Board<S, R>>;
 
 impl<S: Site, R: Runner> Logged for Board<S, R> {
     ghost use Rattle.tup_board.specs.Board.{seat_of as seat_at};
-    ghost use Rattle.tup_lock.specs.Boards.{board_origin, board_history, board_knows};
+    ghost use Rattle.tup_lock.specs.Boards.{board_origin, board_history, board_knows, board_stood};
 
     type Event = CoreEvent;
 
@@ -22,4 +22,6 @@ impl<S: Site, R: Runner> Logged for Board<S, R> {
     ghost origin = { board_origin };
 
     ghost knows = { board_knows S.tells S.known };
+
+    ghost stood = { board_stood S.faults };
 }

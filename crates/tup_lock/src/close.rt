@@ -15,6 +15,7 @@ impl<T: Logged + Drop, W: Wait + Drop> SeatLock<T, W> {
         requires own { AreSeatsOf T.Logged.own self seats.items }
         requires some { 0 < self.seats }
         ensures began { T.origin result ≡ T.origin self.first.value }
+        ensures stood { (count : ℕ) → T.stood result count → T.stood self.first.value count }
         ensures entries { (i : ℕ) (d : _) → i < length seats.items
             → entries_of T.Logged.own i (T.history result) ≡ entries_of T.Logged.own i (T.history (slice_index_or seats.items i d).last.value) }
         ensures no_others { All (λ event. T.seat_of event < self.seats) (T.history result) }

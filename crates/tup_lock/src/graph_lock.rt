@@ -1,6 +1,6 @@
 //! A board under a lock.
-ghost use Rattle.std.specs.Prelude.{◌≡◌, ◌≤◌, ◌<◌, ℕ, [], length, slice_index_or, IfOk, IfErr, All};
-ghost use Rattle.tup_board.specs.Board.{seat_of};
+ghost use Rattle.std.specs.Prelude.{◌≡◌, ◌≤◌, ◌<◌, ℕ, [], None, length, slice_index_or, IfOk, IfErr, All};
+ghost use Rattle.tup_board.specs.Board.{seat_of, state};
 ghost use Rattle.tup_alone.specs.Own.{entries_at};
 ghost use Rattle.tup_lock.specs.Boards.{board_log};
 ghost use Rattle.tup_lock.specs.Seats.{AreSeatsOf, AreNew};
@@ -52,6 +52,8 @@ impl<S: Site, R: Runner, W: Wait + Drop> GraphLock<S, R, W> {
     pub fn close(self, seats: Vec<BoardSeat<S, R>>) -> Board<S, R>
         requires seats { AreSeatsOf (board_log S.Site.own) self.lock seats.items }
         ensures opening { result.opening ≡ self.lock.first.value.opening }
+        ensures steady { (state result).stopped ≡ None
+            → ((state self.lock.first.value).stopped ≡ None) × (S.faults self.lock.first.value.site ≡ S.faults result.site) }
         ensures entries { (i : ℕ) (d : _) → i < length seats.items
             → entries_at i result.history ≡ entries_at i (slice_index_or seats.items i d).last.value.history }
         ensures no_others { All (λ event. seat_of event < self.lock.seats) result.history }

@@ -16,4 +16,7 @@ pub trait Logged {
 
     /// Whether a text is known to it. What is known stays known.
     ghost knows: { Self → List ℕ → Type 0 };
+
+    /// What is so of it with a number. Where it is so, it was so at each earlier moment, with the same number.
+    ghost stood: { Self → ℕ → Type 0 };
 }

@@ -10,7 +10,7 @@ use std::snapshot::Snapshot;
 pub(crate) struct Order;
 
 impl<T: Logged> TableRule<Option<T>, View<T>, Snapshot<T>> for Order {
-    ghost holds = { λ key. Held (log_of T.seat_of T.history T.origin T.knows) key.value };
+    ghost holds = { λ key. Held (log_of T.seat_of T.history T.origin T.knows T.stood) key.value };
 
     ghost first = { λ key. first_view key.value };
 }
@@ -19,7 +19,7 @@ impl<T: Logged> TableRule<Option<T>, View<T>, Snapshot<T>> for Order {
 pub(crate) struct Take;
 
 impl<T: Logged> Play<Option<T>, View<T>> for Take {
-    ghost then = { taken (log_of T.seat_of T.history T.origin T.knows) };
+    ghost then = { taken (log_of T.seat_of T.history T.origin T.knows T.stood) };
 }
 
 /// The word goes from 1 to 0.

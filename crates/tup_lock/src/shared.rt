@@ -153,15 +153,16 @@ impl<S: Site, R: Runner, W: Wait + Drop> GraphLock<S, R, W> {
 }
 
 impl<S: Site + Send, R: Runner + Send, W: Wait + Drop + Sync> Shared for GraphLock<S, R, W> {
-    ghost use Rattle.tup_board.specs.Board.{plan_of as plan_at};
-    ghost use Rattle.tup_lock.specs.Boards.{board_log_by, entries_by};
+    ghost use Rattle.tup_board.specs.Board.{board_code, plan_of as plan_at};
+    ghost use Rattle.tup_lock.specs.Boards.{board_log_by, board_once, entries_by};
+    ghost use Rattle.tup_lock.specs.Once.{seat_once};
     ghost use Rattle.tup_lock.specs.Seats.{IsSeatOf};
 
     type Seat = BoardSeat<S, R>;
 
     type Runner = R;
 
-    ghost belongs = { λ lock seat. IsSeatOf (board_log_by S.tells S.known) lock.lock seat };
+    ghost belongs = { λ lock seat. IsSeatOf (board_log_by S.tells S.known S.faults) lock.lock seat };
 
     ghost number_of = { λ seat. seat.number };
 
@@ -208,4 +209,6 @@ impl<S: Site + Send, R: Runner + Send, W: Wait + Drop + Sync> Shared for GraphLo
     fn stop(&self, seat: &mut BoardSeat<S, R>, plan: &Plan, cause: Cause) {
         self.stop_at(seat, plan, cause)
     }
+
+    ghost fact = { λ lock seat. seat_once (board_code S.row.coded) (board_log_by S.tells S.known S.faults) (board_once S.faults) lock.lock seat };
 }

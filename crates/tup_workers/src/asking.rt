@@ -6,9 +6,8 @@ ghost use Rattle.tup_board.specs.Calls.{ask_events};
 ghost use Rattle.tup_board.specs.Entries.{GoesOnBy};
 ghost use Rattle.tup_workers.specs.Told.{Told};
 
-use crate::seated::Seated;
 use std::alloc::Global;
-use tup_board::{Asked, BoardFault};
+use tup_board::{Asked, BoardFault, Shared};
 use tup_core::Plan;
 use tup_path::Text;
 
@@ -60,7 +59,7 @@ pub(crate) trait Asking {
     ghost once: { (lock : Self) (place : Self.Place) → IsProp (is_at lock place) };
 }
 
-impl<L: Seated> Asking for L {
+impl<L: Shared> Asking for L {
     ghost use Rattle.tup_workers.specs.Told.{told_of};
 
     type Place = L::Seat;

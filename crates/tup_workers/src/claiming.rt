@@ -4,17 +4,16 @@ ghost use Rattle.tup_workers.specs.Works.{IsReady, Worked};
 use crate::gate::{Gate, When};
 use crate::hand::Hand;
 use crate::performing::run;
-use crate::seated::Seated;
 use crossbeam_utils::Backoff;
 use std::alloc::Global;
 use std::sync::Wait;
-use tup_board::Claimed;
+use tup_board::{Claimed, Shared};
 use tup_core::Plan;
 
 /// Claims one rule after another and runs its command, until the board is over.
 ///
 /// It stops the board with `Run` only where its runner failed, and otherwise only with `Memory`.
-pub fn work<W: Wait, L: Seated, G: Gate>(
+pub fn work<W: Wait, L: Shared, G: Gate>(
     rt: &W,
     alloc: Global,
     lock: &L,

@@ -9,12 +9,10 @@ mod claiming;
 mod gate;
 mod hand;
 mod performing;
-mod seated;
 mod threads;
 mod view;
 
 pub use claiming::work;
 pub use gate::{Gate, Open, When};
 pub use hand::Hand;
-pub use seated::Seated;
 pub use threads::crew;

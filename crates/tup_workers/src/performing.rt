@@ -12,17 +12,16 @@ ghost use Rattle.tup_workers.specs.Works.{EndsWith, IsAt, PerformsBy, RunsBy, St
 use crate::asking::Asking;
 use crate::gate::{Gate, When};
 use crate::hand::Hand;
-use crate::seated::Seated;
 use crate::view::LockView;
 use std::alloc::Global;
 use tup_access::Verdict;
-use tup_board::BoardFault;
+use tup_board::{BoardFault, Shared};
 use tup_core::{Cause, Plan};
 use tup_runner::{Report, RunFailed, Runner, perform};
 
 /// Runs a rule that the seat has claimed. It says whether the seat goes on: where its runner failed, or there was no
 /// memory, it has stopped the board.
-pub(crate) fn run<L: Seated, G: Gate>(
+pub(crate) fn run<L: Shared, G: Gate>(
     alloc: Global,
     lock: &L,
     hand: &mut Hand<L::Seat, L::Runner>,
@@ -59,7 +58,7 @@ pub(crate) fn run<L: Seated, G: Gate>(
 }
 
 /// Takes the report of the command that the seat runs.
-fn ended<L: Seated, G: Gate>(
+fn ended<L: Shared, G: Gate>(
     alloc: Global,
     lock: &L,
     seat: &mut L::Seat,
@@ -84,7 +83,7 @@ fn ended<L: Seated, G: Gate>(
 }
 
 /// Stops the board at a seat that runs a rule, which doesn't go on.
-fn stopped<L: Seated>(lock: &L, seat: &mut L::Seat, plan: &Plan, cause: Cause) -> bool
+fn stopped<L: Shared>(lock: &L, seat: &mut L::Seat, plan: &Plan, cause: Cause) -> bool
     requires at { IsAt (L.belongs lock.now) L.plan_of plan.now seat.old }
     requires cause { (cause ≡ Cause.Run) ⊎ (cause ≡ Cause.Memory) }
     requires runs { (running : RunningValue) × (runs_after None (L.entries seat.old) ≡ Some running) }

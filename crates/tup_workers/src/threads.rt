@@ -5,16 +5,16 @@ ghost use Rattle.tup_workers.specs.Works.{IsReady, Worked};
 use crate::claiming::work;
 use crate::gate::Gate;
 use crate::hand::Hand;
-use crate::seated::Seated;
 use std::alloc::Global;
 use std::sync::Wait;
 use std::thread;
 use std::thread::Threads;
+use tup_board::Shared;
 use tup_core::Plan;
 
 /// The work of 1 to 16 hands, each in a thread of its own where one can be made. Where none can be, one hand works after
 /// another: the first until the board is over, since no other runs a rule.
-pub fn crew<W: Threads + Wait + Sync, L: Seated, G: Gate>(
+pub fn crew<W: Threads + Wait + Sync, L: Shared, G: Gate>(
     rt: &W,
     alloc: Global,
     lock: &L,

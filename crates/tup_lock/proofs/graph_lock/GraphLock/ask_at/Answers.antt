@@ -22,7 +22,7 @@ leave-requires g c =
         c.enter-board.result,
         c.args.seat.now,
         inside,
-        subst (λ n. OwnStep (board_log g.S.Site) n c.enter-board.result c.ask-asked.new.self) (sym inside.number) (ask_steps g.S.Site c.args.seat.now.number c.enter-board.result c.ask-asked.new.self c.args.text.now c.ask-asked.result c.ask-asked.ensures.asked c.ask-asked.ensures.known),
+        subst (λ n. OwnStep (board_log g.S.Site) n c.enter-board.result c.ask-asked.new.self) (sym inside.number) (ask_steps g.S.Site c.args.seat.now.number c.enter-board.result c.ask-asked.new.self c.args.text.now c.ask-asked.result c.ask-asked.ensures.asked c.ask-asked.ensures.known c.ask-asked.ensures.cause),
       );
     }
 

@@ -19,7 +19,7 @@ leave-requires g c =
         c.enter-board.result,
         c.args.seat.now,
         inside,
-        subst (λ n. OwnStep (board_log g.S.Site) n c.enter-board.result c.finish-finished.new.self) (sym inside.number) (finish_steps g.S.Site c.args.seat.now.number c.enter-board.result c.finish-finished.new.self (ended_of c.args.report.now) c.finish-finished.result c.finish-finished.ensures.finishes c.finish-finished.ensures.touches.opening c.finish-finished.ensures.known),
+        subst (λ n. OwnStep (board_log g.S.Site) n c.enter-board.result c.finish-finished.new.self) (sym inside.number) (finish_steps g.S.Site c.args.seat.now.number c.enter-board.result c.finish-finished.new.self (ended_of c.args.report.now) c.finish-finished.result c.finish-finished.ensures.finishes c.finish-finished.ensures.touches.opening c.finish-finished.ensures.known c.finish-finished.ensures.cause),
       );
     }
 

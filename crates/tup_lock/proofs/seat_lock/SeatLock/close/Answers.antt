@@ -1,7 +1,7 @@
 use Rattle.std.proofs.Common.{◌≡◌, ◌<◌, subst, arith, get_or}
 use Rattle.std.specs.Prelude.{All}
 use Rattle.tup_lock.specs.Held.{IsFound, entries_of}
-use Rattle.tup_lock.proofs.Closing.{began_alike, each_last}
+use Rattle.tup_lock.proofs.Closing.{began_alike, each_last, stood_alike}
 use Rattle.tup_lock.proofs.seat_lock.SeatLock.close.Goals as goal
 
 pub returns-clause-entries : goal.returns-clause-entries
@@ -21,4 +21,10 @@ pub returns-clause-began : goal.returns-clause-began
 returns-clause-began g c =
     let t = c.take.result in
     began_alike g.T.Logged c.args.self c.args.seats.items t (let some = c.requires.some in let long = c.requires.own.0 in omega arith) c.requires.own.1
+    (subst (All (λ l. IsFound g.T.Logged l.0 l.1 t)) c.unite_all-place.ensures.lasts c.take.ensures.shows.lasts)
+
+pub returns-clause-stood : goal.returns-clause-stood
+returns-clause-stood g c =
+    let t = c.take.result in
+    stood_alike g.T.Logged c.args.self c.args.seats.items t (let some = c.requires.some in let long = c.requires.own.0 in omega arith) c.requires.own.1
     (subst (All (λ l. IsFound g.T.Logged l.0 l.1 t)) c.unite_all-place.ensures.lasts c.take.ensures.shows.lasts)

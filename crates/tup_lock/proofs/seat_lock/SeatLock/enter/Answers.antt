@@ -11,10 +11,11 @@ returns-clause-inside g c =
     let e = c.take.ensures in
     let same = ap (λ m. m.0.count) e.holds in
     record {
-      is = record { table = e.own ∙ is.table; number = is.number; first = λ zero. same ∙ is.first zero; others = λ other. same ∙ is.others other; began = is.began };
+      is = record { table = e.own ∙ is.table; number = is.number; first = λ zero. same ∙ is.first zero; others = λ other. same ∙ is.others other; began = is.began; stood = is.stood };
       number = refl;
       last = refl;
       began = (finds g.T.Logged c.args.seat.now.place.me.0 c.args.seat.now.number c.args.seat.now.last.value c.take.result c.args.seat.now.seated e.shows).later.began ∙ is.began;
+      stood = λ count it. is.stood count ((finds g.T.Logged c.args.seat.now.place.me.0 c.args.seat.now.number c.args.seat.now.last.value c.take.result c.args.seat.now.seated e.shows).later.stood count it);
       holds = e.holds;
     }
 

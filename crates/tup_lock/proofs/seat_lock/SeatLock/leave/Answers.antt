@@ -1,4 +1,4 @@
-use Rattle.std.proofs.Common.{rules, ◌≡◌, [], ◌∷◌, ap, sym, ◌∙◌}
+use Rattle.std.proofs.Common.{rules, ◌≡◌, [], ◌∷◌, ap, sym, subst, ◌∙◌}
 use Rattle.tup_lock.proofs.seat_lock.SeatLock.leave.Goals as goal
 
 pub give-requires-clause-holds : goal.give-requires-clause-holds
@@ -33,6 +33,7 @@ returns-clause-own g c =
         first = λ zero. ap (λ m. m.0.count) left ∙ is.first zero;
         others = λ other. ap (λ m. m.0.count) left ∙ is.others other;
         began = ap g.T.Logged.origin value ∙ h.3.later.began ∙ h.2.began;
+        stood = λ count it. h.2.stood count (h.3.later.stood count (subst (λ (t : g.row.T.Denot). g.T.Logged.stood t count) value it));
       };
       slots = ap (λ m. m.1) left;
     }
