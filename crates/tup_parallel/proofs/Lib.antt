@@ -1,0 +1,4 @@
+pub mod Stopping
+pub mod Leaving
+pub mod Closing
+pub mod Sent
