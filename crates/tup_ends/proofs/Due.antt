@@ -58,8 +58,8 @@ one_name : (rules : List Rule) (number : ℕ) (name other : RuleName) → HasNam
 one_name rules number name other (rule, here, named) (same, there, called) = sym named ∙ ap name_of (same_Some rule same (sym here ∙ there)) ∙ called
 
 -- what ran nothing ran no more than was due
-pub none_runs : (next : Next) (keep_going : Bool) (w : World) (stopped : Option Stop) → RunsAll next keep_going w [] stopped → RunsWhatIsNeeded next keep_going w [] stopped
-none_runs next keep_going w stopped all = record {
+pub none_runs : (next : Next) (keep_going : Bool) (jobs : ℕ) (w : World) (stopped : Option Stop) → RunsAll next keep_going jobs w [] stopped → RunsWhatIsNeeded next keep_going jobs w [] stopped
+none_runs next keep_going jobs w stopped all = record {
   once = λ one other name here there. absurd (none-some name here);
   due = All-nil (IsDueName w);
   in_order = λ rules at other sooner later rule name asks here produces called stands before. absurd (none-some name before);
@@ -177,8 +177,8 @@ module _ {S R : Type 0} (site : Site S) (runner : Runner R) (b : BoardState S) (
         let image = sound.now tells in
         (image.0, in_bytes image.0 (site.world b.site).store image.1.store, flagged_due image.0 image.1)
 
-    pub only_needed : ClaimsInOrder → IsTrue site.tells → (keep_going : Bool) (stopped : Option Stop) → RunsAll next keep_going first ran stopped → OnlyWhatIsNeeded next keep_going first (site.world b.site) ran stopped
-    only_needed in_order tells keep_going stopped all = record {
+    pub only_needed : ClaimsInOrder → IsTrue site.tells → (keep_going : Bool) (jobs : ℕ) (stopped : Option Stop) → RunsAll next keep_going jobs first ran stopped → OnlyWhatIsNeeded next keep_going jobs first (site.world b.site) ran stopped
+    only_needed in_order tells keep_going jobs stopped all = record {
       runs = record { once = once; due = all_due; in_order = in_order_all in_order; all = all };
       flagged = flagged_now tells;
     }

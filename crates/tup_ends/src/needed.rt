@@ -23,13 +23,13 @@ use tup_site::Site;
 /// A law: what a board ran was due, where it was made once the graph was up to date: no rule ran twice, a declared producer ran
 /// before what waits for it, and each rule that is flagged at the end was due. `ran` has the rules whose commands were run.
 pub fn ran_what_was_due<S: Site, R: Runner>(site: &S, runner: &R)
-    ensures { (board : BoardState S) (first : World) (since : ℕ) (keep_going : Bool)
+    ensures { (board : BoardState S) (first : World) (since : ℕ) (keep_going : Bool) (jobs : ℕ)
         (ran : List RuleName) (stopped : Option Stop) → IsTrue S.tells → IsTrue R.tells
         → IsSound S.Site.own R.Runner.own board
         → IsPrepared S.Site.own R.next first since board.opening.graph board.opening.site
         → map command_of ran ≡ commands (plan_of board) board.history
-        → RunsAll R.next keep_going first ran stopped
-        → OnlyWhatIsNeeded R.next keep_going first (S.world board.site) ran stopped }
+        → RunsAll R.next keep_going jobs first ran stopped
+        → OnlyWhatIsNeeded R.next keep_going jobs first (S.world board.site) ran stopped }
 {
     claims_in_order();
     let _ = site;
@@ -79,8 +79,9 @@ pub fn bad_stands_last<S: Site, R: Runner>(site: &S, runner: &R)
 
 /// A law: nor does an update that runs nothing run more than is due, whatever it answers.
 pub fn none_ran_is_needed()
-    ensures { (next : Next) (keep_going : Bool) (w : World) (stopped : Option Stop)
-        → RunsAll next keep_going w [] stopped → RunsWhatIsNeeded next keep_going w [] stopped }
+    ensures { (next : Next) (keep_going : Bool) (jobs : ℕ) (w : World)
+        (stopped : Option Stop) → RunsAll next keep_going jobs w [] stopped
+        → RunsWhatIsNeeded next keep_going jobs w [] stopped }
 {}
 
 /// A law: once the graph is up to date each flagged rule was due; and where none is flagged, none was.

@@ -1,7 +1,7 @@
 -- What the Tupfiles bring to the graph of a site that was kept.
-use Rattle.std.proofs.Common.{◌≡◌, ◌↔◌, ℕ, true, false, Bool, not, List, Ok, Option, Result, None, Some, sym, ap, subst, ◌∙◌}
+use Rattle.std.proofs.Common.{◌≡◌, ◌⊎◌, inl, inr, ◌↔◌, ℕ, true, false, Bool, not, List, Ok, Option, Result, None, Some, refl, sym, ap, subst, ◌∙◌}
 use Rattle.std.specs.Option.{MatchOption}
-use Rattle.std.specs.Prelude.{is_some}
+use Rattle.std.specs.Prelude.{is_some, slice_get}
 use Rattle.std.specs.FinMap as finite
 use Rattle.std.specs.Ordering.{nat_cmp}
 use Rattle.tup_path.specs.Name.{Names, Content}
@@ -9,22 +9,25 @@ use Rattle.tup_path.specs.Order.{by_names}
 use Rattle.tup_path.specs.Tree.{Tree, IsTree}
 use Rattle.tup_site.specs.Known.{IsKnown, KnowsTree}
 use Rattle.tup_site.specs.World.{World}
+use Rattle.tup_rule.specs.declared.question.Reading.{Reading}
 use Rattle.tup_rule.specs.declared.rule.Rule.{Rule}
 use Rattle.tup_runner.specs.Next.{Next}
 use Rattle.tup_clean.specs.Buildable.{IsBuildable}
 use Rattle.tup_readings.specs.Readings.{IsOutcome}
 use Rattle.tup_project.specs.Project.{AreLinked, ComeTo}
+use Rattle.tup_record.specs.declared.run.RunRecord.{RunRecord}
 use Rattle.tup_table.specs.Entries.{entries_of}
 use Rattle.tup_graph.specs.Answers.{tup_config}
 use Rattle.tup_graph.specs.declared.owned.Owned.{Owned}
 use Rattle.tup_graph.specs.Graph.{GraphState, is_flagged, is_owned, is_rule}
 use Rattle.tup_graph.specs.Kept.{IsGraphIn, IsKept}
 use Rattle.tup_graph.specs.Reach.{IsReached}
-use Rattle.tup_graph.specs.Swap.{IsSwapped}
+use Rattle.tup_graph.specs.Swap.{IsNew, IsSwapped, WasAt}
 use Rattle.tup_ledger.specs.Sources.{sources_of}
 use Rattle.tup_closure.proofs.Stored.{stored as runs_stored}
 use Rattle.tup_law_graph.specs.Fitting.{AreFitting}
 use Rattle.tup_law_graph.proofs.Reaching.{flags_are_reach, scan_flags_are_reach}
+use Rattle.tup_law_graph.proofs.Swapping.{was_or_new}
 use Rattle.tup_law_site.proofs.Stores.{one_in_bytes}
 use Rattle.tup_refresh.specs.Cause.{IsRefreshOf}
 use Rattle.tup_refresh.specs.Refresh.{AreTrue, IsRefresh}
@@ -38,9 +41,9 @@ use Rattle.tup_law_phases.proofs.Fitting.{refresh_brings}
 use Rattle.tup_law_phases.proofs.Seen.{is_tree, knows_sources, sees}
 use Rattle.tup_law_phases.proofs.Tupfiles.{is_language}
 use Rattle.tup_law_phases.proofs.Unchanged.{comes_to}
-use Rattle.tup_promise.specs.Kept.{AsksFor}
+use Rattle.tup_promise.specs.Kept.{AsksFor, OfGraph}
 use Rattle.tup_promise.specs.Needed.{IsDue}
-use Rattle.tup_phases.specs.Kept.{BringsNothing, IsBrought, IsNoted, StaysBrought}
+use Rattle.tup_phases.specs.Kept.{BringsNothing, IsBrought, IsNoted, KeepsRun, KeepsRuns, StaysBrought}
 use Rattle.tup_phases.specs.Prepared.{HasSeen}
 use Rattle.tup_phases.proofs.Users.{still_unmade, swap_unmade}
 
@@ -67,6 +70,30 @@ pub fits_so : (known : List Content) (g : GraphState) (tree : Tree) (found : Ref
 fits_so known g tree found rules knows is seen refreshed linked can =
     refresh_brings tupfiles known g (sources_of g tree) found rules is_language.0 is_language.1 (knows_sources g tree known knows) (sees g tree seen) refreshed linked
     (can (sources_of g tree) (refreshed_read g (sources_of g tree) (Ok found) refreshed) (is_tree g tree is))
+
+-- ---- the records of rules
+
+-- where rules and records stay
+pub still_runs : (was g h : GraphState) → h.rules ≡ g.rules → h.runs ≡ g.runs → KeepsRuns was g → KeepsRuns was h
+still_runs was g h rules runs keeps number rule here = by (keeps number rule (subst (λ (l : List Rule). slice_get l number ≡ Some rule) rules here))
+  where
+    same : finite.get h.runs number ≡ finite.get g.runs number
+    same = ap (λ (m : finite.FinMap nat_cmp RunRecord). finite.get m number) runs
+
+    by : KeepsRun was g number rule → KeepsRun was h number rule
+    by (inl (before, there, is)) = inl (before, there, same ∙ is)
+    by (inr (new, none)) = inr (new, same ∙ none)
+
+-- and where other rules are swapped in
+pub swap_runs : (was g new : GraphState) (fresh : List (Names × Reading)) (gone : List Names) (rules : List Rule) → g.rules ≡ was.rules → g.runs ≡ was.runs → IsSwapped g fresh gone rules new → KeepsRuns was new
+swap_runs was g new fresh gone rules same_rules same_runs swapped number rule here = by (was_or_new g rule)
+  where
+    same : (at : ℕ) → finite.get g.runs at ≡ finite.get was.runs at
+    same at = ap (λ (m : finite.FinMap nat_cmp RunRecord). finite.get m at) same_runs
+
+    by : ((before : ℕ) × WasAt g rule before) ⊎ IsNew g rule → KeepsRun was new number rule
+    by (inl (before, there)) = inl (before, subst (λ (l : List Rule). slice_get l before ≡ Some rule) same_rules there.0, swapped.kept_runs number before rule here there ∙ same before)
+    by (inr fresh_one) = inr (λ before there. fresh_one before (subst (λ (l : List Rule). slice_get l before ≡ Some rule) (sym same_rules) there), swapped.no_runs number rule here fresh_one)
 
 -- what is reached from the graph of a world is due there
 module _ (first : World) (was : GraphState) (stored : IsGraphIn first.store was) where
@@ -98,6 +125,7 @@ module _ (first now : World) (g : GraphState) (noted : IsNoted first now g) wher
       rules = (was, noted.stored, comes_to g sources found nothing.fresh nothing.gone next tupfiles known is_language.1 kept refreshed);
       due = λ number. due_if first was noted.stored now.tree g.rules number (is_flagged g number ≡ true) noted.tree (reach number);
       unmade = (was, noted.stored, still_unmade was g kept.owners noted.scanned.2.owned);
+      runs = (was, noted.stored, still_runs was was g noted.scanned.2.rules noted.scanned.2.runs (λ number rule here. inl (number, here, refl)));
     }
       where
         reach : (number : ℕ) → (is_flagged g number ≡ true) ↔ IsReached was now.tree g.rules number
@@ -114,6 +142,7 @@ module _ (first now : World) (g : GraphState) (noted : IsNoted first now g) wher
       rules = (was, noted.stored, subst (λ (l : List Rule). ComeTo sources (Ok l)) (sym swapped.rules_are) comes);
       due = λ number. due_if first was noted.stored now.tree new.rules number (is_flagged new number ≡ true) noted.tree (reach number);
       unmade = (was, noted.stored, swap_unmade known was g new noted.scanned.2.owned found.fresh found.gone rules fits swapped);
+      runs = (was, noted.stored, swap_runs was g new found.fresh found.gone rules noted.scanned.2.rules noted.scanned.2.runs swapped);
     }
       where
         comes : ComeTo sources (Ok rules)
@@ -138,3 +167,7 @@ brought_on first g h stays brought = (
   where
     same : (number : ℕ) → is_flagged h number ≡ is_flagged g number
     same number = ap (λ (flags : finite.FinMap nat_cmp (Unit {0})). finite.contains_key flags number) stays.flags
+
+-- so are the records
+pub records_on : (first : World) (g h : GraphState) → StaysBrought g h → IsBrought first g → OfGraph first (λ was. KeepsRuns was h)
+records_on first g h stays brought = (brought.runs.0, brought.runs.1, still_runs brought.runs.0 g h stays.rules stays.runs brought.runs.2)

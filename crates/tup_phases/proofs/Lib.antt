@@ -7,4 +7,5 @@ mod Brought
 pub mod Within
 mod Blaming
 mod Owning
+mod Tidying
 mod Telling

@@ -1,5 +1,5 @@
 -- What the phases make of a site that was kept (own).
-use Rattle.std.specs.Prelude.{◌≡◌, ◌↔◌, ⊤, ℕ, ◌≤◌, true, false, List, [], Option, None, Some}
+use Rattle.std.specs.Prelude.{◌≡◌, ◌⊎◌, ◌↔◌, ⊤, ℕ, ◌≤◌, true, false, List, [], Option, None, Some}
 use Rattle.std.specs.FinMap as finite
 use Rattle.tup_path.specs.Name.{Names, Content}
 use Rattle.tup_stamp.specs.declared.Stamp.{Stamp}
@@ -7,11 +7,13 @@ use Rattle.tup_site.specs.World.{World, TreeStays}
 use Rattle.tup_site.specs.declared.fault.SiteFailed.TheVariants.{Fault, TooLarge, Memory}
 use Rattle.tup_site.specs.declared.site.Site.{Ghosts as Site}
 use Rattle.tup_rule.specs.Rule.{is_generated}
+use Rattle.tup_rule.specs.declared.rule.Rule.{Rule}
 use Rattle.tup_runner.specs.Next.{Next}
 use Rattle.tup_graph.specs.declared.owned.Owned.{Owned}
 use Rattle.tup_graph.specs.Graph.{GraphState, is_flagged}
-use Rattle.tup_graph.specs.Kept.{IsGraphIn, IsKeptSite}
+use Rattle.tup_graph.specs.Kept.{IsGraphIn, IsKeptSite, IsRuleAt}
 use Rattle.tup_graph.specs.Scan.{IsScanned}
+use Rattle.tup_graph.specs.Swap.{IsNew}
 use Rattle.tup_refresh.specs.declared.refreshed.Refreshed.{Refreshed}
 use Rattle.tup_law_phases.specs.Language.{tupfiles}
 use Rattle.tup_promise.specs.Blamed.{HasFileOf, IsFaultOf}
@@ -61,13 +63,23 @@ pub record KeepsUnmade (was now : GraphState) : Type 0 where
   pub after : (path : Names) (old : Owned) → finite.get was.owned path ≡ Some old → is_generated now.rules path ≡ false
       → (owned : Owned) × (finite.get now.owned path ≡ Some owned) × (owned.maker ≡ None) × (owned.state ≡ old.state)
 
--- no folder is to be read, the rules are those that the sources of a world ask for, just those that are due there are flagged, and
--- the paths that none of them makes are owned as they were
+-- a rule has the record of one that is the same and was there, or none where it is new
+abbrev pub KeepsRun : GraphState → GraphState → ℕ → Rule → Type 0
+KeepsRun was now number rule =
+    ((before : ℕ) × IsRuleAt was before rule × (finite.get now.runs number ≡ finite.get was.runs before)) ⊎ (IsNew was rule × (finite.get now.runs number ≡ None))
+
+-- so has each rule
+abbrev pub KeepsRuns : GraphState → GraphState → Type 0
+KeepsRuns was now = (number : ℕ) (rule : Rule) → IsRuleAt now number rule → KeepsRun was now number rule
+
+-- no folder is to be read, the rules are those that the sources of a world ask for, with the records that they had, just those that
+-- are due there are flagged, and the paths that none of them makes are owned as they were
 pub record IsBrought (first : World) (g : GraphState) : Type 0 where
   pub created : g.created ≡ finite.empty
   pub rules : AsksFor first g.rules
   pub due : (number : ℕ) → (is_flagged g number ≡ true) ↔ IsDue first g.rules number
   pub unmade : OfGraph first (λ was. KeepsUnmade was g)
+  pub runs : OfGraph first (λ was. KeepsRuns was g)
 
 -- a refresh read no folder and lost none, and the graph waits for none
 pub record BringsNothing (g : GraphState) (given : Refreshed) : Type 0 where
@@ -75,10 +87,11 @@ pub record BringsNothing (g : GraphState) (given : Refreshed) : Type 0 where
   pub fresh : given.fresh ≡ []
   pub gone : given.gone ≡ []
 
--- the rules stay, which of them are to be run, and which folders are to be read
+-- the rules stay, their records, which of them are to be run, and which folders are to be read
 pub record StaysBrought (old new : GraphState) : Type 0 where
   pub created : new.created ≡ old.created
   pub rules : new.rules ≡ old.rules
+  pub runs : new.runs ≡ old.runs
   pub flags : new.flags ≡ old.flags
 
 -- a graph stays within what a world had: what it flags was due there, and each owned path has the state that it had, is newly

@@ -21,7 +21,7 @@ ghost use Rattle.tup_promise.specs.Prepared.{IsPrepared};
 ghost use Rattle.tup_promise.specs.States.{KeepsStates};
 ghost use Rattle.tup_promise.specs.Unopened.{IsEmptyLog, IsReadable, Unopened};
 ghost use Rattle.tup_promise.specs.Users.{HasUsersFile};
-ghost use Rattle.tup_phases.specs.Kept.{BlamesSources, HoldsWithin, IsBrought, IsKeptSince, OwnsOn, StaysBrought};
+ghost use Rattle.tup_phases.specs.Kept.{BlamesSources, HoldsWithin, IsBrought, IsKeptSince, KeepsRuns, OwnsOn, StaysBrought};
 ghost use Rattle.tup_phases.specs.Prepared.{HasSeen, LogsBefore, RunsNone};
 ghost use Rattle.tup_phases.specs.Prepared.{StopsBefore, StopsClearing, StopsOpened};
 ghost use Rattle.tup_phases.specs.Spared.{LeavesTree};
@@ -70,6 +70,10 @@ pub fn prepared<S: Site>(alloc: Global, site: &mut S, log: &mut Log) -> Result<G
     ensures prepared_states { IsTrue S.tells → (next : Next)
         → IsKeptNow S.Site.own next tupfiles (S.known site.old) site.old
         → IfOk result (λ graph. KeepsStates (S.world site.old) graph.nodes) }
+    // Its rules have the records that they had in the store.
+    ensures records { IsTrue S.tells → (next : Next)
+        → IsKeptNow S.Site.own next tupfiles (S.known site.old) site.old
+        → IfOk result (λ graph. OfGraph (S.world site.old) (λ was. KeepsRuns was graph.nodes)) }
     // Whenever since then a crash comes, no more is owned than was, but the outputs of the rules that are asked for.
     ensures owns { IsTrue S.tells → (next : Next)
         → IsKeptNow S.Site.own next tupfiles (S.known site.old) site.old
@@ -101,7 +105,7 @@ pub fn prepared<S: Site>(alloc: Global, site: &mut S, log: &mut Log) -> Result<G
     ensures stops { IfErr result StopsBefore }
     ensures counted { HasCountedCause (S.faults site.old) (S.faults site.new) (result_err result) }
 {
-    let mut graph = surveyed(alloc, site, log)?;
+    let mut graph = surveyed(alloc, site, log, true)?;
     cleared(alloc, site, &mut graph, log)?;
     Ok(graph)
 }

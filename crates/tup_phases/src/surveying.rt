@@ -33,8 +33,14 @@ use tup_stored_graph::{Graph, reads_keep_graphs};
 /// The graph of a site's store once it knows what is to be done: its flagged rules are those that have to be run, and what
 /// it owns without a rule is what no rule makes any more. The log is told which Tupfiles were read. No file changes.
 ///
-/// A store that is empty or can't be read is told so, and then nothing else is done.
-pub fn surveyed<S: Site>(alloc: Global, site: &mut S, log: &mut Log) -> Result<Graph, Stop>
+/// A store that is empty or can't be read is told so, and then nothing else is done. Where it `compacts`, a store is compacted
+/// that has more than 1,048,576 bytes and more than four times as many as are live.
+pub fn surveyed<S: Site>(
+    alloc: Global,
+    site: &mut S,
+    log: &mut Log,
+    compacts: bool,
+) -> Result<Graph, Stop>
     requires { IsEmptyLog log.old }
     ensures fresh { IfOk result (λ graph. IsTrue (is_fresh graph)) }
     ensures stands { IsTrue S.tells
@@ -79,7 +85,7 @@ pub fn surveyed<S: Site>(alloc: Global, site: &mut S, log: &mut Log) -> Result<G
     ensures counted { HasCountedCause (S.faults site.old) (S.faults site.new) (result_err result) }
 {
     let mut graph = opened(alloc, site)?;
-    let config = noted(alloc, site, &mut graph)?;
+    let config = noted(alloc, site, &mut graph, compacts)?;
     brought(alloc, site, &mut graph, &config, log)?;
     Ok(graph)
 }
@@ -109,8 +115,84 @@ fn opened<S: Site>(alloc: Global, site: &mut S) -> Result<Graph, Stop>
     Ok(Graph::open(alloc, site)?)
 }
 
-/// Notes in the graph what changed among the files, and gives the content of tup.config.
-fn noted<S: Site>(alloc: Global, site: &mut S, graph: &mut Graph) -> Result<Option<Bytes>, Stop>
+/// Notes in the graph what changed among the files, and gives the content of tup.config. The store is compacted first where
+/// that is wanted and worth it.
+fn noted<S: Site>(
+    alloc: Global,
+    site: &mut S,
+    graph: &mut Graph,
+    compacts: bool,
+) -> Result<Option<Bytes>, Stop>
+    requires fresh { IsTrue (is_fresh graph.old) }
+    requires stands { IsTrue S.tells
+        → StandsFor S.world S.moment S.left_since graph.old site.old }
+    ensures fresh { OnOk result (IsTrue (is_fresh graph.new)) }
+    ensures stands { IsTrue S.tells
+        → OnOk result (StandsFor S.world S.moment S.left_since graph.new site.new) }
+    ensures seen { IsTrue S.tells
+        → OnOk result (HasSeen graph.new.nodes (S.world site.new).tree) }
+    ensures scanned { OnOk result (IsScannedFrom graph.old.nodes graph.new.nodes) }
+    ensures config { IsTrue S.tells
+        → IfOk result (λ config. config ≡ finite.get (S.world site.old).tree tup_config) }
+    ensures limits { IsTrue S.tells
+        → IfOk result (λ _. IsWithinLimits (S.world site.old).tree) }
+    ensures files { IsTrue S.tells → LeavesFiles S.Site.own site.old site.new }
+    ensures trees { IsTrue S.tells
+        → GoesOn S.moment S.left_since site.old site.new TreeStays }
+    ensures kept { IsTrue S.tells → KeepsOn S.Site.own site.old site.new }
+    // Where the graph is that of a kept world, what stands in the store then stays within what that world had.
+    ensures within { IsTrue S.tells → (next : Next) (first : World) (since : ℕ)
+        → IsGraphIn first.store graph.old.nodes → TreeStays first (S.world site.old)
+        → IsKeptSince S.Site.own next first since site.old
+        → HoldsWithin first (S.world site.new) }
+    ensures owns { IsTrue S.tells → OwnsOn S.Site.own site.old site.new }
+    ensures blame { IsTrue S.tells → (first : World) → TreeStays first (S.world site.old)
+        → IfErr result (BlamesSources first) }
+    ensures stops { IfErr result StopsReading }
+    ensures counted { HasCountedCause (S.faults site.old) (S.faults site.new) (result_err result) }
+{
+    tidied(alloc, site, graph, compacts)?;
+    scanned(alloc, site, graph)
+}
+
+/// Compacts the store of a graph where that is wanted and worth it.
+fn tidied<S: Site>(
+    alloc: Global,
+    site: &mut S,
+    graph: &mut Graph,
+    compacts: bool,
+) -> Result<(), Stop>
+    requires fresh { IsTrue (is_fresh graph.old) }
+    requires stands { IsTrue S.tells
+        → StandsFor S.world S.moment S.left_since graph.old site.old }
+    ensures nodes { graph.new.nodes ≡ graph.old.nodes }
+    ensures fresh { OnOk result (IsTrue (is_fresh graph.new)) }
+    ensures stands { IsTrue S.tells
+        → OnOk result (StandsFor S.world S.moment S.left_since graph.new site.new) }
+    ensures files { IsTrue S.tells → LeavesFiles S.Site.own site.old site.new }
+    ensures trees { IsTrue S.tells
+        → GoesOn S.moment S.left_since site.old site.new TreeStays }
+    ensures kept { IsTrue S.tells → KeepsOn S.Site.own site.old site.new }
+    // Where the graph is that of a world, what stands in the store then stays within what that world had.
+    ensures within { IsTrue S.tells → (first : World) → IsGraphIn first.store graph.old.nodes
+        → HoldsWithin first (S.world site.new) }
+    ensures owns { IsTrue S.tells → OwnsOn S.Site.own site.old site.new }
+    ensures blame { (first : World) → IfErr result (BlamesSources first) }
+    ensures stops { IfErr result StopsReading }
+    ensures counted { HasCountedCause (S.faults site.old) (S.faults site.new) (result_err result) }
+{
+    flags_are_of_rules();
+    // A law: while the graph is fresh, the store stands for its nodes.
+    let _ = graph.nodes();
+    if !compacts || !graph.is_sparse() {
+        return Ok(());
+    }
+    graph.compact(alloc, site)?;
+    Ok(())
+}
+
+/// Scans the files, notes in the graph what changed among them, and gives the content of tup.config.
+fn scanned<S: Site>(alloc: Global, site: &mut S, graph: &mut Graph) -> Result<Option<Bytes>, Stop>
     requires fresh { IsTrue (is_fresh graph.old) }
     requires stands { IsTrue S.tells
         → StandsFor S.world S.moment S.left_since graph.old site.old }

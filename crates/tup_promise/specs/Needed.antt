@@ -47,33 +47,33 @@ AreInOrder w names =
     (rules : List Rule) (at other sooner later : ℕ) (rule : Rule) (name : RuleName) → AsksFor w rules → slice_get rules at ≡ Some rule
     → DeclaredProducer rules rule other → HasName rules other name → slice_get names later ≡ Some (name_of rule) → slice_get names sooner ≡ Some name → sooner < later
 
--- an update that reports success ran all that was due; one that met a bad verdict and was to go on ran all that it could, and
--- one that was not to go on ran nothing after the bad rule
-abbrev pub RunsAll : Next → Bool → World → List RuleName → Option Stop → Type 0
-RunsAll next keep_going w ran None = NamesAllDue w ran
-RunsAll next true w ran (Some (Bad name verdict)) = NamesAllThatCan next w ran
-RunsAll next false w ran (Some (Bad name verdict)) = (front : List RuleName) × (ran ≡ front ++ name ∷ [])
-RunsAll next keep_going w ran (Some NoStore) = ⊤
-RunsAll next keep_going w ran (Some (BadStore offset)) = ⊤
-RunsAll next keep_going w ran (Some (Sources fault)) = ⊤
-RunsAll next keep_going w ran (Some (UserFile path written found)) = ⊤
-RunsAll next keep_going w ran (Some Run) = ⊤
-RunsAll next keep_going w ran (Some Full) = ⊤
-RunsAll next keep_going w ran (Some (Outside failed)) = ⊤
+-- An update that reports success ran all that was due. One that met a bad verdict and was to go on ran all that it could, and
+-- one that was not to go on ran nothing after the bad rule, where it has one runner. `jobs` is how many it has.
+abbrev pub RunsAll : Next → Bool → ℕ → World → List RuleName → Option Stop → Type 0
+RunsAll next keep_going jobs w ran None = NamesAllDue w ran
+RunsAll next true jobs w ran (Some (Bad name verdict)) = NamesAllThatCan next w ran
+RunsAll next false jobs w ran (Some (Bad name verdict)) = jobs ≡ 1 → (front : List RuleName) × (ran ≡ front ++ name ∷ [])
+RunsAll next keep_going jobs w ran (Some NoStore) = ⊤
+RunsAll next keep_going jobs w ran (Some (BadStore offset)) = ⊤
+RunsAll next keep_going jobs w ran (Some (Sources fault)) = ⊤
+RunsAll next keep_going jobs w ran (Some (UserFile path written found)) = ⊤
+RunsAll next keep_going jobs w ran (Some Run) = ⊤
+RunsAll next keep_going jobs w ran (Some Full) = ⊤
+RunsAll next keep_going jobs w ran (Some (Outside failed)) = ⊤
 
 -- what an update ran was needed
-pub record RunsWhatIsNeeded (next : Next) (keep_going : Bool) (w : World) (ran : List RuleName) (stopped : Option Stop) : Type 0 where
+pub record RunsWhatIsNeeded (next : Next) (keep_going : Bool) (jobs : ℕ) (w : World) (ran : List RuleName) (stopped : Option Stop) : Type 0 where
   -- no rule was run twice
   pub once : (one other : ℕ) (name : RuleName) → slice_get ran one ≡ Some name → slice_get ran other ≡ Some name → one ≡ other
   pub due : All (IsDueName w) ran
   pub in_order : AreInOrder w ran
-  pub all : RunsAll next keep_going w ran stopped
+  pub all : RunsAll next keep_going jobs w ran stopped
 
 -- each rule that is flagged in the graph of a world was due in one before
 abbrev pub FlagsWhatWasDue : World → World → Type 0
 FlagsWhatWasDue old new = OfGraph new (λ h. (number : ℕ) → is_flagged h number ≡ true → IsDue old h.rules number)
 
 -- and an update leaves no more to run than was due
-pub record OnlyWhatIsNeeded (next : Next) (keep_going : Bool) (old new : World) (ran : List RuleName) (stopped : Option Stop) : Type 0 where
-  pub runs : RunsWhatIsNeeded next keep_going old ran stopped
+pub record OnlyWhatIsNeeded (next : Next) (keep_going : Bool) (jobs : ℕ) (old new : World) (ran : List RuleName) (stopped : Option Stop) : Type 0 where
+  pub runs : RunsWhatIsNeeded next keep_going jobs old ran stopped
   pub flagged : FlagsWhatWasDue old new

@@ -6,7 +6,7 @@ use Rattle.tup_table.specs.Images.{OpenStep}
 use Rattle.tup_graph.specs.declared.fault.GraphFault.TheVariants as graph
 use Rattle.tup_stored_graph.specs.Held.{Held}
 use Rattle.tup_stored_graph.specs.Opening.{OpensAs}
-use Rattle.tup_ledger.specs.Begin.{IsJustClosed}
+use Rattle.tup_ledger.specs.Begin.{IsRested}
 use Rattle.tup_promise.specs.declared.log.Log.{Log}
 use Rattle.tup_promise.specs.declared.stop.Stop.{Stop}
 use Rattle.tup_promise.specs.declared.stop.Stop.TheVariants.{NoStore, BadStore, Sources, UserFile, Bad, Run, Full, Outside}
@@ -26,9 +26,9 @@ IsDamaged bytes offset = (left : List ℕ) × OpensAs bytes left (Err (graph.Bad
 abbrev pub IsReadable : List ℕ → Type 0
 IsReadable bytes = (graph : Held) × (left : List ℕ) × OpensAs bytes left (Ok graph)
 
--- a store is what it was, or a closed gate was written at its end, where none stood
+-- a store is what it was, or what opening it leaves
 abbrev pub IsJustOpened : List ℕ → List ℕ → Type 0
-IsJustOpened before after = (after ≡ before) ⊎ IsJustClosed before after
+IsJustOpened before after = (after ≡ before) ⊎ IsRested before after
 
 -- nothing was done but to open the store
 pub record DoesNothing (old new : World) (log : Log) : Type 0 where
@@ -36,7 +36,7 @@ pub record DoesNothing (old new : World) (log : Log) : Type 0 where
   pub store : IsJustOpened old.store new.store
   pub empty : IsEmptyLog log
 
--- nor was more than that begun: where it failed, the byte of the gate at the end may hold anything
+-- nor was more than that begun: where it failed, it may be anything that a crash of an opening leaves
 pub record HasFailedToOpen (old new : World) (log : Log) : Type 0 where
   pub world : (new ≡ old) ⊎ OpenStep old new
   pub empty : IsEmptyLog log

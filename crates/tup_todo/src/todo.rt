@@ -77,7 +77,7 @@ pub fn todo_site<S: Site>(alloc: Global, site: &mut S) -> Result<Todo, Stop>
     kept_states_are_states();
     flags_are_of_rules();
     let mut log = Log::new(alloc);
-    let graph = surveyed(alloc, site, &mut log)?;
+    let graph = surveyed(alloc, site, &mut log, false)?;
     let removes = vanished(alloc, graph.nodes())?;
     let runs = due(alloc, graph.nodes())?;
     Ok(Todo {

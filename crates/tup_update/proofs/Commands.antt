@@ -16,8 +16,8 @@ use Rattle.tup_core.specs.Step.{is_reached}
 use Rattle.tup_board.specs.Calls.{command_of as command_in, commands}
 use Rattle.tup_apart.proofs.Running.{listed}
 use Rattle.tup_promise.specs.Ran.{command_of}
-use Rattle.tup_update.specs.Names.{AreNamesOf, name_at}
-use Rattle.tup_update.specs.declared.names.Names.{Names}
+use Rattle.tup_update.specs.Names.{AreNamesOf, value_at}
+use Rattle.tup_update.specs.declared.by_rule.ByRule.{ByRule}
 use Rattle.tup_update.proofs.Waiting.{IsNamed}
 
 module _ (rules : List Rule) (at : ℕ → Option RuleName) where
@@ -50,11 +50,11 @@ slice_get_some rules number within = ⊎_elim
     (slice_get_cases rules number).1
 
 -- ---- the names that a plan has for the claims of its rules
-module _ (plan : Plan) (names : Names) (are : AreNamesOf plan names) (range : IsInRange plan) where
-  has_name : (number : ℕ) → is_reached plan number ≡ true → IsNamed plan.rules (name_at names) number
+module _ (plan : Plan) (names : ByRule RuleName) (are : AreNamesOf plan names) (range : IsInRange plan) where
+  has_name : (number : ℕ) → is_reached plan number ≡ true → IsNamed plan.rules (value_at names) number
   has_name number reached = are.waits number (listed plan number reached)
 
-  some_name : (number : ℕ) → is_reached plan number ≡ true → IsSome (name_at names number)
+  some_name : (number : ℕ) → is_reached plan number ≡ true → IsSome (value_at names number)
   some_name number reached =
       subst IsSome (sym (has_name number reached)) (by (slice_get plan.rules number) (slice_get_some plan.rules number (range number reached)))
     where
@@ -62,13 +62,13 @@ module _ (plan : Plan) (names : Names) (are : AreNamesOf plan names) (range : Is
       by None some = absurd (cc)
       by (Some rule) some = refl
 
-  pub all_named : (numbers : List ℕ) → All (λ number. is_reached plan number ≡ true) numbers → All (IsNamed plan.rules (name_at names)) numbers
-  all_named numbers reached = All-weaker (λ number. is_reached plan number ≡ true) (IsNamed plan.rules (name_at names)) has_name numbers reached
+  pub all_named : (numbers : List ℕ) → All (λ number. is_reached plan number ≡ true) numbers → All (IsNamed plan.rules (value_at names)) numbers
+  all_named numbers reached = All-weaker (λ number. is_reached plan number ≡ true) (IsNamed plan.rules (value_at names)) has_name numbers reached
 
-  pub all_some : (numbers : List ℕ) → All (λ number. is_reached plan number ≡ true) numbers → All (λ number. IsSome (name_at names number)) numbers
-  all_some numbers reached = All-weaker (λ number. is_reached plan number ≡ true) (λ number. IsSome (name_at names number)) some_name numbers reached
+  pub all_some : (numbers : List ℕ) → All (λ number. is_reached plan number ≡ true) numbers → All (λ number. IsSome (value_at names number)) numbers
+  all_some numbers reached = All-weaker (λ number. is_reached plan number ≡ true) (λ number. IsSome (value_at names number)) some_name numbers reached
 
-  pub ran_commands : (events : List CoreEvent) → All (λ number. is_reached plan number ≡ true) (claims events) → (ran : List RuleName) → map Some ran ≡ map (name_at names) (claims events)
+  pub ran_commands : (events : List CoreEvent) → All (λ number. is_reached plan number ≡ true) (claims events) → (ran : List RuleName) → map Some ran ≡ map (value_at names) (claims events)
       → map command_of ran ≡ commands plan events
   ran_commands events reached ran same =
-      commands_alike plan.rules (name_at names) (claims events) ran same (All-weaker (λ number. is_reached plan number ≡ true) (IsNamed plan.rules (name_at names)) has_name (claims events) reached)
+      commands_alike plan.rules (value_at names) (claims events) ran same (All-weaker (λ number. is_reached plan number ≡ true) (IsNamed plan.rules (value_at names)) has_name (claims events) reached)

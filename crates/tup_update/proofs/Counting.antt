@@ -31,7 +31,7 @@ use Rattle.tup_promise.specs.Ran.{RanAll, RanAllButLast, RunsThese, command_of}
 use Rattle.tup_promise.specs.declared.stop.Stop.{Stop}
 use Rattle.tup_promise.specs.declared.stop.Stop.TheVariants as stop
 use Rattle.tup_update.specs.Run.{IsEnd, OfBads, StopsBy, StopsRunning}
-use Rattle.tup_update.proofs.FirstBad.{Own}
+use Rattle.tup_update.proofs.Ending.{Own}
 
 -- a board that was left for another cause than a bad verdict has stopped for it
 pub left_for : (end : State) (why : Cause) → why ≢ cause.Bad → Drains end (Left why) → end.stopped ≡ Some why
@@ -43,12 +43,12 @@ pub own_all : {was : List CoreEvent} (now : List CoreEvent) → was ≡ [] → (
 own_all now none (events, adds, own) = subst (All Own) (sym (adds ∙ ap (λ (before : List CoreEvent). before ++ events) none)) own
 
 -- what stopped an update by its history, by the verdicts of the board
-pub stops_so : {S : Type 0} (board : BoardState S) (plan : Plan) (drained : Drained) (stopped : Option Stop) → plan_of board ≡ plan → IsRun (plan_of board) (start board) board.history → All Own board.history
+pub stops_so : {S : Type 0} (board : BoardState S) (plan : Plan) (drained : Drained) (stopped : Option Stop) → plan_of board ≡ plan → IsRun (plan_of board) (start board) board.history
     → OfBads plan board.history (StopsBy plan.rules drained stopped) → StopsBy plan.rules drained stopped (state board).bad
-stops_so board plan drained stopped same run own told =
+stops_so board plan drained stopped same run told =
     let files = finite.entries board.opening.graph.nodes.seen in
     subst (λ (p : Plan). StopsBy plan.rules drained stopped (end_of p (opening p files) board.history).bad) (sym same)
-    (told files (subst (λ (p : Plan). IsRun p (opening p files) board.history) same run) own)
+    (told files (subst (λ (p : Plan). IsRun p (opening p files) board.history) same run))
 
 -- of these rules, and their bad verdicts
 module _ (rules : List Rule) (bad : ℕ → Option Verdict) where

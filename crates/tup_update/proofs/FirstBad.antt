@@ -1,8 +1,7 @@
--- The first bad verdict of a history at one seat, found event by event.
-use Rattle.std.proofs.Common.{◌≡◌, ◌≢◌, ◌<◌, ◌+◌, drop, get_or, length, ◌⊎◌, inl, inr, ⊎_elim, ℕ, Bool, true, false, if◌then◌else◌, List, [], ◌∷◌, Option, Some, None, All, refl, sym, ap, subst, arith, ◌∙◌}
+-- The first bad verdict of a history, found event by event.
+use Rattle.std.proofs.Common.{◌≡◌, ◌≢◌, ◌<◌, ◌+◌, drop, get_or, length, ◌⊎◌, inl, inr, ⊎_elim, ℕ, Bool, true, false, if◌then◌else◌, List, [], ◌∷◌, Option, Some, None, refl, sym, ap, subst, arith, ◌∙◌}
 use Rattle.std.specs.List.{slice_get}
 use Rattle.std.specs.Option.{IfSome, IsSome, unwrap_or}
-use Rattle.std.proofs.lemmas.List.Elements.{All-head, All-tail}
 use Rattle.std.proofs.lemmas.Option.{none-some, same_Some}
 use Rattle.tup_path.specs.Name.{Names}
 use Rattle.tup_stamp.specs.declared.Stamp.{Stamp}
@@ -17,25 +16,20 @@ use Rattle.tup_core.specs.declared.event.CoreEvent.{CoreEvent}
 use Rattle.tup_core.specs.declared.event.CoreEvent.TheVariants.{Claim, Ask, Deny, Finish, Stop}
 use Rattle.tup_core.specs.declared.plan.Plan.{Plan}
 use Rattle.tup_core.specs.declared.running.Running.{Running}
-use Rattle.tup_core.specs.Step.{IsEnabled, State, after, asked, changed, emptied, ended, opening, refused, stopped_by}
-use Rattle.tup_core.specs.Run.{IsRun, end_of, seat_of}
-use Rattle.tup_core.proofs.Changed.{changed_cases, changed_here}
-use Rattle.tup_core.proofs.Orderly.{RanBefore, finished_is, same_rule, seat_emptied, seats_ended}
+use Rattle.tup_core.specs.Step.{IsEnabled, State, after, changed, emptied, ended, opening, stopped_by}
+use Rattle.tup_core.specs.Run.{IsRun, end_of}
+use Rattle.tup_core.proofs.Changed.{changed_here}
+use Rattle.tup_core.proofs.Orderly.{finished_is}
 use Rattle.tup_clean.specs.Clean.{is_good}
 use Rattle.tup_promise.specs.declared.stop.Stop.TheVariants as stop
 use Rattle.tup_update.specs.Run.{IsBadRule, IsEnd, IsFirstBad, IsLower, IsLowest}
 use Rattle.tup_update.specs.declared.ended.BadRule.{BadRule}
+use Rattle.tup_update.specs.Ended.{claimed_by, nothing_claimed}
+use Rattle.tup_update.proofs.Claimed.{Knows, claimed_after, knows_after, knows_none}
 use Rattle.tup_update.proofs.Taking.{next_left}
-
--- the rule that seat 0 runs, if it runs one
-abbrev pub IsRunning : State → ℕ → Type 0
-IsRunning state number = (running : Running) → state.seats 0 ≡ Some running → running.rule ≡ number
+use Rattle.tup_update.proofs.Working.{others}
 
 -- ---- one verdict more
--- at each other number there is what was there
-others : {A : Type 0} (values : ℕ → A) (at : ℕ) (value : A) (other : ℕ) → other ≢ at → changed values at value other ≡ values other
-others values at value other apart = ⊎_elim (λ same. absurd (apart same.0)) (λ there. there.1) (changed_cases values at value other)
-
 module _ (rules : List Rule) (bad : ℕ → Option Verdict) (one : BadRule) (here : slice_get rules one.number ≡ Some one.rule.now) where
   abbrev pub now_bad : ℕ → Option Verdict
   now_bad = changed bad one.number (Some one.verdict.now)
@@ -90,153 +84,118 @@ lower_bad (Some first) (Some other) result (inl (before, is)) bad there = subst 
 lower_bad (Some first) (Some other) result (inr (after, is)) bad there = subst IsBadOne (sym is) bad
 
 -- ---- one event more
--- what was read of a history: the state then, the rule that seat 0 runs, and the first bad verdict
-pub record IsReading (plan : Plan) (last : State) (rest : List CoreEvent) (running : ℕ) (first : Option BadRule) : Type 0 where
+-- what was read of a history: the state then, what each seat claimed last, and the first bad verdict
+pub record IsReading (plan : Plan) (last : State) (rest : List CoreEvent) (claimed : List (Option ℕ)) (first : Option BadRule) : Type 0 where
   pub state : State
   pub run : IsRun plan state rest
-  pub own : All (λ event. seat_of event ≡ 0) rest
   pub ends : end_of plan state rest ≡ last
-  pub runs : IsRunning state running
+  pub knows : Knows claimed state
   pub lowest : IsLowest plan.rules state.bad first
 
-abbrev pub Own : CoreEvent → Type 0
-Own event = seat_of event ≡ 0
-
-module _ (plan : Plan) (last : State) (rest : List CoreEvent) (running : ℕ) (first : Option BadRule) where
-  -- an event by which no rule is claimed and no command ended
-  pub reads_on : (event : CoreEvent) (is : IsReading plan last (event ∷ rest) running first) → (after plan is.state event).bad ≡ is.state.bad → RanBefore is.state (after plan is.state event)
-      → IsReading plan last rest running first
-  reads_on event is same ran = record {
+module _ (plan : Plan) (last : State) (rest : List CoreEvent) (claimed : List (Option ℕ)) (first : Option BadRule) where
+  -- an event by which no command ended
+  reads_on : (event : CoreEvent) (is : IsReading plan last (event ∷ rest) claimed first) → (after plan is.state event).bad ≡ is.state.bad → IsReading plan last rest (claimed_after claimed event) first
+  reads_on event is same = record {
     state = after plan is.state event;
     run = is.run.1;
-    own = All-tail Own event rest is.own;
     ends = is.ends;
-    runs = λ now here. let was = ran 0 now here in sym was.2 ∙ is.runs was.0 was.1;
+    knows = knows_after plan is.state claimed event is.run.0 is.knows;
     lowest = subst (λ (bad : ℕ → Option Verdict). IsLowest plan.rules bad first) (sym same) is.lowest;
   }
 
-  pub reads_ask : (seat : ℕ) (text : List ℕ) (answer : Option Stamp) → IsReading plan last (Ask seat text answer ∷ rest) running first → IsReading plan last rest running first
-  reads_ask seat text answer is = reads_on (Ask seat text answer) is refl (same_rule is.state (after plan is.state (Ask seat text answer)) seat (asked text answer) (λ one. refl) refl)
-
-  pub reads_deny : (seat : ℕ) (text : List ℕ) (verdict : Verdict) → IsReading plan last (Deny seat text verdict ∷ rest) running first → IsReading plan last rest running first
-  reads_deny seat text verdict is = reads_on (Deny seat text verdict) is refl (same_rule is.state (after plan is.state (Deny seat text verdict)) seat (refused text verdict) (λ one. refl) refl)
-
-  pub reads_stop : (seat : ℕ) (cause : Cause) → IsReading plan last (Stop seat cause ∷ rest) running first → IsReading plan last rest running first
-  reads_stop seat cause is =
-      reads_on (Stop seat cause) is refl (λ other now here. (now, (seat_emptied is.state (after plan is.state (Stop seat cause)) seat refl other now here).1, refl))
-
   -- a claim
-  pub reads_claim : (seat number : ℕ) → IsReading plan last (Claim seat number ∷ rest) running first → IsReading plan last rest number first
-  reads_claim seat number is = record {
-    state = after plan is.state (Claim seat number);
-    run = is.run.1;
-    own = All-tail Own (Claim seat number) rest is.own;
-    ends = is.ends;
-    runs = λ now here. by (All-head Own (Claim seat number) rest is.own) now here;
-    lowest = is.lowest;
-  }
-    where
-      by : seat ≡ 0 → (now : Running) → changed is.state.seats seat (Some (record { rule = number; asks = []; denied = None })) 0 ≡ Some now → now.rule ≡ number
-      by own now here = ⊎_elim
-          (λ same. ap (λ (r : Running). r.rule) (same_Some _ _ (sym here ∙ same.1)))
-          (λ apart. absurd (apart.0 (sym own)))
-          (changed_cases is.state.seats seat (Some (record { rule = number; asks = []; denied = None })) 0)
+  pub reads_claim : (seat number : ℕ) → IsReading plan last (Claim seat number ∷ rest) claimed first → IsReading plan last rest (claimed_after claimed (Claim seat number)) first
+  reads_claim seat number is = reads_on (Claim seat number) is refl
 
   -- the end of a command
-  module _ (seat : ℕ) (verdict : Verdict) (writes : List (Names × Stamp)) (is : IsReading plan last (Finish seat verdict writes ∷ rest) running first) where
-    own_now : seat ≡ 0
-    own_now = All-head Own (Finish seat verdict writes) rest is.own
-
+  module _ (seat : ℕ) (verdict : Verdict) (writes : List (Names × Stamp)) (is : IsReading plan last (Finish seat verdict writes ∷ rest) claimed first) where
+    -- the rule that the seat runs
     abbrev ran : Running
     ran = is.run.0.0
 
-    abbrev pub ran_rule : Rule
+    abbrev number : ℕ
+    number = ran.rule
+
+    abbrev ran_rule : Rule
     ran_rule = is.run.0.1
 
-    number_is : ran.rule ≡ running
-    number_is = is.runs ran (ap is.state.seats (sym own_now) ∙ is.run.0.2.here)
+    -- it is there, and the seat claimed it last
+    ran_here : slice_get plan.rules number ≡ Some ran_rule
+    ran_here = is.run.0.2.placed
 
-    -- the rule that seat 0 runs is there
-    pub ran_here : slice_get plan.rules running ≡ Some ran_rule
-    ran_here = ap (slice_get plan.rules) (sym number_is) ∙ is.run.0.2.placed
+    ran_claimed : claimed_by claimed seat ≡ Some number
+    ran_claimed = is.knows.each seat ran is.run.0.2.here
 
-    ends_so : after plan is.state (Finish seat verdict writes) ≡ ended plan (emptied is.state seat) running verdict writes
-    ends_so = finished_is plan is.state seat ran verdict writes is.run.0.2.here ∙ ap (λ (n : ℕ). ended plan (emptied is.state seat) n verdict writes) number_is
-
-    none_runs : IsRunning (after plan is.state (Finish seat verdict writes)) running
-    none_runs now here =
-        let there = ap (λ (s : State). s.seats 0) (sym ends_so) ∙ here in
-        absurd ((seat_emptied is.state (ended plan (emptied is.state seat) running verdict writes) seat (seats_ended plan (emptied is.state seat) running verdict writes) 0 now there).0 (sym own_now))
+    ends_so : after plan is.state (Finish seat verdict writes) ≡ ended plan (emptied is.state seat) number verdict writes
+    ends_so = finished_is plan is.state seat ran verdict writes is.run.0.2.here
 
     -- with the first bad verdict then
-    pub reads_end : (next : Option BadRule) → IsLowest plan.rules (ended plan (emptied is.state seat) running verdict writes).bad next → IsReading plan last rest running next
+    reads_end : (next : Option BadRule) → IsLowest plan.rules (ended plan (emptied is.state seat) number verdict writes).bad next → IsReading plan last rest claimed next
     reads_end next lowest = record {
       state = after plan is.state (Finish seat verdict writes);
       run = is.run.1;
-      own = All-tail Own (Finish seat verdict writes) rest is.own;
       ends = is.ends;
-      runs = none_runs;
+      knows = knows_after plan is.state claimed (Finish seat verdict writes) is.run.0 is.knows;
       lowest = subst (λ (s : State). IsLowest plan.rules s.bad next) (sym ends_so) lowest;
     }
 
-    pub reads_good : verdict ≡ Good → IsReading plan last rest running first
+    reads_good : verdict ≡ Good → IsReading plan last rest claimed first
     reads_good good =
-        reads_end first (subst (λ (v : Verdict). IsLowest plan.rules (ended plan (emptied is.state seat) running v writes).bad first) (sym good) is.lowest)
+        reads_end first (subst (λ (v : Verdict). IsLowest plan.rules (ended plan (emptied is.state seat) number v writes).bad first) (sym good) is.lowest)
 
-    pub reads_bad : verdict ≢ Good → (one : BadRule) → one.number ≡ running → one.rule.now ≡ ran_rule → one.verdict.now ≡ verdict → (next : Option BadRule) → IsLower first (Some one) next
-        → IsReading plan last rest running next
-    reads_bad differ one number rule came next lower =
+    reads_bad : verdict ≢ Good → (one : BadRule) → one.number ≡ number → one.rule.now ≡ ran_rule → one.verdict.now ≡ verdict → (next : Option BadRule) → IsLower first (Some one) next
+        → IsReading plan last rest claimed next
+    reads_bad differ one same rule came next lower =
         reads_end next
         (subst (λ (bad : ℕ → Option Verdict). IsLowest plan.rules bad next)
-        (ap (λ (n : ℕ). changed is.state.bad n (Some one.verdict.now)) number ∙ ap (λ (v : Verdict). changed is.state.bad running (Some v)) came ∙ sym (ended_badly plan (emptied is.state seat) running verdict writes differ))
-        (put_bad plan.rules is.state.bad one (ap (slice_get plan.rules) number ∙ ran_here ∙ ap (λ (r : Rule). Some r) (sym rule)) first next is.lowest lower))
+        (ap (λ (n : ℕ). changed is.state.bad n (Some one.verdict.now)) same ∙ ap (λ (v : Verdict). changed is.state.bad number (Some v)) came ∙ sym (ended_badly plan (emptied is.state seat) number verdict writes differ))
+        (put_bad plan.rules is.state.bad one (ap (slice_get plan.rules) same ∙ ran_here ∙ ap (λ (r : Rule). Some r) (sym rule)) first next is.lowest lower))
 
     -- as it is found
-    pub reads_finish : (found next : Option BadRule) → (verdict ≡ Good → found ≡ None) → (verdict ≢ Good → (rule : Rule) → slice_get plan.rules running ≡ Some rule → IsBadRule running rule verdict found)
-        → IsLower first found next → IsReading plan last rest running next
-    reads_finish found next none some lower = ⊎_elim
-        (λ good. subst (IsReading plan last rest running) (sym (subst (λ (o : Option BadRule). IsLower first o next) (none good) lower)) (reads_good good))
+    pub reads_finish : (given : Option ℕ) → given ≡ claimed_by claimed seat → (found next : Option BadRule) → (verdict ≡ Good → found ≡ None)
+        → (verdict ≢ Good → (at : ℕ) (rule : Rule) → given ≡ Some at → slice_get plan.rules at ≡ Some rule → IsBadRule at rule verdict found) → IsLower first found next → IsReading plan last rest claimed next
+    reads_finish given is_it found next none some lower = ⊎_elim
+        (λ good. subst (IsReading plan last rest claimed) (sym (subst (λ (o : Option BadRule). IsLower first o next) (none good) lower)) (reads_good good))
         (λ differ.
-        let bad = some differ ran_rule ran_here in
+        let bad = some differ number ran_rule (is_it ∙ ran_claimed) ran_here in
         reads_bad differ bad.0 bad.2 bad.3 bad.4 next (subst (λ (o : Option BadRule). IsLower first o next) bad.1 lower))
         (good_or verdict)
 
   -- an event that is no claim and no end
   pub reads_other : (event : CoreEvent) → ((seat number : ℕ) → event ≢ Claim seat number) → ((seat : ℕ) (verdict : Verdict) (writes : List (Names × Stamp)) → event ≢ Finish seat verdict writes)
-      → IsReading plan last (event ∷ rest) running first → IsReading plan last rest running first
+      → IsReading plan last (event ∷ rest) claimed first → IsReading plan last rest claimed first
   reads_other (Claim seat number) no_claim no_end is = absurd (no_claim seat number refl)
-  reads_other (Ask seat text answer) no_claim no_end is = reads_ask seat text answer is
-  reads_other (Deny seat text verdict) no_claim no_end is = reads_deny seat text verdict is
+  reads_other (Ask seat text answer) no_claim no_end is = reads_on (Ask seat text answer) is refl
+  reads_other (Deny seat text verdict) no_claim no_end is = reads_on (Deny seat text verdict) is refl
   reads_other (Finish seat verdict writes) no_claim no_end is = absurd (no_end seat verdict writes refl)
-  reads_other (Stop seat cause) no_claim no_end is = reads_stop seat cause is
+  reads_other (Stop seat cause) no_claim no_end is = reads_on (Stop seat cause) is refl
 
 -- ---- the next event of a history
 -- all that was read of a history up to a place
-abbrev pub AllRead : Plan → List CoreEvent → ℕ → ℕ → Option BadRule → Type 0
-AllRead plan history k running first =
-    (files : List (Names × Stamp)) → IsRun plan (opening plan files) history → All Own history → IsReading plan (end_of plan (opening plan files) history) (drop k history) running first
+abbrev pub AllRead : Plan → List CoreEvent → ℕ → List (Option ℕ) → Option BadRule → Type 0
+AllRead plan history k claimed first =
+    (files : List (Names × Stamp)) → IsRun plan (opening plan files) history → IsReading plan (end_of plan (opening plan files) history) (drop k history) claimed first
 
-module _ (plan : Plan) (history : List CoreEvent) (k : ℕ) (within : k < length history) (running : ℕ) (first : Option BadRule) (read : AllRead plan history k running first) (event it : CoreEvent) (at : event ≡ get_or history k event) (is : event ≡ it) where
+module _ (plan : Plan) (history : List CoreEvent) (k : ℕ) (within : k < length history) (claimed : List (Option ℕ)) (first : Option BadRule) (read : AllRead plan history k claimed first) (event it : CoreEvent)
+    (at : event ≡ get_or history k event) (is : event ≡ it) where
   -- what is left begins with it
-  pub next_read : (files : List (Names × Stamp)) → IsRun plan (opening plan files) history → All Own history → IsReading plan (end_of plan (opening plan files) history) (it ∷ drop (k + 1) history) running first
-  next_read files run own =
-      subst (λ (left : List CoreEvent). IsReading plan (end_of plan (opening plan files) history) left running first)
-      (next_left history k it within (subst (λ (e : CoreEvent). e ≡ get_or history k e) is at)) (read files run own)
+  pub next_read : (files : List (Names × Stamp)) → IsRun plan (opening plan files) history → IsReading plan (end_of plan (opening plan files) history) (it ∷ drop (k + 1) history) claimed first
+  next_read files run =
+      subst (λ (left : List CoreEvent). IsReading plan (end_of plan (opening plan files) history) left claimed first)
+      (next_left history k it within (subst (λ (e : CoreEvent). e ≡ get_or history k e) is at)) (read files run)
 
 -- ---- a whole history
-module _ (plan : Plan) (files : List (Names × Stamp)) (history : List CoreEvent) (run : IsRun plan (opening plan files) history) (own : All Own history) where
-  pub reads_first : (running : ℕ) → IsReading plan (end_of plan (opening plan files) history) history running None
-  reads_first running = record {
-    state = opening plan files;
-    run = run;
-    own = own;
-    ends = refl;
-    runs = λ now here. absurd (none-some now here);
-    lowest = λ number. refl;
-  }
+pub reads_first : (plan : Plan) (files : List (Names × Stamp)) (history : List CoreEvent) → IsRun plan (opening plan files) history → IsReading plan (end_of plan (opening plan files) history) history nothing_claimed None
+reads_first plan files history run = record {
+  state = opening plan files;
+  run = run;
+  ends = refl;
+  knows = knows_none plan files;
+  lowest = λ number. refl;
+}
 
-pub read_all : (plan : Plan) (last : State) (rest : List CoreEvent) (running : ℕ) (first : Option BadRule) → rest ≡ [] → IsReading plan last rest running first → IsLowest plan.rules last.bad first
-read_all plan last rest running first none is =
+pub read_all : (plan : Plan) (last : State) (rest : List CoreEvent) (claimed : List (Option ℕ)) (first : Option BadRule) → rest ≡ [] → IsReading plan last rest claimed first → IsLowest plan.rules last.bad first
+read_all plan last rest claimed first none is =
     let end : is.state ≡ last = subst (λ (left : List CoreEvent). end_of plan is.state left ≡ last) none is.ends in
     subst (λ (s : State). IsLowest plan.rules s.bad first) end is.lowest
 

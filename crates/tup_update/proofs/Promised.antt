@@ -67,19 +67,19 @@ abbrev pub LeavesDue : {S : Type 0} → Site S → Next → Held → S → Type 
 LeavesDue site next graph at = IsTrue site.tells → (first : World) (since : ℕ) → IsPrepared site next first since graph at → FlagsWhatWasDue first (site.world at)
 
 -- it owes no rule where there was no memory
-runs_without : (next : Next) (keep_going : Bool) (first : World) (ran : List RuleName) → RunsAll next keep_going first ran (Some (stop.Outside failed.Memory))
-runs_without next true first ran = tt
-runs_without next false first ran = tt
+runs_without : (next : Next) (keep_going : Bool) (jobs : ℕ) (first : World) (ran : List RuleName) → RunsAll next keep_going jobs first ran (Some (stop.Outside failed.Memory))
+runs_without next true jobs first ran = tt
+runs_without next false jobs first ran = tt
 
-pub unchanged : {S R : Type 0} (site : Site S) (runner : Runner R) (keep_going : Bool) (graph : Held) (at new : S) (ran : List RuleName) (stopped : Option Stop) → LeavesDue site runner.next graph at
-    → new ≡ at → ran ≡ [] → stopped ≡ Some (stop.Outside failed.Memory) → PromisesOver site runner keep_going graph at new ran stopped
-unchanged {S} site runner keep_going graph at new ran stopped due same none is = λ old tells means was.
-    subst (λ (one : S). Promises site runner keep_going old one ran stopped) (sym same)
-    (subst (λ (names : List RuleName). Promises site runner keep_going old at names stopped) (sym none)
-    (subst (λ (s : Option Stop). Promises site runner keep_going old at [] s) (sym is) (record {
+pub unchanged : {S R : Type 0} (site : Site S) (runner : Runner R) (keep_going : Bool) (jobs : ℕ) (graph : Held) (at new : S) (ran : List RuleName) (stopped : Option Stop) → LeavesDue site runner.next graph at
+    → new ≡ at → ran ≡ [] → stopped ≡ Some (stop.Outside failed.Memory) → PromisesOver site runner keep_going jobs graph at new ran stopped
+unchanged {S} site runner keep_going jobs graph at new ran stopped due same none is = λ old tells means was.
+    subst (λ (one : S). Promises site runner keep_going jobs old one ran stopped) (sym same)
+    (subst (λ (names : List RuleName). Promises site runner keep_going jobs old at names stopped) (sym none)
+    (subst (λ (s : Option Stop). Promises site runner keep_going jobs old at [] s) (sym is) (record {
       files = tt;
       needed = record {
-        runs = none_runs runner.next keep_going (site.world old) (Some (stop.Outside failed.Memory)) (runs_without runner.next keep_going (site.world old) []);
+        runs = none_runs runner.next keep_going jobs (site.world old) (Some (stop.Outside failed.Memory)) (runs_without runner.next keep_going jobs (site.world old) []);
         flagged = due tells (site.world old) (site.moment old) was.prepared;
       };
       crashes = record { later = was.prepared.over.began; kept = was.prepared.over.kept; owned = was.owns };
@@ -90,16 +90,16 @@ unchanged {S} site runner keep_going graph at new ran stopped due same none is =
     })))
 
 -- and so it is where none had to be run
-pub nothing_due : {S R : Type 0} (site : Site S) (runner : Runner R) (keep_going : Bool) (graph : Held) (at : S) (ran : List RuleName) → LeavesDue site runner.next graph at → ran ≡ [] → ((number : ℕ) → is_flagged graph.nodes number ≡ false)
+pub nothing_due : {S R : Type 0} (site : Site S) (runner : Runner R) (keep_going : Bool) (jobs : ℕ) (graph : Held) (at : S) (ran : List RuleName) → LeavesDue site runner.next graph at → ran ≡ [] → ((number : ℕ) → is_flagged graph.nodes number ≡ false)
     → ((first : World) (since : ℕ) → IsTrue site.tells → IsPrepared site runner.next first since graph at → ExactlyTheFiles runner.next first (site.world at) None)
-    → ((first : World) (since : ℕ) → IsTrue site.tells → IsPrepared site runner.next first since graph at → IsSettled site at) → PromisesOver site runner keep_going graph at at ran None
-nothing_due site runner keep_going graph at ran due none unflagged files settled = λ old tells means was.
+    → ((first : World) (since : ℕ) → IsTrue site.tells → IsPrepared site runner.next first since graph at → IsSettled site at) → PromisesOver site runner keep_going jobs graph at at ran None
+nothing_due site runner keep_going jobs graph at ran due none unflagged files settled = λ old tells means was.
     let first = site.world old in
     let since = site.moment old in
-    subst (λ (names : List RuleName). Promises site runner keep_going old at names None) (sym none) (record {
+    subst (λ (names : List RuleName). Promises site runner keep_going jobs old at names None) (sym none) (record {
       files = files first since tells was.prepared;
       needed = record {
-        runs = none_runs runner.next keep_going first None (none_due site runner.next first since graph at was.prepared unflagged);
+        runs = none_runs runner.next keep_going jobs first None (none_due site runner.next first since graph at was.prepared unflagged);
         flagged = due tells first since was.prepared;
       };
       crashes = record { later = was.prepared.over.began; kept = was.prepared.over.kept; owned = was.owns };
@@ -118,21 +118,21 @@ pub no_flags : (g : GraphState) → finite.entries g.flags ≡ [] → (number : 
 no_flags g none number = ap is_some (finite.get-entries g.flags number ∙ ap (finite.find nat_cmp number) none)
 
 -- ---- which rules were run
--- an update ran what its answer says, whether it was to go on at a bad verdict or not
-pub runs_all_by : (next : Next) (keep_going : Bool) (first : World) (ran : List RuleName) (stopped : Option Stop) → (stopped ≡ None → NamesAllDue first ran)
+-- an update ran what its answer says, whether it was to go on at a bad verdict or not, and however many runners it had
+pub runs_all_by : (next : Next) (keep_going : Bool) (jobs : ℕ) (first : World) (ran : List RuleName) (stopped : Option Stop) → (stopped ≡ None → NamesAllDue first ran)
     → ((name : RuleName) (verdict : Verdict) → stopped ≡ Some (stop.Bad name verdict) → keep_going ≡ true → NamesAllThatCan next first ran)
-    → ((name : RuleName) (verdict : Verdict) → stopped ≡ Some (stop.Bad name verdict) → keep_going ≡ false → (front : List RuleName) × (ran ≡ front ++ name ∷ []))
-    → RunsAll next keep_going first ran stopped
-runs_all_by next keep_going first ran None due can last = due refl
-runs_all_by next true first ran (Some (stop.Bad name verdict)) due can last = can name verdict refl refl
-runs_all_by next false first ran (Some (stop.Bad name verdict)) due can last = last name verdict refl refl
-runs_all_by next keep_going first ran (Some stop.NoStore) due can last = tt
-runs_all_by next keep_going first ran (Some (stop.BadStore offset)) due can last = tt
-runs_all_by next keep_going first ran (Some (stop.Sources fault)) due can last = tt
-runs_all_by next keep_going first ran (Some (stop.UserFile path written found)) due can last = tt
-runs_all_by next keep_going first ran (Some stop.Run) due can last = tt
-runs_all_by next keep_going first ran (Some stop.Full) due can last = tt
-runs_all_by next keep_going first ran (Some (stop.Outside failed)) due can last = tt
+    → ((name : RuleName) (verdict : Verdict) → stopped ≡ Some (stop.Bad name verdict) → keep_going ≡ false → jobs ≡ 1 → (front : List RuleName) × (ran ≡ front ++ name ∷ []))
+    → RunsAll next keep_going jobs first ran stopped
+runs_all_by next keep_going jobs first ran None due can last = due refl
+runs_all_by next true jobs first ran (Some (stop.Bad name verdict)) due can last = can name verdict refl refl
+runs_all_by next false jobs first ran (Some (stop.Bad name verdict)) due can last = last name verdict refl refl
+runs_all_by next keep_going jobs first ran (Some stop.NoStore) due can last = tt
+runs_all_by next keep_going jobs first ran (Some (stop.BadStore offset)) due can last = tt
+runs_all_by next keep_going jobs first ran (Some (stop.Sources fault)) due can last = tt
+runs_all_by next keep_going jobs first ran (Some (stop.UserFile path written found)) due can last = tt
+runs_all_by next keep_going jobs first ran (Some stop.Run) due can last = tt
+runs_all_by next keep_going jobs first ran (Some stop.Full) due can last = tt
+runs_all_by next keep_going jobs first ran (Some (stop.Outside failed)) due can last = tt
 
 -- a bad verdict is told just as the board has it
 pub stops_at_bad : (rules : List Rule) (bad : ℕ → Option Verdict) (drained : Drained) (stopped : Option Stop) → StopsBy rules drained stopped bad → (name : RuleName) (verdict : Verdict)
@@ -158,13 +158,13 @@ goes_on plan end (Left cause.Run) stopped has drains stops name verdict is going
 goes_on plan end (Left cause.Memory) stopped has drains stops name verdict is going = absurd (cc (stops, is))
 
 -- one that was stopped before the rules ran none
-pub runs_before : (next : Next) (keep_going : Bool) (w : World) (ran : List RuleName) (by : Stop) → StopsBefore by → ran ≡ [] → RunsWhatIsNeeded next keep_going w ran (Some by)
-runs_before next keep_going w ran by before none =
-    subst (λ (names : List RuleName). RunsWhatIsNeeded next keep_going w names (Some by)) (sym none)
-    (none_runs next keep_going w (Some by)
-    (runs_all_by next keep_going w [] (Some by) (λ e. absurd (none-some by (sym e)))
+pub runs_before : (next : Next) (keep_going : Bool) (jobs : ℕ) (w : World) (ran : List RuleName) (by : Stop) → StopsBefore by → ran ≡ [] → RunsWhatIsNeeded next keep_going jobs w ran (Some by)
+runs_before next keep_going jobs w ran by before none =
+    subst (λ (names : List RuleName). RunsWhatIsNeeded next keep_going jobs w names (Some by)) (sym none)
+    (none_runs next keep_going jobs w (Some by)
+    (runs_all_by next keep_going jobs w [] (Some by) (λ e. absurd (none-some by (sym e)))
     (λ name verdict is going. absurd (subst StopsBefore (same_Some by (stop.Bad name verdict) is) before))
-    (λ name verdict is off. absurd (subst StopsBefore (same_Some by (stop.Bad name verdict) is) before))))
+    (λ name verdict is off one. absurd (subst StopsBefore (same_Some by (stop.Bad name verdict) is) before))))
 
 -- ---- who is blamed
 -- an update whose rules were run blames a rule at most, or a file that is there

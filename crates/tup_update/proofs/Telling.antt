@@ -1,8 +1,9 @@
 -- What a log says of the rules that ended, by what was told of a history.
-use Rattle.std.proofs.Common.{◌≡◌, ℕ, true, false, List, [], ◌∷◌, ◌++◌, map, Option, None, Some, refl, sym, ap, ◌∙◌, subst, append_assoc, nat_lt, length}
+use Rattle.std.proofs.Common.{◌≡◌, ℕ, true, false, List, [], ◌∷◌, ◌++◌, map, Option, None, Some, refl, sym, ap, ap₂, ◌∙◌, subst, append_assoc, nat_lt, length, length-append, ◌≤◌, ◌+◌, arith}
 use Rattle.std.specs.Prelude.{All}
-use Rattle.std.specs.List.{cons_option, filter_map, slice_get}
-use Rattle.std.specs.Option.{option_map}
+use Rattle.std.specs.List.{cons_option, filter_map, slice_get, slice_set}
+use Rattle.std.specs.Option.{IsSome, option_map, unwrap_or}
+use Rattle.std.proofs.lemmas.List.{length-map}
 use Rattle.std.proofs.lemmas.Bool.{ltb-false, true≢false}
 use Rattle.std.proofs.lemmas.Option.{slice_get_past}
 use Rattle.std.proofs.lemmas.List.Elements.{All-nil, All-cons, All-head, All-tail, filter_map-append}
@@ -17,7 +18,7 @@ use Rattle.tup_phases.specs.Logged.{AreGood}
 use Rattle.tup_promise.specs.declared.log.EndedRule.{EndedRule}
 use Rattle.tup_core.specs.declared.event.CoreEvent.{CoreEvent}
 use Rattle.tup_core.specs.declared.event.CoreEvent.TheVariants.{Claim, Ask, Deny, Finish, Stop}
-use Rattle.tup_update.specs.Ended.{ends, ends_at, ends_from, told_ends, told_of}
+use Rattle.tup_update.specs.Ended.{claimed_by, ends, ends_at, ends_from, told_ends, told_of}
 use Rattle.tup_update.specs.Names.{name_in}
 use Rattle.tup_update.proofs.Ending.{EndsWell, numbers}
 
@@ -43,15 +44,45 @@ module _ (rules : List Rule) where
       by None = refl
       by (Some rule) = refl
 
-  -- names that were taken for numbers
-  pub taken_names : (numbers : List ℕ) (ran : List RuleName) → map Some ran ≡ map names numbers → filter_map names numbers ≡ ran
-  taken_names [] [] same = refl
+  -- the name of the rule with a number that has one
+  abbrev pub name_or : ℕ → RuleName
+  name_or number = unwrap_or (names number) (record { dir = []; text = [] })
+
+  abbrev pub HasOne : ℕ → Type 0
+  HasOne number = IsSome (names number)
+
+  -- names that were taken for numbers, each of which has one
+  pub taken_names : (numbers : List ℕ) (ran : List RuleName) → map Some ran ≡ map names numbers → (ran ≡ map name_or numbers) × All HasOne numbers
+  taken_names [] [] same = (refl, All-nil HasOne)
   taken_names [] (name ∷ ran) same = absurd (cc)
   taken_names (number ∷ numbers) [] same = absurd (cc)
   taken_names (number ∷ numbers) (name ∷ ran) same =
       let here : Some name ≡ names number = cc in
       let rest : map Some ran ≡ map names numbers = cc in
-      ap (λ (one : Option RuleName). cons_option one (filter_map names numbers)) (sym here) ∙ ap (λ (more : List RuleName). name ∷ more) (taken_names numbers ran rest)
+      let more = taken_names numbers ran rest in (
+        ap₂ (λ (one : RuleName) (others : List RuleName). one ∷ others) (ap (λ (o : Option RuleName). unwrap_or o (record { dir = []; text = [] })) here) more.0,
+        All-cons HasOne number numbers (subst IsSome here refl) more.1,
+      )
+
+  pub all_names : (numbers : List ℕ) → All HasOne numbers → filter_map names numbers ≡ map name_or numbers
+  all_names [] have = refl
+  all_names (number ∷ numbers) have =
+      by (names number) (All-head HasOne number numbers have) ∙ ap (λ (more : List RuleName). name_or number ∷ more) (all_names numbers (All-tail HasOne number numbers have))
+    where
+      by : (o : Option RuleName) → IsSome o → cons_option o (filter_map names numbers) ≡ unwrap_or o (record { dir = []; text = [] }) ∷ filter_map names numbers
+      by None some = absurd (cc)
+      by (Some name) some = refl
+
+  -- so as many are told of as ended
+  pub told_all_names : (list : List End) → All HasOne (numbers list) → rules_in (told_ends rules list) ≡ map name_or (numbers list)
+  told_all_names list have = told_names list ∙ all_names (numbers list) have
+
+  pub told_many : (list : List End) → All HasOne (numbers list) → length (told_ends rules list) ≡ length list
+  told_many list have =
+      sym (length-map (told_ends rules list) (λ (one : EndedRule). one.rule))
+      ∙ ap length (told_all_names list have)
+      ∙ length-map (numbers list) name_or
+      ∙ length-map list (λ (end : End). end.0)
 
   -- ---- and their verdicts
   one_good : (end : End) → EndsWell end → (more : List EndedRule) → AreGood more → (found : Option Rule) →
@@ -72,29 +103,34 @@ names_alike rules at (number ∷ numbers) named =
     ap (λ (one : Option RuleName). one ∷ map at numbers) (All-head Named number numbers named)
     ∙ ap (λ (more : List (Option RuleName)). name_in rules number ∷ more) (names_alike rules at numbers (All-tail Named number numbers named))
 
--- a front of good ones is good
-pub good_front : (front rest : List EndedRule) → AreGood (front ++ rest) → AreGood front
-good_front [] rest good = All-nil (λ (one : EndedRule). is_good (Some one.verdict) ≡ true)
-good_front (one ∷ front) rest good =
-    let Good : EndedRule → Type 0 = λ one. is_good (Some one.verdict) ≡ true in
-    All-cons Good one front (All-head Good one (front ++ rest) good) (good_front front rest (All-tail Good one (front ++ rest) good))
+-- all of a front have what all of a list have
+pub all_front : {A : Type 0} (P : A → Type 0) (front rest : List A) → All P (front ++ rest) → All P front
+all_front P [] rest have = All-nil P
+all_front P (one ∷ front) rest have = All-cons P one front (All-head P one (front ++ rest) have) (all_front P front rest (All-tail P one (front ++ rest) have))
 
--- ---- a bad one behind good ones
--- a bad one among some ends, of which only the last is bad, is that one, and nothing comes behind it
-pub only_last : (front xs ys : List End) (last end : End) → front ++ last ∷ [] ≡ xs ++ end ∷ ys → All EndsWell front → is_good (Some end.1) ≡ false → last ≡ end
-only_last [] [] ys last end same well bad = cc
-only_last [] (x ∷ xs) ys last end same well bad = let rest : [] ≡ xs ++ end ∷ ys = cc in absurd (not_empty xs rest)
+pub all_back : {A : Type 0} (P : A → Type 0) (front rest : List A) → All P (front ++ rest) → All P rest
+all_back P [] rest have = have
+all_back P (one ∷ front) rest have = all_back P front rest (All-tail P one (front ++ rest) have)
+
+-- a front of a list, of which a front is good, has a good front and no more behind it
+pub front_apart : (some rest front back : List EndedRule) → some ++ rest ≡ front ++ back → AreGood front
+    → (good left : List EndedRule) × (some ≡ good ++ left) × AreGood good × (length left ≤ length back)
+front_apart [] rest front back same well = ([], [], refl, All-nil (λ (one : EndedRule). is_good (Some one.verdict) ≡ true), omega arith)
+front_apart (one ∷ some) rest [] back same well =
+    let long : length back ≡ length (one ∷ some) + length rest = ap length (sym same) ∙ length-append (one ∷ some) rest in
+    ([], one ∷ some, refl, All-nil (λ (other : EndedRule). is_good (Some other.verdict) ≡ true), omega (arith, long))
+front_apart (one ∷ some) rest (first ∷ front) back same well =
+    let Good : EndedRule → Type 0 = λ other. is_good (Some other.verdict) ≡ true in
+    let here : first ≡ one = cc in
+    let more : some ++ rest ≡ front ++ back = cc in
+    by (subst Good here (All-head Good first front well)) (front_apart some rest front back more (All-tail Good first front well))
   where
-    not_empty : (xs : List End) → [] ≡ xs ++ end ∷ ys → ⊥
-    not_empty [] none = cc
-    not_empty (x ∷ xs) none = cc
-only_last (first ∷ front) [] ys last end same well bad =
-    let here : first ≡ end = cc in
-    absurd (true≢false (sym (All-head EndsWell first front well) ∙ ap (λ (e : End). is_good (Some e.1)) here ∙ bad))
-only_last (first ∷ front) (x ∷ xs) ys last end same well bad =
-    let rest : front ++ last ∷ [] ≡ xs ++ end ∷ ys = cc in
-    only_last front xs ys last end rest (All-tail EndsWell first front well) bad
+    by : is_good (Some one.verdict) ≡ true → ((good left : List EndedRule) × (some ≡ good ++ left) × AreGood good × (length left ≤ length back))
+        → (good left : List EndedRule) × (one ∷ some ≡ good ++ left) × AreGood good × (length left ≤ length back)
+    by well (good, left, are, fine, short) =
+        (one ∷ good, left, ap (λ (l : List EndedRule). one ∷ l) are, All-cons (λ (other : EndedRule). is_good (Some other.verdict) ≡ true) one good well fine, short)
 
+-- ---- a bad one among good ones
 -- each among good ones is Good
 pub good_among : (front back : List End) (end : End) → All EndsWell (front ++ end ∷ back) → is_good (Some end.1) ≡ true
 good_among [] back end well = All-head EndsWell end back well
@@ -128,25 +164,25 @@ module _ (rules : List Rule) where
       ∙ ap (λ (found : Option Rule). cons_option (option_map (λ (rule : Rule). record { rule = name_of rule; label = label_of rule; verdict = verdict }) found) []) none
 
   -- what was told, and what is still to be told
-  abbrev pub IsTelling : List EndedRule → List CoreEvent → List CoreEvent → Option ℕ → List EndedRule → Type 0
-  IsTelling old history left running ended = ended ++ told_ends rules (ends_from running left) ≡ old ++ told_ends rules (ends history)
+  abbrev pub IsTelling : List EndedRule → List CoreEvent → List CoreEvent → List (Option ℕ) → List EndedRule → Type 0
+  IsTelling old history left claimed ended = ended ++ told_ends rules (ends_from claimed left) ≡ old ++ told_ends rules (ends history)
 
-  module _ (old : List EndedRule) (history rest : List CoreEvent) (event : CoreEvent) (running : Option ℕ) (ended : List EndedRule) (telling : IsTelling old history (event ∷ rest) running ended) where
-    pub tells_claim : (seat number : ℕ) → event ≡ Claim seat number → IsTelling old history rest (Some number) ended
-    tells_claim seat number is = subst (λ (e : CoreEvent). IsTelling old history (e ∷ rest) running ended) is telling
+  module _ (old : List EndedRule) (history rest : List CoreEvent) (event : CoreEvent) (claimed : List (Option ℕ)) (ended : List EndedRule) (telling : IsTelling old history (event ∷ rest) claimed ended) where
+    pub tells_claim : (seat number : ℕ) → event ≡ Claim seat number → IsTelling old history rest (slice_set claimed seat (Some number)) ended
+    tells_claim seat number is = subst (λ (e : CoreEvent). IsTelling old history (e ∷ rest) claimed ended) is telling
 
-    pub tells_finish : (seat : ℕ) (verdict : Verdict) (writes : List (Names × Stamp)) → event ≡ Finish seat verdict writes → (new : List EndedRule) → new ≡ ended ++ told_ends rules (ends_at running verdict []) →
-        IsTelling old history rest running new
-    tells_finish seat verdict writes is new more =
-        ap (λ (l : List EndedRule). l ++ told_ends rules (ends_from running rest)) more
-        ∙ append_assoc ended (told_ends rules (ends_at running verdict [])) (told_ends rules (ends_from running rest))
-        ∙ ap (λ (l : List EndedRule). ended ++ l) (sym (told_at running verdict (ends_from running rest)))
-        ∙ subst (λ (e : CoreEvent). IsTelling old history (e ∷ rest) running ended) is telling
+    pub tells_finish : (seat : ℕ) (verdict : Verdict) (writes : List (Names × Stamp)) → event ≡ Finish seat verdict writes → (number : Option ℕ) → number ≡ claimed_by claimed seat → (new : List EndedRule)
+        → new ≡ ended ++ told_ends rules (ends_at number verdict []) → IsTelling old history rest claimed new
+    tells_finish seat verdict writes is number is_it new more =
+        ap (λ (l : List EndedRule). l ++ told_ends rules (ends_from claimed rest)) (more ∙ ap (λ (n : Option ℕ). ended ++ told_ends rules (ends_at n verdict [])) is_it)
+        ∙ append_assoc ended (told_ends rules (ends_at (claimed_by claimed seat) verdict [])) (told_ends rules (ends_from claimed rest))
+        ∙ ap (λ (l : List EndedRule). ended ++ l) (sym (told_at (claimed_by claimed seat) verdict (ends_from claimed rest)))
+        ∙ subst (λ (e : CoreEvent). IsTelling old history (e ∷ rest) claimed ended) is telling
 
-    pub tells_other : ((seat number : ℕ) → event ≡ Claim seat number → ⊥) → ((seat : ℕ) (verdict : Verdict) (writes : List (Names × Stamp)) → event ≡ Finish seat verdict writes → ⊥) → IsTelling old history rest running ended
+    pub tells_other : ((seat number : ℕ) → event ≡ Claim seat number → ⊥) → ((seat : ℕ) (verdict : Verdict) (writes : List (Names × Stamp)) → event ≡ Finish seat verdict writes → ⊥) → IsTelling old history rest claimed ended
     tells_other claim finish = by event refl telling
       where
-        by : (it : CoreEvent) → event ≡ it → IsTelling old history (it ∷ rest) running ended → IsTelling old history rest running ended
+        by : (it : CoreEvent) → event ≡ it → IsTelling old history (it ∷ rest) claimed ended → IsTelling old history rest claimed ended
         by (Claim seat number) is same = absurd (claim seat number is)
         by (Ask seat text answer) is same = same
         by (Deny seat text verdict) is same = same

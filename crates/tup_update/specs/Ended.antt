@@ -1,5 +1,5 @@
--- What came of the commands of a history in which one rule runs at a time (own).
-use Rattle.std.specs.Prelude.{◌≡◌, ℕ, List, [], ◌∷◌, ◌++◌, Option, None, Some, slice_get}
+-- What came of the commands of a history (own).
+use Rattle.std.specs.Prelude.{◌≡◌, ℕ, List, [], ◌∷◌, ◌++◌, Option, None, Some, replicate, slice_get, slice_index_or, slice_set}
 use Rattle.std.specs.List.{cons_option, filter_map}
 use Rattle.std.specs.Option.{option_map}
 use Rattle.tup_access.specs.declared.verdict.Verdict.{Verdict}
@@ -11,23 +11,31 @@ use Rattle.tup_promise.specs.declared.log.EndedRule.{EndedRule}
 use Rattle.tup_promise.specs.declared.stop.Stop.{Stop as WhyStopped}
 use Rattle.tup_promise.specs.declared.stop.Stop.TheVariants.{Bad}
 
+-- what a seat claimed last, of a list that has that for each seat
+abbrev pub claimed_by : List (Option ℕ) → ℕ → Option ℕ
+claimed_by claimed seat = slice_index_or claimed seat None
+
+-- none of the 16 seats has claimed a rule
+abbrev pub nothing_claimed : List (Option ℕ)
+nothing_claimed = replicate 16 None
+
 -- a command has ended with this verdict, before these
 abbrev pub ends_at : Option ℕ → Verdict → List (ℕ × Verdict) → List (ℕ × Verdict)
-ends_at running verdict more = cons_option (option_map (λ number. (number, verdict)) running) more
+ends_at number verdict more = cons_option (option_map (λ at. (at, verdict)) number) more
 
--- The commands that ended, in their order: the number of each one's rule, and its verdict. At first the rule of this number
--- runs, if any does.
-abbrev pub ends_from : Option ℕ → List CoreEvent → List (ℕ × Verdict)
-ends_from running [] = []
-ends_from running (Claim seat number ∷ events) = ends_from (Some number) events
-ends_from running (Ask seat text answer ∷ events) = ends_from running events
-ends_from running (Deny seat text verdict ∷ events) = ends_from running events
-ends_from running (Finish seat verdict writes ∷ events) = ends_at running verdict (ends_from running events)
-ends_from running (Stop seat cause ∷ events) = ends_from running events
+-- The commands that ended, in the order of their ends: the number of each one's rule, which is what its seat claimed last, and its
+-- verdict. The list has what each seat had claimed before.
+abbrev pub ends_from : List (Option ℕ) → List CoreEvent → List (ℕ × Verdict)
+ends_from claimed [] = []
+ends_from claimed (Claim seat number ∷ events) = ends_from (slice_set claimed seat (Some number)) events
+ends_from claimed (Ask seat text answer ∷ events) = ends_from claimed events
+ends_from claimed (Deny seat text verdict ∷ events) = ends_from claimed events
+ends_from claimed (Finish seat verdict writes ∷ events) = ends_at (claimed_by claimed seat) verdict (ends_from claimed events)
+ends_from claimed (Stop seat cause ∷ events) = ends_from claimed events
 
 -- the same of a whole history
 abbrev pub ends : List CoreEvent → List (ℕ × Verdict)
-ends events = ends_from None events
+ends events = ends_from nothing_claimed events
 
 -- what is told of a command that ended
 abbrev pub told_of : List Rule → ℕ × Verdict → Option EndedRule

@@ -1,4 +1,5 @@
 pub mod Names
 pub mod Run
 pub mod Promised
+pub mod Because
 pub mod Ended

@@ -1,5 +1,5 @@
 -- What running the rules promises, where the graph was up to date before (own).
-use Rattle.std.specs.Prelude.{◌≡◌, Bool, List, Option, None, IsTrue}
+use Rattle.std.specs.Prelude.{◌≡◌, ℕ, Bool, List, Option, None, IsTrue}
 use Rattle.tup_site.specs.declared.site.Site.{Ghosts as Site}
 use Rattle.tup_rule.specs.declared.rule.RuleName.{RuleName}
 use Rattle.tup_runner.specs.Next.{Next}
@@ -24,10 +24,10 @@ pub record WasPrepared {S : Type 0} (site : Site S) (next : Next) (old : S) (gra
   pub states : KeepsStates (site.world old) graph.nodes
   pub stored : OfGraph (site.world at) (KeepsStates (site.world old))
 
--- what an update leaves of a kept site, and which rules it ran, by its answer
-pub record Promises {S R : Type 0} (site : Site S) (runner : Runner R) (keep_going : Bool) (old new : S) (ran : List RuleName) (stopped : Option Stop) : Type 0 where
+-- what an update by so many runners leaves of a kept site, and which rules it ran, by its answer
+pub record Promises {S R : Type 0} (site : Site S) (runner : Runner R) (keep_going : Bool) (jobs : ℕ) (old new : S) (ran : List RuleName) (stopped : Option Stop) : Type 0 where
   pub files : ExactlyTheFiles runner.next (site.world old) (site.world new) stopped
-  pub needed : OnlyWhatIsNeeded runner.next keep_going (site.world old) (site.world new) ran stopped
+  pub needed : OnlyWhatIsNeeded runner.next keep_going jobs (site.world old) (site.world new) ran stopped
   pub crashes : SourcesAndCrashes site runner.next old new
   pub states : States runner.next (site.world old) (site.world new)
   pub blamed : IsToBlame runner.next (site.world old) (site.world new) ran stopped
@@ -36,9 +36,9 @@ pub record Promises {S R : Type 0} (site : Site S) (runner : Runner R) (keep_goi
   pub settled : stopped ≡ None → IsSettled site new
 
 -- that is promised where the graph over the site was up to date, and site and runner tell
-abbrev pub PromisesOver : {S R : Type 0} → Site S → Runner R → Bool → Held → S → S → List RuleName → Option Stop → Type 0
-PromisesOver {S} site runner keep_going graph at new ran stopped =
-    (old : S) → IsTrue site.tells → IsTrue runner.tells → WasPrepared site runner.next old graph at → Promises site runner keep_going old new ran stopped
+abbrev pub PromisesOver : {S R : Type 0} → Site S → Runner R → Bool → ℕ → Held → S → S → List RuleName → Option Stop → Type 0
+PromisesOver {S} site runner keep_going jobs graph at new ran stopped =
+    (old : S) → IsTrue site.tells → IsTrue runner.tells → WasPrepared site runner.next old graph at → Promises site runner keep_going jobs old new ran stopped
 
 -- and the sources stay then, whatever the runner is
 abbrev pub KeepsSources : {S : Type 0} → Site S → Held → S → S → Type 0

@@ -1,5 +1,5 @@
 -- What running the rules of a plan comes to (own).
-use Rattle.std.specs.Prelude.{◌≡◌, ◌⊎◌, ◌≤◌, ◌<◌, ⊤, ℕ, false, List, Option, None, Some, All, slice_get}
+use Rattle.std.specs.Prelude.{◌≡◌, ◌⊎◌, ◌≤◌, ◌<◌, ⊤, ℕ, false, List, Option, None, Some, slice_get}
 use Rattle.tup_stamp.specs.declared.Stamp.{Stamp}
 use Rattle.tup_path.specs.Name.{Names}
 use Rattle.tup_site.specs.declared.fault.SiteFailed.TheVariants.{Fault, TooLarge, Memory}
@@ -8,7 +8,7 @@ use Rattle.tup_rule.specs.declared.rule.RuleName.{RuleName}
 use Rattle.tup_rule.specs.Rule.{name_of}
 use Rattle.tup_access.specs.declared.verdict.Verdict.{Verdict}
 use Rattle.tup_clean.specs.Clean.{is_good}
-use Rattle.tup_core.specs.Run.{IsRun, end_of, seat_of}
+use Rattle.tup_core.specs.Run.{IsRun, end_of}
 use Rattle.tup_core.specs.Step.{opening}
 use Rattle.tup_core.specs.declared.event.Cause.TheVariants as cause
 use Rattle.tup_core.specs.declared.event.CoreEvent.{CoreEvent}
@@ -20,10 +20,10 @@ use Rattle.tup_promise.specs.declared.stop.Stop.TheVariants.{NoStore, BadStore, 
 use Rattle.tup_update.specs.declared.ended.BadRule.{BadRule}
 
 -- ---- the first bad verdict
--- the verdicts of a run of the core at one seat that aren't Good have this property
+-- the verdicts of a run of the core that aren't Good have this property
 abbrev pub OfBads : Plan → List CoreEvent → ((ℕ → Option Verdict) → Type 0) → Type 0
 OfBads plan events Property =
-    (files : List (Names × Stamp)) → IsRun plan (opening plan files) events → All (λ event. seat_of event ≡ 0) events → Property (end_of plan (opening plan files) events).bad
+    (files : List (Names × Stamp)) → IsRun plan (opening plan files) events → Property (end_of plan (opening plan files) events).bad
 
 -- the command of the rule at a place is the first in the order of the rules that came to a bad verdict
 pub record IsFirstBad (rules : List Rule) (bad : ℕ → Option Verdict) (at : ℕ) (rule : Rule) (verdict : Verdict) : Type 0 where

@@ -1,11 +1,11 @@
 //! What became of the commands of an update.
-ghost use Rattle.std.specs.Prelude.{◌≡◌, ◌≢◌, false, IfOk, IfErr, IfSome, Some, slice_get, ◌++◌, [], OnErr, OnOk};
+ghost use Rattle.std.specs.Prelude.{◌≡◌, ◌≢◌, ℕ, false, IfOk, IfErr, IfSome, Some, slice_get, slice_set, ◌++◌, [], OnErr, OnOk};
 ghost use Rattle.tup_rule.specs.Rule.{label_of, name_of as name_in};
 ghost use Rattle.tup_rule.specs.declared.rule.Rule.{Rule as RuleValue};
 ghost use Rattle.tup_access.specs.declared.verdict.Verdict.TheVariants.{Good};
 ghost use Rattle.tup_clean.specs.Clean.{is_good};
 ghost use Rattle.tup_promise.specs.Stopped.{no_memory};
-ghost use Rattle.tup_update.specs.Ended.{TellsAll, TellsFor, TellsFront, ends, ends_at, told_ends};
+ghost use Rattle.tup_update.specs.Ended.{TellsAll, TellsFor, TellsFront, claimed_by, ends, ends_at, told_ends};
 ghost use Rattle.tup_update.specs.Run.{IsBadRule, IsEnd, IsLower, IsLowest, OfBads, StopsBy};
 
 use crate::names::name_of;
@@ -18,8 +18,11 @@ use tup_promise::{EndedRule, Stop};
 use tup_rule::Rule;
 use tup_site::SiteFailed;
 
-/// Why an update stopped that ended so on a board, where all happened at one seat. What became of its commands is added in
-/// their order, as far as there is memory. Want of it is answered unless something else stopped the update.
+/// How many seats there are.
+const SEATS: usize = 16;
+
+/// Why an update stopped that ended so on a board. What became of its commands is added in the order in which they ended, as
+/// far as there is memory. Want of it is answered unless something else stopped the update.
 pub(crate) fn stopped_by(
     alloc: Global,
     plan: &Plan,
@@ -74,7 +77,7 @@ fn told(
     }
 }
 
-/// Adds what became of the commands, in their order.
+/// Adds what became of the commands, in the order in which they ended.
 fn add_ended(
     alloc: Global,
     rules: &[Rule],
@@ -86,12 +89,12 @@ fn add_ended(
     ensures all { let told = told_ends rules.now (ends history.now) in
         OnOk result (TellsAll told ended.old ended.new) }
 {
-    let mut running = None;
+    let mut claimed = [None; SEATS];
     for event in history {
         match event {
-            CoreEvent::Claim { rule, .. } => running = Some(*rule),
-            CoreEvent::Finish { verdict, .. } => {
-                add_verdict(alloc, rules, running, verdict, ended)?;
+            CoreEvent::Claim { seat, rule } => claim_at(&mut claimed, *seat, *rule),
+            CoreEvent::Finish { seat, verdict, .. } => {
+                add_verdict(alloc, rules, claimed_at(&claimed, *seat), verdict, ended)?;
             }
             _ => {}
         }
@@ -99,22 +102,42 @@ fn add_ended(
     Ok(())
 }
 
-/// Adds what became of the command that was begun last.
+/// A seat has claimed this rule, of what each seat claimed last.
+fn claim_at(claimed: &mut [Option<u32>], seat: u32, rule: u32)
+    ensures { claimed.new ≡ slice_set claimed.old seat (Some rule) }
+{
+    let at = seat as usize;
+    if at < claimed.len() {
+        claimed[at] = Some(rule);
+    }
+}
+
+/// What a seat claimed last.
+fn claimed_at(claimed: &[Option<u32>], seat: u32) -> Option<u32>
+    ensures { result ≡ claimed_by claimed.now seat }
+{
+    match claimed.get(seat as usize) {
+        Some(last) => *last,
+        None => None,
+    }
+}
+
+/// Adds what became of the command of a rule, if there is one.
 fn add_verdict(
     alloc: Global,
     rules: &[Rule],
-    running: Option<u32>,
+    number: Option<u32>,
     verdict: &Verdict,
     ended: &mut Items<EndedRule>,
 ) -> Result<(), AllocError>
     ensures ok { OnOk result
-        (ended.new ≡ ended.old ++ told_ends rules.now (ends_at running verdict.now [])) }
+        (ended.new ≡ ended.old ++ told_ends rules.now (ends_at number verdict.now [])) }
     ensures err { OnErr result (ended.new ≡ ended.old) }
 {
-    let Some(number) = running else {
+    let Some(at) = number else {
         return Ok(());
     };
-    match rules.get(number as usize) {
+    match rules.get(at as usize) {
         Some(rule) => Ok(ended.push(ended_rule(alloc, rule, verdict)?)?),
         None => Ok(()),
     }
@@ -143,19 +166,19 @@ struct BadRule<'a> {
     verdict: &'a Verdict,
 }
 
-/// The first rule in the order of the rules whose command came to a bad verdict, where all happened at one seat.
+/// The first rule in the order of the rules whose command came to a bad verdict.
 fn first_bad<'a>(plan: &'a Plan, history: &'a [CoreEvent]) -> Option<BadRule<'a>>
     ensures lowest { OfBads plan.now history.now (λ bad. IsLowest plan.now.rules bad result) }
     ensures bad { IfSome result (λ one. is_good (Some one.verdict.now) ≡ false) }
 {
     let rules = plan.rules.as_slice();
-    let mut running = 0;
+    let mut claimed = [None; SEATS];
     let mut first = None;
     for event in history {
         match event {
-            CoreEvent::Claim { rule, .. } => running = *rule,
-            CoreEvent::Finish { verdict, .. } => {
-                first = lower(first, bad_at(rules, running, verdict));
+            CoreEvent::Claim { seat, rule } => claim_at(&mut claimed, *seat, *rule),
+            CoreEvent::Finish { seat, verdict, .. } => {
+                first = lower(first, bad_at(rules, claimed_at(&claimed, *seat), verdict));
             }
             _ => {}
         }
@@ -164,19 +187,23 @@ fn first_bad<'a>(plan: &'a Plan, history: &'a [CoreEvent]) -> Option<BadRule<'a>
 }
 
 /// The rule with this number, where the verdict is bad.
-fn bad_at<'a>(rules: &'a [Rule], number: u32, verdict: &'a Verdict) -> Option<BadRule<'a>>
+fn bad_at<'a>(rules: &'a [Rule], number: Option<u32>, verdict: &'a Verdict) -> Option<BadRule<'a>>
     ensures good { verdict.now ≡ Good → result ≡ None }
-    ensures bad { verdict.now ≢ Good → (rule : RuleValue) → slice_get rules.now number ≡ Some rule
-        → IsBadRule number rule verdict.now result }
+    ensures bad { verdict.now ≢ Good → (at : ℕ) (rule : RuleValue) → number ≡ Some at
+        → slice_get rules.now at ≡ Some rule → IsBadRule at rule verdict.now result }
     ensures is_bad { IfSome result (λ one. is_good (Some one.verdict.now) ≡ false) }
 {
     match verdict {
         Verdict::Good => None,
-        _ => Some(BadRule {
-            number,
-            rule: rules.get(number as usize)?,
-            verdict,
-        }),
+        _ => {
+            let number = number?;
+            let rule = rules.get(number as usize)?;
+            Some(BadRule {
+                number,
+                rule,
+                verdict,
+            })
+        }
     }
 }
 

@@ -5,9 +5,11 @@
 //! written.
 #![tactic(auto)]
 
+mod because;
+mod by_rule;
 mod ended;
 mod names;
 mod run;
 mod update;
 
-pub use update::{Updated, update_site};
+pub use update::{Asked, Updated, update_site};

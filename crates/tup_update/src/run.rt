@@ -1,9 +1,10 @@
 //! The rules that are run.
-ghost use Rattle.std.specs.Prelude.{◌≡◌, ℕ, List, [], Some, false, map, IfSome, IsTrue};
+ghost use Rattle.std.specs.Prelude.{◌≡◌, ℕ, List, [], None, Some, false, map, nat_eq, is_some, IfOk, IfSome, IsTrue};
+ghost use Rattle.std.specs.List.{AllZip, IsDistinct};
 ghost use Rattle.tup_path.specs.Name.{Names as PathNames};
 ghost use Rattle.tup_stamp.specs.declared.Stamp.{Stamp as StampValue};
 ghost use Rattle.tup_site.specs.declared.fault.SiteFailed.TheVariants.{Memory};
-ghost use Rattle.tup_graph.specs.Graph.{is_flagged};
+ghost use Rattle.tup_graph.specs.Graph.{GraphState, is_flagged};
 ghost use Rattle.tup_stored_graph.specs.Held.{is_fresh, StandsFor};
 ghost use Rattle.tup_core.specs.Run.{IsRun, claims};
 ghost use Rattle.tup_core.specs.Sound.{IsInRange};
@@ -16,25 +17,30 @@ ghost use Rattle.tup_phases.specs.Logged.{BeginsNone, IsLogged};
 ghost use Rattle.tup_promise.specs.Ran.{RunsThese, command_of};
 ghost use Rattle.tup_promise.specs.declared.stop.Stop.TheVariants.{Outside};
 ghost use Rattle.tup_phases.specs.Prepared.{HasSeen};
+ghost use Rattle.tup_update.specs.Because.{AreChainsOf, AreSaid, SaysWhy};
 ghost use Rattle.tup_update.specs.Ended.{TellsFor, ends, told_ends};
-ghost use Rattle.tup_update.specs.Names.{AreNamesOf, name_in};
+ghost use Rattle.tup_update.specs.Names.{AreNamesOf, IsReadyFor, name_in, value_at};
 ghost use Rattle.tup_update.specs.Promised.{KeepsSources, PromisesOver};
 ghost use Rattle.tup_update.specs.Run.{OfBads, StopsBy, StopsRunning};
 
+use crate::because::chains_of;
+use crate::by_rule::ByRule;
 use crate::ended::stopped_by;
-use crate::names::Names;
-use crate::update::Updated;
-use std::alloc::Global;
+use crate::names::names_of;
+use crate::update::{Asked, Updated};
+use std::alloc::{AllocError, Global};
 use tup_apart::plan_over;
 use tup_board::{Board, BoardParts, Drained};
-use tup_core::{Plan, claimed_once};
+use tup_core::{CoreEvent, Plan, claimed_once};
 use tup_ends::{
     bad_ran_all_it_could, bad_rules_are_bad, bad_stands_last, boards_are_kept,
     boards_leave_crashes, boards_leave_sources, boards_leave_states, done_is_finished,
     done_is_settled, done_ran_all, prepared_is_finished, prepared_is_settled, ran_what_was_due,
 };
 use tup_graph::Nodes;
+use tup_path::{Items, Text};
 use tup_promise::{Log, Stop};
+use tup_rule::RuleName;
 use tup_runner::Runner;
 use tup_site::{Site, SiteFailed};
 use tup_stored_graph::Graph;
@@ -45,7 +51,7 @@ pub(crate) fn run_flagged<S: Site, R: Runner>(
     site: S,
     graph: Graph,
     runner: &mut R,
-    keep_going: bool,
+    asked: Asked,
     log: Log,
 ) -> Updated<S>
     requires fresh { IsTrue (is_fresh graph) }
@@ -53,15 +59,16 @@ pub(crate) fn run_flagged<S: Site, R: Runner>(
         → StandsFor S.world S.moment S.left_since graph site }
     requires seen { IsTrue S.tells → HasSeen graph.nodes (S.world site).tree }
     requires none { BeginsNone log }
-    ensures logged { IsLogged keep_going result.log result.stopped }
+    ensures logged { IsLogged 1 asked.keep_going result.log result.stopped }
     ensures stops { IfSome result.stopped StopsRunning }
-    ensures promised { PromisesOver S.Site.own R.Runner.own keep_going
+    ensures promised { PromisesOver S.Site.own R.Runner.own asked.keep_going 1
         graph site result.site result.log.ran result.stopped }
     ensures sources { KeepsSources S.Site.own graph site result.site }
     ensures counted { HasCountedCause (S.faults site) (S.faults result.site) result.stopped }
     ensures cause { HasRunCause (R.faults runner.old) (R.faults runner.new) result.stopped }
     ensures ran { IsTrue R.tells_ran
         → RunsThese result.log.ran (R.ran runner.old) (R.ran runner.new) result.stopped }
+    ensures said { AreSaid asked.explain graph.nodes result.log.ran result.because }
 {
     prepared_is_finished(&site);
     prepared_is_settled(&site);
@@ -69,12 +76,13 @@ pub(crate) fn run_flagged<S: Site, R: Runner>(
         return Updated {
             site,
             log,
+            because: Items::new(alloc),
             stopped: None,
         };
     }
-    match plan_over(alloc, &graph, keep_going) {
-        Ok(Some(plan)) => run_plan(alloc, site, graph, &plan, runner, log),
-        _ => without_memory(site, log),
+    match plan_over(alloc, &graph, asked.keep_going) {
+        Ok(Some(plan)) => run_plan(alloc, site, graph, &plan, runner, asked.explain, log),
+        _ => without_memory(alloc, site, log),
     }
 }
 
@@ -92,6 +100,7 @@ fn run_plan<S: Site, R: Runner>(
     graph: Graph,
     plan: &Plan,
     runner: &mut R,
+    explain: bool,
     log: Log,
 ) -> Updated<S>
     requires fresh { IsTrue (is_fresh graph) }
@@ -100,23 +109,45 @@ fn run_plan<S: Site, R: Runner>(
     requires seen { IsTrue S.tells → HasSeen graph.nodes (S.world site).tree }
     requires may_run { MayRun graph.nodes plan.now }
     requires none { BeginsNone log }
-    ensures logged { IsLogged plan.now.keep_going result.log result.stopped }
+    ensures logged { IsLogged 1 plan.now.keep_going result.log result.stopped }
     ensures stops { IfSome result.stopped StopsRunning }
-    ensures promised { PromisesOver S.Site.own R.Runner.own plan.now.keep_going
+    ensures promised { PromisesOver S.Site.own R.Runner.own plan.now.keep_going 1
         graph site result.site result.log.ran result.stopped }
     ensures sources { KeepsSources S.Site.own graph site result.site }
     ensures counted { HasCountedCause (S.faults site) (S.faults result.site) result.stopped }
     ensures cause { HasRunCause (R.faults runner.old) (R.faults runner.new) result.stopped }
     ensures ran { IsTrue R.tells_ran
         → RunsThese result.log.ran (R.ran runner.old) (R.ran runner.new) result.stopped }
+    ensures said { AreSaid explain graph.nodes result.log.ran result.because }
 {
-    let Ok(names) = Names::of(alloc, plan) else {
-        return without_memory(site, log);
+    let Ok(known) = known_of(alloc, graph.nodes(), plan, explain) else {
+        return without_memory(alloc, site, log);
     };
     match Board::new(alloc, site, graph, plan) {
-        Ok(board) => run_board(alloc, board, plan, names, runner, log),
-        Err((site, _, _)) => without_memory(site, log),
+        Ok(board) => run_board(alloc, board, plan, known, runner, log),
+        Err((site, _, _)) => without_memory(alloc, site, log),
     }
+}
+
+/// What is known of the rules of a plan before the first is run: their names, and where they are asked for the chains of
+/// their reasons.
+#[derive(Drop)]
+struct Known {
+    names: ByRule<RuleName>,
+    chains: Option<ByRule<Option<Text>>>,
+}
+
+/// The same of this plan.
+fn known_of(alloc: Global, nodes: &Nodes, plan: &Plan, explain: bool) -> Result<Known, AllocError>
+    requires { IsInRange plan.now }
+    ensures names { IfOk result (λ known. AreNamesOf plan.now known.names) }
+    ensures asked { IfOk result (λ known. is_some known.chains ≡ explain) }
+    ensures chains { IfOk result
+        (λ known. IfSome known.chains (AreChainsOf nodes.now plan.now)) }
+{
+    let names = names_of(alloc, plan)?;
+    let chains = chains_of(alloc, nodes, plan, explain)?;
+    Ok(Known { names, chains })
 }
 
 /// Runs the rules of a board at its opening, and tells the log of them.
@@ -124,19 +155,20 @@ fn run_board<S: Site, R: Runner>(
     alloc: Global,
     mut board: Board<S, R>,
     plan: &Plan,
-    names: Names,
+    known: Known,
     runner: &mut R,
     log: Log,
 ) -> Updated<S>
     requires opening { board ≡ opened_as plan.now board.opening.graph board.opening.site }
     requires range { IsInRange plan.now }
     requires once { OutputsOnce plan.now.rules }
-    requires names { AreNamesOf plan.now names }
+    requires names { AreNamesOf plan.now known.names }
+    requires chains { IfSome known.chains (IsReadyFor plan.now.reach) }
     requires none { log.ended ≡ [] }
-    ensures logged { IsLogged plan.now.keep_going result.log result.stopped }
+    ensures logged { IsLogged 1 plan.now.keep_going result.log result.stopped }
     ensures stops { IfSome result.stopped StopsRunning }
     ensures promised { let opening = board.opening in
-        PromisesOver S.Site.own R.Runner.own plan.now.keep_going
+        PromisesOver S.Site.own R.Runner.own plan.now.keep_going 1
         opening.graph opening.site result.site result.log.ran result.stopped }
     ensures sources { let opening = board.opening in
         KeepsSources S.Site.own opening.graph opening.site result.site }
@@ -145,6 +177,9 @@ fn run_board<S: Site, R: Runner>(
     ensures cause { HasRunCause (R.faults runner.old) (R.faults runner.new) result.stopped }
     ensures ran { IsTrue R.tells_ran
         → RunsThese result.log.ran (R.ran runner.old) (R.ran runner.new) result.stopped }
+    ensures unasked { known.chains ≡ None → result.because ≡ [] }
+    ensures why { (g : GraphState) → IfSome known.chains (λ chains. AreChainsOf g plan.now chains
+        → AllZip (SaysWhy g plan.now) result.log.ran result.because) }
 {
     let drained = board.drain(alloc, plan, runner);
     let parts = board.into_parts();
@@ -161,7 +196,7 @@ fn run_board<S: Site, R: Runner>(
     bad_ran_all_it_could(&parts.site, &*runner);
     bad_stands_last(&parts.site, &*runner);
     bad_rules_are_bad(&parts.site, &*runner);
-    told(alloc, plan, parts, drained, names, log)
+    told(alloc, plan, parts, drained, known, log)
 }
 
 /// Tells the log what happened on a board.
@@ -170,12 +205,13 @@ fn told<S: Site>(
     plan: &Plan,
     parts: BoardParts<S>,
     drained: Drained,
-    names: Names,
+    known: Known,
     mut log: Log,
 ) -> Updated<S>
     requires run { (files : List (PathNames × StampValue)) × IsRun plan.now (opening plan.now files) parts.history }
     requires range { IsInRange plan.now }
-    requires names { AreNamesOf plan.now names }
+    requires names { AreNamesOf plan.now known.names }
+    requires chains { IfSome known.chains (IsReadyFor plan.now.reach) }
     requires none { log.ended ≡ [] }
     ensures stops { OfBads plan.now parts.history
         (StopsBy plan.now.rules drained result.stopped) }
@@ -185,27 +221,52 @@ fn told<S: Site>(
         TellsFor told [] result.log.ended result.stopped }
     ensures named { map Some result.log.ran
         ≡ map (name_in plan.now.rules) (claims parts.history) }
+    ensures unasked { known.chains ≡ None → result.because ≡ [] }
+    ensures why { (g : GraphState) → IfSome known.chains (λ chains. AreChainsOf g plan.now chains
+        → AllZip (SaysWhy g plan.now) result.log.ran result.because) }
 {
     claimed_once();
     let history = parts.history.as_slice();
-    log.ran = names.claimed(history);
+    log.ran = known.names.claimed(history);
+    let because = claimed_chains(alloc, known.chains, history);
     let stopped = stopped_by(alloc, plan, history, drained, &mut log.ended);
     Updated {
         site: parts.site,
         log,
+        because,
         stopped,
     }
 }
 
+/// The chains of the rules that were begun, in their order, where they are asked for.
+fn claimed_chains(
+    alloc: Global,
+    chains: Option<ByRule<Option<Text>>>,
+    history: &[CoreEvent],
+) -> Items<Option<Text>>
+    requires once { IsDistinct nat_eq (claims history.now) }
+    requires ready { IfSome chains (IsReadyFor (claims history.now)) }
+    ensures none { chains ≡ None → result ≡ [] }
+    ensures claimed { IfSome chains (λ chains.
+        map Some result ≡ map (value_at chains) (claims history.now)) }
+{
+    match chains {
+        Some(chains) => chains.claimed(history),
+        None => Items::new(alloc),
+    }
+}
+
 /// An update for which there was no memory before any rule was run.
-fn without_memory<S: Site>(site: S, log: Log) -> Updated<S>
+fn without_memory<S: Site>(alloc: Global, site: S, log: Log) -> Updated<S>
     ensures site { result.site ≡ site }
     ensures log { result.log ≡ log }
+    ensures because { result.because ≡ [] }
     ensures stopped { result.stopped ≡ Some (Outside Memory) }
 {
     Updated {
         site,
         log,
+        because: Items::new(alloc),
         stopped: Some(Stop::Outside(SiteFailed::Memory)),
     }
 }

@@ -16,31 +16,48 @@ ghost use Rattle.tup_promise.specs.Ran.{RunsThese};
 ghost use Rattle.tup_promise.specs.States.{States};
 ghost use Rattle.tup_promise.specs.Unopened.{IsReadable, Unopened};
 ghost use Rattle.tup_promise.specs.Users.{HasUsersFile, IsHeldUp};
+ghost use Rattle.tup_update.specs.Because.{AreExplained, CountsChains};
 
 use crate::run::run_flagged;
 use std::alloc::Global;
+use tup_path::{Items, Text};
 use tup_phases::prepared;
 use tup_promise::{Log, Stop};
 use tup_runner::Runner;
 use tup_site::Site;
+use tup_why::none_waits_for_itself;
+
+/// What is asked of an update.
+#[derive(Clone, Copy)]
+pub struct Asked {
+    /// Whether it goes on after a bad command.
+    pub keep_going: bool,
+    /// Whether it says why each rule was run.
+    pub explain: bool,
+}
 
 /// What an update did, the site as it left it, and why it stopped before its end, if it did.
 #[derive(Drop)]
 pub struct Updated<S: Site> {
     pub site: S,
     pub log: Log,
+    /// Why the rules of `log.ran` were run, where that was asked for: the chain of a reason of each, in their order.
+    pub because: Items<Option<Text>>,
     pub stopped: Option<Stop>,
 }
 
 /// Updates the files of a site: opens the store, reads the Tupfiles that have to be read, removes the files that no rule
 /// makes any more, and has the runner run the rules that have to be run, one after another.
 ///
+/// Where it is asked why, it says of each rule that was run the chain of a reason: from a changed file, a new rule or an
+/// unfinished one to that rule.
+///
 /// At a bad verdict it stops, or goes on with the rules that don't need that one. What was made by then stays made.
 pub fn update_site<S: Site, R: Runner>(
     alloc: Global,
     mut site: S,
     runner: &mut R,
-    keep_going: bool,
+    asked: Asked,
 ) -> Updated<S>
     // Whatever the store is: where it is empty or can't be read nothing is done, and it is told exactly there.
     ensures unopened { IsTrue S.tells
@@ -54,7 +71,7 @@ pub fn update_site<S: Site, R: Runner>(
         → ExactlyTheFiles R.next (S.world site) (S.world result.site) result.stopped }
     ensures only_what_is_needed { KeptHere S.Site.own R.Runner.own site
         → let old = S.world site in let new = S.world result.site in
-        OnlyWhatIsNeeded R.next keep_going old new result.log.ran result.stopped }
+        OnlyWhatIsNeeded R.next asked.keep_going 1 old new result.log.ran result.stopped }
     ensures sources_and_crashes { KeptHere S.Site.own R.Runner.own site
         → SourcesAndCrashes S.Site.own R.next site result.site }
     ensures states { KeptHere S.Site.own R.Runner.own site
@@ -72,24 +89,30 @@ pub fn update_site<S: Site, R: Runner>(
     // Nor is a file of the user's touched at a path that no rule makes: it holds the update up.
     ensures users { IsTrue S.tells → IsKeptBySome S.Site.own site → HasUsersFile (S.world site)
         → IsHeldUp S.Site.own site result.site result.log.ran result.stopped }
+    // And where it is asked why, each rule that was begun has the chain of a reason that holds.
+    ensures why { IsTrue S.tells → IsKeptBySome S.Site.own site → IsTrue asked.explain
+        → AreExplained S.Site.own site result.log.ran result.because }
     // And where the sources have a fault, or a file of the user's stands in the way, no file is touched.
     ensures spares { IsTrue S.tells
         → IfSome result.stopped (LeavesTree (S.world site) (S.world result.site)) }
     // Where it came to its rules, the files were within the limits.
     ensures limits { IsTrue S.tells → IsWithin (S.world site) result.stopped }
     // Whatever site and runner are.
-    ensures logged { IsLogged keep_going result.log result.stopped }
+    ensures because { CountsChains asked.explain result.log.ran result.because }
+    ensures logged { IsLogged 1 asked.keep_going result.log result.stopped }
     ensures counted_cause { HasCountedCause (S.faults site) (S.faults result.site) result.stopped }
     ensures run_cause { HasRunCause (R.faults runner.old) (R.faults runner.new) result.stopped }
     ensures ran { IsTrue R.tells_ran
         → RunsThese result.log.ran (R.ran runner.old) (R.ran runner.new) result.stopped }
 {
+    none_waits_for_itself();
     let mut log = Log::new(alloc);
     match prepared(alloc, &mut site, &mut log) {
-        Ok(graph) => run_flagged(alloc, site, graph, runner, keep_going, log),
+        Ok(graph) => run_flagged(alloc, site, graph, runner, asked, log),
         Err(stop) => Updated {
             site,
             log,
+            because: Items::new(alloc),
             stopped: Some(stop),
         },
     }

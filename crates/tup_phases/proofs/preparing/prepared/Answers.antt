@@ -6,7 +6,7 @@ use Rattle.tup_promise.proofs.Handed.{err_if, err_so}
 use Rattle.tup_phases.specs.Kept.{BlamesSources}
 use Rattle.tup_phases.specs.Prepared.{LogsBefore, StopsBefore}
 use Rattle.tup_phases.specs.Spared.{LeavesTree}
-use Rattle.tup_phases.proofs.Brought.{brought_on}
+use Rattle.tup_phases.proofs.Brought.{brought_on, records_on}
 use Rattle.tup_phases.proofs.Keeping.{keeps_same, now_kept, over, trees_both}
 use Rattle.tup_phases.proofs.Opening.{stopped_later}
 use Rattle.tup_phases.proofs.Stopping.{counted_before, none_both, opened_before, survey_before}
@@ -245,6 +245,10 @@ returns-clause-prepared_states g c = λ tells next kept.
     let site_laws = g.met.S.Site in
     let ready = returns-clause-prepared g c tells next kept in
     (within_over g.S.Site tells site_laws.earlier site_laws.present first next first since c.cleared.new.graph c.cleared.new.site ready.over.stands ready.over.is_graph (record { began = ready.over.began; kept = ready.over.kept }) within).states
+
+pub returns-clause-records : goal.returns-clause-records
+returns-clause-records g c = λ tells next kept.
+    records_on (g.S.Site.world c.args.site.now) c.in_ok-graph.graph.nodes c.cleared.new.graph.nodes c.in_ok-cleared.ensures.stays (c.in_ok-graph.ensures.brought tells next kept)
 
 -- ---- what a crash may leave of a store that can't be read
 

@@ -1,4 +1,4 @@
-use Rattle.std.proofs.Common.{◌≡◌, ◌+◌, ◌++◌, ℕ, List, [], ◌∷◌, Option, Some, drop, sym, subst, append-nil, ◌∙◌}
+use Rattle.std.proofs.Common.{◌+◌, ℕ, List, [], ◌∷◌, Option, Some, drop, slice_set, sym, subst, append-nil, ◌∙◌}
 use Rattle.std.proofs.lemmas.List.{drop_all}
 use Rattle.tup_core.specs.declared.event.CoreEvent.{CoreEvent}
 use Rattle.tup_promise.specs.declared.log.EndedRule.{EndedRule}
@@ -14,22 +14,24 @@ loop-event-preserved c =
     let history = c.args.history.now in
     let k = c.loop-event.event-index in
     let event = c.event-item.result in
-    let running = c.loop-event.running in
+    let claimed = c.loop-event.claimed in
     let ended = c.loop-event.ended in
     let rest = drop (k + 1) history in
-    let telling : IsTelling rules old history (event ∷ rest) running ended =
-    subst (λ (left : List CoreEvent). IsTelling rules old history left running ended) (next_left history k event c.loop-event-test.true c.event-item.is) c.loop-event.invariant in
+    let telling : IsTelling rules old history (event ∷ rest) claimed ended =
+    subst (λ (left : List CoreEvent). IsTelling rules old history left claimed ended) (next_left history k event c.loop-event-test.true c.event-item.is) c.loop-event.invariant in
     elim c.match-event.branch [
       | in-Claim w ↦
-          subst (λ (r : Option ℕ). IsTelling rules old history rest r c.match-event.ended) (sym w.running-is)
-          (subst (λ (l : List EndedRule). IsTelling rules old history rest (Some w.in-Claim.rule) l) (sym w.ended-is) (tells_claim rules old history rest event running ended telling w.in-Claim.seat w.in-Claim.rule w.in-Claim.is))
+          subst (λ (r : List (Option ℕ)). IsTelling rules old history rest r c.match-event.ended) (sym (w.claimed-is ∙ w.claim_at.ensures))
+          (subst (λ (l : List EndedRule). IsTelling rules old history rest (slice_set claimed w.in-Claim.seat (Some w.in-Claim.rule)) l) (sym w.ended-is)
+          (tells_claim rules old history rest event claimed ended telling w.in-Claim.seat w.in-Claim.rule w.in-Claim.is))
       | in-Finish+in_ok-add_verdict-in-Finish w ↦
-          subst (λ (r : Option ℕ). IsTelling rules old history rest r c.match-event.ended) (sym w.running-is)
-          (subst (λ (l : List EndedRule). IsTelling rules old history rest running l) (sym w.ended-is)
-          (tells_finish rules old history rest event running ended telling w.in-Finish.seat w.in-Finish.verdict w.in-Finish.writes w.in-Finish.is w.add_verdict.new.ended w.in_ok-add_verdict-in-Finish.ensures.ok))
+          subst (λ (r : List (Option ℕ)). IsTelling rules old history rest r c.match-event.ended) (sym w.claimed-is)
+          (subst (λ (l : List EndedRule). IsTelling rules old history rest claimed l) (sym w.ended-is)
+          (tells_finish rules old history rest event claimed ended telling w.in-Finish.seat w.in-Finish.verdict w.in-Finish.writes w.in-Finish.is w.claimed_at.result w.claimed_at.ensures w.add_verdict.new.ended
+          w.in_ok-add_verdict-in-Finish.ensures.ok))
       | in_default w ↦
-          subst (λ (r : Option ℕ). IsTelling rules old history rest r c.match-event.ended) (sym w.running-is)
-          (subst (λ (l : List EndedRule). IsTelling rules old history rest running l) (sym w.ended-is) (tells_other rules old history rest event running ended telling w.in_default.not-Claim w.in_default.not-Finish))
+          subst (λ (r : List (Option ℕ)). IsTelling rules old history rest r c.match-event.ended) (sym w.claimed-is)
+          (subst (λ (l : List EndedRule). IsTelling rules old history rest claimed l) (sym w.ended-is) (tells_other rules old history rest event claimed ended telling w.in_default.not-Claim w.in_default.not-Finish))
     ]
 
 pub returns-clause-all : goal.returns-clause-all
@@ -39,11 +41,11 @@ returns-clause-all c =
     let k = c.loop-event.event-index in
     let ended = c.loop-event.ended in
     sym (append-nil ended)
-    ∙ subst (λ (left : List CoreEvent). IsTelling rules c.args.ended.now history left c.loop-event.running ended) (drop_all k history c.loop-event-test.false) c.loop-event.invariant
+    ∙ subst (λ (left : List CoreEvent). IsTelling rules c.args.ended.now history left c.loop-event.claimed ended) (drop_all k history c.loop-event-test.false) c.loop-event.invariant
 
 pub returns-clause-front : goal.returns-clause-front
 returns-clause-front c =
     let rules = c.args.rules.now in
     let history = c.args.history.now in
     let k = c.loop-event.event-index in
-    ([], subst (λ (left : List CoreEvent). IsTelling rules c.args.ended.now history left c.loop-event.running c.loop-event.ended) (drop_all k history c.loop-event-test.false) c.loop-event.invariant)
+    ([], subst (λ (left : List CoreEvent). IsTelling rules c.args.ended.now history left c.loop-event.claimed c.loop-event.ended) (drop_all k history c.loop-event-test.false) c.loop-event.invariant)

@@ -8,4 +8,4 @@ returns-in-None-clause-ok c =
     let ended = c.args.ended.now in
     let rules = c.args.rules.now in
     sym (append-nil ended)
-    ∙ ap (λ (more : List EndedRule). ended ++ more) (sym (told_none rules c.args.running c.in-Some.number c.args.verdict.now c.in-Some.is (not_there rules c.in-Some.number c.in-None.ensures.lookup.0)))
+    ∙ ap (λ (more : List EndedRule). ended ++ more) (sym (told_none rules c.args.number c.in-Some.at c.args.verdict.now c.in-Some.is (not_there rules c.in-Some.at c.in-None.ensures.lookup.0)))

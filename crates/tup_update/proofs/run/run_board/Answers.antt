@@ -1,5 +1,6 @@
 use Rattle.std.specs.Prelude.{IsTrue}
-use Rattle.std.proofs.Common.{◌≡◌, ◌++◌, ℕ, false, List, map, Option, None, Some, All, ap, refl, sym, subst, ◌∙◌, []}
+use Rattle.std.proofs.Common.{◌≡◌, ◌++◌, ℕ, false, List, map, Option, None, Some, All, ap, refl, sym, subst, arith, ◌∙◌, []}
+use Rattle.std.proofs.lemmas.List.Elements.{All-weaker}
 use Rattle.std.specs.FinMap as finite
 use Rattle.tup_core.specs.declared.event.CoreEvent.{CoreEvent}
 use Rattle.tup_core.specs.declared.plan.Plan.{Plan}
@@ -25,7 +26,8 @@ use Rattle.tup_promise.specs.Needed.{HasName, RunsAll}
 use Rattle.tup_promise.specs.Prepared.{IsPrepared}
 use Rattle.tup_promise.specs.Ran.{command_of}
 use Rattle.tup_update.specs.Promised.{Promises, WasPrepared}
-use Rattle.tup_update.proofs.FirstBad.{HasBad, Own, bad_is_there}
+use Rattle.tup_update.proofs.Ending.{IsBelow, Own}
+use Rattle.tup_update.proofs.FirstBad.{HasBad, bad_is_there}
 use Rattle.tup_update.proofs.Promised.{blames_rules, done_by, files_by, goes_on, runs_all_by, stops_at_bad}
 use Rattle.tup_update.proofs.run.run_board.Given.{Over}
 use Rattle.tup_update.proofs.run.run_board.Goals.{After-told}
@@ -58,6 +60,9 @@ plan_is g c = ap (λ (o : Opening _). o.plan) c.drain-drained.ensures.opening �
 own : (g : Over) (c : After-told g) → All Own c.drain-drained.new.self.history
 own g c = own_all c.drain-drained.new.self.history (ap (λ (b : BoardState _). b.history) c.requires.opening) c.drain-drained.ensures.history
 
+below : (g : Over) (c : After-told g) → All (IsBelow 1) c.drain-drained.new.self.history
+below g c = All-weaker Own (IsBelow 1) (λ event is. omega (arith, is)) c.drain-drained.new.self.history (own g c)
+
 -- the bad verdicts at the end
 abbrev bads : (g : Over) → After-told g → ℕ → Option Verdict
 bads g c = (state c.drain-drained.new.self).bad
@@ -66,7 +71,7 @@ bads g c = (state c.drain-drained.new.self).bad
 stops_by : (g : Over) (c : After-told g) → StopsBy c.args.plan.now.rules c.drain-drained.result c.told.result.stopped (bads g c)
 stops_by g c =
     let board = c.drain-drained.new.self in
-    stops_so board c.args.plan.now c.drain-drained.result c.told.result.stopped (plan_is g c) c.into_parts-parts.ensures.keeps.run (own g c)
+    stops_so board c.args.plan.now c.drain-drained.result c.told.result.stopped (plan_is g c) c.into_parts-parts.ensures.keeps.run
     (subst (λ (events : List CoreEvent). OfBads c.args.plan.now events (StopsBy c.args.plan.now.rules c.drain-drained.result c.told.result.stopped)) c.into_parts-parts.ensures.history c.told.ensures.stops)
 
 pub returns-clause-stops : goal.returns-clause-stops
@@ -149,18 +154,18 @@ returns-clause-promised g c = λ old tells means was.
     subst (λ (o : Opening _). WasPrepared g.S.Site next old o.graph o.site) (sym c.drain-drained.ensures.opening) was in
     let once : OutputsOnce (plan_of board).rules = subst (λ (p : Plan). OutputsOnce p.rules) (sym (plan_is g c)) c.requires.once in
     let keeps = c.into_parts-parts.ensures.keeps in
-    let runs : RunsAll next keep_going first ran stopped =
-    runs_all_by next keep_going first ran stopped
+    let runs : RunsAll next keep_going 1 first ran stopped =
+    runs_all_by next keep_going 1 first ran stopped
     (λ none. c.done_ran_all.ensures board first since ran keeps opened.prepared (names_run g c) (all_done g c none))
     (λ name verdict is going. c.bad_ran_all_it_could.ensures board first since ran tells means keeps opened.prepared (names_run g c) c.drain-drained.ensures.over
     (goes_on c.args.plan.now (state board) c.drain-drained.result stopped (has_bad g c) c.drain-drained.ensures.drains (stops_by g c) name verdict is going))
-    (λ name verdict is off. let at = bad_at g c name verdict is in
+    (λ name verdict is off one. let at = bad_at g c name verdict is in
     c.bad_stands_last.ensures board 0 at.at verdict name ran keeps (names_run g c) (own g c) (ap (λ (p : Plan). p.keep_going) (plan_is g c) ∙ off) at.is.came
     (has_name g c name verdict at)) in
-    subst (λ at. Promises g.S.Site g.R.Runner keep_going old at ran stopped) (sym (c.told.ensures.site ∙ c.into_parts-parts.ensures.site)) (record {
+    subst (λ at. Promises g.S.Site g.R.Runner keep_going 1 old at ran stopped) (sym (c.told.ensures.site ∙ c.into_parts-parts.ensures.site)) (record {
       files = files_by next first (g.S.Site.world board.site) stopped (λ none.
           c.done_is_finished.ensures board first since tells means keeps (graph_read g c) opened.prepared once (all_done g c none));
-      needed = c.ran_what_was_due.ensures board first since keep_going ran stopped tells means keeps opened.prepared (names_run g c) runs;
+      needed = c.ran_what_was_due.ensures board first since keep_going 1 ran stopped tells means keeps opened.prepared (names_run g c) runs;
       crashes = c.boards_leave_crashes.ensures board old tells means keeps opened.prepared once opened.owns;
       states = c.boards_leave_states.ensures board first since tells means keeps opened.prepared once opened.states;
       blamed = blames_rules next first (g.S.Site.world board.site) ran stopped (stops_running c.args.plan.now.rules (bads g c) c.drain-drained.result stopped (stops_by g c)) (λ name verdict is.
@@ -186,7 +191,7 @@ returns-clause-logged g c =
     let board = c.drain-drained.new.self in
     let told = c.told in
     let here = c.into_parts-parts.ensures.history in
-    board_logged board c.args.plan.now (plan_is g c) c.into_parts-parts.ensures.keeps.run (own g c) (c.drain-drained.ensures.over.0 0) told.result.log c.drain-drained.result told.result.stopped c.drain-drained.ensures.drains (stops_by g c)
+    board_logged board c.args.plan.now (plan_is g c) c.into_parts-parts.ensures.keeps.run 1 (below g c) c.drain-drained.ensures.over.0 told.result.log c.drain-drained.result told.result.stopped c.drain-drained.ensures.drains (stops_by g c)
     (subst (λ (events : List CoreEvent). map Some told.result.log.ran ≡ map (name_in c.args.plan.now.rules) (claims events)) here told.ensures.named)
     (subst (λ (events : List CoreEvent). TellsFor (told_ends c.args.plan.now.rules (ends events)) [] told.result.log.ended told.result.stopped) here told.ensures.tells)
 

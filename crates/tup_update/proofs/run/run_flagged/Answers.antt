@@ -8,6 +8,7 @@ use Rattle.tup_ends.proofs.Done.{flags_due}
 use Rattle.tup_update.specs.Promised.{PromisesOver}
 use Rattle.tup_update.proofs.Promised.{nothing_due, unchanged, unchanged_sources}
 use Rattle.tup_phases.specs.Logged.{IsLogged}
+use Rattle.tup_update.proofs.Chained.{none_said}
 use Rattle.tup_update.proofs.Logging.{memory_logged, none_logged}
 use Rattle.tup_update.proofs.Whole.{memory_counted, memory_ran, memory_run_cause, memory_stops, none_ran}
 use Rattle.tup_update.proofs.run.run_flagged.Goals as goal
@@ -29,7 +30,7 @@ pub returns-then-none_flagged-clause-promised : goal.returns-then-none_flagged-c
 returns-then-none_flagged-clause-promised g c =
     let unflagged : (number : ℕ) → is_flagged c.args.graph.nodes number ≡ false =
     subst (λ (nodes : GraphState). (number : ℕ) → is_flagged nodes number ≡ false) c.nodes.ensures.value (c.none_flagged.ensures c.if-none_flagged.true) in
-    nothing_due g.S.Site g.R.Runner c.args.keep_going c.args.graph c.args.site c.args.log.ran
+    nothing_due g.S.Site g.R.Runner c.args.asked.keep_going 1 c.args.graph c.args.site c.args.log.ran
     (λ tells first since prepared. let site_laws = g.met.S.Site in flags_due g.S.Site g.R.Runner.next first since c.args.graph c.args.site prepared (λ t u w within left. site_laws.earlier c.args.site t u w tells within left) (site_laws.present c.args.site tells))
     c.requires.none.ran unflagged (λ first since tells prepared. c.prepared_is_finished.ensures g.R.Runner.next first since c.args.graph tells prepared unflagged)
     (λ first since tells prepared. c.prepared_is_settled.ensures g.R.Runner.next first since c.args.graph tells prepared unflagged)
@@ -45,8 +46,8 @@ run_plan-requires-clause-may_run g c = found_may_run c.args.graph.nodes c.in-Ok-
 pub returns-in-Ok-Some-clause-promised : goal.returns-in-Ok-Some-clause-promised
 returns-in-Ok-Some-clause-promised g c =
     let done = c.run_plan.result in
-    subst (λ (going : Bool). PromisesOver g.S.Site g.R.Runner going c.args.graph c.args.site done.site done.log.ran done.stopped)
-    (found_going c.args.keep_going c.in-Ok-Some.field-0 c.in-Ok-Some.plan c.in-Ok-Some.field-0-is c.in-Ok-Some.ensures.keep_going) c.run_plan.ensures.promised
+    subst (λ (going : Bool). PromisesOver g.S.Site g.R.Runner going 1 c.args.graph c.args.site done.site done.log.ran done.stopped)
+    (found_going c.args.asked.keep_going c.in-Ok-Some.field-0 c.in-Ok-Some.plan c.in-Ok-Some.field-0-is c.in-Ok-Some.ensures.keep_going) c.run_plan.ensures.promised
 
 -- ---- there was no memory for a plan, or it may not be run
 
@@ -56,7 +57,7 @@ returns-in_default-clause-sources g c = unchanged_sources g.S.Site c.args.graph 
 pub returns-in_default-clause-promised : goal.returns-in_default-clause-promised
 returns-in_default-clause-promised g c =
     let done = c.without_memory in
-    unchanged g.S.Site g.R.Runner c.args.keep_going c.args.graph c.args.site done.result.site done.result.log.ran done.result.stopped
+    unchanged g.S.Site g.R.Runner c.args.asked.keep_going 1 c.args.graph c.args.site done.result.site done.result.log.ran done.result.stopped
     (λ tells first since prepared. let site_laws = g.met.S.Site in flags_due g.S.Site g.R.Runner.next first since c.args.graph c.args.site prepared (λ t u w within left. site_laws.earlier c.args.site t u w tells within left) (site_laws.present c.args.site tells))
     done.ensures.site (ap (λ (log : Log). log.ran) done.ensures.log ∙ c.requires.none.ran) done.ensures.stopped
 
@@ -77,14 +78,24 @@ returns-in_default-clause-ran g c = λ tells.
 -- ---- what its log says
 
 pub returns-then-none_flagged-clause-logged : goal.returns-then-none_flagged-clause-logged
-returns-then-none_flagged-clause-logged g c = none_logged c.args.keep_going c.args.log c.requires.none
+returns-then-none_flagged-clause-logged g c = none_logged 1 c.args.asked.keep_going c.args.log c.requires.none
 
 pub returns-in-Ok-Some-clause-logged : goal.returns-in-Ok-Some-clause-logged
 returns-in-Ok-Some-clause-logged g c =
     let done = c.run_plan.result in
-    subst (λ (going : Bool). IsLogged going done.log done.stopped) (found_going c.args.keep_going c.in-Ok-Some.field-0 c.in-Ok-Some.plan c.in-Ok-Some.field-0-is c.in-Ok-Some.ensures.keep_going) c.run_plan.ensures.logged
+    subst (λ (going : Bool). IsLogged 1 going done.log done.stopped) (found_going c.args.asked.keep_going c.in-Ok-Some.field-0 c.in-Ok-Some.plan c.in-Ok-Some.field-0-is c.in-Ok-Some.ensures.keep_going) c.run_plan.ensures.logged
 
 pub returns-in_default-clause-logged : goal.returns-in_default-clause-logged
 returns-in_default-clause-logged g c =
     let done = c.without_memory in
-    memory_logged c.args.keep_going c.args.log done.result.log done.result.stopped done.ensures.log done.ensures.stopped c.requires.none
+    memory_logged 1 c.args.asked.keep_going c.args.log done.result.log done.result.stopped done.ensures.log done.ensures.stopped c.requires.none
+
+-- ---- what it says of why
+
+pub returns-then-none_flagged-clause-said : goal.returns-then-none_flagged-clause-said
+returns-then-none_flagged-clause-said g c = none_said c.args.asked.explain c.args.graph.nodes c.args.log.ran c.new.result c.requires.none.ran c.new.ensures
+
+pub returns-in_default-clause-said : goal.returns-in_default-clause-said
+returns-in_default-clause-said g c =
+    let done = c.without_memory in
+    none_said c.args.asked.explain c.args.graph.nodes done.result.log.ran done.result.because (ap (λ (log : Log). log.ran) done.ensures.log ∙ c.requires.none.ran) done.ensures.because

@@ -1,4 +1,6 @@
 use Rattle.std.proofs.Common.{◌≡◌, ℕ, ap, refl, sym, subst, ◌∙◌}
+use Rattle.std.specs.Option.{IfSome}
+use Rattle.tup_graph.specs.Graph.{GraphState}
 use Rattle.tup_stored_graph.specs.Held.{Held}
 use Rattle.tup_core.specs.declared.plan.Plan.{Plan}
 use Rattle.tup_rule_outputs.specs.declared.fault.BoardFault.{BoardFault}
@@ -9,6 +11,8 @@ use Rattle.tup_promise.specs.declared.log.Log.{Log}
 use Rattle.tup_ends.proofs.Done.{flags_due}
 use Rattle.tup_update.specs.Promised.{KeepsSources, PromisesOver}
 use Rattle.tup_update.proofs.Promised.{unchanged, unchanged_sources}
+use Rattle.tup_update.specs.Because.{AreChainsOf}
+use Rattle.tup_update.proofs.Chained.{are_ready, none_said, said}
 use Rattle.tup_update.proofs.Logging.{memory_logged}
 use Rattle.tup_update.proofs.Whole.{memory_counted, memory_ran, memory_run_cause, memory_stops}
 use Rattle.tup_update.proofs.run.run_plan.Goals as goal
@@ -40,7 +44,7 @@ returns-in-Ok-new-clause-counted g c =
 pub returns-in-Ok-new-clause-promised : goal.returns-in-Ok-new-clause-promised
 returns-in-Ok-new-clause-promised g c =
     let done = c.run_board.result in
-    subst (λ (o : Opening _). PromisesOver g.S.Site g.R.Runner c.args.plan.now.keep_going o.graph o.site done.site done.log.ran done.stopped) (ap (λ (board : BoardState _). board.opening) c.in-Ok-new.ensures.board) c.run_board.ensures.promised
+    subst (λ (o : Opening _). PromisesOver g.S.Site g.R.Runner c.args.plan.now.keep_going 1 o.graph o.site done.site done.log.ran done.stopped) (ap (λ (board : BoardState _). board.opening) c.in-Ok-new.ensures.board) c.run_board.ensures.promised
 
 pub returns-in-Ok-new-clause-sources : goal.returns-in-Ok-new-clause-sources
 returns-in-Ok-new-clause-sources g c =
@@ -56,7 +60,7 @@ returns-in-Err-clause-sources g c =
 pub returns-in-Err-clause-promised : goal.returns-in-Err-clause-promised
 returns-in-Err-clause-promised g c =
     let done = c.without_memory-in-Err in
-    unchanged g.S.Site g.R.Runner c.args.plan.now.keep_going c.args.graph c.args.site done.result.site done.result.log.ran done.result.stopped
+    unchanged g.S.Site g.R.Runner c.args.plan.now.keep_going 1 c.args.graph c.args.site done.result.site done.result.log.ran done.result.stopped
     (λ tells first since prepared. let site_laws = g.met.S.Site in flags_due g.S.Site g.R.Runner.next first since c.args.graph c.args.site prepared (λ t u w within left. site_laws.earlier c.args.site t u w tells within left) (site_laws.present c.args.site tells))
     (done.ensures.site ∙ ap (λ (back : _ × Held × BoardFault). back.0) c.in-Err.ensures.memory) (ap (λ (log : Log). log.ran) done.ensures.log ∙ c.requires.none.ran) done.ensures.stopped
 
@@ -84,7 +88,7 @@ returns-in_default-clause-sources g c = unchanged_sources g.S.Site c.args.graph 
 pub returns-in_default-clause-promised : goal.returns-in_default-clause-promised
 returns-in_default-clause-promised g c =
     let done = c.without_memory in
-    unchanged g.S.Site g.R.Runner c.args.plan.now.keep_going c.args.graph c.args.site done.result.site done.result.log.ran done.result.stopped
+    unchanged g.S.Site g.R.Runner c.args.plan.now.keep_going 1 c.args.graph c.args.site done.result.site done.result.log.ran done.result.stopped
     (λ tells first since prepared. let site_laws = g.met.S.Site in flags_due g.S.Site g.R.Runner.next first since c.args.graph c.args.site prepared (λ t u w within left. site_laws.earlier c.args.site t u w tells within left) (site_laws.present c.args.site tells))
     done.ensures.site (ap (λ (log : Log). log.ran) done.ensures.log ∙ c.requires.none.ran) done.ensures.stopped
 
@@ -109,12 +113,35 @@ returns-in_default-clause-ran g c = λ tells.
 pub returns-in-Err-clause-logged : goal.returns-in-Err-clause-logged
 returns-in-Err-clause-logged g c =
     let done = c.without_memory-in-Err in
-    memory_logged c.args.plan.now.keep_going c.args.log done.result.log done.result.stopped done.ensures.log done.ensures.stopped c.requires.none
+    memory_logged 1 c.args.plan.now.keep_going c.args.log done.result.log done.result.stopped done.ensures.log done.ensures.stopped c.requires.none
 
 pub returns-in_default-clause-logged : goal.returns-in_default-clause-logged
 returns-in_default-clause-logged g c =
     let done = c.without_memory in
-    memory_logged c.args.plan.now.keep_going c.args.log done.result.log done.result.stopped done.ensures.log done.ensures.stopped c.requires.none
+    memory_logged 1 c.args.plan.now.keep_going c.args.log done.result.log done.result.stopped done.ensures.log done.ensures.stopped c.requires.none
 
 pub run_board-requires-clause-none : goal.run_board-requires-clause-none
 run_board-requires-clause-none g c = c.requires.none.ended
+
+-- ---- what it says of why
+
+pub run_board-requires-clause-chains : goal.run_board-requires-clause-chains
+run_board-requires-clause-chains g c = are_ready c.nodes.result.now c.args.plan.now c.in-Ok.known.chains c.in-Ok.ensures.chains
+
+pub returns-in-Ok-new-clause-said : goal.returns-in-Ok-new-clause-said
+returns-in-Ok-new-clause-said g c =
+    let done = c.run_board in
+    let chains = c.in-Ok.known.chains in
+    let plan = c.args.plan.now in
+    said c.args.graph.nodes plan c.args.explain done.result.log.ran done.result.because chains c.requires.may_run c.in-Ok.ensures.asked
+    (subst (λ (nodes : GraphState). IfSome chains (AreChainsOf nodes plan)) c.nodes.ensures.value c.in-Ok.ensures.chains) done.ensures.unasked (done.ensures.why c.args.graph.nodes)
+
+pub returns-in-Err-clause-said : goal.returns-in-Err-clause-said
+returns-in-Err-clause-said g c =
+    let done = c.without_memory-in-Err in
+    none_said c.args.explain c.args.graph.nodes done.result.log.ran done.result.because (ap (λ (log : Log). log.ran) done.ensures.log ∙ c.requires.none.ran) done.ensures.because
+
+pub returns-in_default-clause-said : goal.returns-in_default-clause-said
+returns-in_default-clause-said g c =
+    let done = c.without_memory in
+    none_said c.args.explain c.args.graph.nodes done.result.log.ran done.result.because (ap (λ (log : Log). log.ran) done.ensures.log ∙ c.requires.none.ran) done.ensures.because

@@ -1,13 +1,14 @@
 use Rattle.std.proofs.Common.{◌≡◌, true, List, map, Some, All, sym, subst, ◌∙◌}
 use Rattle.std.specs.Bool.{nat_eq}
 use Rattle.std.specs.List.{IsDistinct}
-use Rattle.std.specs.Option.{is_some}
+use Rattle.std.specs.Option.{IfSome, is_some}
 use Rattle.tup_core.specs.declared.event.CoreEvent.{CoreEvent}
 use Rattle.tup_core.specs.Run.{claims}
 use Rattle.tup_promise.specs.declared.log.EndedRule.{EndedRule}
 use Rattle.tup_update.specs.Ended.{TellsFor, ends, told_ends}
-use Rattle.tup_update.specs.Names.{name_at}
+use Rattle.tup_update.specs.Names.{IsReadyFor, value_at}
 use Rattle.tup_update.specs.Run.{OfBads, StopsBy}
+use Rattle.tup_update.proofs.Chained.{ready_for, say_why_if}
 use Rattle.tup_update.proofs.Commands.{all_named, all_some, ran_commands}
 use Rattle.tup_update.proofs.Telling.{names_alike}
 use Rattle.tup_update.proofs.run.told.Goals as goal
@@ -23,8 +24,8 @@ claimed-requires-clause-once g c =
 pub claimed-requires-clause-named : goal.claimed-requires-clause-named
 claimed-requires-clause-named g c =
     let plan = c.args.plan.now in
-    let names = c.args.names in
-    subst (λ (events : List CoreEvent). All (λ number. is_some (name_at names number) ≡ true) (claims events)) (sym c.as_slice-history.ensures)
+    let names = c.args.known.names in
+    subst (λ (events : List CoreEvent). All (λ number. is_some (value_at names number) ≡ true) (claims events)) (sym c.as_slice-history.ensures)
     (all_some plan names c.requires.names c.requires.range (claims c.args.parts.history) (c.claimed_once.ensures.reached plan c.requires.run.0 c.args.parts.history c.requires.run.1))
 
 pub claimed-requires-clause-none : goal.claimed-requires-clause-none
@@ -33,10 +34,10 @@ claimed-requires-clause-none g c = c.requires.names.none
 pub returns-clause-ran : goal.returns-clause-ran
 returns-clause-ran g c =
     let plan = c.args.plan.now in
-    let names = c.args.names in
+    let names = c.args.known.names in
     let history = c.args.parts.history in
     ran_commands plan names c.requires.names c.requires.range history (c.claimed_once.ensures.reached plan c.requires.run.0 history c.requires.run.1) c.claimed.result
-    (subst (λ (events : List CoreEvent). map Some c.claimed.result ≡ map (name_at names) (claims events)) c.as_slice-history.ensures c.claimed.ensures)
+    (subst (λ (events : List CoreEvent). map Some c.claimed.result ≡ map (value_at names) (claims events)) c.as_slice-history.ensures c.claimed.ensures)
 
 pub returns-clause-stops : goal.returns-clause-stops
 returns-clause-stops g c =
@@ -54,8 +55,36 @@ returns-clause-tells g c =
 pub returns-clause-named : goal.returns-clause-named
 returns-clause-named g c =
     let plan = c.args.plan.now in
-    let names = c.args.names in
+    let names = c.args.known.names in
     let history = c.args.parts.history in
     let reached = c.claimed_once.ensures.reached plan c.requires.run.0 history c.requires.run.1 in
-    subst (λ (events : List CoreEvent). map Some c.claimed.result ≡ map (name_at names) (claims events)) c.as_slice-history.ensures c.claimed.ensures
-    ∙ names_alike plan.rules (name_at names) (claims history) (all_named plan names c.requires.names c.requires.range (claims history) reached)
+    subst (λ (events : List CoreEvent). map Some c.claimed.result ≡ map (value_at names) (claims events)) c.as_slice-history.ensures c.claimed.ensures
+    ∙ names_alike plan.rules (value_at names) (claims history) (all_named plan names c.requires.names c.requires.range (claims history) reached)
+
+-- ---- the chains of the rules that were begun
+
+pub claimed_chains-because-requires-clause-once : goal.claimed_chains-because-requires-clause-once
+claimed_chains-because-requires-clause-once g c =
+    let plan = c.args.plan.now in
+    subst (λ (events : List CoreEvent). IsDistinct nat_eq (claims events)) (sym c.as_slice-history.ensures) (c.claimed_once.ensures.once plan c.requires.run.0 c.args.parts.history c.requires.run.1)
+
+pub claimed_chains-because-requires-clause-ready : goal.claimed_chains-because-requires-clause-ready
+claimed_chains-because-requires-clause-ready g c =
+    let plan = c.args.plan.now in
+    let chains = c.args.known.chains in
+    subst (λ (events : List CoreEvent). IfSome chains (IsReadyFor (claims events))) (sym c.as_slice-history.ensures)
+    (ready_for plan (claims c.args.parts.history) (c.claimed_once.ensures.reached plan c.requires.run.0 c.args.parts.history c.requires.run.1) chains c.requires.chains)
+
+pub returns-clause-why : goal.returns-clause-why
+returns-clause-why g c = λ nodes.
+    let plan = c.args.plan.now in
+    let names = c.args.known.names in
+    let chains = c.args.known.chains in
+    let history = c.args.parts.history in
+    let because = c.claimed_chains-because.result in
+    let reached = c.claimed_once.ensures.reached plan c.requires.run.0 history c.requires.run.1 in
+    let named =
+    subst (λ (events : List CoreEvent). map Some c.claimed.result ≡ map (value_at names) (claims events)) c.as_slice-history.ensures c.claimed.ensures
+    ∙ names_alike plan.rules (value_at names) (claims history) (all_named plan names c.requires.names c.requires.range (claims history) reached) in
+    say_why_if nodes plan (claims history) c.claimed.result because named reached chains
+    (subst (λ (events : List CoreEvent). IfSome chains (λ values. map Some because ≡ map (value_at values) (claims events))) c.as_slice-history.ensures c.claimed_chains-because.ensures.claimed)

@@ -1,9 +1,10 @@
-use Rattle.std.proofs.Common.{ℕ, subst, sym, ◌∙◌}
+use Rattle.std.proofs.Common.{ℕ, inl, subst, sym, arith, ◌∙◌}
 use Rattle.std.proofs.lemmas.Option.{none-some}
 use Rattle.tup_promise.specs.Cause.{HasCountedCause}
 use Rattle.tup_promise.specs.Kept.{KeptHere}
 use Rattle.tup_ends.proofs.Stated.{kept_stated}
 use Rattle.tup_ends.proofs.Staying.{sources_kept}
+use Rattle.tup_update.proofs.Chained.{counted, explained, none_counted}
 use Rattle.tup_update.proofs.Promised.{blames_sources, runs_before}
 use Rattle.tup_update.proofs.Logging.{before_logged, running_spares}
 use Rattle.tup_update.proofs.Whole.{before_ran, before_run_cause, opened_running, within_before, within_running}
@@ -28,7 +29,7 @@ returns-in-Ok-clause-counted_cause g c =
     subst (λ (n : ℕ). HasCountedCause n (g.S.Site.faults done.site) done.stopped) c.in-Ok.ensures.counted c.run_flagged.ensures.counted
 
 -- all that is promised
-promised : (g : Over) (c : After-run_flagged g) → KeptHere g.S.Site g.R.Runner c.args.site → Promises g.S.Site g.R.Runner c.args.keep_going c.args.site c.run_flagged.result.site c.run_flagged.result.log.ran c.run_flagged.result.stopped
+promised : (g : Over) (c : After-run_flagged g) → KeptHere g.S.Site g.R.Runner c.args.site → Promises g.S.Site g.R.Runner c.args.asked.keep_going 1 c.args.site c.run_flagged.result.site c.run_flagged.result.log.ran c.run_flagged.result.stopped
 promised g c here = c.run_flagged.ensures.promised c.args.site here.tells here.means (record {
   prepared = c.in-Ok.ensures.prepared here.tells g.R.Runner.next here.kept;
   owns = c.prepared.ensures.owns here.tells g.R.Runner.next here.kept;
@@ -82,7 +83,7 @@ returns-in-Err-clause-blamed g c = λ here.
 
 pub returns-in-Err-clause-only_what_is_needed : goal.returns-in-Err-clause-only_what_is_needed
 returns-in-Err-clause-only_what_is_needed g c = λ here. record {
-  runs = runs_before g.R.Runner.next c.args.keep_going (g.S.Site.world c.args.site) c.prepared.new.log.ran c.in-Err.stop c.in-Err.ensures.stops (c.prepared.ensures.none.ran ∙ c.new-log.ensures.ran);
+  runs = runs_before g.R.Runner.next c.args.asked.keep_going 1 (g.S.Site.world c.args.site) c.prepared.new.log.ran c.in-Err.stop c.in-Err.ensures.stops (c.prepared.ensures.none.ran ∙ c.new-log.ensures.ran);
   flagged = c.prepared.ensures.due here.tells g.R.Runner.next here.kept;
 }
 
@@ -103,7 +104,7 @@ returns-in-Err-clause-ran g c = λ tells. before_ran c.prepared.new.log.ran (g.R
 pub returns-in-Err-clause-logged : goal.returns-in-Err-clause-logged
 returns-in-Err-clause-logged g c =
     let none = c.prepared.ensures.none in
-    before_logged c.args.keep_going c.prepared.new.log c.in-Err.stop c.in-Err.ensures.stops (record { ran = none.ran ∙ c.new-log.ensures.ran; ended = none.ended ∙ c.new-log.ensures.ended }) c.in-Err.ensures.logged
+    before_logged 1 (omega arith) c.args.asked.keep_going c.prepared.new.log c.in-Err.stop c.in-Err.ensures.stops (record { ran = none.ran ∙ c.new-log.ensures.ran; ended = none.ended ∙ c.new-log.ensures.ended }) c.in-Err.ensures.logged
 
 pub returns-in-Ok-clause-spares : goal.returns-in-Ok-clause-spares
 returns-in-Ok-clause-spares g c = λ tells.
@@ -138,3 +139,24 @@ returns-in-Ok-clause-limits g c = λ tells. within_running (g.S.Site.world c.arg
 
 pub returns-in-Err-clause-limits : goal.returns-in-Err-clause-limits
 returns-in-Err-clause-limits g c = λ tells. within_before (g.S.Site.world c.args.site) c.in-Err.stop c.in-Err.ensures.stops
+
+-- ---- what it says of why
+
+pub returns-in-Ok-clause-why : goal.returns-in-Ok-clause-why
+returns-in-Ok-clause-why g c = λ tells some asked.
+    let done = c.run_flagged.result in
+    explained g.S.Site some.0 c.args.site c.in-Ok.graph c.prepared.new.site done.log.ran done.because (λ nodes plan. c.none_waits_for_itself.ensures nodes plan) (record {
+      prepared = c.in-Ok.ensures.prepared tells some.0 some.1;
+      owns = c.prepared.ensures.owns tells some.0 some.1;
+      states = c.in-Ok.ensures.prepared_states tells some.0 some.1;
+      stored = c.prepared.ensures.states tells some.0 some.1;
+    }) (c.in-Ok.ensures.records tells some.0 some.1) (c.run_flagged.ensures.said.asked asked)
+
+pub returns-in-Ok-clause-because : goal.returns-in-Ok-clause-because
+returns-in-Ok-clause-because g c = counted c.args.asked.explain c.in-Ok.graph.nodes c.run_flagged.result.log.ran c.run_flagged.result.because c.run_flagged.ensures.said
+
+pub returns-in-Err-clause-why : goal.returns-in-Err-clause-why
+returns-in-Err-clause-why g c = λ tells some asked. inl (c.prepared.ensures.none.ran ∙ c.new-log.ensures.ran, c.new.ensures)
+
+pub returns-in-Err-clause-because : goal.returns-in-Err-clause-because
+returns-in-Err-clause-because g c = none_counted c.args.asked.explain c.prepared.new.log.ran c.new.result (c.prepared.ensures.none.ran ∙ c.new-log.ensures.ran) c.new.ensures

@@ -3,20 +3,20 @@ use Rattle.tup_core.specs.declared.event.CoreEvent.{CoreEvent}
 use Rattle.tup_core.specs.declared.event.CoreEvent.TheVariants.{Claim}
 use Rattle.std.specs.Prelude.{get_or}
 use Rattle.tup_update.proofs.Taking.{IsTaking, passed_next, taken_next, waits_next}
-use Rattle.tup_update.proofs.names.Names.claimed.Goals.{in-Claim, in_default}
-use Rattle.tup_update.proofs.names.Names.claimed.Goals as goal
+use Rattle.tup_update.proofs.by_rule.ByRule.claimed.Goals.{in-Claim, in_default}
+use Rattle.tup_update.proofs.by_rule.ByRule.claimed.Goals as goal
 
 -- the event is this claim
 claimed_at : (history : List CoreEvent) (k : ℕ) (event : CoreEvent) (seat number : ℕ) → event ≡ get_or history k event → event ≡ Claim seat number → Claim seat number ≡ get_or history k (Claim seat number)
 claimed_at history k event seat number at is = subst (λ (e : CoreEvent). e ≡ get_or history k e) is at
 
 pub begin-requires-clause-named : goal.begin-requires-clause-named
-begin-requires-clause-named c =
+begin-requires-clause-named g c =
     let at = claimed_at c.args.history.now c.loop-event.event-index c.event-item.result c.in-Claim.seat c.in-Claim.rule c.event-item.is c.in-Claim.is in
     waits_next c.args.self c.loop-event.self c.args.history.now c.loop-event.event-index c.loop-event-test.true c.loop-event.invariant c.in-Claim.seat c.in-Claim.rule at
 
 pub loop-event-preserved : goal.loop-event-preserved
-loop-event-preserved c =
+loop-event-preserved g c =
     let history = c.args.history.now in
     let k = c.loop-event.event-index in
     elim c.match-event.branch [

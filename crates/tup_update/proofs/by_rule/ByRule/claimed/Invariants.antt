@@ -1,0 +1,6 @@
+use Rattle.std.specs.Prelude.{take, drop}
+use Rattle.tup_update.proofs.Taking.{IsTaking}
+use Rattle.tup_update.proofs.by_rule.ByRule.claimed.Given as goal
+
+abbrev pub invariant-loop-event : goal.invariant-loop-event
+invariant-loop-event g l = IsTaking l.fn.self (take l.event-index l.fn.history) (drop l.event-index l.fn.history) l.self

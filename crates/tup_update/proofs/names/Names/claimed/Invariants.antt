@@ -1,6 +1,0 @@
-use Rattle.std.specs.Prelude.{take, drop}
-use Rattle.tup_update.proofs.Taking.{IsTaking}
-use Rattle.tup_update.proofs.names.Names.claimed.Given as goal
-
-abbrev pub invariant-loop-event : goal.invariant-loop-event
-invariant-loop-event l = IsTaking l.fn.self (take l.event-index l.fn.history) (drop l.event-index l.fn.history) l.self
