@@ -8,7 +8,8 @@ use Rattle.tup_site.specs.declared.memory.MemSite.{MemSite}
 use Rattle.tup_rule.specs.declared.rule.RuleName.{RuleName}
 use Rattle.tup_runner.specs.Next.{Next}
 use Rattle.tup_table.specs.Images.{OpenStep}
-use Rattle.tup_table.specs.Store.{blocks, header}
+use Rattle.tup_table.specs.Store.{IsStore, header}
+use Rattle.tup_table.proofs.Stores.{not_empty}
 use Rattle.tup_graph.specs.Graph.{GraphState}
 use Rattle.tup_graph.specs.Kept.{IsGraphIn}
 use Rattle.tup_ledger.specs.Begin.{Begins, BeginStep}
@@ -43,11 +44,11 @@ as_opened v w on = by on.store
 
 -- bytes in which a graph stands are some
 some_bytes : (bytes : List ℕ) (g : GraphState) → IsGraphIn bytes g → bytes ≡ [] → ⊥
-some_bytes bytes g is none = let no : [] ≡ header ++ (blocks is.commits ++ is.reads.0) = sym none ∙ is.reads.1.whole in cc
+some_bytes bytes g is none = not_empty is.commits (subst (λ (b : List ℕ). IsStore b is.commits) none is.reads)
 
 -- without a store nothing is read
 nothing_reads : (bytes : List ℕ) → bytes ≡ [] → IsReadable bytes → ⊥
-nothing_reads bytes none (graph, left, ((commits, store, is), closes)) = let no : [] ≡ header ++ (blocks commits ++ store.0) = sym none ∙ store.1.whole in cc
+nothing_reads bytes none (graph, left, ((commits, store, is), closes)) = not_empty commits (subst (λ (b : List ℕ). IsStore b commits) none store)
 
 module _ (old new : MemSite) (next : Next) where
   -- an update without a store
@@ -123,8 +124,8 @@ module _ (old new : MemSite) (next : Next) where
 -- every run, by what its words ask for
 pub run_keeps : (tells : Bool) (next : Next) (wanted : Wanted) (end : End) (status : Status) (ran : List RuleName) (old new : MemSite) → end.status ≡ Some status → Leaves wanted old new status → NothingDone wanted (world_in old) (world_in new) → ForInit wanted status (Begins (world_in old) (world_in new)) →
     (IsTrue tells → IsKept next old → Updates next wanted old new status ran) → (stage : Stage) → Stands next stage old → BehindRun tells next wanted (world_in old) (world_in new) end stage (λ later. Stands next later new)
-run_keeps tells next (Ok (Upd program keep_going quiet verbose)) end status ran old new is leaves nothing begins updates Unbegun kept = unbegun_keeps old new next (leaves.closed tt) kept
-run_keeps tells next (Ok (Upd program keep_going quiet verbose)) end status ran old new is leaves nothing begins updates Begun kept = λ means.
+run_keeps tells next (Ok (Upd program keep_going quiet verbose explain)) end status ran old new is leaves nothing begins updates Unbegun kept = unbegun_keeps old new next (leaves.closed tt) kept
+run_keeps tells next (Ok (Upd program keep_going quiet verbose explain)) end status ran old new is leaves nothing begins updates Begun kept = λ means.
     let by = updates means kept in
     (subst (Builds next (world_in old) (world_in new)) (sym is) by.files, by.kept tt)
 run_keeps tells next (Ok Todo) end status ran old new is leaves nothing begins updates Unbegun kept = unbegun_keeps old new next (leaves.closed tt) kept

@@ -57,7 +57,7 @@ pub record Leaves (wanted : Wanted) (old new : MemSite) (status : Status) : Type
 -- is each world that a crash since its beginning may leave.
 pub record Updates (next : Next) (wanted : Wanted) (old new : MemSite) (status : Status) (ran : List RuleName) : Type 0 where
   pub files : ForUpdate wanted status (ExactlyTheFiles next (world_in old) (world_in new))
-  pub needed : ForUpdate wanted status (OnlyWhatIsNeeded next (goes_on wanted) (world_in old) (world_in new) ran)
+  pub needed : ForUpdate wanted status (OnlyWhatIsNeeded next (goes_on wanted) 1 (world_in old) (world_in new) ran)
   pub blamed : ForUpdate wanted status (IsToBlame next (world_in old) (world_in new) ran)
   pub settled : ForUpdate wanted status (OnceDone (IsDurable (left_since new (moment_of new)) (world_in new)))
   pub states : BringsUp wanted → States next (world_in old) (world_in new)

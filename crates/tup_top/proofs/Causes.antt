@@ -1,15 +1,17 @@
 -- How an order ends whose update came out so: what is promised of the update holds of the status that tells of it.
-use Rattle.std.proofs.Common.{◌≡◌, inl, inr, ℕ, zero, suc, Bool, List, [], ◌∷◌, Option, None, Some, refl, sym, ap, subst, ◌∙◌, append-nil, arith}
+use Rattle.std.proofs.Common.{◌≡◌, inl, inr, ℕ, zero, suc, Bool, true, false, List, [], ◌∷◌, Option, None, Some, refl, sym, ap, subst, ◌∙◌, append-nil, arith}
 use Rattle.std.specs.List.{slice_get}
 use Rattle.std.proofs.lemmas.Bool.{false≢true}
+use Rattle.std.proofs.lemmas.List.Sorted.{IsPermutation-refl}
 use Rattle.tup_path.specs.Count.{Rose}
 use Rattle.tup_path.specs.Name.{Names}
 use Rattle.tup_site.specs.World.{World}
+use Rattle.tup_site.specs.declared.site.Site.{Ghosts as Site}
 use Rattle.tup_site.specs.declared.fault.SiteFailed.TheVariants.{Fault, TooLarge, Memory as NoMemory}
 use Rattle.tup_rule.specs.declared.rule.RuleName.{RuleName}
 use Rattle.tup_access.specs.declared.verdict.Verdict.TheVariants.{Good, Failed, IllegalRead as ReadsIllegally, IllegalWrite as WritesIllegally, Unwritten as LeavesUnwritten, TooManyReads as ReadsTooOften}
-use Rattle.tup_promise.specs.Cause.{HasRunCause, HasCountedCause as StopHasCountedCause, PassesLimit}
-use Rattle.tup_phases.specs.Logged.{IsLogged}
+use Rattle.tup_promise.specs.Cause.{HasRunCause, HasCountedCause as StopHasCountedCause, OneRose, PassesLimit}
+use Rattle.tup_phases.specs.Logged.{EndsFirst, IsLogged}
 use Rattle.tup_promise.specs.Ran.{RunsThese}
 use Rattle.tup_promise.specs.Unopened.{Unopened}
 use Rattle.tup_promise.specs.declared.fault.SourcesFault.{SourcesFault}
@@ -18,9 +20,8 @@ use Rattle.tup_promise.specs.declared.log.Log.{Log}
 use Rattle.tup_promise.specs.declared.stop.Stop.{Stop}
 use Rattle.tup_promise.specs.declared.stop.Stop.TheVariants.{NoStore, BadStore as StoreDamaged, Sources, UserFile as IsUsers, Bad, Run, Full, Outside}
 use Rattle.tup_top.specs.Lines.{lines}
-use Rattle.tup_top.specs.Crew.{OneRose}
 use Rattle.tup_top.specs.Promise.{Counts, AreSteady, OneFailedAtMost, HasCountedCause, Logs, OpensStore}
-use Rattle.tup_top.specs.Printed.{IsDone, Ends, Prints, Told, PrintsUpdate}
+use Rattle.tup_top.specs.Printed.{IsDone, Ends, Prints, Told, PrintsUpdate, SaysWhyOf}
 use Rattle.tup_top.specs.Status.{status_of, status_of_sources, IfCame, after_sink_fault}
 use Rattle.tup_top.specs.declared.status.Status.{Status}
 use Rattle.tup_top.specs.declared.status.Status.TheVariants.{Done, Command, IllegalRead, IllegalWrite, Unwritten, TooManyReads, Usage, NotInit, AlreadyInit, BadStore, Parse, CircularDirs, CircularCommands, NoSuchGroup, UserFile, SiteFault, RunFault, SinkFault, Limit, Memory, Differs}
@@ -262,22 +263,51 @@ never_rose one = by one.at one.was one.is one.stood one.stands one.rose
     by zero was is stood stands (inr end) = let same : is ≡ 0 = cc stands in omega (arith, same, end)
     by (suc at) was is stood stands rose = absurd (cc stood)
 
+-- where no rule was begun none lacks its end
+pub none_begun : (jobs : ℕ) → EndsFirst jobs (record { read = []; removed = []; ran = []; ended = [] })
+none_begun jobs = record { rest = []; begun = record { all = IsPermutation-refl []; alone = λ _. refl } }
+
 -- an update for which there was no memory before it began
-abbrev pub told_nothing : (site keep_going : Bool) (w : World) → Told site keep_going w w []
-told_nothing site keep_going w = record {
+abbrev pub told_nothing : (site keep_going : Bool) (says : List (Option (List ℕ)) → Type 0) → says [] → (w : World) → Told site keep_going says w w []
+told_nothing site keep_going says none w = record {
   log = record { read = []; removed = []; ran = []; ended = [] };
+  because = [];
+  said = none;
   stopped = Some (Outside NoMemory);
   begun = refl;
-  logged = record { rest = []; first = refl };
+  logged = none_begun 1;
   unopened = λ _. inr (record { world = inl refl; empty = record { read = refl; removed = refl; ran = refl; ended = refl } });
 }
 
-pub prints_no_update : (site keep_going : Bool) (w : World) (before now : ℕ) (held : List ℕ) → PrintsUpdate site keep_going w w [] before now held held Memory
-prints_no_update site keep_going w before now held = record {
-  told = told_nothing site keep_going w;
+pub prints_no_update : (site keep_going : Bool) (says : List (Option (List ℕ)) → Type 0) → says [] → (w : World) (before now : ℕ) (held : List ℕ) → PrintsUpdate site keep_going says w w [] before now held held Memory
+prints_no_update site keep_going says none w before now held = record {
+  told = told_nothing site keep_going says none w;
   ends = inl refl;
-  prints = prints_nothing Memory (lines (told_nothing site keep_going w).log Memory) before now held;
+  prints = prints_nothing Memory (lines (told_nothing site keep_going says none w).log [] Memory) before now held;
 }
+
+-- of an update that began no rule nothing is said
+pub says_none : {S : Type 0} (site : Site S) (old : S) (explain : Bool) → SaysWhyOf site old explain [] []
+says_none site old true = (refl, λ tells kept asked. inl (refl, refl))
+says_none site old false = (refl, λ tells kept asked. inl (refl, refl))
+
+-- the lines of an update over a world that is this one, of whose rules less is said
+module _ (site keep_going : Bool) (P Q : List (Option (List ℕ)) → Type 0) (was world left : World) (ran : List RuleName) (before now : ℕ) (old new : List ℕ) (answer : Status) where
+  abbrev told_less : Told site keep_going P was left ran → ((chains : List (Option (List ℕ))) → P chains → Q chains) → Told site keep_going Q was left ran
+  told_less told on = record {
+    log = told.log;
+    because = told.because;
+    said = on told.because told.said;
+    stopped = told.stopped;
+    begun = told.begun;
+    logged = told.logged;
+    unopened = told.unopened;
+  }
+
+  pub says_less : was ≡ world → PrintsUpdate site keep_going P was left ran before now old new answer → ((chains : List (Option (List ℕ))) → P chains → Q chains) → PrintsUpdate site keep_going Q world left ran before now old new answer
+  says_less same given on =
+      let less : PrintsUpdate site keep_going Q was left ran before now old new answer = record { told = told_less given.told on; ends = given.ends; prints = given.prints } in
+      subst (λ (w : World). PrintsUpdate site keep_going Q w left ran before now old new answer) same less
 
 -- ---- how the store was gone on from
 
@@ -298,11 +328,11 @@ module _ (old new : World) (ran : List RuleName) (log : Log) (begun : log.ran �
 -- ---- what its log says
 
 -- nothing was begun
-pub logs_nothing : (keep_going : Bool) → Logs keep_going [] (Some (Outside NoMemory))
-logs_nothing keep_going = (Some (Outside NoMemory), record { read = []; removed = []; ran = []; ended = [] }, refl, record { rest = []; first = refl })
+pub logs_nothing : (jobs : ℕ) (keep_going : Bool) → Logs jobs keep_going [] (Some (Outside NoMemory))
+logs_nothing jobs keep_going = (Some (Outside NoMemory), record { read = []; removed = []; ran = []; ended = [] }, refl, none_begun jobs)
 
-module _ (keep_going : Bool) (ran : List RuleName) (log : Log) (begun : log.ran ≡ ran) where
-  pub logs_so : (stopped : Option Stop) → IsLogged keep_going log stopped → Logs keep_going ran stopped
+module _ (jobs : ℕ) (keep_going : Bool) (ran : List RuleName) (log : Log) (begun : log.ran ≡ ran) where
+  pub logs_so : (stopped : Option Stop) → IsLogged jobs keep_going log stopped → Logs jobs keep_going ran stopped
   logs_so None it = (log, begun, it)
   logs_so (Some NoStore) it = (log, begun, it)
   logs_so (Some (StoreDamaged offset)) it = (log, begun, it)

@@ -12,7 +12,8 @@ use Rattle.tup_promise.specs.Ran.{RunsThese}
 use Rattle.tup_compare.specs.declared.compare.Compared.{Compared}
 use Rattle.tup_promise.specs.declared.stop.Stop.{Stop}
 use Rattle.tup_promise.specs.declared.stop.Stop.TheVariants.{Outside}
-use Rattle.tup_top.specs.Crew.{OneRose, CrewRuns, CrewCompares}
+use Rattle.tup_promise.specs.Cause.{OneRose}
+use Rattle.tup_top.specs.Crew.{CrewRuns, CrewCompares}
 use Rattle.tup_top.specs.Promise.{Counts, beside, AreSteady, OneFailedAtMost, HasCountedCause, HasComparedCause}
 use Rattle.tup_top.specs.declared.status.Status.{Status}
 use Rattle.tup_top.specs.declared.status.Status.TheVariants.{Done, Command, IllegalRead, IllegalWrite, Unwritten, TooManyReads, Usage, NotInit, AlreadyInit, BadStore, Parse, CircularDirs, CircularCommands, NoSuchGroup, UserFile, SiteFault, RunFault, SinkFault, Limit, Memory, Differs}

@@ -5,6 +5,7 @@ use Rattle.tup_path.specs.Name.{Names}
 use Rattle.tup_path.specs.Order.{by_names}
 use Rattle.tup_site.specs.World.{World}
 use Rattle.tup_rule.specs.declared.rule.RuleName.{RuleName}
+use Rattle.tup_table.specs.Store.{header, IsLow}
 use Rattle.tup_graph.specs.Graph.{empty_graph}
 use Rattle.tup_graph.specs.declared.owned.Owned.{Owned}
 use Rattle.tup_ledger.specs.Listing.{Lists}
@@ -26,10 +27,20 @@ no_length (item ∷ items) e = absurd (omega (arith, e))
 owns_nothing : finite.keys empty_graph.owned ≡ []
 owns_nothing = ap (map (λ (entry : Names × Owned). entry.0)) (no_length (finite.entries empty_graph.owned) (sym (finite.len-entries empty_graph.owned) ∙ finite.len-empty by_names Owned))
 
+-- the switch of its store is closed, and nothing stands in the low area
+begun_low : IsLow demo_world.store []
+begun_low = record {
+  head = header;
+  low = 0 ∷ [];
+  parts = record { is_head = record { long = refl; first = refl }; whole = refl };
+  closed = λ e. (let no : 0 ≡ 1 = e in omega (arith, no));
+  area = (0 ∷ [], record { fits = tt; whole = refl }, inl (λ e. omega (arith, e)));
+}
+
 lists_nothing : Lists demo_world.store []
 lists_nothing = record {
   graph = empty_graph;
-  store = record { entries = []; leaves = ([], (0 ∷ [], record { fits = tt; whole = refl }, inl (λ e. absurd (omega (arith, e)))), refl); stands = refl };
+  store = record { entries = []; leaves = ([], inl begun_low, refl); stands = refl };
   owned = sym owns_nothing;
 }
 

@@ -9,3 +9,4 @@ pub mod Shown
 pub mod Demo
 pub mod Untouched
 pub mod Foreseen
+mod Behind

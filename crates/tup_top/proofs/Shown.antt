@@ -1,5 +1,5 @@
 -- What a demo answers whose small project couldn't begin: there was no memory.
-use Rattle.std.proofs.Common.{◌≡◌, inl, inr, ℕ, true, false, List, [], Err, sym, ap, subst, ◌∙◌}
+use Rattle.std.proofs.Common.{◌≡◌, refl, inl, inr, ℕ, true, false, List, [], Err, sym, ap, subst, ◌∙◌}
 use Rattle.tup_graph.specs.declared.fault.GraphFault.{GraphFault}
 use Rattle.tup_graph.specs.declared.fault.GraphFault.TheVariants as graph
 use Rattle.tup_top.specs.Lines.{last_line}
@@ -31,7 +31,7 @@ module _ (before now : ℕ) (fault : GraphFault) (status answer : Status) (memor
     [],
     demo_world,
     record {
-      told = told_nothing true false demo_world;
+      told = told_nothing true false (λ chains. chains ≡ []) refl demo_world;
       ends = ends_so;
       prints = subst (λ (s : Status). Prints s (last_line s) before now held grown answer) it_is prints;
     },

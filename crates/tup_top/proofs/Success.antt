@@ -9,7 +9,7 @@ use Rattle.tup_compare.specs.Compared.{HasCompared}
 use Rattle.tup_promise.specs.Blamed.{HasFileOf}
 use Rattle.tup_compare.proofs.Held.{undamaged, there}
 use Rattle.tup_top.specs.Status.{IfCompared}
-use Rattle.tup_top.specs.Crew.{OneRose}
+use Rattle.tup_promise.specs.Cause.{OneRose}
 use Rattle.tup_top.specs.Promise.{HasComparedCause, Counts, NothingFailed, CanBeCompared, IsComparisonOrMemory}
 use Rattle.tup_top.specs.declared.status.What.TheVariants.{Files, FileSize, Commands, Links, StoreSize}
 use Rattle.tup_top.specs.declared.status.Status.{Status}

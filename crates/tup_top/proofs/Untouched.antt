@@ -1,5 +1,5 @@
 -- What an update promises of a kept site to which nothing was done.
-use Rattle.std.proofs.Common.{◌≡◌, inl, List, [], Bool, Some, refl, sym, subst, arith}
+use Rattle.std.proofs.Common.{◌≡◌, inl, ℕ, List, [], Bool, Some, refl, sym, subst, arith}
 use Rattle.tup_site.specs.declared.fault.SiteFailed.TheVariants.{Memory as NoMemory}
 use Rattle.tup_site.specs.declared.site.Site.{Ghosts as Site}
 use Rattle.tup_rule.specs.declared.rule.RuleName.{RuleName}
@@ -32,10 +32,10 @@ module _ {S R : Type 0} (site : Site S) (runner : Runner R) (at : S) (here : Kep
   abbrev now : IsKeptWorld runner.next tupfiles (site.known at) (site.world at)
   now = here.kept.now
 
-  pub untouched_needed : ((entries : Standing) (g : GraphState) → IsGraphOf entries g → AreFlagsOfRules g) → (keep_going : Bool) (ran : List RuleName) → ran ≡ [] → OnlyWhatIsNeeded runner.next keep_going (site.world at) (site.world at) ran (Some (Outside NoMemory))
-  untouched_needed flags keep_going ran none =
-      subst (λ (names : List RuleName). OnlyWhatIsNeeded runner.next keep_going (site.world at) (site.world at) names (Some (Outside NoMemory))) (sym none) (record {
-        runs = none_runs runner.next keep_going (site.world at) (Some (Outside NoMemory)) tt;
+  pub untouched_needed : ((entries : Standing) (g : GraphState) → IsGraphOf entries g → AreFlagsOfRules g) → (keep_going : Bool) (jobs : ℕ) (ran : List RuleName) → ran ≡ [] → OnlyWhatIsNeeded runner.next keep_going jobs (site.world at) (site.world at) ran (Some (Outside NoMemory))
+  untouched_needed flags keep_going jobs ran none =
+      subst (λ (names : List RuleName). OnlyWhatIsNeeded runner.next keep_going jobs (site.world at) (site.world at) names (Some (Outside NoMemory))) (sym none) (record {
+        runs = none_runs runner.next keep_going jobs (site.world at) (Some (Outside NoMemory)) tt;
         flagged = untouched_flags site at runner.next here.kept flags;
       })
 

@@ -1,7 +1,6 @@
 -- The runners of one call: what they count, and what they ran.
-use Rattle.std.specs.Prelude.{◌≡◌, ◌<◌, ◌≤◌, ℕ, List, [], ◌∷◌, length, Option, Some, slice_get, Result}
+use Rattle.std.specs.Prelude.{◌≡◌, ◌<◌, ◌≤◌, ℕ, List, [], ◌∷◌, length, Option, Result}
 use Rattle.std.specs.Result.{result_err}
-use Rattle.tup_path.specs.Count.{Rose}
 use Rattle.tup_path.specs.Name.{Names}
 use Rattle.tup_site.specs.World.{World}
 use Rattle.tup_rule.specs.declared.rule.RuleName.{RuleName}
@@ -15,15 +14,6 @@ use Rattle.tup_top.specs.Order.{Wanted, IsUpdate, HasCommandsRun}
 -- a crew has a runner, and at most 16
 abbrev pub IsCrew : {R : Type 0} → List R → Type 0
 IsCrew {R} crew = (0 < length crew) × (length crew ≤ 16)
-
--- one of these counts rose
-pub record OneRose (before now : List ℕ) : Type 0 where
-  pub at : ℕ
-  pub was : ℕ
-  pub is : ℕ
-  pub stood : slice_get before at ≡ Some was
-  pub stands : slice_get now at ≡ Some is
-  pub rose : Rose was is
 
 -- the first runner was given the commands of these rules to run, and the others ran nothing
 abbrev pub CrewRuns : List RuleName → List (List (Names × List ℕ)) → List (List (Names × List ℕ)) → Option Stop → Type 0

@@ -1,5 +1,5 @@
 -- What is printed of an update (the wording is own): a line for each thing done, and a last one for how it ended.
-use Rattle.std.specs.Prelude.{ℕ, if◌then◌else◌, List, [], ◌∷◌, ◌++◌, drop, fold, take, None, Some, slice_get, unwrap_or, codes, decimal, Result, Ok, Err}
+use Rattle.std.specs.Prelude.{ℕ, ◌+◌, if◌then◌else◌, List, [], ◌∷◌, ◌++◌, drop, fold, take, Option, None, Some, slice_get, slice_index_or, unwrap_or, codes, decimal, Result, Ok, Err}
 use Rattle.std.specs.List.{flat_map, position_or_len}
 use Rattle.tup_path.specs.Name.{Names}
 use Rattle.tup_path.specs.Order.{same_path}
@@ -33,6 +33,20 @@ removed_line path = codes "remove " ++ (show path ++ 10 ∷ [])
 abbrev pub ended_line : EndedRule → List ℕ
 ended_line ended =
     (if is_good (Some ended.verdict) then codes "run " else codes "bad ") ++ (show ended.rule.dir ++ (codes ": " ++ (ended.label ++ 10 ∷ [])))
+
+-- why a rule was run; nothing where there is no chain
+abbrev pub because_line : Option (List ℕ) → List ℕ
+because_line None = []
+because_line (Some chain) = codes "  because " ++ (chain ++ 10 ∷ [])
+
+-- the chain at a place, where there is one
+abbrev pub chain_at : List (Option (List ℕ)) → ℕ → Option (List ℕ)
+chain_at chains at = slice_index_or chains at None
+
+-- what became of rules that ended, from this place on, and behind each why it was run
+abbrev pub ended_lines : ℕ → List EndedRule → List (Option (List ℕ)) → List ℕ
+ended_lines at [] chains = []
+ended_lines at (one ∷ more) chains = ended_line one ++ (because_line (chain_at chains at) ++ ended_lines (at + 1) more chains)
 
 -- a file that an update would remove
 abbrev pub removes_line : Names → List ℕ
@@ -136,10 +150,10 @@ abbrev pub compared_line : Status → List ℕ
 compared_line (Done read ran removed) = codes "same" ++ 10 ∷ []
 compared_line other = last_line other
 
--- all lines of an update with this log
-abbrev pub lines : Log → Status → List ℕ
-lines log status =
-    flat_map read_line log.read ++ (flat_map removed_line log.removed ++ (flat_map ended_line log.ended ++ last_line status))
+-- all lines of an update with this log, and with these chains of its rules
+abbrev pub lines : Log → List (Option (List ℕ)) → Status → List ℕ
+lines log chains status =
+    flat_map read_line log.read ++ (flat_map removed_line log.removed ++ (ended_lines 0 log.ended chains ++ last_line status))
 
 -- the lists of what an update would do, behind the folders that were read
 abbrev pub listed_lines : Todo → List ℕ

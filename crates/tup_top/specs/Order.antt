@@ -16,7 +16,7 @@ Wanted = Result Order ℕ
 
 -- the words ask for an update
 abbrev pub IsUpdate : Wanted → Type 0
-IsUpdate (Ok (Upd program keep_going quiet verbose)) = ⊤
+IsUpdate (Ok (Upd program keep_going quiet verbose explain)) = ⊤
 IsUpdate (Ok Init) = ⊥
 IsUpdate (Ok Todo) = ⊥
 IsUpdate (Ok Verify) = ⊥
@@ -25,7 +25,7 @@ IsUpdate (Err place) = ⊥
 
 -- the words ask for an update, or for what it would do: both bring the store up to date with the files
 abbrev pub BringsUp : Wanted → Type 0
-BringsUp (Ok (Upd program keep_going quiet verbose)) = ⊤
+BringsUp (Ok (Upd program keep_going quiet verbose explain)) = ⊤
 BringsUp (Ok Init) = ⊥
 BringsUp (Ok Todo) = ⊤
 BringsUp (Ok Verify) = ⊥
@@ -34,7 +34,7 @@ BringsUp (Err place) = ⊥
 
 -- the words ask for a comparison
 abbrev pub IsVerify : Wanted → Type 0
-IsVerify (Ok (Upd program keep_going quiet verbose)) = ⊥
+IsVerify (Ok (Upd program keep_going quiet verbose explain)) = ⊥
 IsVerify (Ok Init) = ⊥
 IsVerify (Ok Todo) = ⊥
 IsVerify (Ok Verify) = ⊤
@@ -43,7 +43,7 @@ IsVerify (Err place) = ⊥
 
 -- the words ask that a project begins
 abbrev pub IsInit : Wanted → Type 0
-IsInit (Ok (Upd program keep_going quiet verbose)) = ⊥
+IsInit (Ok (Upd program keep_going quiet verbose explain)) = ⊥
 IsInit (Ok Init) = ⊤
 IsInit (Ok Todo) = ⊥
 IsInit (Ok Verify) = ⊥
@@ -52,7 +52,7 @@ IsInit (Err place) = ⊥
 
 -- the words ask for an update or a comparison, which have commands run
 abbrev pub HasCommandsRun : Wanted → Type 0
-HasCommandsRun (Ok (Upd program keep_going quiet verbose)) = ⊤
+HasCommandsRun (Ok (Upd program keep_going quiet verbose explain)) = ⊤
 HasCommandsRun (Ok Init) = ⊥
 HasCommandsRun (Ok Todo) = ⊥
 HasCommandsRun (Ok Verify) = ⊤
@@ -61,7 +61,7 @@ HasCommandsRun (Err place) = ⊥
 
 -- whether what is asked for goes on after a bad verdict
 abbrev pub goes_on : Wanted → Bool
-goes_on (Ok (Upd program keep_going quiet verbose)) = keep_going
+goes_on (Ok (Upd program keep_going quiet verbose explain)) = keep_going
 goes_on (Ok Init) = false
 goes_on (Ok Todo) = false
 goes_on (Ok Verify) = false
@@ -83,7 +83,7 @@ alone place order (word ∷ words) = Err place
 
 -- the options of no words
 abbrev pub no_options : Options
-no_options = record { program = NotNamed; keep_going = false; quiet = false; verbose = false }
+no_options = record { program = NotNamed; keep_going = false; quiet = false; verbose = false; explain = false }
 
 -- whether the next word names the program
 abbrev pub is_awaited : Program → Bool
@@ -99,6 +99,10 @@ awaiting_program options = elim options.program [ NotNamed ↦ Some (record opti
 abbrev pub going_on : Options → Option Options
 going_on options = if options.keep_going then None else Some (record options { keep_going = true })
 
+-- options and that it says why each rule was run; none where they say so
+abbrev pub explaining : Options → Option Options
+explaining options = if options.explain then None else Some (record options { explain = true })
+
 -- options and what is shown; none where they say anything of that
 abbrev pub showing : Bool → Bool → Options → Option Options
 showing quiet verbose options = if options.quiet || options.verbose then None else Some (record options { quiet = quiet; verbose = verbose })
@@ -108,6 +112,7 @@ abbrev pub with_option : List ℕ → Options → Option Options
 with_option name options =
     if bytes_eq name (codes "--proc") then awaiting_program options
     else if bytes_eq name (codes "-k") then going_on options
+    else if bytes_eq name (codes "--explain") then explaining options
     else if bytes_eq name (codes "--quiet") then showing true false options
     else if bytes_eq name (codes "--verbose") then showing false true options
     else None
@@ -119,9 +124,9 @@ taken word options = if is_awaited options.program then Some (record options { p
 -- the update that options ask for; where their program is missing, it would stand at a place
 abbrev pub ended : ℕ → Options → Wanted
 ended place options = elim options.program [
-  | NotNamed ↦ Ok (Upd None options.keep_going options.quiet options.verbose)
+  | NotNamed ↦ Ok (Upd None options.keep_going options.quiet options.verbose options.explain)
   | Awaited ↦ Err place
-  | Named program ↦ Ok (Upd (Some program) options.keep_going options.quiet options.verbose)
+  | Named program ↦ Ok (Upd (Some program) options.keep_going options.quiet options.verbose options.explain)
 ]
 
 -- the update that options ask for, and those of further words, the first of which stands at a place
@@ -141,7 +146,7 @@ one_if b = if b then 1 else 0
 
 -- how many words made these options
 abbrev pub count : Options → ℕ
-count options = words_of_program options.program + one_if options.keep_going + one_if options.quiet + one_if options.verbose
+count options = words_of_program options.program + one_if options.keep_going + one_if options.quiet + one_if options.verbose + one_if options.explain
 
 -- no words mean an update, and so do options without an order
 abbrev pub order : List Word → Wanted

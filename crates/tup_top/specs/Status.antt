@@ -57,7 +57,7 @@ most Files = 65536
 most FileSize = 16777216
 most Commands = 65536
 most Links = 4194304
-most StoreSize = 1073741824
+most StoreSize = 268435456
 
 -- the status of a rule that isn't Good
 abbrev pub status_of_bad : RuleName → Verdict → Status

@@ -20,7 +20,7 @@ ghost use Rattle.tup_compare.specs.Opened.{JustOpens};
 ghost use Rattle.tup_top.specs.Order.{BringsUp, IsUpdate, goes_on, order};
 ghost use Rattle.tup_top.specs.Crew.{IsCrew, CrewRuns, CrewCompares, NothingRun};
 ghost use Rattle.tup_top.specs.Lines.{last_line as line_of};
-ghost use Rattle.tup_top.specs.Printed.{Printed, Prints};
+ghost use Rattle.tup_top.specs.Printed.{Printed, Prints, SaysWhyOf};
 ghost use Rattle.tup_top.specs.Promise.{FindsOut, ForUpdate, ForInit, ForTodo, ForVerify};
 ghost use Rattle.tup_top.specs.Promise.{Lasts, Logs, NothingDone};
 ghost use Rattle.tup_top.specs.Promise.{OnceDone, OpensStore, QuietStep, Spares};
@@ -41,6 +41,7 @@ use tup_rule::RuleName;
 use tup_runner::Runner;
 use tup_site::Site;
 use tup_tell::Sink;
+use tup_update::Asked;
 
 /// How an order ended, with the site and the crew as it left them.
 #[derive(Drop)]
@@ -89,7 +90,7 @@ pub fn tup<S: Site, R: Runner, K: Sink>(
     // Nothing is begun before the sources are read, and each rule that is begun comes to its end,
     // but the last one where something else than a bad verdict stops it.
     ensures logged { ForUpdate (order words.now) result.status
-        (Logs (goes_on (order words.now)) result.ran) }
+        (Logs 1 (goes_on (order words.now)) result.ran) }
     // Finding out what an update would do tells how it went on from the store, too. Over a kept site
     // a blame of the sources is true, and no more is to be run then than was due.
     ensures found_out { IsTrue S.tells → let old = S.world site in
@@ -112,7 +113,7 @@ pub fn tup<S: Site, R: Runner, K: Sink>(
     ensures only_what_is_needed { KeptHere S.Site.own R.Runner.own site
         → let old = S.world site in let new = S.world result.site in
         ForUpdate (order words.now) result.status
-        (OnlyWhatIsNeeded R.next (goes_on (order words.now)) old new result.ran) }
+        (OnlyWhatIsNeeded R.next (goes_on (order words.now)) 1 old new result.ran) }
     ensures blamed { KeptHere S.Site.own R.Runner.own site
         → let old = S.world site in let new = S.world result.site in
         ForUpdate (order words.now) result.status (IsToBlame R.next old new result.ran) }
@@ -172,14 +173,25 @@ pub fn tup<S: Site, R: Runner, K: Sink>(
         → let before = K.faults out.old in let now = K.faults out.new in
         let old = S.world site in let new = S.world result.site in
         let kept = IsTrue S.tells × IsKeptBySome S.Site.own site in
-        Printed S.tells R.tells kept (order words.now) R.next old new result.ran before now
+        let says = SaysWhyOf S.Site.own site in
+        Printed S.tells R.tells kept says (order words.now) R.next old new result.ran before now
         (K.held out.old) (K.held out.new) result.status }
 {
     flags_are_of_rules();
     match order_of(words) {
-        Ok(Order::Upd { keep_going, .. }) => {
+        Ok(
+            Order::Upd {
+                keep_going,
+                explain,
+                ..
+            },
+        ) => {
             let mut crew = crew;
-            let Ended { status, site, ran } = update(alloc, site, &mut crew[0], keep_going, out);
+            let asked = Asked {
+                keep_going,
+                explain,
+            };
+            let Ended { status, site, ran } = update(alloc, site, &mut crew[0], asked, out);
             Ran {
                 status,
                 site,

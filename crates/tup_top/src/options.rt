@@ -22,6 +22,7 @@ pub(crate) struct Options {
     pub(crate) keep_going: bool,
     pub(crate) quiet: bool,
     pub(crate) verbose: bool,
+    pub(crate) explain: bool,
 }
 
 impl Options {
@@ -34,6 +35,7 @@ impl Options {
             keep_going: false,
             quiet: false,
             verbose: false,
+            explain: false,
         }
     }
 
@@ -60,6 +62,7 @@ impl Options {
         match name {
             "--proc" => self.awaiting_program(),
             "-k" => self.going_on(),
+            "--explain" => self.explaining(),
             "--quiet" => self.showing(true, false),
             "--verbose" => self.showing(false, true),
             _ => None,
@@ -93,6 +96,21 @@ impl Options {
         }
         Some(Options {
             keep_going: true,
+            ..self
+        })
+    }
+
+    /// These options and that it says why each rule was run; none where they say so.
+    fn explaining(self) -> Option<Options>
+        ensures taken { result ≡ specs.explaining self }
+        ensures counted { IfSome result
+            (λ options. specs.count options ≡ specs.count self + 1) }
+    {
+        if self.explain {
+            return None;
+        }
+        Some(Options {
+            explain: true,
             ..self
         })
     }

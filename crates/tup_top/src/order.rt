@@ -27,6 +27,8 @@ pub enum Order {
         quiet: bool,
         /// Whether each command is shown while it runs.
         verbose: bool,
+        /// Whether it says why each rule was run.
+        explain: bool,
     },
     /// List what an update would remove and run, and do neither.
     Todo,
@@ -120,6 +122,7 @@ fn ended(place: u32, given: Options) -> Result<Order, OrderFault>
         keep_going,
         quiet,
         verbose,
+        explain,
     } = given;
     let program = match program {
         Program::NotNamed => None,
@@ -131,5 +134,6 @@ fn ended(place: u32, given: Options) -> Result<Order, OrderFault>
         keep_going,
         quiet,
         verbose,
+        explain,
     })
 }

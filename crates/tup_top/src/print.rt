@@ -8,19 +8,25 @@ ghost use Rattle.tup_top.specs.Status.{after_sink_fault as spec_after};
 use crate::status::Status;
 use std::alloc::{AllocError, Global};
 use tup_access::Verdict;
-use tup_path::{Bytes, Path};
+use tup_path::{Bytes, Path, Text};
 use tup_promise::{EndedRule, Log};
 use tup_tell::{Sink, SinkFailed};
 use tup_todo::{DueRule, Todo};
 
-/// All lines of an update with this log, the last one for its status.
-pub(crate) fn lines(alloc: Global, log: &Log, status: &Status) -> Result<Bytes, AllocError>
-    ensures { IfOk result (λ text. text ≡ specs.lines log.now status.now) }
+/// All lines of an update with this log, the last one for its status. Behind that of each rule stands why it was run, where
+/// there is a chain.
+pub(crate) fn lines(
+    alloc: Global,
+    log: &Log,
+    because: &[Option<Text>],
+    status: &Status,
+) -> Result<Bytes, AllocError>
+    ensures { IfOk result (λ text. text ≡ specs.lines log.now because.now status.now) }
 {
     let mut text = String::new(alloc);
     add_read(&mut text, log.read.as_slice())?;
     add_removed(&mut text, log.removed.as_slice())?;
-    add_ended(&mut text, log.ended.as_slice())?;
+    add_ended(&mut text, log.ended.as_slice(), because)?;
     writeln!(text, "{status}")?;
     Ok(Bytes::new(text.into_bytes()))
 }
@@ -118,15 +124,42 @@ fn add_runs(text: &mut String, rules: &[DueRule]) -> Result<(), AllocError>
     Ok(())
 }
 
-/// Adds a line for each rule that ended.
-fn add_ended(text: &mut String, ended: &[EndedRule]) -> Result<(), AllocError>
-    ensures { OnOk result
-        (string_bytes text.new ≡ string_bytes text.old ++ flat_map specs.ended_line ended.now) }
+/// Adds a line for each rule that ended, and behind it why it was run.
+fn add_ended(
+    text: &mut String,
+    ended: &[EndedRule],
+    because: &[Option<Text>],
+) -> Result<(), AllocError>
+    ensures { OnOk result (string_bytes text.new
+        ≡ string_bytes text.old ++ specs.ended_lines 0 ended.now because.now) }
 {
-    for one in ended {
+    for (at, one) in ended.iter().enumerate() {
         add_verdict(text, one)?;
+        add_because(text, because, at)?;
     }
     Ok(())
+}
+
+/// Adds a line for the chain at a place, if there is one.
+fn add_because(text: &mut String, because: &[Option<Text>], at: usize) -> Result<(), AllocError>
+    ensures { OnOk result (string_bytes text.new
+        ≡ string_bytes text.old ++ specs.because_line (specs.chain_at because.now at)) }
+{
+    match because.get(at) {
+        Some(chain) => add_chain(text, chain),
+        None => Ok(()),
+    }
+}
+
+/// Adds the line of a chain, if there is one.
+fn add_chain(text: &mut String, chain: &Option<Text>) -> Result<(), AllocError>
+    ensures { OnOk result
+        (string_bytes text.new ≡ string_bytes text.old ++ specs.because_line chain.now) }
+{
+    match chain {
+        Some(chain) => writeln!(text, "  because {chain}"),
+        None => Ok(()),
+    }
 }
 
 /// Adds the line of a rule that ended.

@@ -29,7 +29,7 @@ pub enum What {
     Commands,
     /// The inputs that all rules declare.
     Links,
-    /// The bytes of the store.
+    /// The bytes of the store, once it is compacted.
     StoreSize,
 }
 
@@ -42,7 +42,7 @@ impl What {
             What::Files | What::Commands => 1 << 16,
             What::FileSize => 1 << 24,
             What::Links => 1 << 22,
-            What::StoreSize => 1 << 30,
+            What::StoreSize => 1 << 28,
         }
     }
 }

@@ -17,7 +17,8 @@ ghost use Rattle.tup_promise.specs.Ran.{RunsThese};
 ghost use Rattle.tup_promise.specs.Unopened.{IsReadable};
 ghost use Rattle.tup_promise.specs.Users.{HasUsersFile, IsHeldUp};
 ghost use Rattle.tup_top.specs.Lines.{lines as lines_of};
-ghost use Rattle.tup_top.specs.Printed.{Ends, IsDone, Prints, PrintsDemo, PrintsUpdate, demo_world};
+ghost use Rattle.tup_top.specs.Printed.{Ends, IsDone, Prints, PrintsDemo, PrintsUpdate, SaysWhyOf};
+ghost use Rattle.tup_top.specs.Printed.{demo_world};
 ghost use Rattle.tup_top.specs.Promise.{HasCountedCause, HasDemoCause, Logs, OnceDone};
 ghost use Rattle.tup_top.specs.Promise.{OpensStore, Spares, counts};
 ghost use Rattle.tup_top.specs.Status.{IfCame, status_of as told_by};
@@ -29,13 +30,13 @@ use tup_demo::{SteadySite, demo_project};
 use tup_graph::GraphFault;
 use tup_ledger::begin;
 use tup_mini::Mini;
-use tup_path::Items;
+use tup_path::{Items, Text};
 use tup_promise::{Log, Stop};
 use tup_rule::RuleName;
 use tup_runner::Runner;
 use tup_site::{MemRefused, Site};
 use tup_tell::Sink;
-use tup_update::{Updated, update_site};
+use tup_update::{Asked, Updated, update_site};
 
 /// How an update ended, with the site as it left it.
 #[derive(Drop)]
@@ -47,12 +48,12 @@ pub(crate) struct Ended<S> {
 }
 
 /// Updates the files of a site by a runner, going on after a bad verdict or not, and prints the
-/// lines of this update.
+/// lines of this update, with why each rule was run where that is asked.
 pub(crate) fn update<S: Site, R: Runner, K: Sink>(
     alloc: Global,
     site: S,
     runner: &mut R,
-    keep_going: bool,
+    asked: Asked,
     out: &mut K,
 ) -> Ended<S>
     ensures opens_store { IsTrue S.tells → let old = S.world site in
@@ -67,7 +68,7 @@ pub(crate) fn update<S: Site, R: Runner, K: Sink>(
     ensures only_what_is_needed { KeptHere S.Site.own R.Runner.own site
         → let old = S.world site in let new = S.world result.site in
         IfCame result.status
-        (OnlyWhatIsNeeded R.next keep_going old new result.ran) }
+        (OnlyWhatIsNeeded R.next asked.keep_going 1 old new result.ran) }
     ensures blamed { KeptHere S.Site.own R.Runner.own site
         → let old = S.world site in let new = S.world result.site in
         IfCame result.status (IsToBlame R.next old new result.ran) }
@@ -89,7 +90,7 @@ pub(crate) fn update<S: Site, R: Runner, K: Sink>(
     ensures spares { IsTrue S.tells → let old = S.world site in
         let new = S.world result.site in IfCame result.status (Spares old new) }
     // Whatever site and runner are: how far it came, what became of the rules, and why it ended.
-    ensures logged { IfCame result.status (Logs keep_going result.ran) }
+    ensures logged { IfCame result.status (Logs 1 asked.keep_going result.ran) }
     ensures counted_cause { let counted = counts S.faults R.faults K.faults in
         let before = counted site (runner.old ∷ []) out.old in
         let now = counted result.site (runner.new ∷ []) out.new in
@@ -99,11 +100,17 @@ pub(crate) fn update<S: Site, R: Runner, K: Sink>(
     ensures printed { IsTrue K.tells
         → let before = K.faults out.old in let now = K.faults out.new in
         let old = S.world site in let new = S.world result.site in
-        PrintsUpdate S.tells keep_going old new result.ran before now
+        let says = SaysWhyOf S.Site.own site asked.explain result.ran in
+        PrintsUpdate S.tells asked.keep_going says old new result.ran before now
         (K.held out.old) (K.held out.new) result.status }
 {
-    let Updated { site, log, stopped } = update_site(alloc, site, runner, keep_going);
-    let status = tell_all(alloc, &log, stopped, out);
+    let Updated {
+        site,
+        log,
+        because,
+        stopped,
+    } = update_site(alloc, site, runner, asked);
+    let status = tell_all(alloc, &log, because.as_slice(), stopped, out);
     Ended {
         status,
         site,
@@ -113,16 +120,22 @@ pub(crate) fn update<S: Site, R: Runner, K: Sink>(
 
 /// Prints the lines of an update that did what its log says and stopped so, and says how the order
 /// ends then.
-fn tell_all<K: Sink>(alloc: Global, log: &Log, stopped: Option<Stop>, out: &mut K) -> Status
+fn tell_all<K: Sink>(
+    alloc: Global,
+    log: &Log,
+    because: &[Option<Text>],
+    stopped: Option<Stop>,
+    out: &mut K,
+) -> Status
     ensures ends { Ends (K.faults out.old) (K.faults out.new) (told_by log.now stopped) result }
     ensures counted { IsDone result → K.faults out.new ≡ K.faults out.old }
     ensures prints { IsTrue K.tells → let status = told_by log.now stopped in
         let before = K.faults out.old in let now = K.faults out.new in
-        Prints status (lines_of log.now status) before now (K.held out.old) (K.held out.new)
-        result }
+        Prints status (lines_of log.now because.now status) before now
+        (K.held out.old) (K.held out.new) result }
 {
     let status = status_of(log, stopped);
-    match lines(alloc, log, &status) {
+    match lines(alloc, log, because, &status) {
         Ok(text) => print(alloc, &text, status, out),
         Err(_) => Status::Memory,
     }
@@ -135,8 +148,12 @@ pub(crate) fn demo<K: Sink>(alloc: Global, out: &mut K) -> Status
         → let before = K.faults out.old in let now = K.faults out.new in
         PrintsDemo before now (K.held out.old) (K.held out.new) result }
 {
+    let plain = Asked {
+        keep_going: false,
+        explain: false,
+    };
     match demo_site(alloc) {
-        Ok(site) => update(alloc, site, &mut Mini::new(alloc), false, out).status,
+        Ok(site) => update(alloc, site, &mut Mini::new(alloc), plain, out).status,
         Err(fault) => tell(alloc, status_of_begun(Err(fault)), out),
     }
 }

@@ -18,9 +18,11 @@ use Rattle.tup_promise.specs.Users.{IsHeldUp}
 use Rattle.tup_ends.proofs.Staying.{sources_kept}
 use Rattle.tup_top.specs.Crew.{CrewRuns, CrewCompares}
 use Rattle.tup_top.specs.Order.{Wanted, goes_on, order}
+use Rattle.tup_top.specs.Printed.{SaysWhyOf}
 use Rattle.tup_top.specs.Promise.{OnceDone, FindsOut, ForTodo, ForUpdate, ForVerify, Lasts, Logs, NothingDone, QuietStep, HasPlainCause, Spares, counts}
 use Rattle.tup_top.proofs.Begun.{initializes_so}
 use Rattle.tup_top.proofs.Crewed.{crew_cause, crew_compared, crew_runs, crew_compares, no_crew_ran, others_stay}
+use Rattle.tup_top.proofs.Causes.{says_none}
 use Rattle.tup_top.proofs.Idle.{idle, memory_causes, memory_found_out, memory_for_init, memory_for_update, memory_for_verify, memory_logs, memory_opens, memory_prints}
 use Rattle.tup_top.proofs.Success.{compares_so}
 use Rattle.tup_top.proofs.Untouched.{untouched_crashes, untouched_flags, untouched_needed, untouched_states}
@@ -41,7 +43,7 @@ pub returns-in-Ok-Upd-clause-logged : goal.returns-in-Ok-Upd-clause-logged
 returns-in-Ok-Upd-clause-logged g c =
     let wanted = rw c.in-Ok-Upd.is at c.order_of.ensures in
     let is = rw c.in-Ok-Upd.field-0-is at wanted in
-    subst (λ (w : Wanted). ForUpdate w c.update-status.result.status (Logs (goes_on w) c.update-status.result.ran)) (sym is) c.update-status.ensures.logged
+    subst (λ (w : Wanted). ForUpdate w c.update-status.result.status (Logs 1 (goes_on w) c.update-status.result.ran)) (sym is) c.update-status.ensures.logged
 
 pub returns-in-Ok-Upd-clause-ran : goal.returns-in-Ok-Upd-clause-ran
 returns-in-Ok-Upd-clause-ran g c = λ tells.
@@ -140,11 +142,11 @@ returns-in-Ok-Verify-clause-compares g c = λ tells means _ can fine.
 
 pub returns-clause-printed : goal.returns-clause-printed
 returns-clause-printed g c = λ _.
-    memory_prints g.S.Site.tells g.R.Runner.tells (IsTrue g.S.Site.tells × IsKeptBySome g.S.Site c.args.site) (order c.args.words.now) g.R.Runner.next (g.S.Site.world c.args.site) c.new-in-Err-Memory.result (g.K.Sink.faults c.args.out.now) (g.K.Sink.held c.args.out.now)
+    memory_prints g.S.Site.tells g.R.Runner.tells (IsTrue g.S.Site.tells × IsKeptBySome g.S.Site c.args.site) (SaysWhyOf g.S.Site c.args.site) (says_none g.S.Site c.args.site) (order c.args.words.now) g.R.Runner.next (g.S.Site.world c.args.site) c.new-in-Err-Memory.result (g.K.Sink.faults c.args.out.now) (g.K.Sink.held c.args.out.now)
     c.new-in-Err-Memory.ensures
 
 pub returns-clause-logged : goal.returns-clause-logged
-returns-clause-logged g c = memory_logs (order c.args.words.now) (goes_on (order c.args.words.now)) c.new-in-Err-Memory.result c.new-in-Err-Memory.ensures
+returns-clause-logged g c = memory_logs (order c.args.words.now) 1 (goes_on (order c.args.words.now)) c.new-in-Err-Memory.result c.new-in-Err-Memory.ensures
 
 pub returns-clause-found_out : goal.returns-clause-found_out
 returns-clause-found_out g c = λ _.
@@ -240,8 +242,8 @@ pub returns-clause-only_what_is_needed : goal.returns-clause-only_what_is_needed
 returns-clause-only_what_is_needed g c = λ here.
     let world = g.S.Site.world c.args.site in
     let ran = c.new-in-Err-Memory.result in
-    memory_for_update (order c.args.words.now) (OnlyWhatIsNeeded g.R.Runner.next (goes_on (order c.args.words.now)) world world ran)
-    (untouched_needed g.S.Site g.R.Runner c.args.site here c.flags_are_of_rules.ensures (goes_on (order c.args.words.now)) ran c.new-in-Err-Memory.ensures)
+    memory_for_update (order c.args.words.now) (OnlyWhatIsNeeded g.R.Runner.next (goes_on (order c.args.words.now)) 1 world world ran)
+    (untouched_needed g.S.Site g.R.Runner c.args.site here c.flags_are_of_rules.ensures (goes_on (order c.args.words.now)) 1 ran c.new-in-Err-Memory.ensures)
 
 pub returns-clause-blamed : goal.returns-clause-blamed
 returns-clause-blamed g c = λ _. memory_for_update (order c.args.words.now) (IsToBlame g.R.Runner.next (g.S.Site.world c.args.site) (g.S.Site.world c.args.site) c.new-in-Err-Memory.result) tt

@@ -1,9 +1,10 @@
-use Rattle.std.proofs.Common.{true, false, refl, subst}
+use Rattle.std.proofs.Common.{◌≡◌, [], true, false, refl, subst}
 use Rattle.tup_site.specs.World.{World}
 use Rattle.tup_demo.specs.Steady.{world_in}
-use Rattle.tup_top.specs.Printed.{PrintsUpdate}
+use Rattle.tup_top.specs.Printed.{demo_world}
 use Rattle.tup_top.specs.Promise.{OpensStore}
 use Rattle.tup_top.specs.Status.{IfCame}
+use Rattle.tup_top.proofs.Causes.{says_less}
 use Rattle.tup_top.proofs.Demo.{demo_cause}
 use Rattle.tup_top.proofs.Shown.{unshown_cause, unshown_prints}
 use Rattle.tup_top.proofs.update.demo.Goals as goal
@@ -16,7 +17,12 @@ returns-in-Ok g c =
     record {
       cause = demo_cause left ran (g.K.Sink.faults c.args.out.now) (g.K.Sink.faults c.update.new.out) status
           (subst (λ (w : World). IfCame status (OpensStore w left ran)) c.in-Ok.ensures.holds (c.update.ensures.opens_store refl)) c.update.ensures.counted_cause;
-      printed = λ shows. (ran, left, subst (λ (w : World). PrintsUpdate true false w left ran (g.K.Sink.faults c.args.out.now) (g.K.Sink.faults c.update.new.out) (g.K.Sink.held c.args.out.now) (g.K.Sink.held c.update.new.out) status) c.in-Ok.ensures.holds (c.update.ensures.printed shows));
+      printed = λ shows. (
+        ran,
+        left,
+        says_less true false _ (λ chains. chains ≡ []) _ demo_world left ran (g.K.Sink.faults c.args.out.now) (g.K.Sink.faults c.update.new.out) (g.K.Sink.held c.args.out.now) (g.K.Sink.held c.update.new.out) status
+            c.in-Ok.ensures.holds (c.update.ensures.printed shows) (λ chains said. said.0),
+      );
     }
 
 pub returns-in-Err : goal.returns-in-Err

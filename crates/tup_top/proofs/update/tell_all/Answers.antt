@@ -18,5 +18,5 @@ returns-in-Ok-clause-ends g c = subst (λ (s : Status). Ends (g.K.Sink.faults c.
 pub returns-in-Ok-clause-prints : goal.returns-in-Ok-clause-prints
 returns-in-Ok-clause-prints g c = λ shows.
     let prints : Status → List ℕ → Type 0 = λ status text. Prints status text (g.K.Sink.faults c.args.out.now) (g.K.Sink.faults c.print.new.out) (g.K.Sink.held c.args.out.now) (g.K.Sink.held c.print.new.out) c.print.result in
-    subst (λ (s : Status). prints s (lines c.args.log.now s)) c.status_of-status.ensures
+    subst (λ (s : Status). prints s (lines c.args.log.now c.args.because.now s)) c.status_of-status.ensures
     (subst (λ (t : List ℕ). prints c.status_of-status.result t) (search rules) (c.print.ensures.prints shows))

@@ -1,4 +1,4 @@
-use Rattle.std.proofs.Common.{refl, sym}
+use Rattle.std.proofs.Common.{ℕ, List, Option, refl, subst, sym}
 use Rattle.std.proofs.lemmas.Option.{none-some}
 use Rattle.tup_promise.specs.Blamed.{IsToBlame}
 use Rattle.tup_promise.specs.Cause.{IsWithin}
@@ -6,7 +6,10 @@ use Rattle.tup_promise.specs.Finished.{IsSettled, ExactlyTheFiles}
 use Rattle.tup_promise.specs.Needed.{OnlyWhatIsNeeded}
 use Rattle.tup_promise.specs.Ran.{RunsThese}
 use Rattle.tup_promise.specs.Users.{IsHeldUp}
+use Rattle.tup_top.specs.Lines.{lines}
+use Rattle.tup_top.specs.Printed.{Prints}
 use Rattle.tup_top.specs.Promise.{Logs, OnceDone, OpensStore, Spares}
+use Rattle.tup_top.specs.Status.{status_of}
 use Rattle.tup_top.proofs.Causes.{answered, counted_cause, logs_so, opens_so, untold_runs}
 use Rattle.tup_top.proofs.update.update.Goals as goal
 
@@ -23,8 +26,8 @@ pub returns-clause-logged : goal.returns-clause-logged
 returns-clause-logged g c =
     let update = c.update_site-site in
     let ran = update.result.log.ran in
-    answered (Logs c.args.keep_going ran) _ _ _ _ update.result.log update.result.stopped _ _ refl c.tell_all-status.ensures.ends
-    update.ensures.counted_cause (logs_so c.args.keep_going ran update.result.log refl update.result.stopped update.ensures.logged) (update.result.stopped, update.result.log, refl, update.ensures.logged)
+    answered (Logs 1 c.args.asked.keep_going ran) _ _ _ _ update.result.log update.result.stopped _ _ refl c.tell_all-status.ensures.ends
+    update.ensures.counted_cause (logs_so 1 c.args.asked.keep_going ran update.result.log refl update.result.stopped update.ensures.logged) (update.result.stopped, update.result.log, refl, update.ensures.logged)
 
 pub returns-clause-spares : goal.returns-clause-spares
 returns-clause-spares g c = λ tells.
@@ -51,10 +54,20 @@ returns-clause-counted_cause g c =
 pub returns-clause-printed : goal.returns-clause-printed
 returns-clause-printed g c = λ shows.
     let update = c.update_site-site in
+    let status = status_of update.result.log update.result.stopped in
+    let prints : List ℕ → Type 0 = λ text. Prints status text (g.K.Sink.faults c.args.out.now) (g.K.Sink.faults c.tell_all-status.new.out) (g.K.Sink.held c.args.out.now) (g.K.Sink.held c.tell_all-status.new.out) c.tell_all-status.result in
     record {
-      told = record { log = update.result.log; stopped = update.result.stopped; begun = refl; logged = update.ensures.logged; unopened = λ tells. update.ensures.unopened tells };
+      told = record {
+        log = update.result.log;
+        because = update.result.because;
+        said = (update.ensures.because, λ tells kept asked. update.ensures.why tells kept asked);
+        stopped = update.result.stopped;
+        begun = refl;
+        logged = update.ensures.logged;
+        unopened = λ tells. update.ensures.unopened tells;
+      };
       ends = c.tell_all-status.ensures.ends;
-      prints = c.tell_all-status.ensures.prints shows;
+      prints = subst (λ (chains : List (Option (List ℕ))). prints (lines update.result.log chains status)) c.as_slice.ensures (c.tell_all-status.ensures.prints shows);
     }
 
 -- ---- over a kept site
@@ -73,7 +86,7 @@ returns-clause-only_what_is_needed g c = λ kept.
     let new = g.S.Site.world update.result.site in
     let needed = update.ensures.only_what_is_needed kept in
     let runs = needed.runs in
-    answered (OnlyWhatIsNeeded g.R.Runner.next c.args.keep_going old new update.result.log.ran) _ _ _ _ update.result.log update.result.stopped _ _ refl c.tell_all-status.ensures.ends update.ensures.counted_cause
+    answered (OnlyWhatIsNeeded g.R.Runner.next c.args.asked.keep_going 1 old new update.result.log.ran) _ _ _ _ update.result.log update.result.stopped _ _ refl c.tell_all-status.ensures.ends update.ensures.counted_cause
     needed (record { runs = record { once = runs.once; due = runs.due; in_order = runs.in_order; all = tt }; flagged = needed.flagged })
 
 pub returns-clause-blamed : goal.returns-clause-blamed
