@@ -145,8 +145,13 @@ folders() {
 }
 folders
 echo '#define B' > inc/a.h
+explained='run lib: CC a.c;  because changed inc/a.h > lib: CC a.c;run src: CC m.c;  because changed inc/a.h > src: CC m.c;'
+explained="${explained}run .: cat lib/a.o src/m.o src/n.o > app;  because changed inc/a.h > lib: CC a.c > lib/a.o > .: cat lib/a.o src/m.o src/n.o > app;"
+row "why rules are run after a header was edited" 0 "${explained}done: 0 read, 3 run, 0 removed;" upd --explain
+idle "why rules are run after a header was edited"
+echo '#define C' > inc/a.h
 done_row "a header that was edited" 'run lib: CC a.c;run src: CC m.c;run .: cat lib/a.o src/m.o src/n.o > app;' 'done: 0 read, 3 run, 0 removed'
-file "what lies above it" app "$(printf '#define B\nint a;\n#define B\nint m;\nint n;')"
+file "what lies above it" app "$(printf '#define C\nint a;\n#define C\nint m;\nint n;')"
 printf '!cc = |> ^ C %%b^ incl %%f %%o |> %%B.o\n' > Tuprules.tup
 done_row "a file that two folders include" 'read lib;read src;run lib: C a.c;run src: C m.c;run src: C n.c;run .: cat lib/a.o src/m.o src/n.o > app;' 'done: 2 read, 4 run, 0 removed'
 printf '!cc = |> ^ CC %%b^ incl %%f %%o |> %%B.o\n' > Tuprules.tup
@@ -318,16 +323,19 @@ needless "65,536 files"
 touch k
 row "65,537 files" 11 'fault: limit Files, 65536;' upd
 rm -r many
-needless "without them"
+row "without them" 0 'done: 0 read, 0 run, 0 removed;' upd
+row "a store of which little is needed" 0 'done: 0 read, 0 run, 0 removed;' upd
+same "it is compacted" "$(($(wc -c < .tup/db) < 1024))" 1
+idle "a compacted store"
 
 # A store of the program that ran every rule: it owns `b`, and knows no rule.
 project "$copy"
 cp a b
-printf 'tup-db\n\001\001\000\000\000\015\001\000\004\005\001\001b\000\000\000\002\000\001\000' > .tup/db
+printf 'tup-db2\001\000\000\000\000\000\000\000\000\000\001\000\000\000\015\001\000\004\005\001\001b\000\000\000\002\000\001\000' > .tup/db
 done_row "a store of the program before" "$first" "$one"
 project
 cp a b
-printf 'tup-db\n\001\001\000\000\000\015\001\000\004\005\001\001b\000\000\000\002\000\001\000' > .tup/db
+printf 'tup-db2\001\000\000\000\000\000\000\000\000\000\001\000\000\000\015\001\000\004\005\001\001b\000\000\000\002\000\001\000' > .tup/db
 done_row "its rule has gone since" 'remove b;' 'done: 0 read, 0 run, 1 removed'
 
 # Kills an update before a call. Words: the row's name, the name of the call, and what the call looks like in a trace that names

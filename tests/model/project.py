@@ -3,6 +3,7 @@ import copy
 
 from commands import clean_build, outputs_of, run
 from language import CommandsCircle, Fault, FoldersCircle, NoGroup, Project, label, producers, settings, show
+from reasons import Opening
 
 
 class UserFile(Exception):
@@ -17,6 +18,8 @@ class World:
 
     def __init__(self):
         self.tree, self.kept, self.begun = {}, None, []
+        # what an update that says why began its rules with, and the places of these
+        self.opening, self.ended = None, []
 
     def copy(self):
         return copy.deepcopy(self)
@@ -29,15 +32,16 @@ class World:
         return {path: content for path, content in self.tree.items() if path not in (self.owned or ())}
 
     def call(self, words):
-        """The exit number and the lines; None in place of lines that are left open."""
-        self.begun = []
+        """The exit number and the lines; None in place of lines that are left open. The reasons aren't among them, as there may
+        be several."""
+        self.begun, self.opening, self.ended = [], None, []
         if words == ['init']:
             return self.init()
         if self.kept is None:
             return 3, b'fault: no tup project here\n'
         if words == ['verify']:
             return self.refused([]) or self.verify(Project(self.sources()).rules())
-        return self.todo() if words == ['todo'] else self.update('-k' in words)
+        return self.todo() if words == ['todo'] else self.update('-k' in words, '--explain' in words)
 
     def init(self):
         if self.kept is not None:
@@ -75,7 +79,7 @@ class World:
         lines += [b'todo run ' + show(rule['folder']) + b': ' + label(rule) for rule in rules]
         return 0, b'\n'.join(lines + [done]) + b'\n'
 
-    def update(self, keep_going):
+    def update(self, keep_going, explain):
         sources = self.sources()
         self.kept.scan(self.tree, sources)
         refused = self.refused([])
@@ -88,8 +92,10 @@ class World:
             return 6, b'\n'.join(lines + [b'fault: %s was changed by hand and no rule makes it' % show(users.path)]) + b'\n'
         read, rules, bad = len(lines), self.kept.rules, {}
         lines += [b'remove ' + show(path) for path in removed]
+        self.opening = Opening(self.kept) if explain else None
         for at, verdict in self.kept.run(self.tree, keep_going):
             self.begun.append(rules[at]['text'])
+            self.ended.append(at)
             is_good = verdict == ('good',)
             lines.append((b'run ' if is_good else b'bad ') + show(rules[at]['folder']) + b': ' + label(rules[at]))
             if not is_good:

@@ -2,6 +2,7 @@
 from drawn import Drawn, grown
 from language import show
 from project import Kept, World
+from reasons import explained
 from random_rows import path_of, row, way_up
 
 FILES = ['a.c', 'b.c', 'h.h', 'lib/l.c', 'lib/m.h', 'src/m.c', 'src/n.c', 'lib/x/y.c', 'k']
@@ -29,7 +30,7 @@ SOURCES = {'lib/l.c': 1, 'lib/x/y.c': 1, 'lib/x/z.c': .5, 'h.h': .8, 'k': .5, 'l
 INCLUDING = [b'int a;\n', b'int b;\n', b'y', b'#include "made.h"\nz', b'#include "made.h"\n', b'#include "made.h"\nv', b'#include "m.h"\n',
              b'#include "../h.h"\nx\n', b'#include "none"\n']
 
-CALLS = [['upd'], ['upd'], [], ['upd', '-k'], ['-k'], ['todo'], ['verify'], ['init']]
+CALLS = [['upd'], ['upd'], [], ['upd', '-k'], ['-k'], ['--explain'], ['upd', '-k', '--explain'], ['todo'], ['verify'], ['init']]
 
 
 def tupfile_line(drawn, folder):
@@ -205,6 +206,10 @@ class Rows:
         self.rows.append(row('delete', [show(path)], ['ok']))
 
     def call(self, words, status, lines, before, world):
+        if world.opening:
+            # a row has one answer: where there are several reasons it asks for none
+            told = explained(lines, world.opening, world.ended)
+            words, lines = (words, told) if told else ([word for word in words if word != '--explain'], lines)
         self.rows.append(row('tup', words, [str(status), lines]))
         self.rows.append(row('begun', [], world.begun))
         self.rows.append(row('store', [], [show(path) for path in sorted(world.owned or ())]))

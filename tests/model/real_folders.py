@@ -9,6 +9,7 @@ from collections import Counter
 
 from commands import outputs_of
 from language import Project, show
+from reasons import unexplained
 
 
 def tree_of(top):
@@ -78,6 +79,8 @@ class Folder:
         found_status, found_lines = self.run(words)
         self.calls += 1
         wrong, listed = [], self.listed
+        if world.opening:
+            found_lines, wrong = unexplained(found_lines, world.opening, world.ended)
         if not self.is_as_listed(words, found_status, found_lines):
             wrong.append('todo listed %s' % listed)
         tree = tree_of(self.top)

@@ -26,6 +26,7 @@ fn main(rt: HostRuntime) -> io::Result<()> {
     try_rows(&rt, rt.alloc(), "limits.rows")?;
     try_rows(&rt, rt.alloc(), "verify.rows")?;
     try_rows(&rt, rt.alloc(), "todo.rows")?;
+    try_rows(&rt, rt.alloc(), "explain.rows")?;
     try_file_by(&rt, rt.alloc(), "history.rows", Lives::new(rt.alloc()))
 }
 
