@@ -1,14 +1,17 @@
 //! A runner that starts a program for each command and reads its access log.
 //!
-//! The program gets a folder of its own, the stage: the runner empties it and writes the rule's own outputs into it, the
-//! program leaves what it wrote there, and its log. `ProcRunner` asks the view for what the log says that the program
+//! The program gets a folder of its own, the stage, new for each command: the runner writes the rule's own outputs into it,
+//! the program leaves what it wrote there, and its log. `ProcRunner` asks the view for what the log says that the program
 //! asked, in order; where an answer differs the log is bad. It tells its count of faults and nothing else.
 #![tactic(auto)]
 
 mod asking;
 mod fault;
+mod older;
 mod runner;
 mod stage;
+mod stages;
 
 pub use fault::ProcFault;
 pub use runner::ProcRunner;
+pub use stages::Stages;

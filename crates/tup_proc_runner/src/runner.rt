@@ -11,6 +11,7 @@ ghost use Rattle.tup_proc_runner.specs.Refused.{IsMemoryOr};
 use crate::asking::ask_all;
 use crate::fault::{ProcFault, Refused};
 use crate::stage::Stage;
+use crate::stages::Stages;
 use std::alloc::{AllocError, Global};
 use std::fs::File;
 use std::process::{Command, Processes};
@@ -30,18 +31,22 @@ pub struct ProcRunner<R: Files<File = File> + Processes + Clone + Drop> {
 }
 
 impl<R: Files<File = File> + Processes + Clone + Drop> ProcRunner<R> {
-    /// A runner of this program for the files below a root, with this folder as its stage. It starts nothing yet and
-    /// takes no memory.
-    pub fn new(rt: R, root: Text, program: Text, stage: Text) -> ProcRunner<R>
+    /// A runner of this program for the files below a root, with these stages. It starts nothing yet and takes no memory.
+    pub fn new(rt: R, alloc: Global, root: Text, program: Text, stages: Stages) -> ProcRunner<R>
         ensures unnamed { result.last ≡ None }
         ensures uncounted { result.faults ≡ 0 }
         ensures words { (result.root ≡ root) × (result.program ≡ program) }
-        ensures stage { result.stage.folder ≡ stage }
+        ensures stages { (result.stage.stages ≡ stages) × (result.stage.count ≡ 0) }
     {
         ProcRunner {
             root,
             program,
-            stage: Stage { rt, folder: stage },
+            stage: Stage {
+                rt,
+                stages,
+                count: 0,
+                folder: Text::from_string(String::new(alloc)),
+            },
             last: None,
             faults: 0,
         }
@@ -56,13 +61,14 @@ impl<R: Files<File = File> + Processes + Clone + Drop> ProcRunner<R> {
 
     /// Runs the program, and gives the lines of its log.
     fn start(
-        &self,
+        &mut self,
         alloc: Global,
         dir: &Path,
         text: &Text,
         own: &[Path],
     ) -> Result<Items<LogLine>, Refused>
-        ensures { IfOk result IsLog }
+        ensures log { IfOk result IsLog }
+        ensures uncounted { self.new.faults ≡ self.old.faults }
     {
         self.stage.prepare(alloc, own)?;
         self.run_in(alloc, dir, text)?;

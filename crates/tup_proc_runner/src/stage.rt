@@ -1,62 +1,70 @@
-//! The folder in which a started program finds its own outputs and leaves what it wrote.
-ghost use Rattle.std.specs.Prelude.{◌≡◌, ◌++◌, ◌∷◌, [], IfOk, IfErr, OnOk, string_bytes};
+//! The folder in which a started program finds its own outputs and leaves what it wrote: a new one for each command.
+ghost use Rattle.std.specs.Prelude.{◌≡◌, ◌+◌, ◌%◌, ◌^◌, ◌++◌, ◌∷◌, [], IfOk, IfErr, OnOk, string_bytes};
 ghost use Rattle.tup_path.specs.Show.{show};
 ghost use Rattle.tup_proc.specs.Log.{IsLog};
 ghost use Rattle.tup_proc_runner.specs.Refused.{IsMemoryOr};
+ghost use Rattle.tup_proc_runner.specs.Stages.{stage_of};
 ghost use Rattle.tup_proc_runner.specs.Told.{told_in, told_of, texts_of, with_line, list_of};
 
 use crate::fault::{ProcFault, Refused};
+use crate::older::{remove, remove_others};
+use crate::stages::Stages;
 use std::alloc::{AllocError, Global};
 use std::fs::File;
 use std::io::{ErrorKind, Read};
+use std::process::Processes;
 use std::rt::Files;
 use std::{fs, io};
 use tup_path::{Bytes, Items, Path, Text};
 use tup_proc::{LogFault, LogLine, read_log};
 use tup_runner::{Ended, Writes};
 
-/// A stage and the way to it.
+/// The stages of a runner and the way to them. Each command has a new one, whose name none had before: so a program that
+/// outlived its update, or went on behind its command, can't write into it by its own words.
 #[derive(Drop)]
 pub(crate) struct Stage<R: Files<File = File> + Clone + Drop> {
     pub(crate) rt: R,
+    /// Where the stages are, and by which names.
+    pub(crate) stages: Stages,
+    /// How many commands had a stage.
+    pub(crate) count: u64,
+    /// The stage of the last one.
     pub(crate) folder: Text,
 }
 
-impl<R: Files<File = File> + Clone + Drop> Stage<R> {
-    /// Empties the stage, and writes the list of the rule's own outputs.
-    pub(crate) fn prepare(&self, alloc: Global, own: &[Path]) -> Result<(), Refused>
+impl<R: Files<File = File> + Processes + Clone + Drop> Stage<R> {
+    /// Removes what older commands left, makes a new stage, and writes the list of the rule's own outputs into it.
+    pub(crate) fn prepare(&mut self, alloc: Global, own: &[Path]) -> Result<(), Refused>
         ensures { IfErr result (IsMemoryOr ProcFault.NoStage) }
     {
-        self.empty(alloc)?;
+        self.sweep(alloc)?;
+        self.make(alloc)?;
         let place = self.place(alloc, "own")?;
         let list = listed(alloc, own)?;
         self.at(fs::write(&self.rt, place.as_str(), list.as_slice()))
     }
 
-    /// Makes the stage an empty folder. A program that was killed may have left folders in it that let nobody in: those
-    /// the next one has to take away, since it knows them, and the old log goes.
-    fn empty(&self, alloc: Global) -> Result<(), Refused>
-        ensures { IfErr result (IsMemoryOr ProcFault.NoStage) }
-    {
+    /// Removes what older commands left, as far as that can be: of other updates once, and of this runner's own. No stage has
+    /// the name of one that stays.
+    fn sweep(&self, alloc: Global) -> Result<(), AllocError> {
         let runtime = (self.rt.clone()?, alloc);
-        match fs::remove_dir_all(&runtime, self.folder.as_str()) {
-            Ok(()) => {}
-            Err(e) if e.kind() == ErrorKind::NotFound => {}
-            Err(e) if e.kind() == ErrorKind::PermissionDenied => self.forget(alloc)?,
-            Err(e) => return Err(Refused::of(&e, ProcFault::NoStage)),
+        if self.count == 0 {
+            remove_others(&runtime, &self.stages)
+        } else {
+            remove(&runtime, self.folder.as_str())
         }
-        self.at(fs::create_dir_all(&self.rt, self.folder.as_str()))
     }
 
-    /// Takes the old log away.
-    fn forget(&self, alloc: Global) -> Result<(), Refused>
-        ensures { IfErr result (IsMemoryOr ProcFault.NoStage) }
+    /// Makes the next stage, where nothing has its name.
+    fn make(&mut self, alloc: Global) -> Result<(), Refused>
+        ensures refused { IfErr result (IsMemoryOr ProcFault.NoStage) }
+        ensures named { OnOk result (self.new.folder ≡ stage_of self.old.stages self.old.count) }
+        ensures counted { OnOk result (self.new.count ≡ (self.old.count + 1) % 2 ^ 64) }
     {
-        let place = self.place(alloc, "log")?;
-        match fs::remove_file(&self.rt, place.as_str()) {
-            Err(e) if e.kind() != ErrorKind::NotFound => Err(Refused::of(&e, ProcFault::NoStage)),
-            _ => Ok(()),
-        }
+        self.folder = self.stages.next(alloc, self.count)?;
+        self.count = self.count.wrapping_add(1);
+        self.at(fs::create_dir_all(&self.rt, self.stages.above.as_str()))?;
+        self.at(fs::create_dir(&self.rt, self.folder.as_str()))
     }
 
     /// The lines of the log that the program left.

@@ -1,0 +1,7 @@
+-- The names of stages.
+use Rattle.std.specs.Prelude.{ℕ, List, ◌∷◌, ◌++◌, decimal}
+use Rattle.tup_proc_runner.specs.declared.stages.Stages.{Stages}
+
+-- the stage of the command behind so many others of a runner: its name tells the update, the runner's number and how many
+abbrev pub stage_of : Stages → ℕ → List ℕ
+stage_of stages count = stages.above ++ (47 ∷ stages.update ++ (45 ∷ decimal stages.seat ++ (45 ∷ decimal count)))
