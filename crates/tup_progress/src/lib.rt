@@ -8,7 +8,9 @@ mod lines;
 mod plain;
 mod progress;
 mod screen;
+mod started;
 
 pub use lines::CLEAR;
 pub use progress::{Manner, Progress};
 pub use screen::Screen;
+pub use started::Started;

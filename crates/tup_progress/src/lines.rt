@@ -16,14 +16,16 @@ const CUT: &str = "\x1b[?7l";
 /// that `CLEAR` takes away this one.
 const AT_END: &str = "\x1b[?7h\x1b[999C ";
 
-/// The line of a command that is to be run, written over the one that stands there.
+/// The line of a command that is to be run beside others, written over the one that stands there.
 pub(crate) fn over(
     alloc: Global,
     number: u64,
+    others: u64,
     dir: &Path,
     text: &Text,
 ) -> Result<String, AllocError> {
-    let line = started(alloc, number, dir, text)?;
+    let count = count(alloc, number, others)?;
+    let line = started(alloc, count.as_str(), dir, text)?;
     format!(in alloc; "{CLEAR}{CUT}{line}{AT_END}")
 }
 
@@ -32,16 +34,28 @@ pub(crate) fn own(alloc: Global, number: u64, dir: &Path, text: &Text) -> Result
     ensures { IfOk result
         (λ line. string_bytes line ≡ specs.own_line number dir.now text.now) }
 {
-    let line = started(alloc, number, dir, text)?;
+    let count = count(alloc, number, 0)?;
+    let line = started(alloc, count.as_str(), dir, text)?;
     format!(in alloc; "{line}\n")
 }
 
-/// A command that is to be run.
-fn started(alloc: Global, number: u64, dir: &Path, text: &Text) -> Result<String, AllocError>
-    ensures { IfOk result
-        (λ line. string_bytes line ≡ specs.started number dir.now text.now) }
+/// The number of a command, and how many run beside it, if any do.
+fn count(alloc: Global, number: u64, others: u64) -> Result<String, AllocError>
+    ensures { IfOk result (λ count. string_bytes count ≡ specs.count number others) }
 {
-    let line = format!(in alloc; "[{number}] {dir}: {text}")?;
+    if others == 0 {
+        format!(in alloc; "{number}")
+    } else {
+        format!(in alloc; "{number}+{others}")
+    }
+}
+
+/// A command that is to be run.
+fn started(alloc: Global, count: &str, dir: &Path, text: &Text) -> Result<String, AllocError>
+    ensures { IfOk result
+        (λ line. string_bytes line ≡ specs.started count.now dir.now text.now) }
+{
+    let line = format!(in alloc; "[{count}] {dir}: {text}")?;
     plain(alloc, line.as_str())
 }
 
@@ -58,4 +72,15 @@ pub(crate) fn failed(
     let line = format!(in alloc; "{dir}: {text}: status {status}")?;
     let line = plain(alloc, line.as_str())?;
     format!(in alloc; "{line}\n")
+}
+
+/// The same below what stands in the line of the cursor, which may lack its last line feed.
+pub(crate) fn failed_below(
+    alloc: Global,
+    dir: &Path,
+    text: &Text,
+    status: u8,
+) -> Result<String, AllocError> {
+    let line = failed(alloc, dir, text, status)?;
+    format!(in alloc; "\n{line}")
 }

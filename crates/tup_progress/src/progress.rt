@@ -1,8 +1,9 @@
 //! A runner that shows what it runs.
 ghost use Rattle.std.specs.Prelude.{◌≡◌};
 
-use crate::lines::{failed, over, own};
+use crate::lines::{failed, failed_below, over, own};
 use crate::screen::Screen;
+use crate::started::{Count, Started};
 use std::alloc::{AllocError, Global};
 use tup_path::{Path, Text};
 use tup_runner::{Ended, RunFailed, Runner, View};
@@ -18,16 +19,16 @@ pub enum Manner {
     Listed,
 }
 
-/// A runner that means what another means, and shows each command before that runs it.
+/// A runner that means what another means, and shows each command before that runs it. Beside it others may show theirs.
 #[derive(Drop)]
-pub struct Progress<R: Runner, S: Screen> {
+pub struct Progress<'a, R: Runner, S: Screen> {
     runner: R,
-    teller: Teller<S>,
+    teller: Teller<'a, S>,
 }
 
-impl<R: Runner, S: Screen> Progress<R, S> {
-    /// Nothing was shown yet.
-    pub fn new(runner: R, screen: S, manner: Manner) -> Progress<R, S>
+impl<'a, R: Runner, S: Screen> Progress<'a, R, S> {
+    /// A runner that counts its commands with those of the others.
+    pub fn new(runner: R, screen: S, manner: Manner, started: &'a Started) -> Progress<'a, R, S>
         ensures { result.runner ≡ runner }
     {
         Progress {
@@ -35,20 +36,20 @@ impl<R: Runner, S: Screen> Progress<R, S> {
             teller: Teller {
                 screen,
                 manner,
-                started: 0,
+                started,
             },
         }
     }
 
     /// Gives the runner back.
     pub fn into_runner(self) -> R
-        ensures { result ≡ self.runner }
+        ensures { result ≡ self.entry.runner }
     {
         self.runner
     }
 }
 
-impl<R: Runner, S: Screen> Runner for Progress<R, S> {
+impl<R: Runner, S: Screen> Runner for Progress<'_, R, S> {
     ghost tells = { R.tells };
 
     ghost next = { R.next };
@@ -79,35 +80,39 @@ impl<R: Runner, S: Screen> Runner for Progress<R, S> {
 
 /// What shows commands.
 #[derive(Drop)]
-struct Teller<S: Screen> {
+struct Teller<'a, S: Screen> {
     screen: S,
     manner: Manner,
-    /// How many commands were to be run.
-    started: u64,
+    started: &'a Started,
 }
 
-impl<S: Screen> Teller<S> {
+impl<S: Screen> Teller<'_, S> {
     /// Shows a command that is to be run.
     fn start(&mut self, alloc: Global, dir: &Path, text: &Text) {
-        self.started = self.started.saturating_add(1);
+        let Count { number, others } = self.started.begin();
         match self.manner {
             Manner::Silent => {}
-            Manner::Over => self.show(&over(alloc, self.started, dir, text)),
-            Manner::Listed => self.show(&own(alloc, self.started, dir, text)),
+            Manner::Over => self.show(&over(alloc, number, others, dir, text)),
+            Manner::Listed => self.show(&own(alloc, number, dir, text)),
         }
     }
 
     /// Shows a command that failed.
     fn end(&mut self, alloc: Global, dir: &Path, text: &Text, ended: &Result<Ended, RunFailed>) {
-        match ended {
-            Ok(Ended { status, .. }) if *status != 0 && self.manner != Manner::Silent => {
-                // What the command printed may lack its last line feed.
-                if self.manner == Manner::Over {
-                    self.screen.show("\n");
-                }
-                self.show(&failed(alloc, dir, text, *status));
+        self.started.end();
+        if let Ok(Ended { status, .. }) = ended {
+            if *status != 0 {
+                self.tell_failed(alloc, dir, text, *status);
             }
-            _ => {}
+        }
+    }
+
+    /// Shows a command that ended with this status, in one piece: others may show theirs meanwhile.
+    fn tell_failed(&mut self, alloc: Global, dir: &Path, text: &Text, status: u8) {
+        match self.manner {
+            Manner::Silent => {}
+            Manner::Over => self.show(&failed_below(alloc, dir, text, status)),
+            Manner::Listed => self.show(&failed(alloc, dir, text, status)),
         }
     }
 
