@@ -65,9 +65,9 @@ done < "$work/list"
 [ -s "$work/list" ] || same "calls of an update" none some
 
 # Less and less memory for the program itself: an update is done, or it ends with 12 and leaves the old output or the new one,
-# as it takes all its memory before a file goes (with 127 it didn't even begin).
+# as it takes all its memory before a file goes (with 127 it didn't even begin; with 2,000 the system can't load it).
 wanted_large=$(head -c 1000000 /dev/zero | tr '\0' x | cksum)
-for limit in $(seq 2000 250 9000); do
+for limit in $(seq 2250 250 9000); do
     what="$limit kilobytes of memory"
     project "$copy"
     "$tup" > /dev/null
@@ -143,6 +143,11 @@ for write in 1 2 3 4; do
 done
 same "and goes on" "$(next_update) $(cat b)" "$done_then hi"
 
+# A file that is listed and gone before it is read, as an editor's or a compiler's temporary one, is passed over.
+project "$copy" && "$tup" > /dev/null && touch 4913
+strace --quiet=path-resolution -o /dev/null -P ./4913 -e trace=statx -e inject=statx:error=ENOENT:when=2 "$tup" > "$work/told" 2> "$work/said"
+same "a file that is gone before it is read" "$?: $(cat "$work/told" "$work/said")" '0: done: 0 read, 0 run, 0 removed'
+
 # A file system that doesn't tell case apart shows a file under a name that its folder doesn't list.
 project "$copy" && "$tup" > /dev/null && mkdir .TUP && printf 'ho\n' > a
 listings=$(strace -e trace=getdents64 "$tup" 2>&1 > /dev/null | grep -c '^getdents64')
@@ -168,7 +173,7 @@ if cc -O1 -shared -fPIC -o "$work/ignores-case.so" "$tests/ignores-case.c" 2> /d
     same "an output that was renamed by case" "$(ignoring "$tup" 2>&1 | tail -1): $(cat B)" 'tup: look at ./b: a file of another spelling stands here: mine'
     : > Tupfile
     # The site listed B and no b, and is asked for b.
-    same "its rule is gone" "$(ignoring "$tup" 2>&1 | tail -1): $(cat B)" 'tup: read ./b: it was not there before: mine'
+    same "its rule is gone" "$(ignoring "$tup" 2>&1 | tail -1): $(cat B)" 'tup: look at ./b: a file of another spelling stands here: mine'
     mv B mine
     same "it has another name" "$(ignoring "$tup" 2>&1 | tail -1): $(cat mine)" 'done: 0 read, 0 run, 0 removed: mine'
     rows=$(realpath -m "$(dirname "$tup")/../../tup_outside_rows/out/tup_outside_rows")

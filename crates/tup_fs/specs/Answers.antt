@@ -1,6 +1,6 @@
 -- What is known of the files by what was answered for them, and what may be found next. Own.
 use Rattle.std.specs.Prelude.{◌≡◌, ◌≢◌, ℕ, Bool, true, false, IsTrue, ◌==◌, List, Option, Some, None, if◌then◌else◌}
-use Rattle.std.specs.BTreeMap.{get_by_text}
+use Rattle.std.specs.HashMap.{get_by_text}
 use Rattle.std.specs.Hash.DefaultHasher.{initial, write, finish}
 use Rattle.std.specs.Str.{bytes_eq}
 use Rattle.tup_path.specs.Name.{Content}
@@ -35,14 +35,15 @@ abbrev pub known_by : Option Content → Known
 known_by None = Absent
 known_by (Some content) = Sum (sum content)
 
--- whether a place of which one thing was known may have another one now, unless somebody else changed it
+-- whether a place of which one thing was known may have another one now: a content stays as it is, and what isn't there
+-- isn't made. A file that was listed may be gone at its first reading
 abbrev pub may_follow : Known → Known → Bool
 may_follow Unknown now = true
 may_follow Absent Absent = true
 may_follow Absent Unknown = false
 may_follow Absent File = false
 may_follow Absent (Sum after) = false
-may_follow File Absent = false
+may_follow File Absent = true
 may_follow File Unknown = false
 may_follow File File = true
 may_follow File (Sum after) = true

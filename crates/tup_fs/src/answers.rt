@@ -9,7 +9,7 @@ ghost use Rattle.tup_fs.specs.declared.answers.Known.TheVariants.{Unknown};
 
 use crate::reading::Found;
 use std::alloc::Global;
-use std::collections::BTreeMap;
+use std::collections::HashMap;
 use std::fs::File;
 use std::hash::{DefaultHasher, Hasher};
 use std::io;
@@ -33,7 +33,7 @@ pub(crate) enum Known {
 /// What is known of all places, by what was listed, read, put and removed.
 #[derive(Drop)]
 pub(crate) struct Answers {
-    places: BTreeMap<String, Known>,
+    places: HashMap<String, Known>,
     is_listed: bool,
 }
 
@@ -43,7 +43,7 @@ impl Answers {
         ensures { (place : _) → specs.known_at result place ≡ Unknown }
     {
         Answers {
-            places: BTreeMap::new(alloc),
+            places: HashMap::new(alloc),
             is_listed: false,
         }
     }
@@ -153,7 +153,8 @@ fn change(known: Known, now: Known) -> Option<&'static str>
 {
     match (known, now) {
         (Known::Unknown, _) => None,
-        (Known::Absent, Known::Absent) => None,
+        // What goes between its listing and its first reading was never read.
+        (Known::Absent | Known::File, Known::Absent) => None,
         (Known::Absent, _) => Some("it was not there before"),
         (_, Known::Absent) => Some("it was removed while tup ran"),
         (Known::File, Known::File | Known::Sum(_)) => None,

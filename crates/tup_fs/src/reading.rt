@@ -39,7 +39,33 @@ impl Tree {
     {
         let place = disk.place(path.names())?;
         let found = self.look(disk, path, place.as_str())?;
-        self.answers.follow(disk, place, found)
+        let is_there = !matches!(found, Found::Nothing);
+        match self.answers.follow(disk, place, found) {
+            Err(refused) if is_there => Err(self.blame(disk, path, refused)),
+            told => told,
+        }
+    }
+
+    // Why a file that is there isn't what was answered. Where case isn't told apart it may be one of another spelling.
+    fn blame<R: Files<File = File> + Clone + Drop>(
+        &mut self,
+        disk: &Disk<R>,
+        path: &Path,
+        refused: Refused,
+    ) -> Refused {
+        match self.check_path(disk, path) {
+            Err(misspelled) => misspelled,
+            Ok(()) => refused,
+        }
+    }
+
+    fn check_path<R: Files<File = File> + Clone + Drop>(
+        &mut self,
+        disk: &Disk<R>,
+        path: &Path,
+    ) -> Result<(), Refused> {
+        let place = disk.place(path.names())?;
+        self.check_spelling(disk, path, place.as_str())
     }
 
     // What stands at a path now.

@@ -80,8 +80,8 @@ impl Tree {
         disk.at(Operation::Remove, place.as_str(), done)
     }
 
-    // Where the file system doesn't tell case apart, a file of another spelling isn't ours.
-    fn check_spelling<R: Files<File = File> + Clone + Drop>(
+    /// Where the file system doesn't tell case apart, a file of another spelling isn't ours.
+    pub fn check_spelling<R: Files<File = File> + Clone + Drop>(
         &mut self,
         disk: &Disk<R>,
         path: &Path,
