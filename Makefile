@@ -99,6 +99,7 @@ killed: build
 	sh tests/edge.sh $(TUP)
 	sh tests/calls.sh $(TUP)
 	sh tests/together.sh $(TUP)
+	sh tests/orphan.sh $(TUP)
 	sh tests/killed.sh $(TUP)
 
 # SEED=2 draws others, COUNT=10 ten times as many.

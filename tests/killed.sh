@@ -70,7 +70,7 @@ fewer_paths() {
 after_a_kill() {
     three_rules
     "$tup" > /dev/null
-    printf 'tup-db\n' > .tup/db.new
+    printf 'tup-db2' > .tup/db.new
     printf 'bo' > page
     printf '%s\n' ': body |> cp body page |> page' > Tupfile
 }
@@ -249,7 +249,7 @@ killed_at() {
 
 # A store that was being made is none, whatever was written of it.
 half_made() {
-    for bytes in '' 'tup-' 'tup-db\n\001' 'tup-db\n\001\000' '\001\001\001\001\001\001\001\001\001'; do
+    for bytes in '' 'tup-' 'tup-db2\001' 'tup-db2\001\000\000\000\000\000\000\000\000\000\000' '\001\001\001\001\001\001\001\001\001\001\001\001\001\001\001\001\001\001'; do
         what="beginning, a store half made: $bytes"
         rm -rf "$work/now" && cp -a "$work/project" "$work/now" && cd "$work/now" && mkdir .tup || exit 1
         printf "$bytes" > .tup/db.new

@@ -44,12 +44,21 @@ row() {
     case "$status $lines" in
         7* | 8* | '2 ' | *': status 127;') ;;
         *'no tup project here;') said '`tup init` begins a project here' ;;
+        *'damaged at byte 0;') said_of_store ;;
         *) same "$name, standard error" "$(cat "$work/said")" "" ;;
     esac
 }
 
 # What the last row said on standard error: the place, and the system's words.
 said() { same "$name, standard error" "$(cat "$work/said")" "tup: $1"; }
+
+# What it said of a store that doesn't begin as one: what is to be done where an early version made it.
+said_of_store() {
+    case "$(head -c 8 .tup/db | od -An -c | tr -d ' ')" in
+        'tup-db\n001') said '.tup/db is of an early version: remove it and the files that were made, then `tup init` begins anew' ;;
+        *) same "$name, standard error" "$(cat "$work/said")" "" ;;
+    esac
+}
 
 file() { same "$1" "$(cat "$2" 2>&1)" "$3"; }
 gone() { same "$1" "$(ls "$2" 2>/dev/null)" ""; }
@@ -65,7 +74,7 @@ row "no words" 3 'fault: no tup project here;'
 row "nor is there anything to compare" 3 'fault: no tup project here;' verify
 same "nothing was made" "$(ls -A | tr '\n' ' ')" 'Tupfile a '
 row "a project begins" 0 'initialized;' init
-same "its store" "$(od -An -tx1 .tup/db)" ' 74 75 70 2d 64 62 0a 01 00'
+same "its store" "$(od -An -v -tx1 -w18 .tup/db)" ' 74 75 70 2d 64 62 32 01 00 00 00 00 00 00 00 00 00 00'
 same "nothing else was made" "$(ls -A . .tup | tr '\n' ' ')" '.: .tup Tupfile a  .tup: db '
 row "it begins once" 3 'fault: already a tup project;' init
 row "its first update" 0 "$done_copy" upd
@@ -91,7 +100,7 @@ row "an unknown option" 2 '' upd
 said '.tup/options: unknown word --fast'
 row "an unknown option, compared" 2 '' verify
 row "an unknown option, without an order" 2 ''
-row "an unknown option, and one asks for the version" 0 'tup 0.3;' --version
+row "an unknown option, and one asks for the version" 0 'tup 0.4;' --version
 printf '\377' > .tup/options
 row "options that are no text" 2 '' upd
 said ".tup/options: unknown word that isn't UTF-8"
@@ -271,6 +280,30 @@ row "a store that doesn't read" 4 'fault: the store is damaged at byte 0;' todo
 folder "$copy"
 row "without a project" 3 'fault: no tup project here;' todo
 same "nothing was made" "$(ls -A | tr '\n' ' ')" 'Tupfile a '
+
+project "$copy" ': b |> ^ COPY %f^ cp b c |> c'
+row "why new rules are run" 0 'read .;run .: cp a b;  because new .: cp a b;run .: COPY b;  because new .: cp b c;done: 1 read, 2 run, 0 removed;' --explain
+row "nothing is run" 0 "$nothing" upd --explain
+echo ho > a
+row "an edited source" 0 'run .: cp a b;  because changed a > .: cp a b;run .: COPY b;  because changed a > .: cp a b > b > .: COPY b;done: 0 read, 2 run, 0 removed;' upd --explain
+rm c
+row "an output that vanished" 0 'run .: COPY b;  because changed c > .: COPY b;done: 0 read, 1 run, 0 removed;' --explain -k
+echo hi > a
+row "nobody asks why" 0 'run .: cp a b;run .: COPY b;done: 0 read, 2 run, 0 removed;' upd
+printf '%s\n' ': a |> cat a > b |> b' > Tupfile
+row "another command, and a rule that vanished" 0 'read .;remove c;run .: cat a > b;  because new .: cat a > b;done: 1 read, 1 run, 1 removed;' --explain
+row "the word twice" 2 'fault: usage, word 3;' upd --explain --explain
+row "the word behind another order" 2 'fault: usage, word 2;' todo --explain
+row "the word without its dashes" 2 'fault: usage, word 1;' explain
+project ': a |> incl a b |> b'
+row "a rule that is good" 0 'read .;run .: incl a b;done: 1 read, 1 run, 0 removed;' upd
+echo '#include "none"' > a
+row "it is bad" 1 'bad .: incl a b;  because changed a > .: incl a b;fault: .: incl a b: status 1;' --explain
+echo hi > a
+row "it was left unfinished" 0 'run .: incl a b;  because unfinished .: incl a b;done: 0 read, 1 run, 0 removed;' --explain
+project ': a |> fail 3 |> b'
+row "a rule that never was good" 1 'read .;bad .: fail 3;  because new .: fail 3;fault: .: fail 3: status 3;' upd --explain
+row "it is as new as before" 1 'bad .: fail 3;  because new .: fail 3;fault: .: fail 3: status 3;' upd --explain
 
 project ': a |> cp a g |> g' ': a |> cat a g > h |> h'
 row "a generated file that isn't declared" 1 'read .;run .: cp a g;bad .: cat a g > h;fault: .: cat a g > h: reads g;' upd
@@ -511,16 +544,16 @@ bad_log 'with another stamp' "R $ho a\nE 0\n"
 bad_log 'that read what is not there' "R $hi none\nE 0\n"
 bad_log 'that found nothing where a file is' 'A a\nE 0\n'
 bad_log 'of a write without its file' 'W 0 b\nE 0\n'
-logging 'cp ../../a w7' "printf 'R $hi a\nA none\nA b\nA ../b\nW 7 b\nE 0\n' > log"
+logging 'cp ../../../a w7' "printf 'R $hi a\nA none\nA b\nA ../b\nW 7 b\nE 0\n' > log"
 row "a log with a name above the project" 1 'read .;bad .: cp a b;fault: .: cp a b: reads ../b;' upd --proc "$work/logs"
-logging 'cp ../../a w7' "printf 'R $hi a\nA none\nA b\nW 7 b\nE 0\n' > log"
+logging 'cp ../../../a w7' "printf 'R $hi a\nA none\nA b\nW 7 b\nE 0\n' > log"
 row "a log that fits" 0 "$done_copy" upd --proc "$work/logs"
 file "what it wrote" b hi
 printf '#!/bin/sh\ncd "$3" && printf "R %s b\\nE 0\\n" > log\n' "$hi" > "$work/logs"
 echo ho > a
 row "a log that read its own output" 8 'fault: the runner failed;' upd --proc "$work/logs"
 said "$work/logs: the program's log is bad"
-logging "printf '%s\n' \"\$@\" > w0" 'cat own >> w0' "printf 'W 0 b\nE 0\n' > log"
+logging "printf '%s\n' \"\$1\" \"\$2\" \"\${3%/*}\" \"\$4\" > w0" 'cat own >> w0' "printf 'W 0 b\nE 0\n' > log"
 row "the words of a program" 0 "$done_copy" upd --proc "$work/logs"
 file "they are these, and own lists the outputs" b "$(printf '%s\n' . . .tup/stage 'cp a b' b)"
 logging "printf 'E 137\n' > log"
@@ -532,7 +565,7 @@ row "a write more" 1 'read .;bad .: cp a b;fault: .: cp a b: writes c;' upd --pr
 logging 'head -c 16777217 /dev/zero > w0' "printf 'W 0 b\nE 0\n' > log"
 row "a write of more than can be read" 0 "$done_copy" upd --proc "$work/logs"
 same "all of it" "$(wc -c < b)" 16777217
-logging 'rm -rf ../../.tup'
+logging 'rm -rf ../../../.tup'
 row "what tup keeps goes in the middle" 8 'read .;fault: the runner failed;' upd --proc "$work/logs"
 row "it has gone" 3 'fault: no tup project here;' upd
 file "the source stays" a hi
@@ -573,10 +606,12 @@ damaged() {
     same "$1, the store" "$(cat .tup/db | od -c)" "$(printf "$3" | od -c)"
 }
 damaged "the list of an old version" 0 'b\nc\n'
-damaged "another version of the store" 0 'tup-db\n\002\000'
-damaged "half a header" 0 'tup-d'
-damaged "a commit that is cut off" 8 'tup-db\n\001\001\000\000'
-damaged "a record of no kind" 8 'tup-db\n\001\001\000\000\000\011\001\000\001\153\000\000\000\001\166\000'
+damaged "a store of an early version" 0 'tup-db\n\001\000'
+damaged "another version of the store" 0 'tup-db2\002\000\000\000\000\000\000\000\000\000\000'
+damaged "half a head" 0 'tup-d'
+damaged "a commit that is cut off" 17 'tup-db2\001\000\000\000\000\000\000\000\000\000\001\000\000'
+damaged "a record of no kind" 17 'tup-db2\001\000\000\000\000\000\000\000\000\000\001\000\000\000\011\001\000\001\153\000\000\000\001\166\000'
+damaged "a start in the head" 9 'tup-db2\001\001\000\000\000\000\000\000\000\000\000'
 
 project "$copy"
 "$tup" upd >&-

@@ -128,7 +128,7 @@ row "it is compared" 0 'same;' '' verify
 row "what would be done" 0 'done: 0 read, 0 run, 0 removed;' '' todo
 row "a word that is none" 2 'fault: usage, word 2;' '' upd now
 row "an option that is none" 2 'fault: usage, word 1;' '' --fast
-row "the version" 0 'tup 0.3;' '' --version
+row "the version" 0 'tup 0.4;' '' --version
 for there in '.hidden/with blank' 'with blank' .tup; do
     cd "$top/$there" || exit 1
     row "in the folder $there" 0 'done: 0 read, 0 run, 0 removed;' ''
@@ -207,6 +207,7 @@ row "two programs" 2 'fault: usage, word 4;' '' init --proc one --proc two
 row "both words for what is shown" 2 'fault: usage, word 3;' '' init --quiet --verbose
 row "an option twice" 2 'fault: usage, word 3;' '' init --no-sync --no-sync
 row "an option that is none" 2 'fault: usage, word 2;' '' init --fast
+row "an option of calls alone" 2 'fault: usage, word 2;' '' init --explain
 row "a word that is none" 2 'fault: usage, word 4;' '' init --proc one now
 same "nothing was made" "$(names .)" 'Tupfile a '
 
@@ -250,8 +251,9 @@ mkdir sub && cd sub || exit 1
 row "a word that is none, for a call below the top" 2 '' 'tup: ../.tup/options: unknown word --fast;'
 row "a word that is none, where files are compared" 2 '' 'tup: ../.tup/options: unknown word --fast;' verify
 row "a word that is none, where one asks what would be done" 2 '' 'tup: ../.tup/options: unknown word --fast;' todo
-row "a word that is none, and one asks for the version" 0 'tup 0.3;' '' --version
+row "a word that is none, and one asks for the version" 0 'tup 0.4;' '' --version
 options "a word without dashes" 'proc tup_sh\n' 2 '' 'tup: .tup/options: unknown word proc tup_sh;'
+options "a word of calls alone" '--explain\n' 2 '' 'tup: .tup/options: unknown word --explain;'
 options "a word that was joined" '--proc=tup_sh\n' 2 '' 'tup: .tup/options: unknown word --proc=tup_sh;'
 options "a project that goes on" '-k\n' 0 "$made" ''
 options "it goes on, and the words ask for it" '-k\n' 0 "$made" ''

@@ -18,14 +18,16 @@ use options::{Options, Voice};
 use output::Output;
 use screen::{ErrorScreen, manner};
 use std::alloc::{AllocError, Global};
-use std::io;
 use std::process::ExitCode;
+use std::rt::Clock;
+use std::time::{Duration, SystemTime, UNIX_EPOCH};
+use std::{io, process};
 use top::Top;
 use tup_fs::{FsSite, Syncs};
 use tup_mini::Mini;
 use tup_path::Text;
-use tup_proc_runner::ProcRunner;
-use tup_progress::{Manner, Progress};
+use tup_proc_runner::{ProcRunner, Stages};
+use tup_progress::{Manner, Progress, Started};
 use tup_runner::Runner;
 use tup_top::{Order, Status, Word, order_of, tup};
 use words::words;
@@ -44,6 +46,7 @@ tup makes the files that the Tupfiles of a project ask for. It may be called in 
   tup demo        show an update of a small project in memory
   tup --proc P    update, each command run through the program P; also tup upd --proc P
   tup -k          update, and go on after a bad command with what doesn't need it; also tup upd -k
+  tup --explain   update, and say behind each rule why it was run; also tup upd --explain
   tup --verbose   update, and print each command before it is run; also tup upd --verbose
   tup --quiet     update, and show nothing while it runs; also tup upd --quiet
   tup --help      print this
@@ -54,11 +57,11 @@ Exit numbers: 0 done, 1 a command's fault, 2 usage, 3 no project here, or one al
 8 the runner failed, 9 the output failed, 11 over a limit, 12 no memory, 13 the files differ from a clean build.
 ";
 
-/// Where a program that runs commands finds and leaves its files.
-const STAGE: &str = ".tup/stage";
+/// Where the programs that run commands find and leave their files.
+const STAGES: &str = ".tup/stage";
 
 /// The version, which stands here alone.
-const VERSION: &str = "0.3";
+const VERSION: &str = "0.4";
 
 fn main(rt: HostRuntime) -> ExitCode {
     streams::fill(rt);
@@ -114,6 +117,7 @@ fn obey(rt: HostRuntime, alloc: Global, words: &[Word]) -> u8 {
                 keep_going,
                 quiet,
                 verbose,
+                ..
             },
         ) => {
             let asked = Options {
@@ -262,8 +266,10 @@ fn run<R: Runner>(rt: HostRuntime, alloc: Global, call: &Call, runner: R) -> (St
     let Ok(site) = FsSite::new(rt, alloc, call.top.root.as_str(), call.syncs) else {
         return (no_memory(rt), None);
     };
+    let started = Started::new();
     let mut crew = Vec::new(alloc);
-    let Ok(()) = crew.push(Progress::new(runner, ErrorScreen::new(rt), call.manner)) else {
+    let shown = Progress::new(runner, ErrorScreen::new(rt), call.manner, &started);
+    let Ok(()) = crew.push(shown) else {
         return (no_memory(rt), None);
     };
     let mut output = Output::new(&rt, call.manner == Manner::Over);
@@ -273,6 +279,7 @@ fn run<R: Runner>(rt: HostRuntime, alloc: Global, call: &Call, runner: R) -> (St
         drop(eprintln!(rt; "tup: {failure}"));
     }
     hint::begin(rt, call.top, &ran.status);
+    hint::begin_anew(rt, alloc, call.top, &ran.status);
     let progress = ran.crew.pop();
     (ran.status, progress.map(Progress::into_runner))
 }
@@ -304,8 +311,28 @@ fn starter(
     program: &Text,
 ) -> Result<ProcRunner<HostRuntime>, AllocError> {
     let root = Text::from_str(alloc, top.root.as_str())?;
-    let stage = Text::from_string(top.place(alloc, STAGE)?);
-    Ok(ProcRunner::new(rt, root, program.clone()?, stage))
+    let stages = Stages {
+        above: Text::from_string(top.place(alloc, STAGES)?),
+        update: update_name(rt, alloc)?,
+        seat: 0,
+    };
+    Ok(ProcRunner::new(rt, alloc, root, program.clone()?, stages))
+}
+
+/// A name that no other update of the project has: the time at which it begins, and the number of its process.
+fn update_name(rt: HostRuntime, alloc: Global) -> Result<Text, AllocError> {
+    let time = since_1970(&rt);
+    let (seconds, nanos) = (time.as_secs(), time.subsec_nanos());
+    let id = process::id(rt.process());
+    Ok(Text::from_string(format!(in alloc; "{seconds}.{nanos}.{id}")?))
+}
+
+/// The time since 1970, none where the clock doesn't tell.
+fn since_1970(clock: &impl Clock) -> Duration {
+    match SystemTime::now(clock) {
+        Ok(now) => now.duration_since(UNIX_EPOCH).unwrap_or(Duration::ZERO),
+        Err(_) => Duration::ZERO,
+    }
 }
 
 /// The exit number of a text that was to be printed.
