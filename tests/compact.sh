@@ -5,8 +5,6 @@
 # rules (none: 300). With the word `figures` in place of that: how large the store is after each hundredth of 1,000 updates, each
 # of one edited source among 1,100 rules, and how long an update takes then that has nothing to do. It ends with 1 where something
 # else came, and says so.
-# Nothing calls this yet, as it ends with 1: a stop between the last two steps leaves the store as long as it was until the next
-# compaction, since whether one is worth it is judged by where the last gate is and not by the length of the store.
 set -u
 tup=$(realpath "$1")
 here=$(dirname "$(realpath "$0")")

@@ -1,3 +1,3 @@
 mod Noting
-mod Crashes
+pub mod Crashes
 pub mod Seeing

@@ -2,8 +2,10 @@
 use Rattle.std.proofs.Common.{◌≡◌, inl, ℕ, length, Err, Result, refl, sym, ap, subst, ◌∙◌}
 use Rattle.std.specs.FinMap as finite
 use Rattle.tup_path.specs.Tree.{Tree}
-use Rattle.tup_site.specs.Cause.{IsTooLarge}
+use Rattle.tup_site.specs.Cause.{IsTooLarge, NeverTooLarge}
 use Rattle.tup_site.specs.World.{World}
+use Rattle.tup_site.specs.declared.fault.SiteFailed.{SiteFailed}
+use Rattle.tup_site.specs.declared.fault.SiteFailed.TheVariants as failed
 use Rattle.tup_link.specs.declared.fault.What.TheVariants.{Commands, Links}
 use Rattle.tup_project.specs.Project.{ComeTo}
 use Rattle.tup_project.specs.declared.fault.ProjectFault.{ProjectFault}
@@ -26,8 +28,15 @@ use Rattle.tup_stale.specs.declared.fault.StaleFault.TheVariants as stale
 use Rattle.tup_stale.specs.Unmade.{Sees, unmade}
 use Rattle.tup_promise.specs.Blamed.{HasFileOf}
 use Rattle.tup_promise.specs.Stopped.{stop_of_graph, stop_of_project, stop_of_refresh, stop_of_scan, stop_of_stale}
+use Rattle.tup_promise.specs.declared.stop.Stop.TheVariants.{Outside}
 use Rattle.tup_phases.specs.Kept.{BlamesSources, IsBrought}
 use Rattle.tup_phases.proofs.Users.{met_users}
+
+-- a call of the site that reads no file blames none
+pub site_blames : {T : Type 0} (first : World) (result : Result T SiteFailed) (fault : SiteFailed) → result ≡ Err fault → NeverTooLarge result → BlamesSources first (Outside fault)
+site_blames first result failed.Fault is never = tt
+site_blames first result (failed.TooLarge n) is never = absurd (never n is)
+site_blames first result failed.Memory is never = tt
 
 -- a commit blames no sources
 pub graph_blames : (first : World) (fault : GraphFault) → BlamesSources first (stop_of_graph fault)

@@ -2,6 +2,9 @@
 use Rattle.std.proofs.Common.{◌≡◌, ℕ, List, Option, Some, Result, Err, sym, subst, ◌∙◌}
 use Rattle.tup_path.specs.Name.{Names}
 use Rattle.tup_rule.specs.declared.question.Reading.{Reading}
+use Rattle.tup_site.specs.Cause.{CountsFaults as SiteCounts, NeverTooLarge}
+use Rattle.tup_site.specs.declared.fault.SiteFailed.{SiteFailed}
+use Rattle.tup_site.specs.declared.fault.SiteFailed.TheVariants as failed
 use Rattle.tup_link.specs.declared.fault.LinkFault.{LinkFault}
 use Rattle.tup_link.specs.Faults.{HasCause}
 use Rattle.tup_project.specs.Fault.{of_linking}
@@ -32,6 +35,11 @@ use Rattle.tup_phases.specs.Prepared.{RunsNone, StopsBefore, StopsOpened, StopsR
 
 -- ---- by the count
 module _ {T : Type 0} (before now : ℕ) where
+  pub site_counted : (result : Result T SiteFailed) (fault : SiteFailed) → result ≡ Err fault → SiteCounts before now result → NeverTooLarge result → HasCountedCause before now (Some (stop.Outside fault))
+  site_counted result failed.Fault is counts never = counts.fault is
+  site_counted result (failed.TooLarge n) is counts never = absurd (never n is)
+  site_counted result failed.Memory is counts never = counts.steady (λ e. cc (is, e))
+
   pub scan_counted : (result : Result T ScanFault) (fault : ScanFault) → result ≡ Err fault → ScanCounts before now result → IsAbove result → HasCountedCause before now (Some (stop_of_scan fault))
   scan_counted result scan.Site is counts above = counts.fault is
   scan_counted result (scan.TooLarge n) is counts above = (counts.steady (λ e. cc (is, e)), above.bytes n is)

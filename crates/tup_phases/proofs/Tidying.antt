@@ -1,19 +1,19 @@
 -- A store that is compacted keeps the graph that it had.
-use Rattle.std.proofs.Common.{◌≡◌, ◌⊎◌, ℕ, ◌≤◌, IsTrue, inl, inr, ⊎_elim, sym, subst}
+use Rattle.std.proofs.Common.{◌≡◌, ◌⊎◌, ℕ, ◌≤◌, IsTrue, inl, ⊎_elim, sym, subst}
 use Rattle.tup_site.specs.Crash.{GoesOn}
 use Rattle.tup_site.specs.World.{World, TreeStays}
 use Rattle.tup_site.specs.declared.site.Site.{Ghosts as Site}
 use Rattle.tup_table.specs.Table.{entries_in}
-use Rattle.tup_table.proofs.Going.{as_step}
 use Rattle.tup_graph.specs.Graph.{GraphState}
 use Rattle.tup_graph.specs.Kept.{IsGraphIn}
 use Rattle.tup_graph.specs.Opening.{IsGraphOf}
 use Rattle.tup_graph.specs.declared.fault.GraphFault.{GraphFault}
 use Rattle.tup_graph.specs.declared.fault.GraphFault.TheVariants as graph
-use Rattle.tup_stored_graph.specs.Crash.{GraphStep, HasEither, LeavesEither}
+use Rattle.tup_stored_graph.specs.Crash.{GraphStep, LeavesEither}
 use Rattle.tup_stored_graph.specs.Held.{Held, StandsFor}
 use Rattle.tup_stored_graph.proofs.Crashes.{as_it_was}
-use Rattle.tup_commit.specs.Crash.{HasEitherOf, LeavesNoted, NoteStep}
+use Rattle.tup_commit.specs.Crash.{LeavesNoted}
+use Rattle.tup_commit.proofs.Crashes.{noted}
 use Rattle.tup_law_site.proofs.Laws.{keeps_noted}
 use Rattle.tup_law_phases.specs.Language.{tupfiles}
 use Rattle.tup_partial.specs.Plan.{AreFlagsOfRules}
@@ -36,18 +36,8 @@ module _ {S : Type 0} (site : Site S) (tells : IsTrue site.tells) (earlier : (s 
 
   module _ (new : S) (leaves : LeavesEither site.moment site.left_since old new held.nodes held.nodes) where
     -- a store with the graph is one with it or with no other
-    here : (w : World) → HasEither held.nodes held.nodes w → HasEitherOf held.nodes NoOther w
-    here w has = ⊎_elim inl (λ store. inl store) has
-
     same : LeavesNoted site.moment site.left_since old new held.nodes NoOther
-    same = record {
-      only = record {
-        later = leaves.only.later;
-        each = λ w left. here w (leaves.only.each w left);
-        before = λ t w le left. ⊎_elim inl (λ has. inr (here w has)) (leaves.only.before t w le left);
-      };
-      on = as_step site.moment site.left_since old new (GraphStep held.nodes held.nodes) (NoteStep held.nodes NoOther) (λ v w left step. record { tree = step.tree; store = here w step.store }) leaves.on;
-    }
+    same = noted site.moment site.left_since held.nodes held.nodes NoOther (λ w store. inl store) old new leaves
 
     pub tidied_trees : GoesOn site.moment site.left_since old new TreeStays
     tidied_trees = trees_by site tells earlier present old new (GraphStep held.nodes held.nodes) (λ v w step. step.tree) leaves.on

@@ -181,10 +181,15 @@ fn tidied<S: Site>(
     ensures stops { IfErr result StopsReading }
     ensures counted { HasCountedCause (S.faults site.old) (S.faults site.new) (result_err result) }
 {
+    reads_keep_graphs(&*site);
     flags_are_of_rules();
     // A law: while the graph is fresh, the store stands for its nodes.
     let _ = graph.nodes();
-    if !compacts || !graph.is_sparse() {
+    if !compacts {
+        return Ok(());
+    }
+    let len = site.db_len(alloc)?;
+    if !graph.is_sparse(len) {
         return Ok(());
     }
     graph.compact(alloc, site)?;

@@ -211,12 +211,12 @@ impl Graph {
         Ok(())
     }
 
-    /// Whether compacting the store is worth it: it has more than 1,048,576 bytes, and more than
-    /// four times as many as are live.
-    pub fn is_sparse(&self) -> bool
-        ensures { IsTrue result ↔ IsSparse self.now.table }
+    /// Whether compacting a store of this many bytes is worth it: it has more than 1,048,576, and
+    /// more than four times as many as are live.
+    pub fn is_sparse(&self, len: u64) -> bool
+        ensures { IsTrue result ↔ IsSparse self.now.table len }
     {
-        self.table.is_sparse()
+        self.table.is_sparse(len)
     }
 
     /// Makes the store one commit of all records, and cuts off what was replaced or deleted. The

@@ -176,6 +176,6 @@ CompactLeaves old new before after (Err Site) = new ≡ stale old
 CompactLeaves old new before after (Err Memory) = (new ≡ stale old) ⊎ ((new ≡ old) × (after ≡ before))
 CompactLeaves old new before after (Err other) = ⊥
 
--- the store has more than 1,048,576 bytes up to its last gate, and more than four times as many as are live
-abbrev pub IsSparse : Table → Type 0
-IsSparse table = (1048576 < table.gate + 1) × (4 * live_size table.entries < table.gate + 1) × (live_size table.entries ≤ most_live)
+-- a store of this many bytes has more than 1,048,576, and more than four times as many as are live
+abbrev pub IsSparse : Table → ℕ → Type 0
+IsSparse table len = (1048576 < len) × (4 * live_size table.entries < len) × (live_size table.entries ≤ most_live)

@@ -303,13 +303,13 @@ impl Table {
         self.entries.live()
     }
 
-    /// Whether compacting the store is worth it: it has more than 1,048,576 bytes up to its last gate, and more than four
-    /// times as many as are live.
-    pub fn is_sparse(&self) -> bool
-        ensures { IsTrue result ↔ IsSparse self.now }
+    /// Whether compacting a store of this many bytes is worth it: it has more than 1,048,576, and more than four times as
+    /// many as are live.
+    pub fn is_sparse(&self, len: u64) -> bool
+        ensures { IsTrue result ↔ IsSparse self.now len }
     {
         let live = self.live();
-        live <= MAX_LIVE && self.gate >= 1_048_576 && self.gate >= 4 * live
+        live <= MAX_LIVE && len > 1_048_576 && len > 4 * live
     }
 
     /// Makes one commit of all entries, and cuts off what was replaced or deleted. From the first moment of the call on, a
