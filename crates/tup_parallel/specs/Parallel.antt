@@ -1,5 +1,5 @@
 -- What a crew leaves of a board (own).
-use Rattle.std.specs.Prelude.{◌≡◌, ◌⊎◌, ◌<◌, ◌≤◌, ◌-◌, ℕ, List, ◌++◌, length, map, take, slice_index_or, Option, None, All, Contains, IsTrue}
+use Rattle.std.specs.Prelude.{◌≡◌, ◌⊎◌, ◌<◌, ◌≤◌, ◌-◌, ℕ, List, ◌++◌, length, map, take, slice_index_or, None, All, Contains, IsTrue}
 use Rattle.tup_path.specs.Count.{Rose}
 use Rattle.tup_path.specs.Name.{Names}
 use Rattle.tup_site.specs.declared.site.Site.{Ghosts as Site}
@@ -13,7 +13,6 @@ use Rattle.tup_board.specs.Board.{BoardState, course_of, seat_of, state}
 use Rattle.tup_board.specs.Calls.{HasRunCause, RanAll, TakesFirst, commands}
 use Rattle.tup_board.specs.Seat.{KeepsCount}
 use Rattle.tup_board.specs.declared.answers.Drained.{Drained}
-use Rattle.tup_board.specs.declared.answers.Drained.TheVariants.{Left}
 use Rattle.tup_alone.specs.Own.{entries_at}
 
 -- a crew has a runner, and at most 16

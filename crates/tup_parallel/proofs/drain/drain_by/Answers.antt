@@ -1,6 +1,5 @@
-use Rattle.std.proofs.Common.{◌≡◌, ◌<◌, ◌∙◌, ap, sym, length, arith}
-use Rattle.std.specs.Prelude.{slice_set}
-use Rattle.tup_parallel.proofs.Closing.{Closed, DrainsBy, closed}
+use Rattle.std.proofs.Common.{◌∙◌, ap, sym}
+use Rattle.tup_parallel.proofs.Closing.{DrainsBy, closed}
 use Rattle.tup_parallel.proofs.drain.drain_by.Goals as goal
 
 pub drain-drained-requires-clause-plan : goal.drain-drained-requires-clause-plan
