@@ -6,6 +6,7 @@ use Rattle.std.specs.List.{AllZip}
 use Rattle.std.specs.Option.{IfSome, option_map}
 use Rattle.std.specs.Ordering.{eq_by_cmp, nat_cmp}
 use Rattle.std.proofs.lemmas.List.Elements.{Contains-push_cases, All-contains, All-contains_itself, All-head, All-tail, All-weaker}
+use Rattle.std.proofs.lemmas.List.{map-append}
 use Rattle.std.proofs.lemmas.Option.{none-some, same_Some}
 use Rattle.std.proofs.lemmas.Slice.Zip.{AllZip-long}
 use Rattle.tup_site.specs.declared.site.Site.{Ghosts as Site}
@@ -24,12 +25,17 @@ use Rattle.tup_apart.proofs.Running.{listed}
 use Rattle.tup_apart.specs.Run.{MayRun}
 use Rattle.tup_promise.specs.Kept.{OfGraph}
 use Rattle.tup_phases.specs.Kept.{KeepsRuns}
+use Rattle.tup_phases.specs.Logged.{ended_rules}
+use Rattle.tup_promise.specs.declared.log.EndedRule.{EndedRule}
+use Rattle.tup_promise.specs.declared.log.Log.{Log}
 use Rattle.tup_why.specs.Reason.{IsPlanned}
 use Rattle.tup_why.specs.Waiting.{HasCircle}
-use Rattle.tup_update.specs.Because.{AreChainsOf, AreExplained, AreSaid, CountsChains, HasChain, IsChainOrNone, OfBegun, SaysWhy}
+use Rattle.tup_update.specs.Because.{AreChainsOf, AreExplained, AreSaid, CountsChains, HasChain, IsChainOrNone, OfEnded, OfRules, SaysWhy}
+use Rattle.tup_update.specs.Ended.{numbers, told_ends}
 use Rattle.tup_update.specs.Names.{AreNamesOf, IsReadyFor, IsWaiting, name_in, value_at}
 use Rattle.tup_update.specs.Promised.{WasPrepared}
 use Rattle.tup_update.specs.declared.by_rule.ByRule.{ByRule}
+use Rattle.tup_update.proofs.Telling.{End, HasOne, rules_in, some_names, told_all_names}
 
 -- ---- values that wait for all that a plan runs wait for what it claims
 module _ {V : Type 0} (plan : Plan) where
@@ -106,7 +112,7 @@ module _ (g : GraphState) (plan : Plan) where
       → HasChains (take (i + 1) plan.reach) chains
   one_more i number d chains less is = subst (λ (l : List ℕ). HasChains l chains) (sym (taken plan.reach i number d less is))
 
--- ---- what is said of the rules that were begun
+-- ---- what is said of the rules that ended
 module _ (g : GraphState) (plan : Plan) where
   module _ (chains : ByRule (Option (List ℕ))) (are : AreChainsOf g plan chains) where
     says : (number : ℕ) (name : RuleName) (chain : Option (List ℕ)) → Some name ≡ name_in plan.rules number → Some chain ≡ value_at chains number → is_reached plan number ≡ true → SaysWhy g plan name chain
@@ -134,17 +140,23 @@ module _ (g : GraphState) (plan : Plan) where
           say_why numbers ran because names chained (All-tail (λ number. is_reached plan number ≡ true) number numbers reached),
         )
 
-  pub say_why_if : (numbers : List ℕ) (ran : List RuleName) (because : List (Option (List ℕ))) → map Some ran ≡ map (name_in plan.rules) numbers → All (λ number. is_reached plan number ≡ true) numbers
-      → (chains : Option (ByRule (Option (List ℕ)))) → IfSome chains (λ values. map Some because ≡ map (value_at values) numbers)
-      → IfSome chains (λ values. AreChainsOf g plan values → AllZip (SaysWhy g plan) ran because)
-  say_why_if numbers ran because named reached None claimed = tt
-  say_why_if numbers ran because named reached (Some chains) claimed = λ are. say_why chains are numbers ran because named claimed reached
+  -- of the rules that are told of, and of those that the log leaves out
+  pub say_why_ended : (list : List End) (ended rest : List EndedRule) (because : List (Option (List ℕ))) → ended ++ rest ≡ told_ends plan.rules list → All (λ number. is_reached plan number ≡ true) (numbers list)
+      → All (HasOne plan.rules) (numbers list) → (chains : Option (ByRule (Option (List ℕ)))) → IfSome chains (λ values. map Some because ≡ map (value_at values) (numbers list))
+      → IfSome chains (λ values. AreChainsOf g plan values → (more : List RuleName) × AllZip (SaysWhy g plan) (rules_in ended ++ more) because)
+  say_why_ended list ended rest because parts reached have None claimed = tt
+  say_why_ended list ended rest because parts reached have (Some chains) claimed = λ are. (
+    rules_in rest,
+    subst (λ (names : List RuleName). AllZip (SaysWhy g plan) names because) (ap rules_in (sym parts) ∙ map-append (λ (one : EndedRule). one.rule) ended rest)
+        (say_why chains are (numbers list) (rules_in (told_ends plan.rules list)) because (ap (map Some) (told_all_names plan.rules list have) ∙ some_names plan.rules (numbers list) have) claimed reached),
+  )
 
   -- so it is where they are asked for
-  pub said : (explain : Bool) (ran : List RuleName) (because : List (Option (List ℕ))) (chains : Option (ByRule (Option (List ℕ)))) → MayRun g plan → is_some chains ≡ explain
-      → IfSome chains (AreChainsOf g plan) → (chains ≡ None → because ≡ []) → IfSome chains (λ values. AreChainsOf g plan values → AllZip (SaysWhy g plan) ran because) → AreSaid explain g ran because
-  said explain ran because None may asked are none why = record { asked = λ e. absurd (cc (asked, e)); unasked = λ e. none refl }
-  said explain ran because (Some chains) may asked are none why = record { asked = λ e. inr (plan, may, why are); unasked = λ e. absurd (cc (asked, e)) }
+  pub said : (explain : Bool) (log : Log) (because : List (Option (List ℕ))) (chains : Option (ByRule (Option (List ℕ)))) → MayRun g plan → is_some chains ≡ explain → IfSome chains (AreChainsOf g plan)
+      → (chains ≡ None → because ≡ []) → IfSome chains (λ values. AreChainsOf g plan values → OfEnded log (λ ended. AllZip (SaysWhy g plan) ended because)) → OfEnded log (λ ended. AreSaid explain g ended because)
+  said explain log because None may asked are none why = ([], record { asked = λ e. absurd (cc (asked, e)); unasked = λ e. none refl })
+  said explain log because (Some chains) may asked are none why =
+      let given = why are in (given.0, record { asked = λ e. inr (plan, may, given.1); unasked = λ e. absurd (cc (asked, e)) })
 
   -- where no rule waits for itself there is a chain
   has_chain : (HasCircle g plan → ⊥) → (name : RuleName) (chain : Option (List ℕ)) → SaysWhy g plan name chain → HasChain g plan name chain
@@ -157,26 +169,35 @@ module _ (g : GraphState) (plan : Plan) where
   have_chains none (name ∷ ran) [] why = why
   have_chains none (name ∷ ran) (chain ∷ because) why = (has_chain none name chain why.0, have_chains none ran because why.1)
 
--- ---- no rule was begun
-pub none_said : (explain : Bool) (g : GraphState) (ran : List RuleName) (because : List (Option (List ℕ))) → ran ≡ [] → because ≡ [] → AreSaid explain g ran because
-none_said explain g ran because none same = record { asked = λ e. inl (none, same); unasked = λ e. same }
+-- ---- no rule ended
+none_of : (log : Log) → log.ended ≡ [] → ended_rules log ++ [] ≡ []
+none_of log none = ap (λ (ended : List EndedRule). map (λ (one : EndedRule). one.rule) ended ++ []) none
 
-pub none_counted : (explain : Bool) (ran : List RuleName) (because : List (Option (List ℕ))) → ran ≡ [] → because ≡ [] → CountsChains explain ran because
-none_counted true ran because none same = ap length same ∙ sym (ap length none)
-none_counted false ran because none same = same
+pub none_said : (explain : Bool) (g : GraphState) (log : Log) (because : List (Option (List ℕ))) → log.ended ≡ [] → because ≡ [] → OfEnded log (λ ended. AreSaid explain g ended because)
+none_said explain g log because none same = ([], record { asked = λ e. inl (none_of log none, same); unasked = λ e. same })
+
+pub none_counted : (explain : Bool) (log : Log) (because : List (Option (List ℕ))) → log.ended ≡ [] → because ≡ [] → OfEnded log (λ ended. CountsChains explain ended because)
+none_counted explain log because none same = ([], by explain)
+  where
+    by : (explain : Bool) → CountsChains explain (ended_rules log ++ []) because
+    by true = ap length same ∙ sym (ap length (none_of log none))
+    by false = same
+
+pub none_explained : {S : Type 0} (site : Site S) (old : S) (log : Log) (because : List (Option (List ℕ))) → log.ended ≡ [] → because ≡ [] → OfEnded log (λ ended. AreExplained site old ended because)
+none_explained site old log because none same = ([], inl (none_of log none, same))
 
 -- ---- of an update
 pub counted : (explain : Bool) (g : GraphState) (ran : List RuleName) (because : List (Option (List ℕ))) → AreSaid explain g ran because → CountsChains explain ran because
 counted true g ran because are = by (are.asked refl)
   where
-    by : OfBegun g ran because (SaysWhy g) → length because ≡ length ran
+    by : OfRules g ran because (SaysWhy g) → length because ≡ length ran
     by (inl (none, same)) = ap length same ∙ sym (ap length none)
     by (inr (plan, may, why)) = AllZip-long (SaysWhy g plan) ran because why
 counted false g ran because are = are.unasked refl
 
 pub explained : {S : Type 0} (site : Site S) (next : Next) (old : S) (graph : Held) (at : S) (ran : List RuleName) (because : List (Option (List ℕ)))
     → ((g : GraphState) (plan : Plan) → HasOneMaker plan → IsAcyclic plan.rules → HasCircle g plan → ⊥) → WasPrepared site next old graph at
-    → OfGraph (site.world old) (λ before. KeepsRuns before graph.nodes) → OfBegun graph.nodes ran because (SaysWhy graph.nodes) → AreExplained site old ran because
+    → OfGraph (site.world old) (λ before. KeepsRuns before graph.nodes) → OfRules graph.nodes ran because (SaysWhy graph.nodes) → AreExplained site old ran because
 explained site next old graph at ran because law was records (inl none) = inl none
 explained site next old graph at ran because law was records (inr (plan, may, why)) =
     let acyclic : IsAcyclic plan.rules = subst IsAcyclic (sym may.plan.rules) was.prepared.rules.2.2.order in

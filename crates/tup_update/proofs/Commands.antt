@@ -25,7 +25,7 @@ module _ (rules : List Rule) (at : ℕ → Option RuleName) where
   abbrev pub command_at : ℕ → Option (PathNames × List ℕ)
   command_at number = option_map command_in (slice_get rules number)
 
-  one_more : (number : ℕ) (numbers : List ℕ) (name : RuleName) (ran : List RuleName) → Some name ≡ at number → IsNamed rules at number → map command_of ran ≡ filter_map command_at numbers
+  pub one_more : (number : ℕ) (numbers : List ℕ) (name : RuleName) (ran : List RuleName) → Some name ≡ at number → IsNamed rules at number → map command_of ran ≡ filter_map command_at numbers
       → (found : Option Rule) → slice_get rules number ≡ found → map command_of (name ∷ ran) ≡ filter_map command_at (number ∷ numbers)
   one_more number numbers name ran here named rest None e = absurd (none-some name (sym (here ∙ named ∙ ap (option_map name_of) e)))
   one_more number numbers name ran here named rest (Some rule) e =
@@ -48,6 +48,15 @@ slice_get_some rules number within = ⊎_elim
     (λ here. subst IsSome (sym here.2) refl)
     (λ past. absurd (omega (arith, within, past.0)))
     (slice_get_cases rules number).1
+
+-- each rule of the reach has a name
+pub have_names : (plan : Plan) (numbers : List ℕ) → IsInRange plan → All (λ number. is_reached plan number ≡ true) numbers → All (λ number. IsSome (option_map name_of (slice_get plan.rules number))) numbers
+have_names plan numbers range reached =
+    All-weaker (λ number. is_reached plan number ≡ true) (λ number. IsSome (option_map name_of (slice_get plan.rules number))) (λ number here. by (slice_get plan.rules number) (slice_get_some plan.rules number (range number here))) numbers reached
+  where
+    by : (found : Option Rule) → IsSome found → IsSome (option_map name_of found)
+    by None some = absurd (cc)
+    by (Some rule) some = refl
 
 -- ---- the names that a plan has for the claims of its rules
 module _ (plan : Plan) (names : ByRule RuleName) (are : AreNamesOf plan names) (range : IsInRange plan) where

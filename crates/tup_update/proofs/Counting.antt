@@ -1,11 +1,10 @@
 -- What a board that was drained says of the causes of an update.
-use Rattle.std.proofs.Common.{◌≡◌, ◌≢◌, ◌⊎◌, inl, inr, ℕ, ◌-◌, List, [], ◌∷◌, ◌++◌, map, length, take, Option, Some, None, All, refl, sym, ap, subst, arith, length-append, ◌∙◌}
+use Rattle.std.proofs.Common.{◌≡◌, ◌≢◌, ◌⊎◌, inl, inr, ℕ, ◌-◌, List, [], ◌∷◌, ◌++◌, map, length, take, Option, Some, None, refl, sym, ap, subst, arith, length-append, ◌∙◌}
 use Rattle.std.specs.FinMap as finite
 use Rattle.std.specs.Option.{IfSome}
 use Rattle.std.specs.Prelude.{IsTrue}
 use Rattle.std.proofs.Math.Seq.{take-append_seam}
 use Rattle.std.proofs.lemmas.List.{map-append}
-use Rattle.tup_path.specs.Count.{Rose}
 use Rattle.tup_path.specs.Name.{Names as PathNames}
 use Rattle.tup_site.specs.declared.fault.SiteFailed.TheVariants as failed
 use Rattle.tup_site.specs.declared.site.Site.{Ghosts as Site}
@@ -21,26 +20,21 @@ use Rattle.tup_core.specs.Run.{IsRun, end_of}
 use Rattle.tup_core.specs.Step.{State, opening}
 use Rattle.tup_board.specs.Board.{BoardState, plan_of, start, state}
 use Rattle.tup_board.specs.Cause.{HasLargeFile}
-use Rattle.tup_board.specs.Calls.{Drains, RanAll as BoardRan, HasRunCause as BoardRunCause, commands}
+use Rattle.tup_board.specs.Calls.{Drains, RanAll as BoardRan, commands}
 use Rattle.tup_board.specs.Sound.{IsSound}
 use Rattle.tup_board.specs.declared.answers.Drained.{Drained}
 use Rattle.tup_board.specs.declared.answers.Drained.TheVariants.{Done, Left}
 use Rattle.tup_promise.specs.Blamed.{HasFileOf}
-use Rattle.tup_promise.specs.Cause.{HasCountedCause, HasRunCause}
+use Rattle.tup_promise.specs.Cause.{HasCountedCause, HasSharedCause}
 use Rattle.tup_promise.specs.Ran.{RanAll, RanAllButLast, RunsThese, command_of}
 use Rattle.tup_promise.specs.declared.stop.Stop.{Stop}
 use Rattle.tup_promise.specs.declared.stop.Stop.TheVariants as stop
 use Rattle.tup_update.specs.Run.{IsEnd, OfBads, StopsBy, StopsRunning}
-use Rattle.tup_update.proofs.Ending.{Own}
 
 -- a board that was left for another cause than a bad verdict has stopped for it
 pub left_for : (end : State) (why : Cause) → why ≢ cause.Bad → Drains end (Left why) → end.stopped ≡ Some why
 left_for end why other (inl is) = is
 left_for end why other (inr (none, bad, some)) = absurd (other bad)
-
--- all that happened since nothing had, happened at one seat
-pub own_all : {was : List CoreEvent} (now : List CoreEvent) → was ≡ [] → ((events : List CoreEvent) × (now ≡ was ++ events) × All Own events) → All Own now
-own_all now none (events, adds, own) = subst (All Own) (sym (adds ∙ ap (λ (before : List CoreEvent). before ++ events) none)) own
 
 -- what stopped an update by its history, by the verdicts of the board
 pub stops_so : {S : Type 0} (board : BoardState S) (plan : Plan) (drained : Drained) (stopped : Option Stop) → plan_of board ≡ plan → IsRun (plan_of board) (start board) board.history
@@ -67,7 +61,7 @@ module _ (rules : List Rule) (bad : ℕ → Option Verdict) where
     counted_end (Some (stop.Outside (failed.TooLarge n))) is = absurd is
     counted_end (Some (stop.Outside failed.Memory)) is = same
 
-  module _ {S R : Type 0} (site : Site S) (runner : Runner R) (board : BoardState S) (sound : IsSound site runner board) (keeps : (state board).stopped ≢ Some cause.Site → site.faults board.site ≡ site.faults board.opening.site) where
+  module _ {S R : Type 0} (site : Site S) (runner : Runner R) (board : BoardState S) (sound : IsSound site runner board) where
     abbrev before : ℕ
     before = site.faults board.opening.site
 
@@ -77,26 +71,53 @@ module _ (rules : List Rule) (bad : ℕ → Option Verdict) where
     counted_as : (by : Stop) (stopped : Option Stop) → stopped ≡ Some by → HasCountedCause before now (Some by) → HasCountedCause before now stopped
     counted_as by stopped is counted = subst (HasCountedCause before now) (sym is) counted
 
-    pub counted : (drained : Drained) (stopped : Option Stop) → Drains (state board) drained → StopsBy rules drained stopped bad → HasCountedCause before now stopped
-    counted Done stopped drains stops = counted_end before now (keeps (λ e. let none = drains.0 in cc)) stopped stops
-    counted (Left cause.Bad) stopped drains stops = counted_end before now (keeps (not_site drains)) stopped stops
+    pub counted : ((state board).stopped ≢ Some cause.Site → now ≡ before) → (drained : Drained) (stopped : Option Stop) → Drains (state board) drained → StopsBy rules drained stopped bad → HasCountedCause before now stopped
+    counted keeps Done stopped drains stops = counted_end before now (keeps (λ e. let none = drains.0 in cc)) stopped stops
+    counted keeps (Left cause.Bad) stopped drains stops = counted_end before now (keeps (not_site drains)) stopped stops
       where
         not_site : Drains (state board) (Left cause.Bad) → (state board).stopped ≢ Some cause.Site
         not_site (inl is) e = cc
         not_site (inr (none, bad, some)) e = cc
-    counted (Left cause.Site) stopped drains stops = counted_as (stop.Outside failed.Fault) stopped stops (sound.cause cause.Site (left_for (state board) cause.Site (λ e. cc) drains))
-    counted (Left (cause.TooLarge n)) stopped drains stops =
+    counted keeps (Left cause.Site) stopped drains stops = counted_as (stop.Outside failed.Fault) stopped stops (sound.cause cause.Site (left_for (state board) cause.Site (λ e. cc) drains))
+    counted keeps (Left (cause.TooLarge n)) stopped drains stops =
         let is = left_for (state board) (cause.TooLarge n) (λ e. cc) drains in
         counted_as (stop.Outside (failed.TooLarge n)) stopped stops (keeps (λ e. cc), (sound.cause (cause.TooLarge n) is).0)
-    counted (Left cause.Full) stopped drains stops =
+    counted keeps (Left cause.Full) stopped drains stops =
         let is = left_for (state board) cause.Full (λ e. cc) drains in
         counted_as stop.Full stopped stops (keeps (λ e. cc))
-    counted (Left cause.Run) stopped drains stops =
+    counted keeps (Left cause.Run) stopped drains stops =
         let is = left_for (state board) cause.Run (λ e. cc) drains in
         counted_as stop.Run stopped stops (keeps (λ e. cc))
-    counted (Left cause.Memory) stopped drains stops =
+    counted keeps (Left cause.Memory) stopped drains stops =
         let is = left_for (state board) cause.Memory (λ e. cc) drains in
         counted_as (stop.Outside failed.Memory) stopped stops (keeps (λ e. cc))
+
+    -- ---- for so many runners
+    shared_end : (stopped : Option Stop) → (stopped ≡ None → now ≡ before) → IsEnd rules bad stopped → HasSharedCause before now stopped
+    shared_end None stands is = stands refl
+    shared_end (Some stop.NoStore) stands is = absurd is
+    shared_end (Some (stop.BadStore offset)) stands is = absurd is
+    shared_end (Some (stop.Sources fault)) stands is = absurd is
+    shared_end (Some (stop.UserFile path written found)) stands is = absurd is
+    shared_end (Some (stop.Bad name verdict)) stands is = is.not_good
+    shared_end (Some stop.Run) stands is = absurd is
+    shared_end (Some stop.Full) stands is = absurd is
+    shared_end (Some (stop.Outside failed.Fault)) stands is = absurd is
+    shared_end (Some (stop.Outside (failed.TooLarge n))) stands is = absurd is
+    shared_end (Some (stop.Outside failed.Memory)) stands is = tt
+
+    shared_as : (by : Stop) (stopped : Option Stop) → stopped ≡ Some by → HasSharedCause before now (Some by) → HasSharedCause before now stopped
+    shared_as by stopped is shared = subst (HasSharedCause before now) (sym is) shared
+
+    pub shared : (drained : Drained) (stopped : Option Stop) → (stopped ≡ None → now ≡ before) → Drains (state board) drained → StopsBy rules drained stopped bad → HasSharedCause before now stopped
+    shared Done stopped stands drains stops = shared_end stopped stands stops
+    shared (Left cause.Bad) stopped stands drains stops = shared_end stopped stands stops
+    shared (Left cause.Site) stopped stands drains stops = shared_as (stop.Outside failed.Fault) stopped stops (sound.cause cause.Site (left_for (state board) cause.Site (λ e. cc) drains))
+    shared (Left (cause.TooLarge n)) stopped stands drains stops =
+        shared_as (stop.Outside (failed.TooLarge n)) stopped stops (sound.cause (cause.TooLarge n) (left_for (state board) (cause.TooLarge n) (λ e. cc) drains)).0
+    shared (Left cause.Full) stopped stands drains stops = shared_as stop.Full stopped stops tt
+    shared (Left cause.Run) stopped stands drains stops = shared_as stop.Run stopped stops tt
+    shared (Left cause.Memory) stopped stands drains stops = shared_as (stop.Outside failed.Memory) stopped stops tt
 
   -- ---- a file that is too large is there
   module _ {S R : Type 0} (site : Site S) (runner : Runner R) (board : BoardState S) (sound : IsSound site runner board) (tells : IsTrue site.tells) where
@@ -118,35 +139,6 @@ module _ (rules : List Rule) (bad : ℕ → Option Verdict) where
     large_there (Left cause.Run) stopped drains stops n is = absurd (cc (stops, is))
     large_there (Left cause.Memory) stopped drains stops n is = absurd (cc (stops, is))
 
-  -- ---- what the runner counted
-  module _ (was is : ℕ) where
-    steady_end : (stopped : Option Stop) → IsEnd rules bad stopped → is ≡ was → HasRunCause was is stopped
-    steady_end None end same = same
-    steady_end (Some stop.NoStore) end same = absurd end
-    steady_end (Some (stop.BadStore offset)) end same = absurd end
-    steady_end (Some (stop.Sources fault)) end same = absurd end
-    steady_end (Some (stop.UserFile path written found)) end same = absurd end
-    steady_end (Some (stop.Bad name verdict)) end same = same
-    steady_end (Some stop.Run) end same = absurd end
-    steady_end (Some stop.Full) end same = absurd end
-    steady_end (Some (stop.Outside why)) end same = same
-
-    steady_as : (by : Stop) (stopped : Option Stop) → stopped ≡ Some by → HasRunCause was is (Some by) → HasRunCause was is stopped
-    steady_as by stopped same cause = subst (HasRunCause was is) (sym same) cause
-
-    rose : (before : Option Cause) → before ≡ None → (before ≡ Some cause.Run) ⊎ Rose was is → Rose was is
-    rose before none (inl run) = absurd (cc)
-    rose before none (inr is_so) = is_so
-
-    pub run_caused : (drained : Drained) (stopped : Option Stop) → BoardRunCause None was is drained → StopsBy rules drained stopped bad → HasRunCause was is stopped
-    run_caused Done stopped caused stops = steady_end stopped stops (caused.steady (λ e. cc))
-    run_caused (Left cause.Bad) stopped caused stops = steady_end stopped stops (caused.steady (λ e. cc))
-    run_caused (Left cause.Site) stopped caused stops = steady_as (stop.Outside failed.Fault) stopped stops (caused.steady (λ e. cc))
-    run_caused (Left (cause.TooLarge n)) stopped caused stops = steady_as (stop.Outside (failed.TooLarge n)) stopped stops (caused.steady (λ e. cc))
-    run_caused (Left cause.Full) stopped caused stops = steady_as stop.Full stopped stops (caused.steady (λ e. cc))
-    run_caused (Left cause.Run) stopped caused stops = steady_as stop.Run stopped stops (rose None refl (caused.run refl))
-    run_caused (Left cause.Memory) stopped caused stops = steady_as (stop.Outside failed.Memory) stopped stops (caused.steady (λ e. cc))
-
   -- ---- what the runner ran
   -- a list without its last item
   but_last : {A : Type 0} (front : List A) (last : A) → take (length (front ++ last ∷ []) - 1) (front ++ last ∷ []) ≡ front
@@ -164,7 +156,7 @@ module _ (rules : List Rule) (bad : ℕ → Option Verdict) where
       (one ∷ apart.0, apart.1, ap (λ (rest : List A). one ∷ rest) apart.2)
 
   -- some rules, or all but the last of them
-  without_last : (old new : List (PathNames × List ℕ)) (ran : List RuleName) → new ≡ old ++ take (length (map command_of ran) - 1) (map command_of ran)
+  pub without_last : (old new : List (PathNames × List ℕ)) (ran : List RuleName) → new ≡ old ++ take (length (map command_of ran) - 1) (map command_of ran)
       → RanAll ran old new ⊎ RanAllButLast ran old new
   without_last old new [] is = inl is
   without_last old new (name ∷ ran) is =

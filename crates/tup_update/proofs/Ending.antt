@@ -23,7 +23,7 @@ use Rattle.tup_core.specs.Step.{State, changed, asked, refused, emptied, stopped
 use Rattle.tup_core.specs.Run.{IsRun, end_of, claims, seat_of}
 use Rattle.tup_core.proofs.Changed.{changed_cases, changed_here}
 use Rattle.tup_core.proofs.Orderly.{finished_is, seats_ended}
-use Rattle.tup_update.specs.Ended.{ends_at, ends_from}
+use Rattle.tup_update.specs.Ended.{ends_at, ends_from, numbers}
 use Rattle.tup_update.proofs.Claimed.{Knows, claimed_after, knows_after, seats_finished}
 use Rattle.tup_update.proofs.Working.{at_work, others, running_of, same_running, swap_front, work_emptied, work_few, work_free, work_none, work_same}
 
@@ -34,10 +34,6 @@ Own event = seat_of event ≡ 0
 -- it happens at one of the first so many seats
 abbrev pub IsBelow : ℕ → CoreEvent → Type 0
 IsBelow jobs event = seat_of event < jobs
-
--- the numbers of some ends
-abbrev pub numbers : List (ℕ × Verdict) → List ℕ
-numbers list = map (λ (end : ℕ × Verdict). end.0) list
 
 -- nothing is stopped while a rule runs
 abbrev pub Going : State → Option Running → Type 0
@@ -56,6 +52,15 @@ cut_off plan jobs state (Stop seat cause ∷ events) = running_of (state.seats s
 -- it is Good
 abbrev pub EndsWell : ℕ × Verdict → Type 0
 EndsWell end = is_good (Some end.1) ≡ true
+
+-- all seats of a run are those of a board
+pub all_seats : (plan : Plan) (events : List CoreEvent) (state : State) → IsRun plan state events → All (IsBelow 16) events
+all_seats plan [] state run = All-nil (IsBelow 16)
+all_seats plan (Claim seat number ∷ events) state (enabled, run) = All-cons (IsBelow 16) (Claim seat number) events enabled.0 (all_seats plan events (after plan state (Claim seat number)) run)
+all_seats plan (Ask seat text answer ∷ events) state ((it, rule, path, runs, asks, may, told), run) = All-cons (IsBelow 16) (Ask seat text answer) events runs.within (all_seats plan events (after plan state (Ask seat text answer)) run)
+all_seats plan (Deny seat text verdict ∷ events) state ((it, rule, runs, asks, may), run) = All-cons (IsBelow 16) (Deny seat text verdict) events runs.within (all_seats plan events (after plan state (Deny seat text verdict)) run)
+all_seats plan (Finish seat verdict writes ∷ events) state ((it, rule, runs, fits), run) = All-cons (IsBelow 16) (Finish seat verdict writes) events runs.within (all_seats plan events (after plan state (Finish seat verdict writes)) run)
+all_seats plan (Stop seat cause ∷ events) state (enabled, run) = All-cons (IsBelow 16) (Stop seat cause) events enabled.0 (all_seats plan events (after plan state (Stop seat cause)) run)
 
 -- a rule that is noted as bad at the end was so before, or its bad end is among the ends, with that verdict
 abbrev pub IsNoted : State → ℕ → Verdict → List (ℕ × Verdict) → Type 0

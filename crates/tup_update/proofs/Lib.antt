@@ -1,5 +1,6 @@
 mod Commands
 mod Counting
+mod Crewed
 mod FirstBad
 mod Promised
 mod Taking

@@ -2,7 +2,10 @@
 use Rattle.std.proofs.Common.{◌≡◌, ◌≢◌, ◌⊎◌, ◌<◌, ◌≤◌, inl, inr, ℕ, Bool, true, false, List, [], ◌∷◌, ◌++◌, length, map, Option, None, Some, Result, Ok, Err, refl, sym, ap, subst, arith, append-nil, append_assoc, ◌∙◌}
 use Rattle.std.specs.List.Sorted.{IsPermutation}
 use Rattle.std.specs.Prelude.{All, IfErr, IfOk, OnOk}
-use Rattle.std.specs.List.{filter_map, slice_get}
+use Rattle.std.specs.Bool.{nat_eq}
+use Rattle.std.specs.List.{AllByRecursion, IsDistinct, filter_map, slice_get}
+use Rattle.std.proofs.lemmas.Bool.Decides.{eqb_tells}
+use Rattle.std.proofs.lemmas.Map.Keys.{IsDistinct-IsPermutation}
 use Rattle.std.specs.Option.{IfSome, IsSome, option_map}
 use Rattle.std.proofs.lemmas.Bool.{true≢false}
 use Rattle.std.proofs.lemmas.List.{length-map, map-append}
@@ -24,7 +27,7 @@ use Rattle.tup_core.specs.declared.event.Cause.TheVariants as cause
 use Rattle.tup_core.specs.declared.event.CoreEvent.{CoreEvent}
 use Rattle.tup_core.specs.declared.plan.Plan.{Plan}
 use Rattle.tup_core.specs.Run.{IsRun, claims, end_of}
-use Rattle.tup_core.specs.Step.{State, opening}
+use Rattle.tup_core.specs.Step.{State, is_reached, opening}
 use Rattle.tup_board.specs.Board.{BoardState, plan_of, state}
 use Rattle.tup_board.specs.Calls.{Drains}
 use Rattle.tup_board.specs.declared.answers.Drained.{Drained}
@@ -37,12 +40,12 @@ use Rattle.tup_promise.specs.declared.stop.Stop.TheVariants as stop
 use Rattle.tup_phases.specs.Prepared.{LogsBefore, StopsBefore}
 use Rattle.tup_promise.specs.Stopped.{no_memory}
 use Rattle.tup_phases.specs.Spared.{LeavesTree}
-use Rattle.tup_update.specs.Ended.{TellsAll, TellsFor, TellsFront, ends, nothing_claimed, told_ends, told_of}
+use Rattle.tup_update.specs.Ended.{TellsAll, TellsFor, TellsFront, ends, nothing_claimed, numbers, told_ends, told_of}
 use Rattle.tup_update.specs.Names.{name_in}
 use Rattle.tup_update.specs.Run.{IsEnd, StopsBy, StopsRunning}
 use Rattle.tup_update.proofs.Counting.{left_for}
 use Rattle.tup_update.proofs.Claimed.{Knows, knows_none}
-use Rattle.tup_update.proofs.Ending.{EndsWell, GoodBefore, IsBelow, IsNoted, Own, all_begun, cut_off, good_before, none_cut, none_noted, noted_ends, numbers, own_begun}
+use Rattle.tup_update.proofs.Ending.{EndsWell, GoodBefore, IsBelow, IsNoted, Own, all_begun, all_seats, cut_off, good_before, none_cut, none_noted, noted_ends, own_begun}
 use Rattle.tup_update.proofs.FirstBad.{bad_is_there}
 use Rattle.tup_update.proofs.Telling.{End, HasOne, all_back, all_front, front_apart, good_among, name_or, rules_in, taken_names, told_all_names, told_good, told_many, told_split}
 use Rattle.tup_update.proofs.Working.{at_work, work_none}
@@ -56,6 +59,45 @@ stop_cases (Some (cause.TooLarge bytes)) = inr (inr (cause.TooLarge bytes, (λ e
 stop_cases (Some cause.Full) = inr (inr (cause.Full, (λ e. cc), refl))
 stop_cases (Some cause.Run) = inr (inr (cause.Run, (λ e. cc), refl))
 stop_cases (Some cause.Memory) = inr (inr (cause.Memory, (λ e. cc), refl))
+
+-- ---- the rules that ended are some of those that were claimed
+-- numbers that stand once in a list stand once in its front
+distinct_front : (front rest : List ℕ) → IsDistinct nat_eq (front ++ rest) → IsDistinct nat_eq front
+unfolding IsDistinct
+distinct_front [] rest once = tt
+distinct_front (first ∷ front) rest once = (apart front rest once.0, distinct_front front rest once.1)
+  where
+    apart : (front rest : List ℕ) → AllByRecursion (λ other. nat_eq first other ≡ false) (front ++ rest) → AllByRecursion (λ other. nat_eq first other ≡ false) front
+    apart [] rest all = tt
+    apart (other ∷ front) rest all = (all.0, apart front rest all.1)
+
+-- each ended once, and is of the reach
+pub record EndedOnce (plan : Plan) (history : List CoreEvent) : Type 0 where
+  pub once : IsDistinct nat_eq (numbers (ends history))
+  pub reached : All (λ number. is_reached plan number ≡ true) (numbers (ends history))
+
+pub ended_once : (plan : Plan) (files : List (PathNames × Stamp)) (history : List CoreEvent) → IsRun plan (opening plan files) history → IsDistinct nat_eq (claims history) → All (λ number. is_reached plan number ≡ true) (claims history)
+    → EndedOnce plan history
+ended_once plan files history run once reached =
+    let cut = cut_off plan 16 (opening plan files) history in
+    let are : IsPermutation (claims history) (numbers (ends history) ++ cut) =
+    subst (λ (l : List ℕ). IsPermutation (l ++ claims history) (numbers (ends history) ++ cut)) (work_none 16 (λ _. None) (λ i. refl))
+    (all_begun plan 16 history (opening plan files) nothing_claimed (knows_none plan files) (all_seats plan history (opening plan files) run) run) in
+    record {
+      once = distinct_front (numbers (ends history)) cut (IsDistinct-IsPermutation nat_eq flips (claims history) (numbers (ends history) ++ cut) are once);
+      reached =
+          all_front (λ number. is_reached plan number ≡ true) (numbers (ends history)) cut
+          (All-permutation (λ number. is_reached plan number ≡ true) (claims history) (numbers (ends history) ++ cut) are reached);
+    }
+  where
+    flips : (x y : ℕ) → nat_eq x y ≡ nat_eq y x
+    flips x y = elim (eqb_tells x y) [
+      | inl same ↦ subst (λ (n : ℕ). nat_eq x n ≡ nat_eq n x) same.1 refl
+      | inr apart ↦ elim (eqb_tells y x) [
+        | inl same ↦ absurd (apart.1 (sym same.1))
+        | inr other ↦ apart.0 ∙ sym other.0
+      ]
+    ]
 
 module _ (plan : Plan) (files : List (PathNames × Stamp)) (events : List CoreEvent) (run : IsRun plan (opening plan files) events) (jobs : ℕ) (below : All (IsBelow jobs) events)
     (over : (seat : ℕ) → (end_of plan (opening plan files) events).seats seat ≡ None) (log : Log) (named : map Some log.ran ≡ map (name_in plan.rules) (claims events)) where
@@ -376,6 +418,18 @@ all_tells whole old new all (Some (stop.Bad name verdict)) = all
 all_tells whole old new all (Some stop.Run) = whole_front whole old new all
 all_tells whole old new all (Some stop.Full) = whole_front whole old new all
 all_tells whole old new all (Some (stop.Outside why)) = whole_front whole old new all
+
+-- what is told by an update that stopped somehow is a front
+pub tells_front : (whole old new : List EndedRule) (stopped : Option Stop) → TellsFor whole old new stopped → TellsFront whole old new
+tells_front whole old new None all = whole_front whole old new all
+tells_front whole old new (Some stop.NoStore) front = front
+tells_front whole old new (Some (stop.BadStore offset)) front = front
+tells_front whole old new (Some (stop.Sources fault)) front = front
+tells_front whole old new (Some (stop.UserFile path written found)) front = front
+tells_front whole old new (Some (stop.Bad name verdict)) all = whole_front whole old new all
+tells_front whole old new (Some stop.Run) front = front
+tells_front whole old new (Some stop.Full) front = front
+tells_front whole old new (Some (stop.Outside why)) front = front
 
 -- of an answer or want of memory
 pub answer_tells : {E : Type 0} (whole old new : List EndedRule) (answer : Result (Option Stop) E) (stopped : Option Stop) → IfOk answer (λ given. stopped ≡ given) → IfErr answer (λ _. stopped ≡ Some no_memory) →

@@ -18,9 +18,9 @@ use Rattle.tup_phases.specs.Logged.{AreGood}
 use Rattle.tup_promise.specs.declared.log.EndedRule.{EndedRule}
 use Rattle.tup_core.specs.declared.event.CoreEvent.{CoreEvent}
 use Rattle.tup_core.specs.declared.event.CoreEvent.TheVariants.{Claim, Ask, Deny, Finish, Stop}
-use Rattle.tup_update.specs.Ended.{claimed_by, ends, ends_at, ends_from, told_ends, told_of}
+use Rattle.tup_update.specs.Ended.{claimed_by, ends, ends_at, ends_from, numbers, told_ends, told_of}
 use Rattle.tup_update.specs.Names.{name_in}
-use Rattle.tup_update.proofs.Ending.{EndsWell, numbers}
+use Rattle.tup_update.proofs.Ending.{EndsWell}
 
 -- the end of a command
 abbrev pub End : Type 0
@@ -70,6 +70,15 @@ module _ (rules : List Rule) where
       by (names number) (All-head HasOne number numbers have) ∙ ap (λ (more : List RuleName). name_or number ∷ more) (all_names numbers (All-tail HasOne number numbers have))
     where
       by : (o : Option RuleName) → IsSome o → cons_option o (filter_map names numbers) ≡ unwrap_or o (record { dir = []; text = [] }) ∷ filter_map names numbers
+      by None some = absurd (cc)
+      by (Some name) some = refl
+
+  pub some_names : (numbers : List ℕ) → All HasOne numbers → map Some (map name_or numbers) ≡ map names numbers
+  some_names [] have = refl
+  some_names (number ∷ numbers) have =
+      ap₂ (λ (one : Option RuleName) (others : List (Option RuleName)). one ∷ others) (by (names number) (All-head HasOne number numbers have)) (some_names numbers (All-tail HasOne number numbers have))
+    where
+      by : (o : Option RuleName) → IsSome o → Some (unwrap_or o (record { dir = []; text = [] })) ≡ o
       by None some = absurd (cc)
       by (Some name) some = refl
 

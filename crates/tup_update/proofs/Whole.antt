@@ -4,8 +4,8 @@ use Rattle.std.specs.Option.{IfSome}
 use Rattle.tup_path.specs.Name.{Names as PathNames}
 use Rattle.tup_site.specs.World.{World}
 use Rattle.tup_rule.specs.declared.rule.RuleName.{RuleName}
-use Rattle.tup_promise.specs.Cause.{HasCountedCause, HasRunCause, IsWithin}
-use Rattle.tup_promise.specs.Ran.{RunsThese}
+use Rattle.tup_promise.specs.Cause.{CrewCountedCause, HasCountedCause, HasSharedCause, IsWithin}
+use Rattle.tup_promise.specs.Ran.{CrewRuns, RunsThese}
 use Rattle.tup_promise.specs.Unopened.{IsReadable, Unopened}
 use Rattle.tup_promise.specs.declared.log.Log.{Log}
 use Rattle.tup_promise.specs.declared.stop.Stop.{Stop}
@@ -13,6 +13,7 @@ use Rattle.tup_promise.specs.declared.stop.Stop.TheVariants as stop
 use Rattle.tup_site.specs.declared.fault.SiteFailed.TheVariants as failed
 use Rattle.tup_phases.specs.Prepared.{StopsBefore}
 use Rattle.tup_update.specs.Run.{StopsRunning}
+use Rattle.tup_update.proofs.Crewed.{crew_none}
 
 -- whose rules were run, its store was read
 pub opened_running : (old new : World) (log : Log) (stopped : Option Stop) → IsReadable old.store → IfSome stopped StopsRunning → Unopened old new log stopped
@@ -29,52 +30,54 @@ opened_running old new log (Some (stop.Outside (failed.TooLarge bytes))) reads s
 opened_running old new log (Some (stop.Outside failed.Memory)) reads stops = inl reads
 
 -- ---- one that stopped before any rule was run
-pub before_run_cause : (count : ℕ) (by : Stop) → StopsBefore by → HasRunCause count count (Some by)
-before_run_cause count stop.NoStore is = refl
-before_run_cause count (stop.BadStore offset) is = refl
-before_run_cause count (stop.Sources fault) is = refl
-before_run_cause count (stop.UserFile path written found) is = refl
-before_run_cause count (stop.Bad name verdict) is = absurd is
-before_run_cause count stop.Run is = absurd is
-before_run_cause count stop.Full is = refl
-before_run_cause count (stop.Outside why) is = refl
+-- its site's count is that of one runner
+pub before_counted : (jobs before now : ℕ) (by : Stop) → StopsBefore by → HasCountedCause before now (Some by) → CrewCountedCause jobs before now (Some by)
+before_counted jobs before now by is counted = record { any = by_kind by is counted; alone = λ one. counted }
+  where
+    by_kind : (why : Stop) → StopsBefore why → HasCountedCause before now (Some why) → HasSharedCause before now (Some why)
+    by_kind stop.NoStore is same = same
+    by_kind (stop.BadStore offset) is same = same
+    by_kind (stop.Sources fault) is same = same
+    by_kind (stop.UserFile path written found) is same = same
+    by_kind (stop.Bad name verdict) is same = absurd is
+    by_kind stop.Run is same = absurd is
+    by_kind stop.Full is same = tt
+    by_kind (stop.Outside failed.Fault) is rose = rose
+    by_kind (stop.Outside (failed.TooLarge n)) is same = same.1
+    by_kind (stop.Outside failed.Memory) is same = tt
+
+-- a runner that is given none
+none_given : (given : List (PathNames × List ℕ)) (stopped : Option Stop) → RunsThese [] given given stopped
+none_given given None = sym (append-nil given)
+none_given given (Some stop.NoStore) = sym (append-nil given)
+none_given given (Some (stop.BadStore offset)) = sym (append-nil given)
+none_given given (Some (stop.Sources fault)) = sym (append-nil given)
+none_given given (Some (stop.UserFile path written found)) = sym (append-nil given)
+none_given given (Some (stop.Bad name verdict)) = sym (append-nil given)
+none_given given (Some stop.Run) = sym (append-nil given)
+none_given given (Some stop.Full) = sym (append-nil given)
+none_given given (Some (stop.Outside failed.Fault)) = sym (append-nil given)
+none_given given (Some (stop.Outside (failed.TooLarge n))) = sym (append-nil given)
+none_given given (Some (stop.Outside failed.Memory)) = inl (sym (append-nil given))
 
 -- it ran none
-pub before_ran : (ran : List RuleName) (given : List (PathNames × List ℕ)) (by : Stop) → ran ≡ [] → RunsThese ran given given (Some by)
-before_ran ran given by none = subst (λ (names : List RuleName). RunsThese names given given (Some by)) (sym none) (by_kind by)
-  where
-    same : given ≡ given ++ []
-    same = sym (append-nil given)
-
-    by_kind : (why : Stop) → RunsThese [] given given (Some why)
-    by_kind stop.NoStore = same
-    by_kind (stop.BadStore offset) = same
-    by_kind (stop.Sources fault) = same
-    by_kind (stop.UserFile path written found) = same
-    by_kind (stop.Bad name verdict) = same
-    by_kind stop.Run = same
-    by_kind stop.Full = same
-    by_kind (stop.Outside failed.Fault) = same
-    by_kind (stop.Outside (failed.TooLarge n)) = same
-    by_kind (stop.Outside failed.Memory) = inl same
+pub before_ran : (ran : List RuleName) (given : List (List (PathNames × List ℕ))) (by : Stop) → ran ≡ [] → CrewRuns ran given given (Some by)
+before_ran ran given by none = crew_none ran given given (Some by) none refl (λ list. none_given list (Some by))
 
 -- ---- one that had none to run
-pub none_ran : (ran : List RuleName) (given : List (PathNames × List ℕ)) → ran ≡ [] → RunsThese ran given given None
-none_ran ran given none = subst (λ (names : List RuleName). RunsThese names given given None) (sym none) (sym (append-nil given))
+pub none_ran : (ran : List RuleName) (given : List (List (PathNames × List ℕ))) → ran ≡ [] → CrewRuns ran given given None
+none_ran ran given none = crew_none ran given given None none refl (λ list. none_given list None)
 
 -- ---- one for which there was no memory before any rule was run
 module _ (stopped : Option Stop) (is : stopped ≡ Some (stop.Outside failed.Memory)) where
   pub memory_stops : IfSome stopped StopsRunning
   memory_stops = subst (λ (s : Option Stop). IfSome s StopsRunning) (sym is) tt
 
-  pub memory_counted : (before now : ℕ) → now ≡ before → HasCountedCause before now stopped
-  memory_counted before now same = subst (HasCountedCause before now) (sym is) same
+  pub memory_counted : (jobs before now : ℕ) → now ≡ before → CrewCountedCause jobs before now stopped
+  memory_counted jobs before now same = subst (CrewCountedCause jobs before now) (sym is) (record { any = tt; alone = λ one. same })
 
-  pub memory_run_cause : (count : ℕ) → HasRunCause count count stopped
-  memory_run_cause count = subst (HasRunCause count count) (sym is) refl
-
-  pub memory_ran : (ran : List RuleName) (given : List (PathNames × List ℕ)) → ran ≡ [] → RunsThese ran given given stopped
-  memory_ran ran given none = subst (RunsThese ran given given) (sym is) (before_ran ran given (stop.Outside failed.Memory) none)
+  pub memory_ran : (ran : List RuleName) (before now : List (List (PathNames × List ℕ))) → ran ≡ [] → now ≡ before → CrewRuns ran before now stopped
+  memory_ran ran before now none same = crew_none ran before now stopped none same (λ list. none_given list stopped)
 
 -- ---- the limits
 -- whose rules were run, its files were within them

@@ -1,5 +1,5 @@
 -- Why the rules were run that an update began (own).
-use Rattle.std.specs.Prelude.{◌≡◌, ◌⊎◌, ℕ, Bool, true, false, List, [], length, Option, None, Some}
+use Rattle.std.specs.Prelude.{◌≡◌, ◌⊎◌, ℕ, Bool, true, false, List, [], ◌++◌, length, Option, None, Some}
 use Rattle.std.specs.List.{AllZip}
 use Rattle.tup_site.specs.declared.site.Site.{Ghosts as Site}
 use Rattle.tup_rule.specs.Rule.{name_of}
@@ -12,6 +12,8 @@ use Rattle.tup_core.specs.declared.plan.Plan.{Plan}
 use Rattle.tup_apart.specs.Run.{MayRun}
 use Rattle.tup_promise.specs.Kept.{OfGraph}
 use Rattle.tup_phases.specs.Kept.{KeepsRuns}
+use Rattle.tup_phases.specs.Logged.{ended_rules}
+use Rattle.tup_promise.specs.declared.log.Log.{Log}
 use Rattle.tup_why.specs.Reason.{IsPlanned, IsReasonOf}
 use Rattle.tup_why.specs.Shown.{chain_text}
 use Rattle.tup_why.specs.Waiting.{HasCircle}
@@ -44,26 +46,30 @@ SaysWhy g plan name chain = (number : ℕ) × (rule : Rule) × IsPlanned plan nu
 abbrev pub HasChain : GraphState → Plan → RuleName → Option (List ℕ) → Type 0
 HasChain g plan name chain = (number : ℕ) × (rule : Rule) × IsPlanned plan number rule × (name_of rule ≡ name) × (text : List ℕ) × (chain ≡ Some text) × IsChain g plan number text
 
--- no rule was begun, or each that was has this property of a plan that may be run over a graph
-abbrev pub OfBegun : GraphState → List RuleName → List (Option (List ℕ)) → (Plan → RuleName → Option (List ℕ) → Type 0) → Type 0
-OfBegun g ran chains Property = ((ran ≡ []) × (chains ≡ [])) ⊎ ((plan : Plan) × MayRun g plan × AllZip (Property plan) ran chains)
+-- a property of the rules whose command came to a verdict, those included that a log leaves out for want of memory
+abbrev pub OfEnded : Log → (List RuleName → Type 0) → Type 0
+OfEnded log Property = (rest : List RuleName) × Property (ended_rules log ++ rest)
 
--- where reasons are asked for there is a chain for each rule that was begun, in their order, or none, where some rule waits
--- for itself; where they aren't there is no chain
-pub record AreSaid (explain : Bool) (g : GraphState) (ran : List RuleName) (chains : List (Option (List ℕ))) : Type 0 where
-  pub asked : explain ≡ true → OfBegun g ran chains (SaysWhy g)
+-- no rule ended, or each that did has this property of a plan that may be run over a graph
+abbrev pub OfRules : GraphState → List RuleName → List (Option (List ℕ)) → (Plan → RuleName → Option (List ℕ) → Type 0) → Type 0
+OfRules g names chains Property = ((names ≡ []) × (chains ≡ [])) ⊎ ((plan : Plan) × MayRun g plan × AllZip (Property plan) names chains)
+
+-- where reasons are asked for there is a chain for each rule that ended, in the order of the ends, or none, where some rule
+-- waits for itself; where they aren't there is no chain
+pub record AreSaid (explain : Bool) (g : GraphState) (names : List RuleName) (chains : List (Option (List ℕ))) : Type 0 where
+  pub asked : explain ≡ true → OfRules g names chains (SaysWhy g)
   pub unasked : explain ≡ false → chains ≡ []
 
 -- ---- of an update
 
--- no rule was begun, or each that was has a chain, over the graph that was up to date with the site that the update began with; the
+-- no rule ended, or each that did has a chain, over the graph that was up to date with the site that the update began with; the
 -- records of its rules are those of the store of that site
 abbrev pub AreExplained : {S : Type 0} → Site S → S → List RuleName → List (Option (List ℕ)) → Type 0
-AreExplained {S} site old ran chains = ((ran ≡ []) × (chains ≡ [])) ⊎ ((next : Next) × (graph : Held) × (at : S) × WasPrepared site next old graph at
+AreExplained {S} site old names chains = ((names ≡ []) × (chains ≡ [])) ⊎ ((next : Next) × (graph : Held) × (at : S) × WasPrepared site next old graph at
     × OfGraph (site.world old) (λ was. KeepsRuns was graph.nodes)
-    × ((plan : Plan) × MayRun graph.nodes plan × AllZip (HasChain graph.nodes plan) ran chains))
+    × ((plan : Plan) × MayRun graph.nodes plan × AllZip (HasChain graph.nodes plan) names chains))
 
--- there is one for each rule that was begun where they are asked for, and else none, whatever the site is
+-- there is one for each rule that ended where they are asked for, and else none, whatever the site is
 abbrev pub CountsChains : Bool → List RuleName → List (Option (List ℕ)) → Type 0
-CountsChains true ran chains = length chains ≡ length ran
-CountsChains false ran chains = chains ≡ []
+CountsChains true names chains = length chains ≡ length names
+CountsChains false names chains = chains ≡ []

@@ -1,5 +1,5 @@
 -- What came of the commands of a history (own).
-use Rattle.std.specs.Prelude.{◌≡◌, ℕ, List, [], ◌∷◌, ◌++◌, Option, None, Some, replicate, slice_get, slice_index_or, slice_set}
+use Rattle.std.specs.Prelude.{◌≡◌, ℕ, List, [], ◌∷◌, ◌++◌, map, Option, None, Some, replicate, slice_get, slice_index_or, slice_set}
 use Rattle.std.specs.List.{cons_option, filter_map}
 use Rattle.std.specs.Option.{option_map}
 use Rattle.tup_access.specs.declared.verdict.Verdict.{Verdict}
@@ -36,6 +36,10 @@ ends_from claimed (Stop seat cause ∷ events) = ends_from claimed events
 -- the same of a whole history
 abbrev pub ends : List CoreEvent → List (ℕ × Verdict)
 ends events = ends_from nothing_claimed events
+
+-- the numbers of the rules of some ends
+abbrev pub numbers : List (ℕ × Verdict) → List ℕ
+numbers list = map (λ (end : ℕ × Verdict). end.0) list
 
 -- what is told of a command that ended
 abbrev pub told_of : List Rule → ℕ × Verdict → Option EndedRule

@@ -1,9 +1,11 @@
 //! What is known of each rule of a plan, handed out for those that were begun.
-ghost use Rattle.std.specs.Prelude.{◌≡◌, ◌++◌, ◌≢◌, ◌∷◌, [], ℕ, Some, IsSome, IfOk, All, map, nat_eq};
+ghost use Rattle.std.specs.Prelude.{◌≡◌, ◌++◌, ◌≢◌, ◌∷◌, [], ℕ, None, Some, IsSome, IfOk, All, map, nat_eq};
 ghost use Rattle.std.specs.List.{IsDistinct};
 ghost use Rattle.tup_core.specs.Run.{claims};
+ghost use Rattle.tup_update.specs.Ended.{ends, numbers};
 ghost use Rattle.tup_update.specs.Names.{HasRoom, IsWaiting, value_at};
 
+use crate::ended::{SEATS, claim_at, claimed_at};
 use std::alloc::{AllocError, Global};
 use std::collections::BTreeMap;
 use tup_core::CoreEvent;
@@ -40,6 +42,41 @@ impl<V: Drop> ByRule<V> {
             }
         }
         Items::from_vec(self.begun)
+    }
+
+    /// The values of the rules whose command came to a verdict, in the order of the ends. It takes no memory.
+    pub(crate) fn ended(mut self, history: &[CoreEvent]) -> Items<V>
+        requires room { HasRoom self }
+        requires once { IsDistinct nat_eq (numbers (ends history.now)) }
+        requires named { All (λ number. IsSome (value_at self number)) (numbers (ends history.now)) }
+        requires none { self.begun.items ≡ [] }
+        ensures { map Some result ≡ map (value_at self) (numbers (ends history.now)) }
+    {
+        let mut claimed = [None; SEATS];
+        for event in history {
+            match event {
+                CoreEvent::Claim { seat, rule } => claim_at(&mut claimed, *seat, *rule),
+                CoreEvent::Finish { seat, .. } => self.begin_any(claimed_at(&claimed, *seat)),
+                _ => {}
+            }
+        }
+        Items::from_vec(self.begun)
+    }
+
+    /// The value of this rule is taken, if there is one.
+    fn begin_any(&mut self, number: Option<u32>)
+        requires room { HasRoom self.old }
+        requires named { (at : ℕ) → number ≡ Some at → IsSome (value_at self.old at) }
+        ensures room { HasRoom self.new }
+        ensures begun { (at : ℕ) (value : V) → number ≡ Some at → value_at self.old at ≡ Some value
+            → self.new.begun.items ≡ self.old.begun.items ++ value ∷ [] }
+        ensures others { (at other : ℕ) → number ≡ Some at → other ≢ at
+            → value_at self.new other ≡ value_at self.old other }
+        ensures none { number ≡ None → self.new ≡ self.old }
+    {
+        if let Some(number) = number {
+            self.begin(number);
+        }
     }
 
     /// A rule is begun whose value waits.

@@ -19,7 +19,7 @@ use tup_rule::Rule;
 use tup_site::SiteFailed;
 
 /// How many seats there are.
-const SEATS: usize = 16;
+pub(crate) const SEATS: usize = 16;
 
 /// Why an update stopped that ended so on a board. What became of its commands is added in the order in which they ended, as
 /// far as there is memory. Want of it is answered unless something else stopped the update.
@@ -103,7 +103,7 @@ fn add_ended(
 }
 
 /// A seat has claimed this rule, of what each seat claimed last.
-fn claim_at(claimed: &mut [Option<u32>], seat: u32, rule: u32)
+pub(crate) fn claim_at(claimed: &mut [Option<u32>], seat: u32, rule: u32)
     ensures { claimed.new ≡ slice_set claimed.old seat (Some rule) }
 {
     let at = seat as usize;
@@ -113,7 +113,7 @@ fn claim_at(claimed: &mut [Option<u32>], seat: u32, rule: u32)
 }
 
 /// What a seat claimed last.
-fn claimed_at(claimed: &[Option<u32>], seat: u32) -> Option<u32>
+pub(crate) fn claimed_at(claimed: &[Option<u32>], seat: u32) -> Option<u32>
     ensures { result ≡ claimed_by claimed.now seat }
 {
     match claimed.get(seat as usize) {

@@ -1,10 +1,10 @@
 //! One update, from the store and the sources to the files.
-ghost use Rattle.std.specs.Prelude.{◌≡◌, None, IsTrue, IfSome};
+ghost use Rattle.std.specs.Prelude.{◌≡◌, ◌<◌, ◌≤◌, None, length, map, IsTrue, IfSome};
 ghost use Rattle.tup_site.specs.Crash.{GoesOn};
 ghost use Rattle.tup_table.specs.Images.{OpenStep};
 ghost use Rattle.tup_law_site.specs.Over.{IsKeptNow};
 ghost use Rattle.tup_law_phases.specs.Language.{tupfiles};
-ghost use Rattle.tup_promise.specs.Cause.{HasCountedCause, HasRunCause, IsWithin};
+ghost use Rattle.tup_promise.specs.Cause.{CrewCountedCause, CrewRunCause, IsWithin};
 ghost use Rattle.tup_promise.specs.Blamed.{IsToBlame};
 ghost use Rattle.tup_promise.specs.Crashes.{SourcesAndCrashes, SourcesStay};
 ghost use Rattle.tup_promise.specs.Finished.{IsSettled, ExactlyTheFiles};
@@ -12,14 +12,16 @@ ghost use Rattle.tup_promise.specs.Kept.{IsKeptBySome, KeptHere};
 ghost use Rattle.tup_promise.specs.Needed.{OnlyWhatIsNeeded};
 ghost use Rattle.tup_phases.specs.Logged.{IsLogged};
 ghost use Rattle.tup_phases.specs.Spared.{LeavesTree};
-ghost use Rattle.tup_promise.specs.Ran.{RunsThese};
+ghost use Rattle.tup_promise.specs.Ran.{CrewRuns};
 ghost use Rattle.tup_promise.specs.States.{States};
 ghost use Rattle.tup_promise.specs.Unopened.{IsReadable, Unopened};
 ghost use Rattle.tup_promise.specs.Users.{HasUsersFile, IsHeldUp};
-ghost use Rattle.tup_update.specs.Because.{AreExplained, CountsChains};
+ghost use Rattle.tup_update.specs.Because.{AreExplained, CountsChains, OfEnded};
 
 use crate::run::run_flagged;
 use std::alloc::Global;
+use std::sync::Wait;
+use std::thread::Threads;
 use tup_path::{Items, Text};
 use tup_phases::prepared;
 use tup_promise::{Log, Stop};
@@ -36,29 +38,34 @@ pub struct Asked {
     pub explain: bool,
 }
 
-/// What an update did, the site as it left it, and why it stopped before its end, if it did.
+/// What an update did, the site and the crew as it left them, and why it stopped before its end, if it did.
 #[derive(Drop)]
-pub struct Updated<S: Site> {
+pub struct Updated<S: Site, R: Runner> {
     pub site: S,
+    /// The runners, in their order.
+    pub crew: Vec<R>,
     pub log: Log,
-    /// Why the rules of `log.ran` were run, where that was asked for: the chain of a reason of each, in their order.
+    /// Why the rules of `log.ended` were run, where that was asked for: the chain of a reason of each, in their order.
     pub because: Items<Option<Text>>,
     pub stopped: Option<Stop>,
 }
 
 /// Updates the files of a site: opens the store, reads the Tupfiles that have to be read, removes the files that no rule
-/// makes any more, and has the runner run the rules that have to be run, one after another.
+/// makes any more, and has a crew of runners run the rules that have to be run, as many at once as it has runners.
 ///
 /// Where it is asked why, it says of each rule that was run the chain of a reason: from a changed file, a new rule or an
 /// unfinished one to that rule.
 ///
-/// At a bad verdict it stops, or goes on with the rules that don't need that one. What was made by then stays made.
-pub fn update_site<S: Site, R: Runner>(
+/// At a bad verdict it begins no more rules, or goes on with those that don't need that one. What was made by then stays
+/// made. What it leaves is the same in whatever order the runners get on.
+pub fn update_site<W: Threads + Wait + Sync, S: Site + Send, R: Runner + Send>(
+    rt: &W,
     alloc: Global,
     mut site: S,
-    runner: &mut R,
+    crew: Vec<R>,
     asked: Asked,
-) -> Updated<S>
+) -> Updated<S, R>
+    requires crew { (0 < length crew.items) × (length crew.items ≤ 16) }
     // Whatever the store is: where it is empty or can't be read nothing is done, and it is told exactly there.
     ensures unopened { IsTrue S.tells
         → Unopened (S.world site) (S.world result.site) result.log result.stopped }
@@ -71,7 +78,8 @@ pub fn update_site<S: Site, R: Runner>(
         → ExactlyTheFiles R.next (S.world site) (S.world result.site) result.stopped }
     ensures only_what_is_needed { KeptHere S.Site.own R.Runner.own site
         → let old = S.world site in let new = S.world result.site in
-        OnlyWhatIsNeeded R.next asked.keep_going 1 old new result.log.ran result.stopped }
+        OnlyWhatIsNeeded R.next asked.keep_going (length crew.items)
+        old new result.log.ran result.stopped }
     ensures sources_and_crashes { KeptHere S.Site.own R.Runner.own site
         → SourcesAndCrashes S.Site.own R.next site result.site }
     ensures states { KeptHere S.Site.own R.Runner.own site
@@ -89,28 +97,33 @@ pub fn update_site<S: Site, R: Runner>(
     // Nor is a file of the user's touched at a path that no rule makes: it holds the update up.
     ensures users { IsTrue S.tells → IsKeptBySome S.Site.own site → HasUsersFile (S.world site)
         → IsHeldUp S.Site.own site result.site result.log.ran result.stopped }
-    // And where it is asked why, each rule that was begun has the chain of a reason that holds.
+    // And where it is asked why, each rule that came to a verdict has the chain of a reason that holds.
     ensures why { IsTrue S.tells → IsKeptBySome S.Site.own site → IsTrue asked.explain
-        → AreExplained S.Site.own site result.log.ran result.because }
+        → OfEnded result.log (λ ended. AreExplained S.Site.own site ended result.because) }
     // And where the sources have a fault, or a file of the user's stands in the way, no file is touched.
     ensures spares { IsTrue S.tells
         → IfSome result.stopped (LeavesTree (S.world site) (S.world result.site)) }
     // Where it came to its rules, the files were within the limits.
     ensures limits { IsTrue S.tells → IsWithin (S.world site) result.stopped }
-    // Whatever site and runner are.
-    ensures because { CountsChains asked.explain result.log.ran result.because }
-    ensures logged { IsLogged 1 asked.keep_going result.log result.stopped }
-    ensures counted_cause { HasCountedCause (S.faults site) (S.faults result.site) result.stopped }
-    ensures run_cause { HasRunCause (R.faults runner.old) (R.faults runner.new) result.stopped }
-    ensures ran { IsTrue R.tells_ran
-        → RunsThese result.log.ran (R.ran runner.old) (R.ran runner.new) result.stopped }
+    // Whatever site and runners are.
+    ensures crew { length result.crew.items ≡ length crew.items }
+    ensures because { OfEnded result.log
+        (λ ended. CountsChains asked.explain ended result.because) }
+    ensures logged { IsLogged (length crew.items) asked.keep_going result.log result.stopped }
+    ensures counted_cause { CrewCountedCause (length crew.items)
+        (S.faults site) (S.faults result.site) result.stopped }
+    ensures run_cause { CrewRunCause
+        (map R.faults crew.items) (map R.faults result.crew.items) result.stopped }
+    ensures ran { IsTrue R.tells_ran → CrewRuns result.log.ran
+        (map R.ran crew.items) (map R.ran result.crew.items) result.stopped }
 {
     none_waits_for_itself();
     let mut log = Log::new(alloc);
     match prepared(alloc, &mut site, &mut log) {
-        Ok(graph) => run_flagged(alloc, site, graph, runner, asked, log),
+        Ok(graph) => run_flagged(rt, alloc, site, graph, crew, asked, log),
         Err(stop) => Updated {
             site,
+            crew,
             log,
             because: Items::new(alloc),
             stopped: Some(stop),

@@ -1,4 +1,4 @@
-use Rattle.std.proofs.Common.{◌≡◌, ℕ, Bool, false, Option, Some, ap, refl, subst, ◌∙◌}
+use Rattle.std.proofs.Common.{◌≡◌, ℕ, length, map, Bool, false, Option, Some, ap, refl, subst, ◌∙◌}
 use Rattle.std.specs.Option.{IfSome}
 use Rattle.tup_graph.specs.Graph.{GraphState, is_flagged}
 use Rattle.tup_core.specs.declared.plan.Plan.{Plan}
@@ -10,7 +10,8 @@ use Rattle.tup_update.proofs.Promised.{nothing_due, unchanged, unchanged_sources
 use Rattle.tup_phases.specs.Logged.{IsLogged}
 use Rattle.tup_update.proofs.Chained.{none_said}
 use Rattle.tup_update.proofs.Logging.{memory_logged, none_logged}
-use Rattle.tup_update.proofs.Whole.{memory_counted, memory_ran, memory_run_cause, memory_stops, none_ran}
+use Rattle.tup_update.proofs.Crewed.{crew_memory}
+use Rattle.tup_update.proofs.Whole.{memory_counted, memory_ran, memory_stops, none_ran}
 use Rattle.tup_update.proofs.run.run_flagged.Goals as goal
 
 -- the plan that was found may be run
@@ -23,15 +24,18 @@ found_going keep_going found plan is same = subst (λ (given : Option Plan). IfS
 
 -- ---- nothing is flagged
 
+pub returns-then-none_flagged-clause-counted : goal.returns-then-none_flagged-clause-counted
+returns-then-none_flagged-clause-counted g c = record { any = refl; alone = λ one. refl }
+
 pub returns-then-none_flagged-clause-ran : goal.returns-then-none_flagged-clause-ran
-returns-then-none_flagged-clause-ran g c = λ tells. none_ran c.args.log.ran (g.R.Runner.ran c.args.runner.now) c.requires.none.ran
+returns-then-none_flagged-clause-ran g c = λ tells. none_ran c.args.log.ran (map g.R.Runner.ran c.args.crew.items) c.requires.none.ran
 
 pub returns-then-none_flagged-clause-promised : goal.returns-then-none_flagged-clause-promised
 returns-then-none_flagged-clause-promised g c =
     let unflagged : (number : ℕ) → is_flagged c.args.graph.nodes number ≡ false =
     subst (λ (nodes : GraphState). (number : ℕ) → is_flagged nodes number ≡ false) c.nodes.ensures.value (c.none_flagged.ensures c.if-none_flagged.true) in
-    nothing_due g.S.Site g.R.Runner c.args.asked.keep_going 1 c.args.graph c.args.site c.args.log.ran
-    (λ tells first since prepared. let site_laws = g.met.S.Site in flags_due g.S.Site g.R.Runner.next first since c.args.graph c.args.site prepared (λ t u w within left. site_laws.earlier c.args.site t u w tells within left) (site_laws.present c.args.site tells))
+    nothing_due g.S.Site g.R.Runner c.args.asked.keep_going (length c.args.crew.items) c.args.graph c.args.site c.args.log.ran
+    (λ tells first since prepared. let site_laws = g.met.S.Site g.world.𝓛 g.world.𝓜 g.world.𝓡 ((λ s x. x), (λ x. x), (λ x. x), λ x. x) in flags_due g.S.Site g.R.Runner.next first since c.args.graph c.args.site prepared (λ t u w within left. site_laws.earlier c.args.site t u w tells within left) (site_laws.present c.args.site tells))
     c.requires.none.ran unflagged (λ first since tells prepared. c.prepared_is_finished.ensures g.R.Runner.next first since c.args.graph tells prepared unflagged)
     (λ first since tells prepared. c.prepared_is_settled.ensures g.R.Runner.next first since c.args.graph tells prepared unflagged)
 
@@ -41,15 +45,18 @@ returns-then-none_flagged-clause-sources g c = unchanged_sources g.S.Site c.args
 -- ---- the plan of what is flagged is run
 
 pub run_plan-requires-clause-may_run : goal.run_plan-requires-clause-may_run
-run_plan-requires-clause-may_run g c = found_may_run c.args.graph.nodes c.in-Ok-Some.field-0 c.in-Ok-Some.plan c.in-Ok-Some.field-0-is c.in-Ok-Some.ensures.may_run
+run_plan-requires-clause-may_run g c κs lives = found_may_run c.args.graph.nodes c.in-Ok-Some.field-0 c.in-Ok-Some.plan c.in-Ok-Some.field-0-is c.in-Ok-Some.ensures.may_run
 
 pub returns-in-Ok-Some-clause-promised : goal.returns-in-Ok-Some-clause-promised
 returns-in-Ok-Some-clause-promised g c =
     let done = c.run_plan.result in
-    subst (λ (going : Bool). PromisesOver g.S.Site g.R.Runner going 1 c.args.graph c.args.site done.site done.log.ran done.stopped)
+    subst (λ (going : Bool). PromisesOver g.S.Site g.R.Runner going (length c.args.crew.items) c.args.graph c.args.site done.site done.log.ran done.stopped)
     (found_going c.args.asked.keep_going c.in-Ok-Some.field-0 c.in-Ok-Some.plan c.in-Ok-Some.field-0-is c.in-Ok-Some.ensures.keep_going) c.run_plan.ensures.promised
 
 -- ---- there was no memory for a plan, or it may not be run
+
+pub returns-in_default-clause-crew : goal.returns-in_default-clause-crew
+returns-in_default-clause-crew g c = ap length c.without_memory.ensures.crew
 
 pub returns-in_default-clause-sources : goal.returns-in_default-clause-sources
 returns-in_default-clause-sources g c = unchanged_sources g.S.Site c.args.graph c.args.site c.without_memory.result.site c.without_memory.ensures.site
@@ -57,8 +64,8 @@ returns-in_default-clause-sources g c = unchanged_sources g.S.Site c.args.graph 
 pub returns-in_default-clause-promised : goal.returns-in_default-clause-promised
 returns-in_default-clause-promised g c =
     let done = c.without_memory in
-    unchanged g.S.Site g.R.Runner c.args.asked.keep_going 1 c.args.graph c.args.site done.result.site done.result.log.ran done.result.stopped
-    (λ tells first since prepared. let site_laws = g.met.S.Site in flags_due g.S.Site g.R.Runner.next first since c.args.graph c.args.site prepared (λ t u w within left. site_laws.earlier c.args.site t u w tells within left) (site_laws.present c.args.site tells))
+    unchanged g.S.Site g.R.Runner c.args.asked.keep_going (length c.args.crew.items) c.args.graph c.args.site done.result.site done.result.log.ran done.result.stopped
+    (λ tells first since prepared. let site_laws = g.met.S.Site g.world.𝓛 g.world.𝓜 g.world.𝓡 ((λ s x. x), (λ x. x), (λ x. x), λ x. x) in flags_due g.S.Site g.R.Runner.next first since c.args.graph c.args.site prepared (λ t u w within left. site_laws.earlier c.args.site t u w tells within left) (site_laws.present c.args.site tells))
     done.ensures.site (ap (λ (log : Log). log.ran) done.ensures.log ∙ c.requires.none.ran) done.ensures.stopped
 
 pub returns-in_default-clause-stops : goal.returns-in_default-clause-stops
@@ -66,36 +73,38 @@ returns-in_default-clause-stops g c = memory_stops c.without_memory.result.stopp
 
 pub returns-in_default-clause-counted : goal.returns-in_default-clause-counted
 returns-in_default-clause-counted g c =
-    memory_counted c.without_memory.result.stopped c.without_memory.ensures.stopped (g.S.Site.faults c.args.site) (g.S.Site.faults c.without_memory.result.site) (ap g.S.Site.faults c.without_memory.ensures.site)
+    memory_counted c.without_memory.result.stopped c.without_memory.ensures.stopped (length c.args.crew.items) (g.S.Site.faults c.args.site) (g.S.Site.faults c.without_memory.result.site) (ap g.S.Site.faults c.without_memory.ensures.site)
 
 pub returns-in_default-clause-cause : goal.returns-in_default-clause-cause
-returns-in_default-clause-cause g c = memory_run_cause c.without_memory.result.stopped c.without_memory.ensures.stopped (g.R.Runner.faults c.args.runner.now)
+returns-in_default-clause-cause g c = crew_memory (map g.R.Runner.faults c.args.crew.items) (map g.R.Runner.faults c.without_memory.result.crew.items) c.without_memory.result.stopped c.without_memory.ensures.stopped (ap (map g.R.Runner.faults) c.without_memory.ensures.crew)
 
 pub returns-in_default-clause-ran : goal.returns-in_default-clause-ran
 returns-in_default-clause-ran g c = λ tells.
-    memory_ran c.without_memory.result.stopped c.without_memory.ensures.stopped c.without_memory.result.log.ran (g.R.Runner.ran c.args.runner.now) (ap (λ (log : Log). log.ran) c.without_memory.ensures.log ∙ c.requires.none.ran)
+    let done = c.without_memory in
+    memory_ran done.result.stopped done.ensures.stopped done.result.log.ran (map g.R.Runner.ran c.args.crew.items) (map g.R.Runner.ran done.result.crew.items) (ap (λ (log : Log). log.ran) done.ensures.log ∙ c.requires.none.ran)
+    (ap (map g.R.Runner.ran) done.ensures.crew)
 
 -- ---- what its log says
 
 pub returns-then-none_flagged-clause-logged : goal.returns-then-none_flagged-clause-logged
-returns-then-none_flagged-clause-logged g c = none_logged 1 c.args.asked.keep_going c.args.log c.requires.none
+returns-then-none_flagged-clause-logged g c = none_logged (length c.args.crew.items) c.args.asked.keep_going c.args.log c.requires.none
 
 pub returns-in-Ok-Some-clause-logged : goal.returns-in-Ok-Some-clause-logged
 returns-in-Ok-Some-clause-logged g c =
     let done = c.run_plan.result in
-    subst (λ (going : Bool). IsLogged 1 going done.log done.stopped) (found_going c.args.asked.keep_going c.in-Ok-Some.field-0 c.in-Ok-Some.plan c.in-Ok-Some.field-0-is c.in-Ok-Some.ensures.keep_going) c.run_plan.ensures.logged
+    subst (λ (going : Bool). IsLogged (length c.args.crew.items) going done.log done.stopped) (found_going c.args.asked.keep_going c.in-Ok-Some.field-0 c.in-Ok-Some.plan c.in-Ok-Some.field-0-is c.in-Ok-Some.ensures.keep_going) c.run_plan.ensures.logged
 
 pub returns-in_default-clause-logged : goal.returns-in_default-clause-logged
 returns-in_default-clause-logged g c =
     let done = c.without_memory in
-    memory_logged 1 c.args.asked.keep_going c.args.log done.result.log done.result.stopped done.ensures.log done.ensures.stopped c.requires.none
+    memory_logged (length c.args.crew.items) c.args.asked.keep_going c.args.log done.result.log done.result.stopped done.ensures.log done.ensures.stopped c.requires.none
 
 -- ---- what it says of why
 
 pub returns-then-none_flagged-clause-said : goal.returns-then-none_flagged-clause-said
-returns-then-none_flagged-clause-said g c = none_said c.args.asked.explain c.args.graph.nodes c.args.log.ran c.new.result c.requires.none.ran c.new.ensures
+returns-then-none_flagged-clause-said g c = none_said c.args.asked.explain c.args.graph.nodes c.args.log c.new.result c.requires.none.ended c.new.ensures
 
 pub returns-in_default-clause-said : goal.returns-in_default-clause-said
 returns-in_default-clause-said g c =
     let done = c.without_memory in
-    none_said c.args.asked.explain c.args.graph.nodes done.result.log.ran done.result.because (ap (λ (log : Log). log.ran) done.ensures.log ∙ c.requires.none.ran) done.ensures.because
+    none_said c.args.asked.explain c.args.graph.nodes done.result.log done.result.because (ap (λ (log : Log). log.ended) done.ensures.log ∙ c.requires.none.ended) done.ensures.because

@@ -1,15 +1,16 @@
-use Rattle.std.proofs.Common.{◌≡◌, true, List, map, Some, All, sym, subst, ◌∙◌}
+use Rattle.std.proofs.Common.{◌≡◌, true, List, [], map, Some, All, sym, subst, ◌∙◌}
 use Rattle.std.specs.Bool.{nat_eq}
 use Rattle.std.specs.List.{IsDistinct}
 use Rattle.std.specs.Option.{IfSome, is_some}
 use Rattle.tup_core.specs.declared.event.CoreEvent.{CoreEvent}
 use Rattle.tup_core.specs.Run.{claims}
 use Rattle.tup_promise.specs.declared.log.EndedRule.{EndedRule}
-use Rattle.tup_update.specs.Ended.{TellsFor, ends, told_ends}
+use Rattle.tup_update.specs.Ended.{TellsFor, ends, numbers, told_ends}
 use Rattle.tup_update.specs.Names.{IsReadyFor, value_at}
 use Rattle.tup_update.specs.Run.{OfBads, StopsBy}
-use Rattle.tup_update.proofs.Chained.{ready_for, say_why_if}
-use Rattle.tup_update.proofs.Commands.{all_named, all_some, ran_commands}
+use Rattle.tup_update.proofs.Chained.{ready_for, say_why_ended}
+use Rattle.tup_update.proofs.Commands.{all_named, all_some, have_names, ran_commands}
+use Rattle.tup_update.proofs.Logging.{ended_once, tells_front}
 use Rattle.tup_update.proofs.Telling.{names_alike}
 use Rattle.tup_update.proofs.run.told.Goals as goal
 
@@ -61,30 +62,40 @@ returns-clause-named g c =
     subst (λ (events : List CoreEvent). map Some c.claimed.result ≡ map (value_at names) (claims events)) c.as_slice-history.ensures c.claimed.ensures
     ∙ names_alike plan.rules (value_at names) (claims history) (all_named plan names c.requires.names c.requires.range (claims history) reached)
 
--- ---- the chains of the rules that were begun
+-- ---- the chains of the rules that ended
 
-pub claimed_chains-because-requires-clause-once : goal.claimed_chains-because-requires-clause-once
-claimed_chains-because-requires-clause-once g c =
+pub ended_chains-because-requires-clause-once : goal.ended_chains-because-requires-clause-once
+ended_chains-because-requires-clause-once g c =
     let plan = c.args.plan.now in
-    subst (λ (events : List CoreEvent). IsDistinct nat_eq (claims events)) (sym c.as_slice-history.ensures) (c.claimed_once.ensures.once plan c.requires.run.0 c.args.parts.history c.requires.run.1)
+    let history = c.args.parts.history in
+    let once = c.claimed_once.ensures.once plan c.requires.run.0 history c.requires.run.1 in
+    let reached = c.claimed_once.ensures.reached plan c.requires.run.0 history c.requires.run.1 in
+    subst (λ (events : List CoreEvent). IsDistinct nat_eq (numbers (ends events))) (sym c.as_slice-history.ensures) (ended_once plan c.requires.run.0 history c.requires.run.1 once reached).once
 
-pub claimed_chains-because-requires-clause-ready : goal.claimed_chains-because-requires-clause-ready
-claimed_chains-because-requires-clause-ready g c =
+pub ended_chains-because-requires-clause-ready : goal.ended_chains-because-requires-clause-ready
+ended_chains-because-requires-clause-ready g c =
     let plan = c.args.plan.now in
     let chains = c.args.known.chains in
-    subst (λ (events : List CoreEvent). IfSome chains (IsReadyFor (claims events))) (sym c.as_slice-history.ensures)
-    (ready_for plan (claims c.args.parts.history) (c.claimed_once.ensures.reached plan c.requires.run.0 c.args.parts.history c.requires.run.1) chains c.requires.chains)
+    let history = c.args.parts.history in
+    let once = c.claimed_once.ensures.once plan c.requires.run.0 history c.requires.run.1 in
+    let reached = c.claimed_once.ensures.reached plan c.requires.run.0 history c.requires.run.1 in
+    subst (λ (events : List CoreEvent). IfSome chains (IsReadyFor (numbers (ends events)))) (sym c.as_slice-history.ensures)
+    (ready_for plan (numbers (ends history)) (ended_once plan c.requires.run.0 history c.requires.run.1 once reached).reached chains c.requires.chains)
 
 pub returns-clause-why : goal.returns-clause-why
 returns-clause-why g c = λ nodes.
     let plan = c.args.plan.now in
-    let names = c.args.known.names in
     let chains = c.args.known.chains in
     let history = c.args.parts.history in
-    let because = c.claimed_chains-because.result in
+    let told = c.stopped_by-stopped in
+    let because = c.ended_chains-because.result in
+    let whole = told_ends plan.rules (ends history) in
+    let ended = told.new.ended in
+    let once = c.claimed_once.ensures.once plan c.requires.run.0 history c.requires.run.1 in
     let reached = c.claimed_once.ensures.reached plan c.requires.run.0 history c.requires.run.1 in
-    let named =
-    subst (λ (events : List CoreEvent). map Some c.claimed.result ≡ map (value_at names) (claims events)) c.as_slice-history.ensures c.claimed.ensures
-    ∙ names_alike plan.rules (value_at names) (claims history) (all_named plan names c.requires.names c.requires.range (claims history) reached) in
-    say_why_if nodes plan (claims history) c.claimed.result because named reached chains
-    (subst (λ (events : List CoreEvent). IfSome chains (λ values. map Some because ≡ map (value_at values) (claims events))) c.as_slice-history.ensures c.claimed_chains-because.ensures.claimed)
+    let ends_reached = (ended_once plan c.requires.run.0 history c.requires.run.1 once reached).reached in
+    let tells : TellsFor whole [] ended told.result = subst (λ (old : List EndedRule). TellsFor whole old ended told.result) c.requires.none
+    (subst (λ (events : List CoreEvent). TellsFor (told_ends plan.rules (ends events)) c.args.log.ended ended told.result) c.as_slice-history.ensures told.ensures.tells) in
+    let front = tells_front whole [] ended told.result tells in
+    say_why_ended nodes plan (ends history) ended front.0 because front.1 ends_reached (have_names plan (numbers (ends history)) c.requires.range ends_reached) chains
+    (subst (λ (events : List CoreEvent). IfSome chains (λ values. map Some because ≡ map (value_at values) (numbers (ends events)))) c.as_slice-history.ensures c.ended_chains-because.ensures.ended)

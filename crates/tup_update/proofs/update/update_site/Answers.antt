@@ -1,13 +1,15 @@
-use Rattle.std.proofs.Common.{ℕ, inl, subst, sym, arith, ◌∙◌}
+use Rattle.std.proofs.Common.{◌++◌, ℕ, length, map, subst, sym, ◌∙◌}
 use Rattle.std.proofs.lemmas.Option.{none-some}
-use Rattle.tup_promise.specs.Cause.{HasCountedCause}
+use Rattle.tup_promise.specs.Cause.{CrewCountedCause}
 use Rattle.tup_promise.specs.Kept.{KeptHere}
 use Rattle.tup_ends.proofs.Stated.{kept_stated}
 use Rattle.tup_ends.proofs.Staying.{sources_kept}
-use Rattle.tup_update.proofs.Chained.{counted, explained, none_counted}
+use Rattle.tup_phases.specs.Logged.{ended_rules}
+use Rattle.tup_update.proofs.Chained.{counted, explained, none_counted, none_explained}
 use Rattle.tup_update.proofs.Promised.{blames_sources, runs_before}
 use Rattle.tup_update.proofs.Logging.{before_logged, running_spares}
-use Rattle.tup_update.proofs.Whole.{before_ran, before_run_cause, opened_running, within_before, within_running}
+use Rattle.tup_update.proofs.Crewed.{crew_before}
+use Rattle.tup_update.proofs.Whole.{before_counted, before_ran, opened_running, within_before, within_running}
 use Rattle.tup_update.specs.Promised.{Promises}
 use Rattle.tup_update.proofs.update.update_site.Given.{Over}
 use Rattle.tup_update.proofs.update.update_site.Goals.{After-run_flagged}
@@ -16,7 +18,7 @@ use Rattle.tup_update.proofs.update.update_site.Goals as goal
 -- ---- it was brought up to date
 
 pub run_flagged-requires-clause-none : goal.run_flagged-requires-clause-none
-run_flagged-requires-clause-none g c = record { ran = c.prepared.ensures.none.ran ∙ c.new-log.ensures.ran; ended = c.prepared.ensures.none.ended ∙ c.new-log.ensures.ended }
+run_flagged-requires-clause-none g c κs lives = record { ran = c.prepared.ensures.none.ran ∙ c.new-log.ensures.ran; ended = c.prepared.ensures.none.ended ∙ c.new-log.ensures.ended }
 
 pub returns-in-Ok-clause-unopened : goal.returns-in-Ok-clause-unopened
 returns-in-Ok-clause-unopened g c = λ tells.
@@ -26,10 +28,10 @@ returns-in-Ok-clause-unopened g c = λ tells.
 pub returns-in-Ok-clause-counted_cause : goal.returns-in-Ok-clause-counted_cause
 returns-in-Ok-clause-counted_cause g c =
     let done = c.run_flagged.result in
-    subst (λ (n : ℕ). HasCountedCause n (g.S.Site.faults done.site) done.stopped) c.in-Ok.ensures.counted c.run_flagged.ensures.counted
+    subst (λ (n : ℕ). CrewCountedCause (length c.args.crew.items) n (g.S.Site.faults done.site) done.stopped) c.in-Ok.ensures.counted c.run_flagged.ensures.counted
 
 -- all that is promised
-promised : (g : Over) (c : After-run_flagged g) → KeptHere g.S.Site g.R.Runner c.args.site → Promises g.S.Site g.R.Runner c.args.asked.keep_going 1 c.args.site c.run_flagged.result.site c.run_flagged.result.log.ran c.run_flagged.result.stopped
+promised : (g : Over) (c : After-run_flagged g) → KeptHere g.S.Site g.R.Runner c.args.site → Promises g.S.Site g.R.Runner c.args.asked.keep_going (length c.args.crew.items) c.args.site c.run_flagged.result.site c.run_flagged.result.log.ran c.run_flagged.result.stopped
 promised g c here = c.run_flagged.ensures.promised c.args.site here.tells here.means (record {
   prepared = c.in-Ok.ensures.prepared here.tells g.R.Runner.next here.kept;
   owns = c.prepared.ensures.owns here.tells g.R.Runner.next here.kept;
@@ -83,7 +85,7 @@ returns-in-Err-clause-blamed g c = λ here.
 
 pub returns-in-Err-clause-only_what_is_needed : goal.returns-in-Err-clause-only_what_is_needed
 returns-in-Err-clause-only_what_is_needed g c = λ here. record {
-  runs = runs_before g.R.Runner.next c.args.asked.keep_going 1 (g.S.Site.world c.args.site) c.prepared.new.log.ran c.in-Err.stop c.in-Err.ensures.stops (c.prepared.ensures.none.ran ∙ c.new-log.ensures.ran);
+  runs = runs_before g.R.Runner.next c.args.asked.keep_going (length c.args.crew.items) (g.S.Site.world c.args.site) c.prepared.new.log.ran c.in-Err.stop c.in-Err.ensures.stops (c.prepared.ensures.none.ran ∙ c.new-log.ensures.ran);
   flagged = c.prepared.ensures.due here.tells g.R.Runner.next here.kept;
 }
 
@@ -93,18 +95,21 @@ returns-in-Err-clause-sources_stay g c = λ tells some.
     let crash = c.prepared.ensures.crash tells some.0 some.1 in
     sources_kept g.S.Site some.0 (g.S.Site.known new) c.args.site new crash.began crash.kept
 
+pub returns-in-Err-clause-counted_cause : goal.returns-in-Err-clause-counted_cause
+returns-in-Err-clause-counted_cause g c = before_counted (length c.args.crew.items) (g.S.Site.faults c.args.site) (g.S.Site.faults c.prepared.new.site) c.in-Err.stop c.in-Err.ensures.stops c.in-Err.ensures.counted
+
 pub returns-in-Err-clause-run_cause : goal.returns-in-Err-clause-run_cause
-returns-in-Err-clause-run_cause g c = before_run_cause (g.R.Runner.faults c.args.runner.now) c.in-Err.stop c.in-Err.ensures.stops
+returns-in-Err-clause-run_cause g c = crew_before (map g.R.Runner.faults c.args.crew.items) c.in-Err.stop c.in-Err.ensures.stops
 
 pub returns-in-Err-clause-ran : goal.returns-in-Err-clause-ran
-returns-in-Err-clause-ran g c = λ tells. before_ran c.prepared.new.log.ran (g.R.Runner.ran c.args.runner.now) c.in-Err.stop (c.prepared.ensures.none.ran ∙ c.new-log.ensures.ran)
+returns-in-Err-clause-ran g c = λ tells. before_ran c.prepared.new.log.ran (map g.R.Runner.ran c.args.crew.items) c.in-Err.stop (c.prepared.ensures.none.ran ∙ c.new-log.ensures.ran)
 
 -- ---- what its log says, and which files stay
 
 pub returns-in-Err-clause-logged : goal.returns-in-Err-clause-logged
 returns-in-Err-clause-logged g c =
     let none = c.prepared.ensures.none in
-    before_logged 1 (omega arith) c.args.asked.keep_going c.prepared.new.log c.in-Err.stop c.in-Err.ensures.stops (record { ran = none.ran ∙ c.new-log.ensures.ran; ended = none.ended ∙ c.new-log.ensures.ended }) c.in-Err.ensures.logged
+    before_logged (length c.args.crew.items) c.requires.crew.0 c.args.asked.keep_going c.prepared.new.log c.in-Err.stop c.in-Err.ensures.stops (record { ran = none.ran ∙ c.new-log.ensures.ran; ended = none.ended ∙ c.new-log.ensures.ended }) c.in-Err.ensures.logged
 
 pub returns-in-Ok-clause-spares : goal.returns-in-Ok-clause-spares
 returns-in-Ok-clause-spares g c = λ tells.
@@ -145,18 +150,24 @@ returns-in-Err-clause-limits g c = λ tells. within_before (g.S.Site.world c.arg
 pub returns-in-Ok-clause-why : goal.returns-in-Ok-clause-why
 returns-in-Ok-clause-why g c = λ tells some asked.
     let done = c.run_flagged.result in
-    explained g.S.Site some.0 c.args.site c.in-Ok.graph c.prepared.new.site done.log.ran done.because (λ nodes plan. c.none_waits_for_itself.ensures nodes plan) (record {
-      prepared = c.in-Ok.ensures.prepared tells some.0 some.1;
-      owns = c.prepared.ensures.owns tells some.0 some.1;
-      states = c.in-Ok.ensures.prepared_states tells some.0 some.1;
-      stored = c.prepared.ensures.states tells some.0 some.1;
-    }) (c.in-Ok.ensures.records tells some.0 some.1) (c.run_flagged.ensures.said.asked asked)
+    let said = c.run_flagged.ensures.said in (
+      said.0,
+      explained g.S.Site some.0 c.args.site c.in-Ok.graph c.prepared.new.site (ended_rules done.log ++ said.0) done.because (λ nodes plan. c.none_waits_for_itself.ensures nodes plan) (record {
+        prepared = c.in-Ok.ensures.prepared tells some.0 some.1;
+        owns = c.prepared.ensures.owns tells some.0 some.1;
+        states = c.in-Ok.ensures.prepared_states tells some.0 some.1;
+        stored = c.prepared.ensures.states tells some.0 some.1;
+      }) (c.in-Ok.ensures.records tells some.0 some.1) (said.1.asked asked),
+    )
 
 pub returns-in-Ok-clause-because : goal.returns-in-Ok-clause-because
-returns-in-Ok-clause-because g c = counted c.args.asked.explain c.in-Ok.graph.nodes c.run_flagged.result.log.ran c.run_flagged.result.because c.run_flagged.ensures.said
+returns-in-Ok-clause-because g c =
+    let done = c.run_flagged.result in
+    let said = c.run_flagged.ensures.said in
+    (said.0, counted c.args.asked.explain c.in-Ok.graph.nodes (ended_rules done.log ++ said.0) done.because said.1)
 
 pub returns-in-Err-clause-why : goal.returns-in-Err-clause-why
-returns-in-Err-clause-why g c = λ tells some asked. inl (c.prepared.ensures.none.ran ∙ c.new-log.ensures.ran, c.new.ensures)
+returns-in-Err-clause-why g c = λ tells some asked. none_explained g.S.Site c.args.site c.prepared.new.log c.new.result (c.prepared.ensures.none.ended ∙ c.new-log.ensures.ended) c.new.ensures
 
 pub returns-in-Err-clause-because : goal.returns-in-Err-clause-because
-returns-in-Err-clause-because g c = none_counted c.args.asked.explain c.prepared.new.log.ran c.new.result (c.prepared.ensures.none.ran ∙ c.new-log.ensures.ran) c.new.ensures
+returns-in-Err-clause-because g c = none_counted c.args.asked.explain c.prepared.new.log c.new.result (c.prepared.ensures.none.ended ∙ c.new-log.ensures.ended) c.new.ensures

@@ -1,6 +1,7 @@
 use Rattle.std.proofs.Common.{◌≡◌, ◌+◌, ℕ, List, take, drop, sym, subst}
 use Rattle.tup_core.specs.declared.event.CoreEvent.{CoreEvent}
 use Rattle.tup_core.specs.declared.event.CoreEvent.TheVariants.{Claim}
+use Rattle.tup_core.specs.Run.{claims}
 use Rattle.std.specs.Prelude.{get_or}
 use Rattle.tup_update.proofs.Taking.{IsTaking, passed_next, taken_next, waits_next}
 use Rattle.tup_update.proofs.by_rule.ByRule.claimed.Goals.{in-Claim, in_default}
@@ -22,9 +23,9 @@ loop-event-preserved g c =
     elim c.match-event.branch [
       | in-Claim w ↦
           let at = claimed_at history k c.event-item.result w.in-Claim.seat w.in-Claim.rule c.event-item.is w.in-Claim.is in
-          subst (IsTaking c.args.self (take (k + 1) history) (drop (k + 1) history)) (sym w.self-is)
+          subst (IsTaking c.args.self (claims (take (k + 1) history)) (claims (drop (k + 1) history))) (sym w.self-is)
           (taken_next c.args.self c.loop-event.self history k c.loop-event-test.true c.loop-event.invariant w.in-Claim.seat w.in-Claim.rule at w.begin.new.self w.begin.ensures.room w.begin.ensures.begun w.begin.ensures.others)
       | in_default w ↦
-          subst (IsTaking c.args.self (take (k + 1) history) (drop (k + 1) history)) (sym w.self-is)
+          subst (IsTaking c.args.self (claims (take (k + 1) history)) (claims (drop (k + 1) history))) (sym w.self-is)
           (passed_next c.args.self c.loop-event.self history k c.loop-event-test.true c.loop-event.invariant c.event-item.result c.event-item.is w.in_default.not-Claim)
     ]
